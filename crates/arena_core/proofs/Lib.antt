@@ -1,0 +1,9 @@
+pub mod Answers
+pub mod Blocks
+pub mod LendsTwo
+pub mod Inner
+pub mod Made
+pub mod Pairs
+pub mod Ranges
+pub mod Rows
+pub mod Steps

@@ -1,0 +1,198 @@
+-- That the measure of what is on the agenda falls with each item that is worked off.
+use Rattle.std.proofs.Common.{◌≡◌, ℕ, zero, suc, ◌+◌, ◌*◌, ◌-◌, ◌≤◌, ◌<◌, Bool, true, false, not, List, [], ◌∷◌, ◌++◌, length, refl, ◌∙◌, sym, ap, arith}
+use Rattle.std.proofs.Math.Nat.{mul-zero, mul-suc, mul-le-mul_left}
+use Rattle.std.proofs.lemmas.List.{length-map}
+use Rattle.std.proofs.lemmas.List.Sums.{length-filter}
+use Rattle.std.specs.Prelude.{if◌then◌else◌, Option, Some, None, map, flat_map, filter, is_some}
+use Rattle.mote_types.specs.declared.event.Event.{Event}
+use Rattle.mote_types.specs.declared.event.Stimulus.{Stimulus}
+use Rattle.mote_types.specs.declared.event.Origin.{Origin}
+use Rattle.process_core.specs.Agenda.{Queued, Item, Job}
+use Rattle.process_core.specs.declared.process.Process.{Process}
+use Rattle.process_core.specs.Processes.{numbers, is_process, is_kernel_process}
+use Rattle.kernel_core.specs.Cost.{starts, present, cost, costs, round_cost, IsPaid}
+use Rattle.process_core.specs.Scheduler.{Scheduler, worked, job, in_front, carried_out, delivery, first_event, of_event, job_of_event, job_of_give, job_of_item, job_at, worked_at, wants_round, settled, ComesTo}
+
+starts-append : (xs ys : List Item) → starts (xs ++ ys) ≡ starts xs + starts ys
+starts-append [] ys = omega arith
+starts-append (Item.Start p ∷ xs) ys = grind (arith, starts-append xs ys)
+starts-append (Item.Give p origin stimulus ∷ xs) ys = starts-append xs ys
+starts-append (Item.Turn p origin stimulus ∷ xs) ys = starts-append xs ys
+starts-append (Item.GiveExit p ∷ xs) ys = starts-append xs ys
+starts-append (Item.Remove p ∷ xs) ys = starts-append xs ys
+starts-append (Item.Polls ∷ xs) ys = starts-append xs ys
+starts-append (Item.PollOne p ∷ xs) ys = starts-append xs ys
+starts-append (Item.Deliver ∷ xs) ys = starts-append xs ys
+starts-append (Item.Show entry ∷ xs) ys = starts-append xs ys
+
+starts-polls : (ns : List ℕ) → starts (map (λ p. Item.PollOne p) ns) ≡ 0
+starts-polls [] = refl
+starts-polls (n ∷ ns) = starts-polls ns
+
+starts-broadcast : (event : Event) (ns : List ℕ) → starts (flat_map (λ p. Item.Polls ∷ Item.Give p Origin.Event (of_event event) ∷ []) ns) ≡ 0
+starts-broadcast event [] = refl
+starts-broadcast event (n ∷ ns) = starts-broadcast event ns
+
+starts-delivery : (ns : List ℕ) (event : Option (Queued ℕ)) → starts (delivery ns event) ≡ 0
+starts-delivery ns None = refl
+starts-delivery ns (Some (Queued.To p event)) = refl
+starts-delivery ns (Some (Queued.ToAll event)) = starts-broadcast event ns
+starts-delivery ns (Some (Queued.Expiry p c x)) = refl
+
+length-without : (keep : Process → Bool) (list : List Process) → length (filter keep list) ≤ length list
+length-without keep [] = omega arith
+length-without keep (process ∷ list) = grind (arith, length-without keep list)
+
+-- no item makes more processes than it stands for
+carried_out-present : (item : Item) (s : Scheduler ℕ) → present (carried_out item s) ≤ starts (item ∷ []) + present s
+carried_out-present (Item.Start p) s = grind arith
+carried_out-present (Item.Give p origin stimulus) s = grind (arith, length-map)
+carried_out-present (Item.GiveExit p) s = grind (arith, length-map)
+carried_out-present (Item.Remove p) s = grind (arith, length-without (λ process. not (is_process p process)) s.processes)
+carried_out-present Item.Polls s = grind (arith, starts-append, starts-polls (numbers s.processes))
+carried_out-present (Item.PollOne p) s = grind (arith, length-map)
+carried_out-present Item.Deliver s = grind (arith, starts-append, starts-delivery (numbers s.processes) (first_event s))
+carried_out-present (Item.Turn p origin stimulus) s = omega arith
+carried_out-present (Item.Show entry) s = omega arith
+
+worked_at-present : (agenda : List Item) (s : Scheduler ℕ) → s.agenda ≡ agenda → present (worked_at agenda s) ≤ present s
+worked_at-present [] s e = grind arith
+worked_at-present (item ∷ items) s e =
+    grind (arith, carried_out-present item (record s { agenda = items }), starts-append (item ∷ []) items, e)
+
+worked-present : (s : Scheduler ℕ) → present (worked s) ≤ present s
+worked-present s = worked_at-present s.agenda s refl
+
+module _ (bound : ℕ) where
+  costs-nil : costs bound [] ≡ 0
+  unfolding costs
+  costs-nil = refl
+
+  costs-cons : (item : Item) (items : List Item) → costs bound (item ∷ items) ≡ cost bound item + costs bound items
+  unfolding costs
+  costs-cons item items = refl
+
+  costs-append : (xs ys : List Item) → costs bound (xs ++ ys) ≡ costs bound xs + costs bound ys
+  costs-append [] ys = grind (arith, costs-nil)
+  costs-append (x ∷ xs) ys = grind (arith, costs-cons x (xs ++ ys), costs-cons x xs, costs-append xs ys)
+
+  costs-polls : (ns : List ℕ) → costs bound (map (λ p. Item.PollOne p) ns) ≡ 3 * length ns
+  costs-polls [] = costs-nil
+  costs-polls (n ∷ ns) = grind (arith, costs-cons (Item.PollOne n) (map (λ p. Item.PollOne p) ns), costs-polls ns)
+
+  costs-broadcast : (event : Event) (ns : List ℕ) →
+      costs bound (flat_map (λ p. Item.Polls ∷ Item.Give p Origin.Event (of_event event) ∷ []) ns) ≡ (3 * bound + 3) * length ns
+  costs-broadcast event [] = rw (costs-nil, mul-zero) refl
+  costs-broadcast event (n ∷ ns) =
+      let rest = flat_map (λ p. Item.Polls ∷ Item.Give p Origin.Event (of_event event) ∷ []) ns in
+      let product : (3 * bound + 3) * suc (length ns) ≡ (3 * bound + 3) * length ns + (3 * bound + 3) = mul-suc (3 * bound + 3) (length ns) in
+      rw (costs-cons Item.Polls (Item.Give n Origin.Event (of_event event) ∷ rest), costs-cons (Item.Give n Origin.Event (of_event event)) rest, costs-broadcast event ns, product)
+      (omega arith)
+
+  costs-delivery : (ns : List ℕ) (event : Option (Queued ℕ)) → length ns ≤ bound → costs bound (delivery ns event) ≤ (3 * bound + 3) * bound + 2
+  costs-delivery ns (Some (Queued.To p event)) h = rw (costs-cons, costs-nil) (omega arith)
+  costs-delivery ns (Some (Queued.ToAll event)) h =
+      rw (costs-broadcast event ns) (omega (arith, mul-le-mul_left (3 * bound + 3) h))
+  costs-delivery ns (Some (Queued.Expiry p c x)) h = rw costs-nil (omega arith)
+  costs-delivery ns None h = rw costs-nil (omega arith)
+
+  -- an item that is worked off costs bound a step at least
+  carried_out-costs : (item : Item) (s : Scheduler ℕ) → length s.processes ≤ bound
+      → costs bound (carried_out item s).agenda + 1 ≤ cost bound item + costs bound s.agenda
+  carried_out-costs Item.Deliver s h =
+      let listed : length (numbers s.processes) ≡ length s.processes = length-map s.processes (λ process. process.number) in
+      let few : length (numbers s.processes) ≤ bound = omega (arith, listed) in
+      rw (costs-append (delivery (numbers s.processes) (first_event s)) s.agenda)
+      (omega (arith, costs-delivery (numbers s.processes) (first_event s) few))
+  carried_out-costs Item.Polls s h =
+      grind (arith, costs-append (map (λ p. Item.PollOne p) (numbers s.processes)) s.agenda, costs-polls (numbers s.processes), length-map)
+  carried_out-costs (Item.Start p) s h = grind (arith, costs-cons, costs-nil)
+  carried_out-costs (Item.Give p origin stimulus) s h = grind (arith, costs-cons, costs-nil)
+  carried_out-costs (Item.Turn p origin stimulus) s h = omega arith
+  carried_out-costs (Item.GiveExit p) s h = grind (arith, costs-cons, costs-nil)
+  carried_out-costs (Item.Remove p) s h = omega arith
+  carried_out-costs (Item.PollOne p) s h = grind (arith, costs-cons, costs-nil)
+  carried_out-costs (Item.Show entry) s h = omega arith
+
+  paid_round : (is_work : Bool) (s : Scheduler ℕ) → s.agenda ≡ [] →
+      IsPaid bound (Some (if is_work then Job.Round else Job.Rest)) (costs bound [])
+      (costs bound (if is_work then in_front (Item.Polls ∷ Item.Deliver ∷ []) s else s).agenda)
+  paid_round true s e = rw (e, costs-cons, costs-cons, costs-nil) (omega arith)
+  paid_round false s e = rw e (omega arith)
+
+  paid_delivery : (event : Option (Queued ℕ)) (items : List Item) (ns : List ℕ) → length ns ≤ bound →
+      IsPaid bound (job_of_event event) (cost bound Item.Deliver + costs bound items) (costs bound (delivery ns event ++ items))
+  paid_delivery (Some (Queued.Expiry p c x)) items ns h = omega arith
+  paid_delivery (Some (Queued.To p event)) items ns h =
+      rw (costs-append (delivery ns (Some (Queued.To p event))) items) (omega (arith, costs-delivery ns (Some (Queued.To p event)) h))
+  paid_delivery (Some (Queued.ToAll event)) items ns h =
+      rw (costs-append (delivery ns (Some (Queued.ToAll event))) items) (omega (arith, costs-delivery ns (Some (Queued.ToAll event)) h))
+  paid_delivery None items ns h = omega arith
+
+  paid_give : (p : ℕ) (stimulus : Stimulus) (old new : ℕ) → new + 1 ≤ old → IsPaid bound (job_of_give p stimulus) old new
+  paid_give p (Stimulus.Event event) old new h = pay (is_kernel_process p)
+    where
+      pay : (b : Bool) → IsPaid bound (if b then Some (Job.Serve p event) else None) old new
+      pay true = h
+      pay false = h
+  paid_give p (Stimulus.Answer reply) old new h = h
+  paid_give p (Stimulus.Callback c) old new h = h
+
+  paid_item : (item : Item) (s : Scheduler ℕ) (items : List Item) → length s.processes ≤ bound →
+      IsPaid bound (job_of_item item s) (cost bound item + costs bound items) (costs bound (carried_out item (record s { agenda = items })).agenda)
+  paid_item (Item.Give p origin stimulus) s items h =
+      paid_give p stimulus _ _ (carried_out-costs (Item.Give p origin stimulus) (record s { agenda = items }) h)
+  paid_item Item.Deliver s items h =
+      let listed : length (numbers s.processes) ≡ length s.processes = length-map s.processes (λ process. process.number) in
+      paid_delivery (first_event s) items (numbers s.processes) (omega (arith, listed))
+  paid_item (Item.Turn p origin stimulus) s items h = carried_out-costs (Item.Turn p origin stimulus) (record s { agenda = items }) h
+  paid_item (Item.Show entry) s items h = carried_out-costs (Item.Show entry) (record s { agenda = items }) h
+  paid_item (Item.Start p) s items h = carried_out-costs (Item.Start p) (record s { agenda = items }) h
+  paid_item (Item.GiveExit p) s items h = carried_out-costs (Item.GiveExit p) (record s { agenda = items }) h
+  paid_item (Item.Remove p) s items h = carried_out-costs (Item.Remove p) (record s { agenda = items }) h
+  paid_item Item.Polls s items h = carried_out-costs Item.Polls (record s { agenda = items }) h
+  paid_item (Item.PollOne p) s items h = carried_out-costs (Item.PollOne p) (record s { agenda = items }) h
+
+  paid_at : (agenda : List Item) (s : Scheduler ℕ) → s.agenda ≡ agenda → length s.processes ≤ bound →
+      IsPaid bound (job_at agenda s) (costs bound agenda) (costs bound (worked_at agenda s).agenda)
+  paid_at [] s e h = paid_round (wants_round s) s e
+  paid_at (item ∷ items) s e h = rw (costs-cons item items) (paid_item item s items h)
+
+  paid : (s : Scheduler ℕ) → present s ≤ bound → IsPaid bound (job s) (costs bound s.agenda) (costs bound (worked s).agenda)
+  paid s h = paid_at s.agenda s refl (omega arith)
+
+  -- items that are no jobs cost no more than they are worth
+  pub record IsCheaper (old new : Scheduler ℕ) : Type 0 where
+    pub costs : costs bound new.agenda ≤ costs bound old.agenda
+    pub present : present new ≤ present old
+
+  settled_cheaper : (n : ℕ) (s : Scheduler ℕ) → present s ≤ bound → IsCheaper s (settled n s)
+  settled_cheaper zero s h = record { costs = omega arith; present = omega arith }
+  settled_cheaper (suc n) s h = by_job (job s) refl (settled_cheaper n (worked s))
+    where
+      by_job : (asked : Option (Job ℕ)) → job s ≡ asked → (present (worked s) ≤ bound → IsCheaper (worked s) (settled n (worked s))) →
+          IsCheaper s (settled (suc n) s)
+      by_job (Some next) e rest = rw e (record { costs = omega arith; present = omega arith })
+      by_job None e rest =
+          let first : costs bound (worked s).agenda + 1 ≤ costs bound s.agenda = rw e at (paid s h) in
+          let fewer = worked-present s in
+          let r = rest (omega (arith, fewer, h)) in
+          rw e (record { costs = omega (arith, first, r.costs); present = omega (arith, fewer, r.present) })
+
+  paid_more : (next : Job ℕ) (old middle new : ℕ) → middle ≤ old → IsPaid bound (Some next) middle new → IsPaid bound (Some next) old new
+  paid_more Job.Round old middle new h paid = paid
+  paid_more Job.Rest old middle new h paid = omega arith
+  paid_more (Job.CallBack p c x) old middle new h paid = omega arith
+  paid_more (Job.TakeTurn p origin stimulus) old middle new h paid = omega arith
+  paid_more (Job.Serve p event) old middle new h paid = omega arith
+  paid_more (Job.ShowEntry entry) old middle new h paid = omega arith
+
+  -- what is on the agenda after a job, against what was there before
+  pub job_is_paid : (s after : Scheduler ℕ) (next : Job ℕ) → present s ≤ bound → ComesTo s next after →
+      IsPaid bound (Some next) (costs bound s.agenda) (costs bound after.agenda) × (present after ≤ present s)
+  job_is_paid s after next h (n, asks, works) =
+      let r = settled_cheaper n s h in
+      let few : present (settled n s) ≤ bound = omega (arith, r.present, h) in
+      let p = rw (asks, works) at (paid (settled n s) few) in
+      let fewer = rw works at (worked-present (settled n s)) in
+      (paid_more next _ _ _ r.costs p, omega (arith, r.present, fewer))

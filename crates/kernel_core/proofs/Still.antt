@@ -1,0 +1,43 @@
+-- Where nothing more happens, a machine stays as it is.
+use Rattle.std.proofs.Common.{◌≡◌, ℕ, zero, suc, ◌+◌, Bool, true, false, cond, List, [], ◌∷◌, refl, sym, ap, ◌∙◌, arith, append-nil}
+use Rattle.std.specs.Prelude.{Some, None, not, ◌||◌, ◌&&◌}
+use Rattle.mote_types.specs.Applications.{Applications}
+use Rattle.process_core.specs.Agenda.{Job, Item}
+use Rattle.process_core.specs.Idle.{is_empty, is_idle}
+use Rattle.process_core.specs.Scheduler.{Scheduler, job, worked, worked_at, job_at, wants_round}
+use Rattle.kernel_core.specs.Machine.{Machine, scheduled}
+use Rattle.kernel_core.specs.Run.{Running, Answers, one_step, after_step, after_steps, answers_after, is_still, job_done}
+
+-- a scheduler with nothing left to do stays as it is
+idle_worked_at : (agenda : List Item) (s : Scheduler Bool) → (is_empty agenda && not (wants_round s)) ≡ true → worked_at agenda s ≡ s
+idle_worked_at [] s h = grind arith
+idle_worked_at (item ∷ items) s h = absurd (cc)
+
+-- and its job is Rest
+idle_job_at : (agenda : List Item) (s : Scheduler Bool) → (is_empty agenda && not (wants_round s)) ≡ true → job_at agenda s ≡ Some Job.Rest
+idle_job_at [] s h = grind arith
+idle_job_at (item ∷ items) s h = absurd (cc)
+
+pick : {A : Type 0} (b : Bool) (x y : A) → (b ≡ false → y ≡ x) → cond b x y ≡ x
+pick true x y e = refl
+pick false x y e = e refl
+
+right_of : (a b : Bool) → (a || b) ≡ true → a ≡ false → b ≡ true
+right_of true b h n = grind arith
+right_of false b h n = h
+
+-- so one step of a still machine is silent and leaves it
+still_step : (answers : Answers) (m : Machine) → is_still m ≡ true → one_step answers m ≡ (m, None)
+still_step answers m h =
+    pick m.is_halted (m, None) (job_done answers (job m.scheduler) (scheduled worked m))
+    (λ n.
+    let r : is_idle m.scheduler ≡ true = right_of m.is_halted _ h n in
+    rw (idle_job_at m.scheduler.agenda m.scheduler r, idle_worked_at m.scheduler.agenda m.scheduler r))
+
+still_after_step : (says : Applications) (r : Running) → is_still r.machine ≡ true → after_step says r ≡ r
+still_after_step says r h =
+    rw (still_step (answers_after says r.entries) r.machine h) (ap (λ entries. record { machine = r.machine; entries = entries }) (append-nil r.entries))
+
+pub still_after_steps : (says : Applications) (n : ℕ) (r : Running) → is_still r.machine ≡ true → after_steps says n r ≡ r
+still_after_steps says zero r h = refl
+still_after_steps says (suc n) r h = rw (still_after_step says r h) (still_after_steps says n r h)

@@ -1,0 +1,42 @@
+-- A measure of what is on the agenda: it falls with each item that is worked off. It bounds the work of one step.
+use Rattle.std.specs.Prelude.{ℕ, ◌+◌, ◌*◌, ◌≤◌, suc, List, [], ◌∷◌, length, Option, Some, None}
+use Rattle.process_core.specs.Agenda.{Item, Job}
+use Rattle.process_core.specs.Scheduler.{Scheduler}
+
+-- the processes that are still to be started
+abbrev pub starts : List Item → ℕ
+starts [] = 0
+starts (Item.Start p ∷ items) = suc (starts items)
+starts (_ ∷ items) = starts items
+
+-- how many processes there can be on the list: those that are on it, and those that are still to be started
+abbrev pub present : Scheduler ℕ → ℕ
+present s = length s.processes + starts s.agenda
+
+-- At most how many steps an item leads to, turns apart, with at most `bound` processes on the list.
+module _ (bound : ℕ) where
+  abbrev pub cost : Item → ℕ
+  cost (Item.Start p) = 3
+  cost (Item.Give p origin stimulus) = 2
+  cost (Item.Turn p origin stimulus) = 1
+  cost (Item.GiveExit p) = 2
+  cost (Item.Remove p) = 1
+  cost Item.Polls = 3 * bound + 1
+  cost (Item.PollOne p) = 3
+  cost Item.Deliver = (3 * bound + 3) * bound + 4
+  cost (Item.Show entry) = 1
+
+  unfoldable pub costs : List Item → ℕ
+  costs [] = 0
+  costs (item ∷ items) = cost item + costs items
+
+  -- what a round puts on the agenda
+  abbrev pub round_cost : ℕ
+  round_cost = (3 * bound + 3) * bound + 3 * bound + 5
+
+  -- What a job was worth, against what it left on the agenda. A callback that is given is put there afterwards.
+  abbrev pub IsPaid : Option (Job ℕ) → ℕ → ℕ → Type 0
+  IsPaid (Some Job.Round) old new = new ≤ round_cost
+  IsPaid (Some Job.Rest) old new = new ≤ old
+  IsPaid (Some (Job.CallBack p c x)) old new = new + 3 ≤ old
+  IsPaid _ old new = new + 1 ≤ old

@@ -1,0 +1,47 @@
+-- The state of the mote: its clock, its work and what the scheduler has.
+use Rattle.std.specs.Prelude.{ℕ, ◌+◌, ◌%◌, Bool, true, false, ◌&&◌, [], ◌∷◌, ◌==◌, nat_le}
+use Rattle.mote_types.specs.declared.entry.Entry.{Entry}
+use Rattle.mote_types.specs.declared.reply.Reply.{Reply}
+use Rattle.mote_types.specs.declared.refusal.Refusal.{Refusal}
+use Rattle.kernel_core.specs.declared.config.Config.{Config}
+use Rattle.process_core.specs.Agenda.{Queued, Item}
+use Rattle.process_core.specs.Scheduler.{Scheduler, at_boot, in_front, posted}
+use Rattle.process_core.specs.Requests.{answered}
+
+-- An expiry in the queue carries whether it was struck out.
+pub record Machine : Type 0 where
+  -- the ticks since boot
+  pub clock : ℕ
+  -- the turns and rounds since boot or the last input
+  pub work : ℕ
+  pub is_halted : Bool
+  pub scheduler : Scheduler Bool
+
+-- whether a region has a size in that range, a multiple of 4
+abbrev pub is_size : ℕ → ℕ → Bool
+is_size least size = nat_le least size && nat_le size 65536 && size % 4 == 0
+
+-- the configurations that a mote boots with
+abbrev pub is_bootable : Config → Bool
+is_bootable c = is_size 4 c.mmem && is_size 20 c.heap && nat_le c.apps 16
+
+abbrev pub booted : Config → Machine
+booted c = record { clock = 0; work = 0; is_halted = false; scheduler = at_boot c.apps }
+
+-- a change of the scheduler alone
+abbrev pub scheduled : (Scheduler Bool → Scheduler Bool) → Machine → Machine
+scheduled change m = record m { scheduler = change m.scheduler }
+
+abbrev pub with_event : Queued Bool → Machine → Machine
+with_event event = scheduled (posted event)
+
+-- the process is given the answer in its next turn
+abbrev pub answer : ℕ → Reply → Machine → Machine
+answer p reply = scheduled (answered p reply)
+
+abbrev pub refuse : ℕ → Refusal → Machine → Machine
+refuse p refusal = answer p (Reply.Refused refusal)
+
+-- the entry is made before anything else that is to be done
+abbrev pub shown_first : Entry → Machine → Machine
+shown_first entry = scheduled (in_front (Item.Show entry ∷ []))

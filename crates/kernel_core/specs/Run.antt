@@ -1,0 +1,163 @@
+-- The run of the mote: what its machine makes of the inputs and of what the applications answer.
+use Rattle.std.specs.Prelude.{◌≡◌, ℕ, zero, suc, ◌+◌, ◌≤◌, Bool, true, false, ◌||◌, List, [], ◌∷◌, ◌++◌, filter_map, Option, Some, None, option_to_list, if◌then◌else◌, ◌==◌}
+use Rattle.mote_types.specs.declared.call.Call.{Call}
+use Rattle.mote_types.specs.declared.entry.Input.{Input}
+use Rattle.mote_types.specs.declared.entry.Entry.{Entry}
+use Rattle.mote_types.specs.declared.event.Stimulus.{Stimulus}
+use Rattle.mote_types.specs.declared.event.Origin.{Origin}
+use Rattle.mote_types.specs.Applications.{Applications}
+use Rattle.kernel_core.specs.declared.config.Config.{Config}
+use Rattle.kernel_core.specs.declared.step.Step.{Step as Reached}
+use Rattle.process_core.specs.Agenda.{Item, Job}
+use Rattle.process_core.specs.Idle.{is_idle}
+use Rattle.process_core.specs.Scheduler.{worked, job, in_front, marked}
+use Rattle.kernel_core.specs.Machine.{Machine, booted, scheduled, shown_first}
+use Rattle.kernel_core.specs.KernelProcesses.{serve}
+use Rattle.kernel_core.specs.Calls.{after_call}
+
+-- One step.
+
+-- what an application answers to a stimulus, by its number
+abbrev pub Answers : Type 0
+Answers = ℕ → Stimulus → Call
+
+-- a machine, and the entry that its last step made
+abbrev pub StepMade : Type 0
+StepMade = Machine × Option Entry
+
+abbrev pub silent : Machine → StepMade
+silent m = (m, None)
+
+-- the turns and rounds of one input
+abbrev pub work_limit : ℕ
+work_limit = 10000
+
+-- a turn or a round would begin; where the work is at its limit, the run is halted instead
+abbrev pub within_limit : Machine → StepMade → StepMade
+within_limit m step = if m.work == work_limit then (record m { is_halted = true }, Some Entry.Halt) else step
+
+abbrev pub with_more_work : Machine → Machine
+with_more_work m = record m { work = m.work + 1 }
+
+abbrev pub turn_taken : ℕ → Origin → Stimulus → Call → Machine → StepMade
+turn_taken p origin stimulus call m =
+    (after_call call p (with_more_work m), Some (Entry.Turn (record { 0 = p }) origin stimulus call))
+
+-- the job is done
+abbrev pub job_done : Answers → Option (Job Bool) → Machine → StepMade
+job_done answers (Some (Job.TakeTurn p origin stimulus)) m =
+    within_limit m (turn_taken p origin stimulus (answers p stimulus) m)
+job_done answers (Some (Job.Serve p event)) m = silent (serve p event m)
+job_done answers (Some (Job.CallBack p c is_struck)) m =
+    silent (if is_struck then m else scheduled (in_front (Item.Give p Origin.Callback (Stimulus.Callback c) ∷ [])) m)
+job_done answers (Some (Job.ShowEntry entry)) m = (m, Some entry)
+job_done answers (Some Job.Round) m = within_limit m (silent (with_more_work m))
+job_done answers (Some Job.Rest) m = silent m
+job_done answers None m = silent m
+
+-- one item of the agenda is worked off
+abbrev pub one_step : Answers → Machine → StepMade
+one_step answers m = if m.is_halted then silent m else job_done answers (job m.scheduler) (scheduled worked m)
+
+-- no activation is open, no process is marked, and no event waits
+abbrev pub is_at_rest : Machine → Bool
+is_at_rest m = is_idle m.scheduler
+
+-- nothing more happens without an input
+abbrev pub is_still : Machine → Bool
+is_still m = m.is_halted || is_at_rest m
+
+-- To the next entry.
+
+-- n steps that make no entry lead from old to new
+abbrev pub Silently : Answers → ℕ → Machine → Machine → Type 0
+Silently answers zero old new = old ≡ new
+Silently answers (suc n) old new = (next : Machine) × (one_step answers old ≡ silent next) × Silently answers n next new
+
+-- steps that make no entry lead from old to new
+pub record GoesSilently (answers : Answers) (old new : Machine) : Type 0 where
+  pub count : ℕ
+  pub steps : Silently answers count old new
+
+-- steps that make no entry, and then one that makes this entry
+pub record MakesEntry (answers : Answers) (old : Machine) (entry : Entry) (new : Machine) : Type 0 where
+  pub last : Machine
+  pub before : GoesSilently answers old last
+  pub makes : one_step answers last ≡ (new, Some entry)
+
+-- steps that make no entry, until nothing is left to be done
+pub record GoesToRest (answers : Answers) (old new : Machine) : Type 0 where
+  pub before : GoesSilently answers old new
+  pub running : new.is_halted ≡ false
+  pub at_rest : is_at_rest new ≡ true
+
+-- the machine goes on to the next entry, or to rest; once halted, it stays
+abbrev pub GoesOn : Answers → Machine → Reached → Machine → Type 0
+GoesOn answers old (Reached.Entry entry) new = MakesEntry answers old entry new
+GoesOn answers old Reached.Rest new = GoesToRest answers old new
+GoesOn answers old Reached.Halted new = (old.is_halted ≡ true) × (new ≡ old)
+
+abbrev pub made : Reached → List Entry
+made (Reached.Entry entry) = entry ∷ []
+made _ = []
+
+-- An input.
+
+abbrev pub ticks_of : Input → ℕ
+ticks_of (Input.Tick n) = n
+
+abbrev pub effect : Input → Machine → Machine
+effect (Input.Tick n) m = scheduled (marked 0) (record m { clock = m.clock + n })
+
+-- the input is handed in
+abbrev pub fed : Input → Machine → Machine
+fed input m = shown_first (Entry.Input input) (effect input (record m { work = 0 }))
+
+-- A run.
+
+-- the stimulus of an entry that is a turn of p
+abbrev pub stimulus_of : ℕ → Entry → Option Stimulus
+stimulus_of p (Entry.Turn pid origin stimulus call) = if pid.0 == p then Some stimulus else None
+stimulus_of p _ = None
+
+-- what p was told in these entries
+abbrev pub heard : ℕ → List Entry → List Stimulus
+heard p entries = filter_map (stimulus_of p) entries
+
+-- each application answers to all that it was told, and to this
+abbrev pub answers_after : Applications → List Entry → Answers
+answers_after says entries p stimulus = says p (heard p entries ++ stimulus ∷ [])
+
+pub record Running : Type 0 where
+  pub machine : Machine
+  -- the entries made so far
+  pub entries : List Entry
+
+abbrev pub gone_on : List Entry → StepMade → Running
+gone_on entries step = record { machine = step.0; entries = entries ++ option_to_list step.1 }
+
+abbrev pub after_step : Applications → Running → Running
+after_step says r = gone_on r.entries (one_step (answers_after says r.entries) r.machine)
+
+abbrev pub after_steps : Applications → ℕ → Running → Running
+after_steps says zero r = r
+after_steps says (suc n) r = after_steps says n (after_step says r)
+
+-- so many steps lead from old to new, where nothing more happens without an input
+abbrev pub ComesToRest : Applications → Running → Running → Type 0
+ComesToRest says old new = (n : ℕ) × (after_steps says n old ≡ new) × (is_still new.machine ≡ true)
+
+abbrev pub with_input : Input → Running → Running
+with_input input r = record r { machine = fed input r.machine }
+
+-- from old to rest; then each input is handed in, and the machine goes on to rest again. After Halt nothing follows
+abbrev pub Runs : Applications → Running → List Input → Running → Type 0
+Runs says old [] new = ComesToRest says old new
+Runs says old (input ∷ inputs) new =
+    (rested : Running)
+    × ComesToRest says old rested
+    × (rested.machine.is_halted ≡ true → new ≡ rested)
+    × (rested.machine.is_halted ≡ false → Runs says (with_input input rested) inputs new)
+
+abbrev pub at_start : Config → Running
+at_start c = record { machine = booted c; entries = [] }

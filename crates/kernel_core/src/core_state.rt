@@ -1,0 +1,199 @@
+//! The fields of a kernel, and how they change.
+
+ghost use Rattle.std.specs.Prelude.{◌≡◌, ◌<◌, ◌≤◌, ◌+◌, ◌-◌, ◌*◌, ◌^◌, ◌∷◌, ℕ, Bool, true, false, ◌||◌, None, Some, List, [], ◌++◌, length, slice_get, IfSome};
+ghost use Rattle.std.specs.List.{list_any};
+ghost use Rattle.mote_types.specs.Applications.{says_of};
+ghost use Rattle.mote_types.specs.Entries.{is_halt};
+ghost use Rattle.mote_types.specs.declared.entry.Entry.{Entry as MadeEntry};
+ghost use Rattle.mote_types.specs.declared.event.Stimulus.{Stimulus as Told};
+ghost use Rattle.kernel_core.specs.Mote.{TakesEntry};
+ghost use Rattle.kernel_core.specs.View.{machine_of, mote_of, entries_left_in, IsInOrder};
+ghost use Rattle.process_core.specs.declared.job.Job as ready;
+ghost use Rattle.process_core.specs.Held.{job_of, turn_of};
+ghost use Rattle.process_core.specs.Processes.{IsApplication};
+ghost use Rattle.kernel_core.specs.Cost.{IsPaid, costs, present};
+ghost use Rattle.kernel_core.specs.View.{ComesToJob};
+ghost use Rattle.kernel_core.specs.KernelProcesses.{serve};
+ghost use Rattle.kernel_core.specs.Run.{Answers, fed, ticks_of, silent, is_at_rest, GoesOn, heard, made, job_done, within_limit, turn_taken, with_more_work};
+ghost use Rattle.kernel_core.specs.Machine.{Machine};
+
+use crate::step::Step;
+use mote_types::app::App;
+use mote_types::ask::ask;
+use mote_types::entry::{Entry, Input};
+use mote_types::event::{Event, Origin, Pid, Stimulus};
+use process_core::job::Job;
+use process_core::scheduler::Scheduler;
+
+/// The kernel's process for event timers.
+const ETIMER: Pid = Pid(0);
+
+/// The turns and rounds that one input may take.
+pub const WORK_LIMIT: u32 = 10_000;
+
+/// The fields of a kernel.
+#[derive(Drop)]
+pub struct Core {
+    pub clock: u64,
+    pub work: u32,
+    pub halted: bool,
+    pub inputs: u64,
+    pub applications: u8,
+    /// An input whose entry is made before anything else is done.
+    pub handed_in: Option<Input>,
+    pub scheduler: Scheduler,
+}
+
+impl Core {
+    /// The application takes a turn, or the run is halted.
+    fn take_turn(
+        &mut self,
+        apps: &mut [Box<dyn App>],
+        pid: Pid,
+        origin: Origin,
+        stimulus: Stimulus,
+    ) -> Entry
+        requires least { 4 ≤ pid.0 }
+        requires present { pid.0 < 4 + length apps.old }
+        requires running { self.old.halted ≡ false }
+        requires nothing_shown { self.old.handed_in ≡ None }
+        requires work { self.old.work ≤ 10000 }
+        requires turn { self.old.scheduler.turn ≡ Some pid }
+        requires applications { self.old.applications ≡ self.old.scheduler.scheduler.applications }
+        ensures machine { within_limit (machine_of self.old) (turn_taken pid.0 origin stimulus (says_of says apps.old pid.0 (stimulus ∷ [])) (machine_of self.old)) ≡ (machine_of self.new, Some result) }
+        ensures left { entries_left_in self.new < entries_left_in self.old }
+        ensures halted { self.new.halted ≡ is_halt result }
+        ensures clock { self.new.clock ≡ self.old.clock }
+        ensures order { IsInOrder self.new }
+        ensures kept { (self.new.inputs ≡ self.old.inputs) × (self.new.scheduler.scheduler.applications ≡ self.old.scheduler.scheduler.applications) }
+        ensures law { (p : ℕ) (next : Told) (later : List Told) →
+            says_of says apps.new p (next ∷ later) ≡ says_of says apps.old p (heard p (result ∷ []) ++ (next ∷ later)) }
+        ensures others { (p : ℕ) → 4 ≤ p → heard p (result ∷ []) ≡ [] → slice_get apps.new (p - 4) ≡ slice_get apps.old (p - 4) }
+    {
+        if self.work == WORK_LIMIT {
+            self.halted = true;
+            return Entry::Halt;
+        }
+        self.work += 1;
+        let call = ask(apps, pid, &stimulus);
+        self.carry_out(pid, &call);
+        Entry::Turn {
+            pid,
+            origin,
+            stimulus,
+            call,
+        }
+    }
+
+    /// A round begins, or the run is halted.
+    fn begin_round(&mut self) -> Option<Entry>
+        requires order { IsInOrder self.old }
+        requires running { self.old.halted ≡ false }
+        requires nothing_shown { self.old.handed_in ≡ None }
+        ensures machine { within_limit (machine_of self.old) (silent (with_more_work (machine_of self.old))) ≡ (machine_of self.new, result) }
+        ensures order { IsInOrder self.new }
+        ensures kept { self.new ≡ record self.old { work = self.new.work; halted = self.new.halted } }
+        ensures halts { IfSome result (λ entry. (entry ≡ MadeEntry.Halt) × (self.new.halted ≡ true) × (entries_left_in self.new < entries_left_in self.old)) }
+        ensures begins { result ≡ None → (self.new.halted ≡ false) × (self.new.work ≡ self.old.work + 1) }
+    {
+        if self.work == WORK_LIMIT {
+            self.halted = true;
+            return Some(Entry::Halt);
+        }
+        self.work += 1;
+        None
+    }
+
+    /// A kernel process is given an event. So far they do nothing.
+    fn serve(&mut self, _pid: Pid, _event: Event)
+        ensures machine { machine_of self.new ≡ serve _pid.0 _event (machine_of self.old) }
+        ensures kept { self.new ≡ self.old }
+    {}
+
+    /// The next thing that is to be done, which is taken from the agenda.
+    fn next_job(&mut self) -> Job
+        requires order { IsInOrder self.old }
+        requires running { self.old.halted ≡ false }
+        requires nothing_shown { self.old.handed_in ≡ None }
+        ensures reached { (answers : Answers) → ComesToJob answers (machine_of self.old) (job_of result) (machine_of self.new) }
+        ensures paid { (bound : ℕ) → present self.old.scheduler.scheduler ≤ bound →
+            IsPaid bound (Some (job_of result)) (costs bound self.old.scheduler.scheduler.agenda) (costs bound self.new.scheduler.scheduler.agenda)
+            × (present self.new.scheduler.scheduler ≤ present self.old.scheduler.scheduler) }
+        ensures turn { self.new.scheduler.turn ≡ turn_of result }
+        ensures active { IfSome self.new.scheduler.turn (λ p. IsApplication self.new.applications p.0) }
+        ensures applications { self.new.scheduler.scheduler.applications ≡ self.old.scheduler.scheduler.applications }
+        ensures rest { result ≡ ready.Job.Rest → is_at_rest (machine_of self.new) ≡ true }
+        ensures kept { self.new ≡ record self.old { scheduler = self.new.scheduler } }
+    {
+        self.scheduler.next()
+    }
+
+    /// Works until an entry is made or nothing is left to do.
+    pub fn step(&mut self, apps: &mut [Box<dyn App>]) -> Step
+        requires boxes { length apps.old ≡ self.old.scheduler.scheduler.applications }
+        requires order { IsInOrder self.old }
+        ensures machine { GoesOn (λ p stimulus. says_of says apps.old p (stimulus ∷ [])) (machine_of self.old) result (machine_of self.new) }
+        ensures order { IsInOrder self.new }
+        ensures kept { (self.new.inputs ≡ self.old.inputs) × (self.new.scheduler.scheduler.applications ≡ self.old.scheduler.scheduler.applications) }
+        ensures left { TakesEntry result (mote_of self.old) (mote_of self.new) }
+        ensures halted { self.new.halted ≡ (self.old.halted || list_any is_halt (made result)) }
+        ensures clock { self.new.clock ≡ self.old.clock }
+        ensures law { (p : ℕ) (next : Told) (later : List Told) →
+            says_of says apps.new p (next ∷ later) ≡ says_of says apps.old p (heard p (made result) ++ (next ∷ later)) }
+        ensures others { (p : ℕ) → 4 ≤ p → heard p (made result) ≡ [] → slice_get apps.new (p - 4) ≡ slice_get apps.old (p - 4) }
+    {
+        if self.halted {
+            return Step::Halted;
+        }
+        if let Some(input) = self.handed_in.take() {
+            return Step::Entry(Entry::Input(input));
+        }
+        'job: loop {
+            match self.next_job() {
+                Job::Give {
+                    pid,
+                    origin,
+                    stimulus,
+                } => return Step::Entry(self.take_turn(apps, pid, origin, stimulus)),
+                Job::Serve { pid, event } => self.serve(pid, event),
+                // There are no callback timers yet.
+                Job::Callback { .. } => {}
+                Job::Round => {
+                    if let Some(halt) = self.begin_round() {
+                        return Step::Entry(halt);
+                    }
+                }
+                Job::Rest => return Step::Rest,
+            }
+        }
+    }
+
+    /// Whether nothing is left to be done without an input.
+    pub fn at_rest(&self) -> bool
+        ensures { result ≡ is_at_rest (machine_of self.now) }
+    {
+        self.handed_in.is_none() && self.scheduler.at_rest()
+    }
+
+    /// Hands in an input.
+    pub fn feed(&mut self, input: Input)
+        requires order { IsInOrder self.old }
+        requires running { self.old.halted ≡ false }
+        requires rest { is_at_rest (machine_of self.old) ≡ true }
+        requires clock { self.old.clock + ticks_of input ≤ 2 ^ 62 }
+        requires few { self.old.inputs < 2 ^ 40 }
+        ensures machine { machine_of self.new ≡ fed input (machine_of self.old) }
+        ensures inputs { self.new.inputs ≡ self.old.inputs + 1 }
+        ensures order { IsInOrder self.new }
+    {
+        match &input {
+            Input::Tick(ticks) => {
+                self.clock += *ticks as u64;
+                self.scheduler.mark(ETIMER);
+            }
+        }
+        self.work = 0;
+        self.inputs += 1;
+        self.handed_in = Some(input);
+    }
+}

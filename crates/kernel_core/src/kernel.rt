@@ -1,0 +1,114 @@
+//! The kernel: what a mote runs on.
+
+ghost use Rattle.std.specs.Prelude.{◌≡◌, ◌<◌, ◌≤◌, ◌+◌, ◌-◌, ◌^◌, ◌∷◌, ◌++◌, ◌↔◌, ◌||◌, ℕ, [], true, false, List, length, slice_get, IfOk, IsErrOf};
+ghost use Rattle.std.specs.List.{list_any};
+ghost use Rattle.mote_types.specs.Applications.{says_of};
+ghost use Rattle.mote_types.specs.Entries.{is_halt};
+ghost use Rattle.mote_types.specs.declared.event.Stimulus.{Stimulus as Told};
+ghost use Rattle.kernel_core.specs.Machine.{is_bootable, booted};
+ghost use Rattle.kernel_core.specs.Run.{GoesOn, fed, heard, is_at_rest, made, ticks_of};
+ghost use Rattle.kernel_core.specs.Mote.{TakesEntry};
+
+use crate::config::Config;
+use crate::core_state::Core;
+use crate::step::Step;
+use mote_types::app::App;
+use mote_types::entry::Input;
+use mote_types::fault::BootFault;
+use process_core::scheduler::Scheduler;
+use std::alloc::Global;
+use std::marker::Model;
+
+/// A mote's kernel: one machine of processes, events and a clock.
+#[derive(Drop)]
+pub struct Kernel {
+    core: Core,
+}
+
+impl Model for Kernel {
+    ghost use Rattle.kernel_core.specs.Mote.{Mote};
+    ghost use Rattle.kernel_core.specs.View.{mote_of, IsInOrder};
+
+    ghost Value = { Mote };
+
+    ghost view = { λ k. mote_of k.core };
+
+    ghost invariant = { λ k. IsInOrder k.core };
+}
+
+impl Kernel {
+    /// A kernel at boot, before its applications are started. All memory that the mote will use is taken here.
+    ///
+    /// `BadSizes` exactly where a size is out of its range or no multiple of 4, or there are more than 16 applications,
+    /// however little memory there is; else `Memory` where memory is refused.
+    pub fn boot(alloc: Global, config: Config) -> Result<Kernel, BootFault>
+        ensures booted { IfOk result (λ kernel. (kernel.machine ≡ booted config) × (kernel.inputs ≡ 0)) }
+        ensures bad_sizes { IsErrOf result BootFault.BadSizes ↔ (is_bootable config ≡ false) }
+    {
+        if !config.is_bootable() {
+            return Err(BootFault::BadSizes);
+        }
+        let scheduler = Scheduler::new(alloc, config.apps).map_err(|_| BootFault::Memory)?;
+        let core = Core {
+            clock: 0,
+            work: 0,
+            halted: false,
+            inputs: 0,
+            applications: config.apps,
+            handed_in: None,
+            scheduler,
+        };
+        Ok(Kernel { core })
+    }
+
+    /// Whether the run was halted, since the work of one input reached its bound.
+    pub fn halted(&self) -> bool
+        ensures { result ≡ self.now.machine.is_halted }
+    {
+        self.core.halted
+    }
+
+    /// The ticks since boot.
+    pub fn clock(&self) -> u64
+        ensures { result ≡ self.now.machine.clock }
+    {
+        self.core.clock
+    }
+
+    /// Whether nothing is left to be done without an input: no activation is open, no process is marked and no event waits.
+    pub fn at_rest(&self) -> bool
+        ensures { result ≡ is_at_rest self.now.machine }
+    {
+        self.core.at_rest()
+    }
+
+    /// Hands an input to a mote at rest. What follows is done by `step`.
+    pub fn feed(&mut self, input: Input)
+        requires running { self.old.machine.is_halted ≡ false }
+        requires rest { is_at_rest self.old.machine ≡ true }
+        requires clock { self.old.machine.clock + ticks_of input ≤ 2 ^ 62 }
+        requires few { self.old.inputs < 2 ^ 40 }
+        ensures machine { self.new.machine ≡ fed input self.old.machine }
+        ensures inputs { self.new.inputs ≡ self.old.inputs + 1 }
+    {
+        self.core.feed(input);
+    }
+
+    /// Works until an entry is made or nothing is left to be done. It takes one turn at most, of one application.
+    ///
+    /// `Rest` exactly where the mote has come to rest, `Halted` exactly where it was halted before.
+    pub fn step(&mut self, apps: &mut [Box<dyn App>]) -> Step
+        requires boxes { length apps.old ≡ self.old.machine.scheduler.applications }
+        ensures machine { GoesOn (λ p stimulus. says_of says apps.old p (stimulus ∷ [])) self.old.machine result self.new.machine }
+        ensures law { (p : ℕ) (next : Told) (later : List Told) →
+            says_of says apps.new p (next ∷ later) ≡ says_of says apps.old p (heard p (made result) ++ (next ∷ later)) }
+        ensures others { (p : ℕ) → 4 ≤ p → heard p (made result) ≡ [] → slice_get apps.new (p - 4) ≡ slice_get apps.old (p - 4) }
+        ensures halted { self.new.machine.is_halted ≡ (self.old.machine.is_halted || list_any is_halt (made result)) }
+        ensures clock { self.new.machine.clock ≡ self.old.machine.clock }
+        ensures applications { self.new.machine.scheduler.applications ≡ self.old.machine.scheduler.applications }
+        ensures inputs { self.new.inputs ≡ self.old.inputs }
+        ensures progress { TakesEntry result self.old self.new }
+    {
+        self.core.step(apps)
+    }
+}

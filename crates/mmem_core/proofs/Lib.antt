@@ -1,0 +1,4 @@
+pub mod Callers
+pub mod PlaceLemmas
+pub mod StoreLemmas
+pub mod TableLemmas

@@ -1,0 +1,3 @@
+pub mod ManagedStore
+pub mod Places
+pub mod Table

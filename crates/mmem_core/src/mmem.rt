@@ -1,0 +1,190 @@
+//! The handle table, and the calls on blocks.
+
+ghost use Rattle.std.specs.Prelude.{◌≡◌, ℕ, List, ◌+◌, ◌≤◌, ◌<◌, ◌↔◌, length, IsNone, IfNone, OnSome, IsSome, IsSomeAnd, Some, None};
+ghost use Rattle.mote_types.specs.Rounding.{up4};
+ghost use Rattle.mmem_core.specs.ManagedStore.{name_of, IsName, IsManagedSize, empty_store, block_of, bytes_of, length_of, free, allocated, freed, with_bytes, copied};
+
+use crate::place::{Place, close_gap, rounded};
+use arena_core::{Arena, Span};
+use mote_types::event::Pid;
+use std::marker::Model;
+
+/// The name of a block: a process from 3 to 19, and one of its handles, from 0 to 15.
+pub type Key = (Pid, u8);
+
+const NAMES: usize = 272;
+
+/// Managed memory over a span of an arena.
+///
+/// Each call that reaches bytes is given that arena, with the span's bytes as the calls before left them.
+#[derive(Drop)]
+pub struct Mmem {
+    span: Span,
+    places: [Option<Place>; NAMES],
+    used: u32,
+    slid: u64,
+}
+
+impl Model for Mmem {
+    ghost use Rattle.std.specs.Prelude.{◌≤◌};
+    ghost use Rattle.mmem_core.specs.Places.{IsPacked};
+    ghost use Rattle.mmem_core.specs.Table.{Table};
+
+    ghost Value = { Table };
+
+    ghost view = { λ m. record { span = m.span; places = m.places; slid = m.slid } };
+
+    ghost invariant = { λ m. IsPacked m.places m.used × (m.used ≤ m.span.len) × (m.span.len ≤ 65536) };
+}
+
+/// The number of a name in the table.
+fn number_of(key: Key) -> usize
+    requires { IsName key.0.0 key.1 }
+    ensures number { result ≡ name_of key.0.0 key.1 }
+    ensures within { result < NAMES }
+{
+    (key.0.0 - 3) as usize * 16 + key.1 as usize
+}
+
+impl Mmem {
+    ghost use Rattle.mmem_core.specs.Table.{Table, store_of, IsWithin, KeepsToSpan, CountsMoved};
+
+    /// Managed memory without a block, over a span of 4 to 65,536 bytes, a multiple of 4.
+    pub fn new(span: Span) -> Mmem
+        requires { IsManagedSize span.len }
+        ensures span { result.span ≡ span }
+        ensures empty { (bytes : List ℕ) → store_of result bytes ≡ empty_store span.len }
+        ensures nothing_slid { result.slid ≡ 0 }
+    {
+        Mmem {
+            span,
+            places: [None; NAMES],
+            used: 0,
+            slid: 0,
+        }
+    }
+
+    /// Gives a name that is not live a block of `n` bytes, all 0. `None` exactly where `n`, rounded up to a multiple of 4,
+    /// is more than what is free; then nothing changes.
+    pub fn alloc(&mut self, arena: &mut Arena, key: Key, n: u32) -> Option<()>
+        requires named { IsName key.0.0 key.1 }
+        requires within { IsWithin self.old arena.old.bytes }
+        requires unused { block_of key.0.0 key.1 (store_of self.old arena.old.bytes) ≡ None }
+        requires some_bytes { 1 ≤ n }
+        ensures refused { IsNone result ↔ (free (store_of self.old arena.old.bytes) < up4 n) }
+        ensures unchanged { IfNone result ((self.new ≡ self.old) × (arena.new ≡ arena.old)) }
+        ensures block { OnSome result (store_of self.new arena.new.bytes ≡ allocated key.0.0 key.1 n (store_of self.old arena.old.bytes)) }
+        ensures rest { KeepsToSpan self.old self.new arena.old arena.new }
+        ensures slid { CountsMoved self.old self.new }
+    {
+        let size = rounded(n);
+        if ((self.span.len - self.used) as u64) < size {
+            return None;
+        }
+        let at = self.used;
+        arena.fill(
+            Span {
+                at: self.span.at + at,
+                len: n,
+            },
+            0,
+        );
+        self.places[number_of(key)] = Some(Place { at, len: n });
+        self.used += size as u32;
+        Some(())
+    }
+
+    /// Takes a name's block away, and moves all later ones down into its room.
+    pub fn free(&mut self, arena: &mut Arena, key: Key)
+        requires named { IsName key.0.0 key.1 }
+        requires within { IsWithin self.old arena.old.bytes }
+        requires live { IsSome (block_of key.0.0 key.1 (store_of self.old arena.old.bytes)) }
+        ensures block { store_of self.new arena.new.bytes ≡ freed key.0.0 key.1 (store_of self.old arena.old.bytes) }
+        ensures rest { KeepsToSpan self.old self.new arena.old arena.new }
+        ensures slid { CountsMoved self.old self.new }
+    {
+        let number = number_of(key);
+        let gap = self.places[number].unwrap();
+        let size = rounded(gap.len) as u32;
+        let later = gap.at + size;
+        arena.slide(
+            self.span.at + later,
+            self.span.at + gap.at,
+            self.used - later,
+        );
+        self.places[number] = None;
+        let moved = close_gap(&mut self.places, gap.at, size);
+        self.used -= size;
+        self.slid = self.slid.saturating_add(moved);
+    }
+
+    /// The bytes of a name's block.
+    pub fn bytes<'a>(&self, arena: &'a Arena, key: Key) -> &'a [u8]
+        requires named { IsName key.0.0 key.1 }
+        requires within { IsWithin self.now arena.now.bytes }
+        requires live { IsSome (block_of key.0.0 key.1 (store_of self.now arena.now.bytes)) }
+        ensures { block_of key.0.0 key.1 (store_of self.now arena.now.bytes) ≡ Some result.now }
+    {
+        let place = self.places[number_of(key)].unwrap();
+        arena.bytes(Span {
+            at: self.span.at + place.at,
+            len: place.len,
+        })
+    }
+
+    /// Writes bytes into a name's block, from the place `at` of it on.
+    pub fn write(&self, arena: &mut Arena, key: Key, at: u32, bytes: &[u8])
+        requires named { IsName key.0.0 key.1 }
+        requires within { IsWithin self.now arena.old.bytes }
+        requires range { IsSomeAnd (block_of key.0.0 key.1 (store_of self.now arena.old.bytes)) (λ block. at + length bytes.now ≤ length block) }
+        ensures block { store_of self.now arena.new.bytes ≡ with_bytes key.0.0 key.1 at bytes.now (store_of self.now arena.old.bytes) }
+        ensures rest { KeepsToSpan self.now self.now arena.old arena.new }
+    {
+        let place = self.places[number_of(key)].unwrap();
+        let target = arena.bytes_mut(Span {
+            at: self.span.at + place.at + at,
+            len: bytes.len() as u32,
+        });
+        target.copy_from_slice(bytes);
+    }
+
+    /// Copies all bytes of one block to the front of another one, which is no shorter.
+    pub fn copy(&self, arena: &mut Arena, source: Key, target: Key)
+        requires source_named { IsName source.0.0 source.1 }
+        requires target_named { IsName target.0.0 target.1 }
+        requires within { IsWithin self.now arena.old.bytes }
+        requires live { IsSomeAnd (block_of source.0.0 source.1 (store_of self.now arena.old.bytes)) (λ from. IsSomeAnd (block_of target.0.0 target.1 (store_of self.now arena.old.bytes)) (λ to. length from ≤ length to)) }
+        ensures block { store_of self.now arena.new.bytes ≡ copied source.0.0 source.1 target.0.0 target.1 (store_of self.now arena.old.bytes) }
+        ensures rest { KeepsToSpan self.now self.now arena.old arena.new }
+    {
+        let source = number_of(source);
+        let target = number_of(target);
+        if source != target {
+            let from = self.places[source].unwrap();
+            let to = self.places[target].unwrap();
+            arena.copy(self.span.at + from.at, self.span.at + to.at, from.len);
+        }
+    }
+
+    /// How many bytes are free: what the rounded lengths of all live blocks leave of the span.
+    pub fn avail(&self) -> u32
+        ensures { (bytes : List ℕ) → IsWithin self.now bytes → result ≡ free (store_of self.now bytes) }
+    {
+        self.span.len - self.used
+    }
+
+    /// The length of a name's block, if it is live.
+    pub fn len_of(&self, key: Key) -> Option<u32>
+        requires { IsName key.0.0 key.1 }
+        ensures { (bytes : List ℕ) → IsWithin self.now bytes → result ≡ length_of key.0.0 key.1 (store_of self.now bytes) }
+    {
+        self.places[number_of(key)].map(|place| place.len)
+    }
+
+    /// How many bytes were moved so far, the moved blocks' lengths rounded up. It stays at the highest `u64`.
+    pub fn slid(&self) -> u64
+        ensures { result ≡ self.now.slid }
+    {
+        self.slid
+    }
+}

@@ -1,0 +1,4 @@
+pub mod InRun
+pub mod NextByte
+pub mod Pieces
+pub mod Settling

@@ -1,0 +1,106 @@
+-- Steps of the kernel, as steps of the run.
+use Rattle.std.proofs.Common.{◌≡◌, ℕ, zero, suc, Bool, true, false, List, [], ◌∷◌, ◌++◌, refl, ap, sym, ◌∙◌, append_assoc}
+use Rattle.std.specs.Prelude.{◌||◌, flat_map, filter_map, option_to_list, Some, None}
+use Rattle.std.specs.List.{list_any}
+use Rattle.std.proofs.lemmas.List.{append-nil}
+use Rattle.std.proofs.lemmas.List.Elements.{filter_map-append}
+use Rattle.std.proofs.lemmas.List.Folds.{list_any-append}
+use Rattle.std.proofs.Math.Path.{fun_ext}
+use Rattle.std.proofs.lemmas.Grind.{flat_map-append}
+use Rattle.mote_types.specs.declared.event.Stimulus.{Stimulus}
+use Rattle.mote_types.specs.declared.entry.Entry.{Entry}
+use Rattle.mote_types.specs.Applications.{Applications}
+use Rattle.mote_types.specs.Entries.{is_halt}
+use Rattle.mote_text.specs.EntryText.{entry_line}
+use Rattle.kernel_core.specs.declared.step.Step.{Step}
+use Rattle.kernel_core.specs.Machine.{Machine}
+use Rattle.kernel_core.specs.Run.{Answers, Silently, GoesSilently, MakesEntry, GoesToRest, GoesOn, Running, made, heard, stimulus_of, answers_after, one_step, after_step, after_steps}
+use Rattle.mote_run.specs.Settling.{IsTold, Settled, lines}
+
+-- k steps after n steps are some steps
+pub steps_after : (says : Applications) (n k : ℕ) (r : Running) → (j : ℕ) × (after_steps says j r ≡ after_steps says k (after_steps says n r))
+steps_after says zero k r = (k, refl)
+steps_after says (suc n) k r =
+    let j = steps_after says n k (after_step says r) in
+    (suc j.0, j.1)
+
+-- the answers to one more stimulus, of applications that were told these entries
+pub answers_told : (says now : Applications) (entries : List Entry) → IsTold says entries now →
+    (p : ℕ) (stimulus : Stimulus) → now p (stimulus ∷ []) ≡ answers_after says entries p stimulus
+answers_told says now entries told p stimulus = told.each p stimulus []
+
+-- a row of steps that make no entry
+silent_steps : (says : Applications) (entries : List Entry) (n : ℕ) (a b : Machine) → Silently (answers_after says entries) n a b →
+    after_steps says n (record { machine = a; entries = entries }) ≡ record { machine = b; entries = entries }
+silent_steps says entries zero a b same = ap (λ m. record { machine = m; entries = entries }) same
+silent_steps says entries (suc n) a b (next, first, rest) = rw (first, append-nil entries) (silent_steps says entries n next b rest)
+
+entry_step : (says : Applications) (entries : List Entry) (old new : Machine) (entry : Entry) →
+    MakesEntry (answers_after says entries) old entry new →
+    (k : ℕ) × (after_steps says k (record { machine = old; entries = entries }) ≡ record { machine = new; entries = entries ++ entry ∷ [] })
+entry_step says entries old new entry makes =
+    let first = silent_steps says entries makes.before.count old makes.last makes.before.steps in
+    let k = steps_after says makes.before.count 1 (record { machine = old; entries = entries }) in
+    (k.0, k.1 ∙ rw (first, makes.makes) refl)
+
+-- what a step of the kernel made
+made_steps : (says : Applications) (entries : List Entry) (old new : Machine) (step : Step) →
+    GoesOn (answers_after says entries) old step new →
+    (k : ℕ) × (after_steps says k (record { machine = old; entries = entries }) ≡ record { machine = new; entries = entries ++ made step })
+made_steps says entries old new (Step.Entry entry) goes = entry_step says entries old new entry goes
+made_steps says entries old new Step.Rest goes =
+    (goes.before.count, silent_steps says entries goes.before.count old new goes.before.steps ∙ rw append-nil refl)
+made_steps says entries old new Step.Halted goes = (0, rw (goes.1, append-nil) refl)
+
+told_more : (says now : Applications) (entries : List Entry) (p : ℕ) (told : List Stimulus) (next : Stimulus) (later : List Stimulus) →
+    IsTold says entries now → now p (told ++ (next ∷ later)) ≡ says p (heard p entries ++ (told ++ (next ∷ later)))
+told_more says now entries p [] next later is_told = is_told.each p next later
+told_more says now entries p (first ∷ told) next later is_told = is_told.each p first (told ++ (next ∷ later))
+
+told_after : (says now later : Applications) (entries more : List Entry) → IsTold says entries now →
+    ((p : ℕ) (next : Stimulus) (rest : List Stimulus) → later p (next ∷ rest) ≡ now p (heard p more ++ (next ∷ rest))) →
+    IsTold says (entries ++ more) later
+told_after says now later entries more is_told law = record {
+  each = λ p next rest.
+      law p next rest ∙ (told_more says now entries p (heard p more) next rest is_told
+      ∙ ap (says p) (sym (append_assoc (heard p entries) (heard p more) (next ∷ rest))
+      ∙ ap (λ v. v ++ (next ∷ rest)) (sym (filter_map-append (stimulus_of p) entries more))));
+}
+
+pub nothing_settled : (says now : Applications) (before : List Entry) (m : Machine) (given : List ℕ) → IsTold says before now →
+    Settled says before m m now given given
+nothing_settled says now before m given told = record {
+  entries = [];
+  count = 0;
+  walked = rw append-nil refl;
+  told = rw append-nil told;
+  written = sym (append-nil given);
+  halts = λ h. rw append-nil h;
+}
+
+halts_more : (says : Applications) (before entries more : List Entry) (old mid new : Bool) →
+    (list_any is_halt before ≡ old → list_any is_halt (before ++ entries) ≡ mid) → new ≡ (mid || list_any is_halt more) →
+    list_any is_halt before ≡ old → list_any is_halt (before ++ (entries ++ more)) ≡ new
+halts_more says before entries more old mid new so_far e h =
+    rw (← append_assoc before entries more, list_any-append is_halt (before ++ entries) more, so_far h, e) refl
+
+pub settled_more : (says now later : Applications) (before : List Entry) (old mid new : Machine) (given₀ given₁ given₂ : List ℕ) (step : Step) →
+    Settled says before old mid now given₀ given₁ →
+    GoesOn (λ p stimulus. now p (stimulus ∷ [])) mid step new →
+    ((p : ℕ) (next : Stimulus) (rest : List Stimulus) → later p (next ∷ rest) ≡ now p (heard p (made step) ++ (next ∷ rest))) →
+    new.is_halted ≡ (mid.is_halted || list_any is_halt (made step)) →
+    given₂ ≡ given₁ ++ lines (made step) →
+    Settled says before old new later given₀ given₂
+settled_more says now later before old mid new given₀ given₁ given₂ step so_far goes law halted written =
+    let same : (λ p stimulus. now p (stimulus ∷ [])) ≡ answers_after says (before ++ so_far.entries) =
+        fun_ext (λ p. fun_ext (λ stimulus. so_far.told.each p stimulus [])) in
+    let k = made_steps says (before ++ so_far.entries) mid new step (rw same at goes) in
+    let j = steps_after says so_far.count k.0 (record { machine = old; entries = before }) in
+    record {
+      entries = so_far.entries ++ made step;
+      count = j.0;
+      walked = j.1 ∙ (ap (after_steps says k.0) so_far.walked ∙ (k.1 ∙ rw (append_assoc before so_far.entries (made step)) refl));
+      told = rw (append_assoc before so_far.entries (made step)) at (told_after says now later (before ++ so_far.entries) (made step) so_far.told law);
+      written = rw (written, so_far.written, flat_map-append entry_line so_far.entries (made step)) (append_assoc given₀ (lines so_far.entries) (lines (made step)));
+      halts = halts_more says before so_far.entries (made step) old.is_halted mid.is_halted new.is_halted so_far.halts halted;
+    }

@@ -1,0 +1,125 @@
+use Rattle.std.proofs.Common.{rules, ◌≡◌, ◌≢◌, ◌<◌, ◌≤◌, ◌+◌, ◌∙◌, ◌++◌, ◌∷◌, [], ℕ, length, refl, ap, sym, arith, None, Some, true, false}
+use Rattle.std.proofs.lemmas.List.{append-nil}
+use Rattle.mote_text.specs.declared.script.End.{End}
+use Rattle.mote_text.specs.Script.{read_line, script_limit}
+use Rattle.mote_text.proofs.Reading.{script_too_long, ends_with_nothing, ends_with_input, ends_with_no_form, script_limit_is}
+use Rattle.kernel_core.specs.Run.{fed}
+use Rattle.mote_run.proofs.NextByte.{no_input, an_input, no_form}
+use Rattle.mote_run.proofs.InRun.{in_run_start, in_run_byte, in_run_input, in_run_halted, in_run_stops, in_run_ends_with_input, taken_on}
+use Rattle.mote_run.proofs.run.run.Goals as goal
+
+pub byte-init : goal.byte-init
+byte-init g c = record {
+  in_run = λ s k config boots.
+      rw (c.new-line.ensures.number, c.new-line.ensures.bytes)
+      (in_run_start config _ _ _ _ _ _ _ boots (c.in_ok-settle.ensures.settled k _ [] (record { each = λ p next later. refl })) c.in_ok-settle.ensures.still);
+  boxes = search rules;
+  still = search rules;
+  clock = search rules;
+  inputs = search rules;
+  number = search rules;
+  taken = search rules;
+  unended = search rules;
+  reads = search rules;
+  writes = search rules;
+}
+
+pub returns-then-halted-clause-text : goal.returns-then-halted-clause-text
+returns-then-halted-clause-text g c = λ s k config boots.
+    let halted : c.byte.kernel.machine.is_halted ≡ true = sym c.halted.ensures ∙ c.if-halted.true in
+    in_run_halted (c.byte.invariant.in_run s k config boots) _ halted
+
+pub returns-in-Ok-None-clause-text : goal.returns-in-Ok-None-clause-text
+returns-in-Ok-None-clause-text g c = λ s k config boots.
+    let i = c.byte.invariant.in_run s k config boots in
+    let running : c.byte.kernel.machine.is_halted ≡ false = sym c.halted.ensures ∙ c.if-halted.false in
+    let none : c.in_ok-byte.field-0 ≡ None = search rules in
+    let t = rw none at c.in_ok-byte.ensures.taken in
+    in_run_stops i End.Finished _ i.bytes _ _ running (t.0 s ∙ i.taken) (sym (append-nil _))
+    (λ more whole. rw (whole t.1, append-nil) (ends_with_nothing i.before (c.in-Ok-None.ensures.says ∙ ap Some c.in-Ok-None.field-0-is)))
+
+pub returns-in-Ok-Some-clause-text : goal.returns-in-Ok-Some-clause-text
+returns-in-Ok-Some-clause-text g c = λ s k config boots.
+    let i = c.byte.invariant.in_run s k config boots in
+    let running : c.byte.kernel.machine.is_halted ≡ false = sym c.halted.ensures ∙ c.if-halted.false in
+    let none : c.in_ok-byte.field-0 ≡ None = search rules in
+    let t = rw none at c.in_ok-byte.ensures.taken in
+    rw c.end_of.ensures
+    (in_run_ends_with_input i c.in-Ok-Some.input _ _ _ c.feed.new.self.machine c.settle-in-Ok-Some.new.kernel.machine _ running (t.0 s) t.1
+    (c.feed.ensures.machine ∙ ap (λ input. fed input c.byte.kernel.machine) c.in-Ok-Some.input-is)
+    (ends_with_input i.before c.in-Ok-Some.input (c.in-Ok-Some.ensures.says ∙ ap Some c.in-Ok-Some.field-0-is))
+    (c.in_ok-settle-in-Ok-Some.ensures.settled k _ i.entries i.told) c.in_ok-settle-in-Ok-Some.ensures.still)
+
+pub returns-in-Err-clause-text : goal.returns-in-Err-clause-text
+returns-in-Err-clause-text g c = λ s k config boots.
+    let i = c.byte.invariant.in_run s k config boots in
+    let running : c.byte.kernel.machine.is_halted ≡ false = sym c.halted.ensures ∙ c.if-halted.false in
+    let none : c.in_ok-byte.field-0 ≡ None = search rules in
+    let t = rw none at c.in_ok-byte.ensures.taken in
+    in_run_stops i (End.BadLine c.byte.line.number) _ i.bytes _ _ running (t.0 s ∙ i.taken) (c.in_ok-close-in-Err.ensures.given k)
+    (λ more whole. rw (whole t.1, append-nil) (ends_with_no_form i.before c.in-Err.ensures.no_form))
+
+pub returns-then-taken-eq-SCRIPT_LIMIT-clause-text : goal.returns-then-taken-eq-SCRIPT_LIMIT-clause-text
+returns-then-taken-eq-SCRIPT_LIMIT-clause-text g c = λ s k config boots.
+    let i = c.byte.invariant.in_run s k config boots in
+    let running : c.byte.kernel.machine.is_halted ≡ false = sym c.halted.ensures ∙ c.if-halted.false in
+    let t = rw c.in-Some.is at c.in_ok-byte.ensures.taken in
+    let full : script_limit ≤ length i.bytes = omega (arith, script_limit_is, i.size, c.if-taken-eq-SCRIPT_LIMIT.true) in
+    in_run_stops i End.TooLong _ (i.bytes ++ c.in-Some.byte ∷ []) _ _ running (taken_on i c.in-Some.byte _ (t.0 s)) (c.in_ok-close.ensures.given k)
+    (λ more whole. script_too_long c.in-Some.byte i.before full more)
+
+pub byte-preserved-in-Ok-None-take : goal.byte-preserved-in-Ok-None-take
+byte-preserved-in-Ok-None-take g c =
+    let t = rw c.in-Some.is at c.in_ok-byte.ensures.taken in
+    record {
+      in_run = λ s k config boots.
+          let i = c.byte.invariant.in_run s k config boots in
+          let room : length i.bytes < script_limit = omega (arith, script_limit_is, i.size, c.byte.invariant.taken, c.if-taken-eq-SCRIPT_LIMIT.false) in
+          in_run_byte i c.in-Some.byte _ _ _ (t.0 s)
+          (λ before. no_input c.in-Some.byte _ _ before room
+          (rw c.in-Ok-None-take.field-0-is at c.in-Ok-None-take.ensures.put) (rw c.in-Ok-None-take.field-0-is at c.in-Ok-None-take.ensures.ended));
+      boxes = search rules;
+      still = search rules;
+      clock = search rules;
+      inputs = search rules;
+      number = search rules;
+      taken = search rules;
+      unended = t.1;
+      reads = search rules;
+      writes = search rules;
+    }
+
+pub byte-preserved : goal.byte-preserved
+byte-preserved g c =
+    let t = rw c.in-Some.is at c.in_ok-byte.ensures.taken in
+    record {
+      in_run = λ s k config boots.
+          let i = c.byte.invariant.in_run s k config boots in
+          let running : c.byte.kernel.machine.is_halted ≡ false = sym c.halted.ensures ∙ c.if-halted.false in
+          let room : length i.bytes < script_limit = omega (arith, script_limit_is, i.size, c.byte.invariant.taken, c.if-taken-eq-SCRIPT_LIMIT.false) in
+          in_run_input i c.in-Some.byte _ _ _ _ c.in-Ok-Some-take.input c.feed-in-Ok-Some-take.new.self.machine c.settle-in-Ok-Some-take.new.kernel.machine _
+          (t.0 s) running (c.feed-in-Ok-Some-take.ensures.machine ∙ ap (λ input. fed input c.byte.kernel.machine) c.in-Ok-Some-take.input-is)
+          (λ before. an_input c.in-Some.byte _ _ before room c.in-Ok-Some-take.input
+          (rw c.in-Ok-Some-take.field-0-is at c.in-Ok-Some-take.ensures.put) (rw c.in-Ok-Some-take.field-0-is at c.in-Ok-Some-take.ensures.ended))
+          (c.in_ok-settle-in-Ok-Some-take.ensures.settled k _ i.entries i.told) c.in_ok-settle-in-Ok-Some-take.ensures.still;
+      boxes = search rules;
+      still = search rules;
+      clock = search rules;
+      inputs = search rules;
+      number = search rules;
+      taken = search rules;
+      unended = t.1;
+      reads = search rules;
+      writes = search rules;
+    }
+
+pub returns-in-Err-take-clause-text : goal.returns-in-Err-take-clause-text
+returns-in-Err-take-clause-text g c = λ s k config boots.
+    let i = c.byte.invariant.in_run s k config boots in
+    let running : c.byte.kernel.machine.is_halted ≡ false = sym c.halted.ensures ∙ c.if-halted.false in
+    let t = rw c.in-Some.is at c.in_ok-byte.ensures.taken in
+    let room : length i.bytes < script_limit = omega (arith, script_limit_is, i.size, c.byte.invariant.taken, c.if-taken-eq-SCRIPT_LIMIT.false) in
+    rw c.in-Err-take.ensures.same_number
+    (in_run_stops i (End.BadLine c.byte.line.number) _ (i.bytes ++ c.in-Some.byte ∷ []) _ _ running (taken_on i c.in-Some.byte _ (t.0 s))
+    (rw c.in-Err-take.ensures.same_number at (c.in_ok-close-in-Err-take.ensures.given k))
+    (λ more whole. no_form c.in-Some.byte i.before room c.in-Err-take.ensures.no_form c.in-Err-take.ensures.too_long more))

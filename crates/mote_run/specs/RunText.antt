@@ -1,0 +1,34 @@
+-- What a run writes.
+use Rattle.std.specs.Prelude.{◌≡◌, ℕ, Bool, true, List, [], ◌++◌, if◌then◌else◌}
+use Rattle.mote_types.specs.Applications.{Applications}
+use Rattle.mote_text.specs.declared.script.End.{End}
+use Rattle.mote_text.specs.Script.{inputs}
+use Rattle.mote_text.specs.Transcript.{end_of, text}
+use Rattle.kernel_core.specs.declared.config.Config.{Config}
+use Rattle.kernel_core.specs.Machine.{Machine, booted, is_bootable}
+use Rattle.kernel_core.specs.Mote.{Mote}
+use Rattle.kernel_core.specs.Run.{Running, Runs, at_start}
+
+-- out is the text of the machine's run on the script's inputs, all of it and nothing else, and this is how it ends
+pub record IsRunText (config : Config) (says : Applications) (script out : List ℕ) (end : End) : Type 0 where
+  pub last : Running
+  pub runs : Runs says (at_start config) (inputs script).0 last
+  pub ends : end ≡ end_of last.entries (inputs script).1
+  pub is_text : out ≡ text last.entries end
+
+-- what was read and written is a run of the script, for whatever more the script has where its end was not read
+pub record HasRun (config : Config) (says : Applications) (taken_old taken_new : List ℕ) (is_ended : Bool) (given_old given_new : List ℕ) (end : End) : Type 0 where
+  pub bytes : List ℕ
+  pub out : List ℕ
+  pub taken : taken_new ≡ taken_old ++ bytes
+  pub given : given_new ≡ given_old ++ out
+  pub is_text : (more : List ℕ) → (is_ended ≡ true → more ≡ []) → IsRunText config says (bytes ++ more) out end
+
+-- the kernel was just booted, for so many applications
+abbrev pub WasBooted : Mote → ℕ → Type 0
+WasBooted kernel applications =
+    ((config : Config) × (is_bootable config ≡ true) × (config.apps ≡ applications) × (kernel.machine ≡ booted config)) × (kernel.inputs ≡ 0)
+
+-- the end of a run whose script has ended, where the machine is so
+abbrev pub script_done : Machine → End
+script_done m = if m.is_halted then End.Halted else End.Finished

@@ -1,0 +1,28 @@
+-- How entries come about, and what the applications say after them.
+use Rattle.std.specs.Prelude.{◌≡◌, ℕ, Bool, List, [], ◌∷◌, ◌++◌, flat_map}
+use Rattle.std.specs.List.{list_any}
+use Rattle.mote_types.specs.declared.event.Stimulus.{Stimulus}
+use Rattle.mote_types.specs.declared.entry.Entry.{Entry}
+use Rattle.mote_types.specs.Applications.{Applications}
+use Rattle.mote_types.specs.Entries.{is_halt}
+use Rattle.mote_text.specs.EntryText.{entry_line}
+use Rattle.kernel_core.specs.Machine.{Machine}
+use Rattle.kernel_core.specs.Run.{heard, after_steps}
+
+-- each application says now what it said at first to all that it heard in these entries, and to what it is told next
+pub record IsTold (says : Applications) (entries : List Entry) (now : Applications) : Type 0 where
+  pub each : (p : ℕ) (next : Stimulus) (later : List Stimulus) → now p (next ∷ later) ≡ says p (heard p entries ++ (next ∷ later))
+
+-- the lines of entries
+abbrev pub lines : List Entry → List ℕ
+lines entries = flat_map entry_line entries
+
+-- after the entries before, the machine went from old to new, and the lines of what it made were written
+pub record Settled (says : Applications) (before : List Entry) (old new : Machine) (now : Applications) (given_old given_new : List ℕ) : Type 0 where
+  pub entries : List Entry
+  pub count : ℕ
+  pub walked : after_steps says count (record { machine = old; entries = before }) ≡ record { machine = new; entries = before ++ entries }
+  pub told : IsTold says (before ++ entries) now
+  pub written : given_new ≡ given_old ++ lines entries
+  -- the machine is halted exactly where it was, or an entry says so
+  pub halts : list_any is_halt before ≡ old.is_halted → list_any is_halt (before ++ entries) ≡ new.is_halted

@@ -1,0 +1,6 @@
+pub mod Bytewise
+mod Digits
+mod Examples
+pub mod Reading
+mod Ticks
+mod WholeLines

@@ -1,0 +1,97 @@
+-- A script: its lines, the inputs that they stand for, and how it ends.
+use Rattle.std.specs.Prelude.{ℕ, ◌+◌, ◌^◌, Bool, not, ◌&&◌, ◌||◌, List, [], ◌∷◌, ◌++◌, length, take, drop, slice_index, codes, bytes_eq, Option, Some, None, option_map, option_and_then, if◌then◌else◌, ◌==◌, nat_lt}
+use Rattle.std.specs.Char.{is_ascii_digit}
+use Rattle.std.specs.List.{list_all, slice_split}
+use Rattle.std.specs.Str.Parse.{digits_value}
+use Rattle.mote_types.specs.declared.entry.Input.{Input}
+use Rattle.mote_text.specs.declared.script.End.{End}
+
+-- a decimal number
+
+abbrev pub has_leading_zero : List ℕ → Bool
+has_leading_zero digits = nat_lt 1 (length digits) && slice_index digits 0 == 48
+
+abbrev pub is_number : List ℕ → Bool
+is_number text = nat_lt 0 (length text) && list_all is_ascii_digit text && not (has_leading_zero text)
+
+-- the number below 2 ^ 32 that is written so
+abbrev pub read_number : List ℕ → Option ℕ
+read_number text = if is_number text && nat_lt (digits_value 10 text) (2 ^ 32) then Some (digits_value 10 text) else None
+
+-- one line
+
+-- what stands behind the word that the line begins with
+abbrev pub argument_of : List ℕ → List ℕ → Option (List ℕ)
+argument_of word line = if bytes_eq (take (length word) line) word then Some (drop (length word) line) else None
+
+abbrev pub read_tick : List ℕ → Option Input
+read_tick line = option_map (λ n. Input.Tick n) (option_and_then read_number (argument_of (codes "tick ") line))
+
+-- an empty line, or a comment
+abbrev pub says_nothing : List ℕ → Bool
+says_nothing line = length line == 0 || slice_index line 0 == 35
+
+abbrev pub line_limit : ℕ
+line_limit = 1024
+
+-- what a line says: an input, or nothing. None, where it has no form
+unfoldable pub read_line : List ℕ → Option (Option Input)
+read_line line =
+    if nat_lt line_limit (length line) then None
+    else if says_nothing line then Some None
+    else option_map (λ input. Some input) (read_tick line)
+
+-- the lines of a script
+
+unfoldable pub script_limit : ℕ
+script_limit = 16_777_216
+
+abbrev pub is_too_long : List ℕ → Bool
+is_too_long bytes = nat_lt script_limit (length bytes)
+
+-- what the line ends part; the last part has no end
+abbrev pub parts : List ℕ → List (List ℕ)
+parts bytes = slice_split (λ byte. byte == 10) bytes
+
+-- whether a rest behind the last line end is a line: it is too long for one, or isn't empty and nothing follows it
+abbrev pub is_line : Bool → List ℕ → Bool
+is_line is_end rest = nat_lt line_limit (length rest) || is_end && nat_lt 0 (length rest)
+
+abbrev pub with_last_line : Bool → List (List ℕ) → List (List ℕ)
+with_last_line is_end [] = []
+with_last_line is_end (rest ∷ []) = if is_line is_end rest then rest ∷ [] else []
+with_last_line is_end (line ∷ next ∷ lines) = line ∷ with_last_line is_end (next ∷ lines)
+
+abbrev pub without_last : List (List ℕ) → List (List ℕ)
+without_last [] = []
+without_last (line ∷ []) = []
+without_last (line ∷ next ∷ lines) = line ∷ without_last (next ∷ lines)
+
+-- the lines whose end stands among these bytes
+abbrev pub whole_lines : List ℕ → List (List ℕ)
+whole_lines bytes = without_last (parts bytes)
+
+abbrev pub lines_of : List ℕ → List (List ℕ)
+lines_of bytes = with_last_line (not (is_too_long bytes)) (parts (take script_limit bytes))
+
+-- inputs, and how the script ends
+abbrev pub Reading : Type 0
+Reading = List Input × End
+
+abbrev pub preceded_by : List Input → Reading → Reading
+preceded_by earlier later = (earlier ++ later.0, later.1)
+
+-- line n and what the lines behind it give
+abbrev pub with_line : ℕ → Option (Option Input) → Reading → Reading
+with_line n None later = ([], End.BadLine n)
+with_line n (Some None) later = later
+with_line n (Some (Some input)) later = preceded_by (input ∷ []) later
+
+-- of these lines, whose first has the number n; the end is that of a script whose lines all have a form
+abbrev pub read_lines : ℕ → End → List (List ℕ) → Reading
+read_lines n end [] = ([], end)
+read_lines n end (line ∷ lines) = with_line n (read_line line) (read_lines (n + 1) end lines)
+
+-- the inputs of the lines before the first line of no form, and how the script ends
+unfoldable pub inputs : List ℕ → Reading
+inputs bytes = read_lines 1 (if is_too_long bytes then End.TooLong else End.Finished) (lines_of bytes)

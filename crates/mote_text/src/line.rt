@@ -1,0 +1,66 @@
+//! A line of a transcript, and how it is put together.
+
+ghost use Rattle.std.specs.Prelude.{◌≡◌, ◌≤◌, ◌<◌, ◌+◌, ◌*◌, ◌++◌, length, codes, decimal};
+ghost use Rattle.hex.specs.Hex.{encode_lower};
+ghost use Rattle.mote_text.specs.EntryText.{hex};
+
+use arrayvec::ArrayVec;
+use itoa::Buffer;
+
+/// Room for a line of a transcript with its end: no line is longer.
+pub type LineBuf = ArrayVec<u8, 640>;
+
+/// Appends these bytes.
+pub(crate) fn push_bytes(line: &mut LineBuf, bytes: &[u8])
+    requires { length line.old.items + length bytes.now ≤ 640 }
+    ensures { line.new.items ≡ line.old.items ++ bytes.now }
+{
+    let _ = line.try_extend_from_slice(bytes);
+}
+
+/// Appends two lower case hex digits for each byte.
+pub(crate) fn push_digits(line: &mut LineBuf, bytes: &[u8])
+    requires few { length bytes.now ≤ 127 }
+    requires room { length line.old.items + 2 * length bytes.now ≤ 640 }
+    ensures text { line.new.items ≡ line.old.items ++ encode_lower bytes.now }
+    ensures length { length line.new.items ≡ length line.old.items + 2 * length bytes.now }
+{
+    let mut digits = [0; 254];
+    let written = &mut digits[..2 * bytes.len()];
+    let _ = hex::encode_to_slice(bytes, written);
+    push_bytes(line, written);
+}
+
+/// Appends a space and this word.
+pub(crate) fn push_word(line: &mut LineBuf, word: &[u8])
+    requires { length line.old.items + 1 + length word.now ≤ 640 }
+    ensures text { line.new.items ≡ line.old.items ++ (codes " " ++ word.now) }
+    ensures length { length line.new.items ≡ length line.old.items + 1 + length word.now }
+{
+    push_bytes(line, b" ");
+    push_bytes(line, word);
+}
+
+/// Appends a space and this number in decimal: at most 20 digits.
+pub(crate) fn push_number(line: &mut LineBuf, n: u64)
+    requires { length line.old.items + 21 ≤ 640 }
+    ensures text { line.new.items ≡ line.old.items ++ (codes " " ++ decimal n) }
+    ensures length { length line.new.items ≤ length line.old.items + 21 }
+{
+    push_word(line, Buffer::new().format(n).as_bytes());
+}
+
+/// Appends a space and these bytes in hex, or a dash where there are none.
+pub(crate) fn push_hex(line: &mut LineBuf, bytes: &[u8])
+    requires few { length bytes.now ≤ 127 }
+    requires room { length line.old.items + 255 ≤ 640 }
+    ensures text { line.new.items ≡ line.old.items ++ (codes " " ++ hex bytes.now) }
+    ensures length { length line.new.items ≤ length line.old.items + 255 }
+{
+    if bytes.is_empty() {
+        push_word(line, b"-");
+    } else {
+        push_bytes(line, b" ");
+        push_digits(line, bytes);
+    }
+}

@@ -1,0 +1,79 @@
+//! The lines of a transcript.
+
+ghost use Rattle.std.specs.Prelude.{◌≡◌, ◌≤◌, ◌+◌, ◌++◌, [], ◌∷◌, length, codes, decimal};
+ghost use Rattle.mote_text.specs.EntryText.{entry_line, spaced, origin_word, stimulus_words, call_words};
+ghost use Rattle.mote_text.specs.Transcript.{final_line};
+
+use crate::line::{LineBuf, push_bytes, push_number, push_word};
+use crate::script::End;
+use crate::words::{push_call, push_input, push_note, push_origin, push_stimulus};
+use itoa::Buffer;
+use mote_types::call::Call;
+use mote_types::entry::Entry;
+use mote_types::event::{Origin, Pid, Stimulus};
+
+/// Appends the words of a turn.
+fn push_turn(line: &mut LineBuf, pid: Pid, origin: Origin, stimulus: &Stimulus, call: &Call)
+    requires { line.old.items ≡ [] }
+    ensures text { line.new.items ≡ decimal pid.0 ++ spaced (origin_word origin ∷ (stimulus_words stimulus.now ++ codes "->" ∷ call_words call.now)) }
+    ensures length { length line.new.items ≤ 639 }
+{
+    push_bytes(line, Buffer::new().format(pid.0).as_bytes());
+    push_origin(line, origin);
+    push_stimulus(line, stimulus);
+    push_word(line, b"->");
+    push_call(line, call);
+}
+
+/// Puts the line of an entry, with its end, in place of what is in the buffer.
+///
+/// Source: the transcript format is this project's profile.
+#[tactic(auto, unfolding(crate::specs::EntryText::entry_line, crate::specs::EntryText::line_of))]
+pub fn entry_text(entry: &Entry, line: &mut LineBuf)
+    ensures { line.new.items ≡ entry_line entry.now }
+{
+    line.clear();
+    match entry {
+        Entry::Input(input) => {
+            push_bytes(line, b">");
+            push_input(line, input);
+        }
+        Entry::Turn {
+            pid,
+            origin,
+            stimulus,
+            call,
+        } => push_turn(line, *pid, *origin, stimulus, call),
+        Entry::Note(note) => {
+            push_bytes(line, b"note");
+            push_note(line, note);
+        }
+        Entry::Halt => push_bytes(line, b"halt"),
+    }
+    push_bytes(line, b"\n");
+}
+
+/// Puts the last line of a transcript, with its end, in place of what is in the buffer: nothing, where the run finished
+/// or halted.
+///
+/// Source: the transcript format is this project's profile.
+#[tactic(auto, unfolding(crate::specs::EntryText::line_of))]
+pub fn final_text(end: End, line: &mut LineBuf)
+    ensures { line.new.items ≡ final_line end }
+{
+    line.clear();
+    match end {
+        End::Finished | End::Halted => {}
+        End::BadLine(number) => {
+            push_bytes(line, b"bad");
+            push_word(line, b"line");
+            push_number(line, u64::from(number));
+            push_bytes(line, b"\n");
+        }
+        End::TooLong => {
+            push_bytes(line, b"too");
+            push_word(line, b"long");
+            push_bytes(line, b"\n");
+        }
+    }
+}

@@ -1,0 +1,192 @@
+//! The words of an entry: each function appends its words to a line, a space in front of each.
+
+ghost use Rattle.std.specs.Prelude.{◌≡◌, ◌≤◌, ◌+◌, ◌++◌, [], ◌∷◌, length, decimal};
+ghost use Rattle.mote_types.specs.Codes.{refusal_number};
+ghost use Rattle.mote_text.specs.EntryText.{spaced, payload_word, origin_word, stats_words, reply_words, stimulus_words, call_word, argument_words, call_words, input_words, note_words};
+
+use crate::line::{LineBuf, push_bytes, push_digits, push_hex, push_number, push_word};
+use mote_types::call::Call;
+use mote_types::entry::{Input, Note};
+use mote_types::event::{Origin, Payload, Stimulus};
+use mote_types::refusal::Refusal;
+use mote_types::reply::{HeapStats, Reply};
+
+fn push_payload(line: &mut LineBuf, payload: &Payload)
+    requires { length line.old.items + 256 ≤ 640 }
+    ensures text { line.new.items ≡ line.old.items ++ spaced (payload_word payload.now ∷ []) }
+    ensures length { length line.new.items ≤ length line.old.items + 256 }
+{
+    match payload {
+        Payload::Empty => push_word(line, b"-"),
+        Payload::Num(n) => push_number(line, u64::from(*n)),
+        Payload::Line(bytes) => {
+            push_word(line, b"x");
+            push_digits(line, bytes.as_slice());
+        }
+    }
+}
+
+fn push_refusal(line: &mut LineBuf, word: &[u8], refusal: Refusal)
+    requires { length line.old.items + 22 + length word.now ≤ 640 }
+    ensures text { line.new.items ≡ line.old.items ++ spaced (word.now ∷ decimal (refusal_number refusal) ∷ []) }
+    ensures length { length line.new.items ≤ length line.old.items + 22 + length word.now }
+{
+    push_word(line, word);
+    push_number(line, u64::from(refusal.number()));
+}
+
+pub(crate) fn push_origin(line: &mut LineBuf, origin: Origin)
+    requires { length line.old.items + 9 ≤ 640 }
+    ensures text { line.new.items ≡ line.old.items ++ spaced (origin_word origin ∷ []) }
+    ensures length { length line.new.items ≤ length line.old.items + 9 }
+{
+    match origin {
+        Origin::Event => push_word(line, b"event"),
+        Origin::Synch => push_word(line, b"synch"),
+        Origin::Poll => push_word(line, b"poll"),
+        Origin::Callback => push_word(line, b"callback"),
+        Origin::Answer => push_word(line, b"answer"),
+    }
+}
+
+fn push_stats(line: &mut LineBuf, stats: &HeapStats)
+    requires { length line.old.items + 111 ≤ 640 }
+    ensures text { line.new.items ≡ line.old.items ++ spaced (stats_words stats.now) }
+    ensures length { length line.new.items ≤ length line.old.items + 111 }
+{
+    push_word(line, b"stats");
+    push_number(line, u64::from(stats.allocated));
+    push_number(line, u64::from(stats.overhead));
+    push_number(line, u64::from(stats.available));
+    push_number(line, u64::from(stats.footprint));
+    push_number(line, u64::from(stats.chunks));
+}
+
+fn push_reply(line: &mut LineBuf, reply: &Reply)
+    requires { length line.old.items + 261 ≤ 640 }
+    ensures text { line.new.items ≡ line.old.items ++ spaced (reply_words reply.now) }
+    ensures length { length line.new.items ≤ length line.old.items + 261 }
+{
+    match reply {
+        Reply::Done => push_word(line, b"done"),
+        Reply::Refused(refusal) => push_refusal(line, b"refused", *refusal),
+        Reply::Num(n) => {
+            push_word(line, b"num");
+            push_number(line, u64::from(*n));
+        }
+        Reply::Wide(n) => {
+            push_word(line, b"wide");
+            push_number(line, *n);
+        }
+        Reply::Flag(flag) => {
+            push_word(line, b"flag");
+            push_word(line, if *flag { b"true" } else { b"false" });
+        }
+        Reply::Bytes(chunk) => {
+            push_word(line, b"bytes");
+            push_hex(line, chunk.as_slice());
+        }
+        Reply::Stats(stats) => push_stats(line, stats),
+    }
+}
+
+/// Appends what a process was told, at most 277 bytes.
+pub(crate) fn push_stimulus(line: &mut LineBuf, stimulus: &Stimulus)
+    requires { length line.old.items + 277 ≤ 640 }
+    ensures text { line.new.items ≡ line.old.items ++ spaced (stimulus_words stimulus.now) }
+    ensures length { length line.new.items ≤ length line.old.items + 277 }
+{
+    match stimulus {
+        Stimulus::Event(event) => {
+            push_number(line, u64::from(event.code));
+            push_payload(line, &event.payload);
+        }
+        Stimulus::Answer(reply) => push_reply(line, reply),
+        Stimulus::Callback(timer) => push_number(line, u64::from(*timer)),
+    }
+}
+
+/// The word of a call, at most 14 bytes.
+fn call_word(call: &Call) -> &'static [u8]
+    ensures text { result.now ≡ call_word call.now }
+    ensures length { length result.now ≤ 14 }
+{
+    match call {
+        Call::Post(..) => b"post",
+        Call::Broadcast(..) => b"broadcast",
+        Call::PostSynch(..) => b"post-synch",
+        Call::Poll(_) => b"poll",
+        Call::Start(_) => b"start",
+        Call::Kill(_) => b"kill",
+        Call::IsRunning(_) => b"is-running",
+        Call::AllocEvent => b"alloc-event",
+        Call::Clock => b"clock",
+        Call::Print(_) => b"print",
+        Call::Wait => b"wait",
+        Call::Exit => b"exit",
+    }
+}
+
+/// Appends a call's arguments, at most 298 bytes.
+fn push_arguments(line: &mut LineBuf, call: &Call)
+    requires { length line.old.items + 298 ≤ 640 }
+    ensures text { line.new.items ≡ line.old.items ++ spaced (argument_words call.now) }
+    ensures length { length line.new.items ≤ length line.old.items + 298 }
+{
+    match call {
+        Call::Post(process, code, payload) | Call::PostSynch(process, code, payload) => {
+            push_number(line, u64::from(*process));
+            push_number(line, u64::from(*code));
+            push_payload(line, payload);
+        }
+        Call::Broadcast(code, payload) => {
+            push_number(line, u64::from(*code));
+            push_payload(line, payload);
+        }
+        Call::Poll(process)
+        | Call::Start(process)
+        | Call::Kill(process)
+        | Call::IsRunning(process) => push_number(line, u64::from(*process)),
+        Call::Print(chunk) => push_hex(line, chunk.as_slice()),
+        Call::AllocEvent | Call::Clock | Call::Wait | Call::Exit => {}
+    }
+}
+
+/// Appends what a process called, at most 313 bytes.
+pub(crate) fn push_call(line: &mut LineBuf, call: &Call)
+    requires { length line.old.items + 313 ≤ 640 }
+    ensures text { line.new.items ≡ line.old.items ++ spaced (call_words call.now) }
+    ensures length { length line.new.items ≤ length line.old.items + 313 }
+{
+    push_word(line, call_word(call));
+    push_arguments(line, call);
+}
+
+/// Appends an input, at most 26 bytes.
+pub(crate) fn push_input(line: &mut LineBuf, input: &Input)
+    requires { length line.old.items + 26 ≤ 640 }
+    ensures text { line.new.items ≡ line.old.items ++ spaced (input_words input.now) }
+    ensures length { length line.new.items ≤ length line.old.items + 26 }
+{
+    match input {
+        Input::Tick(n) => {
+            push_word(line, b"tick");
+            push_number(line, u64::from(*n));
+        }
+    }
+}
+
+/// Appends a note, at most 260 bytes.
+pub(crate) fn push_note(line: &mut LineBuf, note: &Note)
+    requires { length line.old.items + 260 ≤ 640 }
+    ensures text { line.new.items ≡ line.old.items ++ spaced (note_words note.now) }
+    ensures length { length line.new.items ≤ length line.old.items + 260 }
+{
+    match note {
+        Note::Lost(refusal) => push_refusal(line, b"lost", *refusal),
+        Note::Sent(bytes) => {
+            push_word(line, b"sent");
+            push_hex(line, bytes.as_slice());
+        }
+    }
+}

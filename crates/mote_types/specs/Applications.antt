@@ -1,0 +1,29 @@
+-- What an application answers: a function of all stimuli that it was given, up to the one that it answers.
+use Rattle.std.specs.Prelude.{ℕ, ◌-◌, zero, suc, List, [], ◌∷◌, if◌then◌else◌, nat_lt}
+use Rattle.mote_types.specs.declared.call.Call.{Call}
+use Rattle.mote_types.specs.declared.event.Stimulus.{Stimulus}
+
+-- the call that is answered to the last of these stimuli. It is asked of a list that isn't empty alone
+abbrev pub Says : Type 0
+Says = List Stimulus → Call
+
+-- the applications of a mote, by process number
+abbrev pub Applications : Type 0
+Applications = ℕ → Says
+
+-- what an application says that is a machine: its answer in a state to a stimulus, and its next state
+abbrev pub fold_says : {A : Type 0} → (A → Stimulus → Call) → (A → Stimulus → A) → A → Says
+fold_says answer next state [] = Call.Wait
+fold_says answer next state (stimulus ∷ []) = answer state stimulus
+fold_says answer next state (stimulus ∷ (following ∷ later)) =
+    fold_says answer next (next state stimulus) (following ∷ later)
+
+-- what the i-th of these applications says; where there is none it waits
+abbrev pub nth_says : {B : Type 0} → (B → Says) → List B → ℕ → Says
+nth_says says [] i l = Call.Wait
+nth_says says (app ∷ apps) zero l = says app l
+nth_says says (app ∷ apps) (suc i) l = nth_says says apps i l
+
+-- what each process says: the applications are the processes from 4 on, and the kernel's own never speak
+abbrev pub says_of : {B : Type 0} → (B → Says) → List B → Applications
+says_of says apps p l = if nat_lt p 4 then Call.Wait else nth_says says apps (p - 4) l

@@ -1,0 +1,40 @@
+//! What a mote is handed, and what it writes down.
+
+use crate::call::Call;
+use crate::event::{Origin, Pid, Stimulus};
+use crate::refusal::Refusal;
+use arrayvec::ArrayVec;
+
+/// What reaches the mote from outside.
+#[derive(Drop)]
+pub enum Input {
+    /// The clock goes on by so many ticks.
+    Tick(u32),
+}
+
+/// What the kernel tells beside the turns.
+#[derive(Drop)]
+pub enum Note {
+    /// A frame was lost, and why.
+    Lost(Refusal),
+    /// A frame of these bytes was sent.
+    Sent(ArrayVec<u8, 127>),
+}
+
+/// An entry of the transcript.
+#[derive(Drop)]
+pub enum Entry {
+    /// An input was handed in.
+    Input(Input),
+    /// An application was told a stimulus, and answered a call.
+    Turn {
+        pid: Pid,
+        origin: Origin,
+        stimulus: Stimulus,
+        call: Call,
+    },
+    /// Something that is no turn.
+    Note(Note),
+    /// The work bound was reached: nothing follows.
+    Halt,
+}

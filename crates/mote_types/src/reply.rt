@@ -1,0 +1,44 @@
+//! How the kernel answers a call.
+
+use crate::refusal::Refusal;
+use arrayvec::ArrayVec;
+
+/// The bytes of one read, write or print: at most 64.
+pub type Chunk = ArrayVec<u8, 64>;
+
+/// The state of the whole heap, all in bytes but `chunks`.
+///
+/// `allocated + overhead + available` is the size of the heap region. Source: `heapmem_stats_t` of heapmem.h; how each
+/// is counted is this project's profile.
+#[derive(Clone, Copy, Debug, PartialEq, Eq, Drop)]
+pub struct HeapStats {
+    /// What the live blocks have room for.
+    pub allocated: u32,
+    /// The headers of the live blocks.
+    pub overhead: u32,
+    /// All gaps.
+    pub available: u32,
+    /// Where the highest live block ends, 0 where there is none.
+    pub footprint: u32,
+    /// How many blocks are live.
+    pub chunks: u32,
+}
+
+/// The answer to a call, which is the stimulus of the caller's next turn.
+#[derive(Drop)]
+pub enum Reply {
+    /// The call was carried out.
+    Done,
+    /// The call was refused, and changed nothing.
+    Refused(Refusal),
+    /// A number of up to 32 bits.
+    Num(u32),
+    /// A number of up to 64 bits: the clock.
+    Wide(u64),
+    /// Yes or no.
+    Flag(bool),
+    /// The bytes of a read.
+    Bytes(Chunk),
+    /// The state of the heap.
+    Stats(HeapStats),
+}

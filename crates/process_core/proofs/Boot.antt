@@ -1,0 +1,56 @@
+-- The scheduler at boot.
+use Rattle.std.proofs.Common.{◌≡◌, ℕ, zero, suc, ◌+◌, ◌<◌, ◌≤◌, Bool, true, false, List, [], ◌∷◌, ◌++◌, refl, arith, eqb, None, add-one}
+use Rattle.std.specs.List.{range_with_len}
+use Rattle.std.proofs.lemmas.Bool.Decides.{nat_tests}
+use Rattle.process_core.specs.declared.parts.Parts.{Parts}
+use Rattle.process_core.specs.declared.frame.Frame.{Frame}
+use Rattle.process_core.specs.Processes.{at_first, state_of}
+use Rattle.process_core.specs.declared.state.State.{State}
+use Rattle.process_core.specs.declared.awaited.Awaited.{Awaited}
+use Rattle.process_core.specs.Nesting.{is_one_of, IsSound}
+use Rattle.process_core.specs.Parts.{IsInOrder}
+
+pub range_more : (a n : ℕ) → range_with_len a (n + 1) ≡ range_with_len a n ++ (a + n) ∷ []
+range_more a zero = grind arith
+range_more a (suc n) = rw add-one (grind (arith, range_more (a + 1) n))
+
+pub below_range : (p a n : ℕ) → is_one_of p (range_with_len a n) ≡ true → p < a + n
+below_range p a zero h = absurd (cc)
+below_range p a (suc n) h = split (eqb p a) refl (below_range p (a + 1) n)
+  where
+    split : (b : Bool) → eqb p a ≡ b → (is_one_of p (range_with_len (a + 1) n) ≡ true → p < a + 1 + n) → p < a + suc n
+    split true e more = grind (arith, nat_tests, e)
+    split false e more = let m : p < a + 1 + n = more (grind (arith, h, e)) in omega arith
+
+-- the kernel's processes run from the first, and no other process is on the list
+first_run : (p : ℕ) → p < 4 → state_of p at_first ≡ State.Running
+first_run zero h = refl
+first_run (suc zero) h = refl
+first_run (suc (suc zero)) h = refl
+first_run (suc (suc (suc zero))) h = refl
+first_run (suc (suc (suc (suc p)))) h = absurd (omega arith)
+
+none_beyond : (p : ℕ) → 4 ≤ p → state_of p at_first ≡ State.Absent
+none_beyond p h = grind (arith, nat_tests, h)
+
+first_known : (n p : ℕ) → (state_of p at_first ≡ State.Absent → ⊥) → p < 4 + n
+first_known n zero h = omega arith
+first_known n (suc zero) h = omega arith
+first_known n (suc (suc zero)) h = omega arith
+first_known n (suc (suc (suc zero))) h = omega arith
+first_known n (suc (suc (suc (suc p)))) h = absurd (h (none_beyond (suc (suc (suc (suc p)))) (omega arith)))
+
+pub order_at_boot : (d : Parts) (starts : List ℕ) → d.applications ≤ 16 → starts ≡ range_with_len 4 d.applications
+    → d.processes ≡ at_first → d.stack ≡ Frame.Boot starts ∷ [] → d.events.capacity ≡ 32 → d.next_event ≡ 140 → d.awaited ≡ Awaited.Nothing → IsInOrder d
+order_at_boot d starts few is_range list stack room next idle =
+    record { sound = rw (list, stack, idle) sound; bare = rw idle tt; room = room; few = few; numbers = omega arith }
+  where
+    sound : IsSound d.applications at_first (Frame.Boot starts ∷ []) None
+    sound =
+        record {
+          mote = record { kernel = first_run; known = first_known d.applications };
+          nested = ((refl, λ p h. below_range p 4 d.applications (rw is_range at h)), tt);
+          answers = λ p h. absurd (cc);
+          leaves = λ p h. absurd (cc);
+          at_turn = tt;
+        }

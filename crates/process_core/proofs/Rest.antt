@@ -1,0 +1,186 @@
+-- Where nothing is left to be done.
+use Rattle.std.proofs.Common.{◌≡◌, ℕ, zero, suc, ◌<◌, Bool, true, false, List, [], ◌∷◌, ◌++◌, refl, sym, ◌∙◌, ap, arith, Option, Some, None}
+use Rattle.std.specs.Prelude.{if◌then◌else◌, not, ◌&&◌, is_some, map}
+use Rattle.std.specs.List.{list_any}
+use Rattle.process_core.specs.declared.frame.Frame.{Frame}
+use Rattle.process_core.specs.declared.frame.First.{First}
+use Rattle.process_core.specs.Frames.{items_of, agenda_of, receiver_items, exit_items}
+use Rattle.std.proofs.lemmas.List.Folds.{list_any-append}
+use Rattle.std.proofs.lemmas.Bool.Decides.{nat_tests}
+use Rattle.mote_types.specs.declared.event.Event.{Event}
+use Rattle.mote_types.specs.declared.event.Origin.{Origin}
+use Rattle.mote_types.specs.declared.event.TheConstants.{EXITED}
+use Rattle.mote_types.specs.Codes.{number_event}
+use Rattle.mote_types.specs.declared.event.Stimulus.{Stimulus}
+use Rattle.process_core.specs.Processes.{is_kernel_process, is_on_list, is_running, is_any_marked, is_marked}
+use Rattle.process_core.specs.Agenda.{Queued, Item, Job}
+use Rattle.process_core.specs.Scheduler.{Scheduler, job, worked, worked_at, job_at, job_of_item, job_of_event, job_of_give, first_event, wants_round, settled, ComesTo, carried_out, state_in, is_shown, of_event}
+
+module _ {X : Type 0} where
+  no_rest_at_event : (event : Option (Queued X)) → job_of_event event ≡ Some Job.Rest → ⊥
+  no_rest_at_event None h = cc
+  no_rest_at_event (Some (Queued.To p event)) h = cc
+  no_rest_at_event (Some (Queued.ToAll event)) h = cc
+  no_rest_at_event (Some (Queued.Expiry p c x)) h = cc
+
+  serves : (b : Bool) (served : Job X) → (served ≡ Job.Rest → ⊥) → (if b then Some served else None) ≡ Some Job.Rest → ⊥
+  serves true served n h = n (cc)
+  serves false served n h = cc
+
+  no_rest_at_give : (p : ℕ) (stimulus : Stimulus) → job_of_give {X = X} p stimulus ≡ Some Job.Rest → ⊥
+  no_rest_at_give p (Stimulus.Event event) h = serves (is_kernel_process p) (Job.Serve p event) (λ e. cc) h
+  no_rest_at_give p (Stimulus.Answer reply) h = cc
+  no_rest_at_give p (Stimulus.Callback c) h = cc
+
+  no_rest : (item : Item) (s : Scheduler X) → job_of_item item s ≡ Some Job.Rest → ⊥
+  no_rest (Item.Give p origin stimulus) s h = no_rest_at_give p stimulus h
+  no_rest Item.Deliver s h = no_rest_at_event (first_event s) h
+  no_rest (Item.Turn p origin stimulus) s h = cc
+  no_rest (Item.Show entry) s h = cc
+  no_rest (Item.Start p) s h = cc
+  no_rest (Item.GiveExit p) s h = cc
+  no_rest (Item.Remove p) s h = cc
+  no_rest Item.Polls s h = cc
+  no_rest (Item.PollOne p) s h = cc
+
+  idle : (b : Bool) → let rest : Job X = Job.Rest in Some (if b then Job.Round else rest) ≡ Some rest → b ≡ false
+  idle true h = absurd (cc)
+  idle false h = refl
+
+  pub record IsIdle (s : Scheduler X) : Type 0 where
+    pub done : s.agenda ≡ []
+    pub quiet : wants_round s ≡ false
+
+  idle_at : (agenda : List Item) (s : Scheduler X) → s.agenda ≡ agenda → job_at agenda s ≡ Some Job.Rest → IsIdle s
+  idle_at [] s e h = record { done = e; quiet = idle (wants_round s) h }
+  idle_at (item ∷ items) s e h = absurd (no_rest item s h)
+
+  stays : (agenda : List Item) (s : Scheduler X) → agenda ≡ [] → wants_round s ≡ false → worked_at agenda s ≡ s
+  stays [] s e q = rw q refl
+  stays (item ∷ items) s e q = absurd (cc)
+
+  -- what comes to rest has nothing left to do
+  pub idle_from_rest : (s after : Scheduler X) → ComesTo s Job.Rest after → IsIdle after
+  idle_from_rest s after c =
+      let last = settled c.0 s in
+      let i = idle_at last.agenda last refl c.1 in
+      let same : last ≡ after = sym (stays last.agenda last i.done i.quiet) ∙ c.2 in
+      rw (← same) i
+
+-- ---- only the kernel's processes are served
+
+module _ {X : Type 0} where
+  abbrev serve : ℕ → Event → Job X
+  serve p event = Job.Serve p event
+
+  served_by_kernel : (b : Bool) (p q : ℕ) (event other : Event) → is_kernel_process p ≡ b
+      → (if b then Some (serve p event) else None) ≡ Some (serve q other) → q < 4
+  served_by_kernel true p q event other e h =
+      let same : p ≡ q = cc in
+      let low : p < 4 = grind (arith, nat_tests, e) in rw (← same) low
+  served_by_kernel false p q event other e h = absurd (cc)
+
+  serve_at_event : (queued : Option (Queued X)) (q : ℕ) (other : Event) → job_of_event queued ≡ Some (Job.Serve q other) → ⊥
+  serve_at_event None q other h = cc
+  serve_at_event (Some (Queued.To p event)) q other h = cc
+  serve_at_event (Some (Queued.ToAll event)) q other h = cc
+  serve_at_event (Some (Queued.Expiry p c x)) q other h = cc
+
+  serve_at_give : (p : ℕ) (stimulus : Stimulus) (q : ℕ) (other : Event) → job_of_give {X = X} p stimulus ≡ Some (Job.Serve q other) → q < 4
+  serve_at_give p (Stimulus.Event event) q other h = served_by_kernel (is_kernel_process p) p q event other refl h
+  serve_at_give p (Stimulus.Answer reply) q other h = absurd (cc)
+  serve_at_give p (Stimulus.Callback c) q other h = absurd (cc)
+
+  serve_at_item : (item : Item) (s : Scheduler X) (q : ℕ) (other : Event) → job_of_item item s ≡ Some (Job.Serve q other) → q < 4
+  serve_at_item (Item.Give p origin stimulus) s q other h = serve_at_give p stimulus q other h
+  serve_at_item Item.Deliver s q other h = absurd (serve_at_event (first_event s) q other h)
+  serve_at_item (Item.Turn p origin stimulus) s q other h = absurd (cc)
+  serve_at_item (Item.Show entry) s q other h = absurd (cc)
+  serve_at_item (Item.Start p) s q other h = absurd (cc)
+  serve_at_item (Item.GiveExit p) s q other h = absurd (cc)
+  serve_at_item (Item.Remove p) s q other h = absurd (cc)
+  serve_at_item Item.Polls s q other h = absurd (cc)
+  serve_at_item (Item.PollOne p) s q other h = absurd (cc)
+
+  serve_at_none : (b : Bool) (q : ℕ) (other : Event) → Some (if b then Job.Round else Job.Rest) ≡ Some (serve q other) → ⊥
+  serve_at_none true q other h = cc
+  serve_at_none false q other h = cc
+
+  serve_at : (agenda : List Item) (s : Scheduler X) (q : ℕ) (other : Event) → job_at agenda s ≡ Some (Job.Serve q other) → q < 4
+  serve_at [] s q other h = absurd (serve_at_none (wants_round s) q other h)
+  serve_at (item ∷ items) s q other h = serve_at_item item s q other h
+
+  pub served_below : (s : Scheduler X) (q : ℕ) (other : Event) (after : Scheduler X) → ComesTo s (Job.Serve q other) after → q < 4
+  served_below s q other after c = serve_at (settled c.0 s).agenda (settled c.0 s) q other c.1
+
+-- ---- the number of applications never changes
+
+module _ {X : Type 0} where
+  in_either_case : (b : Bool) (s t r : Scheduler X) → s.applications ≡ r.applications → t.applications ≡ r.applications
+      → (if b then s else t).applications ≡ r.applications
+  in_either_case true s t r e f = e
+  in_either_case false s t r e f = f
+
+  applications_carried_out : (item : Item) (s : Scheduler X) → (carried_out item s).applications ≡ s.applications
+  applications_carried_out (Item.Start p) s = in_either_case (is_on_list (state_in s p)) _ _ s refl refl
+  applications_carried_out (Item.Give p origin stimulus) s =
+      in_either_case (not (is_kernel_process p) && is_running (state_in s p)) _ _ s refl refl
+  applications_carried_out (Item.GiveExit p) s = refl
+  applications_carried_out (Item.Remove p) s = refl
+  applications_carried_out Item.Polls s = in_either_case (is_any_marked s.processes) _ _ s refl refl
+  applications_carried_out (Item.PollOne p) s = in_either_case (is_marked p s.processes) _ _ s refl refl
+  applications_carried_out Item.Deliver s = refl
+  applications_carried_out (Item.Turn p origin stimulus) s = refl
+  applications_carried_out (Item.Show entry) s = refl
+
+  applications_worked_at : (agenda : List Item) (s : Scheduler X) → (worked_at agenda s).applications ≡ s.applications
+  applications_worked_at [] s = in_either_case (wants_round s) _ _ s refl refl
+  applications_worked_at (item ∷ items) s = applications_carried_out item (record s { agenda = items })
+
+  pub applications_worked : (s : Scheduler X) → (worked s).applications ≡ s.applications
+  applications_worked s = applications_worked_at s.agenda s
+
+  pub applications_settled : (n : ℕ) (s : Scheduler X) → (settled n s).applications ≡ s.applications
+  applications_settled zero s = refl
+  applications_settled (suc n) s =
+      in_either_case (is_some (job s)) s (settled n (worked s)) s refl (applications_settled n (worked s) ∙ applications_worked s)
+
+  pub applications_from_comes_to : (s : Scheduler X) (next : Job X) (after : Scheduler X) → ComesTo s next after
+      → after.applications ≡ s.applications
+  applications_from_comes_to s next after c =
+      ap (λ (t : Scheduler X). t.applications) (sym c.2) ∙ (applications_worked (settled c.0 s) ∙ applications_settled c.0 s)
+
+-- ---- an entry to be shown is never on the agenda that frames stand for
+
+none_shown : (ps : List ℕ) (f : ℕ → Item) → ((p : ℕ) → is_shown (f p) ≡ false) → list_any is_shown (map f ps) ≡ false
+none_shown [] f h = refl
+none_shown (p ∷ ps) f h = let first = h p in let rest = none_shown ps f h in grind (arith, first, rest)
+
+shown_in_either : (xs ys : List Item) → list_any is_shown xs ≡ false → list_any is_shown ys ≡ false → list_any is_shown (xs ++ ys) ≡ false
+shown_in_either xs ys a b = list_any-append is_shown xs ys ∙ rw (a, b) refl
+
+none_shown_to_receivers : (event : Event) (ps : List ℕ) → list_any is_shown (receiver_items event ps) ≡ false
+none_shown_to_receivers event [] = refl
+none_shown_to_receivers event (p ∷ ps) = none_shown_to_receivers event ps
+
+unshown_in : (frame : Frame) → list_any is_shown (items_of frame) ≡ false
+unshown_in (Frame.Boot walk) = none_shown walk (λ p. Item.Start p) (λ p. refl)
+unshown_in (Frame.Deliver true) = refl
+unshown_in (Frame.Deliver false) = refl
+unshown_in (Frame.Callback pid number) = refl
+unshown_in (Frame.Broadcast None walk event) = none_shown_to_receivers event walk
+unshown_in (Frame.Broadcast (Some p) walk event) = none_shown_to_receivers event walk
+unshown_in (Frame.Polls walk) = none_shown walk (λ p. Item.PollOne p) (λ p. refl)
+unshown_in (Frame.Leave pid walk true) =
+    shown_in_either (map (λ q. Item.Give q Origin.Synch (of_event (number_event EXITED pid.0))) walk) (exit_items true pid.0)
+    (none_shown walk (λ q. Item.Give q Origin.Synch (of_event (number_event EXITED pid.0))) (λ q. refl)) refl
+unshown_in (Frame.Leave pid walk false) =
+    shown_in_either (map (λ q. Item.Give q Origin.Synch (of_event (number_event EXITED pid.0))) walk) (exit_items false pid.0)
+    (none_shown walk (λ q. Item.Give q Origin.Synch (of_event (number_event EXITED pid.0))) (λ q. refl)) refl
+unshown_in (Frame.Answer pid First.Nothing reply) = refl
+unshown_in (Frame.Answer pid (First.Give q event) reply) = refl
+unshown_in (Frame.Answer pid (First.Start q) reply) = refl
+
+pub unshown : (stack : List Frame) → list_any is_shown (agenda_of stack) ≡ false
+unshown [] = refl
+unshown (frame ∷ below) = shown_in_either (items_of frame) (agenda_of below) (unshown_in frame) (unshown below)

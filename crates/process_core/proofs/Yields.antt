@@ -1,0 +1,117 @@
+-- Work that is done in parts.
+use Rattle.std.proofs.Common.{◌≡◌, ℕ, zero, suc, Bool, true, false, List, [], ◌∷◌, refl, sym, ◌∙◌, ap, arith, Option, Some, None}
+use Rattle.std.specs.Prelude.{is_some, drop, map, slice_get, not, ◌&&◌, ◌≤◌}
+use Rattle.std.proofs.lemmas.Bool.Decides.{nat_tests}
+use Rattle.mote_types.specs.declared.event.Stimulus.{Stimulus}
+use Rattle.circular_buffer.specs.Buffer.{Buffer}
+use Rattle.mote_types.specs.declared.event.Pid.{Pid}
+use Rattle.process_core.specs.declared.parts.Parts.{Parts}
+use Rattle.process_core.specs.declared.queued.Queued as code
+use Rattle.process_core.specs.Parts.{scheduler_of, queued_of}
+use Rattle.process_core.specs.declared.frame.Frame.{Frame}
+use Rattle.process_core.specs.Frames.{items_of}
+use Rattle.mote_types.specs.declared.event.Event.{Event}
+use Rattle.mote_types.specs.declared.event.Origin.{Origin}
+use Rattle.mote_types.specs.declared.event.TheConstants.{INIT, POLL}
+use Rattle.mote_types.specs.Codes.{plain_event}
+use Rattle.process_core.specs.declared.state.State.{State}
+use Rattle.process_core.specs.Processes.{is_marked, with_mark, is_running, is_kernel_process}
+use Rattle.process_core.specs.Agenda.{Queued, Item, Job}
+use Rattle.process_core.specs.Scheduler.{Scheduler, worked, job, settled, Yields, in_front, of_event, first_event, state_in, job_of_give}
+
+not_running : (state : State) → (state ≡ State.Running → ⊥) → is_running state ≡ false
+not_running State.Running h = absurd (h refl)
+not_running State.Absent h = refl
+not_running State.Called h = refl
+not_running State.Leaving h = refl
+not_running State.Ending h = refl
+
+module _ {X : Type 0} where
+  -- an item that is no job comes first
+  pub yields_next : (s : Scheduler X) (next : Option (Job X)) (after : Scheduler X)
+      → job s ≡ None → Yields (worked s) next after → Yields s next after
+  yields_next s None after e y = (suc y.0, rw e y.1)
+  yields_next s (Some next) after e y = (suc y.0, rw e y.1, rw e y.2)
+
+  stays : (m : ℕ) (s : Scheduler X) → is_some (job s) ≡ true → settled m s ≡ s
+  stays zero s e = refl
+  stays (suc m) s e = rw e refl
+
+  settled_twice : (n m : ℕ) (s : Scheduler X) → (k : ℕ) × (settled k s ≡ settled m (settled n s))
+  settled_twice zero m s = (m, refl)
+  settled_twice (suc n) m s = split (is_some (job s)) refl (settled_twice n m (worked s))
+    where
+      split : (b : Bool) → is_some (job s) ≡ b → (k : ℕ) × (settled k (worked s) ≡ settled m (settled n (worked s)))
+          → (k : ℕ) × (settled k s ≡ settled m (settled (suc n) s))
+      split true e r = (zero, rw e (sym (stays m s e)))
+      split false e r = (suc r.0, rw e r.1)
+
+  pub yields_after : (s between : Scheduler X) (next : Option (Job X)) (after : Scheduler X)
+      → Yields s None between → Yields between next after → Yields s next after
+  yields_after s between None after first y =
+      let r = settled_twice first.0 y.0 s in (r.0, r.1 ∙ ap (settled y.0) first.1 ∙ y.1)
+  yields_after s between (Some next) after first y =
+      let r = settled_twice first.0 y.0 s in
+      let same = r.1 ∙ ap (settled y.0) first.1 in
+      (r.0, ap job same ∙ y.1, ap worked same ∙ y.2)
+
+  no_service : (p : ℕ) (stimulus : Stimulus) → 4 ≤ p → job_of_give {X = X} p stimulus ≡ None
+  no_service p (Stimulus.Event event) h = let e : is_kernel_process p ≡ false = grind (arith, nat_tests, h) in rw e refl
+  no_service p (Stimulus.Answer reply) h = refl
+  no_service p (Stimulus.Callback number) h = refl
+
+  -- an application that doesn't run is given nothing
+  pub give_yields_nothing : (s : Scheduler X) (p : ℕ) (origin : Origin) (stimulus : Stimulus) → 4 ≤ p → (state_in s p ≡ State.Running → ⊥)
+      → Yields (in_front (Item.Give p origin stimulus ∷ []) s) None s
+  give_yields_nothing s p origin stimulus application busy =
+      yields_next (in_front (Item.Give p origin stimulus ∷ []) s) None s (no_service p stimulus application) (0, nothing)
+    where
+      stands : (b : Bool) → (b && is_running (state_in s p)) ≡ false
+      stands true = not_running (state_in s p) busy
+      stands false = refl
+
+      nothing : worked (in_front (Item.Give p origin stimulus ∷ []) s) ≡ s
+      nothing = rw (stands (not (is_kernel_process p))) refl
+
+  pub poll_one_yields : (s : Scheduler X) (p : ℕ) (next : Option (Job X)) (after : Scheduler X) → is_marked p s.processes ≡ true
+      → Yields (in_front (Item.Give p Origin.Poll (of_event (plain_event POLL)) ∷ []) (record s { processes = with_mark p false s.processes })) next after
+      → Yields (in_front (Item.PollOne p ∷ []) s) next after
+  poll_one_yields s p next after e y = yields_next (in_front (Item.PollOne p ∷ []) s) next after refl (rw e y)
+
+  pub start_yields : (s : Scheduler X) (p : ℕ) (next : Option (Job X)) (after : Scheduler X) → state_in s p ≡ State.Absent
+      → Yields (in_front (Item.Give p Origin.Synch (of_event (plain_event INIT)) ∷ [])
+      (record s { processes = record { number = p; state = State.Running; marked = false } ∷ s.processes })) next after
+      → Yields (in_front (Item.Start p ∷ []) s) next after
+  start_yields s p next after e y = yields_next (in_front (Item.Start p ∷ []) s) next after refl (rw e y)
+
+  pub deliver_yields : (s : Scheduler X) (p : ℕ) (event : Event) (next : Option (Job X)) (after : Scheduler X)
+      → first_event s ≡ Some (Queued.To p event)
+      → Yields (in_front (Item.Give p Origin.Event (of_event event) ∷ []) (record s { events = drop 1 s.events })) next after
+      → Yields (in_front (Item.Deliver ∷ []) s) next after
+  deliver_yields s p event next after e y =
+      yields_next (in_front (Item.Deliver ∷ []) s) next after (rw e refl) (rw e y)
+
+first_queued : (events : List code.Queued) (q : code.Queued) → Some q ≡ slice_get events 0 → slice_get (map queued_of events) 0 ≡ Some (queued_of q)
+first_queued [] q e = absurd (cc)
+first_queued (x ∷ xs) q e = let same : q ≡ x = cc in ap (λ r. Some (queued_of r)) (sym same)
+
+drop_queued : (events : List code.Queued) → drop 1 (map queued_of events) ≡ map queued_of (drop 1 events)
+drop_queued [] = refl
+drop_queued (x ∷ xs) = refl
+
+-- the event at the front is for one process
+pub deliver_to_yields : (d : Parts) (rest : Buffer code.Queued) (p : Pid) (event : Event) (next : Option (Job ℕ)) (after : Scheduler ℕ)
+    → Some (code.Queued.To p event) ≡ slice_get d.events.items 0 → rest ≡ record { items = drop 1 d.events.items; capacity = d.events.capacity }
+    → Yields (in_front (Item.Give p.0 Origin.Event (of_event event) ∷ []) (scheduler_of (record d { events = rest }))) next after
+    → Yields (in_front (Item.Deliver ∷ []) (scheduler_of d)) next after
+deliver_to_yields d rest p event next after first left y =
+    deliver_yields (scheduler_of d) p.0 event next after (first_queued d.events.items (code.Queued.To p event) first)
+    (rw drop_queued (rw left at y))
+
+-- the front frame is worked on
+pub frame_yields : (start : Scheduler ℕ) (d : Parts) (frame : Frame) (below : List Frame) (next : Option (Job ℕ)) (after : Scheduler ℕ)
+    → d.stack ≡ frame ∷ below → Yields start None (scheduler_of d)
+    → Yields (in_front (items_of frame) (scheduler_of (record d { stack = below }))) next after → Yields start next after
+frame_yields start d frame below next after e first y =
+    let same : scheduler_of d ≡ in_front (items_of frame) (scheduler_of (record d { stack = below })) = rw e refl in
+    yields_after start (scheduler_of d) next after first (rw same y)

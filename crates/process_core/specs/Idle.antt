@@ -1,0 +1,11 @@
+-- Whether anything is left to be done.
+use Rattle.std.specs.Prelude.{Bool, true, false, not, ◌&&◌, List, [], ◌∷◌}
+use Rattle.process_core.specs.Scheduler.{Scheduler, wants_round}
+
+abbrev pub is_empty : {A : Type 0} → List A → Bool
+is_empty [] = true
+is_empty (x ∷ xs) = false
+
+-- nothing is on the agenda, no process is marked, and no event waits
+abbrev pub is_idle : {X : Type 0} → Scheduler X → Bool
+is_idle s = is_empty s.agenda && not (wants_round s)

@@ -1,0 +1,9 @@
+pub mod Agenda
+pub mod Frames
+pub mod Held
+pub mod Nesting
+pub mod Parts
+pub mod Processes
+pub mod Requests
+pub mod Scheduler
+pub mod Idle

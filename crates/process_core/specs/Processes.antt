@@ -1,0 +1,79 @@
+-- The process list: the processes that are on it, the head first, with what each of them is doing.
+use Rattle.std.specs.Prelude.{ℕ, ◌+◌, ◌≤◌, ◌<◌, ◌≡◌, eqb, [], ◌∷◌, Bool, true, false, not, ◌&&◌, List, map, filter, find, if◌then◌else◌, ◌==◌, nat_lt}
+use Rattle.std.specs.List.{list_any, IsDistinct}
+use Rattle.std.specs.Option.{option_map_or}
+use Rattle.process_core.specs.declared.state.State.{State}
+use Rattle.process_core.specs.declared.process.Process.{Process}
+
+abbrev pub is_process : ℕ → Process → Bool
+is_process p process = process.number == p
+
+-- the kernel's processes are 0 (etimer), 1 (ctimer), 2 (serial line) and 3 (packet)
+abbrev pub is_kernel_process : ℕ → Bool
+is_kernel_process p = nat_lt p 4
+
+abbrev pub numbers : List Process → List ℕ
+numbers list = map (λ process. process.number) list
+
+abbrev pub state_of : ℕ → List Process → State
+state_of p list = option_map_or (λ process. process.state) (find (is_process p) list) State.Absent
+
+abbrev pub is_marked : ℕ → List Process → Bool
+is_marked p list = list_any (λ process. is_process p process && process.marked) list
+
+abbrev pub is_any_marked : List Process → Bool
+is_any_marked list = list_any (λ process. process.marked) list
+
+-- the list after a change of p
+abbrev pub changed : ℕ → (Process → Process) → List Process → List Process
+changed p change list = map (λ process. if is_process p process then change process else process) list
+
+abbrev pub with_state : ℕ → State → List Process → List Process
+with_state p state list = changed p (λ process. record process { state = state }) list
+
+abbrev pub with_mark : ℕ → Bool → List Process → List Process
+with_mark p marked list = changed p (λ process. record process { marked = marked }) list
+
+abbrev pub without : ℕ → List Process → List Process
+without p list = filter (λ process. not (is_process p process)) list
+
+abbrev pub is_on_list : State → Bool
+is_on_list State.Absent = false
+is_on_list _ = true
+
+-- whether it may be polled: it runs, or is in its own activation
+abbrev pub is_alive : State → Bool
+is_alive State.Running = true
+is_alive State.Called = true
+is_alive _ = false
+
+abbrev pub is_running : State → Bool
+is_running State.Running = true
+is_running _ = false
+
+abbrev pub is_ending : State → Bool
+is_ending State.Ending = true
+is_ending _ = false
+
+abbrev pub is_called : State → Bool
+is_called State.Called = true
+is_called _ = false
+
+-- the kernel's processes, which are always on the list
+abbrev pub at_first : List Process
+at_first = map (λ p. record { number = p; state = State.Running; marked = false }) (3 ∷ 2 ∷ 1 ∷ 0 ∷ [])
+
+-- the numbers of the applications, where there are so many
+abbrev pub IsApplication : ℕ → ℕ → Type 0
+IsApplication applications p = (4 ≤ p) × (p < 4 + applications)
+
+-- The kernel's processes always run, and any other process on the list is an application
+pub record IsOfMote (applications : ℕ) (list : List Process) : Type 0 where
+  pub kernel : (p : ℕ) → p < 4 → state_of p list ≡ State.Running
+  pub known : (p : ℕ) → (state_of p list ≡ State.Absent → ⊥) → p < 4 + applications
+
+-- no process is on the list twice, their numbers are below 20, and none is Absent
+pub record AreApart (list : List Process) : Type 0 where
+  pub distinct : IsDistinct eqb (numbers list)
+  pub below : (p : ℕ) → list_any (eqb p) (numbers list) ≡ true → p < 20
+  pub present : (p : ℕ) → list_any (eqb p) (numbers list) ≡ true → state_of p list ≡ State.Absent → ⊥

@@ -1,0 +1,98 @@
+-- What an application may ask of the scheduler: when it is refused, and what follows where it isn't.
+use Rattle.std.specs.Prelude.{ℕ, ◌+◌, Bool, not, ◌&&◌, ◌||◌, List, [], ◌∷◌, ◌++◌, map, Option, Some, None, if◌then◌else◌, nat_le, nat_lt}
+use Rattle.mote_types.specs.declared.event.Event.{Event}
+use Rattle.mote_types.specs.declared.event.Stimulus.{Stimulus}
+use Rattle.mote_types.specs.declared.event.Origin.{Origin}
+use Rattle.mote_types.specs.declared.reply.Reply.{Reply}
+use Rattle.mote_types.specs.declared.refusal.Refusal.{Refusal}
+use Rattle.mote_types.specs.declared.event.TheConstants.{EXITED}
+use Rattle.mote_types.specs.Codes.{number_event, is_reserved}
+use Rattle.process_core.specs.declared.state.State.{State}
+use Rattle.process_core.specs.Processes.{numbers, without, is_on_list, is_alive, is_called, is_ending}
+use Rattle.process_core.specs.Agenda.{Item}
+use Rattle.process_core.specs.Scheduler.{Scheduler, state_in, in_front, put_in_state, has_room, of_event}
+
+abbrev pub is_in_activation : State → Bool
+is_in_activation state = is_called state || is_ending state
+
+-- whether a process in that state may be killed
+abbrev pub kill_refusal_in : State → Option Refusal
+kill_refusal_in State.Absent = Some Refusal.NotRunning
+kill_refusal_in State.Leaving = Some Refusal.NotRunning
+kill_refusal_in State.Called = Some Refusal.Busy
+kill_refusal_in State.Ending = Some Refusal.Busy
+kill_refusal_in State.Running = None
+
+module _ {X : Type 0} where
+  -- the application is given the answer in its next turn
+  abbrev pub answered : ℕ → Reply → Scheduler X → Scheduler X
+  answered p reply s = in_front (Item.Turn p Origin.Answer (Stimulus.Answer reply) ∷ []) s
+
+  -- the process is given the callback of its timer
+  abbrev pub called_back : ℕ → ℕ → Scheduler X → Scheduler X
+  called_back p number s = in_front (Item.Give p Origin.Callback (Stimulus.Callback number) ∷ []) s
+
+  -- an application of this mote
+  abbrev pub is_application : Scheduler X → ℕ → Bool
+  is_application s p = nat_le 4 p && nat_lt p (4 + s.applications)
+
+  abbrev pub post_refusal : Scheduler X → Option Refusal
+  post_refusal s = if has_room s then None else Some Refusal.Full
+
+  abbrev pub synch_refusal : Scheduler X → ℕ → ℕ → Option Refusal
+  synch_refusal s q code =
+      if not (is_application s q) then Some Refusal.BadName
+      else if is_reserved code then Some Refusal.Reserved
+      else None
+
+  abbrev pub poll_refusal : Scheduler X → ℕ → Option Refusal
+  poll_refusal s q =
+      if not (is_application s q) then Some Refusal.BadName
+      else if not (is_alive (state_in s q)) then Some Refusal.NotRunning
+      else None
+
+  abbrev pub start_refusal : Scheduler X → ℕ → Option Refusal
+  start_refusal s q =
+      if not (is_application s q) then Some Refusal.BadName
+      else if is_on_list (state_in s q) then Some Refusal.Already
+      else None
+
+  abbrev pub kill_refusal : Scheduler X → ℕ → Option Refusal
+  kill_refusal s q = if is_application s q then kill_refusal_in (state_in s q) else Some Refusal.BadName
+
+  abbrev pub is_running_refusal : Scheduler X → ℕ → Option Refusal
+  is_running_refusal s q = if is_application s q then None else Some Refusal.BadName
+
+  abbrev pub alloc_event_refusal : Scheduler X → Option Refusal
+  alloc_event_refusal s = if nat_lt s.next_event 256 then None else Some Refusal.NoEvent
+
+  abbrev pub number_drawn : Scheduler X → Scheduler X
+  number_drawn s = record s { next_event = s.next_event + 1 }
+
+  -- p gives q the event within its own activation
+  abbrev pub given_in_turn : ℕ → ℕ → Event → Scheduler X → Scheduler X
+  given_in_turn p q event s =
+      in_front (Item.Give q Origin.Synch (of_event event) ∷ Item.Turn p Origin.Answer (Stimulus.Answer Reply.Done) ∷ []) s
+
+  abbrev pub started_by : ℕ → ℕ → Scheduler X → Scheduler X
+  started_by p q s = in_front (Item.Start q ∷ Item.Turn p Origin.Answer (Stimulus.Answer Reply.Done) ∷ []) s
+
+  -- every other process on the list is told that p has ended
+  abbrev pub farewells : ℕ → Scheduler X → List Item
+  farewells p s = map (λ q. Item.Give q Origin.Synch (of_event (number_event EXITED p))) (numbers (without p s.processes))
+
+  abbrev pub killed_by : ℕ → ℕ → Scheduler X → Scheduler X
+  killed_by p q s =
+      in_front (farewells q s ++ Item.GiveExit q ∷ Item.Remove q ∷ Item.Turn p Origin.Answer (Stimulus.Answer Reply.Done) ∷ [])
+      (put_in_state q State.Leaving s)
+
+  -- p's activation ends by Exit
+  abbrev pub ended : ℕ → Scheduler X → Scheduler X
+  ended p s =
+      if is_ending (state_in s p)
+      then s
+      else in_front (farewells p s ++ Item.Remove p ∷ []) (put_in_state p State.Leaving s)
+
+  -- p's activation ends by Wait
+  abbrev pub waited : ℕ → Scheduler X → Scheduler X
+  waited p s = if is_ending (state_in s p) then s else put_in_state p State.Running s

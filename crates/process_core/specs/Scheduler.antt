@@ -1,0 +1,170 @@
+-- The scheduler: how the agenda is worked off.
+use Rattle.std.specs.Prelude.{ℕ, Bool, true, false, not, ◌&&◌, ◌||◌, List, [], ◌∷◌, ◌++◌, map, drop, length, Option, Some, None, if◌then◌else◌, nat_lt, flat_map, slice_get, zero, suc, is_some, ◌≡◌, ◌≤◌}
+use Rattle.std.specs.List.{range_with_len, list_any}
+use Rattle.mote_types.specs.declared.event.Event.{Event}
+use Rattle.mote_types.specs.declared.event.Stimulus.{Stimulus}
+use Rattle.mote_types.specs.declared.event.Origin.{Origin}
+use Rattle.mote_types.specs.declared.event.TheConstants.{INIT, POLL, EXIT, FIRST_FREE}
+use Rattle.mote_types.specs.Codes.{plain_event}
+use Rattle.process_core.specs.declared.state.State.{State}
+use Rattle.process_core.specs.declared.process.Process.{Process}
+use Rattle.process_core.specs.Processes.{numbers, state_of, is_marked, is_any_marked, with_state, with_mark, without, is_on_list, is_running, is_kernel_process, at_first, IsOfMote}
+use Rattle.process_core.specs.Agenda.{Queued, Item, Job, event_carrying}
+
+pub record Scheduler (X : Type 0) : Type 0 where
+  -- how many applications there are
+  pub applications : ℕ
+  pub processes : List Process
+  pub events : List (Queued X)
+  -- the front first
+  pub agenda : List Item
+  -- the number that AllocEvent gives next
+  pub next_event : ℕ
+
+-- the stimulus of an event
+abbrev pub of_event : Event → Stimulus
+of_event event = Stimulus.Event event
+
+module _ {X : Type 0} where
+  abbrev pub state_in : Scheduler X → ℕ → State
+  state_in s p = state_of p s.processes
+
+  -- these items come before everything that is on the agenda
+  abbrev pub in_front : List Item → Scheduler X → Scheduler X
+  in_front items s = record s { agenda = items ++ s.agenda }
+
+  abbrev pub put_in_state : ℕ → State → Scheduler X → Scheduler X
+  put_in_state p state s = record s { processes = with_state p state s.processes }
+
+  abbrev pub marked : ℕ → Scheduler X → Scheduler X
+  marked p s = record s { processes = with_mark p true s.processes }
+
+  -- the event queue has 32 places
+  abbrev pub has_room : Scheduler X → Bool
+  has_room s = nat_lt (length s.events) 32
+
+  abbrev pub posted : Queued X → Scheduler X → Scheduler X
+  posted event s = record s { events = s.events ++ event ∷ [] }
+
+  -- what stands for the delivery of an event. Of an expiry the layer above says whether it counts
+  abbrev pub delivery : List ℕ → Option (Queued X) → List Item
+  delivery list (Some (Queued.To p event)) = Item.Give p Origin.Event (of_event event) ∷ []
+  delivery list (Some (Queued.ToAll event)) = flat_map (λ p. Item.Polls ∷ Item.Give p Origin.Event (of_event event) ∷ []) list
+  delivery list _ = []
+
+  abbrev pub first_event : Scheduler X → Option (Queued X)
+  first_event s = slice_get s.events 0
+
+  -- the item is carried out, s being the scheduler without it
+  abbrev pub carried_out : Item → Scheduler X → Scheduler X
+  carried_out (Item.Start p) s =
+      if is_on_list (state_in s p)
+      then s
+      else in_front (Item.Give p Origin.Synch (of_event (plain_event INIT)) ∷ [])
+      (record s { processes = record { number = p; state = State.Running; marked = false } ∷ s.processes })
+  carried_out (Item.Give p origin stimulus) s =
+      if not (is_kernel_process p) && is_running (state_in s p)
+      then in_front (Item.Turn p origin stimulus ∷ []) (put_in_state p State.Called s)
+      else s
+  carried_out (Item.GiveExit p) s =
+      in_front (Item.Turn p Origin.Synch (of_event (plain_event EXIT)) ∷ []) (put_in_state p State.Ending s)
+  carried_out (Item.Remove p) s = record s { processes = without p s.processes }
+  carried_out Item.Polls s =
+      if is_any_marked s.processes then in_front (map (λ p. Item.PollOne p) (numbers s.processes)) s else s
+  carried_out (Item.PollOne p) s =
+      if is_marked p s.processes
+      then in_front (Item.Give p Origin.Poll (of_event (plain_event POLL)) ∷ [])
+      (record s { processes = with_mark p false s.processes })
+      else s
+  carried_out Item.Deliver s =
+      in_front (delivery (numbers s.processes) (first_event s)) (record s { events = drop 1 s.events })
+  -- these two are jobs for the layers above
+  carried_out (Item.Turn p origin stimulus) s = s
+  carried_out (Item.Show entry) s = s
+
+  -- whether a round has anything to do
+  abbrev pub wants_round : Scheduler X → Bool
+  wants_round s = is_any_marked s.processes || nat_lt 0 (length s.events)
+
+  -- the scheduler after the front of this agenda; where nothing is on it, a round begins if it has anything to do
+  abbrev pub worked_at : List Item → Scheduler X → Scheduler X
+  worked_at [] s = if wants_round s then in_front (Item.Polls ∷ Item.Deliver ∷ []) s else s
+  worked_at (item ∷ items) s = carried_out item (record s { agenda = items })
+
+  abbrev pub worked : Scheduler X → Scheduler X
+  worked s = worked_at s.agenda s
+
+  abbrev pub job_of_event : Option (Queued X) → Option (Job X)
+  job_of_event (Some (Queued.Expiry p c x)) = Some (Job.CallBack p c x)
+  job_of_event _ = None
+
+  -- a kernel process has no use for anything but an event
+  abbrev pub job_of_give : ℕ → Stimulus → Option (Job X)
+  job_of_give p (Stimulus.Event event) = if is_kernel_process p then Some (Job.Serve p event) else None
+  job_of_give p _ = None
+
+  -- what an item asks of the layers above
+  abbrev pub job_of_item : Item → Scheduler X → Option (Job X)
+  job_of_item (Item.Turn p origin stimulus) s = Some (Job.TakeTurn p origin stimulus)
+  job_of_item (Item.Give p origin stimulus) s = job_of_give p stimulus
+  job_of_item Item.Deliver s = job_of_event (first_event s)
+  job_of_item (Item.Show entry) s = Some (Job.ShowEntry entry)
+  job_of_item _ s = None
+
+  abbrev pub job_at : List Item → Scheduler X → Option (Job X)
+  job_at [] s = Some (if wants_round s then Job.Round else Job.Rest)
+  job_at (item ∷ items) s = job_of_item item s
+
+  -- what the front of the agenda asks of them
+  abbrev pub job : Scheduler X → Option (Job X)
+  job s = job_at s.agenda s
+
+  -- the scheduler after at most n items that are no jobs
+  abbrev pub settled : ℕ → Scheduler X → Scheduler X
+  settled zero s = s
+  settled (suc n) s =
+      let later = settled n (worked s) in
+      if is_some (job s) then s else later
+
+  -- items are worked off up to this job, and the job's own item
+  abbrev pub ComesTo : Scheduler X → Job X → Scheduler X → Type 0
+  ComesTo s next after = (n : ℕ) × (job (settled n s) ≡ Some next) × (worked (settled n s) ≡ after)
+
+-- the same scheduler, whose expiries carry something else
+abbrev pub carrying : {X Y : Type 0} → (ℕ → ℕ → X → Y) → Scheduler X → Scheduler Y
+carrying f s =
+    record {
+      applications = s.applications;
+      processes = s.processes;
+      events = map (event_carrying f) s.events;
+      agenda = s.agenda;
+      next_event = s.next_event;
+    }
+
+-- the process list before the applications start, and the applications that are to be started
+abbrev pub at_boot : {X : Type 0} → ℕ → Scheduler X
+at_boot applications =
+    record {
+      applications = applications;
+      processes = at_first;
+      events = [];
+      agenda = map (λ p. Item.Start p) (range_with_len 4 applications);
+      next_event = FIRST_FREE;
+    }
+
+module _ {X : Type 0} where
+  -- Items are worked off: up to this job where there is one, and else some that are no jobs
+  abbrev pub Yields : Scheduler X → Option (Job X) → Scheduler X → Type 0
+  Yields s None after = (n : ℕ) × (settled n s ≡ after)
+  Yields s (Some next) after = ComesTo s next after
+
+abbrev pub is_shown : Item → Bool
+is_shown (Item.Show entry) = true
+is_shown _ = false
+
+-- what is true of the scheduler at any time
+pub record IsWellFormed {X : Type 0} (s : Scheduler X) : Type 0 where
+  pub few : s.applications ≤ 16
+  pub mote : IsOfMote s.applications s.processes
+  -- entries are shown by the layer above
+  pub unshown : list_any is_shown s.agenda ≡ false

@@ -1,0 +1,153 @@
+//! How a stimulus comes to a process.
+
+ghost use Rattle.std.specs.Prelude.{◌≡◌, ◌≤◌, ◌<◌, ◌+◌, ◌∷◌, [], None, option_map, length};
+ghost use Rattle.mote_types.specs.Codes as codes;
+ghost use Rattle.process_core.specs.Agenda.{Item};
+ghost use Rattle.process_core.specs.Frames.{weight};
+ghost use Rattle.process_core.specs.Held.{job_of};
+ghost use Rattle.process_core.specs.Parts.{scheduler_of, awaited_after, IsInOrder};
+ghost use Rattle.process_core.specs.Scheduler.{in_front, Yields};
+ghost use Rattle.process_core.specs.declared.awaited.Awaited.{Awaited};
+
+use crate::awaited::Awaited;
+use crate::frame::Frame;
+use crate::job::Job;
+use crate::parts::Parts;
+use crate::queued::Queued;
+use crate::state::State;
+use mote_types::event::{self, Event, FIRST_APPLICATION, Origin, Payload, Pid, Stimulus};
+
+/// An event that carries nothing.
+pub fn plain_event(code: u8) -> Event
+    ensures { result ≡ codes.plain_event code }
+{
+    Event {
+        code,
+        payload: Payload::Empty,
+    }
+}
+
+impl Parts {
+    /// Gives the stimulus to the process.
+    pub fn give(&mut self, pid: Pid, origin: Origin, stimulus: Stimulus) -> Option<Job>
+        requires order { IsInOrder self.old }
+        requires idle { self.old.awaited ≡ Awaited.Nothing }
+        ensures yields { Yields (in_front (Item.Give pid.0 origin stimulus ∷ []) (scheduler_of self.old)) (option_map job_of result) (scheduler_of self.new) }
+        ensures awaited { self.new.awaited ≡ awaited_after result }
+        ensures order { IsInOrder self.new }
+        ensures same { self.new.stack ≡ self.old.stack }
+    {
+        if pid.0 < FIRST_APPLICATION {
+            return match stimulus {
+                Stimulus::Event(event) => Some(Job::Serve { pid, event }),
+                _ => None,
+            };
+        }
+        match self.processes.state_of(pid) {
+            State::Running => {
+                self.processes.set_state(pid, State::Called);
+                self.awaited = Awaited::Call(pid);
+                Some(Job::Give {
+                    pid,
+                    origin,
+                    stimulus,
+                })
+            }
+            _ => None,
+        }
+    }
+
+    /// Starts the process, unless it's on the list.
+    pub fn start_one(&mut self, pid: Pid) -> Option<Job>
+        requires known { pid.0 < 4 + self.old.applications }
+        requires order { IsInOrder self.old }
+        requires idle { self.old.awaited ≡ Awaited.Nothing }
+        ensures yields { Yields (in_front (Item.Start pid.0 ∷ []) (scheduler_of self.old)) (option_map job_of result) (scheduler_of self.new) }
+        ensures awaited { self.new.awaited ≡ awaited_after result }
+        ensures order { IsInOrder self.new }
+        ensures same { self.new.stack ≡ self.old.stack }
+    {
+        match self.processes.state_of(pid) {
+            State::Absent => {
+                self.processes.add(pid);
+                self.give(
+                    pid,
+                    Origin::Synch,
+                    Stimulus::Event(plain_event(event::INIT)),
+                )
+            }
+            _ => None,
+        }
+    }
+
+    /// A poll round comes to this process.
+    pub fn poll_one(&mut self, pid: Pid) -> Option<Job>
+        requires order { IsInOrder self.old }
+        requires idle { self.old.awaited ≡ Awaited.Nothing }
+        ensures yields { Yields (in_front (Item.PollOne pid.0 ∷ []) (scheduler_of self.old)) (option_map job_of result) (scheduler_of self.new) }
+        ensures awaited { self.new.awaited ≡ awaited_after result }
+        ensures order { IsInOrder self.new }
+        ensures same { self.new.stack ≡ self.old.stack }
+    {
+        if !self.processes.is_marked(pid) {
+            return None;
+        }
+        self.processes.set_mark(pid, false);
+        self.give(pid, Origin::Poll, Stimulus::Event(plain_event(event::POLL)))
+    }
+
+    /// Begins a poll round, if any process is marked.
+    pub fn poll_marked(&mut self)
+        requires order { IsInOrder self.old }
+        requires idle { self.old.awaited ≡ Awaited.Nothing }
+        requires low { length self.old.stack ≤ 1 }
+        ensures yields { Yields (in_front (Item.Polls ∷ []) (scheduler_of self.old)) None (scheduler_of self.new) }
+        ensures awaited { self.new.awaited ≡ Awaited.Nothing }
+        ensures order { IsInOrder self.new }
+        ensures grows { weight self.new.stack ≤ weight self.old.stack + 21 }
+    {
+        if self.processes.is_any_marked() {
+            let walk = self.processes.walk();
+            self.stack.push(Frame::Polls(walk));
+        }
+    }
+
+    /// Delivers the first event.
+    pub fn deliver(&mut self) -> Option<Job>
+        requires order { IsInOrder self.old }
+        requires idle { self.old.awaited ≡ Awaited.Nothing }
+        requires bare { self.old.stack ≡ [] }
+        ensures yields { Yields (in_front (Item.Deliver ∷ []) (scheduler_of self.old)) (option_map job_of result) (scheduler_of self.new) }
+        ensures awaited { self.new.awaited ≡ awaited_after result }
+        ensures order { IsInOrder self.new }
+        ensures grows { weight self.new.stack ≤ weight self.old.stack + 1281 }
+    {
+        match self.events.pop_front() {
+            None => None,
+            Some(Queued::To(pid, event)) => self.give(pid, Origin::Event, Stimulus::Event(event)),
+            Some(
+                Queued::Expiry {
+                    pid,
+                    number,
+                    arming,
+                },
+            ) => {
+                self.awaited = Awaited::Callback { pid, number };
+                Some(Job::Callback {
+                    pid,
+                    number,
+                    arming,
+                })
+            }
+            Some(Queued::ToAll(event)) => {
+                let walk = self.processes.walk();
+                self.stack.push(Frame::Broadcast {
+                    next: None,
+                    walk,
+                    event,
+                });
+                None
+            }
+        }
+    }
+}

@@ -1,0 +1,53 @@
+//! A walk over the process list as it stood when the walk began.
+ghost use Rattle.std.specs.Prelude.{◌≡◌, [], ◌∷◌, ◌≤◌, ◌<◌, length, MatchOption};
+ghost use Rattle.process_core.specs.Idle.{is_empty};
+
+use arrayvec::ArrayVec;
+use mote_types::event::Pid;
+use std::marker::Model;
+
+/// The numbers of the processes that are left, in list order: a copy of the list's numbers, and a cursor.
+#[derive(Drop)]
+pub struct Walk {
+    numbers: ArrayVec<u8, 20>,
+    at: usize,
+}
+
+impl Model for Walk {
+    ghost use Rattle.std.specs.Prelude.{List, ℕ, drop, length, ◌≤◌};
+
+    ghost Value = { List ℕ };
+
+    ghost view = { λ w. drop w.at w.numbers.items };
+
+    ghost invariant = { λ w. w.at ≤ length w.numbers.items };
+}
+
+impl Walk {
+    /// A walk over these.
+    pub fn over(numbers: ArrayVec<u8, 20>) -> Walk
+        ensures { result ≡ numbers.items }
+    {
+        Walk { numbers, at: 0 }
+    }
+
+    /// The next process, which the walk leaves behind.
+    pub fn advance(&mut self) -> Option<Pid>
+        ensures { MatchOption result ((self.old ≡ []) × (self.new ≡ [])) (λ p. self.old ≡ p.0 ∷ self.new) }
+    {
+        if self.at == self.numbers.len() {
+            return None;
+        }
+        let number = self.numbers[self.at];
+        self.at += 1;
+        Some(Pid(number))
+    }
+
+    #[tactic(auto, using(crate::proofs::NothingLeft::is_empty_drop))]
+    /// Whether no process is left.
+    pub fn is_over(&self) -> bool
+        ensures { result ≡ is_empty self.now }
+    {
+        self.at == self.numbers.len()
+    }
+}

@@ -1,0 +1,97 @@
+-- What a callback timer's new number strikes out, and what it leaves.
+use Rattle.std.proofs.Common.{◌≡◌, ◌≢◌, ℕ, zero, suc, ◌+◌, ◌<◌, ◌≤◌, false, ◌==◌, refl, sym, ◌∙◌, ap, arith, lit<, lit≤, ◌⊎◌, inl, inr}
+use Rattle.std.proofs.lemmas.Bool.{ne_eqb, cases_eq}
+use Rattle.std.proofs.lemmas.List.{length-set, get_or-set_same, get_or-set_other}
+use Rattle.std.proofs.lemmas.List.Elements.{All-set, All-get_or, All-replicate}
+use Rattle.timer_core.specs.Armings.{Armings, IsNumbered, no_armings, callback_place, present_arming, is_present_arming, renumbered, all_renumbered}
+
+pub numbered_at_boot : IsNumbered no_armings
+numbered_at_boot = record { places = refl; below = All-replicate (λ arming. arming < 1) 64 0 (lit< tt) }
+
+pub numbered_after : (p c : ℕ) (armings : Armings) → IsNumbered armings → IsNumbered (renumbered p armings c)
+numbered_after p c armings n =
+    record {
+      places = length-set armings.present (callback_place p c) armings.drawn ∙ n.places;
+      below = All-set (λ arming. arming < armings.drawn + 1) armings.present (callback_place p c) armings.drawn (omega arith)
+          (λ k d within. let old = n.below k d within in omega (arith, old));
+    }
+
+-- every number that a callback timer has was drawn
+pub present_below : (p c : ℕ) (armings : Armings) → 4 ≤ p → p ≤ 19 → c < 4 → IsNumbered armings → present_arming p c armings < armings.drawn
+present_below p c armings first last number n =
+    All-get_or (λ arming. arming < armings.drawn) armings.present (callback_place p c) 0 (omega (arith, n.places)) n.below
+
+pub renumbered_here : (p c : ℕ) (armings : Armings) → 4 ≤ p → p ≤ 19 → c < 4 → IsNumbered armings →
+    present_arming p c (renumbered p armings c) ≡ armings.drawn
+renumbered_here p c armings first last number n =
+    get_or-set_same armings.present (callback_place p c) armings.drawn 0 (omega (arith, n.places))
+
+-- another callback timer keeps its number
+pub renumbered_other : (p c q d : ℕ) (armings : Armings) → callback_place q d ≢ callback_place p c →
+    present_arming q d (renumbered p armings c) ≡ present_arming q d armings
+renumbered_other p c q d armings far = get_or-set_other armings.present (callback_place p c) (callback_place q d) armings.drawn 0 far
+
+pub places_far : (p c q d : ℕ) → 4 ≤ p → 4 ≤ q → c < 4 → d < 4 → (p ≡ q → c ≡ d → ⊥) → callback_place q d ≢ callback_place p c
+places_far p c q d h k b e apart same = apart (omega (arith, same)) (omega (arith, same))
+
+pub renumbered_others : (p c q d : ℕ) (armings : Armings) → 4 ≤ p → 4 ≤ q → c < 4 → d < 4 → (q ≡ p → d ≡ c → ⊥) →
+    present_arming q d (renumbered p armings c) ≡ present_arming q d armings
+renumbered_others p c q d armings h k b e apart =
+    renumbered_other p c q d armings (places_far p c q d h k b e (λ same number. apart (sym same) (sym number)))
+
+not_present : (p c arming : ℕ) (armings : Armings) → arming < present_arming p c armings → is_present_arming p c arming armings ≡ false
+not_present p c arming armings h = ne_eqb (present_arming p c armings) arming (λ same. absurd (omega (arith, h, same)))
+
+-- no earlier number is the present one of a callback timer that got a new one
+pub renumbered_strikes : (p c arming : ℕ) (armings : Armings) → 4 ≤ p → p ≤ 19 → c < 4 → IsNumbered armings → arming < armings.drawn →
+    is_present_arming p c arming (renumbered p armings c) ≡ false
+renumbered_strikes p c arming armings first last number n earlier =
+    not_present p c arming (renumbered p armings c) (rw (renumbered_here p c armings first last number n) earlier)
+
+-- the first n callback timers of p got new numbers, one after another
+abbrev pub renumbered_below : ℕ → ℕ → Armings → Armings
+renumbered_below p zero armings = armings
+renumbered_below p (suc n) armings = renumbered p (renumbered_below p n armings) n
+
+pub numbered_below : (p n : ℕ) (armings : Armings) → IsNumbered armings → IsNumbered (renumbered_below p n armings)
+numbered_below p zero armings h = h
+numbered_below p (suc n) armings h = numbered_after p n (renumbered_below p n armings) (numbered_below p n armings h)
+
+drawn_below : (p n : ℕ) (armings : Armings) → armings.drawn ≤ (renumbered_below p n armings).drawn
+drawn_below p zero armings = omega arith
+drawn_below p (suc n) armings = omega (arith, drawn_below p n armings)
+
+strikes_below : (p c n arming : ℕ) (armings : Armings) → 4 ≤ p → p ≤ 19 → n ≤ 4 → c < n → IsNumbered armings → arming < armings.drawn →
+    is_present_arming p c arming (renumbered_below p n armings) ≡ false
+strikes_below p c zero arming armings first last few below h earlier = absurd (omega arith)
+strikes_below p c (suc n) arming armings first last few below h earlier =
+    step (cases_eq c n) (λ less. strikes_below p c n arming armings first last (omega arith) less h earlier)
+  where
+    step : (c ≡ n) ⊎ (c ≡ n → ⊥) → (c < n → is_present_arming p c arming (renumbered_below p n armings) ≡ false) →
+        is_present_arming p c arming (renumbered_below p (suc n) armings) ≡ false
+    step (inl same) so_far =
+        rw same
+        (renumbered_strikes p n arming (renumbered_below p n armings) first last (omega arith) (numbered_below p n armings h)
+        (omega (arith, drawn_below p n armings)))
+    step (inr apart) so_far =
+        let far : callback_place p c ≢ callback_place p n = places_far p n p c first first (omega arith) (omega arith) (λ _ e. apart (sym e)) in
+        let kept = renumbered_other p n p c (renumbered_below p n armings) far in
+        ap (λ (present : ℕ). present == arming) kept
+        ∙ so_far (let less : c < n = omega (arith, apart) in less)
+
+-- no earlier number is the present one of a callback timer of p after all got new ones
+pub all_renumbered_strikes : (p c arming : ℕ) (armings : Armings) → 4 ≤ p → p ≤ 19 → c < 4 → IsNumbered armings → arming < armings.drawn →
+    is_present_arming p c arming (all_renumbered p armings) ≡ false
+all_renumbered_strikes p c arming armings first last number h earlier = strikes_below p c 4 arming armings first last (lit≤ tt) number h earlier
+
+others_below : (p n q d : ℕ) (armings : Armings) → 4 ≤ p → 4 ≤ q → n ≤ 4 → d < 4 → (p ≡ q → ⊥) →
+    present_arming q d (renumbered_below p n armings) ≡ present_arming q d armings
+others_below p zero q d armings h k few b apart = refl
+others_below p (suc n) q d armings h k few b apart =
+    renumbered_other p n q d (renumbered_below p n armings) (places_far p n q d h k (omega arith) b (λ same _. apart same))
+    ∙ others_below p n q d armings h k (omega arith) b apart
+
+-- the callback timers of others keep their numbers
+pub all_renumbered_others : (p q d : ℕ) (armings : Armings) → 4 ≤ p → 4 ≤ q → d < 4 → (p ≡ q → ⊥) →
+    present_arming q d (all_renumbered p armings) ≡ present_arming q d armings
+all_renumbered_others p q d armings h k b apart = others_below p 4 q d armings h k (lit≤ tt) b apart

@@ -1,0 +1,6 @@
+pub mod ArmingLemmas
+pub mod Changes
+pub mod LinkLemmas
+pub mod NameLemmas
+pub mod Unlinking
+pub mod Forgetting

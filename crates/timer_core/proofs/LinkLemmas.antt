@@ -1,0 +1,204 @@
+-- The timer list along the links.
+use Rattle.std.proofs.Common.{◌≡◌, ℕ, zero, suc, ◌<◌, ◌≤◌, Bool, true, false, List, [], ◌∷◌, length, refl, sym, ◌∙◌, ap, arith, eqb, set, get_or, lit≤, subst}
+use Rattle.std.specs.Prelude.{Option, Some, None, find, map, replicate, ◌^◌}
+use Rattle.std.specs.List.{list_any, IsDistinct, AllByRecursion}
+use Rattle.std.proofs.Common.{inl, inr}
+use Rattle.std.proofs.lemmas.Bool.{or_parts, or_cases, ne_eqb, eqb-true, cases_eq}
+use Rattle.std.proofs.lemmas.List.{length-map, get_or-set_same, get_or-set_other}
+use Rattle.std.proofs.lemmas.List.Elements.{All-replicate}
+use Rattle.std.proofs.lemmas.Map.Steps.{length-le_from_distinct_below}
+use Rattle.timer_core.specs.declared.timer.Timer.{Timer}
+use Rattle.timer_core.specs.declared.table.LinkedCell.{LinkedCell}
+use Rattle.timer_core.specs.Names.{IsNamed, is_timer, place_of}
+use Rattle.timer_core.specs.Links.{next_of, linked, listed_from, Names, AreApart, IsList, IsTable, timers_of, zero_linked}
+use Rattle.timer_core.specs.Timers.{no_timers}
+use Rattle.timer_core.proofs.NameLemmas.{place_below, places_differ}
+
+-- what the links name is what is read along them
+pub linked_from_names : (n : ℕ) (cells : List LinkedCell) (link : Option Timer) (list : List Timer) → Names cells link list → length list ≤ n →
+    linked n cells link ≡ list
+linked_from_names zero cells link [] h few = refl
+linked_from_names zero cells link (t ∷ later) h few = absurd (omega arith)
+linked_from_names (suc n) cells link [] h few = rw h refl
+linked_from_names (suc n) cells link (t ∷ later) h few =
+    rw h.0 (ap (λ l. t ∷ l) (linked_from_names n cells (next_of cells t) later h.1.1 (omega arith)))
+
+pub length-linked : (n : ℕ) (cells : List LinkedCell) (link : Option Timer) → length (linked n cells link) ≤ n
+length-linked zero cells link = omega arith
+length-linked (suc n) cells None = omega arith
+length-linked (suc n) cells (Some t) = omega (arith, length-linked n cells (next_of cells t))
+
+pub length-listed : (cells : List LinkedCell) (link : Option Timer) → length (listed_from cells link) ≤ 192
+unfolding listed_from
+length-listed cells link = length-linked 192 cells link
+
+pub listed_from_names : (cells : List LinkedCell) (link : Option Timer) (list : List Timer) → Names cells link list → length list ≤ 192 →
+    listed_from cells link ≡ list
+unfolding listed_from
+listed_from_names cells link list h few = linked_from_names 192 cells link list h few
+
+pub is_list : (cells : List LinkedCell) (link : Option Timer) (list : List Timer) → Names cells link list → AreApart list → length list ≤ 192 →
+    IsList cells link
+is_list cells link list h apart few =
+    let same = listed_from_names cells link list h few in
+    record { ends = rw same h; apart = rw same apart }
+
+pub listed_from_none : (cells : List LinkedCell) → listed_from cells None ≡ []
+unfolding listed_from
+listed_from_none cells = refl
+
+-- one step along the links
+pub record Passes (cells : List LinkedCell) (link : Option Timer) (timer : Timer) : Type 0 where
+  pub named : IsNamed timer
+  pub later : IsList cells (next_of cells timer)
+  pub apart : list_any (is_timer timer) (listed_from cells (next_of cells timer)) ≡ false
+  pub listed : listed_from cells link ≡ timer ∷ listed_from cells (next_of cells timer)
+
+passes_names : (cells : List LinkedCell) (timer : Timer) (later : List Timer) → Names cells (Some timer) (timer ∷ later) → AreApart (timer ∷ later)
+    → length later ≤ 191 → listed_from cells (Some timer) ≡ timer ∷ later → Passes cells (Some timer) timer
+passes_names cells timer later h apart few e =
+    let same = listed_from_names cells (next_of cells timer) later h.1.1 (omega arith) in
+    record {
+      named = h.1.0;
+      later = is_list cells (next_of cells timer) later h.1.1 apart.1 (omega arith);
+      apart = rw same apart.0;
+      listed = rw same e;
+    }
+
+passes_some : (cells : List LinkedCell) (timer : Timer) → IsList cells (Some timer) → Passes cells (Some timer) timer
+unfolding listed_from
+passes_some cells timer l =
+    passes_names cells timer (linked 191 cells (next_of cells timer)) l.ends l.apart (length-linked 191 cells (next_of cells timer)) refl
+
+pub passes : (cells : List LinkedCell) (link : Option Timer) (timer : Timer) → link ≡ Some timer → IsList cells link → Passes cells link timer
+passes cells link timer e l = rw e (passes_some cells timer (rw e at l))
+
+pub listed_shorter : (cells : List LinkedCell) (link : Option Timer) (timer : Timer) → Passes cells link timer →
+    length (listed_from cells (next_of cells timer)) < length (listed_from cells link)
+listed_shorter cells link timer p = rw p.listed (omega arith)
+
+-- whether a timer is among those still to be passed
+pub armed_here : (cells : List LinkedCell) (link : Option Timer) (timer other : Timer) → Passes cells link other → is_timer timer other ≡ true →
+    list_any (is_timer timer) (listed_from cells link) ≡ true
+armed_here cells link timer other p e = rw (p.listed, e)
+
+pub armed_later : (cells : List LinkedCell) (link : Option Timer) (timer other : Timer) → Passes cells link other → is_timer timer other ≡ false →
+    list_any (is_timer timer) (listed_from cells (next_of cells other)) ≡ list_any (is_timer timer) (listed_from cells link)
+armed_later cells link timer other p e = rw (p.listed, e)
+
+-- the first of those still to be passed that passes a test
+pub found_here : (cells : List LinkedCell) (link : Option Timer) (test : Timer → Bool) (timer : Timer) → Passes cells link timer → test timer ≡ true →
+    find test (listed_from cells link) ≡ Some timer
+found_here cells link test timer p e = rw (p.listed, e)
+
+pub found_later : (cells : List LinkedCell) (link : Option Timer) (test : Timer → Bool) (timer : Timer) → Passes cells link timer → test timer ≡ false →
+    find test (listed_from cells (next_of cells timer)) ≡ find test (listed_from cells link)
+found_later cells link test timer p e = rw (p.listed, e)
+
+-- timers in range with names of their own are at most as many as the table has places
+abbrev pub AllNamed : List Timer → Type 0
+AllNamed [] = Unit {0}
+AllNamed (t ∷ later) = IsNamed t × AllNamed later
+
+pub all_named : (cells : List LinkedCell) (link : Option Timer) (list : List Timer) → Names cells link list → AllNamed list
+all_named cells link [] h = tt
+all_named cells link (t ∷ later) h = (h.1.0, all_named cells (next_of cells t) later h.1.1)
+
+places_apart : (t : Timer) (list : List Timer) → IsNamed t → AllNamed list → list_any (is_timer t) list ≡ false →
+    AllByRecursion (λ place. eqb (place_of t) place ≡ false) (map place_of list)
+places_apart t [] h k none = tt
+places_apart t (u ∷ later) h k none =
+    let parts = or_parts (is_timer t u) (list_any (is_timer t) later) none in
+    (ne_eqb (place_of t) (place_of u) (places_differ t u h k.0 parts.0), places_apart t later h k.1 parts.1)
+
+places_distinct : (list : List Timer) → AllNamed list → AreApart list → IsDistinct eqb (map place_of list)
+unfolding IsDistinct
+places_distinct [] h apart = tt
+places_distinct (t ∷ later) h apart = (places_apart t later h.0 h.1 apart.0, places_distinct later h.1 apart.1)
+
+places_below : (list : List Timer) → AllNamed list → (q : ℕ) → list_any (eqb q) (map place_of list) ≡ true → q < 192
+places_below [] h q e = absurd (cc)
+places_below (t ∷ later) h q e =
+    elim (or_cases (eqb q (place_of t)) (list_any (eqb q) (map place_of later)) e) [
+      | inl here ↦ rw (eqb-true q (place_of t) here) (place_below t h.0)
+      | inr there ↦ places_below later h.1 q there
+    ]
+
+few_timers : (list : List Timer) → AllNamed list → AreApart list → length list ≤ 192
+few_timers list h apart =
+    omega (arith, length-le_from_distinct_below (map place_of list) 192 (places_distinct list h apart) (places_below list h), length-map list place_of)
+
+-- a write to a cell changes the link of that timer alone
+pub next_of_other : (cells : List LinkedCell) (t u : Timer) (x : LinkedCell) → IsNamed t → IsNamed u → is_timer t u ≡ false →
+    next_of (set cells (place_of t) x) u ≡ next_of cells u
+next_of_other cells t u x h k e =
+    let far : place_of u ≡ place_of t → ⊥ = λ same. places_differ t u h k e (sym same) in
+    ap (λ (c : LinkedCell). c.next) (get_or-set_other cells (place_of t) (place_of u) x zero_linked far)
+
+pub next_of_same : (cells : List LinkedCell) (t : Timer) (x : LinkedCell) → place_of t < length cells → next_of (set cells (place_of t) x) t ≡ x.next
+next_of_same cells t x within = ap (λ (c : LinkedCell). c.next) (get_or-set_same cells (place_of t) x zero_linked within)
+
+-- a timer that is not named among these may get any link
+pub names_other : (cells : List LinkedCell) (t : Timer) (x : LinkedCell) (link : Option Timer) (list : List Timer) → IsNamed t →
+    list_any (is_timer t) list ≡ false → Names cells link list → Names (set cells (place_of t) x) link list
+names_other cells t x link [] h none names = names
+names_other cells t x link (u ∷ later) h none names =
+    let parts = or_parts (is_timer t u) (list_any (is_timer t) later) none in
+    let same = next_of_other cells t u x h names.1.0 parts.0 in
+    (names.0, (names.1.0, rw same (names_other cells t x (next_of cells u) later h parts.1 names.1.1)))
+
+-- a write that keeps the link keeps the list
+next_of_kept : (cells : List LinkedCell) (t u : Timer) (x : LinkedCell) → place_of t < length cells → x.next ≡ next_of cells t →
+    next_of (set cells (place_of t) x) u ≡ next_of cells u
+next_of_kept cells t u x within e =
+    elim (cases_eq (place_of u) (place_of t)) [
+      | inl same ↦ (let P : ℕ → Type 0 = λ k. (get_or (set cells (place_of t) x) k zero_linked).next ≡ (get_or cells k zero_linked).next in
+          subst P (sym same) (next_of_same cells t x within ∙ e))
+      | inr far ↦ ap (λ (c : LinkedCell). c.next) (get_or-set_other cells (place_of t) (place_of u) x zero_linked far)
+    ]
+
+names_kept : (cells : List LinkedCell) (t : Timer) (x : LinkedCell) (link : Option Timer) (list : List Timer) → place_of t < length cells →
+    x.next ≡ next_of cells t → Names cells link list → Names (set cells (place_of t) x) link list
+names_kept cells t x link [] within e names = names
+names_kept cells t x link (u ∷ later) within e names =
+    (names.0, (names.1.0, rw (next_of_kept cells t u x within e) (names_kept cells t x (next_of cells u) later within e names.1.1)))
+
+-- what a change of the links makes of the list
+pub record Relinked (cells : List LinkedCell) (link : Option Timer) (list : List Timer) : Type 0 where
+  pub sound : IsList cells link
+  pub listed : listed_from cells link ≡ list
+
+pub relinked : (cells : List LinkedCell) (link : Option Timer) (list : List Timer) → Names cells link list → AreApart list → length list ≤ 192 →
+    Relinked cells link list
+relinked cells link list h apart few =
+    record { sound = is_list cells link list h apart few; listed = listed_from_names cells link list h few }
+
+pub relinked_kept : (cells : List LinkedCell) (link : Option Timer) (t : Timer) (x : LinkedCell) → place_of t < length cells →
+    x.next ≡ next_of cells t → IsList cells link → Relinked (set cells (place_of t) x) link (listed_from cells link)
+relinked_kept cells link t x within e l =
+    relinked _ link (listed_from cells link) (names_kept cells t x link _ within e l.ends) l.apart (length-listed cells link)
+
+pub relinked_first : (cells : List LinkedCell) (link : Option Timer) (t : Timer) (x : LinkedCell) → IsNamed t → place_of t < length cells →
+    x.next ≡ link → list_any (is_timer t) (listed_from cells link) ≡ false → IsList cells link →
+    Relinked (set cells (place_of t) x) (Some t) (t ∷ listed_from cells link)
+relinked_first cells link t x h within e none l =
+    let next : next_of (set cells (place_of t) x) t ≡ link = next_of_same cells t x within ∙ e in
+    let later : Names (set cells (place_of t) x) link (listed_from cells link) = names_other cells t x link (listed_from cells link) h none l.ends in
+    let names : Names (set cells (place_of t) x) (Some t) (t ∷ listed_from cells link) = (refl, (h, rw next later)) in
+    let apart : AreApart (t ∷ listed_from cells link) = (none, l.apart) in
+    relinked _ (Some t) (t ∷ listed_from cells link) names apart
+    (few_timers (t ∷ listed_from cells link) (h, all_named cells link (listed_from cells link) l.ends) apart)
+
+-- at boot
+pub table_at_boot : IsTable (record { cells = replicate 192 zero_linked; first = None })
+unfolding listed_from
+table_at_boot =
+    record {
+      places = refl;
+      listed = record { ends = refl; apart = tt };
+      starts = All-replicate (λ linked_cell. linked_cell.cell.start ≤ 2 ^ 63) 192 zero_linked (lit≤ tt);
+    }
+
+pub timers_at_boot : timers_of (record { cells = replicate 192 zero_linked; first = None }) ≡ no_timers
+unfolding listed_from
+timers_at_boot = refl

@@ -1,0 +1,153 @@
+-- A timer is taken from the list: the one before it gets its link.
+use Rattle.std.proofs.Common.{◌≡◌, ◌<◌, ◌≤◌, Bool, true, false, not, List, [], ◌∷◌, ◌++◌, length, refl, sym, ◌∙◌, ap, arith, set, append_assoc}
+use Rattle.std.specs.Prelude.{Option, Some, None, filter}
+use Rattle.std.specs.List.{list_any}
+use Rattle.std.proofs.lemmas.Bool.{or_parts}
+use Rattle.std.proofs.lemmas.List.Folds.{list_any-append}
+use Rattle.timer_core.specs.declared.timer.Timer.{Timer}
+use Rattle.timer_core.specs.declared.table.LinkedCell.{LinkedCell}
+use Rattle.timer_core.specs.Names.{IsNamed, is_timer, place_of}
+use Rattle.timer_core.specs.Links.{next_of, listed_from, Names, AreApart, IsList}
+use Rattle.timer_core.proofs.NameLemmas.{same_timer, is_timer_itself, is_timer_flips}
+use Rattle.timer_core.proofs.LinkLemmas.{Passes, passes, Relinked, relinked, names_other, next_of_other, next_of_same, length-listed, listed_from_none}
+
+-- the list without a timer
+abbrev pub others : Timer → List Timer → List Timer
+others timer list = filter (λ other. not (is_timer timer other)) list
+
+pub others_none : (t : Timer) (list : List Timer) → list_any (is_timer t) list ≡ false → others t list ≡ list
+others_none t [] none = refl
+others_none t (u ∷ later) none =
+    let parts = or_parts (is_timer t u) (list_any (is_timer t) later) none in
+    rw parts.0 (ap (λ l. u ∷ l) (others_none t later parts.1))
+
+none_among_others : (t u : Timer) (list : List Timer) → list_any (is_timer t) list ≡ false → list_any (is_timer t) (others u list) ≡ false
+none_among_others t u [] none = none
+none_among_others t u (v ∷ later) none =
+    let parts = or_parts (is_timer t v) (list_any (is_timer t) later) none in
+    split (is_timer u v) refl (none_among_others t u later parts.1)
+  where
+    split : (b : Bool) → is_timer u v ≡ b → list_any (is_timer t) (others u later) ≡ false → list_any (is_timer t) (others u (v ∷ later)) ≡ false
+    split true e r = rw e r
+    split false e r = rw (e, (or_parts (is_timer t v) (list_any (is_timer t) later) none).0) r
+
+others_apart : (t : Timer) (list : List Timer) → AreApart list → AreApart (others t list)
+others_apart t [] apart = apart
+others_apart t (u ∷ later) apart = split (is_timer t u) refl (others_apart t later apart.1)
+  where
+    split : (b : Bool) → is_timer t u ≡ b → AreApart (others t later) → AreApart (others t (u ∷ later))
+    split true e r = rw e r
+    split false e r = rw e (none_among_others u t later apart.0, r)
+
+length-others : (t : Timer) (list : List Timer) → length (others t list) ≤ length list
+length-others t [] = omega arith
+length-others t (u ∷ later) = split (is_timer t u) refl (length-others t later)
+  where
+    split : (b : Bool) → is_timer t u ≡ b → length (others t later) ≤ length later → length (others t (u ∷ later)) ≤ length (u ∷ later)
+    split true e r = rw e (omega arith)
+    split false e r = rw e (omega arith)
+
+-- the list without its first timer
+others_itself : (cells : List LinkedCell) (link : Option Timer) (timer : Timer) → Passes cells link timer →
+    listed_from cells (next_of cells timer) ≡ others timer (listed_from cells link)
+others_itself cells link timer p = rw (p.listed, is_timer_itself timer) (sym (others_none timer (listed_from cells (next_of cells timer)) p.apart))
+
+pub others_first : (cells : List LinkedCell) (link : Option Timer) (timer other : Timer) → Passes cells link other → is_timer timer other ≡ true →
+    listed_from cells (next_of cells timer) ≡ others timer (listed_from cells link)
+others_first cells link timer other p e =
+    let itself : Passes cells link timer = rw (same_timer timer other e) p in
+    others_itself cells link timer itself
+
+-- the walk has come to this timer: those so far are not the one that is looked for
+pub record IsPassed (cells : List LinkedCell) (link : Option Timer) (timer before : Timer) : Type 0 where
+  pub earlier : List Timer
+  pub listed : listed_from cells link ≡ earlier ++ before ∷ listed_from cells (next_of cells before)
+  pub absent : list_any (is_timer timer) earlier ≡ false
+  pub differs : is_timer timer before ≡ false
+  pub named : IsNamed before
+  pub later : IsList cells (next_of cells before)
+
+pub passed_first : (cells : List LinkedCell) (link : Option Timer) (timer before : Timer) → Passes cells link before → is_timer timer before ≡ false →
+    IsPassed cells link timer before
+passed_first cells link timer before p e =
+    record { earlier = []; listed = p.listed; absent = refl; differs = e; named = p.named; later = p.later }
+
+pub passed_more : (cells : List LinkedCell) (link : Option Timer) (timer before other : Timer) → IsPassed cells link timer before →
+    next_of cells before ≡ Some other → is_timer timer other ≡ false → IsPassed cells link timer other
+passed_more cells link timer before other w e differs =
+    let step = passes cells (next_of cells before) other e w.later in
+    record {
+      earlier = w.earlier ++ before ∷ [];
+      listed = w.listed ∙ (ap (λ l. w.earlier ++ before ∷ l) step.listed ∙ sym (append_assoc w.earlier (before ∷ []) _));
+      absent = list_any-append (is_timer timer) w.earlier (before ∷ []) ∙ rw (w.absent, w.differs);
+      differs = differs;
+      named = step.named;
+      later = step.later;
+    }
+
+-- at the end: the timer is not on the list
+pub others_at_end : (cells : List LinkedCell) (link : Option Timer) (timer before : Timer) → IsPassed cells link timer before → next_of cells before ≡ None →
+    listed_from cells link ≡ others timer (listed_from cells link)
+others_at_end cells link timer before w e =
+    let last : listed_from cells link ≡ w.earlier ++ before ∷ [] = w.listed ∙ rw (e, listed_from_none) in
+    let none : list_any (is_timer timer) (listed_from cells link) ≡ false =
+    rw last (list_any-append (is_timer timer) w.earlier (before ∷ []) ∙ rw (w.absent, w.differs)) in
+    sym (others_none timer (listed_from cells link) none)
+
+-- it follows: the list is closed over it
+others_closed : (timer before : Timer) (earlier rest : List Timer) → list_any (is_timer timer) earlier ≡ false → is_timer timer before ≡ false →
+    list_any (is_timer timer) rest ≡ false → others timer (earlier ++ before ∷ (timer ∷ rest)) ≡ earlier ++ before ∷ rest
+others_closed timer before [] rest absent differs none =
+    let here = is_timer_itself timer in
+    let same = others_none timer rest none in
+    rw (differs, here, same)
+others_closed timer before (u ∷ earlier) rest absent differs none =
+    let parts = or_parts (is_timer timer u) (list_any (is_timer timer) earlier) absent in
+    rw parts.0 (ap (λ l. u ∷ l) (others_closed timer before earlier rest parts.1 differs none))
+
+none_behind : (t before : Timer) (earlier rest : List Timer) → list_any (is_timer t) (earlier ++ before ∷ rest) ≡ false →
+    (is_timer t before ≡ false) × (list_any (is_timer t) rest ≡ false)
+none_behind t before [] rest none = or_parts (is_timer t before) (list_any (is_timer t) rest) none
+none_behind t before (u ∷ earlier) rest none =
+    none_behind t before earlier rest (or_parts (is_timer t u) (list_any (is_timer t) (earlier ++ before ∷ rest)) none).1
+
+apart_behind : (before : Timer) (earlier rest : List Timer) → AreApart (earlier ++ before ∷ rest) → AreApart (before ∷ rest)
+apart_behind before [] rest apart = apart
+apart_behind before (u ∷ earlier) rest apart = apart_behind before earlier rest apart.1
+
+names_closed : (cells : List LinkedCell) (link : Option Timer) (timer before : Timer) (x : LinkedCell) (earlier rest : List Timer) → IsNamed before →
+    place_of before < length cells → x.next ≡ next_of cells timer → AreApart (earlier ++ before ∷ (timer ∷ rest)) →
+    Names cells link (earlier ++ before ∷ (timer ∷ rest)) → Names (set cells (place_of before) x) link (earlier ++ before ∷ rest)
+names_closed cells link timer before x [] rest h within e apart names =
+    let none = (or_parts (is_timer before timer) (list_any (is_timer before) rest) apart.0).1 in
+    let next : next_of (set cells (place_of before) x) before ≡ next_of cells timer = next_of_same cells before x within ∙ e in
+    (names.0, (h, rw next (names_other cells before x (next_of cells timer) rest h none names.1.1.1.1)))
+names_closed cells link timer before x (u ∷ earlier) rest h within e apart names =
+    let parts = none_behind u before earlier (timer ∷ rest) apart.0 in
+    let same = next_of_other cells before u x h names.1.0 (is_timer_flips u before parts.0) in
+    (names.0, (names.1.0, rw same (names_closed cells (next_of cells u) timer before x earlier rest h within e apart.1 names.1.1)))
+
+closed : (cells : List LinkedCell) (link : Option Timer) (timer before : Timer) (x : LinkedCell) (earlier rest : List Timer) → IsNamed before →
+    place_of before < length cells → x.next ≡ next_of cells timer → listed_from cells link ≡ earlier ++ before ∷ (timer ∷ rest) →
+    list_any (is_timer timer) earlier ≡ false → is_timer timer before ≡ false → IsList cells link →
+    Relinked (set cells (place_of before) x) link (others timer (listed_from cells link))
+closed cells link timer before x earlier rest h within e listed absent differs l =
+    let apart : AreApart (earlier ++ before ∷ (timer ∷ rest)) = rw (← listed) l.apart in
+    let names : Names cells link (earlier ++ before ∷ (timer ∷ rest)) = rw (← listed) l.ends in
+    let none = (apart_behind before earlier (timer ∷ rest) apart).1.0 in
+    let kept : others timer (listed_from cells link) ≡ earlier ++ before ∷ rest =
+    rw listed (others_closed timer before earlier rest absent differs none) in
+    relinked _ link (others timer (listed_from cells link))
+    (rw kept (names_closed cells link timer before x earlier rest h within e apart names))
+    (others_apart timer (listed_from cells link) l.apart)
+    (omega (arith, length-others timer (listed_from cells link), length-listed cells link))
+
+pub relinked_without : (cells : List LinkedCell) (link : Option Timer) (timer before other : Timer) (x : LinkedCell) → IsPassed cells link timer before →
+    next_of cells before ≡ Some other → is_timer timer other ≡ true → place_of before < length cells → x.next ≡ next_of cells timer → IsList cells link →
+    Relinked (set cells (place_of before) x) link (others timer (listed_from cells link))
+relinked_without cells link timer before other x w next here within e l =
+    let same = same_timer timer other here in
+    let step = passes cells (next_of cells before) other next w.later in
+    let listed : listed_from cells link ≡ w.earlier ++ before ∷ (timer ∷ listed_from cells (next_of cells other)) =
+    w.listed ∙ rw (step.listed, same) in
+    closed cells link timer before x w.earlier (listed_from cells (next_of cells other)) w.named within e listed w.absent w.differs l

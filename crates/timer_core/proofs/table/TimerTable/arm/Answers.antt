@@ -1,0 +1,33 @@
+use Rattle.std.proofs.Common.{◌≡◌, true, false, sym, ◌∙◌, ap}
+use Rattle.timer_core.specs.Timers.{armed_with, is_armed}
+use Rattle.timer_core.specs.Links.{timers_of}
+use Rattle.timer_core.proofs.Changes.{cell_changed, head_added}
+use Rattle.timer_core.proofs.table.TimerTable.arm.Goals as goal
+
+pub invariant_of-self : goal.invariant_of-self
+invariant_of-self c =
+    let armed : is_armed c.args.timer (timers_of c.self.inside) ≡ true =
+    ap (is_armed c.args.timer) c.self.view_is ∙ (sym c.is_armed.ensures ∙ c.if-is_armed.true) in
+    rw c.place.ensures.value (cell_changed c.self.inside c.args.timer c.args.cell c.self.invariant c.requires.named c.requires.start armed).sound
+
+pub invariant_of-self-else-is_armed : goal.invariant_of-self-else-is_armed
+invariant_of-self-else-is_armed c =
+    let free : is_armed c.args.timer (timers_of c.self.inside) ≡ false =
+    ap (is_armed c.args.timer) c.self.view_is ∙ (sym c.is_armed.ensures ∙ c.if-is_armed.false) in
+    rw c.place-else-is_armed.ensures.value
+    (head_added c.self.inside c.args.timer c.args.cell c.self.invariant c.requires.named c.requires.start free).sound
+
+pub returns-then-is_armed : goal.returns-then-is_armed
+returns-then-is_armed c =
+    let armed : is_armed c.args.timer (timers_of c.self.inside) ≡ true =
+    ap (is_armed c.args.timer) c.self.view_is ∙ (sym c.is_armed.ensures ∙ c.if-is_armed.true) in
+    rw c.place.ensures.value (cell_changed c.self.inside c.args.timer c.args.cell c.self.invariant c.requires.named c.requires.start armed).value
+    ∙ ap (armed_with c.args.timer c.args.cell) c.self.view_is
+
+pub returns-else-is_armed : goal.returns-else-is_armed
+returns-else-is_armed c =
+    let free : is_armed c.args.timer (timers_of c.self.inside) ≡ false =
+    ap (is_armed c.args.timer) c.self.view_is ∙ (sym c.is_armed.ensures ∙ c.if-is_armed.false) in
+    rw c.place-else-is_armed.ensures.value
+    (head_added c.self.inside c.args.timer c.args.cell c.self.invariant c.requires.named c.requires.start free).value
+    ∙ ap (armed_with c.args.timer c.args.cell) c.self.view_is

@@ -1,0 +1,6 @@
+use Rattle.std.proofs.Common.{◌≡◌}
+use Rattle.timer_core.proofs.Forgetting.{without_callbacks_below}
+use Rattle.timer_core.proofs.table.TimerTable.disarm_callbacks.Given as goal
+
+abbrev pub invariant-loop-number : goal.invariant-loop-number
+invariant-loop-number l = l.self ≡ without_callbacks_below l.pid.0 l.number l.fn.self

@@ -1,0 +1,34 @@
+-- The arming numbers of the callback timers: an expiry that was taken off the timer list counts only while its number is
+-- the present one.
+use Rattle.std.specs.Prelude.{◌≡◌, ℕ, ◌+◌, ◌-◌, ◌*◌, ◌<◌, Bool, List, [], ◌∷◌, length, All, fold, replicate, ◌==◌, slice_index, slice_set}
+
+pub record Armings : Type 0 where
+  -- the present number of each callback timer, 4 for each application
+  pub present : List ℕ
+  -- how many numbers were drawn, the 0 at boot among them. Each was below this from its drawing on
+  pub drawn : ℕ
+
+abbrev pub no_armings : Armings
+no_armings = record { present = replicate 64 0; drawn = 1 }
+
+abbrev pub callback_place : ℕ → ℕ → ℕ
+callback_place p c = 4 * (p - 4) + c
+
+abbrev pub present_arming : ℕ → ℕ → Armings → ℕ
+present_arming p c armings = slice_index armings.present (callback_place p c)
+
+abbrev pub is_present_arming : ℕ → ℕ → ℕ → Armings → Bool
+is_present_arming p c arming armings = present_arming p c armings == arming
+
+-- callback timer c of p gets a number that was never used
+abbrev pub renumbered : ℕ → Armings → ℕ → Armings
+renumbered p armings c = record { present = slice_set armings.present (callback_place p c) armings.drawn; drawn = armings.drawn + 1 }
+
+-- so does each callback timer of p
+abbrev pub all_renumbered : ℕ → Armings → Armings
+all_renumbered p armings = fold (renumbered p) armings (0 ∷ 1 ∷ 2 ∷ 3 ∷ [])
+
+-- each callback timer has a number that was drawn
+pub record IsNumbered (armings : Armings) : Type 0 where
+  pub places : length armings.present ≡ 64
+  pub below : All (λ arming. arming < armings.drawn) armings.present

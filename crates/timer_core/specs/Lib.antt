@@ -1,0 +1,5 @@
+pub mod Armings
+pub mod Links
+pub mod Names
+pub mod NumberedTimers
+pub mod Timers

@@ -1,0 +1,78 @@
+-- Event timers and callback timers: their cells, and one list of those that are armed.
+use Rattle.std.specs.Prelude.{ℕ, ◌+◌, ◌*◌, ◌^◌, Bool, not, List, [], ◌∷◌, filter, find, replicate, Option, Some, None, if◌then◌else◌, nat_le, slice_index_or, slice_set}
+use Rattle.std.specs.List.{list_any}
+use Rattle.timer_core.specs.declared.timer.Timer.{Timer}
+use Rattle.timer_core.specs.declared.timer.Cell.{Cell}
+use Rattle.timer_core.specs.Names.{is_timer, is_event_timer_of, is_callback_timer_of, place_of}
+
+pub record Timers : Type 0 where
+  -- the cells of all timers, in the order of their places
+  pub cells : List Cell
+  -- the timer list, the head first
+  pub armed : List Timer
+
+abbrev pub zero_cell : Cell
+zero_cell = record { start = 0; interval = 0 }
+
+abbrev pub no_timers : Timers
+no_timers = record { cells = replicate 192 zero_cell; armed = [] }
+
+abbrev pub cell_of : Timer → Timers → Cell
+cell_of timer timers = slice_index_or timers.cells (place_of timer) zero_cell
+
+abbrev pub is_armed : Timer → Timers → Bool
+is_armed timer timers = list_any (is_timer timer) timers.armed
+
+-- the timer has this cell and is on the list: in its old place, or else at the head
+abbrev pub armed_with : Timer → Cell → Timers → Timers
+armed_with timer cell timers =
+    record {
+      cells = slice_set timers.cells (place_of timer) cell;
+      armed = if is_armed timer timers then timers.armed else timer ∷ timers.armed;
+    }
+
+abbrev pub set_timer : ℕ → Timer → ℕ → Timers → Timers
+set_timer clock timer interval = armed_with timer (record { start = clock; interval = interval })
+
+abbrev pub restart_timer : ℕ → Timer → Timers → Timers
+restart_timer clock timer timers = armed_with timer (record (cell_of timer timers) { start = clock }) timers
+
+abbrev pub deadline : Cell → ℕ
+deadline cell = cell.start + cell.interval
+
+-- where the deadline was, the next interval begins
+abbrev pub reset_timer : Timer → Timers → Timers
+reset_timer timer timers =
+    let cell = cell_of timer timers in
+    armed_with timer (record cell { start = deadline cell }) timers
+
+-- whether the deadline after a reset is one that a timer may have
+abbrev pub can_reset : Timer → Timers → Bool
+can_reset timer timers =
+    let cell = cell_of timer timers in
+    nat_le (cell.start + 2 * cell.interval) (2 ^ 63)
+
+abbrev pub stop_timer : Timer → Timers → Timers
+stop_timer timer timers = record timers { armed = filter (λ other. not (is_timer timer other)) timers.armed }
+
+abbrev pub is_due : ℕ → Timers → Timer → Bool
+is_due clock timers timer = nat_le (deadline (cell_of timer timers)) clock
+
+-- the first on the list whose deadline has come
+abbrev pub first_due : ℕ → Timers → Option Timer
+first_due clock timers = find (is_due clock timers) timers.armed
+
+abbrev pub stop_if_any : Option Timer → Timers → Timers
+stop_if_any None timers = timers
+stop_if_any (Some timer) timers = stop_timer timer timers
+
+-- that one is off the list
+abbrev pub without_first_due : ℕ → Timers → Timers
+without_first_due clock timers = stop_if_any (first_due clock timers) timers
+
+-- the timers of p are off the list
+abbrev pub without_event_timers : ℕ → Timers → Timers
+without_event_timers p timers = record timers { armed = filter (λ timer. not (is_event_timer_of p timer)) timers.armed }
+
+abbrev pub without_callback_timers : ℕ → Timers → Timers
+without_callback_timers p timers = record timers { armed = filter (λ timer. not (is_callback_timer_of p timer)) timers.armed }

@@ -1,0 +1,225 @@
+//! The timers of all applications.
+
+ghost use Rattle.std.specs.Prelude.{◌≡◌, ◌≢◌, ◌<◌, ◌≤◌, ◌+◌, ◌^◌, ℕ, true, false, not, is_some, IfOk, IfErr, IfSome};
+ghost use Rattle.std.specs.Option.{option_map};
+ghost use Rattle.mote_types.specs.declared.refusal.Refusal.{Refusal};
+ghost use Rattle.timer_core.specs.declared.timer.Timer.{Timer};
+ghost use Rattle.timer_core.specs.Armings.{present_arming, is_present_arming, renumbered, all_renumbered};
+ghost use Rattle.timer_core.specs.Names.{IsNamed};
+ghost use Rattle.timer_core.specs.NumberedTimers.{at_boot, due_of, IsDue};
+ghost use Rattle.timer_core.specs.Timers.{is_armed, set_timer, restart_timer, reset_timer, can_reset, stop_timer, first_due, without_first_due, without_event_timers, without_callback_timers};
+
+use crate::due::Due;
+use crate::numbers::ArmingNumbers;
+use crate::table::TimerTable;
+use crate::timer::{Cell, Timer};
+use mote_types::event::Pid;
+use mote_types::refusal::Refusal;
+use std::marker::Model;
+
+/// The latest clock, and the latest deadline that a reset may set, in ticks since boot (this project's profile).
+pub const LATEST: u64 = 1 << 63;
+
+/// All timers: a cell of each event timer and callback timer, one list of those that are armed, and an arming number of
+/// each callback timer. Takes no memory beside its own.
+///
+/// Source: etimer.h and ctimer.h of Contiki-NG. How many there are of each, deadlines in whole numbers, and that setting
+/// and stopping a callback timer takes its earlier expiries back are this project's profile.
+#[derive(Drop)]
+pub struct Timers {
+    table: TimerTable,
+    numbers: ArmingNumbers,
+}
+
+impl Model for Timers {
+    ghost use Rattle.timer_core.specs.NumberedTimers.{NumberedTimers};
+
+    ghost Value = { NumberedTimers };
+
+    ghost view = { λ timers. record { timers = timers.table; armings = timers.numbers } };
+}
+
+impl Timers {
+    /// All cells are zero, and no timer is armed.
+    pub fn new() -> Self
+        ensures { result ≡ at_boot }
+    {
+        Timers {
+            table: TimerTable::new(),
+            numbers: ArmingNumbers::new(),
+        }
+    }
+
+    /// Arms timer `number` of `pid`: it runs out `interval` ticks after the present `clock` (`etimer_set`).
+    ///
+    /// A timer that is armed already keeps its place on the list; else it becomes the head.
+    pub fn set(&mut self, clock: u64, pid: Pid, number: u8, interval: u32)
+        requires clock { clock ≤ 2 ^ 63 }
+        requires named { IsNamed (Timer.Event pid number) }
+        ensures { self.new ≡ record self.old { timers = set_timer clock (Timer.Event pid number) interval self.old.timers } }
+    {
+        let cell = Cell {
+            start: clock,
+            interval,
+        };
+        self.table.arm(Timer::Event(pid, number), cell);
+    }
+
+    /// Takes timer `number` of `pid` from the list if it is there (`etimer_stop`). Its cell stays.
+    pub fn stop(&mut self, pid: Pid, number: u8)
+        requires { IsNamed (Timer.Event pid number) }
+        ensures { self.new ≡ record self.old { timers = stop_timer (Timer.Event pid number) self.old.timers } }
+    {
+        self.table.disarm(Timer::Event(pid, number));
+    }
+
+    /// Arms timer `number` of `pid` with the interval that follows its last one: it begins where that one ended, so that no
+    /// tick is lost (`etimer_reset`).
+    ///
+    /// # Errors
+    /// `Range` where the new deadline would be later than 2^63. Nothing is changed then.
+    pub fn reset(&mut self, pid: Pid, number: u8) -> Result<(), Refusal>
+        requires { IsNamed (Timer.Event pid number) }
+        ensures possible { IfOk result (λ _. can_reset (Timer.Event pid number) self.old.timers ≡ true) }
+        ensures accepted { IfOk result (λ _. self.new ≡ record self.old { timers = reset_timer (Timer.Event pid number) self.old.timers }) }
+        ensures too_late { IfErr result (λ _. can_reset (Timer.Event pid number) self.old.timers ≡ false) }
+        ensures reason { IfErr result (λ refusal. refusal ≡ Refusal.Range) }
+        ensures unchanged { IfErr result (λ _. self.new ≡ self.old) }
+    {
+        let timer = Timer::Event(pid, number);
+        let cell = self.table.cell(timer);
+        let start = cell.start + cell.interval as u64;
+        if start + cell.interval as u64 > LATEST {
+            return Err(Refusal::Range);
+        }
+        let next = Cell {
+            start,
+            interval: cell.interval,
+        };
+        self.table.arm(timer, next);
+        Ok(())
+    }
+
+    /// Arms timer `number` of `pid` with its interval, from the present `clock` on (`etimer_restart`).
+    pub fn restart(&mut self, clock: u64, pid: Pid, number: u8)
+        requires clock { clock ≤ 2 ^ 63 }
+        requires named { IsNamed (Timer.Event pid number) }
+        ensures { self.new ≡ record self.old { timers = restart_timer clock (Timer.Event pid number) self.old.timers } }
+    {
+        let timer = Timer::Event(pid, number);
+        let cell = Cell {
+            start: clock,
+            interval: self.table.cell(timer).interval,
+        };
+        self.table.arm(timer, cell);
+    }
+
+    /// Whether timer `number` of `pid` is not on the list: it was never armed, or ran out, or was stopped
+    /// (`etimer_expired`; that a timer is expired where it is not on the list is this project's profile).
+    pub fn expired(&self, pid: Pid, number: u8) -> bool
+        requires { IsNamed (Timer.Event pid number) }
+        ensures { result ≡ not (is_armed (Timer.Event pid number) self.now.timers) }
+    {
+        !self.table.is_armed(Timer::Event(pid, number))
+    }
+
+    /// Arms callback timer `number` of `pid`, as `set` arms a timer (`ctimer_set`). An expiry that was taken earlier counts
+    /// no more: the callback timer gets an arming number that was never used, and no other one changes.
+    pub fn set_callback(&mut self, clock: u64, pid: Pid, number: u8, interval: u32)
+        requires clock { clock ≤ 2 ^ 63 }
+        requires named { IsNamed (Timer.Callback pid number) }
+        requires few { self.old.armings.drawn < 2 ^ 60 }
+        ensures changed { self.new ≡ record {
+          timers = set_timer clock (Timer.Callback pid number) interval self.old.timers;
+          armings = renumbered pid.0 self.old.armings number;
+        } }
+        ensures struck { (arming : ℕ) → arming < self.old.armings.drawn → is_present_arming pid.0 number arming self.new.armings ≡ false }
+        ensures others { (p c : ℕ) → 4 ≤ p → c < 4 → (p ≡ pid.0 → c ≡ number → ⊥) → present_arming p c self.new.armings ≡ present_arming p c self.old.armings }
+    {
+        self.numbers.renew(pid, number);
+        let cell = Cell {
+            start: clock,
+            interval,
+        };
+        self.table.arm(Timer::Callback(pid, number), cell);
+    }
+
+    /// Takes callback timer `number` of `pid` from the list if it is there (`ctimer_stop`). An expiry that was taken earlier
+    /// counts no more: the callback timer gets an arming number that was never used, and no other one changes.
+    pub fn stop_callback(&mut self, pid: Pid, number: u8)
+        requires named { IsNamed (Timer.Callback pid number) }
+        requires few { self.old.armings.drawn < 2 ^ 60 }
+        ensures changed { self.new ≡ record {
+          timers = stop_timer (Timer.Callback pid number) self.old.timers;
+          armings = renumbered pid.0 self.old.armings number;
+        } }
+        ensures struck { (arming : ℕ) → arming < self.old.armings.drawn → is_present_arming pid.0 number arming self.new.armings ≡ false }
+        ensures others { (p c : ℕ) → 4 ≤ p → c < 4 → (p ≡ pid.0 → c ≡ number → ⊥) → present_arming p c self.new.armings ≡ present_arming p c self.old.armings }
+    {
+        self.numbers.renew(pid, number);
+        self.table.disarm(Timer::Callback(pid, number));
+    }
+
+    /// Takes the first due timer from the list, in list order, and answers it; `None` only where nothing is due. A callback
+    /// timer's arming number stays the present one until the callback timer is set, stopped or forgotten.
+    pub fn take_due(&mut self, clock: u64) -> Option<Due>
+        ensures answer { result ≡ option_map (due_of self.old.armings) (first_due clock self.old.timers) }
+        ensures taken { self.new ≡ record self.old { timers = without_first_due clock self.old.timers } }
+        ensures known { IfSome result (IsDue self.new.armings) }
+    {
+        let timer = self.table.first_due(clock)?;
+        self.table.disarm(timer);
+        match timer {
+            Timer::Event(pid, number) => Some(Due::Timer { pid, number }),
+            Timer::Callback(pid, number) => {
+                let arming = self.numbers.present(pid, number);
+                Some(Due::Callback {
+                    pid,
+                    number,
+                    arming,
+                })
+            }
+        }
+    }
+
+    /// Whether a timer on the list is due.
+    pub fn any_due(&self, clock: u64) -> bool
+        ensures { result ≡ is_some (first_due clock self.now.timers) }
+    {
+        self.table.first_due(clock).is_some()
+    }
+
+    /// Whether that is the number that callback timer `number` of `pid` has now, so that an expiry with it counts.
+    pub fn is_present_arming(&self, pid: Pid, number: u8, arming: u64) -> bool
+        requires { IsNamed (Timer.Callback pid number) }
+        ensures { result ≡ is_present_arming pid.0 number arming self.now.armings }
+    {
+        self.numbers.present(pid, number) == arming
+    }
+
+    /// Takes all timers of `pid` from the list. Their cells stay, and so do its callback timers.
+    pub fn forget(&mut self, pid: Pid)
+        requires first { 4 ≤ pid.0 }
+        requires last { pid.0 ≤ 19 }
+        ensures { self.new ≡ record self.old { timers = without_event_timers pid.0 self.old.timers } }
+    {
+        self.table.disarm_events(pid);
+    }
+
+    /// Takes all callback timers of `pid` from the list. Expiries of them that were taken earlier count no more: each gets an
+    /// arming number that was never used. Those of the other applications keep theirs.
+    pub fn forget_callbacks(&mut self, pid: Pid)
+        requires first { 4 ≤ pid.0 }
+        requires last { pid.0 ≤ 19 }
+        requires few { self.old.armings.drawn < 2 ^ 60 }
+        ensures changed { self.new ≡ record {
+          timers = without_callback_timers pid.0 self.old.timers;
+          armings = all_renumbered pid.0 self.old.armings;
+        } }
+        ensures struck { (c arming : ℕ) → c < 4 → arming < self.old.armings.drawn → is_present_arming pid.0 c arming self.new.armings ≡ false }
+        ensures others { (p c : ℕ) → 4 ≤ p → c < 4 → (p ≡ pid.0 → ⊥) → present_arming p c self.new.armings ≡ present_arming p c self.old.armings }
+    {
+        self.numbers.renew_all(pid);
+        self.table.disarm_callbacks(pid);
+    }
+}
