@@ -1,6 +1,6 @@
 -- What holds between two bytes of a run's script.
-use Rattle.std.proofs.Common.{◌≡◌, ◌≢◌, ◌<◌, ◌≤◌, ◌+◌, ◌-◌, ℕ, zero, suc, Bool, true, false, List, [], ◌∷◌, ◌++◌, length, refl, ap, sym, ◌∙◌, append_assoc, length-append, arith}
-use Rattle.std.specs.Prelude.{◌||◌, flat_map, Some, None, Option, if◌then◌else◌}
+use Rattle.std.proofs.Common.{◌≡◌, ◌+◌, ◌-◌, ℕ, Bool, true, false, List, [], ◌∷◌, ◌++◌, length, refl, ap, sym, ◌∙◌, append_assoc, length-append}
+use Rattle.std.specs.Prelude.{if◌then◌else◌}
 use Rattle.std.specs.List.{list_any}
 use Rattle.std.proofs.lemmas.List.{append-nil}
 use Rattle.std.proofs.lemmas.Grind.{flat_map-append}
@@ -10,16 +10,17 @@ use Rattle.mote_types.specs.declared.entry.Entry.{Entry}
 use Rattle.mote_types.specs.declared.entry.Input.{Input}
 use Rattle.mote_text.specs.declared.script.End.{End}
 use Rattle.mote_text.specs.EntryText.{entry_line}
-use Rattle.mote_text.specs.Script.{inputs, preceded_by, read_line, script_limit}
-use Rattle.mote_text.specs.Transcript.{end_of, final_line, text}
+use Rattle.mote_text.specs.Script.{inputs, script_limit}
+use Rattle.mote_text.specs.Transcript.{final_line}
 use Rattle.mote_text.proofs.Bytewise.{read_on}
-use Rattle.mote_text.proofs.Reading.{Before, Gives, start}
+use Rattle.mote_text.proofs.Reading.{Before, start}
 use Rattle.kernel_core.specs.declared.config.Config.{Config}
 use Rattle.kernel_core.specs.Machine.{Machine, booted}
 use Rattle.kernel_core.specs.Run.{Running, Runs, ComesToRest, after_steps, at_start, fed, is_still, with_input}
-use Rattle.mote_run.specs.RunText.{HasRun, IsRunText, script_done}
+use Rattle.mote_run.specs.RunText.{HasRun, script_done}
 use Rattle.mote_run.specs.Settling.{IsTold, Settled, lines}
 use Rattle.mote_run.proofs.Settling.{steps_after}
+use Rattle.mote_run.proofs.Determined.{run_from, still_rest}
 
 pub record InRun (config : Config) (says now : Applications) (machine : Machine) (taken_old taken_new given_old given_new : List ℕ) (count number : ℕ) (line : List ℕ) : Type 0 where
   pub entries : List Entry
@@ -36,6 +37,9 @@ pub record InRun (config : Config) (says now : Applications) (machine : Machine)
   -- every run of what follows from here is a run of all from boot
   pub onward : (later : List Input) (w : Running) → Runs says (record { machine = machine; entries = entries }) later w →
       Runs says (at_start config) (earlier ++ later) w
+  -- and every run of all from boot goes on from here
+  pub inward : (later : List Input) (w : Running) → Runs says (at_start config) (earlier ++ later) w →
+      Runs says (record { machine = machine; entries = entries }) later w
 
 rest_after : (says : Applications) (a b c : Running) (n : ℕ) → after_steps says n a ≡ b → ComesToRest says b c → ComesToRest says a c
 rest_after says a b c n e (k, f, h) =
@@ -77,11 +81,12 @@ in_run_start config says now old machine taken given_old given_new boots settled
   halts = settled.halts (rw boots refl);
   onward = λ later w runs.
       run_after says (at_start config) (record { machine = machine; entries = settled.entries }) w later settled.count (rw (← boots) settled.walked) runs;
+  inward = λ later w runs.
+      run_from says (at_start config) (record { machine = machine; entries = settled.entries }) w later settled.count (rw (← boots) settled.walked) runs;
 }
 
 module _ {config : Config} {says now : Applications} {machine : Machine} {taken_old taken_new given_old given_new : List ℕ} {count number : ℕ} {line : List ℕ}
     (i : InRun config says now machine taken_old taken_new given_old given_new count number line) where
-
   abbrev here : Running
   here = record { machine = machine; entries = i.entries }
 
@@ -104,6 +109,7 @@ module _ {config : Config} {says now : Applications} {machine : Machine} {taken_
     still = i.still;
     halts = i.halts;
     onward = i.onward;
+    inward = i.inward;
   }
 
   -- the input was handed in, and the mote has come to rest after it
@@ -112,10 +118,21 @@ module _ {config : Config} {says now : Applications} {machine : Machine} {taken_
       Runs says (record { machine = new; entries = i.entries ++ settled.entries }) later w →
       Runs says (at_start config) (i.earlier ++ (input ∷ later)) w
   input_onward input later new now' given_later w running settled runs =
-      let go : Runs says here (input ∷ later) w =
-          (here, (0, refl, i.still), (λ h. absurd (cc)),
-          λ h. run_after says (with_input input here) (record { machine = new; entries = i.entries ++ settled.entries }) w later settled.count settled.walked runs) in
+      let go : Runs says here (input ∷ later) w = (
+        here,
+        (0, refl, i.still),
+        (λ h. absurd (cc)),
+        λ h. run_after says (with_input input here) (record { machine = new; entries = i.entries ++ settled.entries }) w later settled.count settled.walked runs,
+      ) in
       i.onward (input ∷ later) w go
+
+  -- a run whose next input is this goes on from where it was handed in
+  pub input_inward : (input : Input) (later : List Input) (w : Running) → machine.is_halted ≡ false →
+      Runs says (at_start config) (i.earlier ++ (input ∷ later)) w → Runs says (with_input input here) later w
+  input_inward input later w running runs =
+      let r = i.inward (input ∷ later) w runs in
+      let same : r.0 ≡ here = still_rest says here r.0 i.still r.1 in
+      rw same at (r.3 (rw same running))
 
   -- a byte that ends a line with an input, which was carried out
   pub in_run_input : (byte number' : ℕ) (line' taken_later given_later : List ℕ) (input : Input) (handed new : Machine) (now' : Applications) →
@@ -125,18 +142,21 @@ module _ {config : Config} {says now : Applications} {machine : Machine} {taken_
       InRun config says now' new taken_old taken_later given_old given_later (count + 1) number' line'
   in_run_input byte number' line' taken_later given_later input handed new now' taken running hands reads settles still =
       let settled : Settled says i.entries (fed input machine) new now' given_new given_later = rw hands at settles in record {
-    entries = i.entries ++ settled.entries;
-    bytes = i.bytes ++ byte ∷ [];
-    earlier = i.earlier ++ input ∷ [];
-    told = settled.told;
-    taken = rw (taken, i.taken) (append_assoc taken_old i.bytes (byte ∷ []));
-    given = rw (settled.written, i.given, flat_map-append entry_line i.entries settled.entries) (append_assoc given_old (lines i.entries) (lines settled.entries));
-    size = rw (length-append i.bytes (byte ∷ []), i.size) refl;
-    before = reads i.before;
-    still = still;
-    halts = settled.halts (i.halts ∙ fed_halts machine input);
-    onward = λ later w runs. rw (append_assoc i.earlier (input ∷ []) later) (input_onward input later new now' given_later w running settled runs);
-  }
+        entries = i.entries ++ settled.entries;
+        bytes = i.bytes ++ byte ∷ [];
+        earlier = i.earlier ++ input ∷ [];
+        told = settled.told;
+        taken = rw (taken, i.taken) (append_assoc taken_old i.bytes (byte ∷ []));
+        given = rw (settled.written, i.given, flat_map-append entry_line i.entries settled.entries) (append_assoc given_old (lines i.entries) (lines settled.entries));
+        size = rw (length-append i.bytes (byte ∷ []), i.size) refl;
+        before = reads i.before;
+        still = still;
+        halts = settled.halts (i.halts ∙ fed_halts machine input);
+        onward = λ later w runs. rw (append_assoc i.earlier (input ∷ []) later) (input_onward input later new now' given_later w running settled runs);
+        inward = λ later w runs.
+            run_from says (with_input input here) (record { machine = new; entries = i.entries ++ settled.entries }) w later settled.count settled.walked
+            (input_inward input later w running (rw (append_assoc i.earlier (input ∷ []) later) at runs));
+      }
 
   -- the mote was halted
   pub in_run_halted : (is_ended : Bool) → machine.is_halted ≡ true →
@@ -183,18 +203,18 @@ module _ {config : Config} {says now : Applications} {machine : Machine} {taken_
       HasRun config says taken_old taken_later is_ended given_old given_later (script_done new)
   in_run_ends_with_input input is_ended taken_later given_later handed new now' running taken ended hands gives settles still =
       let settled : Settled says i.entries (fed input machine) new now' given_new given_later = rw hands at settles in record {
-    bytes = i.bytes;
-    out = lines (i.entries ++ settled.entries);
-    taken = taken ∙ i.taken;
-    given = rw (settled.written, i.given, flat_map-append entry_line i.entries settled.entries) (append_assoc given_old (lines i.entries) (lines settled.entries));
-    is_text = λ more whole.
-        let last : Running = record { machine = new; entries = i.entries ++ settled.entries } in
-        let runs = input_onward input [] new now' given_later last running settled (resting_runs says last [] still (λ h. refl)) in
-        let all : i.bytes ++ more ≡ i.bytes = rw (whole ended) (append-nil i.bytes) in
-        record {
-          last = last;
-          runs = rw (all, gives) runs;
-          ends = rw (all, gives, settled.halts (i.halts ∙ fed_halts machine input)) refl;
-          is_text = rw (no_last_line new.is_halted) (sym (append-nil (lines (i.entries ++ settled.entries))));
-        };
-  }
+        bytes = i.bytes;
+        out = lines (i.entries ++ settled.entries);
+        taken = taken ∙ i.taken;
+        given = rw (settled.written, i.given, flat_map-append entry_line i.entries settled.entries) (append_assoc given_old (lines i.entries) (lines settled.entries));
+        is_text = λ more whole.
+            let last : Running = record { machine = new; entries = i.entries ++ settled.entries } in
+            let runs = input_onward input [] new now' given_later last running settled (resting_runs says last [] still (λ h. refl)) in
+            let all : i.bytes ++ more ≡ i.bytes = rw (whole ended) (append-nil i.bytes) in
+            record {
+              last = last;
+              runs = rw (all, gives) runs;
+              ends = rw (all, gives, settled.halts (i.halts ∙ fed_halts machine input)) refl;
+              is_text = rw (no_last_line new.is_halted) (sym (append-nil (lines (i.entries ++ settled.entries))));
+            };
+      }

@@ -1,3 +1,5 @@
+pub mod Determined
+pub mod Fronts
 pub mod InRun
 pub mod NextByte
 pub mod Pieces

@@ -1,5 +1,6 @@
--- A front part in two pieces.
+-- Small facts on results and on front parts.
 use Rattle.std.proofs.Common.{◌≡◌, ◌+◌, ◌-◌, ◌++◌, ◌≤◌, ◌∙◌, ℕ, List, length, take, drop, ap, sym, arith, append_assoc}
+use Rattle.std.specs.Prelude.{OnErr, Ok, Err, Result}
 use Rattle.std.proofs.Math.Seq.{take-add}
 use Rattle.std.proofs.lemmas.List.{take_all, length-drop}
 
@@ -14,3 +15,8 @@ pub given_on : (before now later bytes : List ℕ) (n m : ℕ) → now ≡ befor
 given_on before now later bytes n m first second =
     second ∙ (ap (λ v. v ++ take m (take (length bytes - n) (drop n bytes))) first
     ∙ (append_assoc before (take n bytes) (take m (take (length bytes - n) (drop n bytes))) ∙ ap (λ v. before ++ v) (take_on n m bytes)))
+
+-- what holds anyway holds of an error
+pub on_err : {T E P : Type 0} (r : Result T E) → P → OnErr r P
+on_err (Ok value) p = tt
+on_err (Err e) p = p

@@ -1,6 +1,7 @@
 -- Steps of the kernel, as steps of the run.
-use Rattle.std.proofs.Common.{◌≡◌, ℕ, zero, suc, Bool, true, false, List, [], ◌∷◌, ◌++◌, refl, ap, sym, ◌∙◌, append_assoc}
-use Rattle.std.specs.Prelude.{◌||◌, flat_map, filter_map, option_to_list, Some, None}
+use Rattle.std.proofs.Common.{◌≡◌, ℕ, zero, suc, Bool, List, [], ◌∷◌, ◌++◌, refl, ap, sym, ◌∙◌, append_assoc}
+use Rattle.std.proofs.Math.Seq.{take-append-add}
+use Rattle.std.specs.Prelude.{take, length, ◌+◌, ◌||◌}
 use Rattle.std.specs.List.{list_any}
 use Rattle.std.proofs.lemmas.List.{append-nil}
 use Rattle.std.proofs.lemmas.List.Elements.{filter_map-append}
@@ -14,8 +15,8 @@ use Rattle.mote_types.specs.Entries.{is_halt}
 use Rattle.mote_text.specs.EntryText.{entry_line}
 use Rattle.kernel_core.specs.declared.step.Step.{Step}
 use Rattle.kernel_core.specs.Machine.{Machine}
-use Rattle.kernel_core.specs.Run.{Answers, Silently, GoesSilently, MakesEntry, GoesToRest, GoesOn, Running, made, heard, stimulus_of, answers_after, one_step, after_step, after_steps}
-use Rattle.mote_run.specs.Settling.{IsTold, Settled, lines}
+use Rattle.kernel_core.specs.Run.{Silently, MakesEntry, GoesOn, Running, made, heard, stimulus_of, answers_after, after_step, after_steps}
+use Rattle.mote_run.specs.Settling.{CutOff, IsTold, Settled, lines}
 
 -- k steps after n steps are some steps
 pub steps_after : (says : Applications) (n k : ℕ) (r : Running) → (j : ℕ) × (after_steps says j r ≡ after_steps says k (after_steps says n r))
@@ -93,7 +94,7 @@ pub settled_more : (says now later : Applications) (before : List Entry) (old mi
     Settled says before old new later given₀ given₂
 settled_more says now later before old mid new given₀ given₁ given₂ step so_far goes law halted written =
     let same : (λ p stimulus. now p (stimulus ∷ [])) ≡ answers_after says (before ++ so_far.entries) =
-        fun_ext (λ p. fun_ext (λ stimulus. so_far.told.each p stimulus [])) in
+    fun_ext (λ p. fun_ext (λ stimulus. so_far.told.each p stimulus [])) in
     let k = made_steps says (before ++ so_far.entries) mid new step (rw same at goes) in
     let j = steps_after says so_far.count k.0 (record { machine = old; entries = before }) in
     record {
@@ -103,4 +104,25 @@ settled_more says now later before old mid new given₀ given₁ given₂ step s
       told = rw (append_assoc before so_far.entries (made step)) at (told_after says now later (before ++ so_far.entries) (made step) so_far.told law);
       written = rw (written, so_far.written, flat_map-append entry_line so_far.entries (made step)) (append_assoc given₀ (lines so_far.entries) (lines (made step)));
       halts = halts_more says before so_far.entries (made step) old.is_halted mid.is_halted new.is_halted so_far.halts halted;
+    }
+
+pub cut_off_at : (says now : Applications) (before : List Entry) (old mid new : Machine) (given₀ given₁ given₂ : List ℕ) (entry : Entry) (n : ℕ) →
+    Settled says before old mid now given₀ given₁ →
+    MakesEntry (λ p stimulus. now p (stimulus ∷ [])) mid entry new →
+    given₂ ≡ given₁ ++ take n (entry_line entry) →
+    CutOff says before old given₀ given₂
+cut_off_at says now before old mid new given₀ given₁ given₂ entry n so_far makes written =
+    let same : (λ p stimulus. now p (stimulus ∷ [])) ≡ answers_after says (before ++ so_far.entries) =
+    fun_ext (λ p. fun_ext (λ stimulus. so_far.told.each p stimulus [])) in
+    let k = made_steps says (before ++ so_far.entries) mid new (Step.Entry entry) (rw same at makes) in
+    let j = steps_after says so_far.count k.0 (record { machine = old; entries = before }) in
+    let front : take (length (lines so_far.entries) + n) (lines (so_far.entries ++ entry ∷ [])) ≡ lines so_far.entries ++ take n (entry_line entry) =
+    rw (flat_map-append entry_line so_far.entries (entry ∷ []), append-nil (entry_line entry)) (take-append-add (lines so_far.entries) (entry_line entry) n) in
+    record {
+      entries = so_far.entries ++ entry ∷ [];
+      count = j.0;
+      machine = new;
+      walked = j.1 ∙ (ap (after_steps says k.0) so_far.walked ∙ (k.1 ∙ rw (append_assoc before so_far.entries (entry ∷ [])) refl));
+      size = length (lines so_far.entries) + n;
+      written = rw (front, written, so_far.written) (append_assoc given₀ (lines so_far.entries) (take n (entry_line entry)));
     }

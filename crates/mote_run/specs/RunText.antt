@@ -24,6 +24,16 @@ pub record HasRun (config : Config) (says : Applications) (taken_old taken_new :
   pub given : given_new ≡ given_old ++ out
   pub is_text : (more : List ℕ) → (is_ended ≡ true → more ≡ []) → IsRunText config says (bytes ++ more) out end
 
+-- A device failed: what was written is a front part of the text of every script that begins with the bytes read; of their own
+-- text, where their end was read
+pub record HasRunInPart (config : Config) (says : Applications) (taken_old taken_new : List ℕ) (is_ended : Bool) (given_old given_new : List ℕ) : Type 0 where
+  pub bytes : List ℕ
+  pub out : List ℕ
+  pub taken : taken_new ≡ taken_old ++ bytes
+  pub given : given_new ≡ given_old ++ out
+  pub is_front : (more : List ℕ) → (is_ended ≡ true → more ≡ []) → (whole : List ℕ) (end : End) →
+      IsRunText config says (bytes ++ more) whole end → (rest : List ℕ) × (whole ≡ out ++ rest)
+
 -- the kernel was just booted, for so many applications
 abbrev pub WasBooted : Mote → ℕ → Type 0
 WasBooted kernel applications =

@@ -1,5 +1,5 @@
 -- How entries come about, and what the applications say after them.
-use Rattle.std.specs.Prelude.{◌≡◌, ℕ, Bool, List, [], ◌∷◌, ◌++◌, flat_map}
+use Rattle.std.specs.Prelude.{◌≡◌, ℕ, List, ◌∷◌, ◌++◌, flat_map, take}
 use Rattle.std.specs.List.{list_any}
 use Rattle.mote_types.specs.declared.event.Stimulus.{Stimulus}
 use Rattle.mote_types.specs.declared.entry.Entry.{Entry}
@@ -26,3 +26,12 @@ pub record Settled (says : Applications) (before : List Entry) (old new : Machin
   pub written : given_new ≡ given_old ++ lines entries
   -- the machine is halted exactly where it was, or an entry says so
   pub halts : list_any is_halt before ≡ old.is_halted → list_any is_halt (before ++ entries) ≡ new.is_halted
+
+-- A write failed: of the lines of what the machine made so far, a front part was written
+pub record CutOff (says : Applications) (before : List Entry) (old : Machine) (given_old given_new : List ℕ) : Type 0 where
+  pub entries : List Entry
+  pub count : ℕ
+  pub machine : Machine
+  pub walked : after_steps says count (record { machine = old; entries = before }) ≡ record { machine = machine; entries = before ++ entries }
+  pub size : ℕ
+  pub written : given_new ≡ given_old ++ take size (lines entries)

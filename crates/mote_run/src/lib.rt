@@ -2,6 +2,7 @@
 #![tactic(auto)]
 
 mod device;
+pub mod law;
 mod present_line;
 pub mod run;
 mod settle;

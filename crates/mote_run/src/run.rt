@@ -1,11 +1,11 @@
 //! The run: what a mote makes of a script.
 
-ghost use Rattle.std.specs.Prelude.{◌≡◌, ◌<◌, ◌≤◌, ◌+◌, ◌-◌, ◌^◌, ◌++◌, ◌∷◌, ◌↔◌, [], ℕ, List, true, false, length, IfOk, OnOk, OnErr, IfErr, IsErrOf};
+ghost use Rattle.std.specs.Prelude.{◌≡◌, ◌<◌, ◌≤◌, ◌+◌, ◌-◌, ◌^◌, ◌++◌, ◌∷◌, ◌↔◌, [], ℕ, List, true, false, length, take, IfOk, OnOk, OnErr, IfErr, IsErrOf};
 ghost use Rattle.mote_types.specs.Applications.{says_of};
 ghost use Rattle.mote_text.specs.Transcript.{final_line};
 ghost use Rattle.kernel_core.specs.declared.config.Config.{Config};
 ghost use Rattle.kernel_core.specs.Machine.{booted};
-ghost use Rattle.mote_run.specs.RunText.{HasRun, WasBooted, script_done};
+ghost use Rattle.mote_run.specs.RunText.{HasRun, HasRunInPart, WasBooted, script_done};
 
 use crate::device::{read_byte, write_all};
 use crate::present_line::PresentLine;
@@ -31,6 +31,7 @@ pub enum RunFault {
 fn close<K: ByteSink>(sink: &mut K, end: End) -> Result<(), RunFault>
     requires { K.failure_count sink.old < 2 ^ 64 - 1 }
     ensures given { OnOk result (K.is_named → K.given sink.new ≡ K.given sink.old ++ final_line end) }
+    ensures front_given { OnErr result (K.is_named → (n : ℕ) × (K.given sink.new ≡ K.given sink.old ++ take n (final_line end))) }
     ensures succeeded { OnOk result (K.failure_count sink.new ≡ K.failure_count sink.old) }
     ensures fault { IfErr result (λ fault. fault ≡ RunFault.Write) }
     ensures failed { OnErr result (K.failure_count sink.new ≡ K.failure_count sink.old + 1) }
@@ -44,7 +45,11 @@ fn close<K: ByteSink>(sink: &mut K, end: End) -> Result<(), RunFault>
 fn end_of(kernel: &Kernel) -> End
     ensures { result ≡ script_done kernel.now.machine }
 {
-    if kernel.halted() { End::Halted } else { End::Finished }
+    if kernel.halted() {
+        End::Halted
+    } else {
+        End::Finished
+    }
 }
 
 /// Runs the applications over a script: reads it byte by byte, hands each line's input to the mote, and writes the text
@@ -68,6 +73,8 @@ pub fn run<S: ByteSource, K: ByteSink>(
     requires countable_writes { K.failure_count sink.old < 2 ^ 64 - 1 }
     ensures text { IfOk result (λ end. S.is_named → K.is_named → (config : Config) → kernel.machine ≡ booted config →
         HasRun config (says_of says apps.old) (S.taken source.old) (S.taken source.new) (S.is_ended source.new) (K.given sink.old) (K.given sink.new) end) }
+    ensures front { OnErr result (S.is_named → K.is_named → (config : Config) → kernel.machine ≡ booted config →
+        HasRunInPart config (says_of says apps.old) (S.taken source.old) (S.taken source.new) (S.is_ended source.new) (K.given sink.old) (K.given sink.new)) }
     ensures read_fault { IsErrOf result RunFault.Read ↔ (S.failure_count source.old < S.failure_count source.new) }
     ensures write_fault { IsErrOf result RunFault.Write ↔ (K.failure_count sink.old < K.failure_count sink.new) }
 {

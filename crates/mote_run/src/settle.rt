@@ -4,7 +4,7 @@ ghost use Rattle.std.specs.Prelude.{◌≡◌, ◌<◌, ◌≤◌, ◌+◌, ◌-
 ghost use Rattle.mote_types.specs.Applications.{Applications, says_of};
 ghost use Rattle.mote_types.specs.declared.entry.Entry.{Entry};
 ghost use Rattle.kernel_core.specs.Run.{is_still, is_at_rest, ticks_of, fed};
-ghost use Rattle.mote_run.specs.Settling.{IsTold, Settled};
+ghost use Rattle.mote_run.specs.Settling.{CutOff, IsTold, Settled};
 
 use crate::device::write_all;
 use crate::run::RunFault;
@@ -25,6 +25,8 @@ pub fn settle<K: ByteSink>(
     requires countable { K.failure_count sink.old < 2 ^ 64 - 1 }
     ensures settled { OnOk result (K.is_named → (boot_says : Applications) (before : List Entry) → IsTold boot_says before (says_of says apps.old) →
         Settled boot_says before kernel.old.machine kernel.new.machine (says_of says apps.new) (K.given sink.old) (K.given sink.new)) }
+    ensures cut_off { OnErr result (K.is_named → (boot_says : Applications) (before : List Entry) → IsTold boot_says before (says_of says apps.old) →
+        CutOff boot_says before kernel.old.machine (K.given sink.old) (K.given sink.new)) }
     ensures still { OnOk result (is_still kernel.new.machine ≡ true) }
     ensures applications { kernel.new.machine.scheduler.applications ≡ kernel.old.machine.scheduler.applications }
     ensures clock { kernel.new.machine.clock ≡ kernel.old.machine.clock }

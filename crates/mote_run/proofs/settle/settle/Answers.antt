@@ -1,7 +1,8 @@
-use Rattle.std.proofs.Common.{rules, ◌∙◌, refl, sym, ap, ◌++◌, append_assoc}
+use Rattle.std.proofs.Common.{rules, ◌∙◌, refl, sym, ap, ◌++◌, take}
 use Rattle.std.proofs.lemmas.List.{append-nil}
 use Rattle.kernel_core.specs.declared.step.Step.{Step}
-use Rattle.mote_run.proofs.Settling.{nothing_settled, settled_more}
+use Rattle.mote_run.proofs.Pieces.{on_err}
+use Rattle.mote_run.proofs.Settling.{nothing_settled, settled_more, cut_off_at}
 use Rattle.mote_run.proofs.settle.settle.Goals as goal
 
 pub entry-init : goal.entry-init
@@ -35,3 +36,10 @@ pub returns-in-Halted-clause-settled : goal.returns-in-Halted-clause-settled
 returns-in-Halted-clause-settled g c = λ named boot_says before told.
     settled_more boot_says _ _ before _ _ _ _ _ _ Step.Halted (c.entry.invariant.settled named boot_says before told)
     c.in-Halted.ensures.machine c.in-Halted.ensures.law c.in-Halted.ensures.halted (sym (append-nil _))
+
+pub returns-in_err-write_all-in-Entry-clause-cut_off : goal.returns-in_err-write_all-in-Entry-clause-cut_off
+returns-in_err-write_all-in-Entry-clause-cut_off g c = on_err c.from_residual.result (λ named boot_says before told.
+    let f = c.in_err-write_all-in-Entry.ensures.front_given named in
+    let line = c.as_slice.ensures.value ∙ c.entry_text.ensures in
+    cut_off_at boot_says _ before _ _ c.step.new.self.machine _ _ _ c.in-Entry.entry f.0 (c.entry.invariant.settled named boot_says before told)
+    c.in-Entry.ensures.machine (f.1 ∙ ap (λ v. g.K.ByteSink.given c.entry.sink ++ take f.0 v) line))

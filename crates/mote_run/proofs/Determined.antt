@@ -1,0 +1,100 @@
+-- Steps determine a run: what follows from a step is what follows from the start.
+use Rattle.std.proofs.Common.{◌≡◌, ◌+◌, ℕ, zero, suc, Bool, true, false, List, [], ◌∷◌, ◌++◌, refl, ap, sym, ◌∙◌, append_assoc, zero-add, suc-add, arith}
+use Rattle.std.specs.Prelude.{option_to_list}
+use Rattle.std.proofs.lemmas.List.{append-nil}
+use Rattle.mote_types.specs.Applications.{Applications}
+use Rattle.mote_types.specs.declared.entry.Entry.{Entry}
+use Rattle.mote_types.specs.declared.entry.Input.{Input}
+use Rattle.mote_text.specs.declared.script.End.{End}
+use Rattle.mote_text.specs.Script.{inputs}
+use Rattle.mote_text.specs.Transcript.{end_of, text}
+use Rattle.kernel_core.specs.declared.config.Config.{Config}
+use Rattle.mote_run.specs.RunText.{IsRunText}
+use Rattle.kernel_core.specs.Run.{at_start, Running, Runs, ComesToRest, after_step, after_steps, answers_after, one_step, is_still, with_input}
+use Rattle.kernel_core.proofs.Still.{still_after_steps}
+
+steps_plus : (says : Applications) (n k : ℕ) (r : Running) → after_steps says (n + k) r ≡ after_steps says k (after_steps says n r)
+steps_plus says zero k r = rw zero-add refl
+steps_plus says (suc n) k r = rw suc-add (steps_plus says n k (after_step says r))
+
+-- a still run that a run comes to is what each of its later steps comes to
+rest_from : (says : Applications) (a b w : Running) (n : ℕ) → after_steps says n a ≡ b → ComesToRest says a w → ComesToRest says b w
+rest_from says a b w n e (k, f, still) =
+    let both : n + k ≡ k + n = omega arith in
+    let far : after_steps says k b ≡ w =
+    ap (after_steps says k) (sym e) ∙ (sym (steps_plus says n k a) ∙ (ap (λ m. after_steps says m a) both
+    ∙ (steps_plus says k n a ∙ (ap (after_steps says n) f ∙ still_after_steps says n w still)))) in
+    (k, far, still)
+
+pub run_from : (says : Applications) (a b w : Running) (later : List Input) (n : ℕ) → after_steps says n a ≡ b → Runs says a later w → Runs says b later w
+run_from says a b w [] n e r = rest_from says a b w n e r
+run_from says a b w (input ∷ later) n e (rested, rests, stop, go) = (rested, rest_from says a b rested n e rests, stop, go)
+
+-- where nothing more happens, a run has come to rest
+pub still_rest : (says : Applications) (a w : Running) → is_still a.machine ≡ true → ComesToRest says a w → w ≡ a
+still_rest says a w still (n, e, h) = sym e ∙ still_after_steps says n a still
+
+pub rest_one : (says : Applications) (a b c : Running) → ComesToRest says a b → ComesToRest says a c → b ≡ c
+rest_one says a b c (n, e, still) r = sym (still_rest says b c still (rest_from says a b c n e r))
+
+runs_one_on : (says : Applications) (input : Input) (later : List Input) (b c m k : Running) →
+    ((a b c : Running) → Runs says a later b → Runs says a later c → b ≡ c) → m ≡ k →
+    (m.machine.is_halted ≡ true → b ≡ m) → (m.machine.is_halted ≡ false → Runs says (with_input input m) later b) →
+    (k.machine.is_halted ≡ true → c ≡ k) → (k.machine.is_halted ≡ false → Runs says (with_input input k) later c) →
+    (h : Bool) → m.machine.is_halted ≡ h → b ≡ c
+runs_one_on says input later b c m k one same stop go stop' go' true h =
+    let kh : k.machine.is_halted ≡ true = cc in
+    stop h ∙ (same ∙ sym (stop' kh))
+runs_one_on says input later b c m k one same stop go stop' go' false h =
+    let kh : k.machine.is_halted ≡ false = cc in
+    one (with_input input m) b c (go h) (rw (← same) at (go' kh))
+
+-- there is one run
+pub runs_one : (says : Applications) (inputs : List Input) (a b c : Running) → Runs says a inputs b → Runs says a inputs c → b ≡ c
+runs_one says [] a b c x y = rest_one says a b c x y
+runs_one says (input ∷ later) a b c (m, e, stop, go) (k, h, stop', go') =
+    runs_one_on says input later b c m k (runs_one says later) (rest_one says a m k e h) stop go stop' go' m.machine.is_halted refl
+
+-- the entries of a run stay: others come behind them
+pub record Extends (old new : Running) : Type 0 where
+  pub more : List Entry
+  pub entries : new.entries ≡ old.entries ++ more
+
+extends_on : (a b c : Running) → Extends a b → Extends b c → Extends a c
+extends_on a b c x y = record { more = x.more ++ y.more; entries = rw (y.entries, x.entries) (append_assoc a.entries x.more y.more) }
+
+extends_here : (a : Running) → Extends a a
+extends_here a = record { more = []; entries = sym (append-nil a.entries) }
+
+steps_extend : (says : Applications) (n : ℕ) (a : Running) → Extends a (after_steps says n a)
+steps_extend says zero a = extends_here a
+steps_extend says (suc n) a =
+    let first : Extends a (after_step says a) = record { more = option_to_list (one_step (answers_after says a.entries) a.machine).1; entries = refl } in
+    extends_on a (after_step says a) (after_steps says n (after_step says a)) first (steps_extend says n (after_step says a))
+
+rest_extends : (says : Applications) (a b : Running) → ComesToRest says a b → Extends a b
+rest_extends says a b (n, e, still) = rw e at (steps_extend says n a)
+
+run_goes_on : (says : Applications) (input : Input) (later : List Input) (m w : Running) → ((a w : Running) → Runs says a later w → Extends a w) →
+    (m.machine.is_halted ≡ true → w ≡ m) → (m.machine.is_halted ≡ false → Runs says (with_input input m) later w) →
+    (h : Bool) → m.machine.is_halted ≡ h → Extends m w
+run_goes_on says input later m w grow stop go true h = rw (stop h) (extends_here m)
+run_goes_on says input later m w grow stop go false h =
+    let e = grow (with_input input m) w (go h) in
+    record { more = e.more; entries = e.entries }
+
+pub run_extends : (says : Applications) (later : List Input) (a w : Running) → Runs says a later w → Extends a w
+run_extends says [] a w r = rest_extends says a w r
+run_extends says (input ∷ later) a w (m, rests, stop, go) =
+    extends_on a m w (rest_extends says a m rests)
+    (run_goes_on says input later m w (λ a w r. run_extends says later a w r) stop go m.machine.is_halted refl)
+
+module _ {config : Config} {says : Applications} {script out also : List ℕ} {end ends : End} where
+  one_last : (x : IsRunText config says script out end) (y : IsRunText config says script also ends) → x.last ≡ y.last
+  one_last x y = runs_one says (inputs script).0 (at_start config) x.last y.last x.runs y.runs
+
+  pub one_end : IsRunText config says script out end → IsRunText config says script also ends → end ≡ ends
+  one_end x y = x.ends ∙ (ap (λ last. end_of last.entries (inputs script).1) (one_last x y) ∙ sym y.ends)
+
+  pub one_text : IsRunText config says script out end → IsRunText config says script also ends → out ≡ also
+  one_text x y = x.is_text ∙ (ap (λ last. text last.entries end) (one_last x y) ∙ (ap (text y.last.entries) (one_end x y) ∙ sym y.is_text))
