@@ -1,16 +1,15 @@
 -- That the measure of what is on the agenda falls with each item that is worked off.
-use Rattle.std.proofs.Common.{◌≡◌, ℕ, zero, suc, ◌+◌, ◌*◌, ◌-◌, ◌≤◌, ◌<◌, Bool, true, false, not, List, [], ◌∷◌, ◌++◌, length, refl, ◌∙◌, sym, ap, arith}
+use Rattle.std.proofs.Common.{◌≡◌, ℕ, zero, suc, ◌+◌, ◌*◌, ◌≤◌, Bool, true, false, not, List, [], ◌∷◌, ◌++◌, length, refl, arith}
 use Rattle.std.proofs.Math.Nat.{mul-zero, mul-suc, mul-le-mul_left}
 use Rattle.std.proofs.lemmas.List.{length-map}
-use Rattle.std.proofs.lemmas.List.Sums.{length-filter}
-use Rattle.std.specs.Prelude.{if◌then◌else◌, Option, Some, None, map, flat_map, filter, is_some}
+use Rattle.std.specs.Prelude.{if◌then◌else◌, Option, Some, None, map, flat_map, filter}
 use Rattle.mote_types.specs.declared.event.Event.{Event}
 use Rattle.mote_types.specs.declared.event.Stimulus.{Stimulus}
 use Rattle.mote_types.specs.declared.event.Origin.{Origin}
 use Rattle.process_core.specs.Agenda.{Queued, Item, Job}
 use Rattle.process_core.specs.declared.process.Process.{Process}
 use Rattle.process_core.specs.Processes.{numbers, is_process, is_kernel_process}
-use Rattle.kernel_core.specs.Cost.{starts, present, cost, costs, round_cost, IsPaid}
+use Rattle.kernel_core.specs.Cost.{starts, present, cost, costs, IsPaid}
 use Rattle.process_core.specs.Scheduler.{Scheduler, worked, job, in_front, carried_out, delivery, first_event, of_event, job_of_event, job_of_give, job_of_item, job_at, worked_at, wants_round, settled, ComesTo}
 
 starts-append : (xs ys : List Item) → starts (xs ++ ys) ≡ starts xs + starts ys

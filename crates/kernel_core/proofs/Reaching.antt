@@ -1,5 +1,5 @@
 -- Jobs of the scheduler, as steps of the kernel's machine.
-use Rattle.std.proofs.Common.{◌≡◌, ℕ, zero, suc, Bool, false, ◌∙◌, refl, ap, sym, None, Some}
+use Rattle.std.proofs.Common.{◌≡◌, ℕ, false, ◌∙◌, refl, None, Some}
 use Rattle.mote_types.specs.declared.entry.Entry.{Entry}
 use Rattle.mote_types.specs.declared.entry.Input.{Input}
 use Rattle.process_core.specs.Agenda.{Job, job_carrying}
@@ -7,7 +7,7 @@ use Rattle.process_core.specs.Held.{Held}
 use Rattle.process_core.specs.Scheduler.{ComesTo, carrying}
 use Rattle.kernel_core.specs.declared.core_state.Core.{Core}
 use Rattle.kernel_core.specs.Machine.{Machine}
-use Rattle.kernel_core.specs.Run.{Answers, MakesEntry, GoesSilently, silent, one_step, job_done}
+use Rattle.kernel_core.specs.Run.{Answers, MakesEntry, GoesSilently, silent, job_done}
 use Rattle.kernel_core.specs.View.{machine_of, is_struck, ComesToJob}
 use Rattle.kernel_core.proofs.Silent.{job_reached, silently_on}
 

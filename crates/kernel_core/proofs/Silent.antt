@@ -1,11 +1,11 @@
 -- The scheduler's items that are no jobs, as steps of the machine that make no entry.
-use Rattle.std.proofs.Common.{◌≡◌, ℕ, zero, suc, Bool, false, List, [], ◌∷◌, ◌∙◌, refl, ap, sym}
+use Rattle.std.proofs.Common.{◌≡◌, ℕ, zero, suc, Bool, false, refl}
 use Rattle.std.specs.Prelude.{Option, Some, None}
 use Rattle.std.specs.Option.{option_map}
 use Rattle.process_core.specs.Agenda.{Job, job_carrying}
 use Rattle.process_core.specs.Scheduler.{Scheduler, job, worked, settled, carrying, ComesTo}
 use Rattle.kernel_core.specs.Machine.{Machine}
-use Rattle.kernel_core.specs.Run.{Answers, Silently, StepMade, silent, one_step, job_done}
+use Rattle.kernel_core.specs.Run.{Answers, Silently, silent, one_step, job_done}
 use Rattle.kernel_core.proofs.Carrying.{worked-carrying, job-carrying}
 
 -- one run of silent steps after another
@@ -30,6 +30,7 @@ module _ (f : ℕ → ℕ → ℕ → Bool) (answers : Answers) where
     where
       m' : Machine
       m' = record m { scheduler = carrying f (worked s) }
+
       by_job : (asked : Option (Job ℕ)) → job s ≡ asked →
           ((k : ℕ) × Silently answers k m' (record m' { scheduler = carrying f (settled n (worked s)) })) →
           (k : ℕ) × Silently answers k m (record m { scheduler = carrying f (settled (suc n) s) })

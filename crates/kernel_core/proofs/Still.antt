@@ -1,5 +1,5 @@
 -- Where nothing more happens, a machine stays as it is.
-use Rattle.std.proofs.Common.{◌≡◌, ℕ, zero, suc, ◌+◌, Bool, true, false, cond, List, [], ◌∷◌, refl, sym, ap, ◌∙◌, arith, append-nil}
+use Rattle.std.proofs.Common.{◌≡◌, ℕ, zero, suc, Bool, true, false, cond, List, [], ◌∷◌, refl, ap, arith, append-nil}
 use Rattle.std.specs.Prelude.{Some, None, not, ◌||◌, ◌&&◌}
 use Rattle.mote_types.specs.Applications.{Applications}
 use Rattle.process_core.specs.Agenda.{Job, Item}

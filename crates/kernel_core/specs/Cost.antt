@@ -1,5 +1,5 @@
 -- A measure of what is on the agenda: it falls with each item that is worked off. It bounds the work of one step.
-use Rattle.std.specs.Prelude.{ℕ, ◌+◌, ◌*◌, ◌≤◌, suc, List, [], ◌∷◌, length, Option, Some, None}
+use Rattle.std.specs.Prelude.{ℕ, ◌+◌, ◌*◌, ◌≤◌, suc, List, [], ◌∷◌, length, Option, Some}
 use Rattle.process_core.specs.Agenda.{Item, Job}
 use Rattle.process_core.specs.Scheduler.{Scheduler}
 

@@ -1,4 +1,4 @@
-use Rattle.std.proofs.Common.{rules, ◌∙◌, refl, arith, ap, sym}
+use Rattle.std.proofs.Common.{rules, ◌∙◌, refl, ap, sym}
 use Rattle.kernel_core.specs.Run.{silent}
 use Rattle.kernel_core.proofs.Reaching.{then_job, job_makes, job_silently, input_is_shown}
 use Rattle.kernel_core.proofs.core_state.Core.step.Goals as goal

@@ -1,4 +1,4 @@
-use Rattle.std.proofs.Common.{◌≡◌, ◌≤◌, ◌*◌, ◌-◌, ◌+◌, ℕ, false, None}
+use Rattle.std.proofs.Common.{◌≡◌, ◌≤◌, ◌*◌, ◌-◌, ◌+◌, false, None}
 use Rattle.kernel_core.specs.View.{machine_of, entries_left_in, IsInOrder}
 use Rattle.kernel_core.specs.Run.{Answers, GoesSilently, work_limit}
 use Rattle.kernel_core.specs.Cost.{present, costs, round_cost}
