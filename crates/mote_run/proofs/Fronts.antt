@@ -1,5 +1,5 @@
 -- Where a device failed: what was written is a front part of the text.
-use Rattle.std.proofs.Common.{◌≡◌, ◌-◌, ℕ, Bool, true, false, List, [], ◌∷◌, ◌++◌, length, take, drop, refl, ap, sym, ◌∙◌, append_assoc}
+use Rattle.std.proofs.Common.{◌≡◌, ◌-◌, ℕ, Bool, true, false, List, [], ◌∷◌, ◌++◌, length, take, drop, refl, ap, sym, ◌∙◌, append_assoc, ◌≤◌, ◌<◌, ◌+◌, arith, length-append}
 use Rattle.std.proofs.lemmas.List.{append-nil, take-append-drop}
 use Rattle.std.proofs.lemmas.Grind.{flat_map-append}
 use Rattle.mote_types.specs.Applications.{Applications}
@@ -10,13 +10,14 @@ use Rattle.mote_text.specs.EntryText.{entry_line}
 use Rattle.mote_text.specs.Script.{inputs, script_limit}
 use Rattle.mote_text.specs.Transcript.{final_line}
 use Rattle.mote_text.proofs.Bytewise.{read_on}
+use Rattle.mote_text.proofs.Reading.{script_limit_is}
 use Rattle.kernel_core.specs.declared.config.Config.{Config}
 use Rattle.kernel_core.specs.Machine.{Machine, booted}
 use Rattle.kernel_core.specs.Run.{Running, Runs, at_start, fed, with_input}
 use Rattle.mote_run.specs.RunText.{HasRunInPart}
 use Rattle.mote_run.specs.Settling.{CutOff, lines}
 use Rattle.mote_run.proofs.Determined.{Extends, run_extends, run_from, still_rest}
-use Rattle.mote_run.proofs.InRun.{InRun}
+use Rattle.mote_run.proofs.InRun.{InRun, taken_so_far}
 
 -- what follows the lines of these entries, where others come behind them
 lines_front : (entries : List Entry) (old last : Running) (whole tail : List ℕ) → old.entries ≡ entries → Extends old last →
@@ -44,6 +45,7 @@ pub start_cut_off : (config : Config) (says : Applications) (old : Machine) (tak
     old ≡ booted config → CutOff says [] old given_old given_new → HasRunInPart config says taken taken is_ended given_old given_new
 start_cut_off config says old taken given_old given_new is_ended boots cut = record {
   bytes = [];
+  few = omega (arith, script_limit_is);
   out = take cut.size (lines cut.entries);
   taken = sym (append-nil taken);
   given = cut.written;
@@ -63,6 +65,7 @@ module _ {config : Config} {says now : Applications} {machine : Machine} {taken_
       HasRunInPart config says taken_old taken_later is_ended given_old given_new
   read_failed is_ended taken_later taken = record {
     bytes = i.bytes;
+    few = taken_so_far i;
     out = lines i.entries;
     taken = taken ∙ i.taken;
     given = i.given;
@@ -74,11 +77,12 @@ module _ {config : Config} {says now : Applications} {machine : Machine} {taken_
 
   -- a write of the last line failed
   pub close_failed : (end : End) (is_ended : Bool) (bytes taken_later given_later : List ℕ) (size : ℕ) → machine.is_halted ≡ false →
-      taken_later ≡ taken_old ++ bytes → given_later ≡ given_new ++ take size (final_line end) →
+      length bytes ≤ script_limit + 1 → taken_later ≡ taken_old ++ bytes → given_later ≡ given_new ++ take size (final_line end) →
       ((more : List ℕ) → (is_ended ≡ true → more ≡ []) → inputs (bytes ++ more) ≡ (i.earlier, end)) →
       HasRunInPart config says taken_old taken_later is_ended given_old given_later
-  close_failed end is_ended bytes taken_later given_later size running taken given gives = record {
+  close_failed end is_ended bytes taken_later given_later size running few taken given gives = record {
     bytes = bytes;
+    few = few;
     out = lines i.entries ++ take size (final_line end);
     taken = taken;
     given = rw (given, i.given) (append_assoc given_old (lines i.entries) (take size (final_line end)));
@@ -95,12 +99,13 @@ module _ {config : Config} {says now : Applications} {machine : Machine} {taken_
 
   -- a write failed before the mote came to rest after this input
   pub input_cut_off : (input : Input) (is_ended : Bool) (bytes taken_later given_later : List ℕ) (handed : Machine) → machine.is_halted ≡ false →
-      handed ≡ fed input machine → taken_later ≡ taken_old ++ bytes →
+      handed ≡ fed input machine → length bytes ≤ script_limit + 1 → taken_later ≡ taken_old ++ bytes →
       ((more : List ℕ) → (is_ended ≡ true → more ≡ []) → (later : List Input) × ((inputs (bytes ++ more)).0 ≡ i.earlier ++ (input ∷ later))) →
       CutOff says i.entries handed given_new given_later →
       HasRunInPart config says taken_old taken_later is_ended given_old given_later
-  input_cut_off input is_ended bytes taken_later given_later handed running hands taken gives cut = record {
+  input_cut_off input is_ended bytes taken_later given_later handed running hands few taken gives cut = record {
     bytes = bytes;
+    few = few;
     out = lines i.entries ++ take cut.size (lines cut.entries);
     taken = taken;
     given = rw (cut.written, i.given) (append_assoc given_old (lines i.entries) (take cut.size (lines cut.entries)));

@@ -1,5 +1,5 @@
 -- What holds between two bytes of a run's script.
-use Rattle.std.proofs.Common.{◌≡◌, ◌+◌, ◌-◌, ℕ, Bool, true, false, List, [], ◌∷◌, ◌++◌, length, refl, ap, sym, ◌∙◌, append_assoc, length-append}
+use Rattle.std.proofs.Common.{◌≡◌, ◌+◌, ◌-◌, ℕ, Bool, true, false, List, [], ◌∷◌, ◌++◌, length, refl, ap, sym, ◌∙◌, append_assoc, length-append, ◌≤◌, ◌<◌, arith}
 use Rattle.std.specs.Prelude.{if◌then◌else◌}
 use Rattle.std.specs.List.{list_any}
 use Rattle.std.proofs.lemmas.List.{append-nil}
@@ -13,7 +13,7 @@ use Rattle.mote_text.specs.EntryText.{entry_line}
 use Rattle.mote_text.specs.Script.{inputs, script_limit}
 use Rattle.mote_text.specs.Transcript.{final_line}
 use Rattle.mote_text.proofs.Bytewise.{read_on}
-use Rattle.mote_text.proofs.Reading.{Before, start}
+use Rattle.mote_text.proofs.Reading.{Before, start, script_limit_is}
 use Rattle.kernel_core.specs.declared.config.Config.{Config}
 use Rattle.kernel_core.specs.Machine.{Machine, booted}
 use Rattle.kernel_core.specs.Run.{Running, Runs, ComesToRest, after_steps, at_start, fed, is_still, with_input}
@@ -31,6 +31,7 @@ pub record InRun (config : Config) (says now : Applications) (machine : Machine)
   pub taken : taken_new ≡ taken_old ++ bytes
   pub given : given_new ≡ given_old ++ lines entries
   pub size : length bytes ≡ count
+  pub few : length bytes ≤ script_limit
   pub before : Before bytes earlier number line
   pub still : is_still machine ≡ true
   pub halts : list_any is_halt entries ≡ machine.is_halted
@@ -76,6 +77,7 @@ in_run_start config says now old machine taken given_old given_new boots settled
   taken = sym (append-nil taken);
   given = settled.written;
   size = refl;
+  few = omega (arith, script_limit_is);
   before = start;
   still = still;
   halts = settled.halts (rw boots refl);
@@ -90,14 +92,24 @@ module _ {config : Config} {says now : Applications} {machine : Machine} {taken_
   abbrev here : Running
   here = record { machine = machine; entries = i.entries }
 
+  one_more : (byte : ℕ) → length i.bytes < script_limit → length (i.bytes ++ byte ∷ []) ≤ script_limit
+  one_more byte room = rw (length-append i.bytes (byte ∷ [])) (omega (arith, room))
+
+  -- the byte behind the last that was taken
+  pub one_behind : (byte : ℕ) → length (i.bytes ++ byte ∷ []) ≤ script_limit + 1
+  one_behind byte = rw (length-append i.bytes (byte ∷ [])) (omega (arith, i.few))
+
+  pub taken_so_far : length i.bytes ≤ script_limit + 1
+  taken_so_far = omega (arith, i.few)
+
   pub taken_on : (byte : ℕ) (taken_later : List ℕ) → taken_later ≡ taken_new ++ byte ∷ [] → taken_later ≡ taken_old ++ (i.bytes ++ byte ∷ [])
   taken_on byte taken_later taken = rw (taken, i.taken) (append_assoc taken_old i.bytes (byte ∷ []))
 
   -- a byte that ends no line with an input
-  pub in_run_byte : (byte number' : ℕ) (line' taken_later : List ℕ) → taken_later ≡ taken_new ++ byte ∷ [] →
+  pub in_run_byte : (byte number' : ℕ) (line' taken_later : List ℕ) → length i.bytes < script_limit → taken_later ≡ taken_new ++ byte ∷ [] →
       (Before i.bytes i.earlier number line → Before (i.bytes ++ byte ∷ []) i.earlier number' line') →
       InRun config says now machine taken_old taken_later given_old given_new (count + 1) number' line'
-  in_run_byte byte number' line' taken_later taken reads = record {
+  in_run_byte byte number' line' taken_later room taken reads = record {
     entries = i.entries;
     bytes = i.bytes ++ byte ∷ [];
     earlier = i.earlier;
@@ -105,6 +117,7 @@ module _ {config : Config} {says now : Applications} {machine : Machine} {taken_
     taken = rw (taken, i.taken) (append_assoc taken_old i.bytes (byte ∷ []));
     given = i.given;
     size = rw (length-append i.bytes (byte ∷ []), i.size) refl;
+    few = one_more byte room;
     before = reads i.before;
     still = i.still;
     halts = i.halts;
@@ -136,11 +149,11 @@ module _ {config : Config} {says now : Applications} {machine : Machine} {taken_
 
   -- a byte that ends a line with an input, which was carried out
   pub in_run_input : (byte number' : ℕ) (line' taken_later given_later : List ℕ) (input : Input) (handed new : Machine) (now' : Applications) →
-      taken_later ≡ taken_new ++ byte ∷ [] → machine.is_halted ≡ false → handed ≡ fed input machine →
+      length i.bytes < script_limit → taken_later ≡ taken_new ++ byte ∷ [] → machine.is_halted ≡ false → handed ≡ fed input machine →
       (Before i.bytes i.earlier number line → Before (i.bytes ++ byte ∷ []) (i.earlier ++ input ∷ []) number' line') →
       Settled says i.entries handed new now' given_new given_later → is_still new ≡ true →
       InRun config says now' new taken_old taken_later given_old given_later (count + 1) number' line'
-  in_run_input byte number' line' taken_later given_later input handed new now' taken running hands reads settles still =
+  in_run_input byte number' line' taken_later given_later input handed new now' room taken running hands reads settles still =
       let settled : Settled says i.entries (fed input machine) new now' given_new given_later = rw hands at settles in record {
         entries = i.entries ++ settled.entries;
         bytes = i.bytes ++ byte ∷ [];
@@ -149,6 +162,7 @@ module _ {config : Config} {says now : Applications} {machine : Machine} {taken_
         taken = rw (taken, i.taken) (append_assoc taken_old i.bytes (byte ∷ []));
         given = rw (settled.written, i.given, flat_map-append entry_line i.entries settled.entries) (append_assoc given_old (lines i.entries) (lines settled.entries));
         size = rw (length-append i.bytes (byte ∷ []), i.size) refl;
+        few = one_more byte room;
         before = reads i.before;
         still = still;
         halts = settled.halts (i.halts ∙ fed_halts machine input);
@@ -166,6 +180,7 @@ module _ {config : Config} {says now : Applications} {machine : Machine} {taken_
     out = lines i.entries;
     taken = i.taken;
     given = i.given;
+    few = taken_so_far;
     is_text = λ more whole.
         let later = read_on number line (script_limit - length i.bytes) more in
         record {
@@ -178,11 +193,12 @@ module _ {config : Config} {says now : Applications} {machine : Machine} {taken_
 
   -- the script ended, or a line had no form, or the script was too long: nothing more is handed in
   pub in_run_stops : (end : End) (is_ended : Bool) (bytes taken_later given_later : List ℕ) → machine.is_halted ≡ false →
-      taken_later ≡ taken_old ++ bytes → given_later ≡ given_new ++ final_line end →
+      length bytes ≤ script_limit + 1 → taken_later ≡ taken_old ++ bytes → given_later ≡ given_new ++ final_line end →
       ((more : List ℕ) → (is_ended ≡ true → more ≡ []) → inputs (bytes ++ more) ≡ (i.earlier, end)) →
       HasRun config says taken_old taken_later is_ended given_old given_later end
-  in_run_stops end is_ended bytes taken_later given_later running taken given gives = record {
+  in_run_stops end is_ended bytes taken_later given_later running few taken given gives = record {
     bytes = bytes;
+    few = few;
     out = lines i.entries ++ final_line end;
     taken = taken;
     given = rw (given, i.given) (append_assoc given_old (lines i.entries) (final_line end));
@@ -204,6 +220,7 @@ module _ {config : Config} {says now : Applications} {machine : Machine} {taken_
   in_run_ends_with_input input is_ended taken_later given_later handed new now' running taken ended hands gives settles still =
       let settled : Settled says i.entries (fed input machine) new now' given_new given_later = rw hands at settles in record {
         bytes = i.bytes;
+        few = taken_so_far;
         out = lines (i.entries ++ settled.entries);
         taken = taken ∙ i.taken;
         given = rw (settled.written, i.given, flat_map-append entry_line i.entries settled.entries) (append_assoc given_old (lines i.entries) (lines settled.entries));

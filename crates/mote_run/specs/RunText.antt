@@ -1,8 +1,8 @@
 -- What a run writes.
-use Rattle.std.specs.Prelude.{◌≡◌, ℕ, Bool, true, List, [], ◌++◌, if◌then◌else◌}
+use Rattle.std.specs.Prelude.{◌≡◌, ◌≤◌, ◌+◌, ℕ, Bool, true, length, List, [], ◌++◌, if◌then◌else◌}
 use Rattle.mote_types.specs.Applications.{Applications}
 use Rattle.mote_text.specs.declared.script.End.{End}
-use Rattle.mote_text.specs.Script.{inputs}
+use Rattle.mote_text.specs.Script.{inputs, script_limit}
 use Rattle.mote_text.specs.Transcript.{end_of, text}
 use Rattle.kernel_core.specs.declared.config.Config.{Config}
 use Rattle.kernel_core.specs.Machine.{Machine, booted, is_bootable}
@@ -22,6 +22,8 @@ pub record HasRun (config : Config) (says : Applications) (taken_old taken_new :
   pub out : List ℕ
   pub taken : taken_new ≡ taken_old ++ bytes
   pub given : given_new ≡ given_old ++ out
+  -- no more is read than tells that the script is too long
+  pub few : length bytes ≤ script_limit + 1
   pub is_text : (more : List ℕ) → (is_ended ≡ true → more ≡ []) → IsRunText config says (bytes ++ more) out end
 
 -- A device failed: what was written is a front part of the text of every script that begins with the bytes read; of their own
@@ -31,6 +33,7 @@ pub record HasRunInPart (config : Config) (says : Applications) (taken_old taken
   pub out : List ℕ
   pub taken : taken_new ≡ taken_old ++ bytes
   pub given : given_new ≡ given_old ++ out
+  pub few : length bytes ≤ script_limit + 1
   pub is_front : (more : List ℕ) → (is_ended ≡ true → more ≡ []) → (whole : List ℕ) (end : End) →
       IsRunText config says (bytes ++ more) whole end → (rest : List ℕ) × (whole ≡ out ++ rest)
 

@@ -8,7 +8,7 @@ use Rattle.kernel_core.specs.Run.{fed}
 use Rattle.mote_run.proofs.Pieces.{on_err}
 use Rattle.mote_run.proofs.Fronts.{start_cut_off, read_failed, close_failed, input_cut_off}
 use Rattle.mote_run.proofs.NextByte.{no_input, an_input, no_form}
-use Rattle.mote_run.proofs.InRun.{in_run_start, in_run_byte, in_run_input, in_run_halted, in_run_stops, in_run_ends_with_input, taken_on}
+use Rattle.mote_run.proofs.InRun.{in_run_start, in_run_byte, in_run_input, in_run_halted, in_run_stops, in_run_ends_with_input, one_behind, taken_on, taken_so_far}
 use Rattle.mote_run.proofs.run.run.Goals as goal
 
 pub byte-init : goal.byte-init
@@ -38,7 +38,7 @@ returns-in-Ok-None-clause-text g c = λ s k config boots.
     let running : c.byte.kernel.machine.is_halted ≡ false = sym c.halted.ensures ∙ c.if-halted.false in
     let none : c.in_ok-byte.field-0 ≡ None = search rules in
     let t = rw none at c.in_ok-byte.ensures.taken in
-    in_run_stops i End.Finished _ i.bytes _ _ running (t.0 s ∙ i.taken) (sym (append-nil _))
+    in_run_stops i End.Finished _ i.bytes _ _ running (taken_so_far i) (t.0 s ∙ i.taken) (sym (append-nil _))
     (λ more whole. rw (whole t.1, append-nil) (ends_with_nothing i.before (c.in-Ok-None.ensures.says ∙ ap Some c.in-Ok-None.field-0-is)))
 
 pub returns-in-Ok-Some-clause-text : goal.returns-in-Ok-Some-clause-text
@@ -59,7 +59,7 @@ returns-in-Err-clause-text g c = λ s k config boots.
     let running : c.byte.kernel.machine.is_halted ≡ false = sym c.halted.ensures ∙ c.if-halted.false in
     let none : c.in_ok-byte.field-0 ≡ None = search rules in
     let t = rw none at c.in_ok-byte.ensures.taken in
-    in_run_stops i (End.BadLine c.byte.line.number) _ i.bytes _ _ running (t.0 s ∙ i.taken) (c.in_ok-close-in-Err.ensures.given k)
+    in_run_stops i (End.BadLine c.byte.line.number) _ i.bytes _ _ running (taken_so_far i) (t.0 s ∙ i.taken) (c.in_ok-close-in-Err.ensures.given k)
     (λ more whole. rw (whole t.1, append-nil) (ends_with_no_form i.before c.in-Err.ensures.no_form))
 
 pub returns-then-taken-eq-SCRIPT_LIMIT-clause-text : goal.returns-then-taken-eq-SCRIPT_LIMIT-clause-text
@@ -68,7 +68,7 @@ returns-then-taken-eq-SCRIPT_LIMIT-clause-text g c = λ s k config boots.
     let running : c.byte.kernel.machine.is_halted ≡ false = sym c.halted.ensures ∙ c.if-halted.false in
     let t = rw c.in-Some.is at c.in_ok-byte.ensures.taken in
     let full : script_limit ≤ length i.bytes = omega (arith, script_limit_is, i.size, c.if-taken-eq-SCRIPT_LIMIT.true) in
-    in_run_stops i End.TooLong _ (i.bytes ++ c.in-Some.byte ∷ []) _ _ running (taken_on i c.in-Some.byte _ (t.0 s)) (c.in_ok-close.ensures.given k)
+    in_run_stops i End.TooLong _ (i.bytes ++ c.in-Some.byte ∷ []) _ _ running (one_behind i c.in-Some.byte) (taken_on i c.in-Some.byte _ (t.0 s)) (c.in_ok-close.ensures.given k)
     (λ more whole. script_too_long c.in-Some.byte i.before full more)
 
 pub byte-preserved-in-Ok-None-take : goal.byte-preserved-in-Ok-None-take
@@ -78,7 +78,7 @@ byte-preserved-in-Ok-None-take g c =
       in_run = λ s k config boots.
           let i = c.byte.invariant.in_run s k config boots in
           let room : length i.bytes < script_limit = omega (arith, script_limit_is, i.size, c.byte.invariant.taken, c.if-taken-eq-SCRIPT_LIMIT.false) in
-          in_run_byte i c.in-Some.byte _ _ _ (t.0 s)
+          in_run_byte i c.in-Some.byte _ _ _ room (t.0 s)
           (λ before. no_input c.in-Some.byte _ _ before room
           (rw c.in-Ok-None-take.field-0-is at c.in-Ok-None-take.ensures.put) (rw c.in-Ok-None-take.field-0-is at c.in-Ok-None-take.ensures.ended));
       boxes = search rules;
@@ -101,7 +101,7 @@ byte-preserved g c =
           let running : c.byte.kernel.machine.is_halted ≡ false = sym c.halted.ensures ∙ c.if-halted.false in
           let room : length i.bytes < script_limit = omega (arith, script_limit_is, i.size, c.byte.invariant.taken, c.if-taken-eq-SCRIPT_LIMIT.false) in
           in_run_input i c.in-Some.byte _ _ _ _ c.in-Ok-Some-take.input c.feed-in-Ok-Some-take.new.self.machine c.settle-in-Ok-Some-take.new.kernel.machine _
-          (t.0 s) running (c.feed-in-Ok-Some-take.ensures.machine ∙ ap (λ input. fed input c.byte.kernel.machine) c.in-Ok-Some-take.input-is)
+          room (t.0 s) running (c.feed-in-Ok-Some-take.ensures.machine ∙ ap (λ input. fed input c.byte.kernel.machine) c.in-Ok-Some-take.input-is)
           (λ before. an_input c.in-Some.byte _ _ before room c.in-Ok-Some-take.input
           (rw c.in-Ok-Some-take.field-0-is at c.in-Ok-Some-take.ensures.put) (rw c.in-Ok-Some-take.field-0-is at c.in-Ok-Some-take.ensures.ended))
           (c.in_ok-settle-in-Ok-Some-take.ensures.settled k _ i.entries i.told) c.in_ok-settle-in-Ok-Some-take.ensures.still;
@@ -123,7 +123,7 @@ returns-in-Err-take-clause-text g c = λ s k config boots.
     let t = rw c.in-Some.is at c.in_ok-byte.ensures.taken in
     let room : length i.bytes < script_limit = omega (arith, script_limit_is, i.size, c.byte.invariant.taken, c.if-taken-eq-SCRIPT_LIMIT.false) in
     rw c.in-Err-take.ensures.same_number
-    (in_run_stops i (End.BadLine c.byte.line.number) _ (i.bytes ++ c.in-Some.byte ∷ []) _ _ running (taken_on i c.in-Some.byte _ (t.0 s))
+    (in_run_stops i (End.BadLine c.byte.line.number) _ (i.bytes ++ c.in-Some.byte ∷ []) _ _ running (one_behind i c.in-Some.byte) (taken_on i c.in-Some.byte _ (t.0 s))
     (rw c.in-Err-take.ensures.same_number at (c.in_ok-close-in-Err-take.ensures.given k))
     (λ more whole. no_form c.in-Some.byte i.before room c.in-Err-take.ensures.no_form c.in-Err-take.ensures.too_long more))
 
@@ -142,7 +142,7 @@ returns-in_err-settle-in-Ok-Some-clause-front g c = on_err c.from_residual-in_er
     let t = rw none at c.in_ok-byte.ensures.taken in
     let gives = ends_with_input i.before c.in-Ok-Some.input (c.in-Ok-Some.ensures.says ∙ ap Some c.in-Ok-Some.field-0-is) in
     input_cut_off i c.in-Ok-Some.input _ i.bytes _ _ c.feed.new.self.machine running
-    (c.feed.ensures.machine ∙ ap (λ input. fed input c.byte.kernel.machine) c.in-Ok-Some.input-is) (t.0 s ∙ i.taken)
+    (c.feed.ensures.machine ∙ ap (λ input. fed input c.byte.kernel.machine) c.in-Ok-Some.input-is) (taken_so_far i) (t.0 s ∙ i.taken)
     (λ more whole. ([], rw (whole t.1, append-nil, gives) refl))
     (c.in_err-settle-in-Ok-Some.ensures.cut_off k _ i.entries i.told))
 
@@ -153,7 +153,7 @@ returns-in_err-close-in-Err-clause-front g c = on_err c.from_residual-in_err-clo
     let none : c.in_ok-byte.field-0 ≡ None = search rules in
     let t = rw none at c.in_ok-byte.ensures.taken in
     let f = c.in_err-close-in-Err.ensures.front_given k in
-    close_failed i (End.BadLine c.byte.line.number) _ i.bytes _ _ f.0 running (t.0 s ∙ i.taken) f.1
+    close_failed i (End.BadLine c.byte.line.number) _ i.bytes _ _ f.0 running (taken_so_far i) (t.0 s ∙ i.taken) f.1
     (λ more whole. rw (whole t.1, append-nil) (ends_with_no_form i.before c.in-Err.ensures.no_form)))
 
 pub returns-in_err-close-clause-front : goal.returns-in_err-close-clause-front
@@ -163,7 +163,7 @@ returns-in_err-close-clause-front g c = on_err c.from_residual-in_err-close.resu
     let t = rw c.in-Some.is at c.in_ok-byte.ensures.taken in
     let full : script_limit ≤ length i.bytes = omega (arith, script_limit_is, i.size, c.if-taken-eq-SCRIPT_LIMIT.true) in
     let f = c.in_err-close.ensures.front_given k in
-    close_failed i End.TooLong _ (i.bytes ++ c.in-Some.byte ∷ []) _ _ f.0 running (taken_on i c.in-Some.byte _ (t.0 s)) f.1
+    close_failed i End.TooLong _ (i.bytes ++ c.in-Some.byte ∷ []) _ _ f.0 running (one_behind i c.in-Some.byte) (taken_on i c.in-Some.byte _ (t.0 s)) f.1
     (λ more whole. script_too_long c.in-Some.byte i.before full more))
 
 pub returns-in_err-settle-in-Ok-Some-take-clause-front : goal.returns-in_err-settle-in-Ok-Some-take-clause-front
@@ -175,7 +175,7 @@ returns-in_err-settle-in-Ok-Some-take-clause-front g c = on_err c.from_residual-
     let before = an_input c.in-Some.byte _ _ i.before room c.in-Ok-Some-take.input
     (rw c.in-Ok-Some-take.field-0-is at c.in-Ok-Some-take.ensures.put) (rw c.in-Ok-Some-take.field-0-is at c.in-Ok-Some-take.ensures.ended) in
     input_cut_off i c.in-Ok-Some-take.input _ (i.bytes ++ c.in-Some.byte ∷ []) _ _ c.feed-in-Ok-Some-take.new.self.machine running
-    (c.feed-in-Ok-Some-take.ensures.machine ∙ ap (λ input. fed input c.byte.kernel.machine) c.in-Ok-Some-take.input-is) (taken_on i c.in-Some.byte _ (t.0 s))
+    (c.feed-in-Ok-Some-take.ensures.machine ∙ ap (λ input. fed input c.byte.kernel.machine) c.in-Ok-Some-take.input-is) (one_behind i c.in-Some.byte) (taken_on i c.in-Some.byte _ (t.0 s))
     (λ more whole.
     let later = (read_on c.take.new.self.number c.take.new.self.bytes.items (script_limit - length (i.bytes ++ c.in-Some.byte ∷ [])) more).0 in
     (later, rw (before.onward more) (append_assoc i.earlier (c.in-Ok-Some-take.input ∷ []) later)))
@@ -188,5 +188,5 @@ returns-in_err-close-in-Err-take-clause-front g c = on_err c.from_residual-in_er
     let t = rw c.in-Some.is at c.in_ok-byte.ensures.taken in
     let room : length i.bytes < script_limit = omega (arith, script_limit_is, i.size, c.byte.invariant.taken, c.if-taken-eq-SCRIPT_LIMIT.false) in
     let f = rw c.in-Err-take.ensures.same_number at (c.in_err-close-in-Err-take.ensures.front_given k) in
-    close_failed i (End.BadLine c.byte.line.number) _ (i.bytes ++ c.in-Some.byte ∷ []) _ _ f.0 running (taken_on i c.in-Some.byte _ (t.0 s)) f.1
+    close_failed i (End.BadLine c.byte.line.number) _ (i.bytes ++ c.in-Some.byte ∷ []) _ _ f.0 running (one_behind i c.in-Some.byte) (taken_on i c.in-Some.byte _ (t.0 s)) f.1
     (λ more whole. no_form c.in-Some.byte i.before room c.in-Err-take.ensures.no_form c.in-Err-take.ensures.too_long more))

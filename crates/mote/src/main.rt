@@ -1,0 +1,86 @@
+//! Runs applications on a mote: a script comes from standard input, its transcript goes to standard output.
+#![tactic(auto)]
+
+mod application;
+mod devices;
+mod failure;
+mod prepare;
+#[cfg(test)]
+mod tests;
+
+use application::Application;
+use devices::{Input, Output};
+use failure::{Failure, status_of};
+use mote_apps::hello::Hello;
+use mote_run::End;
+use mote_run::run::run;
+use mote_types::app::App;
+use prepare::prepare;
+use std::io::BufReader;
+use std::process::ExitCode;
+use std::{env, io};
+
+/// Boots a mote for the applications that the words name, and runs it from standard input to standard output.
+fn run_words<'a, R: AllocGlobal + io::Input + Print>(
+    rt: &R,
+    words: &'a [&'a str],
+) -> Result<End, Failure<'a>> {
+    let prepared = prepare(rt.alloc(), words)?;
+    let mut boxes: Vec<Box<dyn App>> = Vec::new(rt.alloc());
+    for application in prepared.applications.as_slice() {
+        match application {
+            Application::Hello => boxes.push(Box::new(rt.alloc(), Hello)?)?,
+        }
+    }
+    let reader = BufReader::new(rt.alloc(), rt.reader()).map_err(|_| Failure::OutOfMemory)?;
+    let mut source = Input::new(reader);
+    let mut sink = Output::new(io::writer(rt));
+    let end = run(
+        &mut source,
+        &mut sink,
+        prepared.kernel,
+        boxes.as_mut_slice(),
+    )?;
+    Ok(end)
+}
+
+/// The words of the command line, the program's name first.
+fn words_of<R: AllocGlobal + env::Env>(rt: &R) -> Result<Vec<String>, Failure<'static>> {
+    let arguments = env::args(rt).map_err(|error| match error.kind() {
+        io::ErrorKind::OutOfMemory => Failure::OutOfMemory,
+        _ => Failure::NotText,
+    })?;
+    let mut words = Vec::new(rt.alloc());
+    for word in arguments {
+        words.push(word)?;
+    }
+    Ok(words)
+}
+
+/// What the program does, and the status that it exits with.
+fn work<R: AllocGlobal + env::Env + io::Input + Print + Eprint>(
+    rt: &R,
+) -> Result<u8, Failure<'static>> {
+    let arguments = words_of(rt)?;
+    let mut words = Vec::new(rt.alloc());
+    for word in &arguments {
+        words.push(word.as_str())?;
+    }
+    match run_words(rt, words.as_slice()) {
+        Ok(end) => Ok(status_of(end)),
+        Err(failure) => Ok(tell(rt, failure)),
+    }
+}
+
+/// Tells a failure on standard error, and answers its status. Where standard error fails too, nothing is told.
+fn tell<R: Eprint>(rt: &R, failure: Failure<'_>) -> u8 {
+    let _ = eprintln!(rt; "{failure}");
+    failure.status()
+}
+
+fn main(rt: HostRuntime) -> ExitCode {
+    match work(&rt) {
+        Ok(status) => ExitCode::from(status),
+        Err(failure) => ExitCode::from(tell(&rt, failure)),
+    }
+}

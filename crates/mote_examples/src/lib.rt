@@ -1,0 +1,25 @@
+//! Worked examples of whole runs, as tests over memory. The crate has no code of its own.
+#![tactic(auto)]
+
+#[cfg(test)]
+mod broadcasts;
+#[cfg(test)]
+mod calls;
+#[cfg(test)]
+mod clock_watcher;
+#[cfg(test)]
+mod device_faults;
+#[cfg(test)]
+mod devices;
+#[cfg(test)]
+mod events;
+#[cfg(test)]
+mod harness;
+#[cfg(test)]
+mod nested_activations;
+#[cfg(test)]
+mod polls;
+#[cfg(test)]
+mod processes;
+#[cfg(test)]
+mod scripts;

@@ -1,0 +1,95 @@
+//! Scripts: which lines have a form, and how a run ends.
+
+use crate::harness::{check, check_end};
+use mote_apps::hello::Hello;
+use mote_run::End;
+use mote_types::app::App;
+use std::process::Abort;
+use std::test::Fail;
+
+/// Runs a script on a mote with no application.
+fn check_script<R: Abort + AllocGlobal>(
+    rt: &R,
+    script: &str,
+    end: End,
+    transcript: &str,
+) -> Result<(), Fail> {
+    let mut apps: Vec<Box<dyn App>> = Vec::new(rt.alloc());
+    check_end(rt, apps.as_mut_slice(), script, end, transcript)
+}
+
+#[test]
+fn an_empty_script_on_an_empty_mote_writes_nothing(rt: HostRuntime) -> Result<(), Fail> {
+    check_script(&rt, "", End::Finished, "")
+}
+
+#[test]
+fn hello_greets_at_boot(rt: HostRuntime) -> Result<(), Fail> {
+    let mut apps: Vec<Box<dyn App>> = Vec::new(rt.alloc());
+    apps.push(Box::new(rt.alloc(), Hello)?)?;
+    let transcript = "\
+4 synch 129 - -> print 68690a
+4 answer done -> wait
+";
+    check(&rt, apps.as_mut_slice(), "", transcript)
+}
+
+#[test]
+fn ticks_of_up_to_32_bits_have_a_form(rt: HostRuntime) -> Result<(), Fail> {
+    check_script(&rt, "tick 4294967295", End::Finished, "> tick 4294967295\n")?;
+    check_script(
+        &rt,
+        "tick 0\ntick 7\n",
+        End::Finished,
+        "> tick 0\n> tick 7\n",
+    )
+}
+
+#[test]
+fn a_line_of_no_form_ends_the_run(rt: HostRuntime) -> Result<(), Fail> {
+    for line in [
+        "tick 01",
+        "ticks 1",
+        "tick 4294967296",
+        "tick",
+        "tick ",
+        "tick  1",
+        "tick 1 ",
+        "tick 1\r",
+        " ",
+        "Tick 1",
+    ] {
+        check_script(&rt, line, End::BadLine(1), "bad line 1\n")?;
+    }
+    check_script(
+        &rt,
+        "tick 1\n\n# x\nframe 0",
+        End::BadLine(4),
+        "> tick 1\nbad line 4\n",
+    )?;
+    check_script(
+        &rt,
+        "tick 1\ntock\ntick 2\n",
+        End::BadLine(2),
+        "> tick 1\nbad line 2\n",
+    )
+}
+
+/// A line of so many hash signs, which would be a comment.
+fn comment<R: AllocGlobal>(rt: &R, length: u32) -> Result<String, Fail> {
+    let mut line = String::new(rt.alloc());
+    for _ in 0..length {
+        line.push('#')?;
+    }
+    Ok(line)
+}
+
+#[test]
+fn a_line_has_at_most_1024_bytes(rt: HostRuntime) -> Result<(), Fail> {
+    let longest = comment(&rt, 1_024)?;
+    check_script(&rt, longest.as_str(), End::Finished, "")?;
+    let mut line = comment(&rt, 1_025)?;
+    check_script(&rt, line.as_str(), End::BadLine(1), "bad line 1\n")?;
+    line.push('\n')?;
+    check_script(&rt, line.as_str(), End::BadLine(1), "bad line 1\n")
+}
