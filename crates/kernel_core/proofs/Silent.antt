@@ -30,6 +30,7 @@ module _ (f : ℕ → ℕ → ℕ → Bool) (answers : Answers) where
     where
       m' : Machine
       m' = record m { scheduler = carrying f (worked s) }
+
       by_job : (asked : Option (Job ℕ)) → job s ≡ asked →
           ((k : ℕ) × Silently answers k m' (record m' { scheduler = carrying f (settled n (worked s)) })) →
           (k : ℕ) × Silently answers k m (record m { scheduler = carrying f (settled (suc n) s) })
