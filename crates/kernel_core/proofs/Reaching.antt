@@ -13,13 +13,13 @@ use Rattle.kernel_core.proofs.Silent.{job_reached, silently_on}
 
 -- where no entry is to be shown first, the machine's scheduler is the kernel's
 machine_bare : (k : Core) → k.handed_in ≡ None →
-    machine_of k ≡ record { clock = k.clock; work = k.work; is_halted = k.halted; scheduler = carrying is_struck k.scheduler.scheduler }
+    machine_of k ≡ record { clock = k.clock; work = k.work; is_halted = k.halted; scheduler = carrying is_struck k.scheduler.scheduler; memory = k.memory }
 machine_bare k e = rw e refl
 
 pub core_reaches : (answers : Answers) (k : Core) (held : Held) (next : Job ℕ) → k.halted ≡ false → k.handed_in ≡ None →
     ComesTo k.scheduler.scheduler next held.scheduler → ComesToJob answers (machine_of k) next (machine_of (record k { scheduler = held }))
 core_reaches answers k held next running bare comes =
-    let m : Machine = record { clock = k.clock; work = k.work; is_halted = k.halted; scheduler = carrying is_struck k.scheduler.scheduler } in
+    let m : Machine = record { clock = k.clock; work = k.work; is_halted = k.halted; scheduler = carrying is_struck k.scheduler.scheduler; memory = k.memory } in
     let r = job_reached is_struck answers m k.scheduler.scheduler held.scheduler next running refl comes in
     rw (machine_bare k bare, machine_bare (record k { scheduler = held }) bare)
     record { last = r.1; before = record { count = r.0; steps = r.2 }; asked = r.3 }

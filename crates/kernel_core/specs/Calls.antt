@@ -6,6 +6,7 @@ use Rattle.mote_types.specs.declared.refusal.Refusal.{Refusal}
 use Rattle.mote_types.specs.declared.event.Payload.{Payload}
 use Rattle.mote_types.specs.declared.event.Event.{Event}
 use Rattle.mote_types.specs.Codes.{is_reserved}
+use Rattle.node_memory.specs.Ask.{ask}
 use Rattle.process_core.specs.Agenda.{Queued}
 use Rattle.process_core.specs.Processes.{is_alive}
 use Rattle.process_core.specs.Scheduler.{state_in, marked}
@@ -57,3 +58,5 @@ after_call (Call.IsRunning q) p m =
 -- the clock, and output
 after_call Call.Clock p m = answer p (Reply.Wide m.clock) m
 after_call (Call.Print chunk) p m = done p m
+-- memory: every other call
+after_call call p m = let asked = ask call p m.memory in answer p asked.1 (record m { memory = asked.0 })

@@ -1,9 +1,10 @@
--- The state of the mote: its clock, its work and what the scheduler has.
-use Rattle.std.specs.Prelude.{ℕ, ◌%◌, Bool, false, ◌&&◌, [], ◌∷◌, ◌==◌, nat_le}
+-- The state of the mote: its clock, its work, what the scheduler has, and its memory.
+use Rattle.std.specs.Prelude.{ℕ, ◌+◌, ◌%◌, Bool, true, false, ◌&&◌, [], ◌∷◌, ◌==◌, nat_le}
 use Rattle.mote_types.specs.declared.entry.Entry.{Entry}
 use Rattle.mote_types.specs.declared.reply.Reply.{Reply}
 use Rattle.mote_types.specs.declared.refusal.Refusal.{Refusal}
 use Rattle.kernel_core.specs.declared.config.Config.{Config}
+use Rattle.node_memory.specs.Memory.{Memory, fresh_memory}
 use Rattle.process_core.specs.Agenda.{Queued, Item}
 use Rattle.process_core.specs.Scheduler.{Scheduler, at_boot, in_front, posted}
 use Rattle.process_core.specs.Requests.{answered}
@@ -16,6 +17,7 @@ pub record Machine : Type 0 where
   pub work : ℕ
   pub is_halted : Bool
   pub scheduler : Scheduler Bool
+  pub memory : Memory
 
 -- whether a region has a size in that range, a multiple of 4
 abbrev pub is_size : ℕ → ℕ → Bool
@@ -26,7 +28,14 @@ abbrev pub is_bootable : Config → Bool
 is_bootable c = is_size 4 c.mmem && is_size 20 c.heap && nat_le c.apps 16
 
 abbrev pub booted : Config → Machine
-booted c = record { clock = 0; work = 0; is_halted = false; scheduler = at_boot c.apps }
+booted c =
+    record {
+      clock = 0;
+      work = 0;
+      is_halted = false;
+      scheduler = at_boot c.apps;
+      memory = fresh_memory (record { mmem = c.mmem; heap = c.heap });
+    }
 
 -- a change of the scheduler alone
 abbrev pub scheduled : (Scheduler Bool → Scheduler Bool) → Machine → Machine

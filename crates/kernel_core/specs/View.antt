@@ -25,6 +25,7 @@ machine_of k =
       work = k.work;
       is_halted = k.halted;
       scheduler = in_front (shown_items k.handed_in) (carrying is_struck k.scheduler.scheduler);
+      memory = k.memory;
     }
 
 abbrev pub shown_count : Option Input → ℕ
@@ -42,9 +43,10 @@ mote_of k = record { machine = machine_of k; inputs = k.inputs; entries_left = e
 pub record IsInOrder (k : Core) : Type 0 where
   pub work : k.work ≤ work_limit
   pub applications : k.applications ≡ k.scheduler.scheduler.applications
+  pub few : k.applications ≤ 16
   pub idle : k.halted ≡ false → k.scheduler.turn ≡ None
 
--- nothing but the scheduler was changed, and no turn is open
+-- nothing but the scheduler and the memory was changed
 pub record IsOnlyScheduled (old new : Core) : Type 0 where
   pub clock : new.clock ≡ old.clock
   pub work : new.work ≡ old.work

@@ -1,6 +1,7 @@
 //! What the kernel does at an application's call.
 
 ghost use Rattle.std.specs.Prelude.{◌≡◌, ◌≤◌, ◌<◌, ◌+◌, None, Some, false, IfOk, IfErr, map};
+ghost use Rattle.process_core.specs.Processes.{IsApplication};
 ghost use Rattle.process_core.specs.Requests.{is_application};
 ghost use Rattle.process_core.specs.Agenda.{Queued};
 ghost use Rattle.kernel_core.specs.Calls as call_spec;
@@ -77,6 +78,7 @@ impl Core {
 
     /// Carries out the call of the application that has the turn.
     pub fn carry_out(&mut self, pid: Pid, call: &Call)
+        requires application { IsApplication 16 pid.0 }
         requires turn { self.old.scheduler.turn ≡ Some pid }
         requires nothing_shown { self.old.handed_in ≡ None }
         requires applications { self.old.applications ≡ self.old.scheduler.scheduler.applications }
@@ -121,6 +123,15 @@ impl Core {
                 Ok(is_running) => self.answer(pid, Reply::Flag(is_running)),
                 Err(refusal) => self.answer(pid, Reply::Refused(refusal)),
             },
+            Call::MmemAlloc(..)
+            | Call::MmemFree(_)
+            | Call::MmemWrite(..)
+            | Call::MmemRead(..)
+            | Call::MmemCopy(..)
+            | Call::MmemAvail => {
+                let reply = self.memory.ask(pid, call);
+                self.answer(pid, reply);
+            }
             Call::Clock => self.answer(pid, Reply::Wide(self.clock)),
             Call::Print(_) => self.answer(pid, Reply::Done),
         }

@@ -22,6 +22,7 @@ use mote_types::app::App;
 use mote_types::ask::ask;
 use mote_types::entry::{Entry, Input};
 use mote_types::event::{Event, Origin, Pid, Stimulus};
+use node_memory::NodeMemory;
 use process_core::job::Job;
 use process_core::scheduler::Scheduler;
 
@@ -42,6 +43,7 @@ pub struct Core {
     /// An input whose entry is made before anything else is done.
     pub handed_in: Option<Input>,
     pub scheduler: Scheduler,
+    pub memory: NodeMemory,
 }
 
 impl Core {
@@ -54,7 +56,9 @@ impl Core {
         stimulus: Stimulus,
     ) -> Entry
         requires least { 4 ≤ pid.0 }
+        requires few { self.old.applications ≤ 16 }
         requires present { pid.0 < 4 + length apps.old }
+        requires boxes { length apps.old ≡ self.old.applications }
         requires running { self.old.halted ≡ false }
         requires nothing_shown { self.old.handed_in ≡ None }
         requires work { self.old.work ≤ 10000 }

@@ -15,6 +15,7 @@ use crate::step::Step;
 use mote_types::app::App;
 use mote_types::entry::Input;
 use mote_types::fault::BootFault;
+use node_memory::{NodeMemory, Sizes};
 use process_core::scheduler::Scheduler;
 use std::alloc::Global;
 use std::marker::Model;
@@ -48,6 +49,11 @@ impl Kernel {
         if !config.is_bootable() {
             return Err(BootFault::BadSizes);
         }
+        let sizes = Sizes {
+            mmem: config.mmem,
+            heap: config.heap,
+        };
+        let memory = NodeMemory::new(alloc, sizes)?;
         let scheduler = Scheduler::new(alloc, config.apps).map_err(|_| BootFault::Memory)?;
         let core = Core {
             clock: 0,
@@ -57,6 +63,7 @@ impl Kernel {
             applications: config.apps,
             handed_in: None,
             scheduler,
+            memory,
         };
         Ok(Kernel { core })
     }

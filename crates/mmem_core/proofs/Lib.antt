@@ -1,3 +1,4 @@
+mod Apart
 pub mod Callers
 pub mod PlaceLemmas
 pub mod StoreLemmas

@@ -1,5 +1,5 @@
 -- Where the blocks lie in the span: a place for each live name.
-use Rattle.std.specs.Prelude.{◌≡◌, ◌≢◌, ℕ, ◌+◌, ◌-◌, ◌≤◌, ◌<◌, List, [], ◌∷◌, Option, Some, None, get_or, sum_by, if◌then◌else◌, ◌==◌, nat_lt}
+use Rattle.std.specs.Prelude.{◌≡◌, ◌≢◌, ℕ, ◌+◌, ◌-◌, ◌≤◌, ◌<◌, ◌⊎◌, List, [], ◌∷◌, Option, Some, None, get_or, sum_by, if◌then◌else◌, ◌==◌, nat_lt}
 use Rattle.mote_types.specs.Rounding.{up4}
 use Rattle.mmem_core.specs.declared.place.Place.{Place}
 
@@ -47,3 +47,10 @@ pub record IsPacked (places : List (Option Place)) (used : ℕ) : Type 0 where
       → at_of (place_in places i) ≤ at_of (place_in places j)
       → at_of (place_in places i) + room_of (place_in places i) ≤ at_of (place_in places j)
   pub no_empty : (i : ℕ) → place_in places i ≢ None → 0 < room_of (place_in places i)
+
+-- The live blocks have ranges of the first `len` bytes, and no two of these meet.
+pub record LieApart (places : List (Option Place)) (len : ℕ) : Type 0 where
+  pub inside : (i : ℕ) → at_of (place_in places i) + room_of (place_in places i) ≤ len
+  pub apart : (i j : ℕ) → i ≢ j → place_in places i ≢ None → place_in places j ≢ None
+      → (at_of (place_in places i) + room_of (place_in places i) ≤ at_of (place_in places j))
+      ⊎ (at_of (place_in places j) + room_of (place_in places j) ≤ at_of (place_in places i))

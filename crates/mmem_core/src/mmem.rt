@@ -47,6 +47,7 @@ fn number_of(key: Key) -> usize
 }
 
 impl Mmem {
+    ghost use Rattle.mmem_core.specs.Places.{LieApart};
     ghost use Rattle.mmem_core.specs.Table.{Table, store_of, IsWithin, KeepsToSpan, CountsMoved};
 
     /// Managed memory without a block, over a span of 4 to 65,536 bytes, a multiple of 4.
@@ -179,6 +180,13 @@ impl Mmem {
         ensures { (bytes : List ℕ) → IsWithin self.now bytes → result ≡ length_of key.0.0 key.1 (store_of self.now bytes) }
     {
         self.places[number_of(key)].map(|place| place.len)
+    }
+
+    /// The blocks lie in the span, and no two of them share a byte.
+    pub fn blocks_lie_apart(&self)
+        ensures { LieApart self.now.places self.now.span.len }
+    {
+        let _span = &self.span;
     }
 
     /// How many bytes were moved so far, the moved blocks' lengths rounded up. It stays at the highest `u64`.

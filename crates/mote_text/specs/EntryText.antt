@@ -67,6 +67,12 @@ call_word Call.Clock = codes "clock"
 call_word (Call.Print chunk) = codes "print"
 call_word Call.Wait = codes "wait"
 call_word Call.Exit = codes "exit"
+call_word (Call.MmemAlloc handle n) = codes "mmem-alloc"
+call_word (Call.MmemFree handle) = codes "mmem-free"
+call_word (Call.MmemWrite handle at chunk) = codes "mmem-write"
+call_word (Call.MmemRead handle at len) = codes "mmem-read"
+call_word (Call.MmemCopy source target) = codes "mmem-copy"
+call_word Call.MmemAvail = codes "mmem-avail"
 
 abbrev pub argument_words : Call → List Word
 argument_words (Call.Post process code payload) = decimal process ∷ decimal code ∷ payload_word payload ∷ []
@@ -81,6 +87,12 @@ argument_words Call.Clock = []
 argument_words (Call.Print chunk) = hex chunk.items ∷ []
 argument_words Call.Wait = []
 argument_words Call.Exit = []
+argument_words (Call.MmemAlloc handle n) = decimal handle ∷ decimal n ∷ []
+argument_words (Call.MmemFree handle) = decimal handle ∷ []
+argument_words (Call.MmemWrite handle at chunk) = decimal handle ∷ decimal at ∷ hex chunk.items ∷ []
+argument_words (Call.MmemRead handle at len) = decimal handle ∷ decimal at ∷ decimal len ∷ []
+argument_words (Call.MmemCopy source target) = decimal source ∷ decimal target ∷ []
+argument_words Call.MmemAvail = []
 
 abbrev pub call_words : Call → List Word
 call_words call = call_word call ∷ argument_words call

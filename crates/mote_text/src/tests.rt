@@ -209,6 +209,33 @@ fn lines_of_calls(rt: HostRuntime) {
     check_call(&rt, Call::Print(bytes(b"")), "4 callback 3 -> print -\n");
     check_call(&rt, Call::Wait, "4 callback 3 -> wait\n");
     check_call(&rt, Call::Exit, "4 callback 3 -> exit\n");
+    check_call(
+        &rt,
+        Call::MmemAlloc(0, 4_294_967_295),
+        "4 callback 3 -> mmem-alloc 0 4294967295\n",
+    );
+    check_call(&rt, Call::MmemFree(16), "4 callback 3 -> mmem-free 16\n");
+    check_call(
+        &rt,
+        Call::MmemWrite(0, 8, bytes(&[1, 2])),
+        "4 callback 3 -> mmem-write 0 8 0102\n",
+    );
+    check_call(
+        &rt,
+        Call::MmemWrite(0, 8, bytes(b"")),
+        "4 callback 3 -> mmem-write 0 8 -\n",
+    );
+    check_call(
+        &rt,
+        Call::MmemRead(1, 0, 64),
+        "4 callback 3 -> mmem-read 1 0 64\n",
+    );
+    check_call(
+        &rt,
+        Call::MmemCopy(0, 15),
+        "4 callback 3 -> mmem-copy 0 15\n",
+    );
+    check_call(&rt, Call::MmemAvail, "4 callback 3 -> mmem-avail\n");
 }
 
 fn check_end(rt: &impl Abort, end: End, text: &str) {

@@ -124,6 +124,12 @@ fn call_word(call: &Call) -> &'static [u8]
         Call::Print(_) => b"print",
         Call::Wait => b"wait",
         Call::Exit => b"exit",
+        Call::MmemAlloc(..) => b"mmem-alloc",
+        Call::MmemFree(_) => b"mmem-free",
+        Call::MmemWrite(..) => b"mmem-write",
+        Call::MmemRead(..) => b"mmem-read",
+        Call::MmemCopy(..) => b"mmem-copy",
+        Call::MmemAvail => b"mmem-avail",
     }
 }
 
@@ -148,7 +154,26 @@ fn push_arguments(line: &mut LineBuf, call: &Call)
         | Call::Kill(process)
         | Call::IsRunning(process) => push_number(line, u64::from(*process)),
         Call::Print(chunk) => push_hex(line, chunk.as_slice()),
-        Call::AllocEvent | Call::Clock | Call::Wait | Call::Exit => {}
+        Call::AllocEvent | Call::Clock | Call::Wait | Call::Exit | Call::MmemAvail => {}
+        Call::MmemFree(handle) => push_number(line, u64::from(*handle)),
+        Call::MmemAlloc(handle, n) => {
+            push_number(line, u64::from(*handle));
+            push_number(line, u64::from(*n));
+        }
+        Call::MmemWrite(handle, at, chunk) => {
+            push_number(line, u64::from(*handle));
+            push_number(line, u64::from(*at));
+            push_hex(line, chunk.as_slice());
+        }
+        Call::MmemRead(handle, at, len) => {
+            push_number(line, u64::from(*handle));
+            push_number(line, u64::from(*at));
+            push_number(line, u64::from(*len));
+        }
+        Call::MmemCopy(source, target) => {
+            push_number(line, u64::from(*source));
+            push_number(line, u64::from(*target));
+        }
     }
 }
 

@@ -5,7 +5,8 @@ use crate::reply::Chunk;
 
 /// The call by which an application ends a turn. Processes and event codes are named by their numbers.
 ///
-/// Source: process.h and etimer.h of Contiki-NG; which names are refused, and in which order, is this project's profile.
+/// Source: process.h and etimer.h of Contiki-NG, and for managed memory the original Contiki's mmem module, here with
+/// handles from 0 to 15 in place of pointers; which names are refused, and in which order, is this project's profile.
 #[derive(Drop)]
 pub enum Call {
     /// Puts an event of this code at the end of the event queue, for one process (`process_post`).
@@ -32,4 +33,17 @@ pub enum Call {
     Wait,
     /// Ends the activation and the process (`PROCESS_EXIT`).
     Exit,
+    // Managed memory.
+    /// Gives a handle a block of so many bytes, all 0 (`mmem_alloc`).
+    MmemAlloc(u8, u32),
+    /// Takes a handle's block away (`mmem_free`).
+    MmemFree(u8),
+    /// Writes bytes into a handle's block, from a place of it on.
+    MmemWrite(u8, u32, Chunk),
+    /// Reads from a handle's block, from a place of it on: so many bytes, at most 64.
+    MmemRead(u8, u32, u8),
+    /// Copies all bytes of the first handle's block to the front of the second one's.
+    MmemCopy(u8, u8),
+    /// Asks how many bytes of managed memory are free.
+    MmemAvail,
 }

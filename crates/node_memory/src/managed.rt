@@ -1,0 +1,164 @@
+//! The calls on managed memory, each with its refusals.
+
+ghost use Rattle.std.specs.Prelude.{◌≡◌, ◌≤◌, ◌+◌, None, Some, length, nat_lt, IfOk, IfErr};
+ghost use Rattle.mote_types.specs.Bytes.{range_of};
+ghost use Rattle.mmem_core.specs.ManagedStore as store;
+ghost use Rattle.mmem_core.specs.ManagedStore.{IsName};
+ghost use Rattle.node_memory.specs.ManagedCalls as calls;
+ghost use Rattle.node_memory.specs.Memory.{with_managed};
+
+use crate::memory::NodeMemory;
+use mmem_core::Key;
+use mote_types::event::Pid;
+use mote_types::refusal::Refusal;
+use mote_types::reply::Chunk;
+
+/// The last handle of each process.
+const LAST_HANDLE: u8 = 15;
+
+/// The most bytes of one read.
+const LONGEST_READ: u8 = 64;
+
+/// Whether the range ends behind a block of this length.
+fn is_outside(at: u32, len: usize, block: u32) -> bool
+    requires { len ≤ 64 }
+    ensures { result ≡ nat_lt block (at + len) }
+{
+    at as u64 + len as u64 > block as u64
+}
+
+impl NodeMemory {
+    /// The length of a block, if it is live.
+    fn len_of(&self, key: Key) -> Option<u32>
+        requires { IsName key.0.0 key.1 }
+        ensures { result ≡ store.length_of key.0.0 key.1 self.now.managed }
+    {
+        let _arena = &self.arena;
+        self.mmem.len_of(key)
+    }
+
+    /// Gives a handle a block of `n` zeros.
+    pub(crate) fn mmem_alloc(&mut self, pid: Pid, handle: u8, n: u32) -> Result<(), Refusal>
+        requires least { 3 ≤ pid.0 }
+        requires most { pid.0 ≤ 19 }
+        ensures accepted { IfOk result (λ _. (calls.alloc_refusal pid.0 handle n self.old.managed ≡ None)
+            × (self.new ≡ with_managed (store.allocated pid.0 handle n self.old.managed) self.old)) }
+        ensures refused { IfErr result (λ r. (calls.alloc_refusal pid.0 handle n self.old.managed ≡ Some r) × (self.new ≡ self.old)) }
+    {
+        if handle > LAST_HANDLE {
+            return Err(Refusal::BadName);
+        }
+        if self.len_of((pid, handle)).is_some() {
+            return Err(Refusal::InUse);
+        }
+        if n == 0 {
+            return Err(Refusal::Range);
+        }
+        match self.mmem.alloc(&mut self.arena, (pid, handle), n) {
+            Some(()) => Ok(()),
+            None => Err(Refusal::NoRoom),
+        }
+    }
+
+    /// Takes a handle's block away.
+    pub(crate) fn mmem_free(&mut self, pid: Pid, handle: u8) -> Result<(), Refusal>
+        requires least { 3 ≤ pid.0 }
+        requires most { pid.0 ≤ 19 }
+        ensures accepted { IfOk result (λ _. (calls.free_refusal pid.0 handle self.old.managed ≡ None)
+            × (self.new ≡ with_managed (store.freed pid.0 handle self.old.managed) self.old)) }
+        ensures refused { IfErr result (λ r. (calls.free_refusal pid.0 handle self.old.managed ≡ Some r) × (self.new ≡ self.old)) }
+    {
+        if handle > LAST_HANDLE {
+            return Err(Refusal::BadName);
+        }
+        if self.len_of((pid, handle)).is_none() {
+            return Err(Refusal::NotLive);
+        }
+        self.mmem.free(&mut self.arena, (pid, handle));
+        Ok(())
+    }
+
+    /// Writes bytes into a handle's block, from the place `at` of it on.
+    pub(crate) fn mmem_write(
+        &mut self,
+        pid: Pid,
+        handle: u8,
+        at: u32,
+        bytes: &[u8],
+    ) -> Result<(), Refusal>
+        requires least { 3 ≤ pid.0 }
+        requires most { pid.0 ≤ 19 }
+        requires few { length bytes.now ≤ 64 }
+        ensures accepted { IfOk result (λ _. (calls.write_refusal pid.0 handle at (length bytes.now) self.old.managed ≡ None)
+            × (self.new ≡ with_managed (store.with_bytes pid.0 handle at bytes.now self.old.managed) self.old)) }
+        ensures refused { IfErr result (λ r. (calls.write_refusal pid.0 handle at (length bytes.now) self.old.managed ≡ Some r) × (self.new ≡ self.old)) }
+    {
+        if handle > LAST_HANDLE {
+            return Err(Refusal::BadName);
+        }
+        let Some(block) = self.len_of((pid, handle)) else {
+            return Err(Refusal::NotLive);
+        };
+        if is_outside(at, bytes.len(), block) {
+            return Err(Refusal::Range);
+        }
+        self.mmem.write(&mut self.arena, (pid, handle), at, bytes);
+        Ok(())
+    }
+
+    /// The `len` bytes of a handle's block from the place `at` of it on.
+    pub(crate) fn mmem_read(&self, pid: Pid, handle: u8, at: u32, len: u8) -> Result<Chunk, Refusal>
+        requires least { 3 ≤ pid.0 }
+        requires most { pid.0 ≤ 19 }
+        ensures accepted { IfOk result (λ chunk. (calls.read_refusal pid.0 handle at len self.now.managed ≡ None)
+            × (chunk.items ≡ range_of at len (store.bytes_of pid.0 handle self.now.managed))) }
+        ensures refused { IfErr result (λ r. calls.read_refusal pid.0 handle at len self.now.managed ≡ Some r) }
+    {
+        if handle > LAST_HANDLE {
+            return Err(Refusal::BadName);
+        }
+        let Some(block) = self.len_of((pid, handle)) else {
+            return Err(Refusal::NotLive);
+        };
+        if len > LONGEST_READ || is_outside(at, len as usize, block) {
+            return Err(Refusal::Range);
+        }
+        let bytes = self.mmem.bytes(&self.arena, (pid, handle));
+        let mut chunk = Chunk::new();
+        let _ = chunk.try_extend_from_slice(&bytes[at as usize..at as usize + len as usize]);
+        Ok(chunk)
+    }
+
+    /// Copies all bytes of one handle's block to the front of another one's.
+    pub(crate) fn mmem_copy(&mut self, pid: Pid, source: u8, target: u8) -> Result<(), Refusal>
+        requires least { 3 ≤ pid.0 }
+        requires most { pid.0 ≤ 19 }
+        ensures accepted { IfOk result (λ _. (calls.copy_refusal pid.0 source target self.old.managed ≡ None)
+            × (self.new ≡ with_managed (store.copied pid.0 source pid.0 target self.old.managed) self.old)) }
+        ensures refused { IfErr result (λ r. (calls.copy_refusal pid.0 source target self.old.managed ≡ Some r) × (self.new ≡ self.old)) }
+    {
+        if source > LAST_HANDLE || target > LAST_HANDLE {
+            return Err(Refusal::BadName);
+        }
+        let Some(from) = self.len_of((pid, source)) else {
+            return Err(Refusal::NotLive);
+        };
+        let Some(to) = self.len_of((pid, target)) else {
+            return Err(Refusal::NotLive);
+        };
+        if from > to {
+            return Err(Refusal::Range);
+        }
+        self.mmem
+            .copy(&mut self.arena, (pid, source), (pid, target));
+        Ok(())
+    }
+
+    /// How many bytes of managed memory are free.
+    pub(crate) fn mmem_avail(&self) -> u32
+        ensures { result ≡ store.free self.now.managed }
+    {
+        let _arena = &self.arena;
+        self.mmem.avail()
+    }
+}

@@ -1,0 +1,243 @@
+//! The calls on managed memory as a mote makes them, and the sizes that are allowed.
+
+ghost use Rattle.std.specs.Prelude.{◌≡◌, ◌≤◌, length, true};
+ghost use Rattle.node_memory.specs.Ask as asking;
+
+use crate::{NodeMemory, Sizes, is_memory_call};
+use arrayvec::ArrayVec;
+use mote_types::call::Call;
+use mote_types::event::Pid;
+use mote_types::fault::BootFault;
+use mote_types::refusal::Refusal;
+use mote_types::reply::{Chunk, Reply};
+use std::alloc::Global;
+use std::process::Abort;
+use std::test::Fail;
+
+/// The process that calls, where a test does not say otherwise.
+const CALLER: Pid = Pid(4);
+
+const OTHER: Pid = Pid(19);
+
+/// Memory with so many bytes of managed memory.
+fn memory(alloc: Global, mmem: u32) -> Result<NodeMemory, BootFault> {
+    NodeMemory::new(alloc, Sizes { mmem, heap: 4_096 })
+}
+
+fn bytes(bytes: &[u8]) -> Chunk {
+    let mut chunk = ArrayVec::new();
+    let _ = chunk.try_extend_from_slice(bytes);
+    chunk
+}
+
+fn check_done(rt: &impl Abort, memory: &mut NodeMemory, pid: Pid, call: Call)
+    requires on_memory { asking.is_memory_call call ≡ true }
+    requires asker { asking.MayAsk pid.0 call }
+{
+    assert!(rt; matches!(memory.ask(pid, &call), Reply::Done));
+}
+
+fn check_refused(rt: &impl Abort, memory: &mut NodeMemory, call: Call, refusal: Refusal)
+    requires on_memory { asking.is_memory_call call ≡ true }
+    requires asker { asking.MayAsk 4 call }
+{
+    match memory.ask(CALLER, &call) {
+        Reply::Refused(found) => assert_eq!(rt; found, refusal),
+        _ => assert!(rt; false, "{refusal:?}"),
+    }
+}
+
+fn check_free(rt: &impl Abort, memory: &mut NodeMemory, pid: Pid, free: u32)
+    requires asker { asking.MayAsk pid.0 Call.MmemAvail }
+{
+    match memory.ask(pid, &Call::MmemAvail) {
+        Reply::Num(found) => assert_eq!(rt; found, free),
+        _ => assert!(rt; false, "{free}"),
+    }
+}
+
+fn check_read(rt: &impl Abort, memory: &mut NodeMemory, pid: Pid, handle: u8, at: u32, bytes: &[u8])
+    requires length { length bytes.now ≤ 64 }
+    requires asker { asking.MayAsk pid.0 (Call.MmemRead handle at (length bytes.now)) }
+{
+    match memory.ask(pid, &Call::MmemRead(handle, at, bytes.len() as u8)) {
+        Reply::Bytes(found) => assert_eq!(rt; found.as_slice(), bytes),
+        _ => assert!(rt; false, "{bytes:?}"),
+    }
+}
+
+/// Lengths of 10 and 20 take 12 and 20 of 32 bytes. The second block keeps its bytes when the first one's room closes.
+#[test]
+fn refuses_by_rounded_sizes(rt: HostRuntime) -> Result<(), Fail> {
+    let mut memory = memory(rt.alloc(), 32)?;
+    check_done(&rt, &mut memory, CALLER, Call::MmemAlloc(0, 10));
+    check_done(&rt, &mut memory, CALLER, Call::MmemAlloc(1, 20));
+    check_refused(&rt, &mut memory, Call::MmemAlloc(2, 1), Refusal::NoRoom);
+    check_free(&rt, &mut memory, CALLER, 0);
+    check_done(
+        &rt,
+        &mut memory,
+        CALLER,
+        Call::MmemWrite(1, 0, bytes(&[1, 2])),
+    );
+    check_done(&rt, &mut memory, CALLER, Call::MmemFree(0));
+    check_read(&rt, &mut memory, CALLER, 1, 0, &[1, 2]);
+    check_done(&rt, &mut memory, CALLER, Call::MmemAlloc(0, 12));
+    check_refused(&rt, &mut memory, Call::MmemAlloc(2, 1), Refusal::NoRoom);
+    Ok(())
+}
+
+#[test]
+fn copies_to_the_front(rt: HostRuntime) -> Result<(), Fail> {
+    let mut memory = memory(rt.alloc(), 4_096)?;
+    check_done(&rt, &mut memory, CALLER, Call::MmemAlloc(0, 4));
+    check_done(
+        &rt,
+        &mut memory,
+        CALLER,
+        Call::MmemWrite(0, 0, bytes(&[1, 2, 3, 4])),
+    );
+    check_done(&rt, &mut memory, CALLER, Call::MmemAlloc(1, 8));
+    check_done(&rt, &mut memory, CALLER, Call::MmemCopy(0, 1));
+    check_read(&rt, &mut memory, CALLER, 1, 0, &[1, 2, 3, 4, 0, 0, 0, 0]);
+    check_refused(&rt, &mut memory, Call::MmemCopy(1, 0), Refusal::Range);
+    check_done(&rt, &mut memory, CALLER, Call::MmemCopy(0, 0));
+    check_refused(&rt, &mut memory, Call::MmemAlloc(0, 4), Refusal::InUse);
+    Ok(())
+}
+
+/// A new block does not show what lay there. A range of no bytes may begin at the block's end.
+#[test]
+fn fresh_bytes_are_zero(rt: HostRuntime) -> Result<(), Fail> {
+    let mut memory = memory(rt.alloc(), 4_096)?;
+    check_refused(&rt, &mut memory, Call::MmemAlloc(0, 0), Refusal::Range);
+    check_refused(&rt, &mut memory, Call::MmemFree(0), Refusal::NotLive);
+    check_done(&rt, &mut memory, CALLER, Call::MmemAlloc(0, 4));
+    check_done(
+        &rt,
+        &mut memory,
+        CALLER,
+        Call::MmemWrite(0, 0, bytes(&[1, 2, 3, 4])),
+    );
+    check_done(&rt, &mut memory, CALLER, Call::MmemFree(0));
+    check_done(&rt, &mut memory, CALLER, Call::MmemAlloc(1, 4));
+    check_read(&rt, &mut memory, CALLER, 1, 0, &[0, 0, 0, 0]);
+    check_read(&rt, &mut memory, CALLER, 1, 4, &[]);
+    check_refused(&rt, &mut memory, Call::MmemRead(1, 4, 1), Refusal::Range);
+    Ok(())
+}
+
+/// A handle above 15 is a bad name whatever else is wrong, and a block that lives is told before its length.
+#[test]
+fn refusals_in_their_order(rt: HostRuntime) -> Result<(), Fail> {
+    let mut memory = memory(rt.alloc(), 128)?;
+    check_done(&rt, &mut memory, CALLER, Call::MmemAlloc(15, 100));
+    check_refused(&rt, &mut memory, Call::MmemAlloc(16, 0), Refusal::BadName);
+    check_refused(&rt, &mut memory, Call::MmemAlloc(15, 0), Refusal::InUse);
+    check_refused(&rt, &mut memory, Call::MmemFree(255), Refusal::BadName);
+    check_refused(
+        &rt,
+        &mut memory,
+        Call::MmemWrite(16, 0, bytes(&[])),
+        Refusal::BadName,
+    );
+    check_refused(
+        &rt,
+        &mut memory,
+        Call::MmemWrite(0, 1, bytes(&[])),
+        Refusal::NotLive,
+    );
+    check_refused(
+        &rt,
+        &mut memory,
+        Call::MmemRead(16, 0, 65),
+        Refusal::BadName,
+    );
+    check_refused(&rt, &mut memory, Call::MmemRead(0, 0, 65), Refusal::NotLive);
+    check_refused(&rt, &mut memory, Call::MmemCopy(16, 0), Refusal::BadName);
+    check_refused(&rt, &mut memory, Call::MmemCopy(0, 16), Refusal::BadName);
+    check_refused(&rt, &mut memory, Call::MmemCopy(0, 15), Refusal::NotLive);
+    check_refused(&rt, &mut memory, Call::MmemCopy(15, 0), Refusal::NotLive);
+    check_free(&rt, &mut memory, CALLER, 28);
+    Ok(())
+}
+
+/// One read gives 64 bytes at most, and no sum of a place and a length wraps.
+#[test]
+fn ranges_that_are_refused(rt: HostRuntime) -> Result<(), Fail> {
+    let mut memory = memory(rt.alloc(), 128)?;
+    check_done(&rt, &mut memory, CALLER, Call::MmemAlloc(0, 100));
+    check_read(&rt, &mut memory, CALLER, 0, 36, &[0; 64]);
+    check_refused(&rt, &mut memory, Call::MmemRead(0, 0, 65), Refusal::Range);
+    check_refused(&rt, &mut memory, Call::MmemRead(0, 37, 64), Refusal::Range);
+    check_refused(
+        &rt,
+        &mut memory,
+        Call::MmemRead(0, 4_294_967_295, 1),
+        Refusal::Range,
+    );
+    check_refused(
+        &rt,
+        &mut memory,
+        Call::MmemWrite(0, 4_294_967_295, bytes(&[1])),
+        Refusal::Range,
+    );
+    check_refused(
+        &rt,
+        &mut memory,
+        Call::MmemWrite(0, 101, bytes(&[])),
+        Refusal::Range,
+    );
+    Ok(())
+}
+
+/// Two processes have blocks under one handle. Process 3 is told what is free.
+#[test]
+fn blocks_of_several_processes(rt: HostRuntime) -> Result<(), Fail> {
+    let mut memory = memory(rt.alloc(), 32)?;
+    check_done(&rt, &mut memory, CALLER, Call::MmemAlloc(0, 8));
+    check_done(&rt, &mut memory, OTHER, Call::MmemAlloc(0, 4));
+    check_done(&rt, &mut memory, OTHER, Call::MmemWrite(0, 1, bytes(&[7])));
+    check_done(&rt, &mut memory, CALLER, Call::MmemFree(0));
+    check_read(&rt, &mut memory, OTHER, 0, 0, &[0, 7, 0, 0]);
+    check_refused(&rt, &mut memory, Call::MmemRead(0, 0, 1), Refusal::NotLive);
+    check_free(&rt, &mut memory, Pid(3), 28);
+    Ok(())
+}
+
+fn is_refused_for_sizes(alloc: Global, mmem: u32, heap: u32) -> bool {
+    matches!(
+        NodeMemory::new(alloc, Sizes { mmem, heap }),
+        Err(BootFault::BadSizes)
+    )
+}
+
+#[test]
+fn sizes_that_are_refused(rt: HostRuntime) -> Result<(), Fail> {
+    for (mmem, heap) in [
+        (0u32, 20u32),
+        (6, 20),
+        (65_540, 20),
+        (4, 0),
+        (4, 16),
+        (4, 22),
+        (4, 65_540),
+    ] {
+        assert!(rt;
+            is_refused_for_sizes(rt.alloc(), mmem, heap),
+            "{mmem} {heap}"
+        );
+    }
+    for (mmem, heap) in [(4u32, 20u32), (65_536, 65_536)] {
+        let mut memory = NodeMemory::new(rt.alloc(), Sizes { mmem, heap })?;
+        check_free(&rt, &mut memory, CALLER, mmem);
+    }
+    Ok(())
+}
+
+#[test]
+fn calls_on_memory(rt: HostRuntime) {
+    assert!(rt; is_memory_call(&Call::MmemAvail));
+    assert!(rt; is_memory_call(&Call::MmemCopy(0, 1)));
+    assert!(rt; !is_memory_call(&Call::Clock));
+}
