@@ -1,4 +1,4 @@
--- The state of the mote: its clock, its work and what the scheduler has.
+-- The state of the mote: its clock, its work, its timers and what the scheduler has.
 use Rattle.std.specs.Prelude.{ℕ, ◌+◌, ◌%◌, Bool, true, false, ◌&&◌, [], ◌∷◌, ◌==◌, nat_le}
 use Rattle.mote_types.specs.declared.entry.Entry.{Entry}
 use Rattle.mote_types.specs.declared.reply.Reply.{Reply}
@@ -7,6 +7,7 @@ use Rattle.kernel_core.specs.declared.config.Config.{Config}
 use Rattle.process_core.specs.Agenda.{Queued, Item}
 use Rattle.process_core.specs.Scheduler.{Scheduler, at_boot, in_front, posted}
 use Rattle.process_core.specs.Requests.{answered}
+use Rattle.timer_core.specs.Timers.{Timers, no_timers}
 
 -- An expiry in the queue carries whether it was struck out.
 pub record Machine : Type 0 where
@@ -16,6 +17,7 @@ pub record Machine : Type 0 where
   pub work : ℕ
   pub is_halted : Bool
   pub scheduler : Scheduler Bool
+  pub timers : Timers
 
 -- whether a region has a size in that range, a multiple of 4
 abbrev pub is_size : ℕ → ℕ → Bool
@@ -26,7 +28,10 @@ abbrev pub is_bootable : Config → Bool
 is_bootable c = is_size 4 c.mmem && is_size 20 c.heap && nat_le c.apps 16
 
 abbrev pub booted : Config → Machine
-booted c = record { clock = 0; work = 0; is_halted = false; scheduler = at_boot c.apps }
+booted c = record { clock = 0; work = 0; is_halted = false; scheduler = at_boot c.apps; timers = no_timers }
+
+abbrev pub with_timers : Timers → Machine → Machine
+with_timers timers m = record m { timers = timers }
 
 -- a change of the scheduler alone
 abbrev pub scheduled : (Scheduler Bool → Scheduler Bool) → Machine → Machine

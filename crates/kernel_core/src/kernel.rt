@@ -16,6 +16,7 @@ use mote_types::app::App;
 use mote_types::entry::Input;
 use mote_types::fault::BootFault;
 use process_core::scheduler::Scheduler;
+use timer_core::timers::Timers;
 use std::alloc::Global;
 use std::marker::Model;
 
@@ -57,6 +58,7 @@ impl Kernel {
             applications: config.apps,
             handed_in: None,
             scheduler,
+            timers: Timers::new(),
         };
         Ok(Kernel { core })
     }
