@@ -67,7 +67,7 @@ module _ (bound : ℕ) where
   unfolding costs
   costs-nil = refl
 
-  costs-cons : (item : Item) (items : List Item) → costs bound (item ∷ items) ≡ cost bound item + costs bound items
+  pub costs-cons : (item : Item) (items : List Item) → costs bound (item ∷ items) ≡ cost bound item + costs bound items
   unfolding costs
   costs-cons item items = refl
 

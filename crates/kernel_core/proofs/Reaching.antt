@@ -5,6 +5,7 @@ use Rattle.mote_types.specs.declared.entry.Input.{Input}
 use Rattle.process_core.specs.Agenda.{Job, job_carrying}
 use Rattle.process_core.specs.Held.{Held}
 use Rattle.process_core.specs.Scheduler.{ComesTo, carrying}
+use Rattle.timer_core.specs.Armings.{Armings}
 use Rattle.kernel_core.specs.declared.core_state.Core.{Core}
 use Rattle.kernel_core.specs.Machine.{Machine}
 use Rattle.kernel_core.specs.Run.{Answers, MakesEntry, GoesSilently, silent, job_done}
@@ -13,14 +14,14 @@ use Rattle.kernel_core.proofs.Silent.{job_reached, silently_on}
 
 -- where no entry is to be shown first, the machine's scheduler is the kernel's
 machine_bare : (k : Core) → k.handed_in ≡ None →
-    machine_of k ≡ record { clock = k.clock; work = k.work; is_halted = k.halted; scheduler = carrying is_struck k.scheduler.scheduler; memory = k.memory }
+    machine_of k ≡ record { clock = k.clock; work = k.work; is_halted = k.halted; scheduler = carrying (is_struck k.timers.armings) k.scheduler.scheduler; timers = k.timers.timers; memory = k.memory }
 machine_bare k e = rw e refl
 
 pub core_reaches : (answers : Answers) (k : Core) (held : Held) (next : Job ℕ) → k.halted ≡ false → k.handed_in ≡ None →
-    ComesTo k.scheduler.scheduler next held.scheduler → ComesToJob answers (machine_of k) next (machine_of (record k { scheduler = held }))
+    ComesTo k.scheduler.scheduler next held.scheduler → ComesToJob k.timers.armings answers (machine_of k) next (machine_of (record k { scheduler = held }))
 core_reaches answers k held next running bare comes =
-    let m : Machine = record { clock = k.clock; work = k.work; is_halted = k.halted; scheduler = carrying is_struck k.scheduler.scheduler; memory = k.memory } in
-    let r = job_reached is_struck answers m k.scheduler.scheduler held.scheduler next running refl comes in
+    let m : Machine = record { clock = k.clock; work = k.work; is_halted = k.halted; scheduler = carrying (is_struck k.timers.armings) k.scheduler.scheduler; timers = k.timers.timers; memory = k.memory } in
+    let r = job_reached (is_struck k.timers.armings) answers m k.scheduler.scheduler held.scheduler next running refl comes in
     rw (machine_bare k bare, machine_bare (record k { scheduler = held }) bare)
     record { last = r.1; before = record { count = r.0; steps = r.2 }; asked = r.3 }
 
@@ -28,21 +29,21 @@ pub silently_here : {answers : Answers} (m : Machine) → GoesSilently answers m
 silently_here m = record { count = 0; steps = refl }
 
 -- steps that make no entry, and then a job
-pub then_job : {answers : Answers} {a b c : Machine} {next : Job ℕ} → GoesSilently answers a b → ComesToJob answers b next c → ComesToJob answers a next c
+pub then_job : {answers : Answers} {a b c : Machine} {armings : Armings} {next : Job ℕ} → GoesSilently answers a b → ComesToJob armings answers b next c → ComesToJob armings answers a next c
 then_job {answers} {a} {b} first reached =
     let j = silently_on answers first.count a b reached.last first.steps reached.before.count reached.before.steps in
     record { last = reached.last; before = record { count = j.0; steps = j.1 }; asked = reached.asked }
 
 -- a job that makes no entry
-pub job_silently : {answers : Answers} {a b d : Machine} {next : Job ℕ} → ComesToJob answers a next b →
-    job_done answers (Some (job_carrying is_struck next)) b ≡ silent d → GoesSilently answers a d
+pub job_silently : {answers : Answers} {a b d : Machine} {armings : Armings} {next : Job ℕ} → ComesToJob armings answers a next b →
+    job_done answers (Some (job_carrying (is_struck armings) next)) b ≡ silent d → GoesSilently answers a d
 job_silently {answers} {a} {b} {d} reached e =
     let j = silently_on answers reached.before.count a reached.last d reached.before.steps 1 (d, reached.asked ∙ e, refl) in
     record { count = j.0; steps = j.1 }
 
 -- a job that makes an entry
-pub job_makes : {answers : Answers} {a b d : Machine} {next : Job ℕ} {entry : Entry} → ComesToJob answers a next b →
-    job_done answers (Some (job_carrying is_struck next)) b ≡ (d, Some entry) → MakesEntry answers a entry d
+pub job_makes : {answers : Answers} {a b d : Machine} {armings : Armings} {next : Job ℕ} {entry : Entry} → ComesToJob armings answers a next b →
+    job_done answers (Some (job_carrying (is_struck armings) next)) b ≡ (d, Some entry) → MakesEntry answers a entry d
 job_makes reached e = record { last = reached.last; before = reached.before; makes = reached.asked ∙ e }
 
 -- the entry of an input that was handed in

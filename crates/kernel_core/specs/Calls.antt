@@ -1,5 +1,5 @@
 -- What follows a call of an application: its refusals in the order in which they are checked, its effect, and its answer.
-use Rattle.std.specs.Prelude.{ℕ, not, Option, Some, None, if◌then◌else◌}
+use Rattle.std.specs.Prelude.{ℕ, Bool, not, ◌&&◌, ◌==◌, Option, Some, None, if◌then◌else◌, nat_lt}
 use Rattle.mote_types.specs.declared.call.Call.{Call}
 use Rattle.mote_types.specs.declared.reply.Reply.{Reply}
 use Rattle.mote_types.specs.declared.refusal.Refusal.{Refusal}
@@ -11,7 +11,11 @@ use Rattle.process_core.specs.Agenda.{Queued}
 use Rattle.process_core.specs.Processes.{is_alive}
 use Rattle.process_core.specs.Scheduler.{state_in, marked}
 use Rattle.process_core.specs.Requests.{is_application, post_refusal, synch_refusal, poll_refusal, start_refusal, kill_refusal, is_running_refusal, alloc_event_refusal, number_drawn, given_in_turn, started_by, killed_by, waited, ended}
-use Rattle.kernel_core.specs.Machine.{Machine, scheduled, with_event, answer, refuse}
+use Rattle.kernel_core.specs.Machine.{Machine, scheduled, with_timers, with_event, answer, refuse}
+use Rattle.kernel_core.specs.Expiries.{strike_out}
+use Rattle.kernel_core.specs.KernelProcesses.{etimer_marked}
+use Rattle.timer_core.specs.Names.{event_timer, callback_timer}
+use Rattle.timer_core.specs.Timers.{set_timer, stop_timer, reset_timer, restart_timer, can_reset, is_armed}
 
 -- the call of p is refused, or the machine is as given
 abbrev pub unless_refused : Option Refusal → ℕ → Machine → Machine → Machine
@@ -34,6 +38,23 @@ post_call_refusal m q code =
 abbrev pub broadcast_call_refusal : Machine → ℕ → Option Refusal
 broadcast_call_refusal m code = if is_reserved code then Some Refusal.Reserved else post_refusal m.scheduler
 
+-- an application has timers 0 to 7 and callback timers 0 to 3
+abbrev pub timer_refusal : ℕ → Option Refusal
+timer_refusal t = if nat_lt t 8 then None else Some Refusal.BadName
+
+abbrev pub callback_refusal : ℕ → Option Refusal
+callback_refusal c = if nat_lt c 4 then None else Some Refusal.BadName
+
+abbrev pub reset_refusal : ℕ → ℕ → Machine → Option Refusal
+reset_refusal p t m =
+    if not (nat_lt t 8) then Some Refusal.BadName
+    else if can_reset (event_timer p t) m.timers then None
+    else Some Refusal.Range
+
+-- the callback timer c of p
+abbrev pub is_callback_timer : ℕ → ℕ → ℕ → ℕ → Bool
+is_callback_timer p c q d = q == p && d == c
+
 -- the machine after a call of p
 abbrev pub after_call : Call → ℕ → Machine → Machine
 -- the activation ends
@@ -55,6 +76,29 @@ after_call (Call.Start q) p m = unless_refused (start_refusal m.scheduler q) p m
 after_call (Call.Kill q) p m = unless_refused (kill_refusal m.scheduler q) p m (scheduled (killed_by p q) m)
 after_call (Call.IsRunning q) p m =
     unless_refused (is_running_refusal m.scheduler q) p m (answer p (Reply.Flag (is_alive (state_in m.scheduler q))) m)
+-- event timers
+after_call (Call.TimerSet t interval) p m =
+    unless_refused (timer_refusal t) p m
+    (done p (etimer_marked (with_timers (set_timer m.clock (event_timer p t) interval m.timers) m)))
+after_call (Call.TimerStop t) p m =
+    unless_refused (timer_refusal t) p m (done p (with_timers (stop_timer (event_timer p t) m.timers) m))
+after_call (Call.TimerReset t) p m =
+    unless_refused (reset_refusal p t m) p m
+    (done p (etimer_marked (with_timers (reset_timer (event_timer p t) m.timers) m)))
+after_call (Call.TimerRestart t) p m =
+    unless_refused (timer_refusal t) p m
+    (done p (etimer_marked (with_timers (restart_timer m.clock (event_timer p t) m.timers) m)))
+after_call (Call.TimerExpired t) p m =
+    unless_refused (timer_refusal t) p m (answer p (Reply.Flag (not (is_armed (event_timer p t) m.timers))) m)
+-- callback timers
+after_call (Call.CallbackSet c interval) p m =
+    unless_refused (callback_refusal c) p m
+    (done p
+    (etimer_marked
+    (strike_out (is_callback_timer p c) (with_timers (set_timer m.clock (callback_timer p c) interval m.timers) m))))
+after_call (Call.CallbackStop c) p m =
+    unless_refused (callback_refusal c) p m
+    (done p (strike_out (is_callback_timer p c) (with_timers (stop_timer (callback_timer p c) m.timers) m)))
 -- the clock, and output
 after_call Call.Clock p m = answer p (Reply.Wide m.clock) m
 after_call (Call.Print chunk) p m = done p m

@@ -1,5 +1,7 @@
 pub mod Calls
 pub mod Cost
+pub mod Draws
+pub mod Expiries
 pub mod KernelProcesses
 pub mod Machine
 pub mod Mote

@@ -1,4 +1,4 @@
--- The state of the mote: its clock, its work, what the scheduler has, and its memory.
+-- The state of the mote: its clock, its work, what the scheduler has, its timers and its memory.
 use Rattle.std.specs.Prelude.{ℕ, ◌+◌, ◌%◌, Bool, true, false, ◌&&◌, [], ◌∷◌, ◌==◌, nat_le}
 use Rattle.mote_types.specs.declared.entry.Entry.{Entry}
 use Rattle.mote_types.specs.declared.reply.Reply.{Reply}
@@ -8,6 +8,7 @@ use Rattle.node_memory.specs.Memory.{Memory, fresh_memory}
 use Rattle.process_core.specs.Agenda.{Queued, Item}
 use Rattle.process_core.specs.Scheduler.{Scheduler, at_boot, in_front, posted}
 use Rattle.process_core.specs.Requests.{answered}
+use Rattle.timer_core.specs.Timers.{Timers, no_timers}
 
 -- An expiry in the queue carries whether it was struck out.
 pub record Machine : Type 0 where
@@ -17,6 +18,7 @@ pub record Machine : Type 0 where
   pub work : ℕ
   pub is_halted : Bool
   pub scheduler : Scheduler Bool
+  pub timers : Timers
   pub memory : Memory
 
 -- whether a region has a size in that range, a multiple of 4
@@ -34,8 +36,12 @@ booted c =
       work = 0;
       is_halted = false;
       scheduler = at_boot c.apps;
+      timers = no_timers;
       memory = fresh_memory (record { mmem = c.mmem; heap = c.heap });
     }
+
+abbrev pub with_timers : Timers → Machine → Machine
+with_timers timers m = record m { timers = timers }
 
 -- a change of the scheduler alone
 abbrev pub scheduled : (Scheduler Bool → Scheduler Bool) → Machine → Machine

@@ -1,5 +1,5 @@
 -- What the fields of a kernel stand for.
-use Rattle.std.specs.Prelude.{◌≡◌, ℕ, ◌+◌, ◌*◌, ◌-◌, ◌≤◌, Bool, true, false, List, [], ◌∷◌, Option, None, Some, if◌then◌else◌}
+use Rattle.std.specs.Prelude.{◌≡◌, ℕ, ◌+◌, ◌*◌, ◌-◌, ◌≤◌, ◌^◌, Bool, not, true, false, List, [], ◌∷◌, Option, None, Some, if◌then◌else◌}
 use Rattle.mote_types.specs.declared.entry.Entry.{Entry}
 use Rattle.mote_types.specs.declared.entry.Input.{Input}
 use Rattle.process_core.specs.Agenda.{Item, Job, job_carrying}
@@ -7,11 +7,14 @@ use Rattle.process_core.specs.Scheduler.{carrying, in_front}
 use Rattle.kernel_core.specs.declared.core_state.Core.{Core}
 use Rattle.kernel_core.specs.Machine.{Machine}
 use Rattle.kernel_core.specs.Run.{Answers, GoesSilently, one_step, job_done, work_limit}
+use Rattle.kernel_core.specs.Cost.{present}
 use Rattle.kernel_core.specs.Mote.{Mote}
+use Rattle.kernel_core.specs.Draws.{HasFitEvents, debt}
+use Rattle.timer_core.specs.Armings.{Armings, is_present_arming}
 
--- whether an expiry was struck out. There are no callback timers yet, so none counts
-abbrev pub is_struck : ℕ → ℕ → ℕ → Bool
-is_struck p c arming = true
+-- an expiry was struck out where its arming number isn't the present one
+abbrev pub is_struck : Armings → ℕ → ℕ → ℕ → Bool
+is_struck armings p c arming = not (is_present_arming p c arming armings)
 
 -- the entry of an input that was handed in
 abbrev pub shown_items : Option Input → List Item
@@ -24,7 +27,8 @@ machine_of k =
       clock = k.clock;
       work = k.work;
       is_halted = k.halted;
-      scheduler = in_front (shown_items k.handed_in) (carrying is_struck k.scheduler.scheduler);
+      scheduler = in_front (shown_items k.handed_in) (carrying (is_struck k.timers.armings) k.scheduler.scheduler);
+      timers = k.timers.timers;
       memory = k.memory;
     }
 
@@ -45,9 +49,14 @@ pub record IsInOrder (k : Core) : Type 0 where
   pub applications : k.applications ≡ k.scheduler.scheduler.applications
   pub few : k.applications ≤ 16
   pub idle : k.halted ≡ false → k.scheduler.turn ≡ None
+  pub clock : k.clock ≤ 2 ^ 62
+  pub inputs : k.inputs ≤ 2 ^ 40
+  pub events : HasFitEvents k
+  -- a turn draws a number, or ends a process whose callback timers then get four
+  pub draws : debt k ≤ 1 + 8 * (10000 * k.inputs + k.work)
 
--- nothing but the scheduler and the memory was changed
-pub record IsOnlyScheduled (old new : Core) : Type 0 where
+-- nothing but the scheduler, the timers and the memory was changed
+pub record IsOnlyWorked (old new : Core) : Type 0 where
   pub clock : new.clock ≡ old.clock
   pub work : new.work ≡ old.work
   pub halted : new.halted ≡ old.halted
@@ -56,8 +65,29 @@ pub record IsOnlyScheduled (old new : Core) : Type 0 where
   pub handed_in : new.handed_in ≡ old.handed_in
   pub mote : new.scheduler.scheduler.applications ≡ old.scheduler.scheduler.applications
 
+-- nothing but the scheduler was changed
+pub record IsOnlyScheduled (old new : Core) : Type 0 where
+  pub worked : IsOnlyWorked old new
+  pub timers : new.timers ≡ old.timers
+
+-- a call on a timer draws one number at most
+pub record IsTimerCall (old new : Core) : Type 0 where
+  pub worked : IsOnlyWorked old new
+  pub turn : new.scheduler.turn ≡ old.scheduler.turn
+  pub events : HasFitEvents new
+  pub draws : debt new ≤ debt old + 1
+
+-- what a kernel process did
+pub record IsServed (old new : Core) : Type 0 where
+  pub worked : IsOnlyWorked old new
+  pub turn : new.scheduler.turn ≡ old.scheduler.turn
+  pub events : HasFitEvents new
+  -- it works off nothing of the agenda
+  pub agenda : new.scheduler.scheduler.agenda ≡ old.scheduler.scheduler.agenda
+  pub present : present new.scheduler.scheduler ≡ present old.scheduler.scheduler
+
 -- items that are no jobs were worked off, and then this job's own item
-pub record ComesToJob (answers : Answers) (old : Machine) (next : Job ℕ) (new : Machine) : Type 0 where
+pub record ComesToJob (armings : Armings) (answers : Answers) (old : Machine) (next : Job ℕ) (new : Machine) : Type 0 where
   pub last : Machine
   pub before : GoesSilently answers old last
-  pub asked : one_step answers last ≡ job_done answers (Some (job_carrying is_struck next)) new
+  pub asked : one_step answers last ≡ job_done answers (Some (job_carrying (is_struck armings) next)) new

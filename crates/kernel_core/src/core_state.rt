@@ -1,7 +1,7 @@
 //! The fields of a kernel, and how they change.
 
-ghost use Rattle.std.specs.Prelude.{◌≡◌, ◌<◌, ◌≤◌, ◌+◌, ◌-◌, ◌*◌, ◌^◌, ◌∷◌, ℕ, Bool, true, false, ◌||◌, None, Some, List, [], ◌++◌, length, slice_get, IfSome};
-ghost use Rattle.std.specs.List.{list_any};
+ghost use Rattle.std.specs.Prelude.{◌≡◌, ◌<◌, ◌≤◌, ◌+◌, ◌-◌, ◌*◌, ◌^◌, ◌∷◌, ℕ, Bool, true, false, ◌||◌, None, Some, List, [], ◌++◌, length, slice_get, IfSome, eqb};
+ghost use Rattle.std.specs.List.{list_any, IsDistinct};
 ghost use Rattle.mote_types.specs.Applications.{says_of};
 ghost use Rattle.mote_types.specs.Entries.{is_halt};
 ghost use Rattle.mote_types.specs.declared.entry.Entry.{Entry as MadeEntry};
@@ -9,11 +9,12 @@ ghost use Rattle.mote_types.specs.declared.event.Stimulus.{Stimulus as Told};
 ghost use Rattle.kernel_core.specs.Mote.{TakesEntry};
 ghost use Rattle.kernel_core.specs.View.{machine_of, mote_of, entries_left_in, IsInOrder};
 ghost use Rattle.process_core.specs.declared.job.Job as ready;
-ghost use Rattle.process_core.specs.Held.{job_of, turn_of};
-ghost use Rattle.process_core.specs.Processes.{IsApplication};
+ghost use Rattle.process_core.specs.Held.{job_of, turn_of, callback_of};
+ghost use Rattle.process_core.specs.Processes.{IsApplication, numbers};
+ghost use Rattle.process_core.specs.Scheduler.{IsWellFormed};
+ghost use Rattle.kernel_core.specs.Draws.{HasFitEvents, IsFitJob, debt, draws_of_job};
 ghost use Rattle.kernel_core.specs.Cost.{IsPaid, costs, present};
 ghost use Rattle.kernel_core.specs.View.{ComesToJob};
-ghost use Rattle.kernel_core.specs.KernelProcesses.{serve};
 ghost use Rattle.kernel_core.specs.Run.{Answers, fed, ticks_of, silent, is_at_rest, GoesOn, heard, made, job_done, within_limit, turn_taken, with_more_work};
 ghost use Rattle.kernel_core.specs.Machine.{Machine};
 
@@ -21,13 +22,17 @@ use crate::step::Step;
 use mote_types::app::App;
 use mote_types::ask::ask;
 use mote_types::entry::{Entry, Input};
-use mote_types::event::{Event, Origin, Pid, Stimulus};
+use mote_types::event::{Origin, Pid, Stimulus};
 use node_memory::NodeMemory;
 use process_core::job::Job;
 use process_core::scheduler::Scheduler;
+use timer_core::timers::Timers;
 
 /// The kernel's process for event timers.
-const ETIMER: Pid = Pid(0);
+pub const ETIMER: Pid = Pid(0);
+
+/// The kernel's process for callback timers.
+pub const CTIMER: Pid = Pid(1);
 
 /// The turns and rounds that one input may take.
 pub const WORK_LIMIT: u32 = 10_000;
@@ -43,6 +48,7 @@ pub struct Core {
     /// An input whose entry is made before anything else is done.
     pub handed_in: Option<Input>,
     pub scheduler: Scheduler,
+    pub timers: Timers,
     pub memory: NodeMemory,
 }
 
@@ -61,9 +67,15 @@ impl Core {
         requires boxes { length apps.old ≡ self.old.applications }
         requires running { self.old.halted ≡ false }
         requires nothing_shown { self.old.handed_in ≡ None }
-        requires work { self.old.work ≤ 10000 }
         requires turn { self.old.scheduler.turn ≡ Some pid }
         requires applications { self.old.applications ≡ self.old.scheduler.scheduler.applications }
+        requires work { self.old.work ≤ 10000 }
+        requires last { pid.0 ≤ 19 }
+        requires clock { self.old.clock ≤ 2 ^ 62 }
+        requires inputs { self.old.inputs ≤ 2 ^ 40 }
+        requires events { HasFitEvents self.old }
+        requires draws { debt self.old ≤ 1 + 8 * (10000 * self.old.inputs + self.old.work) }
+        requires distinct { IsDistinct eqb (numbers self.old.scheduler.scheduler.processes) }
         ensures machine { within_limit (machine_of self.old) (turn_taken pid.0 origin stimulus (says_of says apps.old pid.0 (stimulus ∷ [])) (machine_of self.old)) ≡ (machine_of self.new, Some result) }
         ensures left { entries_left_in self.new < entries_left_in self.old }
         ensures halted { self.new.halted ≡ is_halt result }
@@ -108,18 +120,12 @@ impl Core {
         None
     }
 
-    /// A kernel process is given an event. So far they do nothing.
-    fn serve(&mut self, _pid: Pid, _event: Event)
-        ensures machine { machine_of self.new ≡ serve _pid.0 _event (machine_of self.old) }
-        ensures kept { self.new ≡ self.old }
-    {}
-
     /// The next thing that is to be done, which is taken from the agenda.
     fn next_job(&mut self) -> Job
         requires order { IsInOrder self.old }
         requires running { self.old.halted ≡ false }
         requires nothing_shown { self.old.handed_in ≡ None }
-        ensures reached { (answers : Answers) → ComesToJob answers (machine_of self.old) (job_of result) (machine_of self.new) }
+        ensures reached { (answers : Answers) → ComesToJob self.old.timers.armings answers (machine_of self.old) (job_of result) (machine_of self.new) }
         ensures paid { (bound : ℕ) → present self.old.scheduler.scheduler ≤ bound →
             IsPaid bound (Some (job_of result)) (costs bound self.old.scheduler.scheduler.agenda) (costs bound self.new.scheduler.scheduler.agenda)
             × (present self.new.scheduler.scheduler ≤ present self.old.scheduler.scheduler) }
@@ -128,6 +134,11 @@ impl Core {
         ensures applications { self.new.scheduler.scheduler.applications ≡ self.old.scheduler.scheduler.applications }
         ensures rest { result ≡ ready.Job.Rest → is_at_rest (machine_of self.new) ≡ true }
         ensures kept { self.new ≡ record self.old { scheduler = self.new.scheduler } }
+        ensures callback { self.new.scheduler.callback ≡ callback_of result }
+        ensures standing { IsWellFormed self.new.scheduler.scheduler }
+        ensures events { HasFitEvents self.new }
+        ensures draws { debt self.new + draws_of_job (job_of result) ≤ debt self.old }
+        ensures expiry { IsFitJob self.old.timers.armings.drawn (job_of result) }
     {
         self.scheduler.next()
     }
@@ -160,8 +171,15 @@ impl Core {
                     stimulus,
                 } => return Step::Entry(self.take_turn(apps, pid, origin, stimulus)),
                 Job::Serve { pid, event } => self.serve(pid, event),
-                // There are no callback timers yet.
-                Job::Callback { .. } => {}
+                Job::Callback {
+                    pid,
+                    number,
+                    arming,
+                } => {
+                    if self.timers.is_present_arming(pid, number, arming) {
+                        self.scheduler.give_callback(pid, number);
+                    }
+                }
                 Job::Round => {
                     if let Some(halt) = self.begin_round() {
                         return Step::Entry(halt);

@@ -17,6 +17,7 @@ use mote_types::entry::Input;
 use mote_types::fault::BootFault;
 use node_memory::{NodeMemory, Sizes};
 use process_core::scheduler::Scheduler;
+use timer_core::timers::Timers;
 use std::alloc::Global;
 use std::marker::Model;
 
@@ -63,6 +64,7 @@ impl Kernel {
             applications: config.apps,
             handed_in: None,
             scheduler,
+            timers: Timers::new(),
             memory,
         };
         Ok(Kernel { core })

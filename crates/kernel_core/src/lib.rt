@@ -5,6 +5,8 @@ mod calls;
 pub mod config;
 mod core_state;
 pub mod kernel;
+mod kernel_processes;
 pub mod step;
+mod timer_calls;
 
 pub use mote_types::fault::BootFault;

@@ -205,6 +205,17 @@ fn lines_of_calls(rt: HostRuntime) {
     check_call(&rt, Call::Kill(6), "4 callback 3 -> kill 6\n");
     check_call(&rt, Call::IsRunning(19), "4 callback 3 -> is-running 19\n");
     check_call(&rt, Call::AllocEvent, "4 callback 3 -> alloc-event\n");
+    check_call(
+        &rt,
+        Call::TimerSet(7, 4_294_967_295),
+        "4 callback 3 -> timer-set 7 4294967295\n",
+    );
+    check_call(&rt, Call::TimerStop(0), "4 callback 3 -> timer-stop 0\n");
+    check_call(&rt, Call::TimerReset(1), "4 callback 3 -> timer-reset 1\n");
+    check_call(&rt, Call::TimerRestart(2), "4 callback 3 -> timer-restart 2\n");
+    check_call(&rt, Call::TimerExpired(3), "4 callback 3 -> timer-expired 3\n");
+    check_call(&rt, Call::CallbackSet(3, 10), "4 callback 3 -> callback-set 3 10\n");
+    check_call(&rt, Call::CallbackStop(0), "4 callback 3 -> callback-stop 0\n");
     check_call(&rt, Call::Clock, "4 callback 3 -> clock\n");
     check_call(&rt, Call::Print(bytes(b"")), "4 callback 3 -> print -\n");
     check_call(&rt, Call::Wait, "4 callback 3 -> wait\n");

@@ -120,6 +120,13 @@ fn call_word(call: &Call) -> &'static [u8]
         Call::Kill(_) => b"kill",
         Call::IsRunning(_) => b"is-running",
         Call::AllocEvent => b"alloc-event",
+        Call::TimerSet(..) => b"timer-set",
+        Call::TimerStop(_) => b"timer-stop",
+        Call::TimerReset(_) => b"timer-reset",
+        Call::TimerRestart(_) => b"timer-restart",
+        Call::TimerExpired(_) => b"timer-expired",
+        Call::CallbackSet(..) => b"callback-set",
+        Call::CallbackStop(_) => b"callback-stop",
         Call::Clock => b"clock",
         Call::Print(_) => b"print",
         Call::Wait => b"wait",
@@ -153,6 +160,15 @@ fn push_arguments(line: &mut LineBuf, call: &Call)
         | Call::Start(process)
         | Call::Kill(process)
         | Call::IsRunning(process) => push_number(line, u64::from(*process)),
+        Call::TimerSet(timer, interval) | Call::CallbackSet(timer, interval) => {
+            push_number(line, u64::from(*timer));
+            push_number(line, u64::from(*interval));
+        }
+        Call::TimerStop(timer)
+        | Call::TimerReset(timer)
+        | Call::TimerRestart(timer)
+        | Call::TimerExpired(timer)
+        | Call::CallbackStop(timer) => push_number(line, u64::from(*timer)),
         Call::Print(chunk) => push_hex(line, chunk.as_slice()),
         Call::AllocEvent | Call::Clock | Call::Wait | Call::Exit | Call::MmemAvail => {}
         Call::MmemFree(handle) => push_number(line, u64::from(*handle)),

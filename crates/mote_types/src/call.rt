@@ -5,7 +5,7 @@ use crate::reply::Chunk;
 
 /// The call by which an application ends a turn. Processes and event codes are named by their numbers.
 ///
-/// Source: process.h and etimer.h of Contiki-NG, and for managed memory the original Contiki's mmem module, here with
+/// Source: process.h, etimer.h and ctimer.h of Contiki-NG, and for managed memory the original Contiki's mmem module, here with
 /// handles from 0 to 15 in place of pointers; which names are refused, and in which order, is this project's profile.
 #[derive(Drop)]
 pub enum Call {
@@ -25,6 +25,22 @@ pub enum Call {
     IsRunning(u8),
     /// Draws an event number that was never drawn (`process_alloc_event`).
     AllocEvent,
+    /// Arms an event timer, 0 to 7: it runs out that many ticks after the present clock (`etimer_set`).
+    TimerSet(u8, u32),
+    /// Disarms an event timer (`etimer_stop`).
+    TimerStop(u8),
+    /// Arms an event timer with the interval that follows its last one, which begins where that one ended
+    /// (`etimer_reset`).
+    TimerReset(u8),
+    /// Arms an event timer with its interval, from the present clock on (`etimer_restart`).
+    TimerRestart(u8),
+    /// Asks whether an event timer isn't armed: it was never set, or ran out, or was stopped (`etimer_expired`).
+    TimerExpired(u8),
+    /// Arms a callback timer, 0 to 3, as `TimerSet` arms an event timer. An expiry that still waits in the event queue
+    /// counts no more (`ctimer_set`).
+    CallbackSet(u8, u32),
+    /// Disarms a callback timer. An expiry that still waits in the event queue counts no more (`ctimer_stop`).
+    CallbackStop(u8),
     /// Asks for the clock, in ticks since boot (`clock_time`).
     Clock,
     /// Shows these bytes in the transcript.

@@ -1,6 +1,6 @@
 -- The scheduler: how the agenda is worked off.
-use Rattle.std.specs.Prelude.{ℕ, Bool, true, false, not, ◌&&◌, ◌||◌, List, [], ◌∷◌, ◌++◌, map, drop, length, Option, Some, None, if◌then◌else◌, nat_lt, flat_map, slice_get, zero, suc, is_some, ◌≡◌, ◌≤◌}
-use Rattle.std.specs.List.{range_with_len, list_any}
+use Rattle.std.specs.Prelude.{ℕ, Bool, true, false, not, ◌&&◌, ◌||◌, List, [], ◌∷◌, ◌++◌, map, drop, length, Option, Some, None, if◌then◌else◌, nat_lt, flat_map, slice_get, zero, suc, is_some, ◌≡◌, ◌≤◌, eqb}
+use Rattle.std.specs.List.{range_with_len, list_any, IsDistinct}
 use Rattle.mote_types.specs.declared.event.Event.{Event}
 use Rattle.mote_types.specs.declared.event.Stimulus.{Stimulus}
 use Rattle.mote_types.specs.declared.event.Origin.{Origin}
@@ -166,5 +166,7 @@ is_shown _ = false
 pub record IsWellFormed {X : Type 0} (s : Scheduler X) : Type 0 where
   pub few : s.applications ≤ 16
   pub mote : IsOfMote s.applications s.processes
+  -- no process is on the list twice
+  pub distinct : IsDistinct eqb (numbers s.processes)
   -- entries are shown by the layer above
   pub unshown : list_any is_shown s.agenda ≡ false

@@ -1,5 +1,6 @@
 //! The process list, the head first.
-ghost use Rattle.std.specs.Prelude.{◌≡◌, ◌<◌, ◌≤◌, [], ◌∷◌, map, length, true, false};
+ghost use Rattle.std.specs.Prelude.{◌≡◌, ◌<◌, ◌≤◌, [], ◌∷◌, map, length, true, false, eqb};
+ghost use Rattle.std.specs.List.{IsDistinct};
 ghost use Rattle.process_core.specs.Processes.{state_of, is_marked, is_any_marked, with_state, with_mark, without, numbers, at_first};
 ghost use Rattle.process_core.specs.declared.state.State.{State};
 
@@ -39,6 +40,13 @@ impl ProcessList {
         items.push(Process::running(Pid(1)));
         items.push(Process::running(Pid(0)));
         ProcessList { items }
+    }
+
+    /// No process is on the list twice. Nothing is done.
+    pub fn each_is_once(&self)
+        ensures { IsDistinct eqb (numbers self.now) }
+    {
+        let _ = &self.items;
     }
 
     /// What the process is doing; Absent where it is not on the list.

@@ -254,7 +254,9 @@ impl Scheduler {
         ensures applications { self.new.scheduler.applications ≡ self.old.scheduler.applications }
         ensures standing { IsWellFormed self.new.scheduler }
     {
-        self.parts.next()
+        let job = self.parts.next();
+        self.parts.processes.each_is_once();
+        job
     }
 
     /// The open work: the frames that the agenda is kept in, the undermost first. There are at most two for each

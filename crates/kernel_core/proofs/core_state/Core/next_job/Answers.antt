@@ -1,5 +1,7 @@
 use Rattle.process_core.specs.Held.{job_of}
 use Rattle.kernel_core.proofs.Reaching.{core_reaches}
+use Rattle.std.proofs.Common.{arith}
+use Rattle.kernel_core.proofs.Drawing.{job_is_fit}
 use Rattle.kernel_core.proofs.Costs.{job_is_paid}
 use Rattle.kernel_core.proofs.core_state.Core.next_job.Goals as goal
 
@@ -10,3 +12,16 @@ returns-clause-reached c = λ answers.
 pub returns-clause-paid : goal.returns-clause-paid
 returns-clause-paid c = λ bound few.
     job_is_paid bound c.args.self.now.scheduler.scheduler c.next.new.self.scheduler (job_of c.next.result) few c.next.ensures.job
+
+pub returns-clause-events : goal.returns-clause-events
+returns-clause-events c =
+    (job_is_fit c.args.self.now.timers.armings.drawn c.args.self.now.scheduler.scheduler c.next.new.self.scheduler (job_of c.next.result) c.requires.order.events c.next.ensures.job).0.events
+
+pub returns-clause-draws : goal.returns-clause-draws
+returns-clause-draws c =
+    let fit = job_is_fit c.args.self.now.timers.armings.drawn c.args.self.now.scheduler.scheduler c.next.new.self.scheduler (job_of c.next.result) c.requires.order.events c.next.ensures.job in
+    omega (arith, fit.1)
+
+pub returns-clause-expiry : goal.returns-clause-expiry
+returns-clause-expiry c =
+    (job_is_fit c.args.self.now.timers.armings.drawn c.args.self.now.scheduler.scheduler c.next.new.self.scheduler (job_of c.next.result) c.requires.order.events c.next.ensures.job).2

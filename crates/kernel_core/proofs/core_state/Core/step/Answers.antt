@@ -1,6 +1,11 @@
-use Rattle.std.proofs.Common.{rules, ◌∙◌, refl, ap, sym}
+use Rattle.std.proofs.Common.{◌≡◌, rules, ◌∙◌, refl, arith, ap, sym}
 use Rattle.kernel_core.specs.Run.{silent}
 use Rattle.kernel_core.proofs.Reaching.{then_job, job_makes, job_silently, input_is_shown}
+use Rattle.kernel_core.proofs.Costs.{costs-cons}
+use Rattle.kernel_core.specs.Cost.{present}
+use Rattle.process_core.specs.Agenda.{Item}
+use Rattle.mote_types.specs.declared.event.Origin.{Origin}
+use Rattle.mote_types.specs.declared.event.Stimulus.{Stimulus}
 use Rattle.kernel_core.proofs.core_state.Core.step.Goals as goal
 
 pub returns-in-Some-clause-machine : goal.returns-in-Some-clause-machine
@@ -22,11 +27,13 @@ job-preserved-in-Serve g c = record {
   apps = search rules;
   left = search rules;
   so_far = λ answers. job_silently (then_job (c.job.invariant.so_far answers) (c.in-Serve.ensures.reached answers)) (ap silent (sym c.serve.ensures.machine));
-  present = search rules;
+  present =
+      let paid = c.in-Serve.ensures.paid _ c.job.invariant.present in
+      omega (arith, paid.1, c.serve.ensures.kept.present, c.job.invariant.present);
 }
 
-pub job-preserved-in-Callback : goal.job-preserved-in-Callback
-job-preserved-in-Callback g c = record {
+pub job-preserved-then-is_present_arming : goal.job-preserved-then-is_present_arming
+job-preserved-then-is_present_arming g c = record {
   order = search rules;
   running = search rules;
   nothing_shown = search rules;
@@ -35,7 +42,21 @@ job-preserved-in-Callback g c = record {
   clock = search rules;
   apps = search rules;
   left = search rules;
-  so_far = λ answers. job_silently (then_job (c.job.invariant.so_far answers) (c.in-Callback.ensures.reached answers)) refl;
+  so_far = λ answers. job_silently (then_job (c.job.invariant.so_far answers) (c.in-Callback.ensures.reached answers)) (search rules);
+  present = search rules;
+}
+
+pub job-preserved-else-is_present_arming : goal.job-preserved-else-is_present_arming
+job-preserved-else-is_present_arming g c = record {
+  order = search rules;
+  running = search rules;
+  nothing_shown = search rules;
+  inputs = search rules;
+  applications = search rules;
+  clock = search rules;
+  apps = search rules;
+  left = search rules;
+  so_far = λ answers. job_silently (then_job (c.job.invariant.so_far answers) (c.in-Callback.ensures.reached answers)) (search rules);
   present = search rules;
 }
 
@@ -64,3 +85,11 @@ job-preserved g c = record {
   so_far = λ answers. job_silently (then_job (c.job.invariant.so_far answers) (c.in-Round.ensures.reached answers)) c.in_default-begin_round.ensures.machine;
   present = search rules;
 }
+
+pub job-smaller-then-is_present_arming : goal.job-smaller-then-is_present_arming
+job-smaller-then-is_present_arming g c =
+    let bound = present c.args.self.now.scheduler.scheduler in
+    let paid = c.in-Callback.ensures.paid bound c.job.invariant.present in
+    let cons = costs-cons bound (Item.Give c.in-Callback.pid.0 Origin.Callback (Stimulus.Callback c.in-Callback.number)) c.next_job.new.self.scheduler.scheduler.agenda in
+    let same : c.next_job.new.self.work ≡ c.job.self.work = search rules in
+    rw (c.give_callback.ensures, cons, same) (omega (arith, paid.0))

@@ -1,0 +1,209 @@
+-- How many arming numbers the agenda will draw.
+use Rattle.std.proofs.Common.{◌≡◌, ℕ, zero, suc, ◌+◌, ◌≤◌, ◌<◌, Bool, true, false, not, ◌&&◌, List, [], ◌∷◌, ◌++◌, refl, arith, All}
+use Rattle.std.proofs.lemmas.List.Elements.{All-head, All-tail}
+use Rattle.std.specs.Prelude.{Option, Some, None, map, filter, flat_map, slice_get, drop, ◌==◌, eqb, if◌then◌else◌, IfSome}
+use Rattle.std.specs.List.{IsDistinct, AllByRecursion}
+use Rattle.mote_types.specs.declared.event.Event.{Event}
+use Rattle.mote_types.specs.declared.event.Stimulus.{Stimulus}
+use Rattle.mote_types.specs.declared.event.Origin.{Origin}
+use Rattle.mote_types.specs.declared.event.TheConstants.{EXITED}
+use Rattle.mote_types.specs.Codes.{number_event}
+use Rattle.process_core.specs.Agenda.{Queued, Item, Job}
+use Rattle.process_core.specs.declared.process.Process.{Process}
+use Rattle.process_core.specs.Processes.{numbers, without, is_process, is_kernel_process}
+use Rattle.process_core.specs.Requests.{ended, killed_by}
+use Rattle.mote_types.specs.declared.reply.Reply.{Reply}
+use Rattle.std.proofs.lemmas.Map.Keys.{IsDistinct-head, IsDistinct-tail}
+use Rattle.process_core.specs.Scheduler.{Scheduler, worked, worked_at, job, job_at, job_of_item, job_of_event, carried_out, delivery, first_event, of_event, settled, ComesTo, wants_round}
+use Rattle.kernel_core.specs.Draws.{draws, draws_of_event, draws_of_job, IsFit, IsFitJob}
+
+pub draws-append : (xs ys : List Item) → draws (xs ++ ys) ≡ draws xs + draws ys
+draws-append [] ys = omega arith
+draws-append (Item.Give p origin (Stimulus.Event event) ∷ xs) ys = grind (arith, draws-append xs ys)
+draws-append (Item.Give p origin (Stimulus.Answer reply) ∷ xs) ys = draws-append xs ys
+draws-append (Item.Give p origin (Stimulus.Callback c) ∷ xs) ys = draws-append xs ys
+draws-append (Item.Start p ∷ xs) ys = draws-append xs ys
+draws-append (Item.Turn p origin stimulus ∷ xs) ys = draws-append xs ys
+draws-append (Item.GiveExit p ∷ xs) ys = draws-append xs ys
+draws-append (Item.Remove p ∷ xs) ys = draws-append xs ys
+draws-append (Item.Polls ∷ xs) ys = draws-append xs ys
+draws-append (Item.PollOne p ∷ xs) ys = draws-append xs ys
+draws-append (Item.Deliver ∷ xs) ys = draws-append xs ys
+draws-append (Item.Show entry ∷ xs) ys = draws-append xs ys
+
+draws-polls : (ns : List ℕ) → draws (map (λ p. Item.PollOne p) ns) ≡ 0
+draws-polls [] = refl
+draws-polls (n ∷ ns) = draws-polls ns
+
+draws_of_event-none : (p : ℕ) (event : Event) → (event.code == EXITED) ≡ false → draws_of_event p event ≡ 0
+draws_of_event-none p event h = grind arith
+
+draws-broadcast : (event : Event) (ns : List ℕ) → (event.code == EXITED) ≡ false
+    → draws (flat_map (λ p. Item.Polls ∷ Item.Give p Origin.Event (of_event event) ∷ []) ns) ≡ 0
+draws-broadcast event [] h = refl
+draws-broadcast event (n ∷ ns) h = rw (draws_of_event-none n event h, draws-broadcast event ns h) refl
+
+-- an event that waits in the queue draws nothing
+draws-delivery : (drawn : ℕ) (ns : List ℕ) (events : List (Queued ℕ)) → All (IsFit drawn) events → draws (delivery ns (slice_get events 0)) ≡ 0
+draws-delivery drawn ns [] fit = refl
+draws-delivery drawn ns (Queued.To p event ∷ events) fit = rw (draws_of_event-none p event (All-head (IsFit drawn) (Queued.To p event) events fit)) refl
+draws-delivery drawn ns (Queued.ToAll event ∷ events) fit = draws-broadcast event ns (All-head (IsFit drawn) (Queued.ToAll event) events fit)
+draws-delivery drawn ns (Queued.Expiry p c arming ∷ events) fit = refl
+
+pub all_fit_rest : (drawn : ℕ) (events : List (Queued ℕ)) → All (IsFit drawn) events → All (IsFit drawn) (drop 1 events)
+all_fit_rest drawn [] fit = fit
+all_fit_rest drawn (event ∷ events) fit = All-tail (IsFit drawn) event events fit
+
+module _ (drawn : ℕ) where
+  fit_carried : (item : Item) (s : Scheduler ℕ) → All (IsFit drawn) s.events → All (IsFit drawn) (carried_out item s).events
+  fit_carried Item.Deliver s fit = all_fit_rest drawn s.events fit
+  fit_carried (Item.Start p) s fit = let e : (carried_out (Item.Start p) s).events ≡ s.events = grind arith in rw e fit
+  fit_carried (Item.Give p origin stimulus) s fit = let e : (carried_out (Item.Give p origin stimulus) s).events ≡ s.events = grind arith in rw e fit
+  fit_carried (Item.GiveExit p) s fit = fit
+  fit_carried (Item.Remove p) s fit = fit
+  fit_carried Item.Polls s fit = let e : (carried_out Item.Polls s).events ≡ s.events = grind arith in rw e fit
+  fit_carried (Item.PollOne p) s fit = let e : (carried_out (Item.PollOne p) s).events ≡ s.events = grind arith in rw e fit
+  fit_carried (Item.Turn p origin stimulus) s fit = fit
+  fit_carried (Item.Show entry) s fit = fit
+
+  fit_worked_at : (agenda : List Item) (s : Scheduler ℕ) → All (IsFit drawn) s.events → All (IsFit drawn) (worked_at agenda s).events
+  fit_worked_at [] s fit = let e : (worked_at [] s).events ≡ s.events = grind arith in rw e fit
+  fit_worked_at (item ∷ items) s fit = fit_carried item (record s { agenda = items }) fit
+
+  abbrev draws_asked : Option (Job ℕ) → ℕ
+  draws_asked None = 0
+  draws_asked (Some next) = draws_of_job next
+
+  no_draws_at_delivery : (events : List (Queued ℕ)) → draws_asked (job_of_event (slice_get events 0)) ≡ 0
+  no_draws_at_delivery [] = refl
+  no_draws_at_delivery (Queued.To p event ∷ events) = refl
+  no_draws_at_delivery (Queued.ToAll event ∷ events) = refl
+  no_draws_at_delivery (Queued.Expiry p c arming ∷ events) = refl
+
+  -- an item draws no more than it stands for
+  carried_out-draws : (item : Item) (items : List Item) (s : Scheduler ℕ) → All (IsFit drawn) s.events
+      → draws (carried_out item (record s { agenda = items })).agenda + draws_asked (job_of_item item s) ≤ draws (item ∷ []) + draws items
+  carried_out-draws Item.Deliver items s fit =
+      rw (draws-append (delivery (numbers s.processes) (first_event s)) items, draws-delivery drawn (numbers s.processes) s.events fit, no_draws_at_delivery s.events)
+      (omega arith)
+  carried_out-draws (Item.Start p) items s fit = grind arith
+  carried_out-draws (Item.Give p origin (Stimulus.Event event)) items s fit = grind arith
+  carried_out-draws (Item.Give p origin (Stimulus.Answer reply)) items s fit = grind arith
+  carried_out-draws (Item.Give p origin (Stimulus.Callback c)) items s fit = grind arith
+  carried_out-draws (Item.GiveExit p) items s fit = grind arith
+  carried_out-draws (Item.Remove p) items s fit = grind arith
+  carried_out-draws Item.Polls items s fit = grind (arith, draws-append (map (λ p. Item.PollOne p) (numbers s.processes)) items, draws-polls (numbers s.processes))
+  carried_out-draws (Item.PollOne p) items s fit = grind arith
+  carried_out-draws (Item.Turn p origin stimulus) items s fit = grind arith
+  carried_out-draws (Item.Show entry) items s fit = grind arith
+
+  worked_at-draws : (agenda : List Item) (s : Scheduler ℕ) → s.agenda ≡ agenda → All (IsFit drawn) s.events
+      → draws (worked_at agenda s).agenda + draws_asked (job_at agenda s) ≤ draws agenda
+  worked_at-draws [] s e fit = grind arith
+  worked_at-draws (item ∷ items) s e fit =
+      let split : draws (item ∷ items) ≡ draws (item ∷ []) + draws items = draws-append (item ∷ []) items in
+      let first = carried_out-draws item items s fit in
+      omega (arith, split, first)
+
+  abbrev IsFitAsked : Option (Job ℕ) → Type 0
+  IsFitAsked None = Unit {0}
+  IsFitAsked (Some next) = IsFitJob drawn next
+
+  fit_delivery : (events : List (Queued ℕ)) → All (IsFit drawn) events → IsFitAsked (job_of_event (slice_get events 0))
+  fit_delivery [] fit = tt
+  fit_delivery (Queued.To p event ∷ events) fit = tt
+  fit_delivery (Queued.ToAll event ∷ events) fit = tt
+  fit_delivery (Queued.Expiry p c arming ∷ events) fit = All-head (IsFit drawn) (Queued.Expiry p c arming) events fit
+
+  fit_round : (b : Bool) → IsFitAsked (Some (if b then Job.Round else Job.Rest))
+  fit_round true = tt
+  fit_round false = tt
+
+  fit_served : (b : Bool) (p : ℕ) (event : Event) → IsFitAsked (if b then Some (Job.Serve p event) else None)
+  fit_served true p event = tt
+  fit_served false p event = tt
+
+  fit_asked : (agenda : List Item) (s : Scheduler ℕ) → All (IsFit drawn) s.events → IsFitAsked (job_at agenda s)
+  fit_asked [] s fit = fit_round (wants_round s)
+  fit_asked (Item.Deliver ∷ items) s fit = fit_delivery s.events fit
+  fit_asked (Item.Give p origin (Stimulus.Event event) ∷ items) s fit = fit_served (is_kernel_process p) p event
+  fit_asked (Item.Give p origin (Stimulus.Answer reply) ∷ items) s fit = tt
+  fit_asked (Item.Give p origin (Stimulus.Callback c) ∷ items) s fit = tt
+  fit_asked (Item.Turn p origin stimulus ∷ items) s fit = tt
+  fit_asked (Item.Start p ∷ items) s fit = tt
+  fit_asked (Item.GiveExit p ∷ items) s fit = tt
+  fit_asked (Item.Remove p ∷ items) s fit = tt
+  fit_asked (Item.Polls ∷ items) s fit = tt
+  fit_asked (Item.PollOne p ∷ items) s fit = tt
+  fit_asked (Item.Show entry ∷ items) s fit = tt
+
+  -- items that are no jobs draw nothing
+  pub record IsFitAfter (old new : Scheduler ℕ) : Type 0 where
+    pub events : All (IsFit drawn) new.events
+    pub draws : draws new.agenda ≤ draws old.agenda
+
+  settled_fit : (n : ℕ) (s : Scheduler ℕ) → All (IsFit drawn) s.events → IsFitAfter s (settled n s)
+  settled_fit zero s fit = record { events = fit; draws = omega arith }
+  settled_fit (suc n) s fit = by_job (job s) refl (settled_fit n (worked s) (fit_worked_at s.agenda s fit))
+    where
+      by_job : (asked : Option (Job ℕ)) → job s ≡ asked → IsFitAfter (worked s) (settled n (worked s)) → IsFitAfter s (settled (suc n) s)
+      by_job (Some next) e rest = rw e (record { events = fit; draws = omega arith })
+      by_job None e rest =
+          let first = worked_at-draws s.agenda s refl fit in
+          let less : draws (worked s).agenda ≤ draws s.agenda = omega (arith, first) in
+          rw e (record { events = rest.events; draws = omega (arith, less, rest.draws) })
+
+  pub job_is_fit : (s after : Scheduler ℕ) (next : Job ℕ) → All (IsFit drawn) s.events → ComesTo s next after
+      → IsFitAfter s after × (draws after.agenda + draws_of_job next ≤ draws s.agenda) × IsFitJob drawn next
+  job_is_fit s after next fit (n, asks, works) =
+      let r = settled_fit n s fit in
+      let t = settled n s in
+      let d = rw (asks, works) at (worked_at-draws t.agenda t refl r.events) in
+      let events = rw works at (fit_worked_at t.agenda t r.events) in
+      let f = rw asks at (fit_asked t.agenda t r.events) in
+      (record { events = events; draws = omega (arith, d, r.draws) }, omega (arith, d, r.draws), f)
+
+-- at boot
+pub draws-starts : (ns : List ℕ) → draws (map (λ p. Item.Start p) ns) ≡ 0
+draws-starts [] = refl
+draws-starts (n ∷ ns) = draws-starts ns
+
+abbrev told : ℕ → List Process → List Item
+told p list = map (λ q. Item.Give q Origin.Synch (of_event (number_event EXITED p))) (numbers (without p list))
+
+none_told : (p : ℕ) (list : List Process) → AllByRecursion (λ y. eqb 1 y ≡ false) (numbers list) → draws (told p list) ≡ 0
+none_told p [] none = refl
+none_told p (process ∷ list) none = split (not (is_process p process)) refl (none_told p list none.1)
+  where
+    split : (b : Bool) → not (is_process p process) ≡ b → draws (told p list) ≡ 0 → draws (told p (process ∷ list)) ≡ 0
+    split true e rest = let n : (process.number == 1) ≡ false = grind (arith, none.0) in rw e (grind (arith, rest, n))
+    split false e rest = rw e rest
+
+-- ctimer is on the list once, and is told once
+pub one_told : (p : ℕ) (list : List Process) → IsDistinct eqb (numbers list) → draws (told p list) ≤ 4
+one_told p [] distinct = omega arith
+one_told p (process ∷ list) distinct =
+    split (not (is_process p process)) refl (process.number == 1) refl (one_told p list (IsDistinct-tail eqb process.number (numbers list) distinct))
+  where
+    split : (b : Bool) → not (is_process p process) ≡ b → (is_ctimer : Bool) → (process.number == 1) ≡ is_ctimer → draws (told p list) ≤ 4
+        → draws (told p (process ∷ list)) ≤ 4
+    split false e is_ctimer n rest = rw e rest
+    split true e false n rest =
+        let none : draws_of_event process.number (number_event EXITED p) ≡ 0 = grind (arith, n) in
+        let later : 0 + draws (told p list) ≤ 4 = omega (arith, rest) in
+        rw (e, none) later
+    split true e true n rest =
+        let same : process.number ≡ 1 = grind (arith, n) in
+        let others = rw same at (IsDistinct-head eqb process.number (numbers list) distinct) in
+        let nobody : draws (told p list) ≡ 0 = none_told p list others in
+        let give : draws_of_event process.number (number_event EXITED p) ≤ 4 = grind arith in
+        rw (e, nobody) (omega (arith, give))
+
+pub ended-draws : (p : ℕ) (s : Scheduler ℕ) → IsDistinct eqb (numbers s.processes) → draws (ended p s).agenda ≤ draws s.agenda + 4
+ended-draws p s distinct =
+    grind (arith, draws-append (told p s.processes) (Item.Remove p ∷ s.agenda), one_told p s.processes distinct, draws-append (told p s.processes ++ Item.Remove p ∷ []) s.agenda, draws-append (told p s.processes) (Item.Remove p ∷ []))
+
+pub killed_by-draws : (p q : ℕ) (s : Scheduler ℕ) → IsDistinct eqb (numbers s.processes) → draws (killed_by p q s).agenda ≤ draws s.agenda + 4
+killed_by-draws p q s distinct =
+    let last : List Item = Item.GiveExit q ∷ Item.Remove q ∷ Item.Turn p Origin.Answer (Stimulus.Answer Reply.Done) ∷ [] in
+    rw (draws-append (told q s.processes ++ last) s.agenda, draws-append (told q s.processes) last) (omega (arith, one_told q s.processes distinct))

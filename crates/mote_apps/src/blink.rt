@@ -1,0 +1,67 @@
+//! An application that blinks.
+
+ghost use Rattle.std.specs.Prelude.{◌≡◌, false};
+ghost use Rattle.mote_apps.specs.Blink.{blink_says, light_text};
+
+use mote_types::app::App;
+use mote_types::call::Call;
+use mote_types::event::{Event, INIT, Stimulus, TIMER};
+use mote_types::reply::Chunk;
+
+/// The ticks between two changes of the light.
+const INTERVAL: u32 = 10;
+
+/// Prints `on` and `off` by turns, each time that its event timer 0 has run out, and resets the timer then (this
+/// project's profile).
+#[derive(Drop)]
+pub struct Blink {
+    /// Whether the light is on.
+    pub lit: bool,
+    /// Whether the light's change is being printed.
+    pub printed: bool,
+}
+
+/// The bytes that tell whether the light is on.
+fn make_text(lit: bool) -> Chunk
+    ensures { result.items ≡ light_text lit }
+{
+    let text: &[u8] = if lit { b"on\n" } else { b"off\n" };
+    let mut chunk = Chunk::new();
+    let _ = chunk.try_extend_from_slice(text);
+    chunk
+}
+
+impl Blink {
+    /// The light is off.
+    pub fn new() -> Self
+        ensures { result ≡ record { lit = false; printed = false } }
+    {
+        Blink {
+            lit: false,
+            printed: false,
+        }
+    }
+}
+
+impl App for Blink {
+    ghost says = { blink_says };
+
+    fn turn(&mut self, stimulus: &Stimulus) -> Call {
+        match stimulus {
+            Stimulus::Event(Event { code: INIT, .. }) => {
+                *self = Blink::new();
+                Call::TimerSet(0, INTERVAL)
+            }
+            Stimulus::Event(Event { code: TIMER, .. }) => {
+                self.lit = !self.lit;
+                self.printed = true;
+                Call::Print(make_text(self.lit))
+            }
+            Stimulus::Answer(_) if self.printed => {
+                self.printed = false;
+                Call::TimerReset(0)
+            }
+            _ => Call::Wait,
+        }
+    }
+}

@@ -1,0 +1,129 @@
+//! An application that broadcasts a count.
+
+ghost use Rattle.std.specs.Prelude.{◌≡◌, None};
+ghost use Rattle.std.specs.Option.{option_map};
+ghost use Rattle.mote_apps.specs.Ping.{ping_says, number_text, number_given, asked_answer, asked_next, ring_answer, ring_next};
+ghost use Rattle.mote_apps.specs.declared.ping.Stage.{Stage};
+
+use itoa::Buffer;
+use mote_types::app::App;
+use mote_types::call::Call;
+use mote_types::event::{Event, INIT, Payload, Stimulus, TIMER};
+use mote_types::reply::{Chunk, Reply};
+
+/// The ticks from one broadcast to the next.
+const INTERVAL: u32 = 5;
+
+/// Which answer is awaited.
+#[derive(Clone, Copy, Debug, PartialEq, Eq, Drop)]
+pub enum Stage {
+    /// None.
+    Idle,
+    /// An event number.
+    Asked,
+    /// That of a broadcast.
+    Sent,
+}
+
+/// Draws an event number at its start. Each time that its event timer 0 has run out it broadcasts a count under that
+/// number, and resets the timer then. It prints each count that it is told under that number (this project's profile).
+#[derive(Drop)]
+pub struct Ping {
+    /// The event number that it has drawn.
+    pub number: Option<u8>,
+    /// The count that is broadcast next. It stays at its largest value.
+    pub count: u32,
+    pub stage: Stage,
+}
+
+/// The number in decimal, and a line end.
+fn make_text(n: u32) -> Chunk
+    ensures { result.items ≡ number_text n }
+{
+    let mut text = Chunk::new();
+    let _ = text.try_extend_from_slice(Buffer::new().format(n).as_bytes());
+    text.push(b'\n');
+    text
+}
+
+/// The event number that an answer gives.
+fn given_number(reply: &Reply) -> Option<u8>
+    ensures { result ≡ number_given reply.now }
+{
+    match reply {
+        Reply::Num(n) if *n <= 255 => Some(*n as u8),
+        _ => None,
+    }
+}
+
+impl Ping {
+    /// It has no number, and counts from 0.
+    pub fn new() -> Self
+        ensures { result ≡ record { number = None; count = 0; stage = Stage.Idle } }
+    {
+        Ping {
+            number: None,
+            count: 0,
+            stage: Stage::Idle,
+        }
+    }
+
+    /// The answer to `AllocEvent` has come.
+    fn begin(&mut self, reply: &Reply) -> Call
+        ensures call { result ≡ asked_answer (number_given reply.now) }
+        ensures state { self.new ≡ asked_next (number_given reply.now) self.old }
+    {
+        self.stage = Stage::Idle;
+        match given_number(reply) {
+            Some(number) => {
+                self.number = Some(number);
+                Call::TimerSet(0, INTERVAL)
+            }
+            None => Call::Exit,
+        }
+    }
+
+    /// The timer has run out.
+    fn ring(&mut self) -> Call
+        ensures call { result ≡ ring_answer self.old.number self.old.count }
+        ensures state { self.new ≡ ring_next self.old.number self.old }
+    {
+        match self.number {
+            Some(number) => {
+                let count = self.count;
+                self.count = count.saturating_add(1);
+                self.stage = Stage::Sent;
+                Call::Broadcast(number, Payload::Num(count))
+            }
+            None => Call::Wait,
+        }
+    }
+}
+
+impl App for Ping {
+    ghost says = { ping_says };
+
+    fn turn(&mut self, stimulus: &Stimulus) -> Call {
+        match stimulus {
+            Stimulus::Event(Event { code: INIT, .. }) => {
+                self.count = 0;
+                self.stage = Stage::Asked;
+                Call::AllocEvent
+            }
+            Stimulus::Event(Event { code: TIMER, .. }) => self.ring(),
+            Stimulus::Event(Event {
+                code,
+                payload: Payload::Num(n),
+            }) if self.number == Some(*code) => Call::Print(make_text(*n)),
+            Stimulus::Answer(reply) => match self.stage {
+                Stage::Idle => Call::Wait,
+                Stage::Asked => self.begin(reply),
+                Stage::Sent => {
+                    self.stage = Stage::Idle;
+                    Call::TimerReset(0)
+                }
+            },
+            _ => Call::Wait,
+        }
+    }
+}
