@@ -17,9 +17,9 @@ use mote_types::entry::Input;
 use mote_types::fault::BootFault;
 use node_memory::{NodeMemory, Sizes};
 use process_core::scheduler::Scheduler;
-use timer_core::timers::Timers;
 use std::alloc::Global;
 use std::marker::Model;
+use timer_core::timers::Timers;
 
 /// A mote's kernel: one machine of processes, events and a clock.
 #[derive(Drop)]

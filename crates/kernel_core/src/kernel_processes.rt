@@ -26,8 +26,7 @@ fn exited_application(payload: &Payload) -> Option<Pid>
 {
     match payload {
         Payload::Num(n)
-            if u32::from(FIRST_APPLICATION) <= *n && *n <= u32::from(LAST_APPLICATION) =>
-        {
+            if u32::from(FIRST_APPLICATION) <= *n && *n <= u32::from(LAST_APPLICATION) => {
             Some(Pid(*n as u8))
         }
         _ => None,
@@ -60,11 +59,13 @@ impl Core {
                 let _ = self.scheduler.post(pid, timer_event(number));
                 true
             }
-            Some(Due::Callback {
-                pid,
-                number,
-                arming,
-            }) => {
+            Some(
+                Due::Callback {
+                    pid,
+                    number,
+                    arming,
+                },
+            ) => {
                 let _ = self.scheduler.post_callback(pid, number, arming);
                 true
             }

@@ -124,7 +124,7 @@ impl Core {
         requires events { HasFitEvents self.old }
         ensures accepted { IfOk result (λ _. (callback_refusal number ≡ None)
             × (machine_of self.new ≡ etimer_marked (strike_out (is_callback_timer pid.0 number)
-                (with_timers (timers.set_timer self.old.clock (callback_timer pid.0 number) interval self.old.timers.timers) (machine_of self.old))))) }
+            (with_timers (timers.set_timer self.old.clock (callback_timer pid.0 number) interval self.old.timers.timers) (machine_of self.old))))) }
         ensures refused { IfErr result (λ r. (callback_refusal number ≡ Some r) × (self.new ≡ self.old)) }
         ensures kept { IsTimerCall self.old self.new }
     {
@@ -141,7 +141,7 @@ impl Core {
         requires events { HasFitEvents self.old }
         ensures accepted { IfOk result (λ _. (callback_refusal number ≡ None)
             × (machine_of self.new ≡ strike_out (is_callback_timer pid.0 number)
-                (with_timers (timers.stop_timer (callback_timer pid.0 number) self.old.timers.timers) (machine_of self.old)))) }
+            (with_timers (timers.stop_timer (callback_timer pid.0 number) self.old.timers.timers) (machine_of self.old)))) }
         ensures refused { IfErr result (λ r. (callback_refusal number ≡ Some r) × (self.new ≡ self.old)) }
         ensures kept { IsTimerCall self.old self.new }
     {

@@ -10,7 +10,11 @@ Word = Bor (List ℕ)
 
 -- the application of this name
 abbrev pub application_named : List ℕ → Option Application
-application_named name = if bytes_eq name (codes "hello") then Some Application.Hello else None
+application_named name =
+    if bytes_eq name (codes "hello") then Some Application.Hello
+    else if bytes_eq name (codes "blink") then Some Application.Blink
+    else if bytes_eq name (codes "ping") then Some Application.Ping
+    else None
 
 abbrev pub application_of : Word → Option Application
 application_of word = application_named word.now

@@ -8,6 +8,8 @@ ghost use Rattle.mote.specs.CommandLine.{application_named};
 pub enum Application {
     #[default]
     Hello,
+    Blink,
+    Ping,
 }
 
 impl Application {
@@ -17,6 +19,8 @@ impl Application {
     {
         match name {
             "hello" => Some(Application::Hello),
+            "blink" => Some(Application::Blink),
+            "ping" => Some(Application::Ping),
             _ => None,
         }
     }

@@ -11,7 +11,9 @@ mod tests;
 use application::Application;
 use devices::{Input, Output};
 use failure::{Failure, status_of};
+use mote_apps::blink::Blink;
 use mote_apps::hello::Hello;
+use mote_apps::ping::Ping;
 use mote_run::End;
 use mote_run::run::run;
 use mote_types::app::App;
@@ -30,6 +32,8 @@ fn run_words<'a, R: AllocGlobal + io::Input + Print>(
     for application in prepared.applications.as_slice() {
         match application {
             Application::Hello => boxes.push(Box::new(rt.alloc(), Hello)?)?,
+            Application::Blink => boxes.push(Box::new(rt.alloc(), Blink::new())?)?,
+            Application::Ping => boxes.push(Box::new(rt.alloc(), Ping::new())?)?,
         }
     }
     let reader = BufReader::new(rt.alloc(), rt.reader()).map_err(|_| Failure::OutOfMemory)?;

@@ -111,10 +111,12 @@ impl App for Ping {
                 Call::AllocEvent
             }
             Stimulus::Event(Event { code: TIMER, .. }) => self.ring(),
-            Stimulus::Event(Event {
-                code,
-                payload: Payload::Num(n),
-            }) if self.number == Some(*code) => Call::Print(make_text(*n)),
+            Stimulus::Event(
+                Event {
+                    code,
+                    payload: Payload::Num(n),
+                },
+            ) if self.number == Some(*code) => Call::Print(make_text(*n)),
             Stimulus::Answer(reply) => match self.stage {
                 Stage::Idle => Call::Wait,
                 Stage::Asked => self.begin(reply),

@@ -51,7 +51,12 @@ fn blink_turns_its_light_on_and_off(rt: HostRuntime) {
     assert!(rt; matches!(blink.turn(&event(INIT)), Call::TimerSet(0, 10)));
     assert!(rt; matches!(blink.turn(&Stimulus::Answer(Reply::Done)), Call::Wait));
     assert!(rt; prints(blink.turn(&event(TIMER)), b"on\n"));
-    assert!(rt; matches!(blink.turn(&Stimulus::Answer(Reply::Done)), Call::TimerReset(0)));
+    assert!(rt;
+        matches!(
+            blink.turn(&Stimulus::Answer(Reply::Done)),
+            Call::TimerReset(0)
+        )
+    );
     assert!(rt; matches!(blink.turn(&Stimulus::Answer(Reply::Done)), Call::Wait));
     assert!(rt; prints(blink.turn(&event(TIMER)), b"off\n"));
 }
@@ -60,10 +65,25 @@ fn blink_turns_its_light_on_and_off(rt: HostRuntime) {
 fn ping_counts_under_its_own_number(rt: HostRuntime) {
     let mut ping = Ping::new();
     assert!(rt; matches!(ping.turn(&event(INIT)), Call::AllocEvent));
-    assert!(rt; matches!(ping.turn(&Stimulus::Answer(Reply::Num(140))), Call::TimerSet(0, 5)));
+    assert!(rt;
+        matches!(
+            ping.turn(&Stimulus::Answer(Reply::Num(140))),
+            Call::TimerSet(0, 5)
+        )
+    );
     assert!(rt; matches!(ping.turn(&Stimulus::Answer(Reply::Done)), Call::Wait));
-    assert!(rt; matches!(ping.turn(&event(TIMER)), Call::Broadcast(140, Payload::Num(0))));
-    assert!(rt; matches!(ping.turn(&Stimulus::Answer(Reply::Done)), Call::TimerReset(0)));
+    assert!(rt;
+        matches!(
+            ping.turn(&event(TIMER)),
+            Call::Broadcast(140, Payload::Num(0))
+        )
+    );
+    assert!(rt;
+        matches!(
+            ping.turn(&Stimulus::Answer(Reply::Done)),
+            Call::TimerReset(0)
+        )
+    );
     let count = Stimulus::Event(Event {
         code: 140,
         payload: Payload::Num(0),

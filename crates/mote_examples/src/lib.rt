@@ -16,6 +16,8 @@ mod events;
 #[cfg(test)]
 mod harness;
 #[cfg(test)]
+mod memory;
+#[cfg(test)]
 mod nested_activations;
 #[cfg(test)]
 mod polls;
@@ -23,3 +25,5 @@ mod polls;
 mod processes;
 #[cfg(test)]
 mod scripts;
+#[cfg(test)]
+mod timers;

@@ -212,10 +212,26 @@ fn lines_of_calls(rt: HostRuntime) {
     );
     check_call(&rt, Call::TimerStop(0), "4 callback 3 -> timer-stop 0\n");
     check_call(&rt, Call::TimerReset(1), "4 callback 3 -> timer-reset 1\n");
-    check_call(&rt, Call::TimerRestart(2), "4 callback 3 -> timer-restart 2\n");
-    check_call(&rt, Call::TimerExpired(3), "4 callback 3 -> timer-expired 3\n");
-    check_call(&rt, Call::CallbackSet(3, 10), "4 callback 3 -> callback-set 3 10\n");
-    check_call(&rt, Call::CallbackStop(0), "4 callback 3 -> callback-stop 0\n");
+    check_call(
+        &rt,
+        Call::TimerRestart(2),
+        "4 callback 3 -> timer-restart 2\n",
+    );
+    check_call(
+        &rt,
+        Call::TimerExpired(3),
+        "4 callback 3 -> timer-expired 3\n",
+    );
+    check_call(
+        &rt,
+        Call::CallbackSet(3, 10),
+        "4 callback 3 -> callback-set 3 10\n",
+    );
+    check_call(
+        &rt,
+        Call::CallbackStop(0),
+        "4 callback 3 -> callback-stop 0\n",
+    );
     check_call(&rt, Call::Clock, "4 callback 3 -> clock\n");
     check_call(&rt, Call::Print(bytes(b"")), "4 callback 3 -> print -\n");
     check_call(&rt, Call::Wait, "4 callback 3 -> wait\n");
