@@ -13,8 +13,11 @@ use std::test::Fail;
 // Timer 1 was armed last and comes first; timer 0 keeps its place when it is set again.
 #[test]
 fn a_timer_that_is_set_again_keeps_its_place(rt: HostRuntime) -> Result<(), Fail> {
-    let mut apps =
-        steps![rt; [Call::TimerSet(0, 5), Call::TimerSet(1, 5), Call::TimerSet(0, 5)]];
+    let mut apps = steps![rt; [
+        Call::TimerSet(0, 5),
+        Call::TimerSet(1, 5),
+        Call::TimerSet(0, 5)
+    ]];
     let transcript = "\
 4 synch 129 - -> timer-set 0 5
 4 answer done -> timer-set 1 5
@@ -29,8 +32,12 @@ fn a_timer_that_is_set_again_keeps_its_place(rt: HostRuntime) -> Result<(), Fail
 
 #[test]
 fn a_callback_timer_that_was_set_again_runs_once(rt: HostRuntime) -> Result<(), Fail> {
-    let mut apps =
-        steps![rt; [Call::CallbackSet(0, 1), Call::TimerSet(0, 1), Call::Wait, Call::CallbackSet(0, 2)]];
+    let mut apps = steps![rt; [
+        Call::CallbackSet(0, 1),
+        Call::TimerSet(0, 1),
+        Call::Wait,
+        Call::CallbackSet(0, 2)
+    ]];
     let transcript = "\
 4 synch 129 - -> callback-set 0 1
 4 answer done -> timer-set 0 1
@@ -46,8 +53,11 @@ fn a_callback_timer_that_was_set_again_runs_once(rt: HostRuntime) -> Result<(), 
 
 #[test]
 fn a_due_timer_waits_for_room_in_the_queue(rt: HostRuntime) -> Result<(), Fail> {
-    let calls: [Call; 33] =
-        array::from_fn(|i| if i == 0 { Call::TimerSet(0, 0) } else { post(4, 140) });
+    let calls: [Call; 33] = array::from_fn(|i| if i == 0 {
+        Call::TimerSet(0, 0)
+    } else {
+        post(4, 140)
+    });
     let mut apps: Vec<Box<dyn App>> = Vec::new(rt.alloc());
     apps.push(Box::new(rt.alloc(), Steps::new(calls))?)?;
     let mut transcript = String::new(rt.alloc());
@@ -65,7 +75,16 @@ fn a_due_timer_waits_for_room_in_the_queue(rt: HostRuntime) -> Result<(), Fail> 
 
 #[test]
 fn a_timer_is_expired_where_it_is_not_armed(rt: HostRuntime) -> Result<(), Fail> {
-    let mut apps = steps![rt; [Call::TimerExpired(0), Call::TimerSet(0, 3), Call::TimerExpired(0), Call::TimerStop(0), Call::TimerExpired(0), Call::TimerRestart(0), Call::CallbackSet(0, 3), Call::CallbackStop(0)]];
+    let mut apps = steps![rt; [
+        Call::TimerExpired(0),
+        Call::TimerSet(0, 3),
+        Call::TimerExpired(0),
+        Call::TimerStop(0),
+        Call::TimerExpired(0),
+        Call::TimerRestart(0),
+        Call::CallbackSet(0, 3),
+        Call::CallbackStop(0)
+    ]];
     let transcript = "\
 4 synch 129 - -> timer-expired 0
 4 answer flag true -> timer-set 0 3
@@ -102,7 +121,12 @@ fn blink_resets_its_timer_and_catches_up(rt: HostRuntime) -> Result<(), Fail> {
 4 answer done -> timer-reset 0
 4 answer done -> wait
 ";
-    check(&rt, apps.as_mut_slice(), "tick 9\ntick 1\ntick 25\n", transcript)
+    check(
+        &rt,
+        apps.as_mut_slice(),
+        "tick 9\ntick 1\ntick 25\n",
+        transcript,
+    )
 }
 
 #[test]
@@ -126,7 +150,8 @@ fn ping_hears_its_own_broadcast(rt: HostRuntime) -> Result<(), Fail> {
 // The exit strikes the posted expiry out, though 4 runs again when it is delivered.
 #[test]
 fn an_exit_takes_a_posted_callback_back(rt: HostRuntime) -> Result<(), Fail> {
-    let mut apps = steps![rt; [Call::CallbackSet(0, 0), post(4, 140), Call::Wait, Call::Exit], [post(5, 141), Call::Wait, Call::Wait, Call::Start(4)]];
+    let mut apps =
+        steps![rt; [Call::CallbackSet(0, 0), post(4, 140), Call::Wait, Call::Exit], [post(5, 141), Call::Wait, Call::Wait, Call::Start(4)]];
     let transcript = "\
 4 synch 129 - -> callback-set 0 0
 4 answer done -> post 4 140 -
