@@ -1,10 +1,12 @@
 -- The state of the mote: its clock, its work, what the scheduler has, its timers and its memory.
-use Rattle.std.specs.Prelude.{ℕ, ◌+◌, ◌%◌, Bool, true, false, ◌&&◌, [], ◌∷◌, ◌==◌, nat_le}
+use Rattle.std.specs.Prelude.{ℕ, ◌+◌, Bool, true, false, ◌&&◌, [], ◌∷◌, nat_le}
 use Rattle.mote_types.specs.declared.entry.Entry.{Entry}
 use Rattle.mote_types.specs.declared.reply.Reply.{Reply}
 use Rattle.mote_types.specs.declared.refusal.Refusal.{Refusal}
 use Rattle.kernel_core.specs.declared.config.Config.{Config}
 use Rattle.node_memory.specs.Memory.{Memory, fresh_memory}
+use Rattle.node_memory.specs.Sizes.{are_sizes}
+use Rattle.node_memory.specs.declared.sizes.Sizes.{Sizes}
 use Rattle.process_core.specs.Agenda.{Queued, Item}
 use Rattle.process_core.specs.Scheduler.{Scheduler, at_boot, in_front, posted}
 use Rattle.process_core.specs.Requests.{answered}
@@ -21,13 +23,12 @@ pub record Machine : Type 0 where
   pub timers : Timers
   pub memory : Memory
 
--- whether a region has a size in that range, a multiple of 4
-abbrev pub is_size : ℕ → ℕ → Bool
-is_size least size = nat_le least size && nat_le size 65536 && size % 4 == 0
+abbrev pub sizes_of : Config → Sizes
+sizes_of c = record { mmem = c.mmem; heap = c.heap }
 
 -- the configurations that a mote boots with
 abbrev pub is_bootable : Config → Bool
-is_bootable c = is_size 4 c.mmem && is_size 20 c.heap && nat_le c.apps 16
+is_bootable c = are_sizes (sizes_of c) && nat_le c.apps 16
 
 abbrev pub booted : Config → Machine
 booted c =
@@ -37,7 +38,7 @@ booted c =
       is_halted = false;
       scheduler = at_boot c.apps;
       timers = no_timers;
-      memory = fresh_memory (record { mmem = c.mmem; heap = c.heap });
+      memory = fresh_memory (sizes_of c);
     }
 
 abbrev pub with_timers : Timers → Machine → Machine

@@ -70,12 +70,12 @@ pub record IsOnlyScheduled (old new : Core) : Type 0 where
   pub worked : IsOnlyWorked old new
   pub timers : new.timers ≡ old.timers
 
--- a call on a timer draws one number at most
-pub record IsTimerCall (old new : Core) : Type 0 where
+-- a call was carried out: it draws four numbers at most
+pub record IsCallDone (old new : Core) : Type 0 where
   pub worked : IsOnlyWorked old new
-  pub turn : new.scheduler.turn ≡ old.scheduler.turn
+  pub turn : new.scheduler.turn ≡ None
   pub events : HasFitEvents new
-  pub draws : debt new ≤ debt old + 1
+  pub draws : debt new ≤ debt old + 4
 
 -- what a kernel process did
 pub record IsServed (old new : Core) : Type 0 where

@@ -3,6 +3,11 @@
 ghost use Rattle.std.specs.Prelude.{◌≡◌};
 ghost use Rattle.kernel_core.specs.Machine as machine;
 
+use node_memory::Sizes;
+
+/// How many applications a mote may have.
+pub(crate) const MOST_APPLICATIONS: u8 = 16;
+
 /// The sizes of a mote (this project's profile).
 #[derive(Clone, Copy, Debug, PartialEq, Eq, Drop)]
 pub struct Config {
@@ -14,18 +19,14 @@ pub struct Config {
     pub apps: u8,
 }
 
-/// Whether a region may have this size.
-fn is_size(least: u32, size: u32) -> bool
-    ensures { result ≡ machine.is_size least size }
-{
-    least <= size && size <= 65_536 && size % 4 == 0
-}
-
 impl Config {
-    /// Whether a mote boots with these sizes.
-    pub fn is_bootable(&self) -> bool
-        ensures { result ≡ machine.is_bootable self.now }
+    /// The sizes of its memory.
+    pub(crate) fn sizes(&self) -> Sizes
+        ensures { result ≡ machine.sizes_of self.now }
     {
-        is_size(4, self.mmem) && is_size(20, self.heap) && self.apps <= 16
+        Sizes {
+            mmem: self.mmem,
+            heap: self.heap,
+        }
     }
 }

@@ -9,13 +9,13 @@ ghost use Rattle.kernel_core.specs.Machine.{is_bootable, booted};
 ghost use Rattle.kernel_core.specs.Run.{GoesOn, fed, heard, is_at_rest, made, ticks_of};
 ghost use Rattle.kernel_core.specs.Mote.{TakesEntry};
 
-use crate::config::Config;
+use crate::config::{Config, MOST_APPLICATIONS};
 use crate::core_state::Core;
 use crate::step::Step;
 use mote_types::app::App;
 use mote_types::entry::Input;
 use mote_types::fault::BootFault;
-use node_memory::{NodeMemory, Sizes};
+use node_memory::NodeMemory;
 use process_core::scheduler::Scheduler;
 use std::alloc::Global;
 use std::marker::Model;
@@ -47,14 +47,10 @@ impl Kernel {
         ensures booted { IfOk result (λ kernel. (kernel.machine ≡ booted config) × (kernel.inputs ≡ 0)) }
         ensures bad_sizes { IsErrOf result BootFault.BadSizes ↔ (is_bootable config ≡ false) }
     {
-        if !config.is_bootable() {
+        if config.apps > MOST_APPLICATIONS {
             return Err(BootFault::BadSizes);
         }
-        let sizes = Sizes {
-            mmem: config.mmem,
-            heap: config.heap,
-        };
-        let memory = NodeMemory::new(alloc, sizes)?;
+        let memory = NodeMemory::new(alloc, config.sizes())?;
         let scheduler = Scheduler::new(alloc, config.apps).map_err(|_| BootFault::Memory)?;
         let core = Core {
             clock: 0,

@@ -4,8 +4,10 @@
 mod calls;
 pub mod config;
 mod core_state;
+mod event_calls;
 pub mod kernel;
 mod kernel_processes;
+mod process_calls;
 pub mod step;
 mod timer_calls;
 

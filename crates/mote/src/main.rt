@@ -1,6 +1,11 @@
 //! Runs applications on a mote: a script comes from standard input, its transcript goes to standard output.
 #![tactic(auto)]
 
+ghost use Rattle.std.specs.Prelude.{◌≡◌, Some, IsErrOf};
+ghost use Rattle.mote.specs.CommandLine.{failure_of, names_in};
+ghost use Rattle.mote.specs.Statuses.{status_of_failure};
+ghost use Rattle.mote.specs.declared.failure.Failure.{Failure as Refused};
+
 mod application;
 mod devices;
 mod failure;
@@ -26,7 +31,9 @@ use std::{env, io};
 fn run_words<'a, R: AllocGlobal + io::Input + Print>(
     rt: &R,
     words: &'a [&'a str],
-) -> Result<End, Failure<'a>> {
+) -> Result<End, Failure<'a>>
+    ensures failure { (failure : Refused) → failure_of (names_in words.now) ≡ Some failure → IsErrOf result failure }
+{
     let prepared = prepare(rt.alloc(), words)?;
     let mut boxes: Vec<Box<dyn App>> = Vec::new(rt.alloc());
     for application in prepared.applications.as_slice() {
@@ -77,7 +84,9 @@ fn work<R: AllocGlobal + env::Env + io::Input + Print + Eprint>(
 }
 
 /// Tells a failure on standard error, and answers its status. Where standard error fails too, nothing is told.
-fn tell<R: Eprint>(rt: &R, failure: Failure<'_>) -> u8 {
+fn tell<R: Eprint>(rt: &R, failure: Failure<'_>) -> u8
+    ensures { result ≡ status_of_failure failure.entry }
+{
     let _ = eprintln!(rt; "{failure}");
     failure.status()
 }

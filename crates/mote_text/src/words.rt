@@ -147,6 +147,21 @@ fn push_arguments(line: &mut LineBuf, call: &Call)
     ensures length { length line.new.items ≤ length line.old.items + 298 }
 {
     match call {
+        Call::AllocEvent | Call::Clock | Call::Wait | Call::Exit | Call::MmemAvail => {}
+        Call::Poll(name)
+        | Call::Start(name)
+        | Call::Kill(name)
+        | Call::IsRunning(name)
+        | Call::TimerStop(name)
+        | Call::TimerReset(name)
+        | Call::TimerRestart(name)
+        | Call::TimerExpired(name)
+        | Call::CallbackStop(name)
+        | Call::MmemFree(name) => push_number(line, u64::from(*name)),
+        Call::TimerSet(name, n) | Call::CallbackSet(name, n) | Call::MmemAlloc(name, n) => {
+            push_number(line, u64::from(*name));
+            push_number(line, u64::from(*n));
+        }
         Call::Post(process, code, payload) | Call::PostSynch(process, code, payload) => {
             push_number(line, u64::from(*process));
             push_number(line, u64::from(*code));
@@ -156,26 +171,7 @@ fn push_arguments(line: &mut LineBuf, call: &Call)
             push_number(line, u64::from(*code));
             push_payload(line, payload);
         }
-        Call::Poll(process)
-        | Call::Start(process)
-        | Call::Kill(process)
-        | Call::IsRunning(process) => push_number(line, u64::from(*process)),
-        Call::TimerSet(timer, interval) | Call::CallbackSet(timer, interval) => {
-            push_number(line, u64::from(*timer));
-            push_number(line, u64::from(*interval));
-        }
-        Call::TimerStop(timer)
-        | Call::TimerReset(timer)
-        | Call::TimerRestart(timer)
-        | Call::TimerExpired(timer)
-        | Call::CallbackStop(timer) => push_number(line, u64::from(*timer)),
         Call::Print(chunk) => push_hex(line, chunk.as_slice()),
-        Call::AllocEvent | Call::Clock | Call::Wait | Call::Exit | Call::MmemAvail => {}
-        Call::MmemFree(handle) => push_number(line, u64::from(*handle)),
-        Call::MmemAlloc(handle, n) => {
-            push_number(line, u64::from(*handle));
-            push_number(line, u64::from(*n));
-        }
         Call::MmemWrite(handle, at, chunk) => {
             push_number(line, u64::from(*handle));
             push_number(line, u64::from(*at));

@@ -1,5 +1,8 @@
 //! How the kernel answers a call.
 
+ghost use Rattle.std.specs.Prelude.{◌≡◌, OnOk, IfErr};
+ghost use Rattle.mote_types.specs.declared.reply.Reply.{Reply as Answer};
+
 use crate::refusal::Refusal;
 use arrayvec::ArrayVec;
 
@@ -41,4 +44,17 @@ pub enum Reply {
     Bytes(Chunk),
     /// The state of the heap.
     Stats(HeapStats),
+}
+
+impl Reply {
+    /// The reply to a call that tells nothing but that it was carried out: `Done`, or why it was refused.
+    pub fn done_or_refused(outcome: Result<(), Refusal>) -> Reply
+        ensures done { OnOk outcome (result ≡ Answer.Done) }
+        ensures refused { IfErr outcome (λ refusal. result ≡ Answer.Refused refusal) }
+    {
+        match outcome {
+            Ok(()) => Reply::Done,
+            Err(refusal) => Reply::Refused(refusal),
+        }
+    }
 }

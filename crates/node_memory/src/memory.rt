@@ -1,7 +1,6 @@
 //! The arena with all that lies in it, and the calls on it.
 
-ghost use Rattle.std.specs.Prelude.{◌≡◌, ◌↔◌, true, false, OnOk, IfOk, IfErr, IsErrOf};
-ghost use Rattle.mote_types.specs.declared.reply.Reply.{Reply as Answer};
+ghost use Rattle.std.specs.Prelude.{◌≡◌, ◌↔◌, true, false, IfOk, IsErrOf};
 ghost use Rattle.node_memory.specs.Sizes.{are_sizes};
 ghost use Rattle.node_memory.specs.Ask as asking;
 
@@ -11,7 +10,6 @@ use mmem_core::Mmem;
 use mote_types::call::Call;
 use mote_types::event::Pid;
 use mote_types::fault::BootFault;
-use mote_types::refusal::Refusal;
 use mote_types::reply::Reply;
 use std::alloc::Global;
 use std::marker::Model;
@@ -49,17 +47,6 @@ pub fn is_memory_call(call: &Call) -> bool
     )
 }
 
-/// The reply of a call that tells nothing but that it was carried out.
-fn done_or_refused(outcome: Result<(), Refusal>) -> Reply
-    ensures done { OnOk outcome (result ≡ Answer.Done) }
-    ensures refused { IfErr outcome (λ refusal. result ≡ Answer.Refused refusal) }
-{
-    match outcome {
-        Ok(()) => Reply::Done,
-        Err(refusal) => Reply::Refused(refusal),
-    }
-}
-
 impl NodeMemory {
     ghost use Rattle.node_memory.specs.Layout.{BlocksLieApart};
     ghost use Rattle.node_memory.specs.Memory.{fresh_memory};
@@ -95,16 +82,16 @@ impl NodeMemory {
         ensures others { LeavesOthers call.now pid.0 self.old self.new }
     {
         match call {
-            Call::MmemAlloc(handle, n) => done_or_refused(self.mmem_alloc(pid, *handle, *n)),
-            Call::MmemFree(handle) => done_or_refused(self.mmem_free(pid, *handle)),
+            Call::MmemAlloc(handle, n) => Reply::done_or_refused(self.mmem_alloc(pid, *handle, *n)),
+            Call::MmemFree(handle) => Reply::done_or_refused(self.mmem_free(pid, *handle)),
             Call::MmemWrite(handle, at, chunk) => {
-                done_or_refused(self.mmem_write(pid, *handle, *at, chunk.as_slice()))
+                Reply::done_or_refused(self.mmem_write(pid, *handle, *at, chunk.as_slice()))
             }
             Call::MmemRead(handle, at, len) => match self.mmem_read(pid, *handle, *at, *len) {
                 Ok(chunk) => Reply::Bytes(chunk),
                 Err(refusal) => Reply::Refused(refusal),
             },
-            Call::MmemCopy(source, target) => done_or_refused(self.mmem_copy(
+            Call::MmemCopy(source, target) => Reply::done_or_refused(self.mmem_copy(
                 pid, *source, *target,
             )),
             Call::MmemAvail => Reply::Num(self.mmem_avail()),

@@ -1,5 +1,5 @@
-use Rattle.std.proofs.Common.{rules, ap, ◌∙◌, ℕ, Bool}
-use Rattle.kernel_core.specs.Calls.{is_callback_timer}
+use Rattle.std.proofs.Common.{arith, ap, ◌∙◌, ◌≡◌, ℕ, Bool, None}
+use Rattle.kernel_core.specs.Calls.{callback_refusal, done, is_callback_timer}
 use Rattle.kernel_core.specs.Expiries.{strike_out}
 use Rattle.kernel_core.specs.KernelProcesses.{etimer_marked}
 use Rattle.kernel_core.specs.Machine.{with_timers}
@@ -9,10 +9,11 @@ use Rattle.kernel_core.specs.declared.core_state.Core.{Core}
 use Rattle.kernel_core.proofs.Fitness.{renewed_one, struck_machine}
 use Rattle.kernel_core.proofs.core_state.Core.set_callback.Goals as goal
 
-pub returns-clause-accepted : goal.returns-clause-accepted
-returns-clause-accepted c =
+pub returns-clause-machine : goal.returns-clause-machine
+returns-clause-machine c =
     let k : Core = c.args.self.now in
     let test : ℕ → ℕ → Bool = is_callback_timer c.args.pid.0 c.args.number in
     let renewed = renewed_one c.args.pid.0 c.args.number k.timers.armings c.set_callback.new.self.armings c.set_callback.ensures.struck c.set_callback.ensures.others in
     let s = struck_machine test k c.set_callback.new.self renewed c.requires.events in
-    (search rules, rw c.mark.ensures.value (ap etimer_marked s ∙ ap (λ t. etimer_marked (strike_out test (with_timers t (machine_of k)))) (ap (λ t. t.timers) c.set_callback.ensures.changed)))
+    let accepted : callback_refusal c.args.number ≡ None = grind arith in
+    rw accepted (c.answer.ensures.machine ∙ ap (done c.args.pid.0) (rw c.mark.ensures.value (ap etimer_marked s ∙ ap (λ t. etimer_marked (strike_out test (with_timers t (machine_of k)))) (ap (λ t. t.timers) c.set_callback.ensures.changed))))

@@ -1,0 +1,102 @@
+//! What the kernel does at an application's calls on events. A call that is refused changes nothing.
+
+ghost use Rattle.std.specs.Prelude.{◌≡◌, None, Some};
+ghost use Rattle.mote_types.specs.declared.call.Call.{Call};
+ghost use Rattle.process_core.specs.Requests.{is_application};
+ghost use Rattle.kernel_core.specs.Calls as call_spec;
+ghost use Rattle.kernel_core.specs.Calls.{after_call};
+ghost use Rattle.kernel_core.specs.Draws.{HasFitEvents};
+ghost use Rattle.kernel_core.specs.View.{machine_of, IsCallDone};
+
+use crate::core_state::Core;
+use mote_types::event::{Event, FIRST_APPLICATION, Payload, Pid, is_reserved};
+use mote_types::refusal::Refusal;
+use mote_types::reply::Reply;
+
+fn event_of(code: u8, payload: &Payload) -> Event
+    ensures { result ≡ call_spec.event_of code payload.now }
+{
+    Event {
+        code,
+        payload: payload.copied(),
+    }
+}
+
+impl Core {
+    /// Whether a process is an application of this mote.
+    fn is_application(&self, pid: u8) -> bool
+        requires { self.now.applications ≡ self.now.scheduler.scheduler.applications }
+        ensures { result ≡ is_application self.now.scheduler.scheduler pid }
+    {
+        FIRST_APPLICATION <= pid && pid - FIRST_APPLICATION < self.applications
+    }
+
+    /// Puts an event for one application into the queue.
+    pub fn post(&mut self, pid: Pid, receiver: u8, code: u8, payload: &Payload)
+        requires turn { self.old.scheduler.turn ≡ Some pid }
+        requires nothing_shown { self.old.handed_in ≡ None }
+        requires events { HasFitEvents self.old }
+        requires applications { self.old.applications ≡ self.old.scheduler.scheduler.applications }
+        ensures machine { machine_of self.new ≡ after_call (Call.Post receiver code payload.now) pid.0 (machine_of self.old) }
+        ensures kept { IsCallDone self.old self.new }
+    {
+        if !self.is_application(receiver) {
+            return self.refuse(pid, Refusal::BadName);
+        }
+        if is_reserved(code) {
+            return self.refuse(pid, Refusal::Reserved);
+        }
+        match self.scheduler.post(Pid(receiver), event_of(code, payload)) {
+            Ok(()) => self.answer(pid, Reply::Done),
+            Err(refusal) => self.refuse(pid, refusal),
+        }
+    }
+
+    /// Puts an event for all processes into the queue.
+    pub fn broadcast(&mut self, pid: Pid, code: u8, payload: &Payload)
+        requires turn { self.old.scheduler.turn ≡ Some pid }
+        requires nothing_shown { self.old.handed_in ≡ None }
+        requires events { HasFitEvents self.old }
+        ensures machine { machine_of self.new ≡ after_call (Call.Broadcast code payload.now) pid.0 (machine_of self.old) }
+        ensures kept { IsCallDone self.old self.new }
+    {
+        if is_reserved(code) {
+            return self.refuse(pid, Refusal::Reserved);
+        }
+        match self.scheduler.broadcast(event_of(code, payload)) {
+            Ok(()) => self.answer(pid, Reply::Done),
+            Err(refusal) => self.refuse(pid, refusal),
+        }
+    }
+
+    /// Gives an application an event at once; the caller is answered after that.
+    pub fn post_synch(&mut self, pid: Pid, receiver: u8, code: u8, payload: &Payload)
+        requires turn { self.old.scheduler.turn ≡ Some pid }
+        requires nothing_shown { self.old.handed_in ≡ None }
+        requires events { HasFitEvents self.old }
+        ensures machine { machine_of self.new ≡ after_call (Call.PostSynch receiver code payload.now) pid.0 (machine_of self.old) }
+        ensures kept { IsCallDone self.old self.new }
+    {
+        match self
+            .scheduler
+            .synch(pid, Pid(receiver), event_of(code, payload))
+        {
+            Ok(()) => {}
+            Err(refusal) => self.refuse(pid, refusal),
+        }
+    }
+
+    /// Draws an event number.
+    pub fn alloc_event(&mut self, pid: Pid)
+        requires turn { self.old.scheduler.turn ≡ Some pid }
+        requires nothing_shown { self.old.handed_in ≡ None }
+        requires events { HasFitEvents self.old }
+        ensures machine { machine_of self.new ≡ after_call Call.AllocEvent pid.0 (machine_of self.old) }
+        ensures kept { IsCallDone self.old self.new }
+    {
+        match self.scheduler.alloc_event() {
+            Ok(number) => self.answer(pid, Reply::Num(u32::from(number))),
+            Err(refusal) => self.refuse(pid, refusal),
+        }
+    }
+}
