@@ -1,0 +1,122 @@
+-- What the numbers of a pool stand for, by whether each is used and by the bytes of each.
+use Rattle.std.proofs.Common.{◌≡◌, ◌≢◌, ℕ, zero, suc, ◌+◌, ◌<◌, inl, inr, Bool, true, false, not, List, [], ◌∷◌, ◌++◌, length, take, get_or, set, refl, sym, ap, ◌∙◌, subst, arith}
+use Rattle.std.specs.Prelude.{Option, Some, None, is_some, is_none, filter, replicate, if◌then◌else◌}
+use Rattle.std.specs.List.{position, position_or_len, refill}
+use Rattle.std.proofs.lemmas.List.{drop_all, take_all, append-nil, length-set, ext_get_or, get_or-set_same, get_or-set_other, get_or_past}
+use Rattle.std.proofs.lemmas.Bool.{cases_eq, cases_lt, false≢true}
+use Rattle.memb_core.specs.declared.pool.Pool.{Pool}
+use Rattle.memb_core.specs.BlockPool.{is_live, first_unused, unused_count}
+use Rattle.memb_core.specs.PoolBytes.{blocks_from, usable_bytes, region_of, pool_of}
+use Rattle.memb_core.specs.Links.{is_used}
+
+-- what number b stands for
+abbrev pub entry : (ℕ → List ℕ) → List Bool → ℕ → Option (List ℕ)
+entry bytes_at used b = if get_or used b false then Some (bytes_at b) else None
+
+get_or-from : (f : ℕ → List ℕ) (n : ℕ) (used : List Bool) (b : ℕ) → get_or (blocks_from f n used) b None ≡ (if get_or used b false then Some (f (n + b)) else None)
+get_or-from f n [] b = refl
+get_or-from f n (u ∷ used) zero = let e : n ≡ n + 0 = omega arith in ap (λ k. if u then Some (f k) else None) e
+get_or-from f n (u ∷ used) (suc b) =
+    let e : n + 1 + b ≡ n + suc b = omega arith in
+    get_or-from f (n + 1) used b ∙ ap (λ k. if get_or used b false then Some (f k) else None) e
+
+pub get_or-blocks : (f : ℕ → List ℕ) (used : List Bool) (b : ℕ) → get_or (blocks_from f 0 used) b None ≡ entry f used b
+get_or-blocks f used b =
+    let e : 0 + b ≡ b = omega arith in get_or-from f 0 used b ∙ ap (λ k. if get_or used b false then Some (f k) else None) e
+
+length-from : (f : ℕ → List ℕ) (n : ℕ) (used : List Bool) → length (blocks_from f n used) ≡ length used
+length-from f n [] = refl
+length-from f n (u ∷ used) = ap suc (length-from f (n + 1) used)
+
+-- one number stands for something else, and all others for what they did
+pub blocks_changed : (f g : ℕ → List ℕ) (us vs : List Bool) (b : ℕ) (block : Option (List ℕ)) → length vs ≡ length us → b < length us → entry g vs b ≡ block
+    → ((c : ℕ) → c < length us → c ≢ b → entry g vs c ≡ entry f us c) → blocks_from g 0 vs ≡ set (blocks_from f 0 us) b block
+blocks_changed f g us vs b block long within here others =
+    let old = blocks_from f 0 us in let new = blocks_from g 0 vs in
+    let many : length new ≡ length us = length-from g 0 vs ∙ long in
+    let many' : length old ≡ length us = length-from f 0 us in
+    let same : length new ≡ length (set old b block) = many ∙ sym (length-set old b block ∙ many') in
+    ext_get_or None new (set old b block) same (λ c l. elim (cases_eq c b) [
+      | inl e ↦ ap (λ k. get_or new k None) e ∙ get_or-blocks g vs b ∙ here ∙ sym (get_or-set_same old b block None (omega arith)) ∙ ap (λ k. get_or (set old b block) k None) (sym e)
+      | inr ne ↦ get_or-blocks g vs c ∙ others c (omega arith) ne ∙ sym (get_or-blocks f us c) ∙ sym (get_or-set_other old b c block None ne)
+    ])
+
+pub blocks_same : (f g : ℕ → List ℕ) (us : List Bool) → ((c : ℕ) → c < length us → g c ≡ f c) → blocks_from g 0 us ≡ blocks_from f 0 us
+blocks_same f g us same =
+    let old = blocks_from f 0 us in let new = blocks_from g 0 us in
+    let many : length new ≡ length us = length-from g 0 us in
+    let many' : length old ≡ length us = length-from f 0 us in
+    ext_get_or None new old (many ∙ sym many') (λ c l.
+    get_or-blocks g us c ∙ ap (λ bytes. if get_or us c false then Some bytes else None) (same c (omega arith)) ∙ sym (get_or-blocks f us c))
+
+pub entry_used : (f : ℕ → List ℕ) (us : List Bool) (b : ℕ) → get_or us b false ≡ true → entry f us b ≡ Some (f b)
+entry_used f us b used = ap (λ u. if u then Some (f b) else None) used
+
+pub entry_unused : (f : ℕ → List ℕ) (us : List Bool) (b : ℕ) → get_or us b false ≡ false → entry f us b ≡ None
+entry_unused f us b unused = ap (λ u. if u then Some (f b) else None) unused
+
+pub entry_same : (f g : ℕ → List ℕ) (us vs : List Bool) (b : ℕ) → g b ≡ f b → get_or vs b false ≡ get_or us b false → entry g vs b ≡ entry f us b
+entry_same f g us vs b e u = ap (λ bytes. if get_or vs b false then Some bytes else None) e ∙ ap (λ v. if v then Some (f b) else None) u
+
+-- a used block is one of the pool's
+pub used_below : (us : List Bool) (b : ℕ) → get_or us b false ≡ true → b < length us
+used_below us b used = elim (cases_lt b (length us)) [
+  | inl below ↦ below
+  | inr past ↦ absurd (false≢true (sym (get_or_past us b false past) ∙ used))
+]
+
+some_if : (u : Bool) (bytes : List ℕ) → is_some (if u then Some bytes else None) ≡ u
+some_if true bytes = refl
+some_if false bytes = refl
+
+none_if : (u : Bool) (bytes : List ℕ) → is_none (if u then Some bytes else None) ≡ not u
+none_if true bytes = refl
+none_if false bytes = refl
+
+pub live_is : (b : ℕ) (pool : Pool) (bytes : List ℕ) → is_live b (pool_of pool bytes) ≡ is_used b pool
+unfolding pool_of
+live_is b pool bytes =
+    let f = usable_bytes pool (region_of pool bytes) in
+    ap is_some (get_or-blocks f pool.used.items b) ∙ some_if (get_or pool.used.items b false) (f b)
+
+-- the unused ones
+place_from : (f : ℕ → List ℕ) (n : ℕ) (us : List Bool) → position_or_len is_none (blocks_from f n us) ≡ position_or_len not us
+place_from f n [] = refl
+place_from f n (true ∷ us) = ap (λ k. 1 + k) (place_from f (n + 1) us)
+place_from f n (false ∷ us) = refl
+
+pub first_unused_is : (pool : Pool) (bytes : List ℕ) → first_unused (pool_of pool bytes) ≡ position not pool.used.items
+unfolding pool_of
+first_unused_is pool bytes =
+    let f = usable_bytes pool (region_of pool bytes) in
+    let place = place_from f 0 pool.used.items in let many = length-from f 0 pool.used.items in
+    rw (place, many) refl
+
+count_from : (f : ℕ → List ℕ) (n : ℕ) (us : List Bool) → length (filter is_none (blocks_from f n us)) ≡ length (filter not us)
+count_from f n [] = refl
+count_from f n (true ∷ us) = count_from f (n + 1) us
+count_from f n (false ∷ us) = ap suc (count_from f (n + 1) us)
+
+pub unused_count_is : (pool : Pool) (bytes : List ℕ) → unused_count (pool_of pool bytes) ≡ length (filter not pool.used.items)
+unfolding pool_of
+unused_count_is pool bytes = count_from (usable_bytes pool (region_of pool bytes)) 0 pool.used.items
+
+pub all_unused : (f : ℕ → List ℕ) (n count : ℕ) → blocks_from f n (replicate count false) ≡ replicate count None
+all_unused f n zero = refl
+all_unused f n (suc count) = ap (λ l. None ∷ l) (all_unused f (n + 1) count)
+
+-- the flags after a write of one of them
+pub refilled : (us flags : List Bool) (b : ℕ) (u : Bool) → flags ≡ us → refill (length us) us (set flags b u) ≡ set us b u
+refilled us flags b u same =
+    let long : length (set us b u) ≡ length us = length-set us b u in
+    ap (λ l. refill (length us) us (set l b u)) same
+    ∙ ap (λ l. take (length us) (set us b u ++ l)) (drop_all (length (set us b u)) us (omega arith))
+    ∙ ap (take (length us)) (append-nil (set us b u))
+    ∙ take_all (length us) (set us b u) (omega arith)
+
+-- a block that was used still is when another one, or the same, is taken into use
+pub still_used : (us : List Bool) (b c : ℕ) → get_or us c false ≡ true → get_or (set us b true) c false ≡ true
+still_used us b c used = elim (cases_eq c b) [
+  | inl e ↦ ap (λ k. get_or (set us b true) k false) e ∙ get_or-set_same us b true false (subst (λ k. k < length us) e (used_below us c used))
+  | inr ne ↦ get_or-set_other us b c true false ne ∙ used
+]

@@ -1,0 +1,6 @@
+pub mod Blocks
+pub mod Bytes
+pub mod Callers
+pub mod Chains
+pub mod Linked
+pub mod Numbers

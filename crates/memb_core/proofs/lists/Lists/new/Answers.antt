@@ -1,0 +1,15 @@
+use Rattle.std.proofs.Common.{◌≡◌, None, refl}
+use Rattle.memb_core.specs.declared.list_name.ListName.{ListName}
+use Rattle.memb_core.specs.Links.{start_of}
+use Rattle.memb_core.proofs.Linked.{none_listed, empty_linked}
+use Rattle.memb_core.proofs.lists.Lists.new.Goals as goal
+
+no_start : (name : ListName) → start_of name (record { first = None; second = None }) ≡ None
+no_start ListName.First = refl
+no_start ListName.Second = refl
+
+pub returns-clause-linked : goal.returns-clause-linked
+returns-clause-linked c pool bytes within = empty_linked _ pool bytes no_start within
+
+pub returns-clause-empty : goal.returns-clause-empty
+returns-clause-empty c pool bytes name = none_listed name _ pool bytes (no_start name)

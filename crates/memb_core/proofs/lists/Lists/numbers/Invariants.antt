@@ -1,0 +1,10 @@
+use Rattle.std.proofs.Common.{◌-◌, length}
+use Rattle.memb_core.specs.Links.{link_of, list_of}
+use Rattle.memb_core.proofs.Chains.{IsWalked}
+use Rattle.memb_core.proofs.lists.Lists.numbers.Given as goal
+
+abbrev pub invariant-loop-link : goal.invariant-loop-link
+invariant-loop-link l = IsWalked (link_of l.pool l.arena.bytes) l.link l.numbers.items (list_of l.fn.name l.self l.pool l.arena.bytes)
+
+abbrev pub decreases-loop-link : goal.decreases-loop-link
+decreases-loop-link l = 16 - length l.numbers.items

@@ -1,0 +1,31 @@
+use Rattle.std.proofs.Common.{◌≡◌, refl, sym, ap, ◌∙◌}
+use Rattle.memb_core.specs.BlockLists.{popped}
+use Rattle.memb_core.specs.Links.{with_start, link_of, list_of}
+use Rattle.memb_core.proofs.Linked.{listed_below, link_small, start_listed, head_out, listed, leaves}
+use Rattle.memb_core.proofs.lists.Lists.pop.Goals as goal
+
+pub link-next-requires-clause-block : goal.link-next-requires-clause-block
+link-next-requires-clause-block c =
+    let had = start_listed c.args.name c.args.self.now c.args.pool.now c.args.arena.now.bytes c.in_ok-head.head c.requires (sym c.in_ok-head.ensures.start) in
+    listed_below c.args.name c.args.self.now c.args.pool.now c.args.arena.now.bytes c.in_ok-head.head c.requires had
+
+pub link-next-requires-clause-number : goal.link-next-requires-clause-number
+link-next-requires-clause-number c =
+    let had = start_listed c.args.name c.args.self.now c.args.pool.now c.args.arena.now.bytes c.in_ok-head.head c.requires (sym c.in_ok-head.ensures.start) in
+    link_small c.args.name c.args.self.now c.args.pool.now c.args.arena.now.bytes c.in_ok-head.head c.requires had
+
+pub returns-clause-list : goal.returns-clause-list
+returns-clause-list c =
+    let old = c.args.self.now in let pool = c.args.pool.now in let bytes = c.args.arena.now.bytes in let head = c.in_ok-head.head in
+    let same : c.put_head.new.self ≡ with_start c.args.name (link_of pool bytes head) old =
+    c.put_head.ensures ∙ ap (λ s. with_start c.args.name s old) c.link-next.ensures in
+    listed c.args.name pool old c.put_head.new.self bytes bytes (popped (list_of c.args.name old pool bytes)) c.requires
+    (head_out c.args.name pool old bytes c.requires head c.put_head.new.self (sym c.in_ok-head.ensures.start) same)
+
+pub returns-clause-others : goal.returns-clause-others
+returns-clause-others c =
+    let old = c.args.self.now in let pool = c.args.pool.now in let bytes = c.args.arena.now.bytes in let head = c.in_ok-head.head in
+    let same : c.put_head.new.self ≡ with_start c.args.name (link_of pool bytes head) old =
+    c.put_head.ensures ∙ ap (λ s. with_start c.args.name s old) c.link-next.ensures in
+    leaves c.args.name pool old c.put_head.new.self bytes bytes (popped (list_of c.args.name old pool bytes)) c.requires
+    (head_out c.args.name pool old bytes c.requires head c.put_head.new.self (sym c.in_ok-head.ensures.start) same) refl

@@ -1,0 +1,43 @@
+use Rattle.std.proofs.Common.{◌≡◌, ◌≢◌, true, sym, ◌∙◌}
+use Rattle.memb_core.specs.BlockLists.{put_behind}
+use Rattle.memb_core.specs.PoolBytes.{IsWithin}
+use Rattle.memb_core.specs.Links.{list_of, is_used}
+use Rattle.memb_core.proofs.Blocks.{live_is, used_below}
+use Rattle.memb_core.proofs.Callers.{IsWithin-kept}
+use Rattle.memb_core.proofs.Linked.{link_small, Changes, behind_in, listed, leaves}
+use Rattle.memb_core.proofs.Numbers.{differ}
+use Rattle.memb_core.proofs.lists.Lists.put_behind.Goals as goal
+use Rattle.memb_core.proofs.lists.Lists.put_behind.Goals.{After-put_link-2}
+
+pub link-next-requires-clause-number : goal.link-next-requires-clause-number
+link-next-requires-clause-number c =
+    link_small c.args.name c.args.self.now c.args.pool.now c.args.arena.now.bytes c.args.prev c.requires.linked c.requires.listed
+
+pub put_link-requires-clause-block : goal.put_link-requires-clause-block
+put_link-requires-clause-block c =
+    used_below c.args.pool.now.used.items c.args.b (sym (live_is c.args.b c.args.pool.now c.args.arena.now.bytes) ∙ c.requires.live)
+
+-- what the two writes make of the list
+changes : (c : After-put_link-2) → Changes c.args.name c.args.pool.now c.args.self.now c.args.self.now c.args.arena.now.bytes c.put_link-2.new.arena.bytes
+    (put_behind c.args.prev c.args.b (list_of c.args.name c.args.self.now c.args.pool.now c.args.arena.now.bytes))
+changes c =
+    let lists = c.args.self.now in let pool = c.args.pool.now in let before = c.args.arena.now in let b = c.args.b in let prev = c.args.prev in
+    let used : is_used b pool ≡ true = sym (live_is b pool before.bytes) ∙ c.requires.live in
+    let middle : IsWithin pool c.put_link.new.arena.bytes = IsWithin-kept pool pool before c.put_link.new.arena c.put_link.ensures.rest c.requires.linked.within in
+    let within : IsWithin pool c.put_link-2.new.arena.bytes = IsWithin-kept pool pool c.put_link.new.arena c.put_link-2.new.arena c.put_link-2.ensures.rest middle in
+    let apart : prev ≢ b = differ prev b (list_of c.args.name lists pool before.bytes) c.requires.listed (c.requires.not_linked c.args.name) in
+    behind_in c.args.name pool lists before.bytes c.requires.linked b used c.requires.not_linked c.put_link-2.new.arena.bytes within prev c.requires.listed
+    (c.put_link-2.ensures.others b (λ e. apart (sym e)) ∙ c.put_link.ensures.link ∙ c.link-next.ensures)
+    c.put_link-2.ensures.link
+    (λ d used' far far'. c.put_link-2.ensures.others d far' ∙ c.put_link.ensures.others d far)
+
+pub returns-clause-list : goal.returns-clause-list
+returns-clause-list c =
+    listed c.args.name c.args.pool.now c.args.self.now c.args.self.now c.args.arena.now.bytes c.put_link-2.new.arena.bytes
+    (put_behind c.args.prev c.args.b (list_of c.args.name c.args.self.now c.args.pool.now c.args.arena.now.bytes)) c.requires.linked (changes c)
+
+pub returns-clause-others : goal.returns-clause-others
+returns-clause-others c =
+    leaves c.args.name c.args.pool.now c.args.self.now c.args.self.now c.args.arena.now.bytes c.put_link-2.new.arena.bytes
+    (put_behind c.args.prev c.args.b (list_of c.args.name c.args.self.now c.args.pool.now c.args.arena.now.bytes)) c.requires.linked (changes c)
+    (c.put_link-2.ensures.blocks ∙ c.put_link.ensures.blocks)

@@ -1,0 +1,22 @@
+use Rattle.std.proofs.Common.{◌≡◌, ℕ, ◌+◌, ◌<◌, slice_range, sym, ap, subst, ◌∙◌}
+use Rattle.std.specs.Prelude.{Option, IfSome}
+use Rattle.std.specs.Int.{from_le_bytes}
+use mir.Syntax.{w32}
+use Rattle.memb_core.specs.Links.{named_by, link_of}
+use Rattle.memb_core.proofs.Bytes.{link_read}
+use Rattle.memb_core.proofs.pool.Pool.link.Goals as goal
+
+pub block_named-requires : goal.block_named-requires
+block_named-requires c =
+    let pool = c.args.self.now in let bytes = c.args.arena.now.bytes in
+    let named : link_of pool bytes c.args.b ≡ named_by c.word.result =
+    link_read pool bytes c.requires.within c.args.b c.requires.block
+    ∙ ap named_by (sym (c.word.ensures ∙ ap (λ place. from_le_bytes w32 (slice_range bytes (pool.span.at + place) (pool.span.at + place + 4))) c.place.ensures.place)) in
+    subst (λ (o : Option ℕ). IfSome o (λ next. next < 256)) named c.requires.number
+
+pub returns : goal.returns
+returns c =
+    let pool = c.args.self.now in let bytes = c.args.arena.now.bytes in
+    c.block_named.ensures
+    ∙ ap named_by (c.word.ensures ∙ ap (λ place. from_le_bytes w32 (slice_range bytes (pool.span.at + place) (pool.span.at + place + 4))) c.place.ensures.place)
+    ∙ sym (link_read pool bytes c.requires.within c.args.b c.requires.block)

@@ -1,0 +1,8 @@
+use Rattle.std.proofs.Common.{ap, sym, ◌∙◌, length, not}
+use Rattle.std.specs.Prelude.{filter}
+use Rattle.memb_core.proofs.Blocks.{unused_count_is}
+use Rattle.memb_core.proofs.pool.Pool.num_free.Goals as goal
+
+pub returns : goal.returns
+returns c bytes =
+    c.count_unset.ensures.count ∙ ap (λ flags. length (filter not flags)) c.deref.ensures.0 ∙ sym (unused_count_is c.args.self.now bytes)

@@ -1,0 +1,49 @@
+-- The lists of a pool as their users see them: block numbers in order, the head first.
+use Rattle.std.specs.Prelude.{ℕ, ◌-◌, Bool, not, List, [], ◌∷◌, ◌++◌, length, take, drop, filter, slice_get, Option, Some, None, if◌then◌else◌, ◌==◌}
+use Rattle.std.specs.List.{list_any}
+use Rattle.memb_core.specs.declared.list_name.ListName.{ListName}
+
+abbrev pub has_number : ℕ → List ℕ → Bool
+has_number b list = list_any (λ other. other == b) list
+
+abbrev pub without : ℕ → List ℕ → List ℕ
+without b list = filter (λ other. not (other == b)) list
+
+abbrev pub head_of : List ℕ → Option ℕ
+head_of list = slice_get list 0
+
+abbrev pub tail_of : List ℕ → Option ℕ
+tail_of list = slice_get list (length list - 1)
+
+-- what stands behind b
+abbrev pub next_of : ℕ → List ℕ → Option ℕ
+next_of b [] = None
+next_of b (other ∷ later) = if other == b then head_of later else next_of b later
+
+-- b directly behind prev
+abbrev pub put_behind : ℕ → ℕ → List ℕ → List ℕ
+put_behind prev b [] = []
+put_behind prev b (other ∷ later) = if other == prev then other ∷ (b ∷ later) else other ∷ put_behind prev b later
+
+-- each of these takes b out first, if it is in the list
+abbrev pub added : ℕ → List ℕ → List ℕ
+added b list = without b list ++ b ∷ []
+
+abbrev pub pushed : ℕ → List ℕ → List ℕ
+pushed b list = b ∷ without b list
+
+abbrev pub inserted : ℕ → ℕ → List ℕ → List ℕ
+inserted prev b list = put_behind prev b (without b list)
+
+-- without the head
+abbrev pub popped : List ℕ → List ℕ
+popped list = drop 1 list
+
+-- without the tail
+abbrev pub chopped : List ℕ → List ℕ
+chopped list = take (length list - 1) list
+
+-- the one of two lists that has b
+abbrev pub holder_of : ℕ → List ℕ → List ℕ → Option ListName
+holder_of b first second =
+    if has_number b first then Some ListName.First else if has_number b second then Some ListName.Second else None

@@ -1,0 +1,46 @@
+-- A pool as its users see it: a map from block numbers to byte lists. A block has no place in it, and no link.
+use Rattle.std.specs.Prelude.{ℕ, Bool, List, [], length, replicate, filter, slice_set, slice_index_or, Option, Some, None, is_some, is_none, unwrap_or}
+use Rattle.std.specs.List.{position}
+use Rattle.mote_types.specs.Bytes.{zeros, overwritten}
+
+pub record BlockPool : Type 0 where
+  -- how many bytes of a block may be used
+  pub usable : ℕ
+  -- what each number stands for: the bytes of its block, if it is used
+  pub blocks : List (Option (List ℕ))
+
+-- so many blocks, none of which is used
+abbrev pub unused_pool : ℕ → ℕ → BlockPool
+unused_pool count usable = record { usable = usable; blocks = replicate count None }
+
+-- the bytes of block b, if it is used
+abbrev pub block_of : ℕ → BlockPool → Option (List ℕ)
+block_of b pool = slice_index_or pool.blocks b None
+
+abbrev pub is_live : ℕ → BlockPool → Bool
+is_live b pool = is_some (block_of b pool)
+
+-- the unused block of lowest number
+abbrev pub first_unused : BlockPool → Option ℕ
+first_unused pool = position is_none pool.blocks
+
+abbrev pub unused_count : BlockPool → ℕ
+unused_count pool = length (filter is_none pool.blocks)
+
+-- number b stands for these bytes from now on, or for none
+abbrev pub with_block : ℕ → Option (List ℕ) → BlockPool → BlockPool
+with_block b bytes pool = record pool { blocks = slice_set pool.blocks b bytes }
+
+abbrev pub allocated : ℕ → BlockPool → BlockPool
+allocated b pool = with_block b (Some (zeros pool.usable)) pool
+
+abbrev pub freed : ℕ → BlockPool → BlockPool
+freed b = with_block b None
+
+-- the bytes of block b
+abbrev pub bytes_of : ℕ → BlockPool → List ℕ
+bytes_of b pool = unwrap_or (block_of b pool) []
+
+-- these bytes stand in block b from that place on
+abbrev pub with_bytes : ℕ → ℕ → List ℕ → BlockPool → BlockPool
+with_bytes b at bytes pool = with_block b (Some (overwritten at bytes (bytes_of b pool))) pool

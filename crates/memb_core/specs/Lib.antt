@@ -1,0 +1,4 @@
+pub mod BlockLists
+pub mod BlockPool
+pub mod Links
+pub mod PoolBytes

@@ -1,0 +1,8 @@
+//! The names of a pool's lists.
+
+/// One of the two lists of a pool.
+#[derive(Clone, Copy, Debug, PartialEq, Eq, Drop)]
+pub enum ListName {
+    First,
+    Second,
+}
