@@ -1,0 +1,105 @@
+-- Lines, byte by byte.
+use Rattle.std.proofs.Common.{◌≡◌, ℕ, zero, suc, ◌≤◌, ◌<◌, ◌+◌, ◌-◌, Bool, true, false, List, [], ◌∷◌, ◌++◌, length, take, drop, refl, ap, sym, ◌∙◌, arith, append_assoc, Some, None, length-append, length-take, ◌⊎◌, inl, inr}
+use Rattle.std.proofs.lemmas.List.{take_all, take_at, append-nil}
+use Rattle.std.proofs.lemmas.Bool.Decides.{nat_tests}
+use Rattle.std.specs.Prelude.{slice_get}
+use Rattle.std.specs.List.{list_any, before_first, after_first, position_or_len}
+use Rattle.circular_buffer.specs.Buffer.{keep_last}
+use Rattle.device_core.specs.SerialLine.{SerialLine, next_line, after_line, after_byte, with_bytes, is_line_end}
+
+abbrev pub state : List ℕ → Bool → List ℕ → SerialLine
+state ring overflow line = record { ring = ring; overflow = overflow; line = line }
+
+-- the next line of the two is the same, and so is what stays behind it
+pub record ServesAlike (s t : SerialLine) : Type 0 where
+  pub line : next_line s ≡ next_line t
+  pub rest : after_line s ≡ after_line t
+
+-- what is cut off stays cut off
+take_take_append : (n : ℕ) (xs ys : List ℕ) → take n (take n xs ++ ys) ≡ take n (xs ++ ys)
+take_take_append zero xs ys = refl
+take_take_append (suc n) [] ys = refl
+take_take_append (suc n) (x ∷ xs) ys = ap (λ l. x ∷ l) (take_take_append n xs ys)
+
+with_bytes_one_more : (line : List ℕ) (byte : ℕ) (bytes : List ℕ) → with_bytes (with_bytes line (byte ∷ [])) bytes ≡ with_bytes line (byte ∷ bytes)
+with_bytes_one_more line byte bytes = take_take_append 127 (line ++ byte ∷ []) bytes ∙ ap (take 127) (append_assoc line (byte ∷ []) bytes)
+
+with_bytes_nil : (line : List ℕ) → length line ≤ 127 → with_bytes line [] ≡ line
+with_bytes_nil line fits = rw append-nil (take_all 127 line fits)
+
+pub with_bytes_room : (line : List ℕ) (byte : ℕ) → length line < 127 → with_bytes line (byte ∷ []) ≡ line ++ byte ∷ []
+with_bytes_room line byte room = take_all 127 (line ++ byte ∷ []) (omega (arith, length-append line (byte ∷ [])))
+
+pub with_bytes_full : (line : List ℕ) (byte : ℕ) → length line ≡ 127 → with_bytes line (byte ∷ []) ≡ line
+with_bytes_full line byte full = take_at line (byte ∷ []) 127 full
+
+pub with_bytes_fits : (line bytes : List ℕ) → length (with_bytes line bytes) ≤ 127
+with_bytes_fits line bytes = omega (arith, length-take 127 (line ++ bytes))
+
+first_and_rest : (xs : List ℕ) (x : ℕ) → slice_get xs 0 ≡ Some x → xs ≡ x ∷ drop 1 xs
+first_and_rest [] x h = absurd (cc)
+first_and_rest (y ∷ ys) x h = cc
+
+nothing_first : (xs : List ℕ) → slice_get xs 0 ≡ None → xs ≡ []
+nothing_first [] h = refl
+nothing_first (x ∷ xs) h = absurd (cc)
+
+one_more : (n : ℕ) → 1 + n ≡ suc n
+one_more n = omega arith
+
+list_any_past : (byte : ℕ) (ring : List ℕ) → is_line_end byte ≡ false → list_any is_line_end (byte ∷ ring) ≡ list_any is_line_end ring
+list_any_past byte ring h = rw h refl
+
+before_first_past : (byte : ℕ) (ring : List ℕ) → is_line_end byte ≡ false → before_first is_line_end (byte ∷ ring) ≡ byte ∷ before_first is_line_end ring
+before_first_past byte ring h = rw (h, one_more (position_or_len is_line_end ring)) refl
+
+after_first_past : (byte : ℕ) (ring : List ℕ) → is_line_end byte ≡ false → after_first is_line_end (byte ∷ ring) ≡ after_first is_line_end ring
+after_first_past byte ring h =
+    let e : 1 + position_or_len is_line_end ring + 1 ≡ suc (position_or_len is_line_end ring + 1) = omega arith in
+    rw (h, e) refl
+
+serves_alike_past : (byte : ℕ) (ring : List ℕ) (overflow : Bool) (line : List ℕ) → is_line_end byte ≡ false
+    → ServesAlike (state ring overflow (with_bytes line (byte ∷ []))) (state (byte ∷ ring) overflow line)
+serves_alike_past byte ring overflow line h =
+    record {
+      line = rw (list_any_past byte ring h, before_first_past byte ring h, with_bytes_one_more line byte (before_first is_line_end ring)) refl;
+      rest = rw (list_any_past byte ring h, after_first_past byte ring h, with_bytes_one_more line byte ring) refl;
+    }
+
+-- a byte that ends no line goes into the line that began
+pub alike_one_more : (ring line kept : List ℕ) (overflow : Bool) (byte : ℕ) (s : SerialLine) → ServesAlike (state ring overflow line) s
+    → slice_get ring 0 ≡ Some byte → (byte ≡ 10 → ⊥) → kept ≡ with_bytes line (byte ∷ []) → ServesAlike (state (drop 1 ring) overflow kept) s
+alike_one_more ring line kept overflow byte s alike first other is_kept =
+    let end : is_line_end byte ≡ false = grind (arith, nat_tests, other) in
+    let past = serves_alike_past byte (drop 1 ring) overflow line end in
+    let whole : byte ∷ drop 1 ring ≡ ring = sym (first_and_rest ring byte first) in
+    record {
+      line = ap (λ k. next_line (state (drop 1 ring) overflow k)) is_kept ∙ past.line ∙ ap (λ r. next_line (state r overflow line)) whole ∙ alike.line;
+      rest = ap (λ k. after_line (state (drop 1 ring) overflow k)) is_kept ∙ past.rest ∙ ap (λ r. after_line (state r overflow line)) whole ∙ alike.rest;
+    }
+
+pub answer_at_line_end : (ring line : List ℕ) (overflow : Bool) (byte : ℕ) (s : SerialLine) → ServesAlike (state ring overflow line) s
+    → slice_get ring 0 ≡ Some byte → byte ≡ 10 → length line ≤ 127 → next_line s ≡ Some line
+answer_at_line_end ring line overflow byte s alike first is_end fits =
+    let whole : ring ≡ 10 ∷ drop 1 ring = first_and_rest ring 10 (rw is_end at first) in
+    let now : next_line (state (10 ∷ drop 1 ring) overflow line) ≡ Some line = ap Some (with_bytes_nil line fits) in
+    sym alike.line ∙ ap (λ r. next_line (state r overflow line)) whole ∙ now
+
+pub rest_at_empty_ring : (ring line : List ℕ) (overflow : Bool) (s : SerialLine) → ServesAlike (state ring overflow line) s
+    → slice_get ring 0 ≡ None → length line ≤ 127 → after_line s ≡ state (drop 1 ring) overflow line
+rest_at_empty_ring ring line overflow s alike empty fits =
+    let none : ring ≡ [] = nothing_first ring empty in
+    let now : after_line (state [] overflow line) ≡ state [] overflow line = ap (state [] overflow) (with_bytes_nil line fits) in
+    sym alike.rest ∙ ap (λ r. after_line (state r overflow line)) none ∙ now ∙ ap (λ r. state (drop 1 r) overflow line) (sym none)
+
+-- a buffer that has room keeps all it held
+pub keep_last_all : (n : ℕ) (xs : List ℕ) (x : ℕ) → length xs < n → keep_last n (xs ++ x ∷ []) ≡ xs ++ x ∷ []
+keep_last_all n xs x room =
+    let none : length (xs ++ x ∷ []) - n ≡ 0 = omega (arith, length-append xs (x ∷ [])) in
+    rw none refl
+
+-- where the ring has room, a byte that isn't ignored is taken, but in the overflow state a line end alone
+pub byte_taken : (ring : List ℕ) (overflow : Bool) (line : List ℕ) (byte : ℕ) → (byte ≡ 13 → ⊥) → length ring < 127
+    → (overflow ≡ false) ⊎ ((overflow ≡ true) × (byte ≡ 10)) → after_byte (state ring overflow line) byte ≡ state (ring ++ byte ∷ []) false line
+byte_taken ring overflow line byte other room (inl calm) = grind (arith, nat_tests, other, calm)
+byte_taken ring overflow line byte other room (inr (lost, is_end)) = grind (arith, nat_tests, other, lost, is_end)

@@ -1,0 +1,151 @@
+-- Slots of frames: which are held, and which is the least free one.
+use Rattle.std.proofs.Common.{◌≡◌, ℕ, zero, suc, ◌+◌, ◌-◌, ◌≤◌, ◌<◌, Bool, true, false, List, [], ◌∷◌, ◌++◌, length, drop, map, refl, ap, ◌∙◌, arith, eqb, Option, Some, None, All, inl, inr}
+use Rattle.std.specs.List.{find, list_any, range_with_len, IsDistinct}
+use Rattle.std.specs.Prelude.{not, ◌==◌}
+use Rattle.std.proofs.lemmas.Bool.{eqb-true}
+use Rattle.std.proofs.lemmas.Bool.Decides.{eqb_tells}
+use Rattle.std.proofs.lemmas.Cmp.{nat_eq_equiv}
+use Rattle.std.proofs.lemmas.List.{drop_more, length-map, length_push, map_push}
+use Rattle.std.proofs.lemmas.List.Elements.{All-append}
+use Rattle.std.proofs.lemmas.List.FromFn.{get_or-range_with_len}
+use Rattle.std.proofs.lemmas.Map.Keys.{IsDistinct-push, IsDistinct-tail}
+use Rattle.std.proofs.lemmas.Map.Steps.{length-le_from_distinct_below, le-length_from_below}
+use Rattle.device_core.specs.PacketQueue.{PacketQueue, IsWellFormed, no_packets, is_held, free_slot, with_frame}
+use Rattle.device_core.specs.declared.frame.Frame.{Frame}
+
+-- the least slot from this one on that no held frame has
+abbrev pub free_slot_from : ℕ → PacketQueue → Option ℕ
+free_slot_from slot queue = find (λ s. not (is_held queue s)) (drop slot (range_with_len 0 8))
+
+pub free_slot_from_more : (queue : PacketQueue) (slot : ℕ) → slot < 8 → is_held queue slot ≡ true → free_slot_from (slot + 1) queue ≡ free_slot_from slot queue
+free_slot_from_more queue slot below held =
+    let slots = range_with_len 0 8 in
+    let here = get_or-range_with_len 0 8 slot 0 below ∙ at_zero in
+    let first : drop slot slots ≡ slot ∷ drop (slot + 1) slots = drop_more slots slot 0 below ∙ ap (λ s. s ∷ drop (slot + 1) slots) here in
+    rw first (rw held refl)
+  where
+    at_zero : 0 + slot ≡ slot
+    at_zero = omega arith
+
+-- the first that passes among n numbers from a on
+find_passes : (p : ℕ → Bool) (a n x : ℕ) → find p (range_with_len a n) ≡ Some x → p x ≡ true
+find_passes p a zero x h = absurd (cc)
+find_passes p a (suc n) x h = split (p a) refl (find_passes p (a + 1) n x)
+  where
+    split : (b : Bool) → p a ≡ b → (find p (range_with_len (a + 1) n) ≡ Some x → p x ≡ true) → p x ≡ true
+    split true e more = let same : Some a ≡ Some x = rw e at h in cc
+    split false e more = more (rw e at h)
+
+find_below : (p : ℕ → Bool) (a n x : ℕ) → find p (range_with_len a n) ≡ Some x → x < a + n
+find_below p a zero x h = absurd (cc)
+find_below p a (suc n) x h = split (p a) refl (find_below p (a + 1) n x)
+  where
+    split : (b : Bool) → p a ≡ b → (find p (range_with_len (a + 1) n) ≡ Some x → x < a + 1 + n) → x < a + suc n
+    split true e more = let same : Some a ≡ Some x = rw e at h in let is : a ≡ x = cc in omega arith
+    split false e more = let below : x < a + 1 + n = more (rw e at h) in omega arith
+
+none_passes : (p : ℕ → Bool) (a n k : ℕ) → find p (range_with_len a n) ≡ None → a ≤ k → k < a + n → p k ≡ false
+none_passes p a zero k h from below = absurd (omega arith)
+none_passes p a (suc n) k h from below = split (p a) refl (none_passes p (a + 1) n k)
+  where
+    split : (b : Bool) → p a ≡ b → (find p (range_with_len (a + 1) n) ≡ None → a + 1 ≤ k → k < a + 1 + n → p k ≡ false) → p k ≡ false
+    split true e more = let same : Some a ≡ None = rw e at h in absurd (cc)
+    split false e more =
+        elim (eqb_tells a k) [ inl is ↦ rw (← is.1) e | inr other ↦ let later : a < k = omega (arith, other.1) in more (rw e at h) (omega arith) (omega arith) ]
+
+abbrev slots_of : List Frame → List ℕ
+slots_of frames = map (λ frame. frame.slot) frames
+
+-- the two ways to say that a frame has the slot
+member_where_held : (frames : List Frame) (slot : ℕ) → list_any (eqb slot) (slots_of frames) ≡ list_any (λ frame. frame.slot == slot) frames
+member_where_held [] slot = refl
+member_where_held (frame ∷ frames) slot = rw (member_where_held frames slot, nat_eq_equiv.symm slot frame.slot) refl
+
+slots_below : (frames : List Frame) → All (λ frame. frame.slot < 8) frames → (q : ℕ) → list_any (eqb q) (slots_of frames) ≡ true → q < 8
+slots_below [] below q h = absurd (cc)
+slots_below (frame ∷ frames) below q h =
+    split (eqb q frame.slot) refl (slots_below frames (λ k d lt. below (suc k) d (omega arith)) q)
+  where
+    split : (b : Bool) → eqb q frame.slot ≡ b → (list_any (eqb q) (slots_of frames) ≡ true → q < 8) → q < 8
+    split true e more = let is = eqb-true q frame.slot e in let here : frame.slot < 8 = below 0 frame (omega arith) in omega arith
+    split false e more = more (rw e at h)
+
+false_from_not : (b : Bool) → not b ≡ true → b ≡ false
+false_from_not true h = absurd (cc)
+false_from_not false h = refl
+
+true_from_not : (b : Bool) → not b ≡ false → b ≡ true
+true_from_not true h = refl
+true_from_not false h = absurd (cc)
+
+pub unused_where_free : (queue : PacketQueue) (slot : ℕ) → free_slot queue ≡ Some slot → (slot < 8) × (is_held queue slot ≡ false)
+unfolding free_slot
+unused_where_free queue slot h =
+    let test = λ (s : ℕ). not (is_held queue s) in
+    (find_below test 0 8 slot h, false_from_not (is_held queue slot) (find_passes test 0 8 slot h))
+
+all_held_where_none_free : (queue : PacketQueue) (slot : ℕ) → free_slot queue ≡ None → slot < 8 → is_held queue slot ≡ true
+unfolding free_slot
+all_held_where_none_free queue slot h below =
+    true_from_not (is_held queue slot) (none_passes (λ s. not (is_held queue s)) 0 8 slot h (omega arith) below)
+
+below_where_one : (slot len : ℕ) → slot < 8 → let new : Frame = record { slot = slot; len = len } in All (λ frame. frame.slot < 8) (new ∷ [])
+below_where_one slot len below zero d lt = below
+below_where_one slot len below (suc k) d lt = absurd (omega arith)
+
+-- the free slot is one more slot below 8, beside those of the frames
+pub well_formed_with_frame : (queue : PacketQueue) (slot len : ℕ) → IsWellFormed queue → free_slot queue ≡ Some slot → IsWellFormed (with_frame slot len queue)
+well_formed_with_frame queue slot len well h =
+    let new : Frame = record { slot = slot; len = len } in
+    let frames = queue.frames ++ new ∷ [] in
+    let unused = unused_where_free queue slot h in
+    let absent = member_where_held queue.frames slot ∙ unused.1 in
+    let slots : All (λ frame. frame.slot < 8) frames = All-append (λ frame. frame.slot < 8) queue.frames (new ∷ []) well.slots (below_where_one slot len unused.0) in
+    let pushed : slots_of frames ≡ slots_of queue.frames ++ slot ∷ [] = map_push (λ frame. frame.slot) queue.frames new in
+    let distinct : IsDistinct eqb (slots_of frames) = rw pushed (IsDistinct-push nat_eq_equiv (slots_of queue.frames) slot well.distinct absent) in
+    let few : length (slots_of frames) ≤ 8 = length-le_from_distinct_below (slots_of frames) 8 distinct (slots_below frames slots) in
+    record {
+      few = omega (arith, length-map frames (λ frame. frame.slot));
+      distinct = distinct;
+      slots = slots;
+      told = omega (arith, length_push queue.frames new, well.told);
+      receiver = well.receiver;
+    }
+
+pub room_where_free : (queue : PacketQueue) (slot : ℕ) → IsWellFormed queue → free_slot queue ≡ Some slot → length queue.frames < 8
+room_where_free queue slot well h =
+    let new : Frame = record { slot = slot; len = 0 } in
+    let few = (well_formed_with_frame queue slot 0 well h).few in
+    omega (arith, length_push queue.frames new)
+
+pub full_where_none_free : (queue : PacketQueue) → free_slot queue ≡ None → 8 ≤ length queue.frames
+full_where_none_free queue h =
+    let all = le-length_from_below (slots_of queue.frames) 8 each in
+    omega (arith, all, length-map queue.frames (λ frame. frame.slot))
+  where
+    each : (q : ℕ) → q < 8 → list_any (eqb q) (slots_of queue.frames) ≡ true
+    each q below = member_where_held queue.frames q ∙ all_held_where_none_free queue q h below
+
+pub well_formed_without_front : (frames : List Frame) (announced : ℕ) (receiver : Option ℕ)
+    → IsWellFormed (record { frames = frames; announced = announced; receiver = receiver })
+    → IsWellFormed (record { frames = drop 1 frames; announced = announced - 1; receiver = receiver })
+well_formed_without_front [] announced receiver well =
+    record {
+      few = well.few;
+      distinct = well.distinct;
+      slots = well.slots;
+      told = omega (arith, well.told);
+      receiver = well.receiver;
+    }
+well_formed_without_front (frame ∷ frames) announced receiver well =
+    record {
+      few = omega (arith, well.few);
+      distinct = IsDistinct-tail eqb frame.slot (slots_of frames) well.distinct;
+      slots = λ k d lt. well.slots (suc k) d (omega arith);
+      told = omega (arith, well.told);
+      receiver = well.receiver;
+    }
+
+pub well_formed_at_first : IsWellFormed no_packets
+unfolding IsDistinct
+well_formed_at_first = record { few = omega arith; distinct = tt; slots = λ k d lt. absurd (omega arith); told = omega arith; receiver = tt }

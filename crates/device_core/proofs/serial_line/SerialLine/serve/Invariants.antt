@@ -1,0 +1,15 @@
+use Rattle.std.proofs.Common.{◌≡◌, ◌≤◌, length}
+use Rattle.device_core.proofs.Lines.{ServesAlike, state}
+use Rattle.device_core.proofs.serial_line.SerialLine.serve.Given as goal
+
+-- what was taken from the ring has gone into the line, so the rest is served as all of it was to be
+abbrev pub invariant-loop-byte : goal.invariant-loop-byte
+invariant-loop-byte l = record {
+  alike : ServesAlike (state l.self-inside.ring.items l.self-inside.overflow l.self-inside.line.items) l.fn.self;
+  room : l.self-inside.ring.capacity ≡ 127;
+  shrinks : length l.self-inside.ring.items ≤ length l.fn.self.ring;
+  fits : length l.self-inside.line.items ≤ 127;
+}
+
+abbrev pub decreases-loop-byte : goal.decreases-loop-byte
+decreases-loop-byte l = length l.self-inside.ring.items

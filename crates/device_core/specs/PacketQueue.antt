@@ -1,0 +1,83 @@
+-- Packets: the frames that are held, in the order in which they came.
+use Rattle.std.specs.Prelude.{ℕ, ◌+◌, ◌-◌, ◌<◌, ◌≤◌, Bool, false, not, List, [], ◌∷◌, ◌++◌, length, map, drop, Option, Some, None, if◌then◌else◌, ◌==◌, eqb, nat_lt, slice_get, IfSome}
+use Rattle.std.specs.List.{list_any, find, IsDistinct, All}
+use Rattle.std.specs.Option.{option_map, option_map_or}
+use Rattle.mote_types.specs.declared.event.Pid.{Pid}
+use Rattle.device_core.specs.declared.frame.Frame.{Frame}
+
+pub record PacketQueue : Type 0 where
+  -- at most 8
+  pub frames : List Frame
+  -- how many of the first ones the receiver was told of
+  pub announced : ℕ
+  -- the application that receives
+  pub receiver : Option ℕ
+
+abbrev pub receiver_number : Pid → ℕ
+receiver_number pid = pid.0
+
+-- what the code's fields stand for
+abbrev pub packets_of : List Frame → ℕ → Option Pid → PacketQueue
+packets_of frames announced receiver = record { frames = frames; announced = announced; receiver = option_map receiver_number receiver }
+
+abbrev pub no_packets : PacketQueue
+no_packets = record { frames = []; announced = 0; receiver = None }
+
+-- 8 frames are held
+abbrev pub is_full : PacketQueue → Bool
+is_full queue = not (nat_lt (length queue.frames) 8)
+
+abbrev pub is_held : PacketQueue → ℕ → Bool
+is_held queue slot = list_any (λ frame. frame.slot == slot) queue.frames
+
+-- the least slot that no held frame has
+unfoldable pub free_slot : PacketQueue → Option ℕ
+free_slot queue = find (λ slot. not (is_held queue slot)) (0 ∷ 1 ∷ 2 ∷ 3 ∷ 4 ∷ 5 ∷ 6 ∷ 7 ∷ [])
+
+abbrev pub with_frame : ℕ → ℕ → PacketQueue → PacketQueue
+with_frame slot len queue = record queue { frames = queue.frames ++ record { slot = slot; len = len } ∷ [] }
+
+-- a frame has come: it is held under the free slot, if there is one
+abbrev pub arrived : ℕ → PacketQueue → PacketQueue
+arrived len queue = option_map_or (λ slot. with_frame slot len queue) (free_slot queue) queue
+
+abbrev pub front : PacketQueue → Option Frame
+front queue = slice_get queue.frames 0
+
+abbrev pub front_slot : PacketQueue → Option ℕ
+front_slot queue = option_map (λ frame. frame.slot) (front queue)
+
+-- the first frame that the receiver wasn't told of
+abbrev pub unannounced : PacketQueue → Option Frame
+unannounced queue = slice_get queue.frames queue.announced
+
+abbrev pub with_announced : PacketQueue → PacketQueue
+with_announced queue = record queue { announced = queue.announced + 1 }
+
+-- the number of announced frames is one lower, and stays 0 where it was 0
+abbrev pub without_front : PacketQueue → PacketQueue
+without_front queue = record queue { frames = drop 1 queue.frames; announced = queue.announced - 1 }
+
+abbrev pub with_receiver : ℕ → PacketQueue → PacketQueue
+with_receiver p queue = record queue { receiver = Some p }
+
+abbrev pub is_receiver : PacketQueue → ℕ → Bool
+is_receiver queue p = option_map_or (λ receiver. receiver == p) queue.receiver false
+
+-- there is no receiver, and no frame counts as announced
+abbrev pub without_receiver : PacketQueue → PacketQueue
+without_receiver queue = record queue { receiver = None; announced = 0 }
+
+-- p has ended
+abbrev pub forgotten : ℕ → PacketQueue → PacketQueue
+forgotten p queue = if is_receiver queue p then without_receiver queue else queue
+
+-- What holds of every queue
+pub record IsWellFormed (queue : PacketQueue) : Type 0 where
+  pub few : length queue.frames ≤ 8
+  -- no two frames have the same slot
+  pub distinct : IsDistinct eqb (map (λ frame. frame.slot) queue.frames)
+  pub slots : All (λ frame. frame.slot < 8) queue.frames
+  pub told : queue.announced ≤ length queue.frames
+  -- the receiver is an application
+  pub receiver : IfSome queue.receiver (λ p. (4 ≤ p) × (p ≤ 19))

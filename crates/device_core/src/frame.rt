@@ -1,0 +1,21 @@
+//! A frame that has come in.
+
+ghost use Rattle.std.specs.Prelude.{◌≡◌};
+
+/// A frame that is held: where its bytes lie, and how many they are (this project's profile).
+#[derive(Clone, Copy, Debug, PartialEq, Eq, Drop)]
+pub struct Frame {
+    /// From 0 to 7: the handle of the managed block of process 3 (packet) that has the bytes.
+    pub slot: u8,
+    /// In bytes.
+    pub len: u8,
+}
+
+// The places of the queue that hold no frame.
+impl Default for Frame {
+    ghost is_default = { λ frame. frame ≡ record { slot = 0; len = 0 } };
+
+    fn default() -> Self {
+        Frame { slot: 0, len: 0 }
+    }
+}
