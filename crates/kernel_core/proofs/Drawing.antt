@@ -1,7 +1,7 @@
 -- How many arming numbers the agenda will draw.
-use Rattle.std.proofs.Common.{◌≡◌, ℕ, zero, suc, ◌+◌, ◌≤◌, ◌<◌, Bool, true, false, not, ◌&&◌, List, [], ◌∷◌, ◌++◌, refl, arith, All}
+use Rattle.std.proofs.Common.{◌≡◌, ℕ, zero, suc, ◌+◌, ◌≤◌, Bool, true, false, not, List, [], ◌∷◌, ◌++◌, refl, arith, All}
 use Rattle.std.proofs.lemmas.List.Elements.{All-head, All-tail}
-use Rattle.std.specs.Prelude.{Option, Some, None, map, filter, flat_map, slice_get, drop, ◌==◌, eqb, if◌then◌else◌, IfSome}
+use Rattle.std.specs.Prelude.{Option, Some, None, map, flat_map, slice_get, drop, ◌==◌, eqb, if◌then◌else◌}
 use Rattle.std.specs.List.{IsDistinct, AllByRecursion}
 use Rattle.mote_types.specs.declared.event.Event.{Event}
 use Rattle.mote_types.specs.declared.event.Stimulus.{Stimulus}

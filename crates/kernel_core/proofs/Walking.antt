@@ -1,5 +1,5 @@
 -- A change that is made again and again.
-use Rattle.std.proofs.Common.{◌≡◌, ℕ, zero, suc, ◌+◌, ◌-◌, ◌<◌, ◌≤◌, refl, ap, ◌∙◌, arith, sym}
+use Rattle.std.proofs.Common.{◌≡◌, ℕ, zero, suc, ◌+◌, ◌-◌, ◌<◌, refl, ap, ◌∙◌, arith}
 use Rattle.kernel_core.specs.KernelProcesses.{times}
 
 pub times_none : {A : Type 0} (change : A → A) (a : A) → times 0 change a ≡ a

@@ -1,11 +1,9 @@
 -- How many arming numbers of callback timers are drawn, and that the expiries in the queue have numbers that were drawn.
-use Rattle.std.specs.Prelude.{◌≡◌, ℕ, ◌+◌, ◌*◌, ◌≤◌, ◌<◌, Bool, true, false, ◌&&◌, List, [], ◌∷◌, All, if◌then◌else◌, ◌==◌}
+use Rattle.std.specs.Prelude.{◌≡◌, ℕ, ◌+◌, ◌≤◌, ◌<◌, Bool, false, ◌&&◌, List, [], ◌∷◌, All, if◌then◌else◌, ◌==◌}
 use Rattle.mote_types.specs.declared.event.Event.{Event}
 use Rattle.mote_types.specs.declared.event.Stimulus.{Stimulus}
 use Rattle.mote_types.specs.declared.event.TheConstants.{EXITED}
 use Rattle.process_core.specs.Agenda.{Queued, Item, Job}
-use Rattle.timer_core.specs.declared.timer.Timer.{Timer}
-use Rattle.timer_core.specs.Names.{IsNamed}
 use Rattle.kernel_core.specs.declared.core_state.Core.{Core}
 
 -- whether ctimer is told that a process has ended

@@ -76,17 +76,12 @@ impl Core {
             Call::TimerExpired(timer) => self.is_timer_expired(pid, *timer),
             Call::CallbackSet(timer, interval) => self.set_callback(pid, *timer, *interval),
             Call::CallbackStop(timer) => self.stop_callback(pid, *timer),
-            Call::MmemAlloc(..)
-            | Call::MmemFree(_)
-            | Call::MmemWrite(..)
-            | Call::MmemRead(..)
-            | Call::MmemCopy(..)
-            | Call::MmemAvail => {
+            Call::Clock => self.answer(pid, Reply::Wide(self.clock)),
+            Call::Print(_) => self.answer(pid, Reply::Done),
+            _ => {
                 let reply = self.memory.ask(pid, call);
                 self.answer(pid, reply);
             }
-            Call::Clock => self.answer(pid, Reply::Wide(self.clock)),
-            Call::Print(_) => self.answer(pid, Reply::Done),
         }
     }
 }

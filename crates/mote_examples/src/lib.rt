@@ -22,6 +22,8 @@ mod nested_activations;
 #[cfg(test)]
 mod polls;
 #[cfg(test)]
+mod pools;
+#[cfg(test)]
 mod processes;
 #[cfg(test)]
 mod scripts;

@@ -80,6 +80,44 @@ call_word (Call.MmemWrite handle at chunk) = codes "mmem-write"
 call_word (Call.MmemRead handle at len) = codes "mmem-read"
 call_word (Call.MmemCopy source target) = codes "mmem-copy"
 call_word Call.MmemAvail = codes "mmem-avail"
+call_word (Call.MembAlloc pool) = codes "memb-alloc"
+call_word (Call.MembFree pool block) = codes "memb-free"
+call_word (Call.MembWrite pool block at chunk) = codes "memb-write"
+call_word (Call.MembRead pool block at len) = codes "memb-read"
+call_word (Call.MembNumFree pool) = codes "memb-num-free"
+call_word (Call.ListAdd list block) = codes "list-add"
+call_word (Call.ListPush list block) = codes "list-push"
+call_word (Call.ListInsert list prev block) = codes "list-insert"
+call_word (Call.ListPop list) = codes "list-pop"
+call_word (Call.ListChop list) = codes "list-chop"
+call_word (Call.ListRemove list block) = codes "list-remove"
+call_word (Call.ListHead list) = codes "list-head"
+call_word (Call.ListNext list block) = codes "list-next"
+call_word (Call.ListLength list) = codes "list-length"
+
+-- the arguments of the calls on memory
+abbrev pub memory_argument_words : Call → List Word
+memory_argument_words (Call.MmemAlloc handle n) = decimal handle ∷ decimal n ∷ []
+memory_argument_words (Call.MmemFree handle) = decimal handle ∷ []
+memory_argument_words (Call.MmemWrite handle at chunk) = decimal handle ∷ decimal at ∷ hex chunk.items ∷ []
+memory_argument_words (Call.MmemRead handle at len) = decimal handle ∷ decimal at ∷ decimal len ∷ []
+memory_argument_words (Call.MmemCopy source target) = decimal source ∷ decimal target ∷ []
+memory_argument_words Call.MmemAvail = []
+memory_argument_words (Call.MembAlloc pool) = decimal pool ∷ []
+memory_argument_words (Call.MembFree pool block) = decimal pool ∷ decimal block ∷ []
+memory_argument_words (Call.MembWrite pool block at chunk) = decimal pool ∷ decimal block ∷ decimal at ∷ hex chunk.items ∷ []
+memory_argument_words (Call.MembRead pool block at len) = decimal pool ∷ decimal block ∷ decimal at ∷ decimal len ∷ []
+memory_argument_words (Call.MembNumFree pool) = decimal pool ∷ []
+memory_argument_words (Call.ListAdd list block) = decimal list ∷ decimal block ∷ []
+memory_argument_words (Call.ListPush list block) = decimal list ∷ decimal block ∷ []
+memory_argument_words (Call.ListInsert list prev block) = decimal list ∷ decimal prev ∷ decimal block ∷ []
+memory_argument_words (Call.ListPop list) = decimal list ∷ []
+memory_argument_words (Call.ListChop list) = decimal list ∷ []
+memory_argument_words (Call.ListRemove list block) = decimal list ∷ decimal block ∷ []
+memory_argument_words (Call.ListHead list) = decimal list ∷ []
+memory_argument_words (Call.ListNext list block) = decimal list ∷ decimal block ∷ []
+memory_argument_words (Call.ListLength list) = decimal list ∷ []
+memory_argument_words _ = []
 
 abbrev pub argument_words : Call → List Word
 argument_words (Call.Post process code payload) = decimal process ∷ decimal code ∷ payload_word payload ∷ []
@@ -101,12 +139,7 @@ argument_words Call.Clock = []
 argument_words (Call.Print chunk) = hex chunk.items ∷ []
 argument_words Call.Wait = []
 argument_words Call.Exit = []
-argument_words (Call.MmemAlloc handle n) = decimal handle ∷ decimal n ∷ []
-argument_words (Call.MmemFree handle) = decimal handle ∷ []
-argument_words (Call.MmemWrite handle at chunk) = decimal handle ∷ decimal at ∷ hex chunk.items ∷ []
-argument_words (Call.MmemRead handle at len) = decimal handle ∷ decimal at ∷ decimal len ∷ []
-argument_words (Call.MmemCopy source target) = decimal source ∷ decimal target ∷ []
-argument_words Call.MmemAvail = []
+argument_words call = memory_argument_words call
 
 abbrev pub call_words : Call → List Word
 call_words call = call_word call ∷ argument_words call

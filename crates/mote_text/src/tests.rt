@@ -265,6 +265,57 @@ fn lines_of_calls(rt: HostRuntime) {
     check_call(&rt, Call::MmemAvail, "4 callback 3 -> mmem-avail\n");
 }
 
+#[test]
+fn lines_of_calls_on_pools(rt: HostRuntime) {
+    check_call(&rt, Call::MembAlloc(4), "4 callback 3 -> memb-alloc 4\n");
+    check_call(
+        &rt,
+        Call::MembFree(3, 15),
+        "4 callback 3 -> memb-free 3 15\n",
+    );
+    check_call(
+        &rt,
+        Call::MembWrite(0, 1, 8, bytes(&[0xab, 0xcd])),
+        "4 callback 3 -> memb-write 0 1 8 abcd\n",
+    );
+    check_call(
+        &rt,
+        Call::MembWrite(0, 1, 4_294_967_295, bytes(b"")),
+        "4 callback 3 -> memb-write 0 1 4294967295 -\n",
+    );
+    check_call(
+        &rt,
+        Call::MembRead(1, 2, 3, 255),
+        "4 callback 3 -> memb-read 1 2 3 255\n",
+    );
+    check_call(
+        &rt,
+        Call::MembNumFree(2),
+        "4 callback 3 -> memb-num-free 2\n",
+    );
+}
+
+#[test]
+fn lines_of_calls_on_lists(rt: HostRuntime) {
+    check_call(&rt, Call::ListAdd(7, 15), "4 callback 3 -> list-add 7 15\n");
+    check_call(&rt, Call::ListPush(0, 1), "4 callback 3 -> list-push 0 1\n");
+    check_call(
+        &rt,
+        Call::ListInsert(6, 5, 4),
+        "4 callback 3 -> list-insert 6 5 4\n",
+    );
+    check_call(&rt, Call::ListPop(255), "4 callback 3 -> list-pop 255\n");
+    check_call(&rt, Call::ListChop(1), "4 callback 3 -> list-chop 1\n");
+    check_call(
+        &rt,
+        Call::ListRemove(2, 3),
+        "4 callback 3 -> list-remove 2 3\n",
+    );
+    check_call(&rt, Call::ListHead(0), "4 callback 3 -> list-head 0\n");
+    check_call(&rt, Call::ListNext(1, 0), "4 callback 3 -> list-next 1 0\n");
+    check_call(&rt, Call::ListLength(5), "4 callback 3 -> list-length 5\n");
+}
+
 fn check_end(rt: &impl Abort, end: End, text: &str) {
     let mut line: LineBuf = bytes(b"halt\n");
     final_text(end, &mut line);

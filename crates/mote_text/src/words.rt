@@ -2,14 +2,14 @@
 
 ghost use Rattle.std.specs.Prelude.{◌≡◌, ◌≤◌, ◌+◌, ◌++◌, [], ◌∷◌, length, decimal};
 ghost use Rattle.mote_types.specs.Codes.{refusal_number};
-ghost use Rattle.mote_text.specs.EntryText.{spaced, payload_word, origin_word, stats_words, reply_words, stimulus_words, call_word, argument_words, call_words, input_words, note_words};
+ghost use Rattle.mote_text.specs.EntryText.{spaced, hex, payload_word, origin_word, stats_words, reply_words, stimulus_words, call_word, argument_words, memory_argument_words, call_words, input_words, note_words};
 
 use crate::line::{LineBuf, push_bytes, push_digits, push_hex, push_number, push_word};
 use mote_types::call::Call;
 use mote_types::entry::{Input, Note};
 use mote_types::event::{Origin, Payload, Stimulus};
 use mote_types::refusal::Refusal;
-use mote_types::reply::{HeapStats, Reply};
+use mote_types::reply::{Chunk, HeapStats, Reply};
 
 fn push_payload(line: &mut LineBuf, payload: &Payload)
     requires { length line.old.items + 256 ≤ 640 }
@@ -137,17 +137,101 @@ fn call_word(call: &Call) -> &'static [u8]
         Call::MmemRead(..) => b"mmem-read",
         Call::MmemCopy(..) => b"mmem-copy",
         Call::MmemAvail => b"mmem-avail",
+        Call::MembAlloc(_) => b"memb-alloc",
+        Call::MembFree(..) => b"memb-free",
+        Call::MembWrite(..) => b"memb-write",
+        Call::MembRead(..) => b"memb-read",
+        Call::MembNumFree(_) => b"memb-num-free",
+        Call::ListAdd(..) => b"list-add",
+        Call::ListPush(..) => b"list-push",
+        Call::ListInsert(..) => b"list-insert",
+        Call::ListPop(_) => b"list-pop",
+        Call::ListChop(_) => b"list-chop",
+        Call::ListRemove(..) => b"list-remove",
+        Call::ListHead(_) => b"list-head",
+        Call::ListNext(..) => b"list-next",
+        Call::ListLength(_) => b"list-length",
     }
 }
 
-/// Appends a call's arguments, at most 298 bytes.
-fn push_arguments(line: &mut LineBuf, call: &Call)
-    requires { length line.old.items + 298 ≤ 640 }
-    ensures text { line.new.items ≡ line.old.items ++ spaced (argument_words call.now) }
-    ensures length { length line.new.items ≤ length line.old.items + 298 }
+/// Appends two names, at most 42 bytes.
+fn push_names(line: &mut LineBuf, first: u8, second: u8)
+    requires { length line.old.items + 42 ≤ 640 }
+    ensures text { line.new.items ≡ line.old.items ++ spaced (decimal first ∷ decimal second ∷ []) }
+    ensures length { length line.new.items ≤ length line.old.items + 42 }
+{
+    push_number(line, u64::from(first));
+    push_number(line, u64::from(second));
+}
+
+/// Appends what is written into a block, and from where on: at most 276 bytes.
+fn push_write(line: &mut LineBuf, at: u32, chunk: &Chunk)
+    requires { length line.old.items + 276 ≤ 640 }
+    ensures text { line.new.items ≡ line.old.items ++ spaced (decimal at ∷ hex chunk.now.items ∷ []) }
+    ensures length { length line.new.items ≤ length line.old.items + 276 }
+{
+    push_number(line, u64::from(at));
+    push_hex(line, chunk.as_slice());
+}
+
+/// Appends the arguments of a call on memory, at most 318 bytes.
+fn push_memory_arguments(line: &mut LineBuf, call: &Call)
+    requires { length line.old.items + 318 ≤ 640 }
+    ensures text { line.new.items ≡ line.old.items ++ spaced (memory_argument_words call.now) }
+    ensures length { length line.new.items ≤ length line.old.items + 318 }
 {
     match call {
-        Call::AllocEvent | Call::Clock | Call::Wait | Call::Exit | Call::MmemAvail => {}
+        Call::MmemFree(name)
+        | Call::MembAlloc(name)
+        | Call::MembNumFree(name)
+        | Call::ListPop(name)
+        | Call::ListChop(name)
+        | Call::ListHead(name)
+        | Call::ListLength(name) => push_number(line, u64::from(*name)),
+        Call::MmemCopy(first, second)
+        | Call::MembFree(first, second)
+        | Call::ListAdd(first, second)
+        | Call::ListPush(first, second)
+        | Call::ListRemove(first, second)
+        | Call::ListNext(first, second) => push_names(line, *first, *second),
+        Call::MmemAlloc(handle, n) => {
+            push_number(line, u64::from(*handle));
+            push_number(line, u64::from(*n));
+        }
+        Call::MmemWrite(handle, at, chunk) => {
+            push_number(line, u64::from(*handle));
+            push_write(line, *at, chunk);
+        }
+        Call::MmemRead(handle, at, len) => {
+            push_number(line, u64::from(*handle));
+            push_number(line, u64::from(*at));
+            push_number(line, u64::from(*len));
+        }
+        Call::MembWrite(pool, block, at, chunk) => {
+            push_names(line, *pool, *block);
+            push_write(line, *at, chunk);
+        }
+        Call::MembRead(pool, block, at, len) => {
+            push_names(line, *pool, *block);
+            push_number(line, u64::from(*at));
+            push_number(line, u64::from(*len));
+        }
+        Call::ListInsert(list, prev, block) => {
+            push_names(line, *list, *prev);
+            push_number(line, u64::from(*block));
+        }
+        _ => {}
+    }
+}
+
+/// Appends a call's arguments, at most 318 bytes.
+fn push_arguments(line: &mut LineBuf, call: &Call)
+    requires { length line.old.items + 318 ≤ 640 }
+    ensures text { line.new.items ≡ line.old.items ++ spaced (argument_words call.now) }
+    ensures length { length line.new.items ≤ length line.old.items + 318 }
+{
+    match call {
+        Call::AllocEvent | Call::Clock | Call::Wait | Call::Exit => {}
         Call::Poll(name)
         | Call::Start(name)
         | Call::Kill(name)
@@ -156,15 +240,13 @@ fn push_arguments(line: &mut LineBuf, call: &Call)
         | Call::TimerReset(name)
         | Call::TimerRestart(name)
         | Call::TimerExpired(name)
-        | Call::CallbackStop(name)
-        | Call::MmemFree(name) => push_number(line, u64::from(*name)),
-        Call::TimerSet(name, n) | Call::CallbackSet(name, n) | Call::MmemAlloc(name, n) => {
+        | Call::CallbackStop(name) => push_number(line, u64::from(*name)),
+        Call::TimerSet(name, interval) | Call::CallbackSet(name, interval) => {
             push_number(line, u64::from(*name));
-            push_number(line, u64::from(*n));
+            push_number(line, u64::from(*interval));
         }
         Call::Post(process, code, payload) | Call::PostSynch(process, code, payload) => {
-            push_number(line, u64::from(*process));
-            push_number(line, u64::from(*code));
+            push_names(line, *process, *code);
             push_payload(line, payload);
         }
         Call::Broadcast(code, payload) => {
@@ -172,28 +254,15 @@ fn push_arguments(line: &mut LineBuf, call: &Call)
             push_payload(line, payload);
         }
         Call::Print(chunk) => push_hex(line, chunk.as_slice()),
-        Call::MmemWrite(handle, at, chunk) => {
-            push_number(line, u64::from(*handle));
-            push_number(line, u64::from(*at));
-            push_hex(line, chunk.as_slice());
-        }
-        Call::MmemRead(handle, at, len) => {
-            push_number(line, u64::from(*handle));
-            push_number(line, u64::from(*at));
-            push_number(line, u64::from(*len));
-        }
-        Call::MmemCopy(source, target) => {
-            push_number(line, u64::from(*source));
-            push_number(line, u64::from(*target));
-        }
+        _ => push_memory_arguments(line, call),
     }
 }
 
-/// Appends what a process called, at most 313 bytes.
+/// Appends what a process called, at most 333 bytes.
 pub(crate) fn push_call(line: &mut LineBuf, call: &Call)
-    requires { length line.old.items + 313 ≤ 640 }
+    requires { length line.old.items + 333 ≤ 640 }
     ensures text { line.new.items ≡ line.old.items ++ spaced (call_words call.now) }
-    ensures length { length line.new.items ≤ length line.old.items + 313 }
+    ensures length { length line.new.items ≤ length line.old.items + 333 }
 {
     push_word(line, call_word(call));
     push_arguments(line, call);

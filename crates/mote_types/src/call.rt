@@ -5,8 +5,9 @@ use crate::reply::Chunk;
 
 /// The call by which an application ends a turn. Processes and event codes are named by their numbers.
 ///
-/// Source: process.h, etimer.h and ctimer.h of Contiki-NG, and for managed memory the original Contiki's mmem module, here with
-/// handles from 0 to 15 in place of pointers; which names are refused, and in which order, is this project's profile.
+/// Source: process.h, etimer.h, ctimer.h, memb.h, list.h and queue.h of Contiki-NG, and for managed memory the original
+/// Contiki's mmem module, here with handles from 0 to 15 in place of pointers; which names are refused, and in which order, and
+/// the numbers of pools and lists are this project's profile.
 #[derive(Drop)]
 pub enum Call {
     /// Puts an event of this code at the end of the event queue, for one process (`process_post`).
@@ -62,4 +63,34 @@ pub enum Call {
     MmemCopy(u8, u8),
     /// Asks how many bytes of managed memory are free.
     MmemAvail,
+    // Pools 0 to 3, each of 16 blocks.
+    /// Takes the unused block of lowest number of a pool, its bytes all 0 (`memb_alloc`).
+    MembAlloc(u8),
+    /// Gives a pool's block back (`memb_free`).
+    MembFree(u8, u8),
+    /// Writes bytes into a pool's block, from a place of it on.
+    MembWrite(u8, u8, u32, Chunk),
+    /// Reads from a pool's block, from a place of it on: so many bytes, at most 64.
+    MembRead(u8, u8, u32, u8),
+    /// Asks how many blocks of a pool are unused (`memb_numfree`).
+    MembNumFree(u8),
+    // Lists 0 to 7 of blocks: 2 k and 2 k + 1 link blocks of pool k.
+    /// Takes a block to the end of a list (`list_add`, `queue_enqueue`).
+    ListAdd(u8, u8),
+    /// Takes a block to the front of a list (`list_push`).
+    ListPush(u8, u8),
+    /// Takes the last-named block to the place behind the other one of a list (`list_insert`).
+    ListInsert(u8, u8, u8),
+    /// Takes the head out of a list (`list_pop`, `queue_dequeue`).
+    ListPop(u8),
+    /// Takes the tail out of a list (`list_chop`).
+    ListChop(u8),
+    /// Takes a block out of a list (`list_remove`).
+    ListRemove(u8, u8),
+    /// Asks for the head of a list (`list_head`).
+    ListHead(u8),
+    /// Asks for the block behind another one of a list (`list_item_next`).
+    ListNext(u8, u8),
+    /// Asks how many blocks a list has (`list_length`).
+    ListLength(u8),
 }

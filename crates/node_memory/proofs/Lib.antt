@@ -1,0 +1,4 @@
+pub mod Apart
+pub mod LaidOut
+pub mod Listed
+pub mod Others

@@ -1,6 +1,6 @@
 //! The calls on managed memory, each with its refusals.
 
-ghost use Rattle.std.specs.Prelude.{◌≡◌, ◌≤◌, ◌+◌, None, Some, length, nat_lt, IfOk, IfErr};
+ghost use Rattle.std.specs.Prelude.{◌≡◌, ◌≤◌, ◌+◌, None, Some, length, IfOk, IfErr};
 ghost use Rattle.mote_types.specs.Bytes.{range_of};
 ghost use Rattle.mmem_core.specs.ManagedStore as store;
 ghost use Rattle.mmem_core.specs.ManagedStore.{IsName};
@@ -8,6 +8,7 @@ ghost use Rattle.node_memory.specs.ManagedCalls as calls;
 ghost use Rattle.node_memory.specs.Memory.{with_managed};
 
 use crate::memory::NodeMemory;
+use crate::ranges::{LONGEST_READ, chunk_of, is_outside};
 use mmem_core::Key;
 use mote_types::event::Pid;
 use mote_types::refusal::Refusal;
@@ -15,17 +16,6 @@ use mote_types::reply::Chunk;
 
 /// The last handle of each process.
 const LAST_HANDLE: u8 = 15;
-
-/// The most bytes of one read.
-const LONGEST_READ: u8 = 64;
-
-/// Whether the range ends behind a block of this length.
-fn is_outside(at: u32, len: usize, block: u32) -> bool
-    requires { len ≤ 64 }
-    ensures { result ≡ nat_lt block (at + len) }
-{
-    at as u64 + len as u64 > block as u64
-}
 
 impl NodeMemory {
     /// The length of a block, if it is live.
@@ -54,10 +44,10 @@ impl NodeMemory {
         if n == 0 {
             return Err(Refusal::Range);
         }
-        match self.mmem.alloc(&mut self.arena, (pid, handle), n) {
-            Some(()) => Ok(()),
-            None => Err(Refusal::NoRoom),
+        if self.mmem.alloc(&mut self.arena, (pid, handle), n).is_none() {
+            return Err(Refusal::NoRoom);
         }
+        Ok(())
     }
 
     /// Takes a handle's block away.
@@ -99,7 +89,7 @@ impl NodeMemory {
         let Some(block) = self.len_of((pid, handle)) else {
             return Err(Refusal::NotLive);
         };
-        if is_outside(at, bytes.len(), block) {
+        if is_outside(at, bytes.len(), block as usize) {
             return Err(Refusal::Range);
         }
         self.mmem.write(&mut self.arena, (pid, handle), at, bytes);
@@ -120,13 +110,11 @@ impl NodeMemory {
         let Some(block) = self.len_of((pid, handle)) else {
             return Err(Refusal::NotLive);
         };
-        if len > LONGEST_READ || is_outside(at, len as usize, block) {
+        if len > LONGEST_READ || is_outside(at, len as usize, block as usize) {
             return Err(Refusal::Range);
         }
         let bytes = self.mmem.bytes(&self.arena, (pid, handle));
-        let mut chunk = Chunk::new();
-        let _ = chunk.try_extend_from_slice(&bytes[at as usize..at as usize + len as usize]);
-        Ok(chunk)
+        Ok(chunk_of(bytes, at, len))
     }
 
     /// Copies all bytes of one handle's block to the front of another one's.

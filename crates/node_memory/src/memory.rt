@@ -1,40 +1,73 @@
 //! The arena with all that lies in it, and the calls on it.
 
-ghost use Rattle.std.specs.Prelude.{◌≡◌, ◌↔◌, true, false, IfOk, IsErrOf};
+ghost use Rattle.std.specs.Prelude.{◌≡◌, ◌↔◌, true, false, Some, IfOk, IsErrOf};
 ghost use Rattle.node_memory.specs.Sizes.{are_sizes};
 ghost use Rattle.node_memory.specs.Ask as asking;
+ghost use Rattle.node_memory.specs.PoolCalls as calls;
 
+use crate::listed_pool::ListedPool;
 use crate::sizes::Sizes;
 use arena_core::Arena;
 use mmem_core::Mmem;
 use mote_types::call::Call;
 use mote_types::event::Pid;
 use mote_types::fault::BootFault;
+use mote_types::refusal::Refusal;
 use mote_types::reply::Reply;
 use std::alloc::Global;
 use std::marker::Model;
+
+/// How many pools there are.
+const POOLS: usize = 4;
+
+/// What the pools take of the arena: 16 blocks each, of 12, 28, 60 and 124 usable bytes and 4 more.
+const POOL_BYTES: u32 = 3_840;
 
 /// The memory of a node, in one arena.
 #[derive(Drop)]
 pub struct NodeMemory {
     pub(crate) arena: Arena,
     pub(crate) mmem: Mmem,
+    pools: [ListedPool; POOLS],
 }
 
 impl Model for NodeMemory {
     ghost use Rattle.node_memory.specs.Memory.{Memory};
-    ghost use Rattle.mmem_core.specs.Table.{store_of, IsWithin};
+    ghost use Rattle.node_memory.specs.Layout.{IsLaidOut, memory_of};
 
     ghost Value = { Memory };
 
-    ghost view = { λ m. record { managed = store_of m.mmem m.arena.bytes } };
+    ghost view = { λ m. memory_of m.mmem m.pools m.arena.bytes };
 
-    ghost invariant = { λ m. IsWithin m.mmem m.arena.bytes };
+    ghost invariant = { λ m. IsLaidOut m.mmem m.pools m.arena.bytes };
 }
 
-/// Whether a call is on memory, so that `NodeMemory::ask` answers it.
-pub fn is_memory_call(call: &Call) -> bool
-    ensures { result ≡ asking.is_memory_call call.now }
+/// The pool that a call is on, if it is on one or on one of its lists.
+fn pool_called(call: &Call) -> Option<u8>
+    ensures { result ≡ calls.pool_called call.now }
+{
+    match call {
+        Call::MembAlloc(pool)
+        | Call::MembFree(pool, _)
+        | Call::MembWrite(pool, ..)
+        | Call::MembRead(pool, ..)
+        | Call::MembNumFree(pool) => Some(*pool),
+        Call::ListAdd(list, _)
+        | Call::ListPush(list, _)
+        | Call::ListInsert(list, ..)
+        | Call::ListPop(list)
+        | Call::ListChop(list)
+        | Call::ListRemove(list, _)
+        | Call::ListHead(list)
+        | Call::ListNext(list, _)
+        | Call::ListLength(list) => Some(*list / 2),
+        _ => None,
+    }
+}
+
+/// Whether a call is on managed memory.
+fn is_managed_call(call: &Call) -> bool
+    ensures { result ≡ asking.is_managed_call call.now }
 {
     matches!(
         call,
@@ -45,6 +78,13 @@ pub fn is_memory_call(call: &Call) -> bool
             | Call::MmemCopy(..)
             | Call::MmemAvail
     )
+}
+
+/// Whether a call is on memory, so that `NodeMemory::ask` answers it.
+pub fn is_memory_call(call: &Call) -> bool
+    ensures { result ≡ asking.is_memory_call call.now }
+{
+    pool_called(call).is_some() || is_managed_call(call)
 }
 
 impl NodeMemory {
@@ -64,12 +104,15 @@ impl NodeMemory {
         if !sizes.are_allowed() {
             return Err(BootFault::BadSizes);
         }
-        let mut arena = Arena::new(alloc, sizes.mmem).map_err(|_| BootFault::Memory)?;
-        let span = arena.carve(sizes.mmem).unwrap();
-        Ok(NodeMemory {
-            arena,
-            mmem: Mmem::new(span),
-        })
+        let mut arena = Arena::new(alloc, sizes.mmem + POOL_BYTES).map_err(|_| BootFault::Memory)?;
+        let mmem = Mmem::new(arena.carve(sizes.mmem).unwrap());
+        let pools = [
+            ListedPool::new(&mut arena, 12),
+            ListedPool::new(&mut arena, 28),
+            ListedPool::new(&mut arena, 60),
+            ListedPool::new(&mut arena, 124),
+        ];
+        Ok(NodeMemory { arena, mmem, pools })
     }
 
     /// Carries out an application's call on memory, and answers its reply. A refused call changes nothing.
@@ -79,6 +122,19 @@ impl NodeMemory {
         requires on_memory { asking.is_memory_call call.now ≡ true }
         requires asker { asking.MayAsk pid.0 call.now }
         ensures asked { asking.ask call.now pid.0 self.old ≡ (self.new, result) }
+        ensures others { LeavesOthers call.now pid.0 self.old self.new }
+    {
+        match pool_called(call) {
+            Some(pool) => self.ask_pool(pool, call),
+            None => self.ask_managed(pid, call),
+        }
+    }
+
+    /// Carries out a call on managed memory.
+    fn ask_managed(&mut self, pid: Pid, call: &Call) -> Reply
+        requires on_managed { asking.is_managed_call call.now ≡ true }
+        requires asker { asking.MayAsk pid.0 call.now }
+        ensures asked { asking.ask_managed call.now pid.0 self.old ≡ (self.new, result) }
         ensures others { LeavesOthers call.now pid.0 self.old self.new }
     {
         match call {
@@ -97,6 +153,17 @@ impl NodeMemory {
             Call::MmemAvail => Reply::Num(self.mmem_avail()),
             _ => unreachable!(),
         }
+    }
+
+    /// Carries out a call on a pool or on one of its lists.
+    fn ask_pool(&mut self, pool: u8, call: &Call) -> Reply
+        requires { calls.pool_called call.now ≡ Some pool }
+        ensures { asking.ask_pool_of pool call.now self.old ≡ (self.new, result) }
+    {
+        if pool as usize >= POOLS {
+            return Reply::Refused(Refusal::BadName);
+        }
+        self.pools[pool as usize].ask(&mut self.arena, call)
     }
 
     /// No two live blocks share a byte of the arena.

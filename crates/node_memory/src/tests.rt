@@ -1,4 +1,4 @@
-//! The calls on managed memory as a mote makes them, and the sizes that are allowed.
+//! The calls on memory as a mote makes them, and the sizes that are allowed.
 
 ghost use Rattle.std.specs.Prelude.{◌≡◌, ◌≤◌, length, true};
 ghost use Rattle.node_memory.specs.Ask as asking;
@@ -240,4 +240,76 @@ fn calls_on_memory(rt: HostRuntime) {
     assert!(rt; is_memory_call(&Call::MmemAvail));
     assert!(rt; is_memory_call(&Call::MmemCopy(0, 1)));
     assert!(rt; !is_memory_call(&Call::Clock));
+}
+
+fn check_number(rt: &impl Abort, memory: &mut NodeMemory, call: Call, number: u32)
+    requires on_memory { asking.is_memory_call call ≡ true }
+    requires asker { asking.MayAsk 4 call }
+{
+    match memory.ask(CALLER, &call) {
+        Reply::Num(found) => assert_eq!(rt; found, number),
+        _ => assert!(rt; false, "{number}"),
+    }
+}
+
+fn check_block(rt: &impl Abort, memory: &mut NodeMemory, pool: u8, block: u8, bytes: &[u8])
+    requires length { length bytes.now ≤ 64 }
+{
+    match memory.ask(CALLER, &Call::MembRead(pool, block, 0, bytes.len() as u8)) {
+        Reply::Bytes(found) => assert_eq!(rt; found.as_slice(), bytes),
+        _ => assert!(rt; false, "{bytes:?}"),
+    }
+}
+
+/// Managed memory and the pools lie side by side, and each keeps what it has while the others are filled and emptied.
+#[test]
+fn pools_and_managed_memory_lie_apart(rt: HostRuntime) -> Result<(), Fail> {
+    let mut memory = memory(rt.alloc(), 8)?;
+    check_done(&rt, &mut memory, CALLER, Call::MmemAlloc(0, 8));
+    check_done(
+        &rt,
+        &mut memory,
+        CALLER,
+        Call::MmemWrite(0, 0, bytes(&[1, 2, 3, 4, 5, 6, 7, 8])),
+    );
+    for pool in 0..4u8 {
+        check_number(&rt, &mut memory, Call::MembAlloc(pool), 0);
+        check_done(
+            &rt,
+            &mut memory,
+            CALLER,
+            Call::MembWrite(pool, 0, 0, bytes(&[pool + 9; 12])),
+        );
+        check_done(&rt, &mut memory, CALLER, Call::ListAdd(2 * pool + 1, 0));
+    }
+    check_done(&rt, &mut memory, CALLER, Call::MmemFree(0));
+    for pool in 0..4u8 {
+        check_block(&rt, &mut memory, pool, 0, &[pool + 9; 12]);
+        check_number(&rt, &mut memory, Call::ListLength(2 * pool), 0);
+        check_number(&rt, &mut memory, Call::ListHead(2 * pool + 1), 0);
+        check_number(&rt, &mut memory, Call::MembNumFree(pool), 15);
+    }
+    Ok(())
+}
+
+#[test]
+fn blocks_go_from_pool_to_list_and_back(rt: HostRuntime) -> Result<(), Fail> {
+    let mut memory = memory(rt.alloc(), 4)?;
+    check_number(&rt, &mut memory, Call::MembAlloc(1), 0);
+    check_number(&rt, &mut memory, Call::MembAlloc(1), 1);
+    check_done(&rt, &mut memory, CALLER, Call::ListPush(2, 0));
+    check_done(&rt, &mut memory, CALLER, Call::ListPush(2, 1));
+    check_number(&rt, &mut memory, Call::ListHead(2), 1);
+    check_number(&rt, &mut memory, Call::ListNext(2, 1), 0);
+    check_refused(&rt, &mut memory, Call::ListNext(2, 0), Refusal::Empty);
+    check_refused(&rt, &mut memory, Call::MembFree(1, 1), Refusal::Linked);
+    check_done(&rt, &mut memory, CALLER, Call::ListRemove(2, 1));
+    check_done(&rt, &mut memory, CALLER, Call::MembFree(1, 1));
+    check_refused(&rt, &mut memory, Call::MembFree(1, 1), Refusal::NotLive);
+    check_number(&rt, &mut memory, Call::ListPop(2), 0);
+    check_refused(&rt, &mut memory, Call::ListPop(2), Refusal::Empty);
+    check_refused(&rt, &mut memory, Call::MembAlloc(4), Refusal::BadName);
+    check_refused(&rt, &mut memory, Call::ListHead(8), Refusal::BadName);
+    check_number(&rt, &mut memory, Call::MembAlloc(1), 1);
+    Ok(())
 }

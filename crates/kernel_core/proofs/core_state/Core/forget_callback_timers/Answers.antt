@@ -1,7 +1,7 @@
-use Rattle.std.proofs.Common.{ap, ◌∙◌, ℕ, Bool, ◌≡◌, Some, sym, rules}
+use Rattle.std.proofs.Common.{ap, ◌∙◌, ℕ, Bool, ◌≡◌, Some, rules}
 use Rattle.std.specs.Prelude.{◌==◌}
 use Rattle.kernel_core.specs.Expiries.{strike_out}
-use Rattle.kernel_core.specs.KernelProcesses.{exited_application, forget_callback_timers}
+use Rattle.kernel_core.specs.KernelProcesses.{exited_application}
 use Rattle.kernel_core.specs.Machine.{with_timers}
 use Rattle.kernel_core.specs.View.{machine_of}
 use Rattle.kernel_core.specs.declared.core_state.Core.{Core}

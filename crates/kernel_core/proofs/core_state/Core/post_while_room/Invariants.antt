@@ -1,5 +1,5 @@
 use Rattle.std.proofs.Common.{◌≡◌, ◌-◌}
-use Rattle.kernel_core.specs.Draws.{HasFitEvents, debt}
+use Rattle.kernel_core.specs.Draws.{debt}
 use Rattle.kernel_core.specs.KernelProcesses.{times, post_first_due}
 use Rattle.kernel_core.specs.View.{machine_of, IsServed}
 use Rattle.kernel_core.proofs.core_state.Core.post_while_room.Given as goal

@@ -4,7 +4,6 @@ use Rattle.kernel_core.specs.Expiries.{strike_out}
 use Rattle.kernel_core.specs.KernelProcesses.{etimer_marked}
 use Rattle.kernel_core.specs.Machine.{with_timers}
 use Rattle.kernel_core.specs.View.{machine_of}
-use Rattle.timer_core.specs.NumberedTimers.{NumberedTimers}
 use Rattle.kernel_core.specs.declared.core_state.Core.{Core}
 use Rattle.kernel_core.proofs.Fitness.{renewed_one, struck_machine}
 use Rattle.kernel_core.proofs.core_state.Core.set_callback.Goals as goal

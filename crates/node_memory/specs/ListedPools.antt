@@ -1,0 +1,55 @@
+-- A pool with its two lists, as its users see them.
+use Rattle.std.specs.Prelude.{ℕ, ◌%◌, Bool, true, false, ◌||◌, List, [], Option, Some, if◌then◌else◌, ◌==◌}
+use Rattle.memb_core.specs.BlockPool.{BlockPool, unused_pool}
+use Rattle.memb_core.specs.BlockLists.{has_number}
+use Rattle.memb_core.specs.Links.{list_of}
+use Rattle.memb_core.specs.PoolBytes.{pool_of}
+use Rattle.memb_core.specs.declared.list_name.ListName.{ListName}
+use Rattle.node_memory.specs.declared.listed_pool.ListedPool.{ListedPool}
+
+pub record PoolWithLists : Type 0 where
+  pub pool : BlockPool
+  pub first : List ℕ
+  pub second : List ℕ
+
+-- 16 blocks, none of which is used, and two lists without a block
+abbrev pub unused_pool_of : ℕ → PoolWithLists
+unused_pool_of usable = record { pool = unused_pool 16 usable; first = []; second = [] }
+
+abbrev pub list_in : ListName → PoolWithLists → List ℕ
+list_in ListName.First s = s.first
+list_in ListName.Second s = s.second
+
+abbrev pub other_list : ListName → ListName
+other_list ListName.First = ListName.Second
+other_list ListName.Second = ListName.First
+
+abbrev pub with_list : ListName → List ℕ → PoolWithLists → PoolWithLists
+with_list ListName.First list s = record s { first = list }
+with_list ListName.Second list s = record s { second = list }
+
+abbrev pub with_blocks : BlockPool → PoolWithLists → PoolWithLists
+with_blocks pool s = record s { pool = pool }
+
+-- whether the block is in one of the lists
+abbrev pub is_linked : ℕ → PoolWithLists → Bool
+is_linked b s = has_number b s.first || has_number b s.second
+
+-- whether the list that a block is in, if it is in one, is this one
+abbrev pub is_holder : ListName → Option ListName → Bool
+is_holder ListName.First (Some ListName.First) = true
+is_holder ListName.Second (Some ListName.Second) = true
+is_holder _ _ = false
+
+-- lists 2 k and 2 k + 1 are the first and the second one of pool k
+abbrev pub list_named : ℕ → ListName
+list_named l = if l % 2 == 0 then ListName.First else ListName.Second
+
+-- what a pool and its lists show with these bytes of the arena
+abbrev pub seen : ListedPool → List ℕ → PoolWithLists
+seen listed bytes =
+    record {
+      pool = pool_of listed.pool bytes;
+      first = list_of ListName.First listed.lists listed.pool bytes;
+      second = list_of ListName.Second listed.lists listed.pool bytes;
+    }

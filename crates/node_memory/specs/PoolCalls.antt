@@ -1,0 +1,141 @@
+-- The calls on a pool and on its lists, one row each: when the call is refused, and else what the pool and its lists are after
+-- it, and the reply.
+use Rattle.std.specs.Prelude.{ℕ, ◌/◌, Bool, not, ◌||◌, length, Option, Some, None, if◌then◌else◌, ◌==◌, nat_le, nat_lt}
+use Rattle.mote_types.specs.Bytes.{is_within, range_of}
+use Rattle.mote_types.specs.declared.call.Call.{Call}
+use Rattle.mote_types.specs.declared.reply.Reply.{Reply}
+use Rattle.mote_types.specs.declared.refusal.Refusal.{Refusal}
+use Rattle.memb_core.specs.declared.list_name.ListName.{ListName}
+use Rattle.memb_core.specs.BlockPool.{is_live, first_unused, unused_count, allocated, freed, bytes_of, with_bytes}
+use Rattle.memb_core.specs.BlockLists.{has_number, without, head_of, tail_of, next_of, added, pushed, inserted, popped, chopped}
+use Rattle.node_memory.specs.ListedPools.{PoolWithLists, list_in, other_list, with_list, with_blocks, is_linked, list_named}
+
+-- the pool that a call is on, if it is on one
+abbrev pub pool_called : Call → Option ℕ
+pool_called (Call.MembAlloc k) = Some k
+pool_called (Call.MembFree k b) = Some k
+pool_called (Call.MembWrite k b at chunk) = Some k
+pool_called (Call.MembRead k b at len) = Some k
+pool_called (Call.MembNumFree k) = Some k
+pool_called (Call.ListAdd l b) = Some (l / 2)
+pool_called (Call.ListPush l b) = Some (l / 2)
+pool_called (Call.ListInsert l prev b) = Some (l / 2)
+pool_called (Call.ListPop l) = Some (l / 2)
+pool_called (Call.ListChop l) = Some (l / 2)
+pool_called (Call.ListRemove l b) = Some (l / 2)
+pool_called (Call.ListHead l) = Some (l / 2)
+pool_called (Call.ListNext l b) = Some (l / 2)
+pool_called (Call.ListLength l) = Some (l / 2)
+pool_called _ = None
+
+-- a pool has blocks 0 to 15
+abbrev pub is_block : ℕ → Bool
+is_block b = nat_le b 15
+
+-- the block is to be a live one
+abbrev pub block_refusal : ℕ → PoolWithLists → Option Refusal
+block_refusal b s =
+    if not (is_block b) then Some Refusal.BadName
+    else if not (is_live b s.pool) then Some Refusal.NotLive
+    else None
+
+abbrev pub free_refusal : ℕ → PoolWithLists → Option Refusal
+free_refusal b s =
+    if not (is_block b) then Some Refusal.BadName
+    else if not (is_live b s.pool) then Some Refusal.NotLive
+    else if is_linked b s then Some Refusal.Linked
+    else None
+
+-- a write of len bytes from that place of the block on
+abbrev pub write_refusal : ℕ → ℕ → ℕ → PoolWithLists → Option Refusal
+write_refusal b at len s =
+    if not (is_block b) then Some Refusal.BadName
+    else if not (is_live b s.pool) then Some Refusal.NotLive
+    else if not (is_within at len (bytes_of b s.pool)) then Some Refusal.Range
+    else None
+
+-- a read of len bytes, which may be at most 64
+abbrev pub read_refusal : ℕ → ℕ → ℕ → PoolWithLists → Option Refusal
+read_refusal b at len s =
+    if not (is_block b) then Some Refusal.BadName
+    else if not (is_live b s.pool) then Some Refusal.NotLive
+    else if nat_lt 64 len || not (is_within at len (bytes_of b s.pool)) then Some Refusal.Range
+    else None
+
+-- a block goes into a list where it is live, and not in the other one
+abbrev pub link_refusal : ListName → ℕ → PoolWithLists → Option Refusal
+link_refusal name b s =
+    if not (is_block b) then Some Refusal.BadName
+    else if not (is_live b s.pool) then Some Refusal.NotLive
+    else if has_number b (list_in (other_list name) s) then Some Refusal.Linked
+    else None
+
+abbrev pub insert_refusal : ListName → ℕ → ℕ → PoolWithLists → Option Refusal
+insert_refusal name prev b s =
+    if not (is_block prev) || not (is_block b) then Some Refusal.BadName
+    else if not (is_live b s.pool) then Some Refusal.NotLive
+    else if has_number b (list_in (other_list name) s) then Some Refusal.Linked
+    else if not (has_number prev (list_in name s)) || prev == b then Some Refusal.NotLinked
+    else None
+
+-- the block is to be in the list
+abbrev pub member_refusal : ListName → ℕ → PoolWithLists → Option Refusal
+member_refusal name b s =
+    if not (is_block b) then Some Refusal.BadName
+    else if not (has_number b (list_in name s)) then Some Refusal.NotLinked
+    else None
+
+-- the pool and its lists after a call, and the reply
+abbrev pub PoolAsked : Type 0
+PoolAsked = PoolWithLists × Reply
+
+abbrev pub unless_refused : Option Refusal → PoolWithLists → PoolAsked → PoolAsked
+unless_refused None s asked = asked
+unless_refused (Some refusal) s asked = (s, Reply.Refused refusal)
+
+abbrev pub done : PoolWithLists → PoolAsked
+done s = (s, Reply.Done)
+
+-- the number that there is, and what follows from it; else the refusal
+abbrev pub number_or : Refusal → Option ℕ → (ℕ → PoolWithLists) → PoolWithLists → PoolAsked
+number_or refusal None after s = (s, Reply.Refused refusal)
+number_or refusal (Some n) after s = (after n, Reply.Num n)
+
+-- pools
+abbrev pub ask_pool : Call → PoolWithLists → PoolAsked
+ask_pool (Call.MembAlloc k) s =
+    number_or Refusal.NoBlock (first_unused s.pool) (λ b. with_blocks (allocated b s.pool) s) s
+ask_pool (Call.MembFree k b) s = unless_refused (free_refusal b s) s (done (with_blocks (freed b s.pool) s))
+ask_pool (Call.MembWrite k b at chunk) s =
+    unless_refused (write_refusal b at (length chunk.items) s) s
+    (done (with_blocks (with_bytes b at chunk.items s.pool) s))
+ask_pool (Call.MembRead k b at len) s =
+    unless_refused (read_refusal b at len s) s
+    (s, Reply.Bytes (record { items = range_of at len (bytes_of b s.pool) }))
+ask_pool (Call.MembNumFree k) s = (s, Reply.Num (unused_count s.pool))
+-- lists
+ask_pool (Call.ListAdd l b) s =
+    unless_refused (link_refusal (list_named l) b s) s
+    (done (with_list (list_named l) (added b (list_in (list_named l) s)) s))
+ask_pool (Call.ListPush l b) s =
+    unless_refused (link_refusal (list_named l) b s) s
+    (done (with_list (list_named l) (pushed b (list_in (list_named l) s)) s))
+ask_pool (Call.ListInsert l prev b) s =
+    unless_refused (insert_refusal (list_named l) prev b s) s
+    (done (with_list (list_named l) (inserted prev b (list_in (list_named l) s)) s))
+ask_pool (Call.ListPop l) s =
+    number_or Refusal.Empty (head_of (list_in (list_named l) s))
+    (λ b. with_list (list_named l) (popped (list_in (list_named l) s)) s) s
+ask_pool (Call.ListChop l) s =
+    number_or Refusal.Empty (tail_of (list_in (list_named l) s))
+    (λ b. with_list (list_named l) (chopped (list_in (list_named l) s)) s) s
+ask_pool (Call.ListRemove l b) s =
+    unless_refused (member_refusal (list_named l) b s) s
+    (done (with_list (list_named l) (without b (list_in (list_named l) s)) s))
+ask_pool (Call.ListHead l) s = number_or Refusal.Empty (head_of (list_in (list_named l) s)) (λ b. s) s
+ask_pool (Call.ListNext l b) s =
+    unless_refused (member_refusal (list_named l) b s) s
+    (number_or Refusal.Empty (next_of b (list_in (list_named l) s)) (λ n. s) s)
+ask_pool (Call.ListLength l) s = (s, Reply.Num (length (list_in (list_named l) s)))
+-- the other calls are not on a pool, and are not asked here
+ask_pool _ s = done s

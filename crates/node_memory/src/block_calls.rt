@@ -1,0 +1,94 @@
+//! The calls on a pool's blocks, each with its refusals. A call that is refused changes nothing.
+
+ghost use Rattle.std.specs.Prelude.{◌≡◌, ℕ};
+ghost use Rattle.mote_types.specs.declared.call.Call.{Call};
+ghost use Rattle.memb_core.specs.Links.{AreLinked};
+ghost use Rattle.memb_core.specs.PoolBytes.{KeepsToSpan};
+ghost use Rattle.node_memory.specs.ListedPools.{seen};
+ghost use Rattle.node_memory.specs.PoolCalls.{ask_pool};
+
+use crate::listed_pool::ListedPool;
+use crate::ranges::{LONGEST_READ, chunk_of, is_outside};
+use arena_core::Arena;
+use memb_core::ListName;
+use mote_types::refusal::Refusal;
+use mote_types::reply::{Chunk, Reply};
+
+/// The last block of each pool.
+pub const LAST_BLOCK: u8 = 15;
+
+impl ListedPool {
+    /// Takes the unused block of lowest number into use.
+    pub fn alloc(&mut self, arena: &mut Arena) -> Reply
+        requires { AreLinked self.old.lists self.old.pool arena.old.bytes }
+        ensures asked { (k : ℕ) → ask_pool (Call.MembAlloc k) (seen self.old arena.old.bytes) ≡ (seen self.new arena.new.bytes, result) }
+        ensures linked { AreLinked self.new.lists self.new.pool arena.new.bytes }
+        ensures rest { KeepsToSpan self.old.pool self.new.pool arena.old arena.new }
+    {
+        match self.pool.alloc(arena) {
+            Some(block) => Reply::Num(u32::from(block)),
+            None => Reply::Refused(Refusal::NoBlock),
+        }
+    }
+
+    /// Gives a block back.
+    pub fn free(&mut self, arena: &mut Arena, block: u8) -> Reply
+        requires { AreLinked self.old.lists self.old.pool arena.old.bytes }
+        ensures asked { (k : ℕ) → ask_pool (Call.MembFree k block) (seen self.old arena.old.bytes) ≡ (seen self.new arena.new.bytes, result) }
+        ensures linked { AreLinked self.new.lists self.new.pool arena.new.bytes }
+        ensures rest { KeepsToSpan self.old.pool self.new.pool arena.old arena.new }
+    {
+        if block > LAST_BLOCK {
+            return Reply::Refused(Refusal::BadName);
+        }
+        if !self.pool.is_live(block) {
+            return Reply::Refused(Refusal::NotLive);
+        }
+        if self.is_in(arena, ListName::First, block) || self.is_in(arena, ListName::Second, block) {
+            return Reply::Refused(Refusal::Linked);
+        }
+        self.pool.free(arena, &self.lists, block);
+        Reply::Done
+    }
+
+    /// Writes over the usable bytes of a block, from the place `at` of them on.
+    pub fn write(&mut self, arena: &mut Arena, block: u8, at: u32, chunk: &Chunk) -> Reply
+        requires { AreLinked self.old.lists self.old.pool arena.old.bytes }
+        ensures asked { (k : ℕ) → ask_pool (Call.MembWrite k block at chunk.now) (seen self.old arena.old.bytes) ≡ (seen self.new arena.new.bytes, result) }
+        ensures linked { AreLinked self.new.lists self.new.pool arena.new.bytes }
+        ensures rest { KeepsToSpan self.old.pool self.new.pool arena.old arena.new }
+    {
+        if block > LAST_BLOCK {
+            return Reply::Refused(Refusal::BadName);
+        }
+        if !self.pool.is_live(block) {
+            return Reply::Refused(Refusal::NotLive);
+        }
+        let length = self.pool.bytes(arena, block).len();
+        if is_outside(at, chunk.len(), length) {
+            return Reply::Refused(Refusal::Range);
+        }
+        self.pool.write(arena, block, at, chunk.as_slice());
+        Reply::Done
+    }
+
+    /// Reads `len` of the usable bytes of a block, from the place `at` of them on.
+    pub fn read(&mut self, arena: &mut Arena, block: u8, at: u32, len: u8) -> Reply
+        requires { AreLinked self.old.lists self.old.pool arena.old.bytes }
+        ensures asked { (k : ℕ) → ask_pool (Call.MembRead k block at len) (seen self.old arena.old.bytes) ≡ (seen self.new arena.new.bytes, result) }
+        ensures linked { AreLinked self.new.lists self.new.pool arena.new.bytes }
+        ensures rest { KeepsToSpan self.old.pool self.new.pool arena.old arena.new }
+    {
+        if block > LAST_BLOCK {
+            return Reply::Refused(Refusal::BadName);
+        }
+        if !self.pool.is_live(block) {
+            return Reply::Refused(Refusal::NotLive);
+        }
+        let bytes = self.pool.bytes(arena, block);
+        if len > LONGEST_READ || is_outside(at, len as usize, bytes.len()) {
+            return Reply::Refused(Refusal::Range);
+        }
+        Reply::Bytes(chunk_of(bytes, at, len))
+    }
+}

@@ -1,0 +1,177 @@
+//! The calls on a pool's lists, each with its refusals. A call that is refused changes nothing.
+
+ghost use Rattle.std.specs.Prelude.{◌≡◌};
+ghost use Rattle.mote_types.specs.declared.call.Call.{Call};
+ghost use Rattle.memb_core.specs.Links.{AreLinked};
+ghost use Rattle.memb_core.specs.PoolBytes.{KeepsToSpan};
+ghost use Rattle.node_memory.specs.ListedPools.{seen};
+ghost use Rattle.node_memory.specs.PoolCalls as calls;
+ghost use Rattle.node_memory.specs.PoolCalls.{ask_pool};
+
+use crate::block_calls::LAST_BLOCK;
+use crate::listed_pool::{ListedPool, list_named, other_list};
+use arena_core::Arena;
+use memb_core::ListName;
+use mote_types::refusal::Refusal;
+use mote_types::reply::Reply;
+
+impl ListedPool {
+    /// Why a block may not go into a list, if it may not.
+    fn link_refusal(&self, arena: &Arena, list: ListName, block: u8) -> Option<Refusal>
+        requires { AreLinked self.now.lists self.now.pool arena.now.bytes }
+        ensures { result ≡ calls.link_refusal list block (seen self.now arena.now.bytes) }
+    {
+        if block > LAST_BLOCK {
+            return Some(Refusal::BadName);
+        }
+        if !self.pool.is_live(block) {
+            return Some(Refusal::NotLive);
+        }
+        if self.is_in(arena, other_list(list), block) {
+            return Some(Refusal::Linked);
+        }
+        None
+    }
+
+    /// Takes a block to the end of a list.
+    pub fn add(&mut self, arena: &mut Arena, list: u8, block: u8) -> Reply
+        requires { AreLinked self.old.lists self.old.pool arena.old.bytes }
+        ensures asked { ask_pool (Call.ListAdd list block) (seen self.old arena.old.bytes) ≡ (seen self.new arena.new.bytes, result) }
+        ensures linked { AreLinked self.new.lists self.new.pool arena.new.bytes }
+        ensures rest { KeepsToSpan self.old.pool self.new.pool arena.old arena.new }
+    {
+        let list = list_named(list);
+        if let Some(refusal) = self.link_refusal(arena, list, block) {
+            return Reply::Refused(refusal);
+        }
+        self.lists.add(arena, &self.pool, list, block);
+        Reply::Done
+    }
+
+    /// Takes a block to the front of a list.
+    pub fn push(&mut self, arena: &mut Arena, list: u8, block: u8) -> Reply
+        requires { AreLinked self.old.lists self.old.pool arena.old.bytes }
+        ensures asked { ask_pool (Call.ListPush list block) (seen self.old arena.old.bytes) ≡ (seen self.new arena.new.bytes, result) }
+        ensures linked { AreLinked self.new.lists self.new.pool arena.new.bytes }
+        ensures rest { KeepsToSpan self.old.pool self.new.pool arena.old arena.new }
+    {
+        let list = list_named(list);
+        if let Some(refusal) = self.link_refusal(arena, list, block) {
+            return Reply::Refused(refusal);
+        }
+        self.lists.push(arena, &self.pool, list, block);
+        Reply::Done
+    }
+
+    /// Takes a block to the place behind another one of a list.
+    pub fn insert(&mut self, arena: &mut Arena, list: u8, prev: u8, block: u8) -> Reply
+        requires { AreLinked self.old.lists self.old.pool arena.old.bytes }
+        ensures asked { ask_pool (Call.ListInsert list prev block) (seen self.old arena.old.bytes) ≡ (seen self.new arena.new.bytes, result) }
+        ensures linked { AreLinked self.new.lists self.new.pool arena.new.bytes }
+        ensures rest { KeepsToSpan self.old.pool self.new.pool arena.old arena.new }
+    {
+        let list = list_named(list);
+        if prev > LAST_BLOCK {
+            return Reply::Refused(Refusal::BadName);
+        }
+        if let Some(refusal) = self.link_refusal(arena, list, block) {
+            return Reply::Refused(refusal);
+        }
+        if prev == block || !self.is_in(arena, list, prev) {
+            return Reply::Refused(Refusal::NotLinked);
+        }
+        self.lists.insert(arena, &self.pool, list, prev, block);
+        Reply::Done
+    }
+
+    /// Takes the head out of a list.
+    pub fn pop(&mut self, arena: &mut Arena, list: u8) -> Reply
+        requires { AreLinked self.old.lists self.old.pool arena.old.bytes }
+        ensures asked { ask_pool (Call.ListPop list) (seen self.old arena.old.bytes) ≡ (seen self.new arena.new.bytes, result) }
+        ensures linked { AreLinked self.new.lists self.new.pool arena.new.bytes }
+        ensures rest { KeepsToSpan self.old.pool self.new.pool arena.old arena.new }
+    {
+        let list = list_named(list);
+        match self.lists.pop(arena, &self.pool, list) {
+            Some(block) => Reply::Num(u32::from(block)),
+            None => Reply::Refused(Refusal::Empty),
+        }
+    }
+
+    /// Takes the tail out of a list.
+    pub fn chop(&mut self, arena: &mut Arena, list: u8) -> Reply
+        requires { AreLinked self.old.lists self.old.pool arena.old.bytes }
+        ensures asked { ask_pool (Call.ListChop list) (seen self.old arena.old.bytes) ≡ (seen self.new arena.new.bytes, result) }
+        ensures linked { AreLinked self.new.lists self.new.pool arena.new.bytes }
+        ensures rest { KeepsToSpan self.old.pool self.new.pool arena.old arena.new }
+    {
+        let list = list_named(list);
+        match self.lists.chop(arena, &self.pool, list) {
+            Some(block) => Reply::Num(u32::from(block)),
+            None => Reply::Refused(Refusal::Empty),
+        }
+    }
+
+    /// Takes a block out of a list.
+    pub fn remove(&mut self, arena: &mut Arena, list: u8, block: u8) -> Reply
+        requires { AreLinked self.old.lists self.old.pool arena.old.bytes }
+        ensures asked { ask_pool (Call.ListRemove list block) (seen self.old arena.old.bytes) ≡ (seen self.new arena.new.bytes, result) }
+        ensures linked { AreLinked self.new.lists self.new.pool arena.new.bytes }
+        ensures rest { KeepsToSpan self.old.pool self.new.pool arena.old arena.new }
+    {
+        let list = list_named(list);
+        if block > LAST_BLOCK {
+            return Reply::Refused(Refusal::BadName);
+        }
+        if !self.is_in(arena, list, block) {
+            return Reply::Refused(Refusal::NotLinked);
+        }
+        self.lists.remove(arena, &self.pool, list, block);
+        Reply::Done
+    }
+
+    /// Tells the head of a list.
+    pub fn head(&mut self, arena: &mut Arena, list: u8) -> Reply
+        requires { AreLinked self.old.lists self.old.pool arena.old.bytes }
+        ensures asked { ask_pool (Call.ListHead list) (seen self.old arena.old.bytes) ≡ (seen self.new arena.new.bytes, result) }
+        ensures linked { AreLinked self.new.lists self.new.pool arena.new.bytes }
+        ensures rest { KeepsToSpan self.old.pool self.new.pool arena.old arena.new }
+    {
+        let list = list_named(list);
+        match self.lists.head(list) {
+            Some(block) => Reply::Num(u32::from(block)),
+            None => Reply::Refused(Refusal::Empty),
+        }
+    }
+
+    /// Tells the block behind another one of a list.
+    pub fn next(&mut self, arena: &mut Arena, list: u8, block: u8) -> Reply
+        requires { AreLinked self.old.lists self.old.pool arena.old.bytes }
+        ensures asked { ask_pool (Call.ListNext list block) (seen self.old arena.old.bytes) ≡ (seen self.new arena.new.bytes, result) }
+        ensures linked { AreLinked self.new.lists self.new.pool arena.new.bytes }
+        ensures rest { KeepsToSpan self.old.pool self.new.pool arena.old arena.new }
+    {
+        let list = list_named(list);
+        if block > LAST_BLOCK {
+            return Reply::Refused(Refusal::BadName);
+        }
+        if !self.is_in(arena, list, block) {
+            return Reply::Refused(Refusal::NotLinked);
+        }
+        match self.lists.next(arena, &self.pool, list, block) {
+            Some(block) => Reply::Num(u32::from(block)),
+            None => Reply::Refused(Refusal::Empty),
+        }
+    }
+
+    /// Tells how many blocks a list has.
+    pub fn length(&mut self, arena: &mut Arena, list: u8) -> Reply
+        requires { AreLinked self.old.lists self.old.pool arena.old.bytes }
+        ensures asked { ask_pool (Call.ListLength list) (seen self.old arena.old.bytes) ≡ (seen self.new arena.new.bytes, result) }
+        ensures linked { AreLinked self.new.lists self.new.pool arena.new.bytes }
+        ensures rest { KeepsToSpan self.old.pool self.new.pool arena.old arena.new }
+    {
+        let list = list_named(list);
+        Reply::Num(u32::from(self.lists.length(arena, &self.pool, list)))
+    }
+}

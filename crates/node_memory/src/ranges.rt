@@ -1,0 +1,28 @@
+//! Ranges of a block's bytes that are read or written.
+
+ghost use Rattle.std.specs.Prelude.{◌≡◌, ◌≤◌, ◌+◌, length, nat_lt};
+ghost use Rattle.mote_types.specs.Bytes.{range_of};
+
+use mote_types::reply::Chunk;
+
+/// The most bytes of one read.
+pub const LONGEST_READ: u8 = 64;
+
+/// Whether the range ends behind a block of this length.
+pub fn is_outside(at: u32, len: usize, block: usize) -> bool
+    requires { len ≤ 64 }
+    ensures { result ≡ nat_lt block (at + len) }
+{
+    at as u64 + len as u64 > block as u64
+}
+
+/// The `len` bytes from the place `at` on.
+pub fn chunk_of(bytes: &[u8], at: u32, len: u8) -> Chunk
+    requires short { len ≤ 64 }
+    requires within { at + len ≤ length bytes.now }
+    ensures { result.items ≡ range_of at len bytes.now }
+{
+    let mut chunk = Chunk::new();
+    let _ = chunk.try_extend_from_slice(&bytes[at as usize..at as usize + len as usize]);
+    chunk
+}
