@@ -17,7 +17,7 @@ use Rattle.mote_text.proofs.Reading.{Before, start, script_limit_is}
 use Rattle.kernel_core.specs.declared.config.Config.{Config}
 use Rattle.kernel_core.specs.Machine.{Machine, booted}
 use Rattle.kernel_core.specs.Run.{Running, Runs, ComesToRest, after_steps, at_start, fed, is_still, with_input}
-use Rattle.mote_run.specs.RunText.{HasRun, script_done}
+use Rattle.mote_run.specs.RunText.{HasRun, HasRunOnWholeLines, script_done}
 use Rattle.mote_run.specs.Settling.{IsTold, Settled, lines}
 use Rattle.mote_run.proofs.Settling.{steps_after}
 use Rattle.mote_run.proofs.Determined.{run_from, still_rest}
@@ -210,6 +210,21 @@ module _ {config : Config} {says now : Applications} {machine : Machine} {taken_
           ends = rw (gives more whole, i.halts, running) refl;
           is_text = refl;
         };
+  }
+
+  -- reading failed, at rest after the lines that were read whole
+  pub in_run_read_fault : (taken_later given_later : List ℕ) → taken_later ≡ taken_new → given_later ≡ given_new →
+      HasRunOnWholeLines config says taken_old taken_later given_old given_later
+  in_run_read_fault taken_later given_later taken given = record {
+    bytes = i.bytes;
+    out = lines i.entries;
+    taken = taken ∙ i.taken;
+    given = given ∙ i.given;
+    inputs = i.earlier;
+    have_form = i.before.whole;
+    last = here;
+    runs = rw append-nil at (i.onward [] here (resting_runs says here [] i.still (λ h. refl)));
+    is_text = sym (append-nil (lines i.entries));
   }
 
   -- the last line had an input, which was carried out

@@ -1,8 +1,9 @@
 -- What a run writes.
 use Rattle.std.specs.Prelude.{◌≡◌, ◌≤◌, ◌+◌, ℕ, Bool, true, length, List, [], ◌++◌, if◌then◌else◌}
 use Rattle.mote_types.specs.Applications.{Applications}
+use Rattle.mote_types.specs.declared.entry.Input.{Input}
 use Rattle.mote_text.specs.declared.script.End.{End}
-use Rattle.mote_text.specs.Script.{inputs, script_limit}
+use Rattle.mote_text.specs.Script.{inputs, read_lines, script_limit, whole_lines}
 use Rattle.mote_text.specs.Transcript.{end_of, text}
 use Rattle.kernel_core.specs.declared.config.Config.{Config}
 use Rattle.kernel_core.specs.Machine.{Machine, booted, is_bootable}
@@ -36,6 +37,19 @@ pub record HasRunInPart (config : Config) (says : Applications) (taken_old taken
   pub few : length bytes ≤ script_limit + 1
   pub is_front : (more : List ℕ) → (is_ended ≡ true → more ≡ []) → (whole : List ℕ) (end : End) →
       IsRunText config says (bytes ++ more) whole end → (rest : List ℕ) × (whole ≡ out ++ rest)
+
+-- Reading failed: each whole line among the bytes read has a form, and what was written is the text of the machine's run on
+-- their inputs, all of it and nothing else
+pub record HasRunOnWholeLines (config : Config) (says : Applications) (taken_old taken_new given_old given_new : List ℕ) : Type 0 where
+  pub bytes : List ℕ
+  pub out : List ℕ
+  pub taken : taken_new ≡ taken_old ++ bytes
+  pub given : given_new ≡ given_old ++ out
+  pub inputs : List Input
+  pub have_form : read_lines 1 End.Finished (whole_lines bytes) ≡ (inputs, End.Finished)
+  pub last : Running
+  pub runs : Runs says (at_start config) inputs last
+  pub is_text : out ≡ text last.entries End.Finished
 
 -- the kernel was just booted, for so many applications
 abbrev pub WasBooted : Mote → ℕ → Type 0

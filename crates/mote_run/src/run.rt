@@ -5,7 +5,7 @@ ghost use Rattle.mote_types.specs.Applications.{says_of};
 ghost use Rattle.mote_text.specs.Transcript.{final_line};
 ghost use Rattle.kernel_core.specs.declared.config.Config.{Config};
 ghost use Rattle.kernel_core.specs.Machine.{booted};
-ghost use Rattle.mote_run.specs.RunText.{HasRun, HasRunInPart, WasBooted, script_done};
+ghost use Rattle.mote_run.specs.RunText.{HasRun, HasRunInPart, HasRunOnWholeLines, WasBooted, script_done};
 
 use crate::device::{read_byte, write_all};
 use crate::present_line::PresentLine;
@@ -75,6 +75,8 @@ pub fn run<S: ByteSource, K: ByteSink>(
         HasRun config (says_of says apps.old) (S.taken source.old) (S.taken source.new) (S.is_ended source.new) (K.given sink.old) (K.given sink.new) end) }
     ensures front { OnErr result (S.is_named → K.is_named → (config : Config) → kernel.machine ≡ booted config →
         HasRunInPart config (says_of says apps.old) (S.taken source.old) (S.taken source.new) (S.is_ended source.new) (K.given sink.old) (K.given sink.new)) }
+    ensures after_read_fault { IsErrOf result RunFault.Read → S.is_named → K.is_named → (config : Config) → kernel.machine ≡ booted config →
+        HasRunOnWholeLines config (says_of says apps.old) (S.taken source.old) (S.taken source.new) (K.given sink.old) (K.given sink.new) }
     ensures read_fault { IsErrOf result RunFault.Read ↔ (S.failure_count source.old < S.failure_count source.new) }
     ensures write_fault { IsErrOf result RunFault.Write ↔ (K.failure_count sink.old < K.failure_count sink.new) }
 {

@@ -8,7 +8,7 @@ use Rattle.kernel_core.specs.Run.{fed}
 use Rattle.mote_run.proofs.Pieces.{on_err}
 use Rattle.mote_run.proofs.Fronts.{start_cut_off, read_failed, close_failed, input_cut_off}
 use Rattle.mote_run.proofs.NextByte.{no_input, an_input, no_form}
-use Rattle.mote_run.proofs.InRun.{in_run_start, in_run_byte, in_run_input, in_run_halted, in_run_stops, in_run_ends_with_input, one_behind, taken_on, taken_so_far}
+use Rattle.mote_run.proofs.InRun.{in_run_start, in_run_byte, in_run_input, in_run_halted, in_run_stops, in_run_read_fault, in_run_ends_with_input, one_behind, taken_on, taken_so_far}
 use Rattle.mote_run.proofs.run.run.Goals as goal
 
 pub byte-init : goal.byte-init
@@ -133,6 +133,10 @@ returns-in_err-settle-clause-front g c = on_err c.from_residual.result (λ s k c
 pub returns-in_err-byte-clause-front : goal.returns-in_err-byte-clause-front
 returns-in_err-byte-clause-front g c = on_err c.from_residual-in_err-byte.result (λ s k config boots.
     read_failed (c.byte.invariant.in_run s k config boots) _ _ (c.in_err-byte.ensures.nothing_taken s))
+
+pub returns-in_err-byte-clause-after_read_fault : goal.returns-in_err-byte-clause-after_read_fault
+returns-in_err-byte-clause-after_read_fault g c = λ failed s k config boots.
+    in_run_read_fault (c.byte.invariant.in_run s k config boots) _ _ (c.in_err-byte.ensures.nothing_taken s) refl
 
 pub returns-in_err-settle-in-Ok-Some-clause-front : goal.returns-in_err-settle-in-Ok-Some-clause-front
 returns-in_err-settle-in-Ok-Some-clause-front g c = on_err c.from_residual-in_err-settle-in-Ok-Some.result (λ s k config boots.
