@@ -1,0 +1,187 @@
+-- The gap that begins where a block ends.
+use Rattle.std.proofs.Common.{◌≡◌, ◌≢◌, ℕ, ◌+◌, ◌-◌, ◌≤◌, ◌<◌, ◌⊎◌, inl, inr, Bool, List, [], ◌∷◌, ◌++◌, true, false, eqb, leb, ltb, refl, sym, ap, ◌∙◌, arith}
+use Rattle.std.specs.Prelude.{Option, Some, None, find, if◌then◌else◌}
+use Rattle.std.specs.Option.{option_map_or, option_or}
+use Rattle.std.proofs.lemmas.Bool.{ne_eqb, eq-eqb, le-leb, lt-leb, leb-true, leb-false, ltb-true, cases_Bool, cases_eq}
+use Rattle.std.proofs.lemmas.List.Folds.{find-append}
+use Rattle.mote_types.specs.Rounding.{up4}
+use Rattle.heap_core.specs.declared.chunk.Chunk.{Chunk}
+use Rattle.heap_core.specs.declared.chunk.Gap.{Gap}
+use Rattle.heap_core.specs.declared.heap.Heap.{Heap}
+use Rattle.heap_core.specs.HeapStore.{header_len, gaps, gap_at, footprint, room_taken, room_in_place}
+use Rattle.heap_core.specs.Chunks.{Tell}
+use Rattle.heap_core.specs.HeapBytes.{chunks_of, heap_of, HasChunks}
+use Rattle.heap_core.specs.Walks.{gap_of, front_gap, place_in_chunk}
+use Rattle.heap_core.proofs.Told.{place_told, told_le, owner_cases}
+use Rattle.heap_core.proofs.Gaps.{with_gap, gaps_in, gaps_are, end_is}
+use Rattle.heap_core.proofs.Standing.{Around}
+
+abbrev begins : ℕ → Gap → Bool
+begins at gap = eqb gap.at at
+
+abbrev len_or_none : Option Gap → ℕ
+len_or_none o = option_map_or (λ (gap : Gap). gap.len) o 0
+
+with_gap_append : (c : Chunk) (o : Option ℕ) (xs ys : List Gap) → with_gap c o (xs ++ ys) ≡ with_gap c o xs ++ ys
+with_gap_append c None xs ys = refl
+with_gap_append c (Some name) xs ys = refl
+
+gaps_append : (l r : List Chunk) → gaps_in (l ++ r) ≡ gaps_in l ++ gaps_in r
+gaps_append [] r = refl
+gaps_append (c ∷ l) r = ap (with_gap c c.owner) (gaps_append l r) ∙ with_gap_append c c.owner (gaps_in l) (gaps_in r)
+
+no_gap : (B : List ℕ) (b p x y : ℕ) (l : List Chunk) → Tell B b x y l → (p < x) ⊎ (y ≤ p) → find (begins p) (gaps_in l) ≡ None
+no_gap B b p x y [] t side = refl
+no_gap B b p x y (c ∷ l) t side =
+    let enough : header_len + c.size ≤ c.len = t.1 in let at = place_told B b x c t.0 in let le = told_le B b (x + c.len) y l t.2 in
+    let later : find (begins p) (gaps_in l) ≡ None = no_gap B b p (x + c.len) y l t.2 (elim side [ inl low ↦ inl (omega arith) | inr high ↦ inr (omega arith) ]) in
+    elim (owner_cases c.owner) [
+      | inl e ↦
+          let far : eqb c.at p ≡ false = ne_eqb c.at p (λ f. elim side [ inl low ↦ absurd (omega arith) | inr high ↦ absurd (omega arith) ]) in
+          let skip : find (begins p) (with_gap c None (gaps_in l)) ≡ find (begins p) (gaps_in l) = rw far refl in
+          ap (λ o. find (begins p) (with_gap c o (gaps_in l))) e ∙ skip ∙ later
+      | inr s ↦ ap (λ o. find (begins p) (with_gap c o (gaps_in l))) s.1 ∙ later
+    ]
+
+front_found : (B : List ℕ) (b at z : ℕ) (l : List Chunk) → Tell B b at z l → len_or_none (find (begins at) (gaps_in l)) ≡ front_gap l
+front_found B b at z [] t = refl
+front_found B b at z (d ∷ l) t =
+    let enough : header_len + d.size ≤ d.len = t.1 in let here = place_told B b at d t.0 in
+    elim (owner_cases d.owner) [
+      | inl e ↦
+          let near : eqb d.at at ≡ true = eq-eqb d.at at here in
+          let first : len_or_none (find (begins at) (with_gap d None (gaps_in l))) ≡ d.len = rw near refl in
+          ap (λ o. len_or_none (find (begins at) (with_gap d o (gaps_in l)))) e ∙ first ∙ sym (ap (gap_of d) e)
+      | inr s ↦
+          ap (λ o. len_or_none (find (begins at) (with_gap d o (gaps_in l)))) s.1
+          ∙ ap len_or_none (no_gap B b at (at + d.len) z l t.2 (inl (omega arith)))
+          ∙ sym (ap (gap_of d) s.1)
+    ]
+
+pub gap_at_end : (heap : Heap) (B : List ℕ) (chunk : Chunk) (a : Around B heap.span.at heap.footprint chunk (chunks_of heap B)) → HasChunks heap B → chunk.owner ≢ None
+    → gap_at (chunk.at + chunk.len) (heap_of heap B) ≡ front_gap a.behind
+gap_at_end heap B chunk a has live =
+    let b = heap.span.at in let end = chunk.at + chunk.len in
+    elim (owner_cases chunk.owner) [
+      | inl e ↦ absurd (live e)
+      | inr s ↦
+          let all : gaps (heap_of heap B) ≡ gaps_in a.before ++ gaps_in a.behind =
+          gaps_are B b 0 heap.footprint (chunks_of heap B) has.told has.joined
+          ∙ ap gaps_in a.is
+          ∙ gaps_append a.before (chunk ∷ a.behind)
+          ∙ ap (λ o. gaps_in a.before ++ with_gap chunk o (gaps_in a.behind)) s.1 in
+          ap (λ l. len_or_none (find (begins end) l)) all
+          ∙ ap len_or_none (find-append (begins end) (gaps_in a.before) (gaps_in a.behind))
+          ∙ ap (λ o. len_or_none (option_or o (find (begins end) (gaps_in a.behind)))) (no_gap B b end 0 chunk.at a.before a.front (inr (omega arith)))
+          ∙ front_found B b end heap.footprint a.behind a.back
+    ]
+
+-- which room there is where a block is
+abbrev choice : ℕ → ℕ → ℕ → ℕ → ℕ → ℕ → Option ℕ
+choice least room end top_at top gap =
+    if leb least room then Some (room_taken least room)
+    else if eqb end top_at then (if leb least (room + top) then Some least else None)
+    else if leb least (room + gap) then Some (room_taken least (room + gap))
+    else None
+
+module _ (heap : Heap) (B : List ℕ) (chunk : Chunk) (n : ℕ) (a : Around B heap.span.at heap.footprint chunk (chunks_of heap B)) (has : HasChunks heap B) (live : chunk.owner ≢ None) where
+  abbrev room : ℕ
+  room = chunk.len - header_len
+
+  abbrev end : ℕ
+  end = chunk.at + chunk.len
+
+  pub room_is : room_in_place (place_in_chunk chunk) n (heap_of heap B) ≡ choice (up4 n) room end heap.footprint (heap.span.len - heap.footprint) (front_gap a.behind)
+  room_is =
+      let store = heap_of heap B in
+      let top : footprint store ≡ heap.footprint = end_is B heap.span.at 0 heap.footprint (chunks_of heap B) has.told has.joined in
+      let same : chunk.at + (header_len + room) ≡ end = omega (arith, a.enough) in
+      ap (λ k. choice (up4 n) room k (footprint store) (heap.span.len - footprint store) (gap_at k store)) same
+      ∙ ap (λ k. choice (up4 n) room end k (heap.span.len - k) (gap_at end store)) top
+      ∙ ap (choice (up4 n) room end heap.footprint (heap.span.len - heap.footprint)) (gap_at_end heap B chunk a has live)
+
+module _ (least room end top_at top gap : ℕ) where
+  pub choice_here : least ≤ room → choice least room end top_at top gap ≡ Some (room_taken least room)
+  choice_here fits = let here : leb least room ≡ true = le-leb least room fits in rw here refl
+
+  pub choice_top : room < least → end ≡ top_at → least ≤ room + top → choice least room end top_at top gap ≡ Some least
+  choice_top short last fits =
+      let far : leb least room ≡ false = lt-leb least room short in let is : eqb end top_at ≡ true = eq-eqb end top_at last in
+      let here : leb least (room + top) ≡ true = le-leb least (room + top) fits in
+      rw far (rw is (rw here refl))
+
+  pub choice_no_top : room < least → end ≡ top_at → room + top < least → choice least room end top_at top gap ≡ None
+  choice_no_top short last less =
+      let far : leb least room ≡ false = lt-leb least room short in let is : eqb end top_at ≡ true = eq-eqb end top_at last in
+      let here : leb least (room + top) ≡ false = lt-leb least (room + top) less in
+      rw far (rw is (rw here refl))
+
+  pub choice_gap : room < least → end ≢ top_at → least ≤ room + gap → choice least room end top_at top gap ≡ Some (room_taken least (room + gap))
+  choice_gap short more fits =
+      let far : leb least room ≡ false = lt-leb least room short in let is : eqb end top_at ≡ false = ne_eqb end top_at more in
+      let here : leb least (room + gap) ≡ true = le-leb least (room + gap) fits in
+      rw far (rw is (rw here refl))
+
+  pub choice_no_gap : room < least → end ≢ top_at → room + gap < least → choice least room end top_at top gap ≡ None
+  choice_no_gap short more less =
+      let far : leb least room ≡ false = lt-leb least room short in let is : eqb end top_at ≡ false = ne_eqb end top_at more in
+      let here : leb least (room + gap) ≡ false = lt-leb least (room + gap) less in
+      rw far (rw is (rw here refl))
+
+-- what is known of the room that was chosen
+pub record Taken (least room end top_at top gap chosen : ℕ) : Type 0 where
+  pub enough : least ≤ chosen
+  pub on_top : end ≡ top_at → chosen ≤ room + top
+  pub below : end ≢ top_at → (chosen ≡ room + gap) ⊎ (chosen + 16 ≤ room + gap)
+
+taken_is : (least available : ℕ) → least ≤ available → (room_taken least available ≡ available) ⊎ ((room_taken least available ≡ least) × (least + 16 ≤ available))
+taken_is least available fits = elim (cases_Bool (ltb 16 (available - least))) [
+  | inl long ↦ let more = ltb-true 16 (available - least) long in inr (rw long refl, omega arith)
+  | inr short ↦ inl (rw short refl)
+]
+
+pub front_gap_long : (B : List ℕ) (b at z : ℕ) (l : List Chunk) → Tell B b at z l → (front_gap l ≡ 0) ⊎ (16 ≤ front_gap l)
+front_gap_long B b at z [] t = inl refl
+front_gap_long B b at z (d ∷ l) t =
+    let enough : header_len + d.size ≤ d.len = t.1 in
+    elim (owner_cases d.owner) [ inl e ↦ inr (omega (arith, ap (gap_of d) e)) | inr s ↦ inl (ap (gap_of d) s.1) ]
+
+module _ (least room end top_at top gap chosen : ℕ) (long : (gap ≡ 0) ⊎ (16 ≤ gap)) where
+  same_room : (k : ℕ) → Some k ≡ Some chosen → k ≡ chosen
+  same_room k e = cc
+
+  pub taken : choice least room end top_at top gap ≡ Some chosen → Taken least room end top_at top gap chosen
+  taken e = elim (cases_Bool (leb least room)) [
+    | inl here ↦
+        let fits = leb-true least room here in
+        let is : room_taken least room ≡ chosen = same_room (room_taken least room) (rw here at e) in
+        elim (taken_is least room fits) [
+          | inl all ↦ record {
+            enough = omega arith;
+            on_top = λ last. omega arith;
+            below = λ more. elim long [ inl none ↦ inl (omega arith) | inr some ↦ inr (omega arith) ];
+          }
+          | inr part ↦ record { enough = omega (arith, part.0); on_top = λ last. omega (arith, part.0, part.1); below = λ more. inr (omega (arith, part.0, part.1)) }
+        ]
+    | inr short ↦
+        let less = leb-false least room short in
+        elim (cases_eq end top_at) [
+          | inl last ↦ elim (cases_Bool (leb least (room + top))) [
+            | inl fits ↦
+                let enough = leb-true least (room + top) fits in
+                let is : least ≡ chosen = same_room least (sym (choice_top least room end top_at top gap less last enough) ∙ e) in
+                record { enough = omega arith; on_top = λ f. omega arith; below = λ more. absurd (more last) }
+            | inr none ↦ absurd (let two : None ≡ Some chosen = sym (choice_no_top least room end top_at top gap less last (leb-false least (room + top) none)) ∙ e in cc)
+          ]
+          | inr more ↦ elim (cases_Bool (leb least (room + gap))) [
+            | inl fits ↦
+                let enough = leb-true least (room + gap) fits in
+                let is : room_taken least (room + gap) ≡ chosen = same_room (room_taken least (room + gap)) (sym (choice_gap least room end top_at top gap less more enough) ∙ e) in
+                elim (taken_is least (room + gap) enough) [
+                  | inl all ↦ record { enough = omega arith; on_top = λ last. absurd (more last); below = λ f. inl (omega arith) }
+                  | inr part ↦ record { enough = omega (arith, part.0); on_top = λ last. absurd (more last); below = λ f. inr (omega (arith, part.0, part.1)) }
+                ]
+            | inr none ↦ absurd (let two : None ≡ Some chosen = sym (choice_no_gap least room end top_at top gap less more (leb-false least (room + gap) none)) ∙ e in cc)
+          ]
+        ]
+  ]

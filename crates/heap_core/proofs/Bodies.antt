@@ -1,0 +1,107 @@
+-- A write into a live block's bytes.
+use Rattle.std.proofs.Common.{◌≡◌, ℕ, ◌+◌, ◌-◌, ◌≤◌, List, [], ◌∷◌, ◌++◌, length, take, drop, slice_range, true, not, eqb, refl, sym, ap, ◌∙◌, subst, arith}
+use Rattle.std.specs.Prelude.{Some, None, filter, map, if◌then◌else◌}
+use Rattle.std.proofs.lemmas.List.{append_assoc, map-append}
+use Rattle.std.proofs.lemmas.List.Elements.{filter-append}
+use Rattle.std.proofs.lemmas.Bool.{eq-eqb}
+use Rattle.mote_types.specs.Bytes.{overwritten}
+use Rattle.arena_core.specs.Outside.{ChangesOnly}
+use Rattle.arena_core.specs.Written.{written}
+use Rattle.arena_core.proofs.Ranges.{length-range, written-range, changes_only}
+use Rattle.arena_core.proofs.Rows.{written_is}
+use Rattle.heap_core.specs.declared.chunk.Chunk.{Chunk}
+use Rattle.heap_core.specs.declared.heap.Heap.{Heap}
+use Rattle.heap_core.specs.HeapStore.{Block, header_len, has_name}
+use Rattle.heap_core.specs.Chunks.{AreJoined, with_chunk, blocks_in}
+use Rattle.heap_core.specs.HeapBytes.{chunks_of, IsLaidOut}
+use Rattle.heap_core.proofs.Told.{told_body, changes_more, blocks_append}
+use Rattle.heap_core.proofs.Names.{block_from, count_append, count_first, map_unnamed, filter_unnamed}
+use Rattle.heap_core.proofs.Blocks.{count, elsewhere}
+use Rattle.heap_core.proofs.Releases.{left_apart}
+use Rattle.heap_core.proofs.Splice.{Spliced, spliced}
+use Rattle.heap_core.proofs.Standing.{Around}
+
+module _ (heap : Heap) (B : List ℕ) (laid : IsLaidOut heap B) (chunk : Chunk) (a : Around B heap.span.at heap.footprint chunk (chunks_of heap B)) (name : ℕ) (owner : chunk.owner ≡ Some name) where
+  abbrev b : ℕ
+  b = heap.span.at
+
+  abbrev block : Block
+  block = block_from B b name chunk
+
+  abbrev xs : List Block
+  xs = blocks_in B b a.before
+
+  abbrev ys : List Block
+  ys = blocks_in B b a.behind
+
+  pub all_are : blocks_in B b (chunks_of heap B) ≡ xs ++ (block ∷ ys)
+  all_are = ap (blocks_in B b) a.is ∙ blocks_append B b a.before (chunk ∷ a.behind) ∙ ap (λ o. xs ++ with_chunk B b chunk o ys) owner
+
+  counts : count name xs + (1 + count name ys) ≤ 1
+  counts =
+      let one : count name (xs ++ (block ∷ ys)) ≤ 1 = subst (λ l. count name l ≤ 1) all_are (laid.named name) in
+      omega (arith, count_append name xs (block ∷ ys), count_first name block ys refl)
+
+  pub few : (count name xs ≡ 0) × (count name ys ≡ 0)
+  few = let most = counts in (omega arith, omega arith)
+
+  pub block_bytes : length (slice_range B (b + chunk.at + header_len) (b + chunk.at + header_len + chunk.size)) ≡ chunk.size
+  block_bytes = length-range B (b + chunk.at + header_len) chunk.size (omega (arith, laid.chunks.within, a.fits, a.enough, heap.inside))
+
+  -- it is taken away by its place, or by its name
+  pub by_name : filter (elsewhere chunk.at) (blocks_in B b (chunks_of heap B)) ≡ filter (λ (other : Block). not (has_name name other)) (blocks_in B b (chunks_of heap B))
+  by_name =
+      let unnamed = λ (other : Block). not (has_name name other) in
+      let gone : eqb name name ≡ true = eq-eqb name name refl in
+      let mine : filter unnamed (block ∷ ys) ≡ filter unnamed ys = rw gone refl in
+      left_apart heap B laid.chunks chunk a (λ none. absurd (let two : None ≡ Some name = sym none ∙ owner in cc))
+      ∙ sym (ap (filter unnamed) all_are
+      ∙ filter-append unnamed xs (block ∷ ys)
+      ∙ ap (λ l. filter unnamed xs ++ l) mine
+      ∙ ap (λ l. l ++ filter unnamed ys) (filter_unnamed name xs few.0)
+      ∙ ap (λ l. xs ++ l) (filter_unnamed name ys few.1))
+
+  module _ (at : ℕ) (ws : List ℕ) (room : at + length ws ≤ chunk.size) where
+    abbrev B' : List ℕ
+    B' = written B (b + chunk.at + header_len + at) ws
+
+    fits : b + chunk.at + header_len + at + length ws ≤ length B
+    fits = omega (arith, laid.chunks.within, a.fits, a.enough, heap.inside)
+
+    changes : ChangesOnly (b + chunk.at + 16) (chunk.len - 16) B B'
+    changes = changes_only B (b + chunk.at + header_len + at) ws fits (b + chunk.at + 16) (chunk.len - 16) (omega arith) (omega (arith, a.enough))
+
+    read : slice_range B' (b + chunk.at + header_len) (b + chunk.at + header_len + chunk.size) ≡ overwritten at ws (slice_range B (b + chunk.at + header_len) (b + chunk.at + header_len + chunk.size))
+    read =
+        let R = slice_range B (b + chunk.at + header_len) (b + chunk.at + header_len + chunk.size) in
+        written-range B (b + chunk.at + header_len) chunk.size at ws room (omega (arith, laid.chunks.within, a.fits, a.enough, heap.inside))
+        ∙ written_is R at ws (omega (arith, block_bytes))
+        ∙ sym (append_assoc (take at R) ws (drop (at + length ws) R))
+
+    pub body_spliced : Spliced heap B B' a.before (chunk ∷ []) a.behind
+    body_spliced =
+        let len : chunk.at + chunk.len - chunk.at ≡ chunk.len = omega arith in
+        let all : ChangesOnly (b + chunk.at) chunk.len B B' = changes_more (b + chunk.at + 16) (chunk.len - 16) (b + chunk.at) chunk.len B B' changes (omega arith) (omega (arith, a.enough)) in
+        spliced heap B B' chunk.at (chunk.at + chunk.len) a.before (chunk ∷ []) a.behind laid.chunks.within
+        (subst (λ k. ChangesOnly (b + chunk.at) k B B') (sym len) all) a.front
+        (told_body B B' b chunk.at (chunk.at + chunk.len) (chunk.len - 16) chunk [] changes (omega (arith, a.enough)) (a.here, a.enough, refl))
+        a.back (subst AreJoined a.is laid.chunks.joined)
+
+    abbrev over : Block → Block
+    over = λ other. let new : Block = record other { bytes = overwritten at ws other.bytes } in new
+
+    pub body_blocks : blocks_in B' b (chunks_of heap B') ≡ map (λ other. if has_name name other then over other else other) (blocks_in B b (chunks_of heap B))
+    body_blocks =
+        let change = λ (other : Block). if has_name name other then over other else other in
+        let here : eqb name name ≡ true = eq-eqb name name refl in
+        let mine : change block ≡ over block = rw here refl in
+        let new : blocks_in B' b (chunk ∷ []) ≡ over block ∷ [] =
+        ap (λ o. with_chunk B' b chunk o []) owner
+        ∙ ap (λ bytes. (let k : Block = record { name = name; at = chunk.at; room = chunk.len - header_len; bytes = bytes } in k) ∷ []) read in
+        body_spliced.blocks
+        ∙ ap (λ l. xs ++ (l ++ ys)) new
+        ∙ sym (ap (map change) all_are
+        ∙ map-append change xs (block ∷ ys)
+        ∙ ap (λ k. map change xs ++ (k ∷ map change ys)) mine
+        ∙ ap (λ l. l ++ (over block ∷ map change ys)) (map_unnamed name over xs few.0)
+        ∙ ap (λ l. xs ++ (over block ∷ l)) (map_unnamed name over ys few.1))

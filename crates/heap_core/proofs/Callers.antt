@@ -1,0 +1,54 @@
+-- For those that keep a heap and its arena together.
+--     IsWithin-kept            the span still lies in the arena after a call
+--     KeepsToSpan-then         two calls, one after the other
+--     heap_of-, IsLaidOut-elsewhere      what the heap shows depends on the span's bytes alone, and so does whether it is laid out
+use Rattle.std.proofs.Common.{◌≡◌, ℕ, ◌+◌, ◌≤◌, ◌⊎◌, inl, inr, List, length, ap, sym, subst, ◌∙◌, arith}
+use Rattle.std.specs.Prelude.{filter}
+use Rattle.arena_core.specs.declared.span.Span.{Span}
+use Rattle.arena_core.specs.Contents.{Contents}
+use Rattle.arena_core.specs.Outside.{ChangesOnly}
+use Rattle.heap_core.specs.declared.heap.Heap.{Heap}
+use Rattle.heap_core.specs.HeapStore.{HeapStore, has_name}
+use Rattle.heap_core.specs.Chunks.{Tell, AreJoined, blocks_in}
+use Rattle.heap_core.specs.HeapBytes.{chunks_of, heap_of, IsWithin, IsLaidOut, KeepsToSpan}
+use Rattle.heap_core.proofs.Told.{told_frame, blocks_frame, walked}
+
+pub IsWithin-kept : (old new : Heap) (before after : Contents) → KeepsToSpan old new before after → IsWithin old before.bytes → IsWithin new after.bytes
+IsWithin-kept old new before after kept within =
+    omega (arith, ap (λ (s : Span). s.at) kept.span, ap (λ (s : Span). s.len) kept.span, kept.bytes.size, within)
+
+pub KeepsToSpan-then : (a b c : Heap) (x y z : Contents) → KeepsToSpan a b x y → KeepsToSpan b c y z → KeepsToSpan a c x z
+KeepsToSpan-then a b c x y z first second =
+    let there : ChangesOnly a.span.at a.span.len y.bytes z.bytes = subst (λ (s : Span). ChangesOnly s.at s.len y.bytes z.bytes) first.span second.bytes in
+    record {
+      span = second.span ∙ first.span;
+      carved = second.carved ∙ first.carved;
+      bytes = record { size = there.size ∙ first.bytes.size; others = λ from n apart. there.others from n apart ∙ first.bytes.others from n apart };
+    }
+
+-- only bytes of another span changed
+module _ (heap : Heap) (at len : ℕ) (old new : List ℕ) (changes : ChangesOnly at len old new) (apart : (heap.span.at + heap.span.len ≤ at) ⊎ (at + len ≤ heap.span.at)) (laid : IsLaidOut heap old) where
+  side : (heap.span.at + heap.footprint ≤ at) ⊎ (at + len ≤ heap.span.at + 0)
+  side = elim apart [ inl low ↦ inl (omega (arith, heap.inside)) | inr high ↦ inr (omega arith) ]
+
+  told : Tell new heap.span.at 0 heap.footprint (chunks_of heap old)
+  told = told_frame old new heap.span.at at len changes 0 heap.footprint (chunks_of heap old) side laid.chunks.told
+
+  same : chunks_of heap new ≡ chunks_of heap old
+  unfolding chunks_of
+  same = walked heap.footprint new heap.span.at 0 heap.footprint (chunks_of heap old) told (omega arith)
+
+  pub heap_of-elsewhere : heap_of heap new ≡ heap_of heap old
+  heap_of-elsewhere =
+      ap (λ blocks. let h : HeapStore = record { size = heap.span.len; blocks = blocks } in h)
+      (ap (blocks_in new heap.span.at) same ∙ blocks_frame old new heap.span.at at len changes 0 heap.footprint (chunks_of heap old) side laid.chunks.told)
+
+  pub IsLaidOut-elsewhere : IsLaidOut heap new
+  IsLaidOut-elsewhere = record {
+    chunks = record {
+      within = omega (arith, changes.size, laid.chunks.within);
+      told = subst (Tell new heap.span.at 0 heap.footprint) (sym same) told;
+      joined = subst AreJoined (sym same) laid.chunks.joined;
+    };
+    named = λ name. subst (λ (h : HeapStore). length (filter (has_name name) h.blocks) ≤ 1) (sym heap_of-elsewhere) (laid.named name);
+  }

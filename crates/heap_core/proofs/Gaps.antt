@@ -1,0 +1,246 @@
+-- The gaps that the blocks leave are the gaps among the chunks; and what follows from it for the places of a heap.
+use Rattle.std.proofs.Common.{◌≡◌, ℕ, ◌+◌, ◌-◌, ◌*◌, ◌≤◌, ◌<◌, ◌⊎◌, inl, inr, List, [], ◌∷◌, ◌++◌, length, slice_range, false, true, ltb, leb, sum_by, refl, sym, ap, ◌∙◌, subst, arith}
+use Rattle.std.specs.Prelude.{Option, Some, None, is_none, is_some, fold}
+use Rattle.std.proofs.lemmas.Bool.{lt-ltb, le-ltb, cases_Bool, leb-true, false≢true}
+use Rattle.std.proofs.lemmas.List.Sums.{sum_by-cons}
+use Rattle.arena_core.proofs.Ranges.{length-range}
+use Rattle.heap_core.specs.declared.chunk.Chunk.{Chunk}
+use Rattle.heap_core.specs.declared.chunk.Gap.{Gap}
+use Rattle.heap_core.specs.HeapStore.{Block, header_len, end_of, gap_between, gaps_from, better, best_gap, LieInOrder}
+use Rattle.heap_core.specs.Chunks.{Tell, BeginsLive, AreJoined, with_chunk, blocks_in}
+use Rattle.heap_core.proofs.Told.{place_told, told_le, owner_cases}
+
+abbrev pub with_gap : Chunk → Option ℕ → List Gap → List Gap
+with_gap c None gaps = record { at = c.at; len = c.len } ∷ gaps
+with_gap c (Some name) gaps = gaps
+
+-- the gaps among these chunks
+abbrev pub gaps_in : List Chunk → List Gap
+gaps_in [] = []
+gaps_in (c ∷ l) = with_gap c c.owner (gaps_in l)
+
+abbrev pub last_end : ℕ → List Block → ℕ
+last_end from blocks = fold (λ _ block. end_of block) from blocks
+
+gap_none : (x : ℕ) (gaps : List Gap) → gap_between x x gaps ≡ gaps
+gap_none x gaps = let none : ltb x x ≡ false = le-ltb x x (omega arith) in rw none refl
+
+gap_some : (x y : ℕ) (gaps : List Gap) → x < y → gap_between x y gaps ≡ (let gap : Gap = record { at = x; len = y - x } in gap) ∷ gaps
+gap_some x y gaps h = let some : ltb x y ≡ true = lt-ltb x y h in rw some refl
+
+module _ (B : List ℕ) (b : ℕ) where
+  pub none_in_front : (c : Chunk) (xs : List Block) → c.owner ≡ None → with_chunk B b c c.owner xs ≡ xs
+  none_in_front c xs e = ap (λ o. with_chunk B b c o xs) e
+
+  live_gaps : (c : Chunk) (name from x : ℕ) (xs : List Block) → c.owner ≡ Some name → c.at ≡ x → 16 ≤ c.len → gaps_from from (with_chunk B b c c.owner xs) ≡ gap_between from x (gaps_from (x + c.len) xs)
+  live_gaps c name from x xs e at enough =
+      let end : x + (16 + (c.len - 16)) ≡ x + c.len = omega arith in
+      ap (λ o. gaps_from from (with_chunk B b c o xs)) e
+      ∙ ap (λ k. gap_between from k (gaps_from (k + (16 + (c.len - 16))) xs)) at
+      ∙ ap (λ k. gap_between from x (gaps_from k xs)) end
+
+  live_end : (c : Chunk) (name from x : ℕ) (xs : List Block) → c.owner ≡ Some name → c.at ≡ x → 16 ≤ c.len → last_end from (with_chunk B b c c.owner xs) ≡ last_end (x + c.len) xs
+  live_end c name from x xs e at enough =
+      let end : x + (16 + (c.len - 16)) ≡ x + c.len = omega arith in
+      ap (λ o. last_end from (with_chunk B b c o xs)) e
+      ∙ ap (λ k. last_end (k + (16 + (c.len - 16))) xs) at
+      ∙ ap (λ k. last_end k xs) end
+
+  abbrev gap_from : ℕ → ℕ → Gap
+  gap_from from to = record { at = from; len = to - from }
+
+  -- from where the chunks begin, and from further below where they begin with a live one
+  gaps_both : (x z : ℕ) (l : List Chunk) → Tell B b x z l → AreJoined l
+      → (gaps_from x (blocks_in B b l) ≡ gaps_in l) × ((from : ℕ) → from < x → BeginsLive l → gaps_from from (blocks_in B b l) ≡ gap_from from x ∷ gaps_in l)
+  gaps_both x z [] t j = (refl, λ from less live. absurd live)
+  gaps_both x z (c ∷ l) t j =
+      let enough : header_len + c.size ≤ c.len = t.1 in
+      let at = place_told B b x c t.0 in
+      let xs = blocks_in B b l in
+      let later = gaps_both (x + c.len) z l t.2 j.1 in
+      elim (owner_cases c.owner) [
+        | inl e ↦
+            let len : x + c.len - x ≡ c.len = omega arith in (
+              ap (gaps_from x) (none_in_front c xs e)
+                  ∙ later.1 x (omega arith) (j.0 e)
+                  ∙ ap (λ k. (let gap : Gap = record { at = x; len = k } in gap) ∷ gaps_in l) len
+                  ∙ ap (λ k. (let gap : Gap = record { at = k; len = c.len } in gap) ∷ gaps_in l) (sym at)
+                  ∙ sym (ap (λ o. with_gap c o (gaps_in l)) e),
+              λ from less live. absurd (live e),
+            )
+        | inr s ↦
+            let none = ap (λ o. with_gap c o (gaps_in l)) s.1 in (
+              live_gaps c s.0 x x xs s.1 at (omega arith) ∙ gap_none x (gaps_from (x + c.len) xs) ∙ later.0 ∙ sym none,
+              λ from less live.
+                  live_gaps c s.0 from x xs s.1 at (omega arith) ∙ gap_some from x (gaps_from (x + c.len) xs) less
+                  ∙ ap (λ k. gap_from from x ∷ k) (later.0 ∙ sym none),
+            )
+      ]
+
+  pub gaps_are : (x z : ℕ) (l : List Chunk) → Tell B b x z l → AreJoined l → gaps_from x (blocks_in B b l) ≡ gaps_in l
+  gaps_are x z l t j = (gaps_both x z l t j).0
+
+  end_both : (x z : ℕ) (l : List Chunk) → Tell B b x z l → AreJoined l → (last_end x (blocks_in B b l) ≡ z) × ((from : ℕ) → BeginsLive l → last_end from (blocks_in B b l) ≡ z)
+  end_both x z [] t j = (t, λ from live. absurd live)
+  end_both x z (c ∷ l) t j =
+      let enough : header_len + c.size ≤ c.len = t.1 in
+      let at = place_told B b x c t.0 in
+      let xs = blocks_in B b l in
+      let later = end_both (x + c.len) z l t.2 j.1 in
+      elim (owner_cases c.owner) [
+        | inl e ↦ (ap (last_end x) (none_in_front c xs e) ∙ later.1 x (j.0 e), λ from live. absurd (live e))
+        | inr s ↦ (live_end c s.0 x x xs s.1 at (omega arith) ∙ later.0, λ from live. live_end c s.0 from x xs s.1 at (omega arith) ∙ later.0)
+      ]
+
+  pub end_is : (x z : ℕ) (l : List Chunk) → Tell B b x z l → AreJoined l → last_end x (blocks_in B b l) ≡ z
+  end_is x z l t j = (end_both x z l t j).0
+
+  -- each block lies where the one before ends, or behind that
+  pub in_order : (size from x z : ℕ) (l : List Chunk) → b + size ≤ length B → z ≤ size → from ≤ x → Tell B b x z l → LieInOrder from (blocks_in B b l) size
+  in_order size from x z [] fits most le t = omega arith
+  in_order size from x z (c ∷ l) fits most le t =
+      let enough : header_len + c.size ≤ c.len = t.1 in let at = place_told B b x c t.0 in let high = told_le B b (x + c.len) z l t.2 in
+      elim (owner_cases c.owner) [
+        | inl e ↦
+            subst (λ (xs : List Block). LieInOrder from xs size) (sym (none_in_front c (blocks_in B b l) e)) (in_order size from (x + c.len) z l fits most (omega arith) t.2)
+        | inr s ↦
+            subst (λ o. LieInOrder from (with_chunk B b c o (blocks_in B b l)) size) (sym s.1)
+            (omega arith, omega (arith, length-range B (b + c.at + 16) c.size (omega arith)), in_order size (c.at + (16 + (c.len - 16))) (x + c.len) z l fits most (omega arith) t.2)
+      ]
+
+  -- the chunks take all bytes
+  abbrev room_sum : List Block → ℕ
+  room_sum blocks = sum_by (λ (block : Block). block.room) blocks
+
+  abbrev gap_sum : List Gap → ℕ
+  gap_sum gaps = sum_by (λ (gap : Gap). gap.len) gaps
+
+  pub total : (x z : ℕ) (l : List Chunk) → Tell B b x z l → x + (gap_sum (gaps_in l) + (room_sum (blocks_in B b l) + 16 * length (blocks_in B b l))) ≡ z
+  total x z [] t = omega (arith, t)
+  total x z (c ∷ l) t =
+      let enough : header_len + c.size ≤ c.len = t.1 in
+      let later = total (x + c.len) z l t.2 in
+      let gs = gaps_in l in let xs = blocks_in B b l in
+      elim (owner_cases c.owner) [
+        | inl e ↦
+            let gaps : gap_sum (with_gap c c.owner gs) ≡ c.len + gap_sum gs =
+            ap (λ o. gap_sum (with_gap c o gs)) e ∙ sum_by-cons (λ (gap : Gap). gap.len) (record { at = c.at; len = c.len }) gs in
+            let blocks = none_in_front c xs e in
+            omega (arith, ap room_sum blocks, ap length blocks)
+        | inr s ↦
+            let block : Block = record { name = s.0; at = c.at; room = c.len - 16; bytes = slice_range B (b + c.at + 16) (b + c.at + 16 + c.size) } in
+            let gaps : gap_sum (with_gap c c.owner gs) ≡ gap_sum gs = ap (λ o. gap_sum (with_gap c o gs)) s.1 in
+            let blocks : with_chunk B b c c.owner xs ≡ block ∷ xs = ap (λ o. with_chunk B b c o xs) s.1 in
+            omega (arith, ap room_sum blocks, ap length blocks, sum_by-cons (λ (block : Block). block.room) block xs)
+      ]
+
+-- the best gap is one of the gaps
+better_is : (need : ℕ) (best : Option Gap) (gap : Gap) → (better need best gap ≡ best) ⊎ ((better need best gap ≡ Some gap) × (need ≤ gap.len))
+better_is need None gap = elim (cases_Bool (leb need gap.len)) [
+  | inl fits ↦ inr (rw fits refl, leb-true need gap.len fits)
+  | inr not ↦ inl (rw not refl)
+]
+better_is need (Some other) gap = elim (cases_Bool (leb need gap.len)) [
+  | inl fits ↦ elim (cases_Bool (ltb gap.len other.len)) [
+    | inl less ↦ inr (rw fits (rw less refl), leb-true need gap.len fits)
+    | inr more ↦ inl (rw fits (rw more refl))
+  ]
+  | inr not ↦ inl (rw not refl)
+]
+
+-- a gap among the chunks
+pub record Found (need : ℕ) (gap : Gap) (l : List Chunk) : Type 0 where
+  pub before : List Chunk
+  pub chunk : Chunk
+  pub behind : List Chunk
+  pub is : l ≡ before ++ (chunk ∷ behind)
+  pub free : chunk.owner ≡ None
+  pub at : chunk.at ≡ gap.at
+  pub len : chunk.len ≡ gap.len
+  pub fits : need ≤ gap.len
+
+found_later : (need : ℕ) (gap : Gap) (c : Chunk) (l : List Chunk) → Found need gap l → Found need gap (c ∷ l)
+found_later need gap c l f = record {
+  before = c ∷ f.before;
+  chunk = f.chunk;
+  behind = f.behind;
+  is = ap (λ k. c ∷ k) f.is;
+  free = f.free;
+  at = f.at;
+  len = f.len;
+  fits = f.fits;
+}
+
+pub found : (need : ℕ) (best : Option Gap) (gap : Gap) (l : List Chunk) → fold (better need) best (gaps_in l) ≡ Some gap → (best ≡ Some gap) ⊎ Found need gap l
+found need best gap [] e = inl e
+found need best gap (c ∷ l) e = elim (owner_cases c.owner) [
+  | inr s ↦ elim (found need best gap l (sym (ap (λ o. fold (better need) best (with_gap c o (gaps_in l))) s.1) ∙ e)) [
+    | inl was ↦ inl was
+    | inr f ↦ inr (found_later need gap c l f)
+  ]
+  | inl n ↦
+      let here : Gap = record { at = c.at; len = c.len } in
+      elim (found need (better need best here) gap l (sym (ap (λ o. fold (better need) best (with_gap c o (gaps_in l))) n) ∙ e)) [
+        | inl was ↦ elim (better_is need best here) [
+          | inl kept ↦ inl (sym kept ∙ was)
+          | inr new ↦
+              let same : here ≡ gap = let two : Some here ≡ Some gap = sym new.0 ∙ was in cc in
+              inr (record {
+                before = [];
+                chunk = c;
+                behind = l;
+                is = refl;
+                free = n;
+                at = ap (λ (g : Gap). g.at) same;
+                len = ap (λ (g : Gap). g.len) same;
+                fits = omega (arith, new.1, ap (λ (g : Gap). g.len) same);
+              })
+        ]
+        | inr f ↦ inr (found_later need gap c l f)
+      ]
+]
+
+-- a walk for the best gap goes on
+pub better_later : (need : ℕ) (best best' : Option Gap) (c : Chunk) (l : List Chunk) → c.owner ≡ None → best' ≡ better need best (record { at = c.at; len = c.len }) → fold (better need) best' (gaps_in l) ≡ fold (better need) best (gaps_in (c ∷ l))
+better_later need best best' c l e f =
+    ap (λ o. fold (better need) o (gaps_in l)) f ∙ sym (ap (λ o. fold (better need) best (with_gap c o (gaps_in l))) e)
+
+pub same_later : (need : ℕ) (best : Option Gap) (c : Chunk) (l : List Chunk) → is_none c.owner ≡ false → fold (better need) best (gaps_in l) ≡ fold (better need) best (gaps_in (c ∷ l))
+same_later need best c l live = elim (owner_cases c.owner) [
+  | inl e ↦ absurd (let gap : is_none c.owner ≡ true = ap is_none e in false≢true (sym live ∙ gap))
+  | inr s ↦ sym (ap (λ o. fold (better need) best (with_gap c o (gaps_in l))) s.1)
+]
+
+pub is_gap_none : (o : Option ℕ) → is_none o ≡ true → o ≡ None
+is_gap_none None e = refl
+is_gap_none (Some name) e = absurd (false≢true e)
+
+pub is_live_some : (o : Option ℕ) → is_none o ≡ false → (name : ℕ) × (o ≡ Some name)
+is_live_some None e = absurd (false≢true (sym e))
+is_live_some (Some name) e = (name, refl)
+
+-- what a chunk adds to the blocks
+module _ (B : List ℕ) (b : ℕ) where
+  abbrev rooms : List Block → ℕ
+  rooms blocks = sum_by (λ (block : Block). block.room) blocks
+
+  pub rooms_gap : (c : Chunk) (xs : List Block) → is_some c.owner ≡ false → (rooms (with_chunk B b c c.owner xs) ≡ rooms xs) × (length (with_chunk B b c c.owner xs) ≡ length xs)
+  rooms_gap c xs e = elim (owner_cases c.owner) [
+    | inl n ↦ let same = none_in_front B b c xs n in (ap rooms same, ap length same)
+    | inr s ↦ absurd (let some : is_some c.owner ≡ true = ap is_some s.1 in false≢true (sym e ∙ some))
+  ]
+
+  pub rooms_live : (c : Chunk) (xs : List Block) → is_some c.owner ≡ true → (rooms (with_chunk B b c c.owner xs) ≡ c.len - 16 + rooms xs) × (length (with_chunk B b c c.owner xs) ≡ 1 + length xs)
+  rooms_live c xs e = elim (owner_cases c.owner) [
+    | inl n ↦ absurd (let none : is_some c.owner ≡ false = ap is_some n in false≢true (sym none ∙ e))
+    | inr s ↦
+        let block : Block = record { name = s.0; at = c.at; room = c.len - 16; bytes = slice_range B (b + c.at + 16) (b + c.at + 16 + c.size) } in
+        let same : with_chunk B b c c.owner xs ≡ block ∷ xs = ap (λ o. with_chunk B b c o xs) s.1 in
+        (ap rooms same ∙ sum_by-cons (λ (block : Block). block.room) block xs, omega (arith, ap length same))
+  ]
+
+pub best_fits : (B : List ℕ) (b z need : ℕ) (gap : Gap) (l : List Chunk) → Tell B b 0 z l → AreJoined l → Some gap ≡ best_gap need (gaps_from 0 (blocks_in B b l)) → Found need gap l
+best_fits B b z need gap l told joined e = elim (found need None gap l (sym (ap (best_gap need) (gaps_are B b 0 z l told joined)) ∙ sym e)) [
+  | inl none ↦ absurd (let e : None ≡ Some gap = none in cc)
+  | inr f ↦ f
+]

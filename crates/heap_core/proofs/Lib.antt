@@ -1,0 +1,17 @@
+pub mod Beside
+pub mod Blocks
+pub mod Bodies
+pub mod Callers
+pub mod Choices
+pub mod Gaps
+pub mod Grows
+pub mod Members
+pub mod Moves
+pub mod Names
+pub mod Puts
+pub mod Releases
+pub mod Resized
+pub mod Splice
+pub mod Standing
+pub mod Steps
+pub mod Told

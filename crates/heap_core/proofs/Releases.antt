@@ -1,0 +1,191 @@
+-- A block that is taken away, and the gaps beside it.
+use Rattle.std.proofs.Common.{◌≡◌, ◌≢◌, ℕ, ◌+◌, ◌-◌, ◌≤◌, ◌⊎◌, inl, inr, List, [], ◌∷◌, ◌++◌, slice_range, refl, sym, ap, ◌∙◌, subst, arith, true, eqb}
+use Rattle.std.specs.Prelude.{Some, None, fold, filter}
+use Rattle.std.proofs.lemmas.List.Elements.{filter-append}
+use Rattle.std.proofs.lemmas.Bool.{eq-eqb}
+use Rattle.arena_core.specs.Outside.{ChangesOnly}
+use Rattle.arena_core.specs.declared.span.Span.{Span}
+use Rattle.heap_core.specs.declared.chunk.Chunk.{Chunk}
+use Rattle.heap_core.specs.declared.heap.Heap.{Heap}
+use Rattle.heap_core.specs.HeapStore.{Block, HeapStore, header_len}
+use Rattle.heap_core.specs.Chunks.{chunk_at, Tell, BeginsLive, AreJoined, with_chunk, blocks_in}
+use Rattle.heap_core.specs.HeapBytes.{chunks_of, heap_of, HasChunks}
+use Rattle.heap_core.specs.Walks.{free_behind, free_from, gap_of, front_gap, without_place}
+use Rattle.heap_core.proofs.Told.{place_told, told_le, blocks_append, owner_cases, changes_more}
+use Rattle.heap_core.proofs.Gaps.{none_in_front}
+use Rattle.heap_core.proofs.Blocks.{blocks_between, elsewhere, filter_elsewhere}
+use Rattle.heap_core.proofs.Splice.{Spliced, spliced, joined_behind}
+use Rattle.heap_core.proofs.Standing.{Around}
+use Rattle.heap_core.proofs.Steps.{ended}
+
+-- the chunks before a place, without a gap that ends there
+pub record Front (B : List ℕ) (b x from : ℕ) (before old : List Chunk) : Type 0 where
+  pub pre : List Chunk
+  pub told : Tell B b x from pre
+  pub blocks : blocks_in B b before ≡ blocks_in B b pre
+  pub begins : BeginsLive (before ++ old) → before ≢ [] → (new : List Chunk) → BeginsLive (pre ++ new)
+  pub joined : AreJoined (before ++ old) → (new : List Chunk) → AreJoined new → AreJoined (pre ++ new)
+
+abbrev walk_free : ℕ → List Chunk → ℕ
+walk_free i l = fold (λ _ (c : Chunk). free_behind c c.owner) i l
+
+pub front_of : (B : List ℕ) (b x at i : ℕ) (before old : List Chunk) → Tell B b x at before → (before ≡ [] → i ≡ x) → Front B b x (walk_free i before) before old
+front_of B b x at i [] old t none = record {
+  pre = [];
+  told = sym (none refl);
+  blocks = refl;
+  begins = λ live ne. absurd (ne refl);
+  joined = λ was new joined. joined;
+}
+front_of B b x at i (c ∷ []) old t none = elim (owner_cases c.owner) [
+  | inl e ↦ record {
+    pre = [];
+    told = sym (place_told B b x c t.0) ∙ sym (ap (free_behind c) e);
+    blocks = none_in_front B b c [] e;
+    begins = λ live ne new. absurd (live e);
+    joined = λ was new joined. joined;
+  }
+  | inr s ↦ record {
+    pre = c ∷ [];
+    told = (t.0, t.1, ap (λ k. k + c.len) (sym (place_told B b x c t.0)) ∙ sym (ap (free_behind c) s.1));
+    blocks = refl;
+    begins = λ live ne new. live;
+    joined = λ was new joined. ((λ e. absurd (let two : None ≡ Some s.0 = sym e ∙ s.1 in cc)), joined);
+  }
+]
+front_of B b x at i (c ∷ (d ∷ l)) old t none =
+    let f = front_of B b (x + c.len) at (free_behind c c.owner) (d ∷ l) old t.2 (λ e. absurd (cc)) in
+    record {
+      pre = c ∷ f.pre;
+      told = (t.0, t.1, f.told);
+      blocks = ap (with_chunk B b c c.owner) f.blocks;
+      begins = λ live ne new. live;
+      joined = λ was new joined. ((λ e. f.begins (was.0 e) (λ none. absurd (cc)) new), f.joined was.1 new joined);
+    }
+
+-- the chunks from a place on, without a gap that begins there
+pub record Rest (B : List ℕ) (b at end : ℕ) (behind : List Chunk) : Type 0 where
+  pub post : List Chunk
+  pub told : Tell B b (at + front_gap behind) end post
+  pub blocks : blocks_in B b behind ≡ blocks_in B b post
+  pub joined : AreJoined post
+  pub begins : ((post ≡ []) × (behind ≡ [])) ⊎ BeginsLive post
+
+pub rest_of : (B : List ℕ) (b at end : ℕ) (behind : List Chunk) → Tell B b at end behind → AreJoined behind → Rest B b at end behind
+rest_of B b at end [] t joined = record { post = []; told = omega (arith, t); blocks = refl; joined = tt; begins = inl (refl, refl) }
+rest_of B b at end (d ∷ l) t joined = elim (owner_cases d.owner) [
+  | inl e ↦ record {
+    post = l;
+    told = subst (λ k. Tell B b (at + k) end l) (sym (ap (gap_of d) e)) t.2;
+    blocks = none_in_front B b d (blocks_in B b l) e;
+    joined = joined.1;
+    begins = inr (joined.0 e);
+  }
+  | inr s ↦ record {
+    post = d ∷ l;
+    told = (let none : at ≡ at + gap_of d d.owner = omega (arith, ap (gap_of d) s.1) in subst (λ k. Tell B b k end (d ∷ l)) none t);
+    blocks = refl;
+    joined = joined;
+    begins = inr (λ e. absurd (let two : None ≡ Some s.0 = sym e ∙ s.1 in cc));
+  }
+]
+
+module _ (heap : Heap) (B : List ℕ) (has : HasChunks heap B) (chunk : Chunk) (a : Around B heap.span.at heap.footprint chunk (chunks_of heap B)) (live : chunk.owner ≢ None) where
+  abbrev b : ℕ
+  b = heap.span.at
+
+  abbrev from : ℕ
+  from = free_from a.before
+
+  abbrev end : ℕ
+  end = chunk.at + chunk.len + front_gap a.behind
+
+  was_joined : AreJoined (a.before ++ (chunk ∷ a.behind))
+  was_joined = subst AreJoined a.is has.joined
+
+  pub f : Front B b 0 from a.before (chunk ∷ a.behind)
+  f = front_of B b 0 chunk.at 0 a.before (chunk ∷ a.behind) a.front (λ e. refl)
+
+  pub r : Rest B b (chunk.at + chunk.len) heap.footprint a.behind
+  r = rest_of B b (chunk.at + chunk.len) heap.footprint a.behind a.back (joined_behind a.before (chunk ∷ a.behind) was_joined).1
+
+  pub from_below : from ≤ chunk.at
+  from_below = free_below B b 0 chunk.at 0 a.before a.front (λ e. refl)
+    where
+      free_below : (B : List ℕ) (b x at i : ℕ) (l : List Chunk) → Tell B b x at l → (l ≡ [] → i ≡ x) → walk_free i l ≤ at
+      free_below B b x at i [] t none = omega (arith, t, none refl)
+      free_below B b x at i (c ∷ []) t none =
+          let place = place_told B b x c t.0 in let last : x + c.len ≡ at = t.2 in
+          elim (owner_cases c.owner) [ inl e ↦ omega (arith, ap (free_behind c) e) | inr s ↦ omega (arith, ap (free_behind c) s.1) ]
+      free_below B b x at i (c ∷ (d ∷ l)) t none = free_below B b (x + c.len) at (free_behind c c.owner) (d ∷ l) t.2 (λ e. absurd (cc))
+
+  pub end_below : end ≤ heap.footprint
+  end_below = told_le B b end heap.footprint r.post r.told
+
+  pub left_apart : filter (elsewhere chunk.at) (blocks_in B b (chunks_of heap B)) ≡ blocks_in B b a.before ++ blocks_in B b a.behind
+  left_apart = elim (owner_cases chunk.owner) [
+    | inl none ↦ absurd (live none)
+    | inr s ↦
+        let xs = blocks_in B b a.before in let ys = blocks_in B b a.behind in
+        let block : Block = record { name = s.0; at = chunk.at; room = chunk.len - header_len; bytes = slice_range B (b + chunk.at + header_len) (b + chunk.at + header_len + chunk.size) } in
+        let gone : eqb chunk.at chunk.at ≡ true = eq-eqb chunk.at chunk.at refl in
+        let all : blocks_in B b (chunks_of heap B) ≡ xs ++ (block ∷ ys) =
+        ap (blocks_in B b) a.is ∙ blocks_append B b a.before (chunk ∷ a.behind) ∙ ap (λ o. xs ++ with_chunk B b chunk o ys) s.1 in
+        let mine : filter (elsewhere chunk.at) (block ∷ ys) ≡ filter (elsewhere chunk.at) ys = rw gone refl in
+        ap (filter (elsewhere chunk.at)) all
+        ∙ filter-append (elsewhere chunk.at) xs (block ∷ ys)
+        ∙ ap (λ l. filter (elsewhere chunk.at) xs ++ l) mine
+        ∙ ap (λ l. l ++ filter (elsewhere chunk.at) ys) (filter_elsewhere 0 chunk.at chunk.at xs (blocks_between B b 0 chunk.at a.before a.front) (inr (omega arith)))
+        ∙ ap (λ l. xs ++ l) (filter_elsewhere (chunk.at + chunk.len) heap.footprint chunk.at ys (blocks_between B b (chunk.at + chunk.len) heap.footprint a.behind a.back) (inl (omega (arith, a.enough))))
+  ]
+
+  left : filter (elsewhere chunk.at) (blocks_in B b (chunks_of heap B)) ≡ blocks_in B b f.pre ++ blocks_in B b r.post
+  left = left_apart ∙ ap (λ l. l ++ blocks_in B b a.behind) f.blocks ∙ ap (λ l. blocks_in B b f.pre ++ l) r.blocks
+
+  -- nothing lies behind it: the top gap takes it
+  module _ (heap' : Heap) (same : heap'.span ≡ heap.span) (new_end : heap'.footprint ≡ from) (last : end ≡ heap.footprint) where
+    start : heap'.span.at ≡ b
+    start = ap (λ (s : Span). s.at) same
+
+    none_behind : r.post ≡ []
+    none_behind = elim r.begins [
+      | inl e ↦ e.0
+      | inr begins ↦ ended B b end heap.footprint r.post r.told (omega (arith, last))
+    ]
+
+    pub top_spliced : Spliced heap' B B f.pre [] []
+    top_spliced =
+        let span_len = ap (λ (s : Span). s.len) same in
+        spliced heap' B B from from f.pre [] [] (omega (arith, has.within, start, span_len))
+        (record { size = refl; others = λ i n apart. refl })
+        (subst (λ k. Tell B k 0 from f.pre) (sym start) f.told) refl (sym new_end) (f.joined was_joined [] tt)
+
+    pub top_released : heap_of heap' B ≡ without_place chunk.at (heap_of heap B)
+    top_released =
+        ap (λ size. let h : HeapStore = record { size = size; blocks = blocks_in B heap'.span.at (chunks_of heap' B) } in h) (ap (λ (s : Span). s.len) same)
+        ∙ ap (λ blocks. let h : HeapStore = record { size = heap.span.len; blocks = blocks } in h)
+        (top_spliced.blocks
+        ∙ ap (λ k. blocks_in B k f.pre ++ []) start
+        ∙ ap (λ l. blocks_in B b f.pre ++ blocks_in B b l) (sym none_behind)
+        ∙ sym left)
+
+  -- else it becomes a gap
+  abbrev gap : Chunk
+  gap = record { at = from; len = end - from; owner = None; size = 0 }
+
+  module _ (B' : List ℕ) (told : chunk_at B' b from ≡ gap) (changes : ChangesOnly (b + from) 16 B B') (more : end ≢ heap.footprint) where
+    pub gap_spliced : Spliced heap B B' f.pre (gap ∷ []) r.post
+    gap_spliced =
+        let below = from_below in
+        let begins : BeginsLive r.post = elim r.begins [
+          | inl e ↦ absurd (more (subst (Tell B b end heap.footprint) e.0 r.told))
+          | inr begins ↦ begins
+        ] in
+        spliced heap B B' from end f.pre (gap ∷ []) r.post has.within
+        (changes_more (b + from) 16 (b + from) (end - from) B B' changes (omega arith) (omega (arith, a.enough)))
+        f.told (told, omega (arith, a.enough), omega arith) r.told
+        (f.joined was_joined (gap ∷ r.post) ((λ none. begins), r.joined))
+
+    pub gap_released : heap_of heap B' ≡ without_place chunk.at (heap_of heap B)
+    gap_released =
+        ap (λ blocks. let h : HeapStore = record { size = heap.span.len; blocks = blocks } in h) (gap_spliced.blocks ∙ sym left)

@@ -1,0 +1,67 @@
+-- Chunks that others take the place of.
+use Rattle.std.proofs.Common.{◌≡◌, ℕ, ◌+◌, ◌-◌, ◌≤◌, ◌<◌, inl, inr, List, [], ◌∷◌, ◌++◌, length, false, true, ltb, refl, sym, ap, ◌∙◌, subst, arith}
+use Rattle.std.specs.Prelude.{None}
+use Rattle.std.proofs.lemmas.Bool.{lt-ltb, le-ltb}
+use Rattle.arena_core.specs.Outside.{ChangesOnly}
+use Rattle.heap_core.specs.declared.chunk.Chunk.{Chunk}
+use Rattle.heap_core.specs.declared.heap.Heap.{Heap}
+use Rattle.heap_core.specs.Chunks.{chunks_from, Tell, BeginsLive, AreJoined, blocks_in}
+use Rattle.heap_core.specs.HeapBytes.{chunks_of, HasChunks}
+use Rattle.heap_core.specs.Walks.{laid}
+use Rattle.heap_core.proofs.Told.{told_le, told_append, told_frame, blocks_frame, blocks_append, walked}
+
+-- joined chunks stay joined where what comes after a gap still begins with a live one
+begins_swap : (pre old new : List Chunk) → (BeginsLive old → BeginsLive new) → BeginsLive (pre ++ old) → BeginsLive (pre ++ new)
+begins_swap [] old new keep begins = keep begins
+begins_swap (c ∷ pre) old new keep begins = begins
+
+pub joined_swap : (pre old new : List Chunk) → (BeginsLive old → BeginsLive new) → AreJoined (pre ++ old) → AreJoined new → AreJoined (pre ++ new)
+joined_swap [] old new keep was joined = joined
+joined_swap (c ∷ pre) old new keep was joined =
+    (λ free. begins_swap pre old new keep (was.0 free), joined_swap pre old new keep was.1 joined)
+
+pub joined_behind : (pre new : List Chunk) → AreJoined (pre ++ new) → AreJoined new
+joined_behind [] new joined = joined
+joined_behind (c ∷ pre) new joined = joined_behind pre new joined.1
+
+pub laid_all : (live : Chunk) (len : ℕ) → live.len ≡ len → laid live len ≡ live ∷ []
+laid_all live len e = let none : ltb live.len len ≡ false = le-ltb live.len len (omega arith) in rw none refl
+
+abbrev pub left_over : Chunk → ℕ → Chunk
+left_over live len = record { at = live.at + live.len; len = len - live.len; owner = None; size = 0 }
+
+pub laid_some : (live : Chunk) (len : ℕ) → live.len < len → laid live len ≡ live ∷ (left_over live len ∷ [])
+laid_some live len h = let some : ltb live.len len ≡ true = lt-ltb live.len len h in rw some refl
+
+-- some chunks stand between others, whose headers and bytes did not change
+pub record Spliced (heap : Heap) (B B' : List ℕ) (before mid behind : List Chunk) : Type 0 where
+  pub has : HasChunks heap B'
+  pub is : chunks_of heap B' ≡ before ++ (mid ++ behind)
+  pub blocks : blocks_in B' heap.span.at (chunks_of heap B') ≡ blocks_in B heap.span.at before ++ (blocks_in B' heap.span.at mid ++ blocks_in B heap.span.at behind)
+
+pub spliced : (heap : Heap) (B B' : List ℕ) (x y : ℕ) (before mid behind : List Chunk) → heap.span.at + heap.span.len ≤ length B
+    → ChangesOnly (heap.span.at + x) (y - x) B B' → Tell B heap.span.at 0 x before → Tell B' heap.span.at x y mid → Tell B heap.span.at y heap.footprint behind
+    → AreJoined (before ++ (mid ++ behind)) → Spliced heap B B' before mid behind
+unfolding chunks_of
+spliced heap B B' x y before mid behind within changes front told back joined =
+    let b = heap.span.at in
+    let le = told_le B' b x y mid told in
+    let front' : Tell B' b 0 x before = told_frame B B' b (b + x) (y - x) changes 0 x before (inl (omega arith)) front in
+    let back' : Tell B' b y heap.footprint behind = told_frame B B' b (b + x) (y - x) changes y heap.footprint behind (inr (omega arith)) back in
+    let all : Tell B' b 0 heap.footprint (before ++ (mid ++ behind)) =
+    told_append B' b 0 x heap.footprint before (mid ++ behind) front' (told_append B' b x y heap.footprint mid behind told back') in
+    let is : chunks_from heap.footprint B' b 0 heap.footprint ≡ before ++ (mid ++ behind) =
+    walked heap.footprint B' b 0 heap.footprint (before ++ (mid ++ behind)) all (omega arith) in
+    record {
+      has = record {
+        within = omega (arith, changes.size, within);
+        told = subst (Tell B' b 0 heap.footprint) (sym is) all;
+        joined = subst AreJoined (sym is) joined;
+      };
+      is = is;
+      blocks = ap (blocks_in B' b) is
+          ∙ blocks_append B' b before (mid ++ behind)
+          ∙ ap (λ l. blocks_in B' b before ++ l) (blocks_append B' b mid behind)
+          ∙ ap (λ l. l ++ (blocks_in B' b mid ++ blocks_in B' b behind)) (blocks_frame B B' b (b + x) (y - x) changes 0 x before (inl (omega arith)) front)
+          ∙ ap (λ l. blocks_in B b before ++ (blocks_in B' b mid ++ l)) (blocks_frame B B' b (b + x) (y - x) changes y heap.footprint behind (inr (omega arith)) back);
+    }

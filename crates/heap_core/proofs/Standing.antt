@@ -1,0 +1,48 @@
+-- A chunk that stands among the others.
+use Rattle.std.proofs.Common.{◌≡◌, ℕ, ◌+◌, ◌≤◌, List, ◌∷◌, ◌++◌, refl, sym, ap, ◌∙◌, subst, arith}
+use Rattle.heap_core.specs.declared.chunk.Chunk.{Chunk}
+use Rattle.heap_core.specs.declared.heap.Heap.{Heap}
+use Rattle.heap_core.specs.Chunks.{chunk_at, Tell}
+use Rattle.heap_core.specs.HeapBytes.{chunks_of, HasChunks}
+use Rattle.heap_core.specs.Walks.{Stands, chunks_before, chunks_behind}
+use Rattle.heap_core.proofs.Told.{place_told, told_le, told_split, walked}
+
+pub record Around (B : List ℕ) (b end : ℕ) (chunk : Chunk) (chunks : List Chunk) : Type 0 where
+  pub before : List Chunk
+  pub behind : List Chunk
+  pub is : chunks ≡ before ++ (chunk ∷ behind)
+  pub front : Tell B b 0 chunk.at before
+  pub here : chunk_at B b chunk.at ≡ chunk
+  pub enough : 16 + chunk.size ≤ chunk.len
+  pub back : Tell B b (chunk.at + chunk.len) end behind
+  pub fits : chunk.at + chunk.len ≤ end
+
+pub around_split : (B : List ℕ) (b end : ℕ) (chunk : Chunk) (before behind : List Chunk) → Tell B b 0 end (before ++ (chunk ∷ behind)) → Around B b end chunk (before ++ (chunk ∷ behind))
+around_split B b end chunk before behind told =
+    let s = told_split B b 0 end before (chunk ∷ behind) told in
+    let at : chunk.at ≡ s.mid = place_told B b s.mid chunk s.back.0 in
+    let back : Tell B b (chunk.at + chunk.len) end behind = subst (λ k. Tell B b (k + chunk.len) end behind) (sym at) s.back.2 in
+    record {
+      before = before;
+      behind = behind;
+      is = refl;
+      front = subst (λ k. Tell B b 0 k before) (sym at) s.front;
+      here = ap (chunk_at B b) at ∙ s.back.0;
+      enough = s.back.1;
+      back = back;
+      fits = told_le B b (chunk.at + chunk.len) end behind back;
+    }
+
+module _ (heap : Heap) (B : List ℕ) (chunk : Chunk) where
+  pub around : HasChunks heap B → Stands chunk (chunks_of heap B) → Around B heap.span.at heap.footprint chunk (chunks_of heap B)
+  around has stands =
+      subst (Around B heap.span.at heap.footprint chunk) (sym stands.is)
+      (around_split B heap.span.at heap.footprint chunk stands.before stands.behind (subst (Tell B heap.span.at 0 heap.footprint) stands.is has.told))
+
+  pub before_is : (a : Around B heap.span.at heap.footprint chunk (chunks_of heap B)) → chunks_before heap B chunk.at ≡ a.before
+  unfolding chunks_before
+  before_is a = walked chunk.at B heap.span.at 0 chunk.at a.before a.front (omega arith)
+
+  pub behind_is : (a : Around B heap.span.at heap.footprint chunk (chunks_of heap B)) → chunks_behind heap B (chunk.at + chunk.len) ≡ a.behind
+  unfolding chunks_behind
+  behind_is a = walked heap.footprint B heap.span.at (chunk.at + chunk.len) heap.footprint a.behind a.back (omega arith)

@@ -1,0 +1,62 @@
+-- How the headers, which lie in the region, divide what is below the top gap into chunks: live blocks and gaps.
+use Rattle.std.specs.Prelude.{◌≡◌, ◌≢◌, ℕ, zero, suc, ◌+◌, ◌-◌, ◌≤◌, List, [], ◌∷◌, slice_range, Option, Some, None, if◌then◌else◌, ◌==◌, nat_lt}
+use Rattle.std.specs.Int.{from_le_bytes}
+use mir.Syntax.{w32}
+use Rattle.heap_core.specs.declared.chunk.Chunk.{Chunk}
+use Rattle.heap_core.specs.HeapStore.{Block, header_len}
+
+abbrev pub word_at : List ℕ → ℕ → ℕ
+word_at bytes at = from_le_bytes w32 (slice_range bytes at (at + 4))
+
+-- the name that a word tells: 0 is none, for a gap
+abbrev pub owner_in : ℕ → Option ℕ
+owner_in word = if word == 0 then None else Some (word - 1)
+
+-- the chunk at that place of a region, as its header tells it. The region begins at base of these bytes
+unfoldable pub chunk_at : List ℕ → ℕ → ℕ → Chunk
+chunk_at bytes base at =
+    record {
+      at = at;
+      len = word_at bytes (base + at);
+      owner = owner_in (word_at bytes (base + at + 4));
+      size = word_at bytes (base + at + 8);
+    }
+
+-- the chunks from one place to another, at most n of them
+abbrev pub chunks_from : ℕ → List ℕ → ℕ → ℕ → ℕ → List Chunk
+chunks_from zero bytes base at end = []
+chunks_from (suc n) bytes base at end =
+    let rest = chunks_from n bytes base (at + (chunk_at bytes base at).len) end in
+    if nat_lt at end then chunk_at bytes base at ∷ rest else []
+
+-- the headers from one place on tell these chunks, each with its header and its bytes, and the last ends at the other place
+abbrev pub Tell : List ℕ → ℕ → ℕ → ℕ → List Chunk → Type 0
+Tell bytes base at end [] = at ≡ end
+Tell bytes base at end (chunk ∷ chunks) =
+    (chunk_at bytes base at ≡ chunk) × (header_len + chunk.size ≤ chunk.len) × Tell bytes base (at + chunk.len) end chunks
+
+-- a live one comes first
+abbrev pub BeginsLive : List Chunk → Type 0
+BeginsLive [] = ⊥
+BeginsLive (chunk ∷ chunks) = chunk.owner ≢ None
+
+-- directly behind each gap is a live chunk: no two gaps adjoin, and none adjoins the top gap
+abbrev pub AreJoined : List Chunk → Type 0
+AreJoined [] = Unit {0}
+AreJoined (chunk ∷ chunks) = (chunk.owner ≡ None → BeginsLive chunks) × AreJoined chunks
+
+abbrev pub with_chunk : List ℕ → ℕ → Chunk → Option ℕ → List Block → List Block
+with_chunk bytes base chunk None blocks = blocks
+with_chunk bytes base chunk (Some name) blocks =
+    record {
+      name = name;
+      at = chunk.at;
+      room = chunk.len - header_len;
+      bytes = slice_range bytes (base + chunk.at + header_len) (base + chunk.at + header_len + chunk.size);
+    }
+    ∷ blocks
+
+-- the blocks among these chunks
+abbrev pub blocks_in : List ℕ → ℕ → List Chunk → List Block
+blocks_in bytes base [] = []
+blocks_in bytes base (chunk ∷ chunks) = with_chunk bytes base chunk chunk.owner (blocks_in bytes base chunks)

@@ -1,0 +1,38 @@
+-- What the bytes of a heap's span stand for.
+use Rattle.std.specs.Prelude.{◌≡◌, ℕ, ◌+◌, ◌≤◌, List, length, filter}
+use Rattle.arena_core.specs.Contents.{Contents}
+use Rattle.arena_core.specs.Outside.{ChangesOnly}
+use Rattle.heap_core.specs.declared.chunk.Chunk.{Chunk}
+use Rattle.heap_core.specs.declared.heap.Heap.{Heap}
+use Rattle.heap_core.specs.HeapStore.{HeapStore, has_name}
+use Rattle.heap_core.specs.Chunks.{chunks_from, blocks_in, Tell, AreJoined}
+
+-- all chunks, up to the footprint
+unfoldable pub chunks_of : Heap → List ℕ → List Chunk
+chunks_of heap bytes = chunks_from heap.footprint bytes heap.span.at 0 heap.footprint
+
+-- the blocks and where they lie. Of the arena's bytes it reads the span's alone
+abbrev pub heap_of : Heap → List ℕ → HeapStore
+heap_of heap bytes = record { size = heap.span.len; blocks = blocks_in bytes heap.span.at (chunks_of heap bytes) }
+
+-- the heap's span lies in these bytes
+abbrev pub IsWithin : Heap → List ℕ → Type 0
+IsWithin heap bytes = heap.span.at + heap.span.len ≤ length bytes
+
+-- the headers in the heap's span tell chunks without a break, and the gaps among them are joined
+pub record HasChunks (heap : Heap) (bytes : List ℕ) : Type 0 where
+  pub within : IsWithin heap bytes
+  pub told : Tell bytes heap.span.at 0 heap.footprint (chunks_of heap bytes)
+  pub joined : AreJoined (chunks_of heap bytes)
+
+-- the bytes of the heap's span are as the heap's calls left them
+pub record IsLaidOut (heap : Heap) (bytes : List ℕ) : Type 0 where
+  pub chunks : HasChunks heap bytes
+  -- no name has two blocks
+  pub named : (name : ℕ) → length (filter (has_name name) (heap_of heap bytes).blocks) ≤ 1
+
+-- the heap keeps its span, and of the arena only bytes of that span changed
+pub record KeepsToSpan (old new : Heap) (old_arena new_arena : Contents) : Type 0 where
+  pub span : new.span ≡ old.span
+  pub carved : new_arena.carved ≡ old_arena.carved
+  pub bytes : ChangesOnly old.span.at old.span.len old_arena.bytes new_arena.bytes

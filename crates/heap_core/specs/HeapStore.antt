@@ -1,0 +1,196 @@
+-- Heap memory as its users see it: blocks that have a place in the region, and the gaps between them.
+use Rattle.std.specs.Prelude.{◌≡◌, ℕ, ◌+◌, ◌-◌, ◌*◌, ◌%◌, ◌≤◌, Bool, not, List, [], ◌∷◌, length, map, filter, find, fold, sum_by, Option, Some, None, if◌then◌else◌, ◌==◌, nat_lt, nat_le}
+use Rattle.std.specs.Option.{option_map, option_map_or, option_or}
+use Rattle.mote_types.specs.declared.reply.HeapStats.{HeapStats}
+use Rattle.mote_types.specs.Rounding.{up4}
+use Rattle.mote_types.specs.Bytes.{zeros, overwritten, resized}
+use Rattle.heap_core.specs.declared.chunk.Gap.{Gap}
+use Rattle.heap_core.specs.declared.chunk.Place.{Place}
+
+-- a block begins with its header; room is what it may hold behind that
+pub record Block : Type 0 where
+  -- the number of its name
+  pub name : ℕ
+  pub at : ℕ
+  pub room : ℕ
+  pub bytes : List ℕ
+
+pub record HeapStore : Type 0 where
+  -- the length of the region
+  pub size : ℕ
+  -- the lowest first
+  pub blocks : List Block
+
+-- the length of a header
+abbrev pub header_len : ℕ
+header_len = 16
+
+-- the number of a name: process p's block
+abbrev pub name_of : ℕ → ℕ → ℕ
+name_of p number = (p - 3) * 16 + number
+
+abbrev pub empty_heap : ℕ → HeapStore
+empty_heap size = record { size = size; blocks = [] }
+
+abbrev pub has_name : ℕ → Block → Bool
+has_name name block = block.name == name
+
+abbrev pub find_block : ℕ → HeapStore → Option Block
+find_block name heap = find (has_name name) heap.blocks
+
+-- the bytes of p's block, if it is live
+abbrev pub block_of : ℕ → ℕ → HeapStore → Option (List ℕ)
+block_of p number heap = option_map (λ (block : Block). block.bytes) (find_block (name_of p number) heap)
+
+-- the length of p's block, as it was asked for
+abbrev pub length_of : ℕ → ℕ → HeapStore → Option ℕ
+length_of p number heap = option_map length (block_of p number heap)
+
+-- where the block's extent ends
+abbrev pub end_of : Block → ℕ
+end_of block = block.at + (header_len + block.room)
+
+-- the end of the highest extent
+abbrev pub footprint : HeapStore → ℕ
+footprint heap = fold (λ _ block. end_of block) 0 heap.blocks
+
+-- the length of the top gap, which lies above it
+abbrev pub top_gap : HeapStore → ℕ
+top_gap heap = heap.size - footprint heap
+
+-- these gaps, and in front of them what lies between two places, where that is not empty
+abbrev pub gap_between : ℕ → ℕ → List Gap → List Gap
+gap_between from to gaps = if nat_lt from to then record { at = from; len = to - from } ∷ gaps else gaps
+
+-- the gaps below these blocks, from that place on
+abbrev pub gaps_from : ℕ → List Block → List Gap
+gaps_from from [] = []
+gaps_from from (block ∷ blocks) = gap_between from block.at (gaps_from (end_of block) blocks)
+
+-- the gaps below the top gap: the maximal runs of the region that no extent covers
+abbrev pub gaps : HeapStore → List Gap
+gaps heap = gaps_from 0 heap.blocks
+
+-- the room that a block takes of that much: what is left over stays a gap only where it exceeds 16
+abbrev pub room_taken : ℕ → ℕ → ℕ
+room_taken least available = if nat_lt 16 (available - least) then least else available
+
+-- the shorter gap, and the first on a tie
+abbrev pub shorter : Gap → Gap → Gap
+shorter first second = if nat_lt second.len first.len then second else first
+
+-- the better one for so many bytes of a gap found before, if there is one, and this one
+abbrev pub better : ℕ → Option Gap → Gap → Option Gap
+better need best gap = if nat_le need gap.len then Some (option_map_or (λ other. shorter other gap) best gap) else best
+
+-- the shortest gap of that length at least, and the lowest on a tie
+abbrev pub best_gap : ℕ → List Gap → Option Gap
+best_gap need gaps = fold (better need) None gaps
+
+-- a block of so much room at the front of a gap
+abbrev pub place_in : ℕ → Gap → Place
+place_in room gap = record { at = gap.at; room = room_taken room (gap.len - header_len) }
+
+-- the place at the front of the top gap, if it is long enough
+abbrev pub top_place : ℕ → HeapStore → Option Place
+top_place room heap =
+    if nat_le (header_len + room) (top_gap heap) then Some (record { at = footprint heap; room = room }) else None
+
+-- where a block of n bytes is placed
+abbrev pub place : ℕ → HeapStore → Option Place
+place n heap =
+    option_or (option_map (place_in (up4 n)) (best_gap (header_len + up4 n) (gaps heap))) (top_place (up4 n) heap)
+
+-- the blocks with one more, in the order of their places
+abbrev pub placed : Block → List Block → List Block
+placed block [] = block ∷ []
+placed block (other ∷ blocks) = if nat_lt block.at other.at then block ∷ (other ∷ blocks) else other ∷ placed block blocks
+
+abbrev pub with_block : Block → HeapStore → HeapStore
+with_block block heap = record heap { blocks = placed block heap.blocks }
+
+abbrev pub without_block : ℕ → HeapStore → HeapStore
+without_block name heap = record heap { blocks = filter (λ block. not (has_name name block)) heap.blocks }
+
+abbrev pub block_at : Place → ℕ → List ℕ → Block
+block_at place name bytes = record { name = name; at = place.at; room = place.room; bytes = bytes }
+
+-- the heap with a new block of n zeros, or nothing where there is no place for it
+abbrev pub allocated : ℕ → ℕ → ℕ → HeapStore → Option HeapStore
+allocated p number n heap =
+    option_map (λ place. with_block (block_at place (name_of p number) (zeros n)) heap) (place n heap)
+
+abbrev pub freed : ℕ → ℕ → HeapStore → HeapStore
+freed p number = without_block (name_of p number)
+
+-- the length of the gap below the top gap that begins there
+abbrev pub gap_at : ℕ → HeapStore → ℕ
+gap_at at heap = option_map_or (λ (gap : Gap). gap.len) (find (λ (gap : Gap). gap.at == at) (gaps heap)) 0
+
+-- the place of a block
+abbrev pub place_of : Block → Place
+place_of block = record { at = block.at; room = block.room }
+
+-- the room that the block at a place has once it is resized to n bytes where it is, if it can be: of its room, and of the gap
+-- that begins where it ends
+abbrev pub room_in_place : Place → ℕ → HeapStore → Option ℕ
+room_in_place place n heap =
+    let end = place.at + (header_len + place.room) in
+    let on_top = place.room + top_gap heap in
+    let with_gap = place.room + gap_at end heap in
+    if nat_le (up4 n) place.room then Some (room_taken (up4 n) place.room)
+    else if end == footprint heap then (if nat_le (up4 n) on_top then Some (up4 n) else None)
+    else if nat_le (up4 n) with_gap then Some (room_taken (up4 n) with_gap)
+    else None
+
+-- where a live block is after it was resized to n bytes, if there is a place for it
+abbrev pub new_place : Place → ℕ → HeapStore → Option Place
+new_place old n heap =
+    option_or (option_map (λ room. let new : Place = record { at = old.at; room = room } in new) (room_in_place old n heap)) (place n heap)
+
+-- the block at another place, or with another room, and resized to n bytes
+abbrev pub moved : Place → Block → ℕ → HeapStore → HeapStore
+moved place block n heap =
+    with_block (block_at place block.name (resized n block.bytes)) (without_block block.name heap)
+
+-- the heap after a live block was resized to n bytes, or nothing where there is no place for it
+abbrev pub resized_block : Block → ℕ → HeapStore → Option HeapStore
+resized_block block n heap = option_map (λ place. moved place block n heap) (new_place (place_of block) n heap)
+
+-- the same for p's block, which is live
+abbrev pub reallocated : ℕ → ℕ → ℕ → HeapStore → Option HeapStore
+reallocated p number n heap = option_map_or (λ block. resized_block block n heap) (find_block (name_of p number) heap) None
+
+-- these bytes stand in p's block from that place on
+abbrev pub with_bytes : ℕ → ℕ → ℕ → List ℕ → HeapStore → HeapStore
+with_bytes p number at bytes heap =
+    record heap {
+      blocks = map (λ block. if has_name (name_of p number) block then record block { bytes = overwritten at bytes block.bytes } else block) heap.blocks;
+    }
+
+abbrev pub stats_of : HeapStore → HeapStats
+stats_of heap =
+    record {
+      allocated = sum_by (λ (block : Block). block.room) heap.blocks;
+      overhead = header_len * length heap.blocks;
+      available = sum_by (λ (gap : Gap). gap.len) (gaps heap) + top_gap heap;
+      footprint = footprint heap;
+      chunks = length heap.blocks;
+    }
+
+-- each of these blocks begins where the one before ends, or behind that, and its bytes fit its room; the last ends within size
+abbrev pub LieInOrder : ℕ → List Block → ℕ → Type 0
+LieInOrder from [] size = from ≤ size
+LieInOrder from (block ∷ blocks) size = (from ≤ block.at) × (length block.bytes ≤ block.room) × LieInOrder (end_of block) blocks size
+
+-- the blocks lie in the region, and no two of them share a byte
+abbrev pub LieApart : HeapStore → Type 0
+LieApart heap = LieInOrder 0 heap.blocks heap.size
+
+-- processes 3 to 19 have blocks 0 to 15
+abbrev pub IsName : ℕ → ℕ → Type 0
+IsName p number = (3 ≤ p) × (p ≤ 19) × (number ≤ 15)
+
+-- the sizes that a heap region may have
+abbrev pub IsHeapSize : ℕ → Type 0
+IsHeapSize size = (20 ≤ size) × (size ≤ 65536) × (size % 4 ≡ 0)

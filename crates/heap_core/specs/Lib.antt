@@ -1,0 +1,4 @@
+pub mod Chunks
+pub mod HeapBytes
+pub mod HeapStore
+pub mod Walks

@@ -1,0 +1,126 @@
+//! Chunks and gaps, and which gap a block takes how much of.
+
+ghost use Rattle.std.specs.Prelude.{◌≡◌, ◌+◌, ◌≤◌, ◌<◌, ◌^◌, IfSome, is_none, is_some};
+ghost use Rattle.mote_types.specs.Rounding.{up4};
+ghost use Rattle.heap_core.specs.HeapStore.{room_taken, better};
+ghost use Rattle.heap_core.specs.Chunks.{owner_in};
+ghost use Rattle.heap_core.specs.Walks.{owned_by, block_chunk};
+
+/// The length of a header. It precedes each chunk's bytes.
+pub(crate) const HEADER: u32 = 16;
+
+/// The longest rest of a gap that a block takes along.
+const LONGEST_REST: u32 = 16;
+
+/// What a header tells: a live block or a gap, from `at` on, as places in the region.
+#[derive(Clone, Copy, Drop)]
+pub struct Chunk {
+    pub at: u32,
+    /// With its header.
+    pub len: u32,
+    /// The number of the block's name. A gap has none.
+    pub owner: Option<u32>,
+    /// How many bytes the block was asked for, 0 for a gap.
+    pub size: u32,
+}
+
+/// A run of the region that no block covers.
+#[derive(Clone, Copy, Drop)]
+pub struct Gap {
+    pub at: u32,
+    pub len: u32,
+}
+
+/// Where a block goes: its header to `at`, and `room` bytes behind that.
+#[derive(Clone, Copy, Drop)]
+pub struct Place {
+    pub at: u32,
+    pub room: u32,
+}
+
+/// The least multiple of 4 not below `n`.
+pub(crate) fn rounded(n: u32) -> u64
+    ensures { result ≡ up4 n }
+{
+    (n as u64 + 3) / 4 * 4
+}
+
+/// The room that a block takes of that much: what is left over stays a gap only where it exceeds 16.
+pub(crate) fn room_taken(least: u32, available: u32) -> u32
+    requires { least ≤ available }
+    ensures { result ≡ room_taken least available }
+{
+    if available - least > LONGEST_REST {
+        least
+    } else {
+        available
+    }
+}
+
+/// The better gap for `need` bytes of one found before and this one.
+pub(crate) fn better(need: u64, best: Option<Gap>, gap: Gap) -> Option<Gap>
+    ensures { result ≡ better need best gap }
+{
+    if (gap.len as u64) < need {
+        return best;
+    }
+    match best {
+        Some(other) if other.len <= gap.len => Some(other),
+        _ => Some(gap),
+    }
+}
+
+/// The chunk of a block.
+pub(crate) fn block_chunk(place: Place, name: u32, size: u32) -> Chunk
+    requires { 16 + place.room < 2 ^ 32 }
+    ensures { result ≡ block_chunk place name size }
+{
+    Chunk {
+        at: place.at,
+        len: HEADER + place.room,
+        owner: Some(name),
+        size,
+    }
+}
+
+/// Whether a chunk is a gap.
+pub(crate) fn is_gap(chunk: Chunk) -> bool
+    ensures { result ≡ is_none chunk.owner }
+{
+    chunk.owner.is_none()
+}
+
+/// Whether a chunk is a live block.
+pub(crate) fn is_live(chunk: Chunk) -> bool
+    ensures { result ≡ is_some chunk.owner }
+{
+    chunk.owner.is_some()
+}
+
+/// Whether a chunk is the block of that name.
+pub(crate) fn is_owned_by(chunk: Chunk, name: u32) -> bool
+    ensures { result ≡ owned_by name chunk }
+{
+    match chunk.owner {
+        Some(other) => other == name,
+        None => false,
+    }
+}
+
+/// The word for a chunk's owner.
+pub(crate) fn word_of(owner: Option<u32>) -> u32
+    requires { IfSome owner (λ name. name < 65536) }
+    ensures { owner_in result ≡ owner }
+{
+    match owner {
+        Some(name) => name + 1,
+        None => 0,
+    }
+}
+
+/// The owner that a word tells.
+pub(crate) fn owner_in(word: u32) -> Option<u32>
+    ensures { result ≡ owner_in word }
+{
+    if word == 0 { None } else { Some(word - 1) }
+}

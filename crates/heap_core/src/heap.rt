@@ -1,0 +1,176 @@
+//! The heap, and the calls on blocks.
+
+ghost use Rattle.std.specs.Prelude.{◌≡◌, ℕ, List, ◌+◌, ◌≤◌, ◌<◌, ◌↔◌, length, IsNone, IfNone, OnSome, IsSome, IsSomeAnd, Some, None};
+ghost use Rattle.heap_core.specs.HeapStore.{name_of, IsName, IsHeapSize, empty_heap, block_of, length_of, place, allocated, freed, reallocated, with_bytes, stats_of, LieApart};
+
+use crate::chunk::{HEADER, is_live};
+use arena_core::{Arena, Span};
+use mote_types::event::Pid;
+use mote_types::reply::HeapStats;
+
+/// The name of a block: a process from 3 to 19, and one of its blocks, from 0 to 15.
+pub type Key = (Pid, u8);
+
+/// Heap memory over a span of an arena (`heapmem.h` of Contiki-NG). Where a block goes is this project's profile.
+///
+/// Each call is given that arena, with the span's bytes as the calls before left them.
+#[derive(Drop)]
+pub struct Heap {
+    pub(crate) span: Span,
+    pub(crate) footprint: u32,
+    pub ghost small: { span.len ≤ 65536 },
+    pub ghost inside: { footprint ≤ span.len },
+}
+
+/// The number of a name.
+fn number_of(key: Key) -> u32
+    requires { IsName key.0.0 key.1 }
+    ensures number { result ≡ name_of key.0.0 key.1 }
+    ensures within { result < 272 }
+{
+    (key.0.0 - 3) as u32 * 16 + key.1 as u32
+}
+
+impl Heap {
+    ghost use Rattle.heap_core.specs.HeapBytes.{heap_of, IsWithin, IsLaidOut, KeepsToSpan};
+
+    /// A heap without a block, over a span of 20 to 65,536 bytes, a multiple of 4. These bytes may be anything.
+    pub fn new(span: Span) -> Heap
+        requires { IsHeapSize span.len }
+        ensures span { result.span ≡ span }
+        ensures laid_out { (bytes : List ℕ) → IsWithin result bytes → IsLaidOut result bytes }
+        ensures empty { (bytes : List ℕ) → heap_of result bytes ≡ empty_heap span.len }
+    {
+        Heap { span, footprint: 0 }
+    }
+
+    /// Gives a name that is not live a block of `n` bytes, all 0 (`heapmem_alloc`). `None` exactly where no gap takes the
+    /// block with its header; then nothing changes.
+    pub fn alloc(&mut self, arena: &mut Arena, key: Key, n: u32) -> Option<()>
+        requires named { IsName key.0.0 key.1 }
+        requires laid_out { IsLaidOut self.old arena.old.bytes }
+        requires unused { block_of key.0.0 key.1 (heap_of self.old arena.old.bytes) ≡ None }
+        requires some_bytes { 1 ≤ n }
+        ensures refused { IsNone result ↔ (place n (heap_of self.old arena.old.bytes) ≡ None) }
+        ensures unchanged { IfNone result ((self.new ≡ self.old) × (arena.new ≡ arena.old)) }
+        ensures block { OnSome result (allocated key.0.0 key.1 n (heap_of self.old arena.old.bytes) ≡ Some (heap_of self.new arena.new.bytes)) }
+        ensures laid_out { IsLaidOut self.new arena.new.bytes }
+        ensures rest { KeepsToSpan self.old self.new arena.old arena.new }
+    {
+        let place = self.place(arena, n)?;
+        self.settle(arena, place, number_of(key), n, None);
+        Some(())
+    }
+
+    /// Resizes a name's block to `n` bytes (`heapmem_realloc`): the first bytes stay, as many as both lengths have, and
+    /// further ones are 0. `None` exactly where there is no place for it; then nothing changes.
+    pub fn realloc(&mut self, arena: &mut Arena, key: Key, n: u32) -> Option<()>
+        requires named { IsName key.0.0 key.1 }
+        requires laid_out { IsLaidOut self.old arena.old.bytes }
+        requires live { IsSome (block_of key.0.0 key.1 (heap_of self.old arena.old.bytes)) }
+        requires some_bytes { 1 ≤ n }
+        ensures refused { IsNone result ↔ (reallocated key.0.0 key.1 n (heap_of self.old arena.old.bytes) ≡ None) }
+        ensures unchanged { IfNone result ((self.new ≡ self.old) × (arena.new ≡ arena.old)) }
+        ensures block { OnSome result (reallocated key.0.0 key.1 n (heap_of self.old arena.old.bytes) ≡ Some (heap_of self.new arena.new.bytes)) }
+        ensures laid_out { IsLaidOut self.new arena.new.bytes }
+        ensures rest { KeepsToSpan self.old self.new arena.old arena.new }
+    {
+        let name = number_of(key);
+        let chunk = self.find(arena, name).unwrap();
+        let Some(room) = self.room_in_place(arena, chunk, n) else {
+            self.relocate(arena, chunk, name, n)?;
+            return Some(());
+        };
+        self.resize(arena, chunk, room, n);
+        Some(())
+    }
+
+    /// Takes a name's block away (`heapmem_free`).
+    pub fn free(&mut self, arena: &mut Arena, key: Key)
+        requires named { IsName key.0.0 key.1 }
+        requires laid_out { IsLaidOut self.old arena.old.bytes }
+        requires live { IsSome (block_of key.0.0 key.1 (heap_of self.old arena.old.bytes)) }
+        ensures block { heap_of self.new arena.new.bytes ≡ freed key.0.0 key.1 (heap_of self.old arena.old.bytes) }
+        ensures laid_out { IsLaidOut self.new arena.new.bytes }
+        ensures rest { KeepsToSpan self.old self.new arena.old arena.new }
+    {
+        let chunk = self.find(arena, number_of(key)).unwrap();
+        self.release(arena, chunk);
+    }
+
+    /// The bytes of a name's block.
+    pub fn bytes<'a>(&self, arena: &'a Arena, key: Key) -> &'a [u8]
+        requires named { IsName key.0.0 key.1 }
+        requires laid_out { IsLaidOut self.now arena.now.bytes }
+        requires live { IsSome (block_of key.0.0 key.1 (heap_of self.now arena.now.bytes)) }
+        ensures { block_of key.0.0 key.1 (heap_of self.now arena.now.bytes) ≡ Some result.now }
+    {
+        let chunk = self.find(arena, number_of(key)).unwrap();
+        arena.bytes(Span {
+            at: self.span.at + chunk.at + HEADER,
+            len: chunk.size,
+        })
+    }
+
+    /// Writes bytes into a name's block, from the place `at` of it on.
+    pub fn write(&self, arena: &mut Arena, key: Key, at: u32, bytes: &[u8])
+        requires named { IsName key.0.0 key.1 }
+        requires laid_out { IsLaidOut self.now arena.old.bytes }
+        requires range { IsSomeAnd (block_of key.0.0 key.1 (heap_of self.now arena.old.bytes)) (λ block. at + length bytes.now ≤ length block) }
+        ensures block { heap_of self.now arena.new.bytes ≡ with_bytes key.0.0 key.1 at bytes.now (heap_of self.now arena.old.bytes) }
+        ensures laid_out { IsLaidOut self.now arena.new.bytes }
+        ensures rest { KeepsToSpan self.now self.now arena.old arena.new }
+    {
+        let chunk = self.find(arena, number_of(key)).unwrap();
+        let target = arena.bytes_mut(Span {
+            at: self.span.at + chunk.at + HEADER + at,
+            len: bytes.len() as u32,
+        });
+        target.copy_from_slice(bytes);
+    }
+
+    /// What the blocks and the gaps take (`heapmem_stats`).
+    pub fn stats(&self, arena: &Arena) -> HeapStats
+        requires { IsLaidOut self.now arena.now.bytes }
+        ensures { result ≡ stats_of (heap_of self.now arena.now.bytes) }
+    {
+        let mut allocated = 0;
+        let mut chunks = 0;
+        let mut at = 0;
+        while at < self.footprint {
+            let chunk = self.chunk_at(arena, at);
+            if is_live(chunk) {
+                allocated += chunk.len - HEADER;
+                chunks += 1;
+            }
+            at += chunk.len;
+        }
+        let overhead = HEADER * chunks;
+        HeapStats {
+            allocated,
+            overhead,
+            available: self.span.len - allocated - overhead,
+            footprint: self.footprint,
+            chunks,
+        }
+    }
+
+    /// The length of a name's block, as it was asked for, if it is live.
+    pub fn len_of(&self, arena: &Arena, key: Key) -> Option<u32>
+        requires named { IsName key.0.0 key.1 }
+        requires laid_out { IsLaidOut self.now arena.now.bytes }
+        ensures { result ≡ length_of key.0.0 key.1 (heap_of self.now arena.now.bytes) }
+    {
+        let chunk = self.find(arena, number_of(key))?;
+        Some(chunk.size)
+    }
+
+    /// The blocks lie in the span, and no two of them share a byte.
+    pub fn blocks_lie_apart(&self, arena: &Arena)
+        requires { IsLaidOut self.now arena.now.bytes }
+        ensures { LieApart (heap_of self.now arena.now.bytes) }
+    {
+        let _span = &self.span;
+        let _ = arena;
+    }
+}

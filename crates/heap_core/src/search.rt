@@ -1,0 +1,124 @@
+//! Walks over the chunks, from the lowest on.
+
+ghost use Rattle.std.specs.Prelude.{◌≡◌, ◌≢◌, ◌+◌, find, None};
+ghost use Rattle.heap_core.specs.HeapStore.{best_gap, gaps, place, room_in_place};
+ghost use Rattle.heap_core.specs.Walks.{owned_by, chunks_before, chunks_behind, free_from, Stands, front_gap, place_in_chunk};
+
+use crate::chunk::{Chunk, Gap, HEADER, Place, better, is_gap, is_owned_by, room_taken, rounded};
+use crate::heap::Heap;
+use arena_core::Arena;
+
+impl Heap {
+    ghost use Rattle.heap_core.specs.HeapBytes.{chunks_of, heap_of, HasChunks};
+
+    /// The chunk of a name's block.
+    pub(crate) fn find(&self, arena: &Arena, name: u32) -> Option<Chunk>
+        requires { HasChunks self.now arena.now.bytes }
+        ensures { result ≡ find (owned_by name) (chunks_of self.now arena.now.bytes) }
+    {
+        let mut at = 0;
+        while at < self.footprint {
+            let chunk = self.chunk_at(arena, at);
+            if is_owned_by(chunk, name) {
+                return Some(chunk);
+            }
+            at += chunk.len;
+        }
+        None
+    }
+
+    /// The shortest gap below the top gap that has `need` bytes, the lowest on a tie.
+    pub(crate) fn best_gap(&self, arena: &Arena, need: u64) -> Option<Gap>
+        requires { HasChunks self.now arena.now.bytes }
+        ensures { result ≡ best_gap need (gaps (heap_of self.now arena.now.bytes)) }
+    {
+        let mut best = None;
+        let mut at = 0;
+        while at < self.footprint {
+            let chunk = self.chunk_at(arena, at);
+            if is_gap(chunk) {
+                best = better(need, best, Gap { at, len: chunk.len });
+            }
+            at += chunk.len;
+        }
+        best
+    }
+
+    /// Where a block of `n` bytes goes.
+    pub(crate) fn place(&self, arena: &Arena, n: u32) -> Option<Place>
+        requires { HasChunks self.now arena.now.bytes }
+        ensures { result ≡ place n (heap_of self.now arena.now.bytes) }
+    {
+        let room = rounded(n);
+        let need = HEADER as u64 + room;
+        match self.best_gap(arena, need) {
+            Some(gap) => Some(Place {
+                at: gap.at,
+                room: room_taken(room as u32, gap.len - HEADER),
+            }),
+            None if need <= (self.span.len - self.footprint) as u64 => Some(Place {
+                at: self.footprint,
+                room: room as u32,
+            }),
+            None => None,
+        }
+    }
+
+    /// Where the free bytes begin that end where a chunk begins.
+    pub(crate) fn free_before(&self, arena: &Arena, chunk: Chunk) -> u32
+        requires chunks { HasChunks self.now arena.now.bytes }
+        requires stands { Stands chunk (chunks_of self.now arena.now.bytes) }
+        ensures { result ≡ free_from (chunks_before self.now arena.now.bytes chunk.at) }
+    {
+        let mut from = 0;
+        let mut at = 0;
+        while at < chunk.at {
+            let other = self.chunk_at(arena, at);
+            at += other.len;
+            from = if is_gap(other) { other.at } else { at };
+        }
+        from
+    }
+
+    /// The length of the gap below the top gap that is directly behind a chunk, 0 where there is none.
+    pub(crate) fn gap_behind(&self, arena: &Arena, chunk: Chunk) -> u32
+        requires chunks { HasChunks self.now arena.now.bytes }
+        requires stands { Stands chunk (chunks_of self.now arena.now.bytes) }
+        ensures { result ≡ front_gap (chunks_behind self.now arena.now.bytes (chunk.at + chunk.len)) }
+    {
+        let end = chunk.at + chunk.len;
+        if end == self.footprint {
+            return 0;
+        }
+        let behind = self.chunk_at(arena, end);
+        if is_gap(behind) { behind.len } else { 0 }
+    }
+
+    /// The room that a live chunk has once it is resized to `n` bytes where it is. `None` where it can't be.
+    pub(crate) fn room_in_place(&self, arena: &Arena, chunk: Chunk, n: u32) -> Option<u32>
+        requires chunks { HasChunks self.now arena.now.bytes }
+        requires stands { Stands chunk (chunks_of self.now arena.now.bytes) }
+        requires live { chunk.owner ≢ None }
+        ensures { result ≡ room_in_place (place_in_chunk chunk) n (heap_of self.now arena.now.bytes) }
+    {
+        let least = rounded(n);
+        let room = chunk.len - HEADER;
+        if least <= room as u64 {
+            return Some(room_taken(least as u32, room));
+        }
+        if chunk.at + chunk.len == self.footprint {
+            let most = room + (self.span.len - self.footprint);
+            return if least <= most as u64 {
+                Some(least as u32)
+            } else {
+                None
+            };
+        }
+        let most = room + self.gap_behind(arena, chunk);
+        if least <= most as u64 {
+            Some(room_taken(least as u32, most))
+        } else {
+            None
+        }
+    }
+}
