@@ -78,6 +78,7 @@ impl Core {
             Call::CallbackStop(timer) => self.stop_callback(pid, *timer),
             Call::Clock => self.answer(pid, Reply::Wide(self.clock)),
             Call::Print(_) => self.answer(pid, Reply::Done),
+            // Every other call is on memory.
             _ => {
                 let reply = self.memory.ask(pid, call);
                 self.answer(pid, reply);

@@ -91,6 +91,32 @@ fn a_block_is_in_one_list_at_most_and_shows_no_link(rt: HostRuntime) -> Result<(
 }
 
 #[test]
+fn a_pool_has_two_lists(rt: HostRuntime) -> Result<(), Fail> {
+    let mut apps = steps![rt; [
+        Call::MembAlloc(0),
+        Call::MembAlloc(0),
+        Call::ListAdd(0, 0),
+        Call::ListAdd(1, 1),
+        Call::ListHead(0),
+        Call::ListHead(1),
+        Call::ListChop(1),
+        Call::ListLength(0)
+    ]];
+    let transcript = "\
+4 synch 129 - -> memb-alloc 0
+4 answer num 0 -> memb-alloc 0
+4 answer num 1 -> list-add 0 0
+4 answer done -> list-add 1 1
+4 answer done -> list-head 0
+4 answer num 0 -> list-head 1
+4 answer num 1 -> list-chop 1
+4 answer num 1 -> list-length 0
+4 answer num 1 -> wait
+";
+    check(&rt, apps.as_mut_slice(), "", transcript)
+}
+
+#[test]
 fn a_pool_has_sixteen_blocks(rt: HostRuntime) -> Result<(), Fail> {
     let mut apps: Vec<Box<dyn App>> = Vec::new(rt.alloc());
     let calls: [Call; 17] = array::from_fn(|_| Call::MembAlloc(0));

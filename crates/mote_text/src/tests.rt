@@ -184,7 +184,7 @@ fn lines_of_replies(rt: HostRuntime) {
 }
 
 #[test]
-fn lines_of_calls(rt: HostRuntime) {
+fn lines_of_calls_on_events_and_processes(rt: HostRuntime) {
     check_call(
         &rt,
         Call::Post(3, 140, Payload::Empty),
@@ -205,6 +205,14 @@ fn lines_of_calls(rt: HostRuntime) {
     check_call(&rt, Call::Kill(6), "4 callback 3 -> kill 6\n");
     check_call(&rt, Call::IsRunning(19), "4 callback 3 -> is-running 19\n");
     check_call(&rt, Call::AllocEvent, "4 callback 3 -> alloc-event\n");
+    check_call(&rt, Call::Clock, "4 callback 3 -> clock\n");
+    check_call(&rt, Call::Print(bytes(b"")), "4 callback 3 -> print -\n");
+    check_call(&rt, Call::Wait, "4 callback 3 -> wait\n");
+    check_call(&rt, Call::Exit, "4 callback 3 -> exit\n");
+}
+
+#[test]
+fn lines_of_calls_on_timers(rt: HostRuntime) {
     check_call(
         &rt,
         Call::TimerSet(7, 4_294_967_295),
@@ -232,10 +240,10 @@ fn lines_of_calls(rt: HostRuntime) {
         Call::CallbackStop(0),
         "4 callback 3 -> callback-stop 0\n",
     );
-    check_call(&rt, Call::Clock, "4 callback 3 -> clock\n");
-    check_call(&rt, Call::Print(bytes(b"")), "4 callback 3 -> print -\n");
-    check_call(&rt, Call::Wait, "4 callback 3 -> wait\n");
-    check_call(&rt, Call::Exit, "4 callback 3 -> exit\n");
+}
+
+#[test]
+fn lines_of_calls_on_managed_memory(rt: HostRuntime) {
     check_call(
         &rt,
         Call::MmemAlloc(0, 4_294_967_295),
