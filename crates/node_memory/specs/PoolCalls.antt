@@ -32,13 +32,6 @@ pool_called _ = None
 abbrev pub is_block : ℕ → Bool
 is_block b = nat_le b 15
 
--- the block is to be a live one
-abbrev pub block_refusal : ℕ → PoolWithLists → Option Refusal
-block_refusal b s =
-    if not (is_block b) then Some Refusal.BadName
-    else if not (is_live b s.pool) then Some Refusal.NotLive
-    else None
-
 abbrev pub free_refusal : ℕ → PoolWithLists → Option Refusal
 free_refusal b s =
     if not (is_block b) then Some Refusal.BadName
