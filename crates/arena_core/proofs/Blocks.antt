@@ -1,18 +1,17 @@
 -- A `&` to the block, taken apart. Assumes `Logic`.
 --     seen         it is one to the fields, and one to the bytes
 --     shows_ptr    one to the fields shows the pointer
-use Rattle.arena_core.proofs.Steps.{◌≡◌, ℕ, ◌+◌, ◌≤◌, List, [], ◌∷◌, length, refl, sym, ◌∙◌, w64, ent, sep, sem, id⊢, Logic, Lft, Fml, Val, Ptr, full_share, fsep, fhide, fact, ‵, raw, ◌⊛◌, ◌$◌, ◌∵◌, !, qed, by, done, move, keep, drop, use1, use2, use3, split, fsplit, fsplit3, fjoin, fpack, feq_i, rewrite, cell_at, part_at, mem, Array, lies_at, block_ptr, u8, RawPtr, block_of, count_of, InBlock, hidden_shr, elements_shared}
+use Rattle.arena_core.proofs.Steps.{◌≡◌, ℕ, ◌+◌, ◌≤◌, List, [], ◌∷◌, length, refl, sym, ◌∙◌, w64, ent, sep, sem, id⊢, Logic, Lft, Fml, Val, Ptr, full_share, fsep, fhide, fact, ‵, raw, ◌⊛◌, ◌$◌, ◌∵◌, !, qed, by, done, move, keep, drop, use1, use2, split, fsplit, fsplit3, fjoin, fpack, feq_i, rewrite, cell_at, part_at, mem, Array, lies_at, block_ptr, u8, RawPtr, block_of, count_of, InBlock, hidden_shr, elements_shared}
 use seplogic.Ra.Ura.{Ura}
 use base.Fml.{feq}
 use types.SemTy.{cells}
 use denote.Memory.{part_of}
 use denote.Index.{row, whole_in, whole_out}
 use denote.ArrayMemory.{Array-apart, Array-whole}
-use Rattle.arena_core.specs.Ownership.{bytes_type, chunk}
+use Rattle.arena_core.specs.Code.Ownership.{bytes_type, chunk}
 use Rattle.arena_core.specs.Written.{written}
-use Rattle.arena_core.specs.Lending.{with_bytes, with_range, with_pair, length-written}
+use Rattle.arena_core.specs.Code.Lending.{with_bytes, with_range, length-written}
 use Rattle.arena_core.proofs.Rows.{Around, run_in}
-use Rattle.arena_core.proofs.Pairs.{TwoRuns}
 use denote.RattleType.{RattleType, RowLaws}
 use denote.Opens.{shr_dup, unhide, hide}
 use denote.Plain.{uint_row_laws}
@@ -72,13 +71,3 @@ module _ {M : Type 1} {𝓤 : Ura M} (𝓛 : Logic 𝓤) (h : Block) (rb ro : �
     pub back : (ws : List ℕ) → length ws ≡ len → ent 𝓤 (sep 𝓤 (sem 𝓛 (cells (mem u8) ws b (at + o))) (sem 𝓛 Rest)) (sem 𝓛 ((mem C.the_row).own_at (with_range h at ws) rb ro))
     back ws e = qed 𝓛 (‵ (cells (mem u8) ws b (at + o)) ∷ ‵ Rest ∷ []) ∵ move ! (1 ∷ []) $ fsplit ! $ move ! (2 ∷ 0 ∷ []) $
         use2 𝓛 (‵ (cells (mem u8) (written h.bytes at ws) b o)) (run_in 𝓛 b o h.bytes at len le ws e) $ by ! (made b o is (written h.bytes at ws) (length-written h.bytes at ws))
-
-  module _ (at len to more : ℕ) (b o : ℕ) (is : h.ptr ≡ block_ptr b o) (two : TwoRuns 𝓛 b o h.bytes at len to more) where
-    abbrev pub Rest₂ : Fml
-    Rest₂ = fsep two.rest Keep
-
-    -- the same of two runs
-    pub back₂ : (ws vs : List ℕ) → length ws ≡ len → length vs ≡ more → ent 𝓤 (sep 𝓤 (sem 𝓛 (cells (mem u8) ws b (at + o))) (sep 𝓤 (sem 𝓛 (cells (mem u8) vs b (to + o))) (sem 𝓛 Rest₂))) (sem 𝓛 ((mem C.the_row).own_at (with_pair h at to ws vs) rb ro))
-    back₂ ws vs e f = qed 𝓛 (‵ (cells (mem u8) ws b (at + o)) ∷ ‵ (cells (mem u8) vs b (to + o)) ∷ ‵ Rest₂ ∷ []) ∵ move ! (2 ∷ []) $ fsplit ! $ move ! (2 ∷ 3 ∷ 0 ∷ []) $
-        use3 𝓛 (‵ (cells (mem u8) (written (written h.bytes at ws) to vs) b o)) (two.back ws vs e f) $
-        by ! (made b o is (written (written h.bytes at ws) to vs) (length-written (written h.bytes at ws) to vs ∙ length-written h.bytes at ws))

@@ -1,7 +1,6 @@
 pub mod Answers
 pub mod Blocks
 pub mod LendsTwo
-pub mod Inner
 pub mod Made
 pub mod Pairs
 pub mod Ranges

@@ -7,7 +7,7 @@ use seplogic.Ra.Ura.{Ura}
 use Rattle.std.proofs.Common.{◌⊎◌, inl, inr}
 use Rattle.std.proofs.lemmas.List.{append_assoc, take-take, drop-take, take-append-le, drop-append-le}
 use Rattle.arena_core.specs.Written.{written}
-use Rattle.arena_core.specs.Lending.{length-written}
+use Rattle.arena_core.specs.Code.Lending.{length-written}
 use Rattle.arena_core.proofs.Rows.{Row, Around, written_is, run_out, run_in, glue}
 
 written_app : (ps qs : List ℕ) (at : ℕ) (ws : List ℕ) → at + length ws ≤ length ps → written (ps ++ qs) at ws ≡ written ps at ws ++ qs

@@ -4,13 +4,14 @@
 --     range-written_apart                     a range that the write does not meet is as it was
 --     written-range                           a write within a range, seen from that range
 --     written-written                         of two writes to one range the last one stays
+--     written-same                            a range that is written over with its own bytes changes nothing
 --     range-range                             a range of a range is a range
 --     changes_only                            a write changes its range alone
 use Rattle.std.proofs.Common.{◌≡◌, ℕ, suc, ◌+◌, ◌-◌, ◌≤◌, ◌⊎◌, inl, inr, List, [], ◌∷◌, ◌++◌, length, take, drop, slice_range, sym, ap, ◌∙◌, arith, length-take, length-drop}
-use Rattle.std.proofs.lemmas.List.{take-take, drop-take, take_at, drop_at, take_all, drop_all, drop-drop, take-append-le, drop-append-le}
+use Rattle.std.proofs.lemmas.List.{take-take, drop-take, take_at, drop_at, take_all, drop_all, drop-drop, take-append-drop, take-append-le, drop-append-le}
 use Rattle.arena_core.specs.Written.{written}
 use Rattle.arena_core.specs.Outside.{ChangesOnly}
-pub use Rattle.arena_core.specs.Lending.{length-written}
+pub use Rattle.arena_core.specs.Code.Lending.{length-written}
 use Rattle.arena_core.proofs.Rows.{written_is}
 
 pub length-range : (xs : List ℕ) (at n : ℕ) → at + n ≤ length xs → length (slice_range xs at (at + n)) ≡ n
@@ -147,3 +148,16 @@ written-written xs at ws us fits same =
     ∙ ap (λ l. l ++ (us ++ drop (at + length us) ys)) front_is
     ∙ ap (λ l. take at xs ++ (us ++ l)) (drop_written_above xs at ws fits (at + length us) (omega arith))
     ∙ sym (written_is xs at us (omega arith))
+
+-- a range that is written over with its own bytes changes nothing
+pub written-same : (xs : List ℕ) (at n : ℕ) → at + n ≤ length xs → written xs at (slice_range xs at (at + n)) ≡ xs
+written-same xs at n fits =
+    let ws = slice_range xs at (at + n) in
+    let count : length ws ≡ n = length-range xs at n fits in
+    let many : at + n - at ≡ n = omega arith in
+    written_is xs at ws (omega arith)
+    ∙ ap (λ k. take at xs ++ (ws ++ drop (at + k) xs)) count
+    ∙ ap (λ k. take at xs ++ (take k (drop at xs) ++ drop (at + n) xs)) many
+    ∙ ap (λ l. take at xs ++ (take n (drop at xs) ++ l)) (sym (drop-drop n at xs))
+    ∙ ap (λ l. take at xs ++ l) (take-append-drop n (drop at xs))
+    ∙ take-append-drop at xs

@@ -1,6 +1,6 @@
 //! The arena: the block, and how much of it is handed out.
 
-ghost use Rattle.std.specs.Prelude.{◌≡◌, ℕ, List, ◌+◌, ◌≤◌, ◌⊎◌, ◌<◌, ◌-◌, length, slice_range, replicate, IfOk, IfSome, IfNone, OnSome};
+ghost use Rattle.std.specs.Prelude.{◌≡◌, ℕ, List, ◌+◌, ◌≤◌, ◌⊎◌, ◌<◌, ◌^◌, length, slice_range, replicate, IfOk, IfSome, IfNone, OnSome};
 ghost use Rattle.std.specs.Borrow.{sem};
 ghost use Rattle.std.specs.Int.{to_le_bytes, from_le_bytes};
 ghost use Rattle.arena_core.specs.Contents.{contents};
@@ -8,10 +8,10 @@ ghost use Rattle.arena_core.specs.Written.{written};
 ghost use mir.Syntax.{w32};
 
 use crate::block::Block;
+use crate::pair::pair_mut;
 use crate::span::Span;
 use std::alloc::{AllocError, Global};
 use std::marker::Model;
-use std::slice;
 
 /// One block of memory that contracts see as a list of bytes, with a front part that is handed out.
 ///
@@ -36,7 +36,7 @@ impl Model for Arena {
 }
 
 impl Arena {
-    ghost use Rattle.arena_core.specs.ArenaLending.{lends_bytes, lends_pair};
+    ghost use Rattle.arena_core.specs.ArenaLending.{lends_bytes};
 
     /// An arena of `size` bytes, all 0, of which none is handed out.
     ///
@@ -88,22 +88,15 @@ impl Arena {
         self.block.bytes_mut(span.at as usize, span.len as usize)
     }
 
-    /// Lends two ranges that do not meet, for writing at once. Once that ends, each has what was last written, and no other
-    /// byte changed.
-    pub fn pair_mut(&mut self, a: Span, b: Span) -> (&mut [u8], &mut [u8])
-        requires first { a.at + a.len ≤ length self.old.bytes }
-        requires second { b.at + b.len ≤ length self.old.bytes }
-        requires disjoint { (a.at + a.len ≤ b.at) ⊎ (b.at + b.len ≤ a.at) }
-        ensures* writes_back { sem 𝓛 (lends_pair self.entry a.at b.at result) }
-        ensures first { result.0.now ≡ slice_range self.old.bytes a.at (a.at + a.len) }
-        ensures second { result.1.now ≡ slice_range self.old.bytes b.at (b.at + b.len) }
+    /// Lends all bytes for writing. Once that ends, they are what was last written.
+    pub fn all_mut(&mut self) -> &mut [u8]
+        ensures* writes_back { sem 𝓛 (lends_bytes self.entry 0 result) }
+        ensures value { result.now ≡ self.old.bytes }
+        ensures few { length self.old.bytes < 2 ^ 32 }
+        ensures whole { (ws : List ℕ) → length ws ≡ length self.old.bytes → written self.old.bytes 0 ws ≡ ws }
     {
-        unsafe {
-            (
-                slice::from_raw_parts_mut(self.block.ptr.add(a.at as usize), a.len as usize),
-                slice::from_raw_parts_mut(self.block.ptr.add(b.at as usize), b.len as usize),
-            )
-        }
+        let size = self.size as usize;
+        self.block.bytes_mut(0, size)
     }
 
     /// Writes one byte over a whole range.
@@ -134,8 +127,12 @@ impl Arena {
         ensures bytes { self.new ≡ contents (written self.old.bytes target (slice_range self.old.bytes source (source + len))) self.old.carved }
         ensures size { length self.new.bytes ≡ length self.old.bytes }
     {
-        self.block
-            .copy(source as usize, target as usize, len as usize);
+        let (from, to) = pair_mut(
+            self.all_mut(),
+            Span { at: source, len },
+            Span { at: target, len },
+        );
+        to.copy_from_slice(from);
     }
 
     /// The number in the 4 bytes from `at` on, the low byte first.

@@ -2,21 +2,22 @@
 //!
 //! Each call makes a slice of the pointer, and hands it to a safe function that reads or writes it.
 
-ghost use Rattle.std.specs.Prelude.{◌≡◌, ℕ, ◌+◌, ◌^◌, ◌<◌, ◌≤◌, ◌⊎◌, List, length, slice_range, replicate, IfOk};
+ghost use Rattle.std.specs.Prelude.{◌≡◌, ℕ, ◌+◌, ◌^◌, ◌<◌, ◌≤◌, List, length, slice_range, replicate, IfOk};
 ghost use Rattle.std.specs.Borrow.{sem, full_share, Array, u8 as byte};
 ghost use Rattle.std.specs.Ptr.{lies_at, room_for};
 ghost use Rattle.std.specs.Int.{from_le_bytes, to_le_bytes};
 ghost use mir.Syntax.{w32};
 ghost use Rattle.arena_core.specs.Written.{written};
-ghost use Rattle.arena_core.specs.Ownership.{block_owns, block_shares, bytes_type};
+ghost use Rattle.arena_core.specs.Code.Ownership.{block_owns, block_shares, bytes_type};
 
 use std::alloc::{AllocError, Allocator, Global};
 use std::marker::Model;
 use std::slice;
 
-/// `len` bytes at `ptr`, with the right to free them. It is not let go but by `free`.
+/// `len` bytes at `ptr`, with the right to free them. It has no `Drop`, and nobody else reads its fields: so it ends by `free`
+/// alone, and whoever merely lets it go or forgets it is refused.
 pub struct Block {
-    pub ptr: *mut u8,
+    ptr: *mut u8,
     len: usize,
     pub ghost bytes: { List ℕ },
     ghost ok: { (len ≡ length bytes) × (len < 2 ^ 32) },
@@ -29,7 +30,7 @@ impl Model for Block {
 }
 
 impl Block {
-    ghost use Rattle.arena_core.specs.Lending.{lends_range};
+    ghost use Rattle.arena_core.specs.Code.Lending.{lends_range};
 
     /// A block of `len` zeros.
     pub fn new(alloc: &Global, len: usize) -> Result<Block, AllocError>
@@ -95,18 +96,6 @@ impl Block {
 
     pub fn slide(&mut self, from: usize, to: usize, len: usize)
         requires { (from + len ≤ length self.old.bytes) × (to + len ≤ length self.old.bytes) }
-        ensures { self.new.bytes ≡ written self.old.bytes to (slice_range self.old.bytes from (from + len)) }
-    {
-        slide_bytes(
-            unsafe { slice::from_raw_parts_mut(self.ptr, self.len) },
-            from,
-            to,
-            len,
-        );
-    }
-
-    pub fn copy(&mut self, from: usize, to: usize, len: usize)
-        requires { (from + len ≤ length self.old.bytes) × (to + len ≤ length self.old.bytes) × ((from + len ≤ to) ⊎ (to + len ≤ from)) }
         ensures { self.new.bytes ≡ written self.old.bytes to (slice_range self.old.bytes from (from + len)) }
     {
         slide_bytes(

@@ -5,9 +5,9 @@
 
 mod arena;
 mod block;
+mod pair;
 mod span;
-#[cfg(test)]
-mod tests;
 
 pub use arena::Arena;
+pub use pair::pair_mut;
 pub use span::Span;

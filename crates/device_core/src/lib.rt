@@ -2,9 +2,5 @@
 #![tactic(auto)]
 
 pub mod frame;
-#[cfg(test)]
-mod line_tests;
 pub mod packet_queue;
-#[cfg(test)]
-mod packet_tests;
 pub mod serial_line;

@@ -3,7 +3,8 @@
 ghost use Rattle.std.specs.Prelude.{◌≡◌, ◌<◌, ◌≤◌, ◌↔◌, true, false, length, Some, None, IsNone, IsSome, IfSome};
 ghost use Rattle.std.specs.Option.{option_map};
 ghost use Rattle.device_core.specs.PacketQueue as packets;
-ghost use Rattle.device_core.specs.PacketQueue.{no_packets, is_full, IsWellFormed};
+ghost use Rattle.device_core.specs.PacketQueue.{no_packets, is_full};
+ghost use Rattle.device_core.specs.Code.PacketFields.{IsWellFormed};
 
 use crate::frame::Frame;
 use arrayvec::ArrayVec;
@@ -11,7 +12,7 @@ use mote_types::event::Pid;
 use std::marker::Model;
 
 /// How many frames are held at most. Their slots are the numbers below it.
-const MOST_FRAMES: usize = 8;
+pub const MOST_FRAMES: usize = 8;
 
 /// The frames that are held, in the order in which they came, how many of them the receiver was told of, and the
 /// application that receives. The bytes of a frame lie elsewhere, under its slot. Takes no memory beside its own.
@@ -25,7 +26,8 @@ pub struct PacketQueue {
 }
 
 impl Model for PacketQueue {
-    ghost use Rattle.device_core.specs.PacketQueue.{PacketQueue as Packets, IsWellFormed, packets_of};
+    ghost use Rattle.device_core.specs.PacketQueue.{PacketQueue as Packets};
+    ghost use Rattle.device_core.specs.Code.PacketFields.{IsWellFormed, packets_of};
 
     ghost Value = { Packets };
 
@@ -52,6 +54,7 @@ impl PacketQueue {
         ensures refused { IsNone result ↔ (is_full self.old ≡ true) }
         ensures slot { result ≡ packets.free_slot self.old }
         ensures value { self.new ≡ packets.arrived len self.old }
+        ensures held { IfSome result (λ slot. self.new ≡ packets.with_frame slot len self.old) }
         ensures unused { IfSome result (λ slot. (slot < 8) × (packets.is_held self.old slot ≡ false)) }
     {
         let slot = self.free_slot()?;

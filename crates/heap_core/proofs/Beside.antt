@@ -7,11 +7,12 @@ use Rattle.std.proofs.lemmas.List.Folds.{find-append}
 use Rattle.mote_types.specs.Rounding.{up4}
 use Rattle.heap_core.specs.declared.chunk.Chunk.{Chunk}
 use Rattle.heap_core.specs.declared.chunk.Gap.{Gap}
-use Rattle.heap_core.specs.declared.heap.Heap.{Heap}
+use Rattle.heap_core.specs.declared.region.Region.{Region}
 use Rattle.heap_core.specs.HeapStore.{header_len, gaps, gap_at, footprint, room_taken, room_in_place}
-use Rattle.heap_core.specs.Chunks.{Tell}
-use Rattle.heap_core.specs.HeapBytes.{chunks_of, heap_of, HasChunks}
-use Rattle.heap_core.specs.Walks.{gap_of, front_gap, place_in_chunk}
+use Rattle.heap_core.specs.Code.Chunks.{Tell}
+use Rattle.heap_core.specs.Code.Layout.{chunks_of, HasChunks}
+use Rattle.heap_core.specs.HeapBytes.{heap_of}
+use Rattle.heap_core.specs.Code.Walks.{gap_of, front_gap, place_in_chunk}
 use Rattle.heap_core.proofs.Told.{place_told, told_le, owner_cases}
 use Rattle.heap_core.proofs.Gaps.{with_gap, gaps_in, gaps_are, end_is}
 use Rattle.heap_core.proofs.Standing.{Around}
@@ -58,7 +59,7 @@ front_found B b at z (d ∷ l) t =
           ∙ sym (ap (gap_of d) s.1)
     ]
 
-pub gap_at_end : (heap : Heap) (B : List ℕ) (chunk : Chunk) (a : Around B heap.span.at heap.footprint chunk (chunks_of heap B)) → HasChunks heap B → chunk.owner ≢ None
+pub gap_at_end : (heap : Region) (B : List ℕ) (chunk : Chunk) (a : Around B heap.span.at heap.footprint chunk (chunks_of heap B)) → HasChunks heap B → chunk.owner ≢ None
     → gap_at (chunk.at + chunk.len) (heap_of heap B) ≡ front_gap a.behind
 gap_at_end heap B chunk a has live =
     let b = heap.span.at in let end = chunk.at + chunk.len in
@@ -84,7 +85,7 @@ choice least room end top_at top gap =
     else if leb least (room + gap) then Some (room_taken least (room + gap))
     else None
 
-module _ (heap : Heap) (B : List ℕ) (chunk : Chunk) (n : ℕ) (a : Around B heap.span.at heap.footprint chunk (chunks_of heap B)) (has : HasChunks heap B) (live : chunk.owner ≢ None) where
+module _ (heap : Region) (B : List ℕ) (chunk : Chunk) (n : ℕ) (a : Around B heap.span.at heap.footprint chunk (chunks_of heap B)) (has : HasChunks heap B) (live : chunk.owner ≢ None) where
   abbrev room : ℕ
   room = chunk.len - header_len
 

@@ -1,32 +1,39 @@
 -- A write into a live block's bytes.
 use Rattle.std.proofs.Common.{◌≡◌, ℕ, ◌+◌, ◌-◌, ◌≤◌, List, [], ◌∷◌, ◌++◌, length, take, drop, slice_range, true, not, eqb, refl, sym, ap, ◌∙◌, subst, arith}
-use Rattle.std.specs.Prelude.{Some, None, filter, map, if◌then◌else◌}
+use Rattle.std.specs.Prelude.{Option, Some, None, IsSomeAnd, filter, map, if◌then◌else◌}
+use Rattle.std.specs.Option.{option_map}
 use Rattle.std.proofs.lemmas.List.{append_assoc, map-append}
 use Rattle.std.proofs.lemmas.List.Elements.{filter-append}
 use Rattle.std.proofs.lemmas.Bool.{eq-eqb}
+use Rattle.mote_types.specs.BlockNames.{number_of}
 use Rattle.mote_types.specs.Bytes.{overwritten}
 use Rattle.arena_core.specs.Outside.{ChangesOnly}
 use Rattle.arena_core.specs.Written.{written}
 use Rattle.arena_core.proofs.Ranges.{length-range, written-range, changes_only}
 use Rattle.arena_core.proofs.Rows.{written_is}
 use Rattle.heap_core.specs.declared.chunk.Chunk.{Chunk}
-use Rattle.heap_core.specs.declared.heap.Heap.{Heap}
-use Rattle.heap_core.specs.HeapStore.{Block, header_len, has_name}
-use Rattle.heap_core.specs.Chunks.{AreJoined, with_chunk, blocks_in}
-use Rattle.heap_core.specs.HeapBytes.{chunks_of, IsLaidOut}
+use Rattle.heap_core.specs.declared.region.Region.{Region}
+use Rattle.heap_core.specs.HeapStore.{Block, HeapStore, header_len, has_name, block_of, find_block, without_block}
+use Rattle.heap_core.specs.Code.Chunks.{AreJoined, with_chunk, blocks_in}
+use Rattle.heap_core.specs.Code.Layout.{chunks_of}
+use Rattle.heap_core.specs.HeapBytes.{heap_of, IsLaidOut}
+use Rattle.heap_core.specs.Code.Walks.{Owned, block_in_chunk, without_place}
 use Rattle.heap_core.proofs.Told.{told_body, changes_more, blocks_append}
-use Rattle.heap_core.proofs.Names.{block_from, count_append, count_first, map_unnamed, filter_unnamed}
+use Rattle.heap_core.proofs.Names.{count_append, count_first, map_unnamed, filter_unnamed}
 use Rattle.heap_core.proofs.Blocks.{count, elsewhere}
 use Rattle.heap_core.proofs.Releases.{left_apart}
 use Rattle.heap_core.proofs.Splice.{Spliced, spliced}
-use Rattle.heap_core.proofs.Standing.{Around}
+use Rattle.heap_core.proofs.Standing.{Around, around}
 
-module _ (heap : Heap) (B : List ℕ) (laid : IsLaidOut heap B) (chunk : Chunk) (a : Around B heap.span.at heap.footprint chunk (chunks_of heap B)) (name : ℕ) (owner : chunk.owner ≡ Some name) where
+module _ (heap : Region) (B : List ℕ) (laid : IsLaidOut heap B) (chunk : Chunk) (name : ℕ) (o : Owned name chunk (chunks_of heap B)) where
   abbrev b : ℕ
   b = heap.span.at
 
+  pub a : Around B b heap.footprint chunk (chunks_of heap B)
+  a = around heap B chunk laid.chunks o.stands
+
   abbrev block : Block
-  block = block_from B b name chunk
+  block = block_in_chunk B b name chunk
 
   abbrev xs : List Block
   xs = blocks_in B b a.before
@@ -35,7 +42,7 @@ module _ (heap : Heap) (B : List ℕ) (laid : IsLaidOut heap B) (chunk : Chunk) 
   ys = blocks_in B b a.behind
 
   pub all_are : blocks_in B b (chunks_of heap B) ≡ xs ++ (block ∷ ys)
-  all_are = ap (blocks_in B b) a.is ∙ blocks_append B b a.before (chunk ∷ a.behind) ∙ ap (λ o. xs ++ with_chunk B b chunk o ys) owner
+  all_are = ap (blocks_in B b) a.is ∙ blocks_append B b a.before (chunk ∷ a.behind) ∙ ap (λ o. xs ++ with_chunk B b chunk o ys) o.owner
 
   counts : count name xs + (1 + count name ys) ≤ 1
   counts =
@@ -48,18 +55,28 @@ module _ (heap : Heap) (B : List ℕ) (laid : IsLaidOut heap B) (chunk : Chunk) 
   pub block_bytes : length (slice_range B (b + chunk.at + header_len) (b + chunk.at + header_len + chunk.size)) ≡ chunk.size
   block_bytes = length-range B (b + chunk.at + header_len) chunk.size (omega (arith, laid.chunks.within, a.fits, a.enough, heap.inside))
 
+  -- a range of the name's bytes lies in its chunk
+  pub range_fits : (p h at len : ℕ) → name ≡ number_of p h → find_block name (heap_of heap B) ≡ Some block → IsSomeAnd (block_of p h (heap_of heap B)) (λ bytes. at + len ≤ length bytes) → at + len ≤ chunk.size
+  range_fits p h at len same found range =
+      let bytes = λ (k : Option Block). option_map (λ (block : Block). block.bytes) k in
+      let is = ap (λ k. bytes (find_block k (heap_of heap B))) (sym same) ∙ ap bytes found in
+      omega (arith, block_bytes, subst (λ (k : Option (List ℕ)). IsSomeAnd k (λ bytes. at + len ≤ length bytes)) is range)
+
   -- it is taken away by its place, or by its name
-  pub by_name : filter (elsewhere chunk.at) (blocks_in B b (chunks_of heap B)) ≡ filter (λ (other : Block). not (has_name name other)) (blocks_in B b (chunks_of heap B))
+  by_name : filter (elsewhere chunk.at) (blocks_in B b (chunks_of heap B)) ≡ filter (λ (other : Block). not (has_name name other)) (blocks_in B b (chunks_of heap B))
   by_name =
       let unnamed = λ (other : Block). not (has_name name other) in
       let gone : eqb name name ≡ true = eq-eqb name name refl in
       let mine : filter unnamed (block ∷ ys) ≡ filter unnamed ys = rw gone refl in
-      left_apart heap B laid.chunks chunk a (λ none. absurd (let two : None ≡ Some name = sym none ∙ owner in cc))
+      left_apart heap B laid.chunks chunk a (λ none. absurd (let two : None ≡ Some name = sym none ∙ o.owner in cc))
       ∙ sym (ap (filter unnamed) all_are
       ∙ filter-append unnamed xs (block ∷ ys)
       ∙ ap (λ l. filter unnamed xs ++ l) mine
       ∙ ap (λ l. l ++ filter unnamed ys) (filter_unnamed name xs few.0)
       ∙ ap (λ l. xs ++ l) (filter_unnamed name ys few.1))
+
+  pub without_place_is : without_place chunk.at (heap_of heap B) ≡ without_block name (heap_of heap B)
+  without_place_is = ap (λ blocks. let h : HeapStore = record { size = heap.span.len; blocks = blocks } in h) by_name
 
   module _ (at : ℕ) (ws : List ℕ) (room : at + length ws ≤ chunk.size) where
     abbrev B' : List ℕ
@@ -96,7 +113,7 @@ module _ (heap : Heap) (B : List ℕ) (laid : IsLaidOut heap B) (chunk : Chunk) 
         let here : eqb name name ≡ true = eq-eqb name name refl in
         let mine : change block ≡ over block = rw here refl in
         let new : blocks_in B' b (chunk ∷ []) ≡ over block ∷ [] =
-        ap (λ o. with_chunk B' b chunk o []) owner
+        ap (λ o. with_chunk B' b chunk o []) o.owner
         ∙ ap (λ bytes. (let k : Block = record { name = name; at = chunk.at; room = chunk.len - header_len; bytes = bytes } in k) ∷ []) read in
         body_spliced.blocks
         ∙ ap (λ l. xs ++ (l ++ ys)) new

@@ -1,23 +1,27 @@
 -- For those that keep a heap and its arena together.
 --     IsWithin-kept            the span still lies in the arena after a call
 --     KeepsToSpan-then         two calls, one after the other
+--     IsLaidOut-apart          the live blocks lie apart, headers included, and are read from behind their headers
 --     heap_of-, IsLaidOut-elsewhere      what the heap shows depends on the span's bytes alone, and so does whether it is laid out
 use Rattle.std.proofs.Common.{◌≡◌, ℕ, ◌+◌, ◌≤◌, ◌⊎◌, inl, inr, List, length, ap, sym, subst, ◌∙◌, arith}
 use Rattle.std.specs.Prelude.{filter}
 use Rattle.arena_core.specs.declared.span.Span.{Span}
 use Rattle.arena_core.specs.Contents.{Contents}
 use Rattle.arena_core.specs.Outside.{ChangesOnly}
-use Rattle.heap_core.specs.declared.heap.Heap.{Heap}
+use Rattle.heap_core.specs.declared.region.Region.{Region}
 use Rattle.heap_core.specs.HeapStore.{HeapStore, has_name}
-use Rattle.heap_core.specs.Chunks.{Tell, AreJoined, blocks_in}
-use Rattle.heap_core.specs.HeapBytes.{chunks_of, heap_of, IsWithin, IsLaidOut, KeepsToSpan}
+use Rattle.heap_core.specs.Code.Chunks.{Tell, AreJoined, blocks_in}
+use Rattle.heap_core.specs.Code.Layout.{chunks_of}
+use Rattle.heap_core.specs.HeapBytes.{heap_of, IsWithin, IsLaidOut, KeepsToSpan}
+use Rattle.heap_core.specs.Separation.{BlocksLieApart}
+use Rattle.heap_core.proofs.Separation.{blocks_lie_apart}
 use Rattle.heap_core.proofs.Told.{told_frame, blocks_frame, walked}
 
-pub IsWithin-kept : (old new : Heap) (before after : Contents) → KeepsToSpan old new before after → IsWithin old before.bytes → IsWithin new after.bytes
+pub IsWithin-kept : (old new : Region) (before after : Contents) → KeepsToSpan old new before after → IsWithin old before.bytes → IsWithin new after.bytes
 IsWithin-kept old new before after kept within =
     omega (arith, ap (λ (s : Span). s.at) kept.span, ap (λ (s : Span). s.len) kept.span, kept.bytes.size, within)
 
-pub KeepsToSpan-then : (a b c : Heap) (x y z : Contents) → KeepsToSpan a b x y → KeepsToSpan b c y z → KeepsToSpan a c x z
+pub KeepsToSpan-then : (a b c : Region) (x y z : Contents) → KeepsToSpan a b x y → KeepsToSpan b c y z → KeepsToSpan a c x z
 KeepsToSpan-then a b c x y z first second =
     let there : ChangesOnly a.span.at a.span.len y.bytes z.bytes = subst (λ (s : Span). ChangesOnly s.at s.len y.bytes z.bytes) first.span second.bytes in
     record {
@@ -26,8 +30,11 @@ KeepsToSpan-then a b c x y z first second =
       bytes = record { size = there.size ∙ first.bytes.size; others = λ from n apart. there.others from n apart ∙ first.bytes.others from n apart };
     }
 
+pub IsLaidOut-apart : (heap : Region) (bytes : List ℕ) → IsLaidOut heap bytes → BlocksLieApart heap bytes
+IsLaidOut-apart heap bytes laid = blocks_lie_apart heap bytes laid
+
 -- only bytes of another span changed
-module _ (heap : Heap) (at len : ℕ) (old new : List ℕ) (changes : ChangesOnly at len old new) (apart : (heap.span.at + heap.span.len ≤ at) ⊎ (at + len ≤ heap.span.at)) (laid : IsLaidOut heap old) where
+module _ (heap : Region) (at len : ℕ) (old new : List ℕ) (changes : ChangesOnly at len old new) (apart : (heap.span.at + heap.span.len ≤ at) ⊎ (at + len ≤ heap.span.at)) (laid : IsLaidOut heap old) where
   side : (heap.span.at + heap.footprint ≤ at) ⊎ (at + len ≤ heap.span.at + 0)
   side = elim apart [ inl low ↦ inl (omega (arith, heap.inside)) | inr high ↦ inr (omega arith) ]
 

@@ -6,26 +6,27 @@ use Rattle.std.proofs.lemmas.Bool.{cases_Bool, leb-true, ltb-true}
 use Rattle.mote_types.specs.Rounding.{up4}
 use Rattle.heap_core.specs.declared.chunk.Gap.{Gap}
 use Rattle.heap_core.specs.declared.chunk.Place.{Place}
-use Rattle.heap_core.specs.declared.heap.Heap.{Heap}
+use Rattle.heap_core.specs.declared.region.Region.{Region}
 use Rattle.heap_core.specs.HeapStore.{header_len, best_gap, gaps, place, place_in, top_place, top_gap, footprint}
-use Rattle.heap_core.specs.HeapBytes.{chunks_of, heap_of, HasChunks}
-use Rattle.heap_core.specs.Walks.{GapAt, Stands, LiveIn}
-use Rattle.heap_core.specs.Chunks.{chunk_at}
+use Rattle.heap_core.specs.Code.Layout.{chunks_of, HasChunks}
+use Rattle.heap_core.specs.HeapBytes.{heap_of}
+use Rattle.heap_core.specs.Code.Walks.{GapAt, Stands, LiveIn}
+use Rattle.heap_core.specs.Code.Chunks.{chunk_at}
 use Rattle.heap_core.specs.declared.chunk.Chunk.{Chunk}
 use Rattle.heap_core.proofs.Gaps.{end_is, best_fits}
 use Rattle.heap_core.proofs.Standing.{around}
 
-pub record OnTop (heap : Heap) (target : Place) (n : ℕ) : Type 0 where
+pub record OnTop (heap : Region) (target : Place) (n : ℕ) : Type 0 where
   pub at : target.at ≡ heap.footprint
   pub fits : target.at + (header_len + target.room) ≤ heap.span.len
   pub room : n ≤ target.room
 
-pub record InGap (heap : Heap) (B : List ℕ) (target : Place) (n : ℕ) : Type 0 where
+pub record InGap (heap : Region) (B : List ℕ) (target : Place) (n : ℕ) : Type 0 where
   pub gap : GapAt target.at (header_len + target.room) (chunks_of heap B)
   pub below : target.at < heap.footprint
   pub room : n ≤ target.room
 
-module _ (heap : Heap) (B : List ℕ) (has : HasChunks heap B) (n : ℕ) (target : Place) where
+module _ (heap : Region) (B : List ℕ) (has : HasChunks heap B) (n : ℕ) (target : Place) where
   abbrev Outcome : Type 0
   Outcome = OnTop heap target n ⊎ InGap heap B target n
 
@@ -77,7 +78,7 @@ module _ (heap : Heap) (B : List ℕ) (has : HasChunks heap B) (n : ℕ) (target
   place_cases e = chosen (best_gap (header_len + up4 n) (gaps (heap_of heap B))) refl e
 
 -- it is not where a live block is
-pub elsewhere_placed : (heap : Heap) (B : List ℕ) (has : HasChunks heap B) (n : ℕ) (target : Place) (chunk : Chunk) → LiveIn chunk (chunks_of heap B) → place n (heap_of heap B) ≡ Some target → target.at ≢ chunk.at
+pub elsewhere_placed : (heap : Region) (B : List ℕ) (has : HasChunks heap B) (n : ℕ) (target : Place) (chunk : Chunk) → LiveIn chunk (chunks_of heap B) → place n (heap_of heap B) ≡ Some target → target.at ≢ chunk.at
 elsewhere_placed heap B has n target chunk live e same =
     let a = around heap B chunk has live.stands in
     elim (place_cases heap B has n target e) [

@@ -7,7 +7,7 @@ use Rattle.arena_core.proofs.Ranges.{length-range}
 use Rattle.heap_core.specs.declared.chunk.Chunk.{Chunk}
 use Rattle.heap_core.specs.declared.chunk.Gap.{Gap}
 use Rattle.heap_core.specs.HeapStore.{Block, header_len, end_of, gap_between, gaps_from, better, best_gap, LieInOrder}
-use Rattle.heap_core.specs.Chunks.{Tell, BeginsLive, AreJoined, with_chunk, blocks_in}
+use Rattle.heap_core.specs.Code.Chunks.{Tell, BeginsLive, AreJoined, with_chunk, blocks_in}
 use Rattle.heap_core.proofs.Told.{place_told, told_le, owner_cases}
 
 abbrev pub with_gap : Chunk → Option ℕ → List Gap → List Gap

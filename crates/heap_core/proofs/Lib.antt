@@ -4,13 +4,13 @@ pub mod Bodies
 pub mod Callers
 pub mod Choices
 pub mod Gaps
-pub mod Grows
+pub mod Holes
 pub mod Members
 pub mod Moves
 pub mod Names
-pub mod Puts
 pub mod Releases
 pub mod Resized
+pub mod Separation
 pub mod Splice
 pub mod Standing
 pub mod Steps

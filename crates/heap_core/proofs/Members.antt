@@ -3,8 +3,8 @@ use Rattle.std.proofs.Common.{◌≡◌, ◌≢◌, ℕ, ◌+◌, ◌≤◌, ◌
 use Rattle.std.specs.Prelude.{Option, Some, None, IfSome}
 use Rattle.heap_core.specs.declared.chunk.Chunk.{Chunk}
 use Rattle.heap_core.specs.HeapStore.{header_len}
-use Rattle.heap_core.specs.Chunks.{Tell}
-use Rattle.heap_core.specs.Walks.{Stands, LiveIn}
+use Rattle.heap_core.specs.Code.Chunks.{Tell}
+use Rattle.heap_core.specs.Code.Walks.{Stands, LiveIn}
 use Rattle.heap_core.proofs.Told.{place_told, told_le}
 
 abbrev pub In : Chunk → List Chunk → Type 0

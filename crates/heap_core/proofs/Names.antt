@@ -1,28 +1,18 @@
 -- The block of a name, and how many blocks a name has.
-use Rattle.std.proofs.Common.{◌≡◌, ◌≢◌, ℕ, suc, ◌+◌, ◌-◌, ◌≤◌, inl, inr, Bool, false, true, not, List, [], ◌∷◌, ◌++◌, length, slice_range, eqb, ltb, refl, sym, ap, ◌∙◌, subst, arith}
+use Rattle.std.proofs.Common.{◌≡◌, ◌≢◌, ℕ, suc, ◌+◌, ◌≤◌, inl, inr, Bool, false, true, not, List, [], ◌∷◌, ◌++◌, length, eqb, ltb, refl, sym, ap, ◌∙◌, subst, arith}
 use Rattle.std.specs.Prelude.{Option, Some, None, IsSome, IsSomeAnd, filter, find, map, if◌then◌else◌}
 use Rattle.std.specs.Option.{option_map}
 use Rattle.std.proofs.lemmas.Bool.{cases_Bool, eqb-true, eqb-false, false≢true}
 use Rattle.std.proofs.lemmas.List.{length-append}
 use Rattle.std.proofs.lemmas.List.Elements.{filter-append}
 use Rattle.heap_core.specs.declared.chunk.Chunk.{Chunk}
-use Rattle.heap_core.specs.HeapStore.{Block, header_len, has_name, placed}
-use Rattle.heap_core.specs.Chunks.{with_chunk, blocks_in}
-use Rattle.heap_core.specs.Walks.{is_owner, owned_by, Stands}
+use Rattle.heap_core.specs.HeapStore.{Block, has_name, placed}
+use Rattle.heap_core.specs.Code.Chunks.{with_chunk, blocks_in}
+use Rattle.heap_core.specs.Code.Walks.{is_owner, owned_by, Owned, block_in_chunk}
 use Rattle.heap_core.proofs.Told.{owner_cases}
 use Rattle.heap_core.proofs.Blocks.{count}
 
--- the block of a chunk
-abbrev pub block_from : List ℕ → ℕ → ℕ → Chunk → Block
-block_from B b name c =
-    record {
-      name = name;
-      at = c.at;
-      room = c.len - header_len;
-      bytes = slice_range B (b + c.at + header_len) (b + c.at + header_len + c.size);
-    }
-
-pub find_is : (B : List ℕ) (b name : ℕ) (l : List Chunk) → find (has_name name) (blocks_in B b l) ≡ option_map (block_from B b name) (find (owned_by name) l)
+pub find_is : (B : List ℕ) (b name : ℕ) (l : List Chunk) → find (has_name name) (blocks_in B b l) ≡ option_map (block_in_chunk B b name) (find (owned_by name) l)
 find_is B b name [] = refl
 find_is B b name (c ∷ l) = elim (owner_cases c.owner) [
   | inl e ↦
@@ -34,24 +24,20 @@ find_is B b name (c ∷ l) = elim (owner_cases c.owner) [
     | inl hit ↦
         let here : owned_by name c ≡ true = ap (is_owner name) s.1 ∙ hit in
         let same : s.0 ≡ name = eqb-true s.0 name hit in
-        let first : find (has_name name) (block_from B b s.0 c ∷ blocks_in B b l) ≡ Some (block_from B b s.0 c) = rw hit refl in
+        let first : find (has_name name) (block_in_chunk B b s.0 c ∷ blocks_in B b l) ≡ Some (block_in_chunk B b s.0 c) = rw hit refl in
         ap (λ o. find (has_name name) (with_chunk B b c o (blocks_in B b l))) s.1
         ∙ first
-        ∙ ap (λ k. Some (block_from B b k c)) same
+        ∙ ap (λ k. Some (block_in_chunk B b k c)) same
         ∙ rw here refl
     | inr miss ↦
         let skip : owned_by name c ≡ false = ap (is_owner name) s.1 ∙ miss in
-        let first : find (has_name name) (block_from B b s.0 c ∷ blocks_in B b l) ≡ find (has_name name) (blocks_in B b l) = rw miss refl in
+        let first : find (has_name name) (block_in_chunk B b s.0 c ∷ blocks_in B b l) ≡ find (has_name name) (blocks_in B b l) = rw miss refl in
         ap (λ o. find (has_name name) (with_chunk B b c o (blocks_in B b l))) s.1
         ∙ first
         ∙ find_is B b name l
         ∙ rw skip refl
   ]
 ]
-
-pub record Owned (name : ℕ) (chunk : Chunk) (l : List Chunk) : Type 0 where
-  pub stands : Stands chunk l
-  pub owner : chunk.owner ≡ Some name
 
 owner_is : (name : ℕ) (o : Option ℕ) → is_owner name o ≡ true → o ≡ Some name
 owner_is name None e = absurd (false≢true e)
@@ -75,10 +61,10 @@ owned name chunk (c ∷ l) e = elim (cases_Bool (owned_by name c)) [
       }
 ]
 
--- a name that stands for bytes has a chunk
-pub some_owned : (B : List ℕ) (b name : ℕ) (l : List Chunk) (o : Option Chunk) → o ≡ find (owned_by name) l → IsSome (option_map (λ (block : Block). block.bytes) (find (has_name name) (blocks_in B b l))) → IsSome o
+-- a name that has a block has a chunk
+pub some_owned : (B : List ℕ) (b name : ℕ) (l : List Chunk) (o : Option Chunk) → o ≡ find (owned_by name) l → IsSome (find (has_name name) (blocks_in B b l)) → IsSome o
 some_owned B b name l None e live =
-    absurd (false≢true (subst (λ (p : Option Block). IsSome (option_map (λ (block : Block). block.bytes) p)) (find_is B b name l ∙ ap (option_map (block_from B b name)) (sym e)) live))
+    absurd (false≢true (subst (λ (p : Option Block). IsSome p) (find_is B b name l ∙ ap (option_map (block_in_chunk B b name)) (sym e)) live))
 some_owned B b name l (Some c) e live = refl
 
 -- how many blocks a name has

@@ -6,11 +6,12 @@ use Rattle.std.proofs.lemmas.Bool.{eq-eqb}
 use Rattle.arena_core.specs.Outside.{ChangesOnly}
 use Rattle.arena_core.specs.declared.span.Span.{Span}
 use Rattle.heap_core.specs.declared.chunk.Chunk.{Chunk}
-use Rattle.heap_core.specs.declared.heap.Heap.{Heap}
+use Rattle.heap_core.specs.declared.region.Region.{Region}
 use Rattle.heap_core.specs.HeapStore.{Block, HeapStore, header_len}
-use Rattle.heap_core.specs.Chunks.{chunk_at, Tell, BeginsLive, AreJoined, with_chunk, blocks_in}
-use Rattle.heap_core.specs.HeapBytes.{chunks_of, heap_of, HasChunks}
-use Rattle.heap_core.specs.Walks.{free_behind, free_from, gap_of, front_gap, without_place}
+use Rattle.heap_core.specs.Code.Chunks.{chunk_at, Tell, BeginsLive, AreJoined, with_chunk, blocks_in}
+use Rattle.heap_core.specs.Code.Layout.{chunks_of, HasChunks}
+use Rattle.heap_core.specs.HeapBytes.{heap_of}
+use Rattle.heap_core.specs.Code.Walks.{free_behind, free_from, gap_of, front_gap, without_place}
 use Rattle.heap_core.proofs.Told.{place_told, told_le, blocks_append, owner_cases, changes_more}
 use Rattle.heap_core.proofs.Gaps.{none_in_front}
 use Rattle.heap_core.proofs.Blocks.{blocks_between, elsewhere, filter_elsewhere}
@@ -90,7 +91,7 @@ rest_of B b at end (d ∷ l) t joined = elim (owner_cases d.owner) [
   }
 ]
 
-module _ (heap : Heap) (B : List ℕ) (has : HasChunks heap B) (chunk : Chunk) (a : Around B heap.span.at heap.footprint chunk (chunks_of heap B)) (live : chunk.owner ≢ None) where
+module _ (heap : Region) (B : List ℕ) (has : HasChunks heap B) (chunk : Chunk) (a : Around B heap.span.at heap.footprint chunk (chunks_of heap B)) (live : chunk.owner ≢ None) where
   abbrev b : ℕ
   b = heap.span.at
 
@@ -143,7 +144,7 @@ module _ (heap : Heap) (B : List ℕ) (has : HasChunks heap B) (chunk : Chunk) (
   left = left_apart ∙ ap (λ l. l ++ blocks_in B b a.behind) f.blocks ∙ ap (λ l. blocks_in B b f.pre ++ l) r.blocks
 
   -- nothing lies behind it: the top gap takes it
-  module _ (heap' : Heap) (same : heap'.span ≡ heap.span) (new_end : heap'.footprint ≡ from) (last : end ≡ heap.footprint) where
+  module _ (heap' : Region) (same : heap'.span ≡ heap.span) (new_end : heap'.footprint ≡ from) (last : end ≡ heap.footprint) where
     start : heap'.span.at ≡ b
     start = ap (λ (s : Span). s.at) same
 

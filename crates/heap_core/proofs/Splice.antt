@@ -4,10 +4,10 @@ use Rattle.std.specs.Prelude.{None}
 use Rattle.std.proofs.lemmas.Bool.{lt-ltb, le-ltb}
 use Rattle.arena_core.specs.Outside.{ChangesOnly}
 use Rattle.heap_core.specs.declared.chunk.Chunk.{Chunk}
-use Rattle.heap_core.specs.declared.heap.Heap.{Heap}
-use Rattle.heap_core.specs.Chunks.{chunks_from, Tell, BeginsLive, AreJoined, blocks_in}
-use Rattle.heap_core.specs.HeapBytes.{chunks_of, HasChunks}
-use Rattle.heap_core.specs.Walks.{laid}
+use Rattle.heap_core.specs.declared.region.Region.{Region}
+use Rattle.heap_core.specs.Code.Chunks.{chunks_from, Tell, BeginsLive, AreJoined, blocks_in}
+use Rattle.heap_core.specs.Code.Layout.{chunks_of, HasChunks}
+use Rattle.heap_core.specs.Code.Walks.{laid}
 use Rattle.heap_core.proofs.Told.{told_le, told_append, told_frame, blocks_frame, blocks_append, walked}
 
 -- joined chunks stay joined where what comes after a gap still begins with a live one
@@ -34,12 +34,12 @@ pub laid_some : (live : Chunk) (len : ℕ) → live.len < len → laid live len 
 laid_some live len h = let some : ltb live.len len ≡ true = lt-ltb live.len len h in rw some refl
 
 -- some chunks stand between others, whose headers and bytes did not change
-pub record Spliced (heap : Heap) (B B' : List ℕ) (before mid behind : List Chunk) : Type 0 where
+pub record Spliced (heap : Region) (B B' : List ℕ) (before mid behind : List Chunk) : Type 0 where
   pub has : HasChunks heap B'
   pub is : chunks_of heap B' ≡ before ++ (mid ++ behind)
   pub blocks : blocks_in B' heap.span.at (chunks_of heap B') ≡ blocks_in B heap.span.at before ++ (blocks_in B' heap.span.at mid ++ blocks_in B heap.span.at behind)
 
-pub spliced : (heap : Heap) (B B' : List ℕ) (x y : ℕ) (before mid behind : List Chunk) → heap.span.at + heap.span.len ≤ length B
+pub spliced : (heap : Region) (B B' : List ℕ) (x y : ℕ) (before mid behind : List Chunk) → heap.span.at + heap.span.len ≤ length B
     → ChangesOnly (heap.span.at + x) (y - x) B B' → Tell B heap.span.at 0 x before → Tell B' heap.span.at x y mid → Tell B heap.span.at y heap.footprint behind
     → AreJoined (before ++ (mid ++ behind)) → Spliced heap B B' before mid behind
 unfolding chunks_of

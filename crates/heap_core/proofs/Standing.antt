@@ -1,10 +1,10 @@
 -- A chunk that stands among the others.
 use Rattle.std.proofs.Common.{◌≡◌, ℕ, ◌+◌, ◌≤◌, List, ◌∷◌, ◌++◌, refl, sym, ap, ◌∙◌, subst, arith}
 use Rattle.heap_core.specs.declared.chunk.Chunk.{Chunk}
-use Rattle.heap_core.specs.declared.heap.Heap.{Heap}
-use Rattle.heap_core.specs.Chunks.{chunk_at, Tell}
-use Rattle.heap_core.specs.HeapBytes.{chunks_of, HasChunks}
-use Rattle.heap_core.specs.Walks.{Stands, chunks_before, chunks_behind}
+use Rattle.heap_core.specs.declared.region.Region.{Region}
+use Rattle.heap_core.specs.Code.Chunks.{chunk_at, Tell}
+use Rattle.heap_core.specs.Code.Layout.{chunks_of, HasChunks}
+use Rattle.heap_core.specs.Code.Walks.{Stands, chunks_before, chunks_behind}
 use Rattle.heap_core.proofs.Told.{place_told, told_le, told_split, walked}
 
 pub record Around (B : List ℕ) (b end : ℕ) (chunk : Chunk) (chunks : List Chunk) : Type 0 where
@@ -33,7 +33,7 @@ around_split B b end chunk before behind told =
       fits = told_le B b (chunk.at + chunk.len) end behind back;
     }
 
-module _ (heap : Heap) (B : List ℕ) (chunk : Chunk) where
+module _ (heap : Region) (B : List ℕ) (chunk : Chunk) where
   pub around : HasChunks heap B → Stands chunk (chunks_of heap B) → Around B heap.span.at heap.footprint chunk (chunks_of heap B)
   around has stands =
       subst (Around B heap.span.at heap.footprint chunk) (sym stands.is)

@@ -2,7 +2,7 @@
 use Rattle.std.proofs.Common.{◌≡◌, ℕ, ◌+◌, ◌≤◌, ◌<◌, List, [], ◌∷◌, refl, sym, ap, ◌∙◌, subst, arith}
 use Rattle.heap_core.specs.declared.chunk.Chunk.{Chunk}
 use Rattle.heap_core.specs.HeapStore.{header_len}
-use Rattle.heap_core.specs.Chunks.{chunk_at, Tell}
+use Rattle.heap_core.specs.Code.Chunks.{chunk_at, Tell}
 use Rattle.heap_core.proofs.Told.{told_le}
 
 -- a walk stands at a place, and of the chunks from there on something holds

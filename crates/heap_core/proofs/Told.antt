@@ -1,6 +1,6 @@
 -- The chunks that headers tell, and how they stay or change with the bytes.
 use Rattle.std.proofs.Common.{◌≡◌, ℕ, zero, suc, ◌+◌, ◌-◌, ◌≤◌, ◌<◌, ◌^◌, ◌⊎◌, inl, inr, List, [], ◌∷◌, ◌++◌, length, slice_range, false, true, ltb, refl, sym, ap, ◌∙◌, subst, arith}
-use Rattle.std.specs.Prelude.{Option, Some, None}
+use Rattle.std.specs.Prelude.{Option, Some, None, IsSomeAnd}
 use Rattle.std.specs.Int.{from_le_bytes, to_le_bytes}
 use mir.Syntax.{w32}
 use Rattle.std.proofs.lemmas.Bool.{lt-ltb, le-ltb}
@@ -10,7 +10,7 @@ use Rattle.arena_core.specs.Written.{written}
 use Rattle.arena_core.proofs.Ranges.{length-written, range-written, range-written_apart, changes_only}
 use Rattle.heap_core.specs.declared.chunk.Chunk.{Chunk}
 use Rattle.heap_core.specs.HeapStore.{Block, header_len}
-use Rattle.heap_core.specs.Chunks.{word_at, owner_in, chunk_at, chunks_from, Tell, with_chunk, blocks_in}
+use Rattle.heap_core.specs.Code.Chunks.{word_at, owner_in, chunk_at, chunks_from, Tell, with_chunk, blocks_in}
 
 abbrev pub header : ℕ → List ℕ → List ℕ → List ℕ → Chunk
 header at len owner size =
@@ -108,6 +108,10 @@ blocks_append B b (c ∷ l) r =
 pub owner_cases : (o : Option ℕ) → (o ≡ None) ⊎ ((name : ℕ) × (o ≡ Some name))
 owner_cases None = inl refl
 owner_cases (Some name) = inr (name, refl)
+
+pub owner_some : (o : Option ℕ) → IsSomeAnd o (λ name. name < 272) → (name : ℕ) × (o ≡ Some name)
+owner_some None h = absurd h
+owner_some (Some name) h = (name, refl)
 
 pub chunk_is : (B : List ℕ) (b at len : ℕ) (owner : Option ℕ) (size : ℕ) → len ≡ word_at B (b + at) → owner ≡ owner_in (word_at B (b + at + 4)) → size ≡ word_at B (b + at + 8)
     → (let chunk : Chunk = record { at = at; len = len; owner = owner; size = size } in chunk) ≡ chunk_at B b at

@@ -2,14 +2,10 @@
 use Rattle.std.specs.Prelude.{◌≡◌, ℕ, ◌+◌, ◌≤◌, List, length, filter}
 use Rattle.arena_core.specs.Contents.{Contents}
 use Rattle.arena_core.specs.Outside.{ChangesOnly}
-use Rattle.heap_core.specs.declared.chunk.Chunk.{Chunk}
 use Rattle.heap_core.specs.declared.heap.Heap.{Heap}
 use Rattle.heap_core.specs.HeapStore.{HeapStore, has_name}
-use Rattle.heap_core.specs.Chunks.{chunks_from, blocks_in, Tell, AreJoined}
-
--- all chunks, up to the footprint
-unfoldable pub chunks_of : Heap → List ℕ → List Chunk
-chunks_of heap bytes = chunks_from heap.footprint bytes heap.span.at 0 heap.footprint
+use Rattle.heap_core.specs.Code.Chunks.{blocks_in}
+use Rattle.heap_core.specs.Code.Layout.{chunks_of, HasChunks}
 
 -- the blocks and where they lie. Of the arena's bytes it reads the span's alone
 abbrev pub heap_of : Heap → List ℕ → HeapStore
@@ -18,12 +14,6 @@ heap_of heap bytes = record { size = heap.span.len; blocks = blocks_in bytes hea
 -- the heap's span lies in these bytes
 abbrev pub IsWithin : Heap → List ℕ → Type 0
 IsWithin heap bytes = heap.span.at + heap.span.len ≤ length bytes
-
--- the headers in the heap's span tell chunks without a break, and the gaps among them are joined
-pub record HasChunks (heap : Heap) (bytes : List ℕ) : Type 0 where
-  pub within : IsWithin heap bytes
-  pub told : Tell bytes heap.span.at 0 heap.footprint (chunks_of heap bytes)
-  pub joined : AreJoined (chunks_of heap bytes)
 
 -- the bytes of the heap's span are as the heap's calls left them
 pub record IsLaidOut (heap : Heap) (bytes : List ℕ) : Type 0 where

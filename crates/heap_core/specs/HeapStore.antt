@@ -3,6 +3,7 @@ use Rattle.std.specs.Prelude.{◌≡◌, ℕ, ◌+◌, ◌-◌, ◌*◌, ◌%◌
 use Rattle.std.specs.Option.{option_map, option_map_or, option_or}
 use Rattle.mote_types.specs.declared.reply.HeapStats.{HeapStats}
 use Rattle.mote_types.specs.Rounding.{up4}
+use Rattle.mote_types.specs.BlockNames.{number_of}
 use Rattle.mote_types.specs.Bytes.{zeros, overwritten, resized}
 use Rattle.heap_core.specs.declared.chunk.Gap.{Gap}
 use Rattle.heap_core.specs.declared.chunk.Place.{Place}
@@ -25,10 +26,6 @@ pub record HeapStore : Type 0 where
 abbrev pub header_len : ℕ
 header_len = 16
 
--- the number of a name: process p's block
-abbrev pub name_of : ℕ → ℕ → ℕ
-name_of p number = (p - 3) * 16 + number
-
 abbrev pub empty_heap : ℕ → HeapStore
 empty_heap size = record { size = size; blocks = [] }
 
@@ -40,11 +37,11 @@ find_block name heap = find (has_name name) heap.blocks
 
 -- the bytes of p's block, if it is live
 abbrev pub block_of : ℕ → ℕ → HeapStore → Option (List ℕ)
-block_of p number heap = option_map (λ (block : Block). block.bytes) (find_block (name_of p number) heap)
+block_of p h heap = option_map (λ (block : Block). block.bytes) (find_block (number_of p h) heap)
 
 -- the length of p's block, as it was asked for
 abbrev pub length_of : ℕ → ℕ → HeapStore → Option ℕ
-length_of p number heap = option_map length (block_of p number heap)
+length_of p h heap = option_map length (block_of p h heap)
 
 -- where the block's extent ends
 abbrev pub end_of : Block → ℕ
@@ -117,11 +114,11 @@ block_at place name bytes = record { name = name; at = place.at; room = place.ro
 
 -- the heap with a new block of n zeros, or nothing where there is no place for it
 abbrev pub allocated : ℕ → ℕ → ℕ → HeapStore → Option HeapStore
-allocated p number n heap =
-    option_map (λ place. with_block (block_at place (name_of p number) (zeros n)) heap) (place n heap)
+allocated p h n heap =
+    option_map (λ place. with_block (block_at place (number_of p h) (zeros n)) heap) (place n heap)
 
 abbrev pub freed : ℕ → ℕ → HeapStore → HeapStore
-freed p number = without_block (name_of p number)
+freed p h = without_block (number_of p h)
 
 -- the length of the gap below the top gap that begins there
 abbrev pub gap_at : ℕ → HeapStore → ℕ
@@ -159,13 +156,13 @@ resized_block block n heap = option_map (λ place. moved place block n heap) (ne
 
 -- the same for p's block, which is live
 abbrev pub reallocated : ℕ → ℕ → ℕ → HeapStore → Option HeapStore
-reallocated p number n heap = option_map_or (λ block. resized_block block n heap) (find_block (name_of p number) heap) None
+reallocated p h n heap = option_map_or (λ block. resized_block block n heap) (find_block (number_of p h) heap) None
 
 -- these bytes stand in p's block from that place on
 abbrev pub with_bytes : ℕ → ℕ → ℕ → List ℕ → HeapStore → HeapStore
-with_bytes p number at bytes heap =
+with_bytes p h at bytes heap =
     record heap {
-      blocks = map (λ block. if has_name (name_of p number) block then record block { bytes = overwritten at bytes block.bytes } else block) heap.blocks;
+      blocks = map (λ block. if has_name (number_of p h) block then record block { bytes = overwritten at bytes block.bytes } else block) heap.blocks;
     }
 
 abbrev pub stats_of : HeapStore → HeapStats
@@ -186,10 +183,6 @@ LieInOrder from (block ∷ blocks) size = (from ≤ block.at) × (length block.b
 -- the blocks lie in the region, and no two of them share a byte
 abbrev pub LieApart : HeapStore → Type 0
 LieApart heap = LieInOrder 0 heap.blocks heap.size
-
--- processes 3 to 19 have blocks 0 to 15
-abbrev pub IsName : ℕ → ℕ → Type 0
-IsName p number = (3 ≤ p) × (p ≤ 19) × (number ≤ 15)
 
 -- the sizes that a heap region may have
 abbrev pub IsHeapSize : ℕ → Type 0

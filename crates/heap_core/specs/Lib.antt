@@ -1,4 +1,6 @@
-pub mod Chunks
+-- what a reader must believe
 pub mod HeapBytes
 pub mod HeapStore
-pub mod Walks
+pub mod Separation
+-- the code's own invariants
+pub mod Code

@@ -1,10 +1,10 @@
 //! Chunks and gaps, and which gap a block takes how much of.
 
-ghost use Rattle.std.specs.Prelude.{◌≡◌, ◌+◌, ◌≤◌, ◌<◌, ◌^◌, IfSome, is_none, is_some};
+ghost use Rattle.std.specs.Prelude.{◌≡◌, ◌≤◌, ◌<◌, IfSome, is_none, is_some};
 ghost use Rattle.mote_types.specs.Rounding.{up4};
 ghost use Rattle.heap_core.specs.HeapStore.{room_taken, better};
-ghost use Rattle.heap_core.specs.Chunks.{owner_in};
-ghost use Rattle.heap_core.specs.Walks.{owned_by, block_chunk};
+ghost use Rattle.heap_core.specs.Code.Chunks.{owner_in};
+ghost use Rattle.heap_core.specs.Code.Walks.{owned_by};
 
 /// The length of a header. It precedes each chunk's bytes.
 pub(crate) const HEADER: u32 = 16;
@@ -67,19 +67,6 @@ pub(crate) fn better(need: u64, best: Option<Gap>, gap: Gap) -> Option<Gap>
     match best {
         Some(other) if other.len <= gap.len => Some(other),
         _ => Some(gap),
-    }
-}
-
-/// The chunk of a block.
-pub(crate) fn block_chunk(place: Place, name: u32, size: u32) -> Chunk
-    requires { 16 + place.room < 2 ^ 32 }
-    ensures { result ≡ block_chunk place name size }
-{
-    Chunk {
-        at: place.at,
-        len: HEADER + place.room,
-        owner: Some(name),
-        size,
     }
 }
 

@@ -2,15 +2,15 @@
 
 ghost use Rattle.std.specs.Prelude.{◌≡◌, ℕ, ◌+◌, ◌≤◌, ◌<◌, ◌⊎◌, IfSome, slice_range};
 ghost use Rattle.arena_core.specs.Outside.{ChangesOnly};
-ghost use Rattle.mote_types.specs.Bytes.{zeros, resized};
-ghost use Rattle.heap_core.specs.Chunks.{chunk_at, Tell};
-ghost use Rattle.heap_core.specs.Walks.{laid, bytes_in_chunk, bytes_given};
+ghost use Rattle.mote_types.specs.Bytes.{resized};
+ghost use Rattle.heap_core.specs.Code.Chunks.{chunk_at};
+ghost use Rattle.heap_core.specs.Code.Walks.{bytes_in_chunk, bytes_given};
 
 use crate::chunk::{Chunk, HEADER, owner_in, word_of};
-use crate::heap::Heap;
+use crate::region::Region;
 use arena_core::{Arena, Span};
 
-impl Heap {
+impl Region {
     ghost use Rattle.heap_core.specs.HeapBytes.{IsWithin};
 
     /// The chunk at a place, as its header tells it.
@@ -25,6 +25,18 @@ impl Heap {
             len: arena.word(header),
             owner: owner_in(arena.word(header + 4)),
             size: arena.word(header + 8),
+        }
+    }
+
+    /// The part of the arena that a live block's bytes lie in: those behind its header.
+    pub(crate) fn body(&self, chunk: Chunk) -> Span
+        requires { chunk.at + 16 + chunk.size ≤ self.now.span.len }
+        ensures at { result.at ≡ self.now.span.at + chunk.at + 16 }
+        ensures len { result.len ≡ chunk.size }
+    {
+        Span {
+            at: self.span.at + chunk.at + HEADER,
+            len: chunk.size,
         }
     }
 
@@ -43,119 +55,45 @@ impl Heap {
         arena.put_word(header + 8, chunk.size);
     }
 
-    /// Writes a live chunk's header at the front of `len` bytes, and makes what is left of them a gap.
-    pub(crate) fn lay(&self, arena: &mut Arena, live: Chunk, len: u32)
+    /// Writes zeros over a live block's bytes from `from` on, where there are so many.
+    pub(crate) fn clear(&self, arena: &mut Arena, live: Chunk, from: u32)
         requires within { IsWithin self.now arena.old.bytes }
-        requires inside { live.at + len ≤ self.now.span.len }
-        requires rest { (live.len ≡ len) ⊎ (live.len + 16 ≤ len) }
-        requires owner { IfSome live.owner (λ name. name < 65536) }
-        requires room { 16 + live.size ≤ live.len }
-        ensures told { Tell arena.new.bytes self.now.span.at live.at (live.at + len) (laid live len) }
-        ensures outside { ChangesOnly (self.now.span.at + live.at) len arena.old.bytes arena.new.bytes }
-        ensures inside { (from n : ℕ) → self.now.span.at + live.at + 16 ≤ from → from + n ≤ self.now.span.at + live.at + live.len → slice_range arena.new.bytes from (from + n) ≡ slice_range arena.old.bytes from (from + n) }
+        requires inside { live.at + 16 + live.size ≤ self.now.span.len }
+        requires before { live.at + 16 + from ≤ self.now.span.len }
+        ensures bytes { bytes_in_chunk arena.new.bytes self.now.span.at live ≡ resized live.size (slice_range arena.old.bytes (self.now.span.at + live.at + 16) (self.now.span.at + live.at + 16 + from)) }
+        ensures others { ChangesOnly (self.now.span.at + live.at + 16) live.size arena.old.bytes arena.new.bytes }
         ensures carved { arena.new.carved ≡ arena.old.carved }
     {
-        if live.len < len {
-            self.put_chunk(
-                arena,
-                Chunk {
-                    at: live.at + live.len,
-                    len: len - live.len,
-                    owner: None,
-                    size: 0,
-                },
-            );
-        }
-        self.put_chunk(arena, live);
-    }
-
-    /// The same for a new block, whose bytes are all 0.
-    pub(crate) fn lay_new(&self, arena: &mut Arena, live: Chunk, len: u32)
-        requires within { IsWithin self.now arena.old.bytes }
-        requires inside { live.at + len ≤ self.now.span.len }
-        requires rest { (live.len ≡ len) ⊎ (live.len + 16 ≤ len) }
-        requires owner { IfSome live.owner (λ name. name < 65536) }
-        requires room { 16 + live.size ≤ live.len }
-        ensures told { Tell arena.new.bytes self.now.span.at live.at (live.at + len) (laid live len) }
-        ensures outside { ChangesOnly (self.now.span.at + live.at) len arena.old.bytes arena.new.bytes }
-        ensures zeros { slice_range arena.new.bytes (self.now.span.at + live.at + 16) (self.now.span.at + live.at + 16 + live.size) ≡ zeros live.size }
-        ensures carved { arena.new.carved ≡ arena.old.carved }
-    {
-        self.lay(arena, live, len);
-        arena.fill(
-            Span {
-                at: self.span.at + live.at + HEADER,
-                len: live.size,
-            },
-            0,
-        );
-    }
-
-    /// The same for a new block whose first bytes are those of another block, and the others 0.
-    pub(crate) fn lay_copied(&self, arena: &mut Arena, live: Chunk, len: u32, source: Chunk)
-        requires within { IsWithin self.now arena.old.bytes }
-        requires inside { live.at + len ≤ self.now.span.len }
-        requires rest { (live.len ≡ len) ⊎ (live.len + 16 ≤ len) }
-        requires owner { IfSome live.owner (λ name. name < 65536) }
-        requires room { 16 + live.size ≤ live.len }
-        requires source { source.at + 16 + source.size ≤ self.now.span.len }
-        requires apart { (source.at + 16 + source.size ≤ live.at) ⊎ (live.at + len ≤ source.at) }
-        ensures told { Tell arena.new.bytes self.now.span.at live.at (live.at + len) (laid live len) }
-        ensures outside { ChangesOnly (self.now.span.at + live.at) len arena.old.bytes arena.new.bytes }
-        ensures bytes { slice_range arena.new.bytes (self.now.span.at + live.at + 16) (self.now.span.at + live.at + 16 + live.size) ≡ resized live.size (bytes_in_chunk arena.old.bytes self.now.span.at source) }
-        ensures carved { arena.new.carved ≡ arena.old.carved }
-    {
-        self.lay_new(arena, live, len);
-        arena.copy(
-            self.span.at + source.at + HEADER,
-            self.span.at + live.at + HEADER,
-            source.size.min(live.size),
-        );
-    }
-
-    /// The same for a new block that is given the bytes of another block, if one is named.
-    pub(crate) fn lay_block(&self, arena: &mut Arena, live: Chunk, len: u32, source: Option<Chunk>)
-        requires within { IsWithin self.now arena.old.bytes }
-        requires inside { live.at + len ≤ self.now.span.len }
-        requires rest { (live.len ≡ len) ⊎ (live.len + 16 ≤ len) }
-        requires owner { IfSome live.owner (λ name. name < 65536) }
-        requires room { 16 + live.size ≤ live.len }
-        requires source { IfSome source (λ other. other.at + 16 + other.size ≤ self.now.span.len) }
-        requires apart { IfSome source (λ other. (other.at + 16 + other.size ≤ live.at) ⊎ (live.at + len ≤ other.at)) }
-        ensures told { Tell arena.new.bytes self.now.span.at live.at (live.at + len) (laid live len) }
-        ensures outside { ChangesOnly (self.now.span.at + live.at) len arena.old.bytes arena.new.bytes }
-        ensures bytes { slice_range arena.new.bytes (self.now.span.at + live.at + 16) (self.now.span.at + live.at + 16 + live.size) ≡ resized live.size (bytes_given arena.old.bytes self.now.span.at source) }
-        ensures carved { arena.new.carved ≡ arena.old.carved }
-    {
-        match source {
-            Some(source) => self.lay_copied(arena, live, len, source),
-            None => self.lay_new(arena, live, len),
-        }
-    }
-
-    /// The same for a block that had `size` bytes there: the first ones stay, and zeros follow.
-    pub(crate) fn lay_resized(&self, arena: &mut Arena, live: Chunk, len: u32, size: u32)
-        requires within { IsWithin self.now arena.old.bytes }
-        requires inside { live.at + len ≤ self.now.span.len }
-        requires rest { (live.len ≡ len) ⊎ (live.len + 16 ≤ len) }
-        requires owner { IfSome live.owner (λ name. name < 65536) }
-        requires room { 16 + live.size ≤ live.len }
-        requires before { live.at + 16 + size ≤ self.now.span.len }
-        ensures told { Tell arena.new.bytes self.now.span.at live.at (live.at + len) (laid live len) }
-        ensures outside { ChangesOnly (self.now.span.at + live.at) len arena.old.bytes arena.new.bytes }
-        ensures bytes { slice_range arena.new.bytes (self.now.span.at + live.at + 16) (self.now.span.at + live.at + 16 + live.size) ≡ resized live.size (slice_range arena.old.bytes (self.now.span.at + live.at + 16) (self.now.span.at + live.at + 16 + size)) }
-        ensures carved { arena.new.carved ≡ arena.old.carved }
-    {
-        self.lay(arena, live, len);
-        if live.size <= size {
+        if live.size <= from {
             return;
         }
         arena.fill(
             Span {
-                at: self.span.at + live.at + HEADER + size,
-                len: live.size - size,
+                at: self.span.at + live.at + HEADER + from,
+                len: live.size - from,
             },
             0,
+        );
+    }
+
+    /// Writes a new block's bytes: first those of another block, if one is named, and then zeros.
+    pub(crate) fn give_bytes(&self, arena: &mut Arena, live: Chunk, source: Option<Chunk>)
+        requires within { IsWithin self.now arena.old.bytes }
+        requires inside { live.at + 16 + live.size ≤ self.now.span.len }
+        requires source { IfSome source (λ other. other.at + 16 + other.size ≤ self.now.span.len) }
+        requires apart { IfSome source (λ other. (other.at + 16 + other.size ≤ live.at) ⊎ (live.at + 16 + live.size ≤ other.at)) }
+        ensures bytes { bytes_in_chunk arena.new.bytes self.now.span.at live ≡ resized live.size (bytes_given arena.old.bytes self.now.span.at source) }
+        ensures others { ChangesOnly (self.now.span.at + live.at + 16) live.size arena.old.bytes arena.new.bytes }
+        ensures carved { arena.new.carved ≡ arena.old.carved }
+    {
+        self.clear(arena, live, 0);
+        let Some(source) = source else {
+            return;
+        };
+        arena.copy(
+            self.span.at + source.at + HEADER,
+            self.span.at + live.at + HEADER,
+            source.size.min(live.size),
         );
     }
 }

@@ -1,38 +1,34 @@
 //! The heap, and the calls on blocks.
 
 ghost use Rattle.std.specs.Prelude.{◌≡◌, ℕ, List, ◌+◌, ◌≤◌, ◌<◌, ◌↔◌, length, IsNone, IfNone, OnSome, IsSome, IsSomeAnd, Some, None};
-ghost use Rattle.heap_core.specs.HeapStore.{name_of, IsName, IsHeapSize, empty_heap, block_of, length_of, place, allocated, freed, reallocated, with_bytes, stats_of, LieApart};
+ghost use Rattle.mote_types.specs.BlockNames.{IsName};
+ghost use Rattle.heap_core.specs.HeapStore.{IsHeapSize, empty_heap, block_of, length_of, place, allocated, freed, reallocated, with_bytes, stats_of, LieApart};
 
-use crate::chunk::{HEADER, is_live};
+use crate::region::Region;
 use arena_core::{Arena, Span};
-use mote_types::event::Pid;
+use mote_types::block_name::{Key, number_of};
 use mote_types::reply::HeapStats;
-
-/// The name of a block: a process from 3 to 19, and one of its blocks, from 0 to 15.
-pub type Key = (Pid, u8);
+use std::marker::Model;
 
 /// Heap memory over a span of an arena (`heapmem.h` of Contiki-NG). Where a block goes is this project's profile.
 ///
 /// Each call is given that arena, with the span's bytes as the calls before left them.
 #[derive(Drop)]
 pub struct Heap {
-    pub(crate) span: Span,
-    pub(crate) footprint: u32,
-    pub ghost small: { span.len ≤ 65536 },
-    pub ghost inside: { footprint ≤ span.len },
+    region: Region,
 }
 
-/// The number of a name.
-fn number_of(key: Key) -> u32
-    requires { IsName key.0.0 key.1 }
-    ensures number { result ≡ name_of key.0.0 key.1 }
-    ensures within { result < 272 }
-{
-    (key.0.0 - 3) as u32 * 16 + key.1 as u32
+impl Model for Heap {
+    ghost use Rattle.heap_core.specs.declared.region.Region.{Region as Divided};
+
+    ghost Value = { Divided };
+
+    ghost view = { λ h. h.region };
 }
 
 impl Heap {
     ghost use Rattle.heap_core.specs.HeapBytes.{heap_of, IsWithin, IsLaidOut, KeepsToSpan};
+    ghost use Rattle.heap_core.specs.Separation.{BlocksLieApart};
 
     /// A heap without a block, over a span of 20 to 65,536 bytes, a multiple of 4. These bytes may be anything.
     pub fn new(span: Span) -> Heap
@@ -41,7 +37,9 @@ impl Heap {
         ensures laid_out { (bytes : List ℕ) → IsWithin result bytes → IsLaidOut result bytes }
         ensures empty { (bytes : List ℕ) → heap_of result bytes ≡ empty_heap span.len }
     {
-        Heap { span, footprint: 0 }
+        Heap {
+            region: Region { span, footprint: 0 },
+        }
     }
 
     /// Gives a name that is not live a block of `n` bytes, all 0 (`heapmem_alloc`). `None` exactly where no gap takes the
@@ -57,8 +55,9 @@ impl Heap {
         ensures laid_out { IsLaidOut self.new arena.new.bytes }
         ensures rest { KeepsToSpan self.old self.new arena.old arena.new }
     {
-        let place = self.place(arena, n)?;
-        self.settle(arena, place, number_of(key), n, None);
+        let place = self.region.place(arena, n)?;
+        self.region
+            .settle(arena, place, number_of(key) as u32, n, None);
         Some(())
     }
 
@@ -75,13 +74,13 @@ impl Heap {
         ensures laid_out { IsLaidOut self.new arena.new.bytes }
         ensures rest { KeepsToSpan self.old self.new arena.old arena.new }
     {
-        let name = number_of(key);
-        let chunk = self.find(arena, name).unwrap();
-        let Some(room) = self.room_in_place(arena, chunk, n) else {
-            self.relocate(arena, chunk, name, n)?;
+        let name = number_of(key) as u32;
+        let chunk = self.region.live_chunk(arena, name);
+        let Some(room) = self.region.room_in_place(arena, chunk, n) else {
+            self.region.relocate(arena, chunk, name, n)?;
             return Some(());
         };
-        self.resize(arena, chunk, room, n);
+        self.region.resize(arena, chunk, name, room, n);
         Some(())
     }
 
@@ -94,8 +93,8 @@ impl Heap {
         ensures laid_out { IsLaidOut self.new arena.new.bytes }
         ensures rest { KeepsToSpan self.old self.new arena.old arena.new }
     {
-        let chunk = self.find(arena, number_of(key)).unwrap();
-        self.release(arena, chunk);
+        let chunk = self.region.live_chunk(arena, number_of(key) as u32);
+        self.region.release(arena, chunk);
     }
 
     /// The bytes of a name's block.
@@ -105,11 +104,8 @@ impl Heap {
         requires live { IsSome (block_of key.0.0 key.1 (heap_of self.now arena.now.bytes)) }
         ensures { block_of key.0.0 key.1 (heap_of self.now arena.now.bytes) ≡ Some result.now }
     {
-        let chunk = self.find(arena, number_of(key)).unwrap();
-        arena.bytes(Span {
-            at: self.span.at + chunk.at + HEADER,
-            len: chunk.size,
-        })
+        let chunk = self.region.live_chunk(arena, number_of(key) as u32);
+        arena.bytes(self.region.body(chunk))
     }
 
     /// Writes bytes into a name's block, from the place `at` of it on.
@@ -121,9 +117,10 @@ impl Heap {
         ensures laid_out { IsLaidOut self.now arena.new.bytes }
         ensures rest { KeepsToSpan self.now self.now arena.old arena.new }
     {
-        let chunk = self.find(arena, number_of(key)).unwrap();
+        let chunk = self.region.live_chunk(arena, number_of(key) as u32);
+        let body = self.region.body(chunk);
         let target = arena.bytes_mut(Span {
-            at: self.span.at + chunk.at + HEADER + at,
+            at: body.at + at,
             len: bytes.len() as u32,
         });
         target.copy_from_slice(bytes);
@@ -134,25 +131,7 @@ impl Heap {
         requires { IsLaidOut self.now arena.now.bytes }
         ensures { result ≡ stats_of (heap_of self.now arena.now.bytes) }
     {
-        let mut allocated = 0;
-        let mut chunks = 0;
-        let mut at = 0;
-        while at < self.footprint {
-            let chunk = self.chunk_at(arena, at);
-            if is_live(chunk) {
-                allocated += chunk.len - HEADER;
-                chunks += 1;
-            }
-            at += chunk.len;
-        }
-        let overhead = HEADER * chunks;
-        HeapStats {
-            allocated,
-            overhead,
-            available: self.span.len - allocated - overhead,
-            footprint: self.footprint,
-            chunks,
-        }
+        self.region.stats(arena)
     }
 
     /// The length of a name's block, as it was asked for, if it is live.
@@ -161,16 +140,19 @@ impl Heap {
         requires laid_out { IsLaidOut self.now arena.now.bytes }
         ensures { result ≡ length_of key.0.0 key.1 (heap_of self.now arena.now.bytes) }
     {
-        let chunk = self.find(arena, number_of(key))?;
+        let chunk = self.region.find(arena, number_of(key) as u32)?;
         Some(chunk.size)
     }
 
-    /// The blocks lie in the span, and no two of them share a byte.
+    /// The blocks lie in the span with their headers, one behind the other, and no two of them share a byte. Each block's bytes
+    /// are those behind its header.
     pub fn blocks_lie_apart(&self, arena: &Arena)
         requires { IsLaidOut self.now arena.now.bytes }
-        ensures { LieApart (heap_of self.now arena.now.bytes) }
+        ensures order { LieApart (heap_of self.now arena.now.bytes) }
+        ensures apart { BlocksLieApart self.now arena.now.bytes }
     {
-        let _span = &self.span;
+        // Nothing is done: the clauses tell what holds of the heap whatever was called before.
+        let _region = &self.region;
         let _ = arena;
     }
 }

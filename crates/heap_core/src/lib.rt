@@ -9,8 +9,8 @@ mod chunk;
 mod headers;
 mod heap;
 mod layout;
+mod region;
 mod search;
-#[cfg(test)]
-mod tests;
 
-pub use heap::{Heap, Key};
+pub use heap::Heap;
+pub use mote_types::block_name::Key;

@@ -1,15 +1,19 @@
 //! Walks over the chunks, from the lowest on.
 
-ghost use Rattle.std.specs.Prelude.{◌≡◌, ◌≢◌, ◌+◌, find, None};
-ghost use Rattle.heap_core.specs.HeapStore.{best_gap, gaps, place, room_in_place};
-ghost use Rattle.heap_core.specs.Walks.{owned_by, chunks_before, chunks_behind, free_from, Stands, front_gap, place_in_chunk};
+ghost use Rattle.std.specs.Prelude.{◌≡◌, ◌≢◌, ◌≤◌, ◌+◌, find, Some, None, IsSome};
+ghost use Rattle.heap_core.specs.HeapStore.{stats_of, find_block, best_gap, gaps, place, room_in_place};
+ghost use Rattle.heap_core.specs.Code.Walks.{owned_by, Owned, block_in_chunk, chunks_before, chunks_behind, free_from, Stands, front_gap, place_in_chunk};
 
-use crate::chunk::{Chunk, Gap, HEADER, Place, better, is_gap, is_owned_by, room_taken, rounded};
-use crate::heap::Heap;
+use crate::chunk::{
+    Chunk, Gap, HEADER, Place, better, is_gap, is_live, is_owned_by, room_taken, rounded,
+};
+use crate::region::Region;
 use arena_core::Arena;
+use mote_types::reply::HeapStats;
 
-impl Heap {
-    ghost use Rattle.heap_core.specs.HeapBytes.{chunks_of, heap_of, HasChunks};
+impl Region {
+    ghost use Rattle.heap_core.specs.Code.Layout.{chunks_of, HasChunks};
+    ghost use Rattle.heap_core.specs.HeapBytes.{heap_of};
 
     /// The chunk of a name's block.
     pub(crate) fn find(&self, arena: &Arena, name: u32) -> Option<Chunk>
@@ -27,6 +31,17 @@ impl Heap {
         None
     }
 
+    /// The chunk of a live block.
+    pub(crate) fn live_chunk(&self, arena: &Arena, name: u32) -> Chunk
+        requires chunks { HasChunks self.now arena.now.bytes }
+        requires live { IsSome (find_block name (heap_of self.now arena.now.bytes)) }
+        ensures owned { Owned name result (chunks_of self.now arena.now.bytes) }
+        ensures inside { result.at + 16 + result.size ≤ self.now.span.len }
+        ensures block { find_block name (heap_of self.now arena.now.bytes) ≡ Some (block_in_chunk arena.now.bytes self.now.span.at name result) }
+    {
+        self.find(arena, name).unwrap()
+    }
+
     /// The shortest gap below the top gap that has `need` bytes, the lowest on a tie.
     pub(crate) fn best_gap(&self, arena: &Arena, need: u64) -> Option<Gap>
         requires { HasChunks self.now arena.now.bytes }
@@ -42,6 +57,32 @@ impl Heap {
             at += chunk.len;
         }
         best
+    }
+
+    /// What the chunks take.
+    pub(crate) fn stats(&self, arena: &Arena) -> HeapStats
+        requires { HasChunks self.now arena.now.bytes }
+        ensures { result ≡ stats_of (heap_of self.now arena.now.bytes) }
+    {
+        let mut allocated = 0;
+        let mut chunks = 0;
+        let mut at = 0;
+        while at < self.footprint {
+            let chunk = self.chunk_at(arena, at);
+            if is_live(chunk) {
+                allocated += chunk.len - HEADER;
+                chunks += 1;
+            }
+            at += chunk.len;
+        }
+        let overhead = HEADER * chunks;
+        HeapStats {
+            allocated,
+            overhead,
+            available: self.span.len - allocated - overhead,
+            footprint: self.footprint,
+            chunks,
+        }
     }
 
     /// Where a block of `n` bytes goes.

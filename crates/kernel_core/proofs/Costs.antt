@@ -9,7 +9,7 @@ use Rattle.mote_types.specs.declared.event.Origin.{Origin}
 use Rattle.process_core.specs.Agenda.{Queued, Item, Job}
 use Rattle.process_core.specs.declared.process.Process.{Process}
 use Rattle.process_core.specs.Processes.{numbers, is_process, is_kernel_process}
-use Rattle.kernel_core.specs.Cost.{starts, present, cost, costs, IsPaid}
+use Rattle.kernel_core.specs.Code.Cost.{starts, present, cost, costs, IsPaid}
 use Rattle.process_core.specs.Scheduler.{Scheduler, worked, job, in_front, carried_out, delivery, first_event, of_event, job_of_event, job_of_give, job_of_item, job_at, worked_at, wants_round, settled, ComesTo}
 
 starts-append : (xs ys : List Item) → starts (xs ++ ys) ≡ starts xs + starts ys

@@ -15,7 +15,7 @@ use Rattle.process_core.specs.Requests.{ended, killed_by}
 use Rattle.mote_types.specs.declared.reply.Reply.{Reply}
 use Rattle.std.proofs.lemmas.Map.Keys.{IsDistinct-head, IsDistinct-tail}
 use Rattle.process_core.specs.Scheduler.{Scheduler, worked, worked_at, job, job_at, job_of_item, job_of_event, carried_out, delivery, first_event, of_event, settled, ComesTo, wants_round}
-use Rattle.kernel_core.specs.Draws.{draws, draws_of_event, draws_of_job, IsFit, IsFitJob}
+use Rattle.kernel_core.specs.Code.Draws.{draws, draws_of_event, draws_of_job, IsFit, IsFitJob}
 
 pub draws-append : (xs ys : List Item) → draws (xs ++ ys) ≡ draws xs + draws ys
 draws-append [] ys = omega arith

@@ -4,12 +4,12 @@ use Rattle.std.proofs.lemmas.List.Elements.{All-append, All-nil, All-cons, All-h
 use Rattle.std.specs.Prelude.{map, ◌==◌}
 use Rattle.process_core.specs.Agenda.{Queued, event_carrying}
 use Rattle.timer_core.specs.Armings.{Armings, is_present_arming, present_arming}
-use Rattle.kernel_core.specs.Draws.{IsFit, HasFitEvents}
+use Rattle.kernel_core.specs.Code.Draws.{IsFit, HasFitEvents}
 use Rattle.kernel_core.specs.Expiries.{struck_if, strike_out}
-use Rattle.kernel_core.specs.View.{is_struck, machine_of}
+use Rattle.kernel_core.specs.Code.View.{is_struck, machine_of}
 use Rattle.kernel_core.specs.Calls.{is_callback_timer}
 use Rattle.kernel_core.specs.Machine.{with_timers}
-use Rattle.kernel_core.specs.declared.core_state.Core.{Core}
+use Rattle.kernel_core.specs.declared.fields.KernelFields.{KernelFields}
 use Rattle.timer_core.specs.NumberedTimers.{NumberedTimers}
 
 -- a number that was drawn stays one
@@ -82,6 +82,6 @@ renewed_all p old new struck others = record {
 }
 
 -- a kernel whose callback timers got new numbers has struck out their expiries
-pub struck_machine : (test : ℕ → ℕ → Bool) (k : Core) (new : NumberedTimers) → AreRenewed test k.timers.armings new.armings → HasFitEvents k
+pub struck_machine : (test : ℕ → ℕ → Bool) (k : KernelFields) (new : NumberedTimers) → AreRenewed test k.timers.armings new.armings → HasFitEvents k
     → machine_of (record k { timers = new }) ≡ strike_out test (with_timers new.timers (machine_of k))
-struck_machine test k new renewed fit = rw (struck_out test k.timers.armings new.armings k.scheduler.scheduler.events renewed fit) refl
+struck_machine test k new renewed fit = rw (struck_out test k.timers.armings new.armings k.scheduler.state.events renewed fit) refl

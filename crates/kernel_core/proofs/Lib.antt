@@ -4,5 +4,9 @@ pub mod Silent
 pub mod Still
 pub mod Reaching
 pub mod Fitness
+pub mod FrameBlocks
+pub mod FreePlaces
+pub mod Leftover
+pub mod Lines
 pub mod Drawing
-pub mod Walking
+pub mod Repeating

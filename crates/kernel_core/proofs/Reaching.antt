@@ -1,28 +1,40 @@
 -- Jobs of the scheduler, as steps of the kernel's machine.
-use Rattle.std.proofs.Common.{◌≡◌, ℕ, false, ◌∙◌, refl, None, Some}
+use Rattle.std.proofs.Common.{◌≡◌, ℕ, false, ◌∷◌, ◌∙◌, refl, Some}
 use Rattle.mote_types.specs.declared.entry.Entry.{Entry}
-use Rattle.mote_types.specs.declared.entry.Input.{Input}
-use Rattle.process_core.specs.Agenda.{Job, job_carrying}
-use Rattle.process_core.specs.Held.{Held}
+use Rattle.process_core.specs.Agenda.{Item, Job, job_carrying}
+use Rattle.process_core.specs.SchedulerView.{SchedulerView}
 use Rattle.process_core.specs.Scheduler.{ComesTo, carrying}
 use Rattle.timer_core.specs.Armings.{Armings}
-use Rattle.kernel_core.specs.declared.core_state.Core.{Core}
+use Rattle.kernel_core.specs.declared.fields.KernelFields.{KernelFields}
+use Rattle.kernel_core.specs.declared.unshown.Unshown.{Unshown}
 use Rattle.kernel_core.specs.Machine.{Machine}
 use Rattle.kernel_core.specs.Run.{Answers, MakesEntry, GoesSilently, silent, job_done}
-use Rattle.kernel_core.specs.View.{machine_of, is_struck, ComesToJob}
+use Rattle.kernel_core.specs.Code.View.{machine_of, none_unshown, unshown_items, is_struck, ComesToJob}
 use Rattle.kernel_core.proofs.Silent.{job_reached, silently_on}
 
--- where no entry is to be shown first, the machine's scheduler is the kernel's
-machine_bare : (k : Core) → k.handed_in ≡ None →
-    machine_of k ≡ record { clock = k.clock; work = k.work; is_halted = k.halted; scheduler = carrying (is_struck k.timers.armings) k.scheduler.scheduler; timers = k.timers.timers; memory = k.memory }
+-- the machine of a kernel that has nothing to show first: its scheduler is the kernel's
+abbrev bare_machine : KernelFields → Machine
+bare_machine k =
+    record {
+      clock = k.clock;
+      work = k.work;
+      is_halted = k.halted;
+      scheduler = carrying (is_struck k.timers.armings) k.scheduler.state;
+      timers = k.timers.timers;
+      memory = k.memory.contents;
+      serial = k.serial;
+      is_serial_waiting = k.serial_waits;
+      packets = k.packets;
+    }
+
+machine_bare : (k : KernelFields) → k.unshown ≡ none_unshown → machine_of k ≡ bare_machine k
 machine_bare k e = rw e refl
 
-pub core_reaches : (answers : Answers) (k : Core) (held : Held) (next : Job ℕ) → k.halted ≡ false → k.handed_in ≡ None →
-    ComesTo k.scheduler.scheduler next held.scheduler → ComesToJob k.timers.armings answers (machine_of k) next (machine_of (record k { scheduler = held }))
-core_reaches answers k held next running bare comes =
-    let m : Machine = record { clock = k.clock; work = k.work; is_halted = k.halted; scheduler = carrying (is_struck k.timers.armings) k.scheduler.scheduler; timers = k.timers.timers; memory = k.memory } in
-    let r = job_reached (is_struck k.timers.armings) answers m k.scheduler.scheduler held.scheduler next running refl comes in
-    rw (machine_bare k bare, machine_bare (record k { scheduler = held }) bare)
+pub fields_reach : (answers : Answers) (k : KernelFields) (view : SchedulerView) (next : Job ℕ) → k.halted ≡ false → k.unshown ≡ none_unshown →
+    ComesTo k.scheduler.state next view.state → ComesToJob k.timers.armings answers (machine_of k) next (machine_of (record k { scheduler = view }))
+fields_reach answers k view next running bare comes =
+    let r = job_reached (is_struck k.timers.armings) answers (bare_machine k) k.scheduler.state view.state next running refl comes in
+    rw (machine_bare k bare, machine_bare (record k { scheduler = view }) bare)
     record { last = r.1; before = record { count = r.0; steps = r.2 }; asked = r.3 }
 
 pub silently_here : {answers : Answers} (m : Machine) → GoesSilently answers m m
@@ -46,7 +58,7 @@ pub job_makes : {answers : Answers} {a b d : Machine} {armings : Armings} {next 
     job_done answers (Some (job_carrying (is_struck armings) next)) b ≡ (d, Some entry) → MakesEntry answers a entry d
 job_makes reached e = record { last = reached.last; before = reached.before; makes = reached.asked ∙ e }
 
--- the entry of an input that was handed in
-pub input_is_shown : {answers : Answers} {input : Input} (k : Core) → k.halted ≡ false → k.handed_in ≡ Some input →
-    MakesEntry answers (machine_of k) (Entry.Input input) (machine_of (record k { handed_in = None }))
-input_is_shown k running e = record { last = machine_of k; before = silently_here (machine_of k); makes = rw (running, e) refl }
+-- an entry that is to be shown before anything else
+pub entry_is_shown : {answers : Answers} {entry : Entry} (k : KernelFields) (left : Unshown) → k.halted ≡ false → unshown_items k.unshown ≡ Item.Show entry ∷ unshown_items left →
+    MakesEntry answers (machine_of k) entry (machine_of (record k { unshown = left }))
+entry_is_shown k left running e = record { last = machine_of k; before = silently_here (machine_of k); makes = rw (running, e) refl }

@@ -22,7 +22,7 @@ pick : {A : Type 0} (b : Bool) (x y : A) → (b ≡ false → y ≡ x) → cond 
 pick true x y e = refl
 pick false x y e = e refl
 
-right_of : (a b : Bool) → (a || b) ≡ true → a ≡ false → b ≡ true
+right_of : (a b : Bool) → (a || not a && b) ≡ true → a ≡ false → b ≡ true
 right_of true b h n = grind arith
 right_of false b h n = h
 

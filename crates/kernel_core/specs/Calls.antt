@@ -1,19 +1,21 @@
 -- What follows a call of an application: its refusals in the order in which they are checked, its effect, and its answer.
-use Rattle.std.specs.Prelude.{ℕ, Bool, not, ◌&&◌, ◌==◌, Option, Some, None, if◌then◌else◌, nat_lt}
+use Rattle.std.specs.Prelude.{ℕ, Bool, not, ◌&&◌, ◌==◌, length, Option, Some, None, if◌then◌else◌, nat_lt}
 use Rattle.mote_types.specs.declared.call.Call.{Call}
 use Rattle.mote_types.specs.declared.reply.Reply.{Reply}
 use Rattle.mote_types.specs.declared.refusal.Refusal.{Refusal}
 use Rattle.mote_types.specs.declared.event.Payload.{Payload}
 use Rattle.mote_types.specs.declared.event.Event.{Event}
 use Rattle.mote_types.specs.Codes.{is_reserved}
+use Rattle.device_core.specs.PacketQueue.{front_slot}
 use Rattle.node_memory.specs.Ask.{ask}
+use Rattle.node_memory.specs.Frames.{send_refusal}
 use Rattle.process_core.specs.Agenda.{Queued}
-use Rattle.process_core.specs.Processes.{is_alive}
-use Rattle.process_core.specs.Scheduler.{state_in, marked}
-use Rattle.process_core.specs.Requests.{is_application, post_refusal, synch_refusal, poll_refusal, start_refusal, kill_refusal, is_running_refusal, alloc_event_refusal, number_drawn, given_in_turn, started_by, killed_by, waited, ended}
-use Rattle.kernel_core.specs.Machine.{Machine, scheduled, with_timers, with_event, answer, refuse}
+use Rattle.process_core.specs.Processes.{is_alive, is_application}
+use Rattle.process_core.specs.Scheduler.{state_in}
+use Rattle.process_core.specs.Requests.{post_refusal, synch_refusal, poll_refusal, start_refusal, kill_refusal, is_running_refusal, alloc_event_refusal, number_drawn, given_in_turn, started_by, killed_by, waited, ended}
+use Rattle.kernel_core.specs.Machine.{Machine, scheduled, with_timers, with_memory, with_event, mark, answer, refuse, shown_first}
 use Rattle.kernel_core.specs.Expiries.{strike_out}
-use Rattle.kernel_core.specs.KernelProcesses.{etimer_marked}
+use Rattle.kernel_core.specs.PacketCalls.{open_refusal, receiver_claimed, front_refusal, front_read_refusal, front_read, front_dropped, sent}
 use Rattle.timer_core.specs.Names.{event_timer, callback_timer}
 use Rattle.timer_core.specs.Timers.{set_timer, stop_timer, reset_timer, restart_timer, can_reset, is_armed}
 
@@ -31,7 +33,7 @@ event_of code payload = record { code = code; payload = payload }
 -- a post of an application: to an application of this mote, of an event that isn't the kernel's own
 abbrev pub post_call_refusal : Machine → ℕ → ℕ → Option Refusal
 post_call_refusal m q code =
-    if not (is_application m.scheduler q) then Some Refusal.BadName
+    if not (is_application m.scheduler.applications q) then Some Refusal.BadName
     else if is_reserved code then Some Refusal.Reserved
     else post_refusal m.scheduler
 
@@ -55,6 +57,10 @@ reset_refusal p t m =
 abbrev pub is_callback_timer : ℕ → ℕ → ℕ → ℕ → Bool
 is_callback_timer p c q d = q == p && d == c
 
+-- memory answers the call
+abbrev pub asked_of_memory : Call → ℕ → Machine → Machine
+asked_of_memory call p m = let asked = ask call p m.memory in answer p asked.1 (with_memory asked.0 m)
+
 -- the machine after a call of p
 abbrev pub after_call : Call → ℕ → Machine → Machine
 -- the activation ends
@@ -71,7 +77,7 @@ after_call Call.AllocEvent p m =
     unless_refused (alloc_event_refusal m.scheduler) p m
     (answer p (Reply.Num m.scheduler.next_event) (scheduled number_drawn m))
 -- processes
-after_call (Call.Poll q) p m = unless_refused (poll_refusal m.scheduler q) p m (done p (scheduled (marked q) m))
+after_call (Call.Poll q) p m = unless_refused (poll_refusal m.scheduler q) p m (done p (mark q m))
 after_call (Call.Start q) p m = unless_refused (start_refusal m.scheduler q) p m (scheduled (started_by p q) m)
 after_call (Call.Kill q) p m = unless_refused (kill_refusal m.scheduler q) p m (scheduled (killed_by p q) m)
 after_call (Call.IsRunning q) p m =
@@ -79,22 +85,22 @@ after_call (Call.IsRunning q) p m =
 -- event timers
 after_call (Call.TimerSet t interval) p m =
     unless_refused (timer_refusal t) p m
-    (done p (etimer_marked (with_timers (set_timer m.clock (event_timer p t) interval m.timers) m)))
+    (done p (mark 0 (with_timers (set_timer m.clock (event_timer p t) interval m.timers) m)))
 after_call (Call.TimerStop t) p m =
     unless_refused (timer_refusal t) p m (done p (with_timers (stop_timer (event_timer p t) m.timers) m))
 after_call (Call.TimerReset t) p m =
     unless_refused (reset_refusal p t m) p m
-    (done p (etimer_marked (with_timers (reset_timer (event_timer p t) m.timers) m)))
+    (done p (mark 0 (with_timers (reset_timer (event_timer p t) m.timers) m)))
 after_call (Call.TimerRestart t) p m =
     unless_refused (timer_refusal t) p m
-    (done p (etimer_marked (with_timers (restart_timer m.clock (event_timer p t) m.timers) m)))
+    (done p (mark 0 (with_timers (restart_timer m.clock (event_timer p t) m.timers) m)))
 after_call (Call.TimerExpired t) p m =
     unless_refused (timer_refusal t) p m (answer p (Reply.Flag (not (is_armed (event_timer p t) m.timers))) m)
 -- callback timers
 after_call (Call.CallbackSet c interval) p m =
     unless_refused (callback_refusal c) p m
     (done p
-    (etimer_marked
+    (mark 0
     (strike_out (is_callback_timer p c) (with_timers (set_timer m.clock (callback_timer p c) interval m.timers) m))))
 after_call (Call.CallbackStop c) p m =
     unless_refused (callback_refusal c) p m
@@ -102,5 +108,15 @@ after_call (Call.CallbackStop c) p m =
 -- the clock, and output
 after_call Call.Clock p m = answer p (Reply.Wide m.clock) m
 after_call (Call.Print chunk) p m = done p m
+-- packets
+after_call Call.PacketOpen p m = unless_refused (open_refusal p m) p m (done p (receiver_claimed p m))
+after_call (Call.PacketRead at len) p m =
+    unless_refused (front_read_refusal p at len m) p m (answer p (front_read at len m) m)
+after_call Call.PacketDone p m =
+    unless_refused (front_refusal p m) p m (done p (front_dropped (front_slot m.packets) m))
+after_call Call.PacketCount p m = answer p (Reply.Num (length m.packets.frames)) m
+-- the note comes before the answer
+after_call (Call.PacketSend h) p m =
+    unless_refused (send_refusal p h m.memory.managed) p m (shown_first (sent p h m) (done p m))
 -- memory: every other call
-after_call call p m = let asked = ask call p m.memory in answer p asked.1 (record m { memory = asked.0 })
+after_call call p m = asked_of_memory call p m

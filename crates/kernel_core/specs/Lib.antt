@@ -1,9 +1,15 @@
+-- What a reader has to believe.
 pub mod Calls
-pub mod Cost
-pub mod Draws
 pub mod Expiries
+pub mod Inputs
 pub mod KernelProcesses
 pub mod Machine
 pub mod Mote
+pub mod PacketCalls
+pub mod PacketProcess
+pub mod Repeating
 pub mod Run
-pub mod View
+pub mod SerialProcess
+pub mod TimerProcesses
+-- What the code keeps.
+pub mod Code

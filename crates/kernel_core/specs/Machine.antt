@@ -1,5 +1,7 @@
--- The state of the mote: its clock, its work, what the scheduler has, its timers and its memory.
-use Rattle.std.specs.Prelude.{ℕ, Bool, false, ◌&&◌, [], ◌∷◌, nat_le}
+-- The state of the mote: its clock, its work, what the scheduler has, its timers, its memory and its devices.
+use Rattle.std.specs.Prelude.{ℕ, ◌-◌, Bool, false, ◌&&◌, [], ◌∷◌, length, nat_le}
+use Rattle.device_core.specs.PacketQueue.{PacketQueue, no_packets}
+use Rattle.device_core.specs.SerialLine.{SerialLine, quiet_line}
 use Rattle.mote_types.specs.declared.entry.Entry.{Entry}
 use Rattle.mote_types.specs.declared.reply.Reply.{Reply}
 use Rattle.mote_types.specs.declared.refusal.Refusal.{Refusal}
@@ -7,8 +9,9 @@ use Rattle.kernel_core.specs.declared.config.Config.{Config}
 use Rattle.node_memory.specs.Memory.{Memory, fresh_memory}
 use Rattle.node_memory.specs.Sizes.{are_sizes}
 use Rattle.node_memory.specs.declared.sizes.Sizes.{Sizes}
+use Rattle.process_core.specs.declared.scheduler.TheConstants.{QUEUE_PLACES}
 use Rattle.process_core.specs.Agenda.{Queued, Item}
-use Rattle.process_core.specs.Scheduler.{Scheduler, at_boot, in_front, posted}
+use Rattle.process_core.specs.Scheduler.{Scheduler, at_boot, in_front, marked, posted}
 use Rattle.process_core.specs.Requests.{answered}
 use Rattle.timer_core.specs.Timers.{Timers, no_timers}
 
@@ -22,6 +25,10 @@ pub record Machine : Type 0 where
   pub scheduler : Scheduler Bool
   pub timers : Timers
   pub memory : Memory
+  pub serial : SerialLine
+  -- a line was broadcast, and the serial line's process waits for its CONTINUE
+  pub is_serial_waiting : Bool
+  pub packets : PacketQueue
 
 abbrev pub sizes_of : Config → Sizes
 sizes_of c = record { mmem = c.mmem; heap = c.heap }
@@ -39,10 +46,22 @@ booted c =
       scheduler = at_boot c.apps;
       timers = no_timers;
       memory = fresh_memory (sizes_of c);
+      serial = quiet_line;
+      is_serial_waiting = false;
+      packets = no_packets;
     }
 
 abbrev pub with_timers : Timers → Machine → Machine
 with_timers timers m = record m { timers = timers }
+
+abbrev pub with_memory : Memory → Machine → Machine
+with_memory memory m = record m { memory = memory }
+
+abbrev pub with_serial : SerialLine → Machine → Machine
+with_serial serial m = record m { serial = serial }
+
+abbrev pub with_packets : PacketQueue → Machine → Machine
+with_packets packets m = record m { packets = packets }
 
 -- a change of the scheduler alone
 abbrev pub scheduled : (Scheduler Bool → Scheduler Bool) → Machine → Machine
@@ -50,6 +69,14 @@ scheduled change m = record m { scheduler = change m.scheduler }
 
 abbrev pub with_event : Queued Bool → Machine → Machine
 with_event event = scheduled (posted event)
+
+-- the places of the event queue that no event has
+abbrev pub free_places : Machine → ℕ
+free_places m = QUEUE_PLACES - length m.scheduler.events
+
+-- process p will be polled
+abbrev pub mark : ℕ → Machine → Machine
+mark p = scheduled (marked p)
 
 -- the process is given the answer in its next turn
 abbrev pub answer : ℕ → Reply → Machine → Machine

@@ -1,5 +1,5 @@
 -- The run of the mote: what its machine makes of the inputs and of what the applications answer.
-use Rattle.std.specs.Prelude.{◌≡◌, ℕ, zero, suc, ◌+◌, Bool, true, false, ◌||◌, List, [], ◌∷◌, ◌++◌, filter_map, Option, Some, None, option_to_list, if◌then◌else◌, ◌==◌}
+use Rattle.std.specs.Prelude.{◌≡◌, ℕ, zero, suc, ◌+◌, Bool, true, false, not, ◌&&◌, ◌||◌, List, [], ◌∷◌, ◌++◌, filter_map, Option, Some, None, option_to_list, if◌then◌else◌, ◌==◌}
 use Rattle.mote_types.specs.declared.call.Call.{Call}
 use Rattle.mote_types.specs.declared.entry.Input.{Input}
 use Rattle.mote_types.specs.declared.entry.Entry.{Entry}
@@ -10,10 +10,11 @@ use Rattle.kernel_core.specs.declared.config.Config.{Config}
 use Rattle.kernel_core.specs.declared.step.Step.{Step as Reached}
 use Rattle.process_core.specs.Agenda.{Item, Job}
 use Rattle.process_core.specs.Idle.{is_idle}
-use Rattle.process_core.specs.Scheduler.{worked, job, in_front, marked}
-use Rattle.kernel_core.specs.Machine.{Machine, booted, scheduled, shown_first}
+use Rattle.process_core.specs.Scheduler.{worked, job, in_front}
+use Rattle.kernel_core.specs.Machine.{Machine, booted, scheduled}
 use Rattle.kernel_core.specs.KernelProcesses.{serve}
 use Rattle.kernel_core.specs.Calls.{after_call}
+use Rattle.kernel_core.specs.Inputs.{fed}
 
 -- One step.
 
@@ -59,9 +60,9 @@ job_done answers None m = silent m
 abbrev pub one_step : Answers → Machine → StepMade
 one_step answers m = if m.is_halted then silent m else job_done answers (job m.scheduler) (scheduled worked m)
 
--- no activation is open, no process is marked, and no event waits
+-- no activation is open, no process is marked, and no event waits. After Halt there is no rest
 abbrev pub is_at_rest : Machine → Bool
-is_at_rest m = is_idle m.scheduler
+is_at_rest m = not m.is_halted && is_idle m.scheduler
 
 -- nothing more happens without an input
 abbrev pub is_still : Machine → Bool
@@ -88,7 +89,6 @@ pub record MakesEntry (answers : Answers) (old : Machine) (entry : Entry) (new :
 -- steps that make no entry, until nothing is left to be done
 pub record GoesToRest (answers : Answers) (old new : Machine) : Type 0 where
   pub before : GoesSilently answers old new
-  pub running : new.is_halted ≡ false
   pub at_rest : is_at_rest new ≡ true
 
 -- the machine goes on to the next entry, or to rest; once halted, it stays
@@ -100,18 +100,6 @@ GoesOn answers old Reached.Halted new = (old.is_halted ≡ true) × (new ≡ old
 abbrev pub made : Reached → List Entry
 made (Reached.Entry entry) = entry ∷ []
 made _ = []
-
--- An input.
-
-abbrev pub ticks_of : Input → ℕ
-ticks_of (Input.Tick n) = n
-
-abbrev pub effect : Input → Machine → Machine
-effect (Input.Tick n) m = scheduled (marked 0) (record m { clock = m.clock + n })
-
--- the input is handed in
-abbrev pub fed : Input → Machine → Machine
-fed input m = shown_first (Entry.Input input) (effect input (record m { work = 0 }))
 
 -- A run.
 

@@ -1,28 +1,28 @@
 //! What the kernel does at an application's call.
 
-ghost use Rattle.std.specs.Prelude.{◌≡◌, ◌≤◌, ◌<◌, ◌^◌, eqb, None, Some};
-ghost use Rattle.std.specs.List.{IsDistinct};
-ghost use Rattle.process_core.specs.Processes.{IsApplication, numbers};
-ghost use Rattle.kernel_core.specs.Calls.{after_call};
-ghost use Rattle.kernel_core.specs.Draws.{HasFitEvents, debt};
+ghost use Rattle.std.specs.Prelude.{◌≡◌, true, None, Some};
+ghost use Rattle.node_memory.specs.Parts.{is_memory_call};
+ghost use Rattle.kernel_core.specs.Calls.{after_call, asked_of_memory};
+ghost use Rattle.kernel_core.specs.Code.Draws.{debt};
 ghost use Rattle.kernel_core.specs.Machine as machine;
-ghost use Rattle.kernel_core.specs.View.{machine_of, IsCallDone, IsOnlyScheduled};
+ghost use Rattle.kernel_core.specs.Code.View.{machine_of, none_unshown, IsAtTurn, IsCarriedOut, IsOnlyScheduled};
 
-use crate::core_state::Core;
+use crate::fields::KernelFields;
+use crate::timer_calls::has_timer;
 use mote_types::call::Call;
 use mote_types::event::Pid;
 use mote_types::refusal::Refusal;
 use mote_types::reply::Reply;
 
-impl Core {
+impl KernelFields {
     /// The application is given the answer in its next turn.
     pub fn answer(&mut self, pid: Pid, reply: Reply)
         requires turn { self.old.scheduler.turn ≡ Some pid }
-        requires nothing_shown { self.old.handed_in ≡ None }
+        requires nothing_shown { self.old.unshown ≡ none_unshown }
         ensures machine { machine_of self.new ≡ machine.answer pid.0 reply (machine_of self.old) }
         ensures kept { IsOnlyScheduled self.old self.new }
         ensures turn { self.new.scheduler.turn ≡ None }
-        ensures events { self.new.scheduler.scheduler.events ≡ self.old.scheduler.scheduler.events }
+        ensures events { self.new.scheduler.state.events ≡ self.old.scheduler.state.events }
         ensures draws { debt self.new ≡ debt self.old }
     {
         self.scheduler.answered(pid, reply);
@@ -31,11 +31,11 @@ impl Core {
     /// The application is told in its next turn why its call was refused.
     pub fn refuse(&mut self, pid: Pid, refusal: Refusal)
         requires turn { self.old.scheduler.turn ≡ Some pid }
-        requires nothing_shown { self.old.handed_in ≡ None }
+        requires nothing_shown { self.old.unshown ≡ none_unshown }
         ensures machine { machine_of self.new ≡ machine.refuse pid.0 refusal (machine_of self.old) }
         ensures kept { IsOnlyScheduled self.old self.new }
         ensures turn { self.new.scheduler.turn ≡ None }
-        ensures events { self.new.scheduler.scheduler.events ≡ self.old.scheduler.scheduler.events }
+        ensures events { self.new.scheduler.state.events ≡ self.old.scheduler.state.events }
         ensures draws { debt self.new ≡ debt self.old }
     {
         self.answer(pid, Reply::Refused(refusal));
@@ -43,19 +43,13 @@ impl Core {
 
     /// Carries out the call of the application that has the turn.
     pub fn carry_out(&mut self, pid: Pid, call: &Call)
-        requires application { IsApplication 16 pid.0 }
-        requires turn { self.old.scheduler.turn ≡ Some pid }
-        requires nothing_shown { self.old.handed_in ≡ None }
-        requires applications { self.old.applications ≡ self.old.scheduler.scheduler.applications }
-        requires first { 4 ≤ pid.0 }
-        requires last { pid.0 ≤ 19 }
-        requires clock { self.old.clock ≤ 2 ^ 62 }
-        requires few { self.old.timers.armings.drawn < 2 ^ 60 }
-        requires events { HasFitEvents self.old }
-        requires distinct { IsDistinct eqb (numbers self.old.scheduler.scheduler.processes) }
+        requires at_turn { IsAtTurn pid self.old }
         ensures machine { machine_of self.new ≡ after_call call.now pid.0 (machine_of self.old) }
-        ensures kept { IsCallDone self.old self.new }
+        ensures kept { IsCarriedOut self.old self.new }
     {
+        if !has_timer(call) {
+            return self.refuse(pid, Refusal::BadName);
+        }
         match call {
             Call::Wait => self.scheduler.waited(pid),
             Call::Exit => self.scheduler.ended(pid),
@@ -78,11 +72,24 @@ impl Core {
             Call::CallbackStop(timer) => self.stop_callback(pid, *timer),
             Call::Clock => self.answer(pid, Reply::Wide(self.clock)),
             Call::Print(_) => self.answer(pid, Reply::Done),
+            Call::PacketOpen => self.open_packets(pid),
+            Call::PacketRead(at, len) => self.read_packet(pid, *at, *len),
+            Call::PacketDone => self.drop_packet(pid),
+            Call::PacketCount => self.count_packets(pid),
+            Call::PacketSend(handle) => self.send_packet(pid, *handle),
             // Every other call is on memory.
-            _ => {
-                let reply = self.memory.ask(pid, call);
-                self.answer(pid, reply);
-            }
+            _ => self.ask_memory(pid, call),
         }
+    }
+
+    /// Carries out a call on memory.
+    fn ask_memory(&mut self, pid: Pid, call: &Call)
+        requires at_turn { IsAtTurn pid self.old }
+        requires on_memory { is_memory_call call.now ≡ true }
+        ensures machine { machine_of self.new ≡ asked_of_memory call.now pid.0 (machine_of self.old) }
+        ensures kept { IsCarriedOut self.old self.new }
+    {
+        let reply = self.memory.ask(pid, call);
+        self.answer(pid, reply);
     }
 }

@@ -5,9 +5,6 @@ ghost use Rattle.kernel_core.specs.Machine as machine;
 
 use node_memory::Sizes;
 
-/// How many applications a mote may have.
-pub(crate) const MOST_APPLICATIONS: u8 = 16;
-
 /// The sizes of a mote (this project's profile).
 #[derive(Clone, Copy, Debug, PartialEq, Eq, Drop)]
 pub struct Config {

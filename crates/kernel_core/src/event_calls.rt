@@ -1,14 +1,13 @@
 //! What the kernel does at an application's calls on events. A call that is refused changes nothing.
 
-ghost use Rattle.std.specs.Prelude.{◌≡◌, None, Some};
+ghost use Rattle.std.specs.Prelude.{◌≡◌};
 ghost use Rattle.mote_types.specs.declared.call.Call.{Call};
-ghost use Rattle.process_core.specs.Requests.{is_application};
+ghost use Rattle.process_core.specs.Processes.{is_application};
 ghost use Rattle.kernel_core.specs.Calls as call_spec;
 ghost use Rattle.kernel_core.specs.Calls.{after_call};
-ghost use Rattle.kernel_core.specs.Draws.{HasFitEvents};
-ghost use Rattle.kernel_core.specs.View.{machine_of, IsCallDone};
+ghost use Rattle.kernel_core.specs.Code.View.{machine_of, IsAtTurn, IsCallDone};
 
-use crate::core_state::Core;
+use crate::fields::KernelFields;
 use mote_types::event::{Event, FIRST_APPLICATION, Payload, Pid, is_reserved};
 use mote_types::refusal::Refusal;
 use mote_types::reply::Reply;
@@ -22,21 +21,18 @@ fn event_of(code: u8, payload: &Payload) -> Event
     }
 }
 
-impl Core {
+impl KernelFields {
     /// Whether a process is an application of this mote.
     fn is_application(&self, pid: u8) -> bool
-        requires { self.now.applications ≡ self.now.scheduler.scheduler.applications }
-        ensures { result ≡ is_application self.now.scheduler.scheduler pid }
+        requires { self.now.applications ≡ self.now.scheduler.state.applications }
+        ensures { result ≡ is_application self.now.scheduler.state.applications pid }
     {
         FIRST_APPLICATION <= pid && pid - FIRST_APPLICATION < self.applications
     }
 
     /// Puts an event for one application into the queue.
     pub fn post(&mut self, pid: Pid, receiver: u8, code: u8, payload: &Payload)
-        requires turn { self.old.scheduler.turn ≡ Some pid }
-        requires nothing_shown { self.old.handed_in ≡ None }
-        requires events { HasFitEvents self.old }
-        requires applications { self.old.applications ≡ self.old.scheduler.scheduler.applications }
+        requires at_turn { IsAtTurn pid self.old }
         ensures machine { machine_of self.new ≡ after_call (Call.Post receiver code payload.now) pid.0 (machine_of self.old) }
         ensures kept { IsCallDone self.old self.new }
     {
@@ -54,9 +50,7 @@ impl Core {
 
     /// Puts an event for all processes into the queue.
     pub fn broadcast(&mut self, pid: Pid, code: u8, payload: &Payload)
-        requires turn { self.old.scheduler.turn ≡ Some pid }
-        requires nothing_shown { self.old.handed_in ≡ None }
-        requires events { HasFitEvents self.old }
+        requires at_turn { IsAtTurn pid self.old }
         ensures machine { machine_of self.new ≡ after_call (Call.Broadcast code payload.now) pid.0 (machine_of self.old) }
         ensures kept { IsCallDone self.old self.new }
     {
@@ -71,9 +65,7 @@ impl Core {
 
     /// Gives an application an event at once; the caller is answered after that.
     pub fn post_synch(&mut self, pid: Pid, receiver: u8, code: u8, payload: &Payload)
-        requires turn { self.old.scheduler.turn ≡ Some pid }
-        requires nothing_shown { self.old.handed_in ≡ None }
-        requires events { HasFitEvents self.old }
+        requires at_turn { IsAtTurn pid self.old }
         ensures machine { machine_of self.new ≡ after_call (Call.PostSynch receiver code payload.now) pid.0 (machine_of self.old) }
         ensures kept { IsCallDone self.old self.new }
     {
@@ -88,9 +80,7 @@ impl Core {
 
     /// Draws an event number.
     pub fn alloc_event(&mut self, pid: Pid)
-        requires turn { self.old.scheduler.turn ≡ Some pid }
-        requires nothing_shown { self.old.handed_in ≡ None }
-        requires events { HasFitEvents self.old }
+        requires at_turn { IsAtTurn pid self.old }
         ensures machine { machine_of self.new ≡ after_call Call.AllocEvent pid.0 (machine_of self.old) }
         ensures kept { IsCallDone self.old self.new }
     {

@@ -6,16 +6,22 @@ ghost use Rattle.mote_types.specs.Applications.{says_of};
 ghost use Rattle.mote_types.specs.Entries.{is_halt};
 ghost use Rattle.mote_types.specs.declared.event.Stimulus.{Stimulus as Told};
 ghost use Rattle.kernel_core.specs.Machine.{is_bootable, booted};
-ghost use Rattle.kernel_core.specs.Run.{GoesOn, fed, heard, is_at_rest, made, ticks_of};
+ghost use Rattle.kernel_core.specs.Inputs.{fed, has_bytes, ticks_of};
+ghost use Rattle.kernel_core.specs.Run.{GoesOn, heard, is_at_rest, made};
 ghost use Rattle.kernel_core.specs.Mote.{TakesEntry};
 
-use crate::config::{Config, MOST_APPLICATIONS};
-use crate::core_state::Core;
+use crate::config::Config;
+use crate::fields::KernelFields;
 use crate::step::Step;
+use crate::unshown::Unshown;
+use device_core::packet_queue::PacketQueue;
+use device_core::serial_line::SerialLine;
 use mote_types::app::App;
-use mote_types::entry::Input;
+use mote_types::entry::{Entry, Input};
+use mote_types::event::MOST_APPLICATIONS;
 use mote_types::fault::BootFault;
 use node_memory::NodeMemory;
+use process_core::job::Job;
 use process_core::scheduler::Scheduler;
 use std::alloc::Global;
 use std::marker::Model;
@@ -24,18 +30,18 @@ use timer_core::timers::Timers;
 /// A mote's kernel: one machine of processes, events and a clock.
 #[derive(Drop)]
 pub struct Kernel {
-    core: Core,
+    fields: KernelFields,
 }
 
 impl Model for Kernel {
     ghost use Rattle.kernel_core.specs.Mote.{Mote};
-    ghost use Rattle.kernel_core.specs.View.{mote_of, IsInOrder};
+    ghost use Rattle.kernel_core.specs.Code.View.{mote_of, IsInOrder};
 
     ghost Value = { Mote };
 
-    ghost view = { λ k. mote_of k.core };
+    ghost view = { λ k. mote_of k.fields };
 
-    ghost invariant = { λ k. IsInOrder k.core };
+    ghost invariant = { λ k. IsInOrder k.fields };
 }
 
 impl Kernel {
@@ -52,51 +58,60 @@ impl Kernel {
         }
         let memory = NodeMemory::new(alloc, config.sizes())?;
         let scheduler = Scheduler::new(alloc, config.apps).map_err(|_| BootFault::Memory)?;
-        let core = Core {
+        let serial = SerialLine::new(alloc).map_err(|_| BootFault::Memory)?;
+        let fields = KernelFields {
             clock: 0,
             work: 0,
             halted: false,
             inputs: 0,
             applications: config.apps,
-            handed_in: None,
+            unshown: Unshown::none(),
             scheduler,
             timers: Timers::new(),
             memory,
+            serial,
+            serial_waits: false,
+            packets: PacketQueue::new(),
         };
-        Ok(Kernel { core })
+        Ok(Kernel { fields })
     }
 
     /// Whether the run was halted, since the work of one input reached its bound.
     pub fn halted(&self) -> bool
         ensures { result ≡ self.now.machine.is_halted }
     {
-        self.core.halted
+        self.fields.halted
     }
 
     /// The ticks since boot.
     pub fn clock(&self) -> u64
         ensures { result ≡ self.now.machine.clock }
     {
-        self.core.clock
+        self.fields.clock
     }
 
-    /// Whether nothing is left to be done without an input: no activation is open, no process is marked and no event waits.
+    /// Whether the mote rests: no activation is open, no process is marked and no event waits. After Halt it never rests.
     pub fn at_rest(&self) -> bool
         ensures { result ≡ is_at_rest self.now.machine }
     {
-        self.core.at_rest()
+        !self.fields.halted && self.fields.unshown.is_empty() && self.fields.scheduler.at_rest()
     }
 
     /// Hands an input to a mote at rest. What follows is done by `step`.
+    ///
+    /// A frame has at least one byte.
     pub fn feed(&mut self, input: Input)
-        requires running { self.old.machine.is_halted ≡ false }
         requires rest { is_at_rest self.old.machine ≡ true }
         requires clock { self.old.machine.clock + ticks_of input ≤ 2 ^ 62 }
+        requires bytes { has_bytes input ≡ true }
         requires few { self.old.inputs < 2 ^ 40 }
         ensures machine { self.new.machine ≡ fed input self.old.machine }
         ensures inputs { self.new.inputs ≡ self.old.inputs + 1 }
     {
-        self.core.feed(input);
+        self.fields.work = 0;
+        self.fields.take_in(&input);
+        self.fields.inputs += 1;
+        self.fields.unshown.input = Some(input);
     }
 
     /// Works until an entry is made or nothing is left to be done. It takes one turn at most, of one application.
@@ -114,6 +129,36 @@ impl Kernel {
         ensures inputs { self.new.inputs ≡ self.old.inputs }
         ensures progress { TakesEntry result self.old self.new }
     {
-        self.core.step(apps)
+        if self.fields.halted {
+            return Step::Halted;
+        }
+        if let Some(entry) = self.fields.unshown.take_first() {
+            return Step::Entry(entry);
+        }
+        'job: loop {
+            match self.fields.next_job() {
+                Job::Give {
+                    pid,
+                    origin,
+                    stimulus,
+                } => return Step::Entry(self.fields.take_turn(apps, pid, origin, stimulus)),
+                Job::Serve { pid, event } => self.fields.serve(pid, event),
+                Job::Callback {
+                    pid,
+                    number,
+                    arming,
+                } => {
+                    if self.fields.timers.is_present_arming(pid, number, arming) {
+                        self.fields.scheduler.give_callback(pid, number);
+                    }
+                }
+                Job::Round => {
+                    if let Some(halt) = self.fields.begin_round() {
+                        return Step::Entry(halt);
+                    }
+                }
+                Job::Rest => return Step::Rest,
+            }
+        }
     }
 }

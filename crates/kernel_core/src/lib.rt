@@ -3,12 +3,19 @@
 
 mod calls;
 pub mod config;
-mod core_state;
 mod event_calls;
+mod fields;
+mod inputs;
 pub mod kernel;
 mod kernel_processes;
+pub mod laws;
+mod packet_calls;
+mod packet_process;
 mod process_calls;
+mod serial_process;
 pub mod step;
 mod timer_calls;
+mod timer_processes;
+mod unshown;
 
 pub use mote_types::fault::BootFault;

@@ -1,23 +1,18 @@
 //! What the kernel does at an application's calls on processes. A call that is refused changes nothing.
 
-ghost use Rattle.std.specs.Prelude.{◌≡◌, eqb, None, Some};
-ghost use Rattle.std.specs.List.{IsDistinct};
+ghost use Rattle.std.specs.Prelude.{◌≡◌};
 ghost use Rattle.mote_types.specs.declared.call.Call.{Call};
-ghost use Rattle.process_core.specs.Processes.{numbers};
 ghost use Rattle.kernel_core.specs.Calls.{after_call};
-ghost use Rattle.kernel_core.specs.Draws.{HasFitEvents};
-ghost use Rattle.kernel_core.specs.View.{machine_of, IsCallDone};
+ghost use Rattle.kernel_core.specs.Code.View.{machine_of, IsAtTurn, IsCallDone};
 
-use crate::core_state::Core;
+use crate::fields::KernelFields;
 use mote_types::event::Pid;
 use mote_types::reply::Reply;
 
-impl Core {
+impl KernelFields {
     /// Marks an application for the next poll round.
     pub fn poll(&mut self, pid: Pid, process: u8)
-        requires turn { self.old.scheduler.turn ≡ Some pid }
-        requires nothing_shown { self.old.handed_in ≡ None }
-        requires events { HasFitEvents self.old }
+        requires at_turn { IsAtTurn pid self.old }
         ensures machine { machine_of self.new ≡ after_call (Call.Poll process) pid.0 (machine_of self.old) }
         ensures kept { IsCallDone self.old self.new }
     {
@@ -29,9 +24,7 @@ impl Core {
 
     /// Starts an application; the caller is answered after its first activation.
     pub fn start(&mut self, pid: Pid, process: u8)
-        requires turn { self.old.scheduler.turn ≡ Some pid }
-        requires nothing_shown { self.old.handed_in ≡ None }
-        requires events { HasFitEvents self.old }
+        requires at_turn { IsAtTurn pid self.old }
         ensures machine { machine_of self.new ≡ after_call (Call.Start process) pid.0 (machine_of self.old) }
         ensures kept { IsCallDone self.old self.new }
     {
@@ -43,10 +36,7 @@ impl Core {
 
     /// Ends an application; the caller is answered once it has left the process list.
     pub fn kill(&mut self, pid: Pid, process: u8)
-        requires turn { self.old.scheduler.turn ≡ Some pid }
-        requires nothing_shown { self.old.handed_in ≡ None }
-        requires events { HasFitEvents self.old }
-        requires distinct { IsDistinct eqb (numbers self.old.scheduler.scheduler.processes) }
+        requires at_turn { IsAtTurn pid self.old }
         ensures machine { machine_of self.new ≡ after_call (Call.Kill process) pid.0 (machine_of self.old) }
         ensures kept { IsCallDone self.old self.new }
     {
@@ -58,9 +48,7 @@ impl Core {
 
     /// Tells whether an application runs.
     pub fn is_running(&mut self, pid: Pid, process: u8)
-        requires turn { self.old.scheduler.turn ≡ Some pid }
-        requires nothing_shown { self.old.handed_in ≡ None }
-        requires events { HasFitEvents self.old }
+        requires at_turn { IsAtTurn pid self.old }
         ensures machine { machine_of self.new ≡ after_call (Call.IsRunning process) pid.0 (machine_of self.old) }
         ensures kept { IsCallDone self.old self.new }
     {

@@ -4,7 +4,7 @@ use Rattle.std.specs.Prelude.{Option, Some, None, is_some, is_none, filter, repl
 use Rattle.std.specs.List.{position, position_or_len, refill}
 use Rattle.std.proofs.lemmas.List.{drop_all, take_all, append-nil, length-set, ext_get_or, get_or-set_same, get_or-set_other, get_or_past}
 use Rattle.std.proofs.lemmas.Bool.{cases_eq, cases_lt, false≢true}
-use Rattle.memb_core.specs.declared.pool.Pool.{Pool}
+use Rattle.memb_core.specs.PoolTable.{PoolTable}
 use Rattle.memb_core.specs.BlockPool.{is_live, first_unused, unused_count}
 use Rattle.memb_core.specs.PoolBytes.{blocks_from, usable_bytes, region_of, pool_of}
 use Rattle.memb_core.specs.Links.{is_used}
@@ -73,11 +73,11 @@ none_if : (u : Bool) (bytes : List ℕ) → is_none (if u then Some bytes else N
 none_if true bytes = refl
 none_if false bytes = refl
 
-pub live_is : (b : ℕ) (pool : Pool) (bytes : List ℕ) → is_live b (pool_of pool bytes) ≡ is_used b pool
+pub live_is : (b : ℕ) (pool : PoolTable) (bytes : List ℕ) → is_live b (pool_of pool bytes) ≡ is_used b pool
 unfolding pool_of
 live_is b pool bytes =
     let f = usable_bytes pool (region_of pool bytes) in
-    ap is_some (get_or-blocks f pool.used.items b) ∙ some_if (get_or pool.used.items b false) (f b)
+    ap is_some (get_or-blocks f pool.used b) ∙ some_if (get_or pool.used b false) (f b)
 
 -- the unused ones
 place_from : (f : ℕ → List ℕ) (n : ℕ) (us : List Bool) → position_or_len is_none (blocks_from f n us) ≡ position_or_len not us
@@ -85,11 +85,11 @@ place_from f n [] = refl
 place_from f n (true ∷ us) = ap (λ k. 1 + k) (place_from f (n + 1) us)
 place_from f n (false ∷ us) = refl
 
-pub first_unused_is : (pool : Pool) (bytes : List ℕ) → first_unused (pool_of pool bytes) ≡ position not pool.used.items
+pub first_unused_is : (pool : PoolTable) (bytes : List ℕ) → first_unused (pool_of pool bytes) ≡ position not pool.used
 unfolding pool_of
 first_unused_is pool bytes =
     let f = usable_bytes pool (region_of pool bytes) in
-    let place = place_from f 0 pool.used.items in let many = length-from f 0 pool.used.items in
+    let place = place_from f 0 pool.used in let many = length-from f 0 pool.used in
     rw (place, many) refl
 
 count_from : (f : ℕ → List ℕ) (n : ℕ) (us : List Bool) → length (filter is_none (blocks_from f n us)) ≡ length (filter not us)
@@ -97,9 +97,9 @@ count_from f n [] = refl
 count_from f n (true ∷ us) = count_from f (n + 1) us
 count_from f n (false ∷ us) = ap suc (count_from f (n + 1) us)
 
-pub unused_count_is : (pool : Pool) (bytes : List ℕ) → unused_count (pool_of pool bytes) ≡ length (filter not pool.used.items)
+pub unused_count_is : (pool : PoolTable) (bytes : List ℕ) → unused_count (pool_of pool bytes) ≡ length (filter not pool.used)
 unfolding pool_of
-unused_count_is pool bytes = count_from (usable_bytes pool (region_of pool bytes)) 0 pool.used.items
+unused_count_is pool bytes = count_from (usable_bytes pool (region_of pool bytes)) 0 pool.used
 
 pub all_unused : (f : ℕ → List ℕ) (n count : ℕ) → blocks_from f n (replicate count false) ≡ replicate count None
 all_unused f n zero = refl

@@ -11,19 +11,20 @@ use Rattle.arena_core.specs.Contents.{Contents, contents}
 use Rattle.arena_core.specs.Written.{written}
 use Rattle.arena_core.proofs.Ranges.{length-range, length-written, range-written, range-written_apart, written-range, range-range, changes_only}
 use Rattle.arena_core.proofs.Rows.{written_is}
-use Rattle.memb_core.specs.declared.pool.Pool.{Pool}
+use Rattle.memb_core.specs.PoolTable.{PoolTable}
+use Rattle.memb_core.specs.Code.Sizes.{FillsSpan}
 use Rattle.memb_core.specs.BlockPool.{BlockPool, with_bytes, block_of, is_live}
 use Rattle.memb_core.specs.PoolBytes.{place_of, region_of, usable_bytes, blocks_from, pool_of, IsWithin, KeepsToSpan}
 use Rattle.memb_core.specs.Links.{named_by, link_of, is_used}
 use Rattle.memb_core.proofs.Blocks.{entry, get_or-blocks, blocks_changed, blocks_same, entry_used, entry_unused, entry_same, used_below, live_is}
 
 -- each block lies in the span, and before or behind each other one
-pub block_inside : (pool : Pool) (b : ℕ) → b < length pool.used.items → place_of pool b + 4 + pool.usable ≤ pool.span.len
-block_inside pool b below =
+pub block_inside : (pool : PoolTable) → FillsSpan pool → (b : ℕ) → b < length pool.used → place_of pool b + 4 + pool.usable ≤ pool.span.len
+block_inside pool fills b below =
     let size = pool.usable + 4 in
-    omega (arith, pool.whole, mul-le (b + 1) size (length pool.used.items) size (omega arith) (omega arith))
+    omega (arith, fills.whole, mul-le (b + 1) size (length pool.used) size (omega arith) (omega arith))
 
-pub blocks_apart : (pool : Pool) (b c : ℕ) → b ≢ c → (place_of pool b + 4 + pool.usable ≤ place_of pool c) ⊎ (place_of pool c + 4 + pool.usable ≤ place_of pool b)
+pub blocks_apart : (pool : PoolTable) (b c : ℕ) → b ≢ c → (place_of pool b + 4 + pool.usable ≤ place_of pool c) ⊎ (place_of pool c + 4 + pool.usable ≤ place_of pool b)
 blocks_apart pool b c ne =
     let size = pool.usable + 4 in
     elim (cases_order b c) [
@@ -37,57 +38,67 @@ blocks_apart pool b c ne =
 length-zeros : (n : ℕ) → length (zeros n) ≡ n
 length-zeros n = length-replicate n 0
 
-module _ (pool : Pool) (B : List ℕ) (within : IsWithin pool B) where
+module _ (pool : PoolTable) (B : List ℕ) (within : IsWithin pool B) where
+  -- what number b stands for
+  pub block_is : (b : ℕ) → is_used b pool ≡ true → block_of b (pool_of pool B) ≡ Some (usable_bytes pool (region_of pool B) b)
+  unfolding pool_of
+  block_is b used =
+      let f = usable_bytes pool (region_of pool B) in get_or-blocks f pool.used b ∙ entry_used f pool.used b used
+
+  -- a block of which it is said that it is used, or what its bytes are
+  pub live_below : (b : ℕ) → is_live b (pool_of pool B) ≡ true → b < length pool.used
+  live_below b live = used_below pool.used b (sym (live_is b pool B) ∙ live)
+
+  pub used_if_room : (b n : ℕ) → IsSomeAnd (block_of b (pool_of pool B)) (λ block. n ≤ length block) → is_used b pool ≡ true
+  used_if_room b n h = sym (live_is b pool B) ∙ used_if_some (block_of b (pool_of pool B)) (λ block. n ≤ length block) h
+    where
+      used_if_some : (o : Option (List ℕ)) (P : List ℕ → Type 0) → IsSomeAnd o P → is_some o ≡ true
+      used_if_some None P h = absurd h
+      used_if_some (Some x) P h = refl
+
+  -- block c is given back
+  pub blocks_freed : (c : ℕ) → c < length pool.used → blocks_from (usable_bytes pool (region_of pool B)) 0 (set pool.used c false) ≡ set (blocks_from (usable_bytes pool (region_of pool B)) 0 pool.used) c None
+  blocks_freed c below =
+      let f = usable_bytes pool (region_of pool B) in let us = pool.used in let vs = set us c false in
+      blocks_changed f f us vs c None (length-set us c false) below (entry_unused f vs c (get_or-set_same us c false false below))
+      (λ b l ne. entry_same f f us vs b refl (get_or-set_other us c b false false ne))
+
+module _ (pool : PoolTable) (fills : FillsSpan pool) (B : List ℕ) (within : IsWithin pool B) where
   abbrev R : List ℕ
   R = region_of pool B
 
   abbrev count : ℕ
-  count = length pool.used.items
+  count = length pool.used
 
   length-region : length R ≡ pool.span.len
   length-region = length-range B pool.span.at pool.span.len within
 
   pub bytes_read : (b : ℕ) → b < count → usable_bytes pool R b ≡ slice_range B (pool.span.at + (place_of pool b + 4)) (pool.span.at + (place_of pool b + 4) + pool.usable)
   bytes_read b below =
-      let inside = block_inside pool b below in
+      let inside = block_inside pool fills b below in
       range-range B pool.span.at pool.span.len (place_of pool b + 4) (place_of pool b + 4 + pool.usable) (omega arith) (omega arith)
       ∙ ap (slice_range B (pool.span.at + (place_of pool b + 4))) (omega arith)
 
   pub length-usable : (b : ℕ) → b < count → length (usable_bytes pool R b) ≡ pool.usable
   length-usable b below =
-      let inside = block_inside pool b below in
+      let inside = block_inside pool fills b below in
       let long = length-region in
       length-range R (place_of pool b + 4) pool.usable (omega arith)
 
   pub link_read : (b : ℕ) → b < count → link_of pool B b ≡ named_by (from_le_bytes w32 (slice_range B (pool.span.at + place_of pool b) (pool.span.at + place_of pool b + 4)))
   unfolding link_of
   link_read b below =
-      let inside = block_inside pool b below in
+      let inside = block_inside pool fills b below in
       let read : slice_range R (place_of pool b) (place_of pool b + 4) ≡ slice_range B (pool.span.at + place_of pool b) (pool.span.at + place_of pool b + 4) =
       range-range B pool.span.at pool.span.len (place_of pool b) (place_of pool b + 4) (omega arith) (omega arith)
       ∙ ap (slice_range B (pool.span.at + place_of pool b)) (omega arith) in
       ap (λ bytes. named_by (from_le_bytes w32 bytes)) read
 
-  -- what number b stands for
-  pub block_is : (b : ℕ) → is_used b pool ≡ true → block_of b (pool_of pool B) ≡ Some (usable_bytes pool R b)
-  unfolding pool_of
-  block_is b used =
-      let f = usable_bytes pool R in get_or-blocks f pool.used.items b ∙ entry_used f pool.used.items b used
-
-  -- a block of which it is said that it is used, or what its bytes are
-  pub live_below : (b : ℕ) → is_live b (pool_of pool B) ≡ true → b < count
-  live_below b live = used_below pool.used.items b (sym (live_is b pool B) ∙ live)
-
   pub room_of : (b n : ℕ) → IsSomeAnd (block_of b (pool_of pool B)) (λ block. n ≤ length block) → (is_used b pool ≡ true) × (n ≤ pool.usable)
   room_of b n h =
-      let used = used_if_some (block_of b (pool_of pool B)) (λ block. n ≤ length block) h in
-      let used' : is_used b pool ≡ true = sym (live_is b pool B) ∙ used in
-      let room : n ≤ length (usable_bytes pool R b) = subst (λ (o : Option (List ℕ)). IsSomeAnd o (λ block. n ≤ length block)) (block_is b used') h in
-      (used', omega (arith, length-usable b (used_below pool.used.items b used')))
-    where
-      used_if_some : (o : Option (List ℕ)) (P : List ℕ → Type 0) → IsSomeAnd o P → is_some o ≡ true
-      used_if_some None P h = absurd h
-      used_if_some (Some x) P h = refl
+      let used = used_if_room pool B within b n h in
+      let room : n ≤ length (usable_bytes pool R b) = subst (λ (o : Option (List ℕ)). IsSomeAnd o (λ block. n ≤ length block)) (block_is pool B within b used) h in
+      (used, omega (arith, length-usable b (used_below pool.used b used)))
 
   -- a write within the span
   module _ (x : ℕ) (ws : List ℕ) (inside : x + length ws ≤ pool.span.len) where
@@ -97,7 +108,7 @@ module _ (pool : Pool) (B : List ℕ) (within : IsWithin pool B) where
     pub still_within : IsWithin pool B'
     still_within = omega (arith, length-written B (pool.span.at + x) ws, within)
 
-    pub kept : (new : Pool) (carved : ℕ) → new.span ≡ pool.span → KeepsToSpan pool new (contents B carved) (contents B' carved)
+    pub kept : (new : PoolTable) (carved : ℕ) → new.span ≡ pool.span → KeepsToSpan pool new (contents B carved) (contents B' carved)
     kept new carved same = record {
       span = same;
       carved = refl;
@@ -125,7 +136,7 @@ module _ (pool : Pool) (B : List ℕ) (within : IsWithin pool B) where
     place = place_of pool c + 4 + at
 
     pub write_inside : place + length ws ≤ pool.span.len
-    write_inside = omega (arith, block_inside pool c below)
+    write_inside = omega (arith, block_inside pool fills c below)
 
     abbrev C : List ℕ
     C = written B (pool.span.at + place) ws
@@ -142,7 +153,7 @@ module _ (pool : Pool) (B : List ℕ) (within : IsWithin pool B) where
 
     usable_written : usable_bytes pool (region_of pool C) c ≡ overwritten at ws (usable_bytes pool R c)
     usable_written =
-        let long = length-region in let fits = block_inside pool c below in
+        let long = length-region in let fits = block_inside pool fills c below in
         ap (λ r. usable_bytes pool r c) (moved place ws write_inside)
         ∙ written-range R (place_of pool c + 4) pool.usable at ws room (omega arith)
         ∙ written_is (usable_bytes pool R c) at ws (omega (arith, length-usable c below))
@@ -151,7 +162,7 @@ module _ (pool : Pool) (B : List ℕ) (within : IsWithin pool B) where
     pub pool_written : is_used c pool ≡ true → pool_of pool C ≡ with_bytes c at ws (pool_of pool B)
     unfolding pool_of
     pool_written used =
-        let f = usable_bytes pool R in let g = usable_bytes pool (region_of pool C) in let us = pool.used.items in
+        let f = usable_bytes pool R in let g = usable_bytes pool (region_of pool C) in let us = pool.used in
         let read : unwrap_or (get_or (blocks_from f 0 us) c None) [] ≡ f c =
         ap (λ o. unwrap_or o []) (get_or-blocks f us c ∙ entry_used f us c used) in
         let here : entry g us c ≡ Some (overwritten at ws (f c)) = entry_used g us c used ∙ ap Some usable_written in
@@ -168,7 +179,7 @@ module _ (pool : Pool) (B : List ℕ) (within : IsWithin pool B) where
     first = place_of pool c + 4
 
     zeros_inside : first + length (zeros pool.usable) ≤ pool.span.len
-    zeros_inside = omega (arith, block_inside pool c below, length-zeros pool.usable)
+    zeros_inside = omega (arith, block_inside pool fills c below, length-zeros pool.usable)
 
     zeros_read : usable_bytes pool (region_of pool Z) c ≡ zeros pool.usable
     zeros_read =
@@ -194,25 +205,18 @@ module _ (pool : Pool) (B : List ℕ) (within : IsWithin pool B) where
     pub zeros_within : IsWithin pool Z
     zeros_within = still_within first (zeros pool.usable) zeros_inside
 
-    pub zeros_kept : (new : Pool) (arena : Contents) (carved : ℕ) → arena ≡ contents Z carved → new.span ≡ pool.span → KeepsToSpan pool new (contents B carved) arena
+    pub zeros_kept : (new : PoolTable) (arena : Contents) (carved : ℕ) → arena ≡ contents Z carved → new.span ≡ pool.span → KeepsToSpan pool new (contents B carved) arena
     zeros_kept new arena carved e same = subst (KeepsToSpan pool new (contents B carved)) (sym e) (kept first (zeros pool.usable) zeros_inside new carved same)
 
     abbrev blocks_after : List Bool → List (Option (List ℕ))
     blocks_after = blocks_from (usable_bytes pool (region_of pool Z)) 0
 
-    pub blocks_allocated : blocks_after (set pool.used.items c true) ≡ set (blocks_from (usable_bytes pool R) 0 pool.used.items) c (Some (zeros pool.usable))
+    pub blocks_allocated : blocks_after (set pool.used c true) ≡ set (blocks_from (usable_bytes pool R) 0 pool.used) c (Some (zeros pool.usable))
     blocks_allocated =
-        let f = usable_bytes pool R in let g = usable_bytes pool (region_of pool Z) in let us = pool.used.items in let vs = set us c true in
+        let f = usable_bytes pool R in let g = usable_bytes pool (region_of pool Z) in let us = pool.used in let vs = set us c true in
         let here : entry g vs c ≡ Some (zeros pool.usable) = entry_used g vs c (get_or-set_same us c true false below) ∙ ap Some zeros_read in
         blocks_changed f g us vs c (Some (zeros pool.usable)) (length-set us c true) below here
         (λ b l ne. entry_same f g us vs b (zeros_others b ne) (get_or-set_other us c b true false ne))
-
-  -- block c is given back
-  pub blocks_freed : (c : ℕ) → c < count → blocks_from (usable_bytes pool R) 0 (set pool.used.items c false) ≡ set (blocks_from (usable_bytes pool R) 0 pool.used.items) c None
-  blocks_freed c below =
-      let f = usable_bytes pool R in let us = pool.used.items in let vs = set us c false in
-      blocks_changed f f us vs c None (length-set us c false) below (entry_unused f vs c (get_or-set_same us c false false below))
-      (λ b l ne. entry_same f f us vs b refl (get_or-set_other us c b false false ne))
 
   -- a write to the link of block c
   module _ (c word : ℕ) (below : c < count) (small : word < 2 ^ 32) where
@@ -223,7 +227,7 @@ module _ (pool : Pool) (B : List ℕ) (within : IsWithin pool B) where
     L = written B (pool.span.at + place_of pool c) W
 
     link_inside : place_of pool c + length W ≤ pool.span.len
-    link_inside = omega (arith, block_inside pool c below)
+    link_inside = omega (arith, block_inside pool fills c below)
 
     pub link_keeps : (carved : ℕ) → KeepsToSpan pool pool (contents B carved) (contents L carved)
     link_keeps carved = kept (place_of pool c) W link_inside pool carved refl
@@ -249,4 +253,4 @@ module _ (pool : Pool) (B : List ℕ) (within : IsWithin pool B) where
     unfolding pool_of
     link_blocks =
         ap (λ (blocks : List (Option (List ℕ))). let p : BlockPool = record { usable = pool.usable; blocks = blocks } in p)
-        (blocks_same (usable_bytes pool R) (usable_bytes pool (region_of pool L)) pool.used.items (λ b l. link_usable b))
+        (blocks_same (usable_bytes pool R) (usable_bytes pool (region_of pool L)) pool.used (λ b l. link_usable b))

@@ -11,8 +11,7 @@ use mir.Syntax.{w32}
 use Rattle.arena_core.specs.declared.span.Span.{Span}
 use Rattle.arena_core.specs.Contents.{Contents}
 use Rattle.arena_core.specs.Outside.{ChangesOnly}
-use Rattle.memb_core.specs.declared.pool.Pool.{Pool}
-use Rattle.memb_core.specs.declared.lists.Lists.{Lists}
+use Rattle.memb_core.specs.PoolTable.{PoolTable, ListHeads}
 use Rattle.memb_core.specs.declared.list_name.ListName.{ListName}
 use Rattle.memb_core.specs.BlockLists.{has_number, holder_of}
 use Rattle.memb_core.specs.BlockPool.{BlockPool}
@@ -20,45 +19,45 @@ use Rattle.memb_core.specs.PoolBytes.{place_of, usable_bytes, blocks_from, regio
 use Rattle.memb_core.specs.Links.{start_of, named_by, link_of, all_along, list_of, AreLinked}
 use Rattle.memb_core.proofs.Linked.{still_linked}
 
-pub IsWithin-kept : (old new : Pool) (before after : Contents) → KeepsToSpan old new before after → IsWithin old before.bytes → IsWithin new after.bytes
+pub IsWithin-kept : (old new : PoolTable) (before after : Contents) → KeepsToSpan old new before after → IsWithin old before.bytes → IsWithin new after.bytes
 IsWithin-kept old new before after kept within =
     omega (arith, ap (λ (s : Span). s.at) kept.span, ap (λ (s : Span). s.len) kept.span, kept.bytes.size, within)
 
 -- equal bytes of the span
-pub pool_of-same : (pool : Pool) (xs ys : List ℕ) → region_of pool xs ≡ region_of pool ys → pool_of pool xs ≡ pool_of pool ys
+pub pool_of-same : (pool : PoolTable) (xs ys : List ℕ) → region_of pool xs ≡ region_of pool ys → pool_of pool xs ≡ pool_of pool ys
 unfolding pool_of
 pool_of-same pool xs ys same =
-    ap (λ region. let p : BlockPool = record { usable = pool.usable; blocks = blocks_from (usable_bytes pool region) 0 pool.used.items } in p) same
+    ap (λ region. let p : BlockPool = record { usable = pool.usable; blocks = blocks_from (usable_bytes pool region) 0 pool.used } in p) same
 
-link_of-same : (pool : Pool) (xs ys : List ℕ) → region_of pool xs ≡ region_of pool ys → link_of pool xs ≡ link_of pool ys
+link_of-same : (pool : PoolTable) (xs ys : List ℕ) → region_of pool xs ≡ region_of pool ys → link_of pool xs ≡ link_of pool ys
 unfolding link_of
 link_of-same pool xs ys same =
     ap (λ region. λ b. named_by (from_le_bytes w32 (slice_range region (place_of pool b) (place_of pool b + 4)))) same
 
-pub list_of-same : (name : ListName) (lists : Lists) (pool : Pool) (xs ys : List ℕ) → region_of pool xs ≡ region_of pool ys → list_of name lists pool xs ≡ list_of name lists pool ys
+pub list_of-same : (name : ListName) (lists : ListHeads) (pool : PoolTable) (xs ys : List ℕ) → region_of pool xs ≡ region_of pool ys → list_of name lists pool xs ≡ list_of name lists pool ys
 list_of-same name lists pool xs ys same = ap (λ link. all_along link (start_of name lists)) (link_of-same pool xs ys same)
 
-pub AreLinked-same : (lists : Lists) (pool : Pool) (xs ys : List ℕ) → region_of pool xs ≡ region_of pool ys → IsWithin pool ys → AreLinked lists pool xs → AreLinked lists pool ys
+pub AreLinked-same : (lists : ListHeads) (pool : PoolTable) (xs ys : List ℕ) → region_of pool xs ≡ region_of pool ys → IsWithin pool ys → AreLinked lists pool xs → AreLinked lists pool ys
 AreLinked-same lists pool xs ys same within linked =
-    (still_linked lists pool pool xs ys linked within (λ name c had. (ap (λ link. link c) (sym (link_of-same pool xs ys same)), (linked.each name).used c had))).0
+    (still_linked lists pool pool xs ys linked within linked.few (λ name c had. (ap (λ link. link c) (sym (link_of-same pool xs ys same)), (linked.each name).used c had))).0
 
 -- only bytes of another span changed
-module _ (pool : Pool) (at len : ℕ) (old new : List ℕ) (changes : ChangesOnly at len old new) (apart : (pool.span.at + pool.span.len ≤ at) ⊎ (at + len ≤ pool.span.at)) where
+module _ (pool : PoolTable) (at len : ℕ) (old new : List ℕ) (changes : ChangesOnly at len old new) (apart : (pool.span.at + pool.span.len ≤ at) ⊎ (at + len ≤ pool.span.at)) where
   region_same : region_of pool new ≡ region_of pool old
   region_same = changes.others pool.span.at pool.span.len apart
 
   pub pool_of-elsewhere : pool_of pool new ≡ pool_of pool old
   pool_of-elsewhere = pool_of-same pool new old region_same
 
-  pub list_of-elsewhere : (name : ListName) (lists : Lists) → list_of name lists pool new ≡ list_of name lists pool old
+  pub list_of-elsewhere : (name : ListName) (lists : ListHeads) → list_of name lists pool new ≡ list_of name lists pool old
   list_of-elsewhere name lists = list_of-same name lists pool new old region_same
 
-  pub AreLinked-elsewhere : (lists : Lists) → AreLinked lists pool old → AreLinked lists pool new
+  pub AreLinked-elsewhere : (lists : ListHeads) → AreLinked lists pool old → AreLinked lists pool new
   AreLinked-elsewhere lists linked =
       AreLinked-same lists pool old new (sym region_same) (omega (arith, changes.size, linked.within)) linked
 
 -- where a block is
-module _ (lists : Lists) (pool : Pool) (bytes : List ℕ) (b : ℕ) where
+module _ (lists : ListHeads) (pool : PoolTable) (bytes : List ℕ) (b : ℕ) where
   abbrev holder : Option ListName
   holder = holder_of b (list_of ListName.First lists pool bytes) (list_of ListName.Second lists pool bytes)
 

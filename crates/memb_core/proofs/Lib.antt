@@ -1,3 +1,4 @@
+mod Apart
 pub mod Blocks
 pub mod Bytes
 pub mod Callers

@@ -2,9 +2,8 @@
 use Rattle.std.proofs.Common.{◌≡◌, ◌≢◌, ℕ, suc, ◌≤◌, ◌<◌, ◌⊎◌, inl, inr, true, false, List, [], ◌∷◌, length, drop, get_or, refl, sym, ap, ◌∙◌, subst, arith}
 use Rattle.std.specs.Prelude.{Option, Some, None, IfSome}
 use Rattle.std.proofs.lemmas.Bool.{cases_Bool, false≢true}
-use Rattle.memb_core.specs.declared.pool.Pool.{Pool}
+use Rattle.memb_core.specs.PoolTable.{PoolTable, ListHeads}
 use Rattle.memb_core.specs.declared.list_name.ListName.{ListName}
-use Rattle.memb_core.specs.declared.lists.Lists.{Lists}
 use Rattle.memb_core.specs.BlockLists.{has_number, without, put_behind, popped}
 use Rattle.memb_core.specs.PoolBytes.{pool_of, IsWithin}
 use Rattle.memb_core.specs.Links.{start_of, with_start, link_of, list_of, all_along, Names, AreDistinct, is_used, IsLinked, AreLinked, KeepsLists, LeavesOthers}
@@ -18,21 +17,21 @@ same_name ListName.First ListName.Second = inr (λ e. absurd (cc))
 same_name ListName.Second ListName.First = inr (λ e. absurd (cc))
 same_name ListName.Second ListName.Second = inl refl
 
-pub start_same : (name : ListName) (start : Option ℕ) (lists : Lists) → start_of name (with_start name start lists) ≡ start
+pub start_same : (name : ListName) (start : Option ℕ) (lists : ListHeads) → start_of name (with_start name start lists) ≡ start
 start_same ListName.First start lists = refl
 start_same ListName.Second start lists = refl
 
-pub start_other : (name other : ListName) (start : Option ℕ) (lists : Lists) → other ≢ name → start_of other (with_start name start lists) ≡ start_of other lists
+pub start_other : (name other : ListName) (start : Option ℕ) (lists : ListHeads) → other ≢ name → start_of other (with_start name start lists) ≡ start_of other lists
 start_other ListName.First ListName.First start lists ne = absurd (ne refl)
 start_other ListName.First ListName.Second start lists ne = refl
 start_other ListName.Second ListName.First start lists ne = refl
 start_other ListName.Second ListName.Second start lists ne = absurd (ne refl)
 
 -- links that name a list of used blocks
-pub is_linked : (name : ListName) (lists : Lists) (pool : Pool) (bytes list : List ℕ) → Names (link_of pool bytes) (start_of name lists) list → AreDistinct list
+pub is_linked : (name : ListName) (lists : ListHeads) (pool : PoolTable) (bytes list : List ℕ) → length pool.used ≤ 16 → Names (link_of pool bytes) (start_of name lists) list → AreDistinct list
     → ((b : ℕ) → has_number b list ≡ true → is_used b pool ≡ true) → (list_of name lists pool bytes ≡ list) × IsLinked name lists pool bytes
-is_linked name lists pool bytes list names distinct used =
-    let few : length list ≤ 16 = at_most 16 list distinct (λ b h. omega (arith, used_below pool.used.items b (used b h), pool.few)) in
+is_linked name lists pool bytes list most names distinct used =
+    let few : length list ≤ 16 = at_most 16 list distinct (λ b h. omega (arith, used_below pool.used b (used b h), most)) in
     let same : list_of name lists pool bytes ≡ list = all_along_is (link_of pool bytes) (start_of name lists) list names few in (
       same,
       record {
@@ -43,31 +42,32 @@ is_linked name lists pool bytes list names distinct used =
     )
 
 -- the links of the lists' blocks are as they were, and these blocks are used
-pub still_linked : (lists : Lists) (old new : Pool) (before after : List ℕ) → AreLinked lists old before → IsWithin new after
+pub still_linked : (lists : ListHeads) (old new : PoolTable) (before after : List ℕ) → AreLinked lists old before → IsWithin new after → length new.used ≤ 16
     → ((name : ListName) (c : ℕ) → has_number c (list_of name lists old before) ≡ true → (link_of new after c ≡ link_of old before c) × (is_used c new ≡ true))
     → AreLinked lists new after × ((name : ListName) → list_of name lists new after ≡ list_of name lists old before)
-still_linked lists old new before after linked within kept =
+still_linked lists old new before after linked within few kept =
     let each : (name : ListName) → (list_of name lists new after ≡ list_of name lists old before) × IsLinked name lists new after =
-    λ name. is_linked name lists new after (list_of name lists old before)
+    λ name. is_linked name lists new after (list_of name lists old before) few
     (names_agree (link_of old before) (link_of new after) (start_of name lists) (list_of name lists old before) (λ c h. (kept name c h).0) (linked.each name).ends)
     (linked.each name).distinct (λ b h. (kept name b h).1) in (
       record {
         within = within;
+        few = few;
         each = λ name. (each name).1;
         apart = λ b one other ne h. ap (has_number b) (each other).0 ∙ linked.apart b one other ne (sym (ap (has_number b) (each one).0) ∙ h);
       },
       λ name. (each name).0,
     )
 
-pub keeps_lists : (old new : Pool) (before after : List ℕ) → IsWithin new after → ((c : ℕ) → is_used c old ≡ true → (link_of new after c ≡ link_of old before c) × (is_used c new ≡ true))
+pub keeps_lists : (old new : PoolTable) (before after : List ℕ) → IsWithin new after → length new.used ≤ 16 → ((c : ℕ) → is_used c old ≡ true → (link_of new after c ≡ link_of old before c) × (is_used c new ≡ true))
     → KeepsLists old new before after
-keeps_lists old new before after within kept =
-    let still : (lists : Lists) → AreLinked lists old before → AreLinked lists new after × ((name : ListName) → list_of name lists new after ≡ list_of name lists old before) =
-    λ lists linked. still_linked lists old new before after linked within (λ name c h. kept c ((linked.each name).used c h)) in
+keeps_lists old new before after within few kept =
+    let still : (lists : ListHeads) → AreLinked lists old before → AreLinked lists new after × ((name : ListName) → list_of name lists new after ≡ list_of name lists old before) =
+    λ lists linked. still_linked lists old new before after linked within few (λ name c h. kept c ((linked.each name).used c h)) in
     record { linked = λ lists linked. (still lists linked).0; same = λ lists linked. (still lists linked).1 }
 
 -- a call on one list makes it this one
-pub record Changes (name : ListName) (pool : Pool) (old new : Lists) (before after list : List ℕ) : Type 0 where
+pub record Changes (name : ListName) (pool : PoolTable) (old new : ListHeads) (before after list : List ℕ) : Type 0 where
   pub within : IsWithin pool after
   pub names : Names (link_of pool after) (start_of name new) list
   pub distinct : AreDistinct list
@@ -76,16 +76,16 @@ pub record Changes (name : ListName) (pool : Pool) (old new : Lists) (before aft
   pub starts : (other : ListName) → other ≢ name → start_of other new ≡ start_of other old
   pub links : (c : ℕ) (other : ListName) → other ≢ name → has_number c (list_of other old pool before) ≡ true → link_of pool after c ≡ link_of pool before c
 
-module _ (name : ListName) (pool : Pool) (old new : Lists) (before after list : List ℕ) (linked : AreLinked old pool before) (changes : Changes name pool old new before after list) where
+module _ (name : ListName) (pool : PoolTable) (old new : ListHeads) (before after list : List ℕ) (linked : AreLinked old pool before) (changes : Changes name pool old new before after list) where
   mine : (list_of name new pool after ≡ list) × IsLinked name new pool after
-  mine = is_linked name new pool after list changes.names changes.distinct changes.used
+  mine = is_linked name new pool after list linked.few changes.names changes.distinct changes.used
 
   others : (other : ListName) → other ≢ name → (list_of other new pool after ≡ list_of other old pool before) × IsLinked other new pool after
   others other ne =
       let was = linked.each other in
       let names : Names (link_of pool after) (start_of other old) (list_of other old pool before) =
       names_agree (link_of pool before) (link_of pool after) (start_of other old) (list_of other old pool before) (λ c h. changes.links c other ne h) was.ends in
-      is_linked other new pool after (list_of other old pool before) (subst (λ s. Names (link_of pool after) s (list_of other old pool before)) (sym (changes.starts other ne)) names) was.distinct was.used
+      is_linked other new pool after (list_of other old pool before) linked.few (subst (λ s. Names (link_of pool after) s (list_of other old pool before)) (sym (changes.starts other ne)) names) was.distinct was.used
 
   each : (other : ListName) → IsLinked other new pool after
   each other = elim (same_name other name) [
@@ -114,22 +114,22 @@ module _ (name : ListName) (pool : Pool) (old new : Lists) (before after list : 
 
   pub leaves : pool_of pool after ≡ pool_of pool before → LeavesOthers name pool old new before after
   leaves blocks = record {
-    linked = record { within = changes.within; each = each; apart = apart };
+    linked = record { within = changes.within; few = linked.few; each = each; apart = apart };
     list = λ other ne. (others other ne).0;
     blocks = blocks;
   }
 
 -- blocks of a list
-module _ (name : ListName) (lists : Lists) (pool : Pool) (bytes : List ℕ) (b : ℕ) (linked : AreLinked lists pool bytes) (had : has_number b (list_of name lists pool bytes) ≡ true) where
-  pub listed_below : b < length pool.used.items
-  listed_below = used_below pool.used.items b ((linked.each name).used b had)
+module _ (name : ListName) (lists : ListHeads) (pool : PoolTable) (bytes : List ℕ) (b : ℕ) (linked : AreLinked lists pool bytes) (had : has_number b (list_of name lists pool bytes) ≡ true) where
+  pub listed_below : b < length pool.used
+  listed_below = used_below pool.used b ((linked.each name).used b had)
 
   pub link_small : IfSome (link_of pool bytes b) (λ next. next < 256)
   link_small =
       link_listed (λ next. next < 256) (link_of pool bytes) (start_of name lists) b (list_of name lists pool bytes) (linked.each name).ends had
-      (λ c h. omega (arith, used_below pool.used.items c ((linked.each name).used c h), pool.few))
+      (λ c h. omega (arith, used_below pool.used c ((linked.each name).used c h), linked.few))
 
-pub unused_absent : (name : ListName) (lists : Lists) (pool : Pool) (bytes : List ℕ) (b : ℕ) → AreLinked lists pool bytes → is_used b pool ≡ false → has_number b (list_of name lists pool bytes) ≡ false
+pub unused_absent : (name : ListName) (lists : ListHeads) (pool : PoolTable) (bytes : List ℕ) (b : ℕ) → AreLinked lists pool bytes → is_used b pool ≡ false → has_number b (list_of name lists pool bytes) ≡ false
 unused_absent name lists pool bytes b linked unused = elim (cases_Bool (has_number b (list_of name lists pool bytes))) [
   | inl had ↦ absurd (false≢true (sym unused ∙ (linked.each name).used b had))
   | inr none ↦ none
@@ -140,26 +140,26 @@ listed_first : (link : ℕ → Option ℕ) (start : Option ℕ) (b : ℕ) (list 
 listed_first link start b [] names e = absurd (cc)
 listed_first link start b (x ∷ list) names e = let same : x ≡ b = cc in ap (λ k. k ∷ list) same
 
-pub start_listed : (name : ListName) (lists : Lists) (pool : Pool) (bytes : List ℕ) (b : ℕ) → AreLinked lists pool bytes → start_of name lists ≡ Some b → has_number b (list_of name lists pool bytes) ≡ true
+pub start_listed : (name : ListName) (lists : ListHeads) (pool : PoolTable) (bytes : List ℕ) (b : ℕ) → AreLinked lists pool bytes → start_of name lists ≡ Some b → has_number b (list_of name lists pool bytes) ≡ true
 start_listed name lists pool bytes b linked e =
     let list = list_of name lists pool bytes in
     ap (has_number b) (listed_first (link_of pool bytes) (start_of name lists) b list (linked.each name).ends e) ∙ has_first b (drop 1 list)
 
-module _ (name : ListName) (pool : Pool) (old : Lists) (before : List ℕ) (linked : AreLinked old pool before) where
+module _ (name : ListName) (pool : PoolTable) (old : ListHeads) (before : List ℕ) (linked : AreLinked old pool before) where
   abbrev list : List ℕ
   list = list_of name old pool before
 
   apart_before : (b : ℕ) (other : ListName) → other ≢ name → has_number b list ≡ true → has_number b (list_of other old pool before) ≡ false
   apart_before b other ne h = linked.apart b name other (λ e. ne (sym e)) h
 
-  pub head_out : (b : ℕ) (new : Lists) → start_of name old ≡ Some b → new ≡ with_start name (link_of pool before b) old → Changes name pool old new before before (popped list)
+  pub head_out : (b : ℕ) (new : ListHeads) → start_of name old ≡ Some b → new ≡ with_start name (link_of pool before b) old → Changes name pool old new before before (popped list)
   head_out b new e same =
       let link = link_of pool before in let was = linked.each name in
       let first : list ≡ b ∷ popped list = listed_first link (start_of name old) b list was.ends e in
       let names : Names link (start_of name old) (b ∷ popped list) = subst (Names link (start_of name old)) first was.ends in
       let distinct : AreDistinct (b ∷ popped list) = subst AreDistinct first was.distinct in
       let had : (c : ℕ) → has_number c (popped list) ≡ true → has_number c list ≡ true = λ c h. ap (has_number c) first ∙ has_later c b (popped list) h in
-      subst (λ (l : Lists). Changes name pool old l before before (popped list)) (sym same) (record {
+      subst (λ (l : ListHeads). Changes name pool old l before before (popped list)) (sym same) (record {
         within = linked.within;
         names = subst (λ s. Names link s (popped list)) (sym (start_same name (link b) old)) names.1;
         distinct = distinct.1;
@@ -197,13 +197,13 @@ module _ (name : ListName) (pool : Pool) (old : Lists) (before : List ℕ) (link
 
   module _ (b : ℕ) (used : is_used b pool ≡ true) (free : (other : ListName) → has_number b (list_of other old pool before) ≡ false) (after : List ℕ) (within : IsWithin pool after) where
     -- a block of no list is put in front
-    pub front_in : (new : Lists) → new ≡ with_start name (Some b) old → link_of pool after b ≡ start_of name old → ((c : ℕ) → is_used c pool ≡ true → c ≢ b → link_of pool after c ≡ link_of pool before c)
+    pub front_in : (new : ListHeads) → new ≡ with_start name (Some b) old → link_of pool after b ≡ start_of name old → ((c : ℕ) → is_used c pool ≡ true → c ≢ b → link_of pool after c ≡ link_of pool before c)
         → Changes name pool old new before after (b ∷ list)
     front_in new same here rest =
         let was = linked.each name in
         let kept : Names (link_of pool after) (start_of name old) list =
         names_agree (link_of pool before) (link_of pool after) (start_of name old) list (λ c h. rest c (was.used c h) (differ c b list h (free name))) was.ends in
-        subst (λ (l : Lists). Changes name pool old l before after (b ∷ list)) (sym same) (record {
+        subst (λ (l : ListHeads). Changes name pool old l before after (b ∷ list)) (sym same) (record {
           within = within;
           names = (start_same name (Some b) old, subst (λ s. Names (link_of pool after) s list) (sym here) kept);
           distinct = (free name, was.distinct);
@@ -237,18 +237,19 @@ module _ (name : ListName) (pool : Pool) (old : Lists) (before : List ℕ) (link
         }
 
 -- lists without a block
-pub none_listed : (name : ListName) (lists : Lists) (pool : Pool) (bytes : List ℕ) → start_of name lists ≡ None → list_of name lists pool bytes ≡ []
+pub none_listed : (name : ListName) (lists : ListHeads) (pool : PoolTable) (bytes : List ℕ) → start_of name lists ≡ None → list_of name lists pool bytes ≡ []
 none_listed name lists pool bytes e = ap (all_along (link_of pool bytes)) e ∙ all_along_none (link_of pool bytes)
 
-pub empty_linked : (lists : Lists) (pool : Pool) (bytes : List ℕ) → ((name : ListName) → start_of name lists ≡ None) → IsWithin pool bytes → AreLinked lists pool bytes
-empty_linked lists pool bytes none within = record {
+pub empty_linked : (lists : ListHeads) (pool : PoolTable) (bytes : List ℕ) → ((name : ListName) → start_of name lists ≡ None) → length pool.used ≤ 16 → IsWithin pool bytes → AreLinked lists pool bytes
+empty_linked lists pool bytes none few within = record {
   within = within;
-  each = λ name. (is_linked name lists pool bytes [] (none name) tt (λ b h. absurd (false≢true h))).1;
+  few = few;
+  each = λ name. (is_linked name lists pool bytes [] few (none name) tt (λ b h. absurd (false≢true h))).1;
   apart = λ b one other ne h. ap (has_number b) (none_listed other lists pool bytes (none other));
 }
 
 -- a block that was taken out of one list, and is not in the other
-pub absent_after : (name : ListName) (pool : Pool) (old new : Lists) (before after : List ℕ) (b : ℕ) → LeavesOthers name pool old new before after → list_of name new pool after ≡ without b (list_of name old pool before)
+pub absent_after : (name : ListName) (pool : PoolTable) (old new : ListHeads) (before after : List ℕ) (b : ℕ) → LeavesOthers name pool old new before after → list_of name new pool after ≡ without b (list_of name old pool before)
     → ((other : ListName) → other ≢ name → has_number b (list_of other old pool before) ≡ false) → (other : ListName) → has_number b (list_of other new pool after) ≡ false
 absent_after name pool old new before after b others taken absent other = elim (same_name other name) [
   | inl e ↦ ap (λ n. has_number b (list_of n new pool after)) e ∙ ap (has_number b) taken ∙ has_no_more b (list_of name old pool before)

@@ -1,20 +1,20 @@
 -- Where the blocks of a pool lie, and what they stand for.
-use Rattle.std.specs.Prelude.{◌≡◌, ℕ, ◌+◌, ◌*◌, ◌≤◌, ◌<◌, Bool, List, [], ◌∷◌, length, slice_range, Option, Some, None, if◌then◌else◌}
+use Rattle.std.specs.Prelude.{◌≡◌, ℕ, ◌+◌, ◌*◌, ◌≤◌, Bool, List, [], ◌∷◌, length, slice_range, Option, Some, None, if◌then◌else◌}
 use Rattle.arena_core.specs.Contents.{Contents}
 use Rattle.arena_core.specs.Outside.{ChangesOnly}
-use Rattle.memb_core.specs.declared.pool.Pool.{Pool}
+use Rattle.memb_core.specs.PoolTable.{PoolTable}
 use Rattle.memb_core.specs.BlockPool.{BlockPool}
 
 -- where block b begins in the pool's span. Its link takes 4 bytes, and its usable bytes follow
-abbrev pub place_of : Pool → ℕ → ℕ
+abbrev pub place_of : PoolTable → ℕ → ℕ
 place_of pool b = b * (pool.usable + 4)
 
 -- the bytes of the pool's span
-abbrev pub region_of : Pool → List ℕ → List ℕ
+abbrev pub region_of : PoolTable → List ℕ → List ℕ
 region_of pool bytes = slice_range bytes pool.span.at (pool.span.at + pool.span.len)
 
 -- the usable bytes of block b, in the span's bytes
-abbrev pub usable_bytes : Pool → List ℕ → ℕ → List ℕ
+abbrev pub usable_bytes : PoolTable → List ℕ → ℕ → List ℕ
 usable_bytes pool region b = slice_range region (place_of pool b + 4) (place_of pool b + 4 + pool.usable)
 
 -- the blocks from number b on, where it is told of each whether it is used
@@ -23,21 +23,16 @@ blocks_from bytes_at b [] = []
 blocks_from bytes_at b (is_used ∷ later) = (if is_used then Some (bytes_at b) else None) ∷ blocks_from bytes_at (b + 1) later
 
 -- what the numbers stand for. Of the arena's bytes it reads the span's alone
-unfoldable pub pool_of : Pool → List ℕ → BlockPool
+unfoldable pub pool_of : PoolTable → List ℕ → BlockPool
 pool_of pool bytes =
-    record { usable = pool.usable; blocks = blocks_from (usable_bytes pool (region_of pool bytes)) 0 pool.used.items }
+    record { usable = pool.usable; blocks = blocks_from (usable_bytes pool (region_of pool bytes)) 0 pool.used }
 
 -- the pool's span lies in these bytes
-abbrev pub IsWithin : Pool → List ℕ → Type 0
+abbrev pub IsWithin : PoolTable → List ℕ → Type 0
 IsWithin pool bytes = pool.span.at + pool.span.len ≤ length bytes
 
 -- the pool keeps its span, and of the arena only bytes of that span changed
-pub record KeepsToSpan (old new : Pool) (old_arena new_arena : Contents) : Type 0 where
+pub record KeepsToSpan (old new : PoolTable) (old_arena new_arena : Contents) : Type 0 where
   pub span : new.span ≡ old.span
   pub carved : new_arena.carved ≡ old_arena.carved
   pub bytes : ChangesOnly old.span.at old.span.len old_arena.bytes new_arena.bytes
-
--- Each block has a range of the span, with its link and its usable bytes, and no two of these meet.
-pub record LieApart (pool : Pool) : Type 0 where
-  pub inside : (b : ℕ) → b < length pool.used.items → place_of pool b + 4 + pool.usable ≤ pool.span.len
-  pub apart : (b c : ℕ) → b < c → place_of pool b + 4 + pool.usable ≤ place_of pool c

@@ -9,8 +9,6 @@ mod list_name;
 mod lists;
 mod places;
 mod pool;
-#[cfg(test)]
-mod tests;
 
 pub use list_name::ListName;
 pub use lists::Lists;

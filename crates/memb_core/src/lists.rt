@@ -1,6 +1,6 @@
 //! The two lists of a pool.
 
-ghost use Rattle.std.specs.Prelude.{◌≡◌, ◌≢◌, ℕ, List, [], ◌∷◌, length, true, false};
+ghost use Rattle.std.specs.Prelude.{◌≡◌, ◌≢◌, ℕ, List, [], ◌∷◌, ◌≤◌, length, true, false};
 ghost use Rattle.memb_core.specs.BlockPool.{is_live};
 ghost use Rattle.memb_core.specs.BlockLists.{has_number, without, head_of, tail_of, next_of, put_behind, added, pushed, inserted, popped, chopped, holder_of};
 ghost use Rattle.memb_core.specs.declared.list_name.ListName.{ListName as Name};
@@ -10,6 +10,7 @@ use crate::places::place_of;
 use crate::pool::{MOST_BLOCKS, Pool};
 use arena_core::Arena;
 use arrayvec::ArrayVec;
+use std::marker::Model;
 
 /// Two lists of the blocks of one pool, linked through the blocks (`list.h` and `queue.h` of Contiki-NG). That a pool has two
 /// is this project's profile.
@@ -22,15 +23,23 @@ pub struct Lists {
     second: Option<u8>,
 }
 
+impl Model for Lists {
+    ghost use Rattle.memb_core.specs.PoolTable.{ListHeads};
+
+    ghost Value = { ListHeads };
+
+    ghost view = { λ l. record { first = l.first; second = l.second } };
+}
+
 impl Lists {
-    ghost use Rattle.memb_core.specs.declared.pool.Pool.{Pool as BlocksPool};
+    ghost use Rattle.memb_core.specs.PoolTable.{PoolTable};
     ghost use Rattle.memb_core.specs.PoolBytes.{pool_of, IsWithin, KeepsToSpan};
     ghost use Rattle.memb_core.specs.Links.{start_of, with_start, list_of, AreLinked, LeavesOthers};
 
     /// Two lists without a block.
     pub fn new() -> Lists
-        ensures linked { (pool : BlocksPool) (bytes : List ℕ) → IsWithin pool bytes → AreLinked result pool bytes }
-        ensures empty { (pool : BlocksPool) (bytes : List ℕ) (name : Name) → list_of name result pool bytes ≡ [] }
+        ensures linked { (pool : PoolTable) (bytes : List ℕ) → length pool.used ≤ 16 → IsWithin pool bytes → AreLinked result pool bytes }
+        ensures empty { (pool : PoolTable) (bytes : List ℕ) (name : Name) → list_of name result pool bytes ≡ [] }
     {
         Lists {
             first: None,
@@ -123,7 +132,7 @@ impl Lists {
     /// The head of a list (`list_head`). `None` exactly where the list is empty.
     pub fn head(&self, name: ListName) -> Option<u8>
         ensures start { result ≡ start_of name self.now }
-        ensures head { (pool : BlocksPool) (bytes : List ℕ) → AreLinked self.now pool bytes → result ≡ head_of (list_of name self.now pool bytes) }
+        ensures head { (pool : PoolTable) (bytes : List ℕ) → AreLinked self.now pool bytes → result ≡ head_of (list_of name self.now pool bytes) }
     {
         match name {
             ListName::First => self.first,
@@ -137,6 +146,7 @@ impl Lists {
         requires listed { has_number b (list_of name self.now pool.now arena.now.bytes) ≡ true }
         ensures { result ≡ next_of b (list_of name self.now pool.now arena.now.bytes) }
     {
+        // Which list it is shows in the conditions alone: a block is in no other one.
         let _ = name;
         pool.link(arena, b)
     }

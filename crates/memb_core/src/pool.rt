@@ -1,6 +1,7 @@
 //! The pool, and the calls on its blocks.
 
-ghost use Rattle.std.specs.Prelude.{◌≡◌, ◌≢◌, ℕ, List, ◌+◌, ◌*◌, ◌≤◌, ◌<◌, length, true, false, IfNone, IfSome, IsSomeAnd, Some};
+ghost use Rattle.std.specs.Prelude.{◌≡◌, ◌≢◌, ℕ, List, ◌+◌, ◌*◌, ◌≤◌, ◌<◌, length, not, true, false, IfNone, IfSome, IsSomeAnd, Some};
+ghost use Rattle.std.specs.List.{position};
 ghost use Rattle.memb_core.specs.BlockPool.{unused_pool, block_of, is_live, first_unused, unused_count, allocated, freed, with_bytes};
 
 use crate::link::{block_named, word_of};
@@ -8,6 +9,7 @@ use crate::lists::Lists;
 use crate::places::{count_unset, first_unset};
 use arena_core::{Arena, Span};
 use arrayvec::ArrayVec;
+use std::marker::Model;
 
 /// The most blocks that a pool has (this project's profile).
 pub(crate) const MOST_BLOCKS: usize = 16;
@@ -23,16 +25,26 @@ pub struct Pool {
     span: Span,
     usable: u32,
     used: ArrayVec<bool, MOST_BLOCKS>,
-    // the blocks take the whole span
-    pub ghost whole: { span.len ≡ length used.items * (usable + 4) },
-    pub ghost few: { length used.items ≤ 16 },
+}
+
+impl Model for Pool {
+    ghost use Rattle.memb_core.specs.PoolTable.{PoolTable};
+    ghost use Rattle.memb_core.specs.Code.Sizes.{FillsSpan};
+
+    ghost Value = { PoolTable };
+
+    ghost view = { λ p. record { span = p.span; usable = p.usable; used = p.used.items } };
+
+    ghost invariant = { λ p. FillsSpan (record { span = p.span; usable = p.usable; used = p.used.items }) };
 }
 
 impl Pool {
-    ghost use Rattle.memb_core.specs.declared.lists.Lists.{Lists as BlockLists};
+    ghost use Rattle.memb_core.specs.PoolTable.{ListHeads, with_used};
     ghost use Rattle.memb_core.specs.declared.list_name.ListName.{ListName as Name};
     ghost use Rattle.memb_core.specs.BlockLists.{has_number};
-    ghost use Rattle.memb_core.specs.PoolBytes.{pool_of, IsWithin, KeepsToSpan, LieApart};
+    ghost use Rattle.memb_core.specs.PoolBytes.{place_of, pool_of, IsWithin, KeepsToSpan};
+    ghost use Rattle.memb_core.specs.Separation.{BlocksLieApart};
+    ghost use Rattle.memb_core.specs.Code.Sizes.{FillsSpan};
     ghost use Rattle.memb_core.specs.Links.{link_of, list_of, AreLinked, KeepsLists};
 
     /// A pool over a span, none of whose blocks is used. There are at most 16 blocks, and each takes 4 bytes more than may be
@@ -41,6 +53,7 @@ impl Pool {
         requires few { blocks ≤ 16 }
         requires size { span.len ≡ blocks * (usable + 4) }
         ensures span { result.span ≡ span }
+        ensures count { length result.used ≡ blocks }
         ensures unused { (bytes : List ℕ) → pool_of result bytes ≡ unused_pool blocks usable }
     {
         let mut used = ArrayVec::from([false; MOST_BLOCKS]);
@@ -56,13 +69,12 @@ impl Pool {
         ensures unchanged { IfNone result ((self.new ≡ self.old) × (arena.new ≡ arena.old)) }
         ensures block { IfSome result (λ b. pool_of self.new arena.new.bytes ≡ allocated b (pool_of self.old arena.old.bytes)) }
         ensures lists { KeepsLists self.old self.new arena.old.bytes arena.new.bytes }
-        ensures in_no_list { IfSome result (λ b. (lists : BlockLists) (name : Name) → AreLinked lists self.old arena.old.bytes → has_number b (list_of name lists self.new arena.new.bytes) ≡ false) }
+        ensures in_no_list { IfSome result (λ b. (lists : ListHeads) (name : Name) → AreLinked lists self.old arena.old.bytes → has_number b (list_of name lists self.new arena.new.bytes) ≡ false) }
         ensures rest { KeepsToSpan self.old self.new arena.old arena.new }
     {
-        let place = first_unset(&self.used)?;
-        let b = place as u8;
+        let b = self.first_unused()?;
         arena.fill(self.usable_span(b), 0);
-        self.used[place] = true;
+        self.put_used(b, true);
         Some(b)
     }
 
@@ -76,9 +88,10 @@ impl Pool {
         ensures lists { (name : Name) → list_of name lists.now self.new arena.now.bytes ≡ list_of name lists.now self.old arena.now.bytes }
         ensures rest { KeepsToSpan self.old self.new arena.now arena.now }
     {
+        // The conditions alone speak of the two.
         let _ = arena;
         let _ = lists;
-        self.used[b as usize] = false;
+        self.put_used(b, false);
     }
 
     /// The usable bytes of a used block.
@@ -120,53 +133,73 @@ impl Pool {
         self.used.get(b as usize).copied().unwrap_or(false)
     }
 
-    /// The blocks lie in the span, and no two of them share a byte.
+    /// No two blocks share a byte of the arena, links included, and each used one's bytes are read from the part that it takes.
     pub fn blocks_lie_apart(&self)
-        ensures { LieApart self.now }
+        ensures { (bytes : List ℕ) → IsWithin self.now bytes → BlocksLieApart self.now bytes }
     {
+        // Nothing is done: the clause tells what holds of the pool whatever was called before.
         let _span = &self.span;
     }
 
     /// The block that the link of block `b` names.
     pub(crate) fn link(&self, arena: &Arena, b: u8) -> Option<u8>
         requires within { IsWithin self.now arena.now.bytes }
-        requires block { b < length self.now.used.items }
+        requires block { b < length self.now.used }
         requires number { IfSome (link_of self.now arena.now.bytes b) (λ next. next < 256) }
         ensures { result ≡ link_of self.now arena.now.bytes b }
     {
-        block_named(arena.word(self.span.at + self.place(b)))
+        block_named(arena.word(self.start(b)))
     }
 
     /// Sets the link of block `b`.
     pub(crate) fn put_link(&self, arena: &mut Arena, b: u8, next: Option<u8>)
         requires within { IsWithin self.now arena.old.bytes }
-        requires block { b < length self.now.used.items }
+        requires block { b < length self.now.used }
         ensures link { link_of self.now arena.new.bytes b ≡ next }
         ensures others { (c : ℕ) → c ≢ b → link_of self.now arena.new.bytes c ≡ link_of self.now arena.old.bytes c }
         ensures blocks { pool_of self.now arena.new.bytes ≡ pool_of self.now arena.old.bytes }
         ensures rest { KeepsToSpan self.now self.now arena.old arena.new }
     {
-        arena.put_word(self.span.at + self.place(b), word_of(next));
+        arena.put_word(self.start(b), word_of(next));
     }
 
-    /// Where block `b` begins in the span.
-    fn place(&self, b: u8) -> u32
-        requires { b < length self.now.used.items }
-        ensures place { result ≡ b * (self.now.usable + 4) }
-        ensures inside { result + self.now.usable + 4 ≤ self.now.span.len }
+    /// The unused block of lowest number.
+    fn first_unused(&self) -> Option<u8>
+        ensures number { result ≡ position not self.now.used }
+        ensures fills { FillsSpan self.now }
     {
-        b as u32 * (self.usable + LINK_LEN)
+        let place = first_unset(&self.used)?;
+        Some(place as u8)
+    }
+
+    /// Keeps of block `b` whether it is used.
+    fn put_used(&mut self, b: u8, used: bool)
+        requires { b < length self.old.used }
+        ensures { self.new ≡ with_used b used self.old }
+    {
+        self.used[b as usize] = used;
+    }
+
+    /// Where block `b` begins in the arena.
+    fn start(&self, b: u8) -> u32
+        requires { b < length self.now.used }
+        ensures start { result ≡ self.now.span.at + place_of self.now b }
+        ensures inside { result + self.now.usable + 4 ≤ self.now.span.at + self.now.span.len }
+        ensures fills { FillsSpan self.now }
+    {
+        self.span.at + b as u32 * (self.usable + LINK_LEN)
     }
 
     /// The usable bytes of block `b`.
     fn usable_span(&self, b: u8) -> Span
-        requires { b < length self.now.used.items }
-        ensures at { result.at ≡ self.now.span.at + (b * (self.now.usable + 4) + 4) }
+        requires { b < length self.now.used }
+        ensures at { result.at ≡ self.now.span.at + (place_of self.now b + 4) }
         ensures len { result.len ≡ self.now.usable }
         ensures inside { result.at + result.len ≤ self.now.span.at + self.now.span.len }
+        ensures fills { FillsSpan self.now }
     {
         Span {
-            at: self.span.at + self.place(b) + LINK_LEN,
+            at: self.start(b) + LINK_LEN,
             len: self.usable,
         }
     }

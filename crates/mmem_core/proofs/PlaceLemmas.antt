@@ -5,7 +5,8 @@ use Rattle.std.proofs.lemmas.Bool.{cases_eq, cases_lt, cases_Bool, ltb-true, ltb
 use Rattle.std.proofs.lemmas.List.Sums.{sum_by-cons, sum_by-set}
 use Rattle.mote_types.specs.Rounding.{up4}
 use Rattle.mmem_core.specs.declared.place.Place.{Place}
-use Rattle.mmem_core.specs.Places.{place_in, at_of, room_of, lowered_place, room_behind_gap, room_moved, bytes_moved, IsPacked}
+use Rattle.mmem_core.specs.Places.{place_in, room_moved, bytes_moved}
+use Rattle.mmem_core.specs.Code.Packing.{at_of, room_of, lowered_place, room_behind_gap, IsPacked}
 
 -- a name is not live in a table of none
 pub place_in-none : (n i : ℕ) → place_in (replicate n None) i ≡ None

@@ -10,7 +10,8 @@ use Rattle.arena_core.proofs.Ranges.{length-range, range-written, range-written_
 use Rattle.arena_core.proofs.Rows.{written_is}
 use Rattle.mmem_core.specs.declared.place.Place.{Place}
 use Rattle.mmem_core.specs.ManagedStore.{size_of}
-use Rattle.mmem_core.specs.Places.{place_in, at_of, room_of, lowered_place, IsPacked}
+use Rattle.mmem_core.specs.Places.{place_in}
+use Rattle.mmem_core.specs.Code.Packing.{at_of, room_of, lowered_place, IsPacked}
 use Rattle.mmem_core.specs.Table.{bytes_at}
 use Rattle.mmem_core.proofs.PlaceLemmas as places
 

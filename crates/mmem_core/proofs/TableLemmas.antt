@@ -9,7 +9,8 @@ use Rattle.arena_core.specs.Written.{written}
 use Rattle.arena_core.proofs.Ranges.{length-range, written-range, range-range, changes_only}
 use Rattle.mmem_core.specs.declared.place.Place.{Place}
 use Rattle.mmem_core.specs.ManagedStore.{ManagedStore, free}
-use Rattle.mmem_core.specs.Places.{place_in, lowered_place, IsPacked}
+use Rattle.mmem_core.specs.Places.{place_in}
+use Rattle.mmem_core.specs.Code.Packing.{lowered_place, IsPacked}
 use Rattle.mmem_core.specs.Table.{Table, store_of, bytes_at, KeepsToSpan}
 use Rattle.mmem_core.proofs.PlaceLemmas as places
 use Rattle.mmem_core.proofs.StoreLemmas.{block_in, get_or-blocks, no_place, sum_same, blocks-added, blocks-closed, blocks-written}

@@ -1,3 +1,7 @@
+-- what a reader must believe
 pub mod ManagedStore
 pub mod Places
+pub mod Separation
 pub mod Table
+-- the code's own invariants
+pub mod Code

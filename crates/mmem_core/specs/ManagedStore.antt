@@ -1,7 +1,9 @@
 -- Managed memory as its users see it: a map from handles of processes to byte lists. A block has no place in it, and the
 -- blocks have no order.
-use Rattle.std.specs.Prelude.{◌≡◌, ℕ, ◌+◌, ◌-◌, ◌*◌, ◌%◌, ◌≤◌, Bool, List, [], length, replicate, get_or, slice_set, sum_by, nat_le, Option, Some, None, unwrap_or}
+use Rattle.std.specs.Prelude.{◌≡◌, ℕ, ◌-◌, ◌%◌, ◌≤◌, Bool, List, [], length, replicate, get_or, slice_set, sum_by, nat_le, Option, Some, None, unwrap_or}
 use Rattle.std.specs.Option.{option_map, option_map_or}
+use Rattle.mote_types.specs.declared.block_name.TheConstants.{NAMES}
+use Rattle.mote_types.specs.BlockNames.{number_of}
 use Rattle.mote_types.specs.Rounding.{up4}
 use Rattle.mote_types.specs.Bytes.{zeros, overwritten}
 
@@ -10,20 +12,12 @@ pub record ManagedStore : Type 0 where
   -- what each name stands for: the bytes of its block, if it is live
   pub blocks : List (Option (List ℕ))
 
--- there are 17 processes with 16 handles each
-abbrev pub names : ℕ
-names = 272
-
--- the number of a name in the map: process p's handle
-abbrev pub name_of : ℕ → ℕ → ℕ
-name_of p handle = (p - 3) * 16 + handle
-
 abbrev pub empty_store : ℕ → ManagedStore
-empty_store capacity = record { capacity = capacity; blocks = replicate names None }
+empty_store capacity = record { capacity = capacity; blocks = replicate NAMES None }
 
 -- the bytes of p's block, if it is live
 abbrev pub block_of : ℕ → ℕ → ManagedStore → Option (List ℕ)
-block_of p handle store = get_or store.blocks (name_of p handle) None
+block_of p handle store = get_or store.blocks (number_of p handle) None
 
 -- the length of p's block, if it is live
 abbrev pub length_of : ℕ → ℕ → ManagedStore → Option ℕ
@@ -41,7 +35,7 @@ fits n store = nat_le (up4 n) (free store)
 
 -- p's block is this one from now on, or none
 abbrev pub with_block : ℕ → ℕ → Option (List ℕ) → ManagedStore → ManagedStore
-with_block p handle block store = record store { blocks = slice_set store.blocks (name_of p handle) block }
+with_block p handle block store = record store { blocks = slice_set store.blocks (number_of p handle) block }
 
 abbrev pub allocated : ℕ → ℕ → ℕ → ManagedStore → ManagedStore
 allocated p handle n = with_block p handle (Some (zeros n))
@@ -60,10 +54,6 @@ with_bytes p handle at bytes store = with_block p handle (Some (overwritten at b
 -- all bytes of p's block stand at the front of q's
 abbrev pub copied : ℕ → ℕ → ℕ → ℕ → ManagedStore → ManagedStore
 copied p source q target store = with_bytes q target 0 (bytes_of p source store) store
-
--- processes 3 to 19 have handles 0 to 15
-abbrev pub IsName : ℕ → ℕ → Type 0
-IsName p handle = (3 ≤ p) × (p ≤ 19) × (handle ≤ 15)
 
 -- the sizes that a managed region may have
 abbrev pub IsManagedSize : ℕ → Type 0

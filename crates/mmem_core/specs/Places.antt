@@ -1,5 +1,5 @@
--- Where the blocks lie in the span: a place for each live name.
-use Rattle.std.specs.Prelude.{◌≡◌, ◌≢◌, ℕ, ◌+◌, ◌-◌, ◌≤◌, ◌<◌, ◌⊎◌, List, [], ◌∷◌, Option, Some, None, get_or, sum_by, if◌then◌else◌, ◌==◌, nat_lt}
+-- The places of the blocks in the span, and how many bytes a change of them moves.
+use Rattle.std.specs.Prelude.{ℕ, ◌+◌, List, [], ◌∷◌, Option, Some, None, get_or, if◌then◌else◌, ◌==◌}
 use Rattle.mote_types.specs.Rounding.{up4}
 use Rattle.mmem_core.specs.declared.place.Place.{Place}
 
@@ -7,27 +7,7 @@ use Rattle.mmem_core.specs.declared.place.Place.{Place}
 abbrev pub place_in : List (Option Place) → ℕ → Option Place
 place_in places i = get_or places i None
 
-abbrev pub at_of : Option Place → ℕ
-at_of None = 0
-at_of (Some place) = place.at
-
--- what a block takes: its length, rounded up
-abbrev pub room_of : Option Place → ℕ
-room_of None = 0
-room_of (Some place) = up4 place.len
-
--- a place behind the gap moves down by the gap's size
-abbrev pub lowered_place : ℕ → ℕ → Option Place → Option Place
-lowered_place gap size None = None
-lowered_place gap size (Some place) =
-    if nat_lt gap place.at then Some (record { at = place.at - size; len = place.len }) else Some place
-
--- what a block takes that lies behind the gap
-abbrev pub room_behind_gap : ℕ → Option Place → ℕ
-room_behind_gap gap None = 0
-room_behind_gap gap (Some place) = if nat_lt gap place.at then up4 place.len else 0
-
--- what a block takes whose place changed
+-- what a block takes whose place changed: its length, rounded up
 abbrev pub room_moved : Option Place → Option Place → ℕ
 room_moved (Some old) (Some new) = if old.at == new.at then 0 else up4 old.len
 room_moved (Some old) None = 0
@@ -38,19 +18,3 @@ abbrev pub bytes_moved : List (Option Place) → List (Option Place) → ℕ
 bytes_moved [] _ = 0
 bytes_moved (old ∷ olds) [] = 0
 bytes_moved (old ∷ olds) (new ∷ news) = room_moved old new + bytes_moved olds news
-
--- the blocks take `used` bytes in all, and lie in as many, apart from each other: so without gaps
-pub record IsPacked (places : List (Option Place)) (used : ℕ) : Type 0 where
-  pub total : sum_by room_of places ≡ used
-  pub inside : (i : ℕ) → at_of (place_in places i) + room_of (place_in places i) ≤ used
-  pub apart : (i j : ℕ) → i ≢ j → 0 < room_of (place_in places i) → 0 < room_of (place_in places j)
-      → at_of (place_in places i) ≤ at_of (place_in places j)
-      → at_of (place_in places i) + room_of (place_in places i) ≤ at_of (place_in places j)
-  pub no_empty : (i : ℕ) → place_in places i ≢ None → 0 < room_of (place_in places i)
-
--- The live blocks have ranges of the first `len` bytes, and no two of these meet.
-pub record LieApart (places : List (Option Place)) (len : ℕ) : Type 0 where
-  pub inside : (i : ℕ) → at_of (place_in places i) + room_of (place_in places i) ≤ len
-  pub apart : (i j : ℕ) → i ≢ j → place_in places i ≢ None → place_in places j ≢ None
-      → (at_of (place_in places i) + room_of (place_in places i) ≤ at_of (place_in places j))
-      ⊎ (at_of (place_in places j) + room_of (place_in places j) ≤ at_of (place_in places i))

@@ -6,7 +6,6 @@
 
 mod mmem;
 mod place;
-#[cfg(test)]
-mod tests;
 
-pub use mmem::{Key, Mmem};
+pub use mmem::Mmem;
+pub use mote_types::block_name::Key;

@@ -2,17 +2,13 @@
 
 ghost use Rattle.std.specs.Prelude.{◌≡◌, ℕ, List, ◌+◌, ◌≤◌, ◌<◌, ◌↔◌, length, IsNone, IfNone, OnSome, IsSome, IsSomeAnd, Some, None};
 ghost use Rattle.mote_types.specs.Rounding.{up4};
-ghost use Rattle.mmem_core.specs.ManagedStore.{name_of, IsName, IsManagedSize, empty_store, block_of, bytes_of, length_of, free, allocated, freed, with_bytes, copied};
+ghost use Rattle.mote_types.specs.BlockNames.{IsName};
+ghost use Rattle.mmem_core.specs.ManagedStore.{IsManagedSize, empty_store, block_of, bytes_of, length_of, free, allocated, freed, with_bytes, copied};
 
 use crate::place::{Place, close_gap, rounded};
 use arena_core::{Arena, Span};
-use mote_types::event::Pid;
+use mote_types::block_name::{Key, NAMES, number_of};
 use std::marker::Model;
-
-/// The name of a block: a process from 3 to 19, and one of its handles, from 0 to 15.
-pub type Key = (Pid, u8);
-
-const NAMES: usize = 272;
 
 /// Managed memory over a span of an arena.
 ///
@@ -27,7 +23,7 @@ pub struct Mmem {
 
 impl Model for Mmem {
     ghost use Rattle.std.specs.Prelude.{◌≤◌};
-    ghost use Rattle.mmem_core.specs.Places.{IsPacked};
+    ghost use Rattle.mmem_core.specs.Code.Packing.{IsPacked};
     ghost use Rattle.mmem_core.specs.Table.{Table};
 
     ghost Value = { Table };
@@ -37,18 +33,9 @@ impl Model for Mmem {
     ghost invariant = { λ m. IsPacked m.places m.used × (m.used ≤ m.span.len) × (m.span.len ≤ 65536) };
 }
 
-/// The number of a name in the table.
-fn number_of(key: Key) -> usize
-    requires { IsName key.0.0 key.1 }
-    ensures number { result ≡ name_of key.0.0 key.1 }
-    ensures within { result < NAMES }
-{
-    (key.0.0 - 3) as usize * 16 + key.1 as usize
-}
-
 impl Mmem {
-    ghost use Rattle.mmem_core.specs.Places.{LieApart};
-    ghost use Rattle.mmem_core.specs.Table.{Table, store_of, IsWithin, KeepsToSpan, CountsMoved};
+    ghost use Rattle.mmem_core.specs.Table.{store_of, IsWithin, KeepsToSpan, CountsMoved};
+    ghost use Rattle.mmem_core.specs.Separation.{BlocksLieApart};
 
     /// Managed memory without a block, over a span of 4 to 65,536 bytes, a multiple of 4.
     pub fn new(span: Span) -> Mmem
@@ -182,10 +169,11 @@ impl Mmem {
         self.places[number_of(key)].map(|place| place.len)
     }
 
-    /// The blocks lie in the span, and no two of them share a byte.
+    /// No two live blocks share a byte of the arena, and each one's bytes are read from the part that it takes.
     pub fn blocks_lie_apart(&self)
-        ensures { LieApart self.now.places self.now.span.len }
+        ensures { (bytes : List ℕ) → IsWithin self.now bytes → BlocksLieApart self.now bytes }
     {
+        // Nothing is done: the clause tells what holds of the table whatever was called before.
         let _span = &self.span;
     }
 

@@ -2,7 +2,8 @@
 
 ghost use Rattle.std.specs.Prelude.{◌≡◌, ℕ, ◌+◌, ◌≤◌, ◌<◌, length, map, sum_by};
 ghost use Rattle.mote_types.specs.Rounding.{up4};
-ghost use Rattle.mmem_core.specs.Places.{place_in, at_of, room_of, lowered_place, room_behind_gap};
+ghost use Rattle.mmem_core.specs.Places.{place_in};
+ghost use Rattle.mmem_core.specs.Code.Packing.{at_of, room_of, lowered_place, room_behind_gap};
 
 /// Where a block lies: so many bytes from the span's start, and how long it is. It takes its length rounded up.
 #[derive(Clone, Copy, Drop)]

@@ -1,23 +1,17 @@
 -- What the words of the command line name.
 use denote.Ref.{Bor}
-use Rattle.std.specs.Prelude.{ℕ, Bool, List, Option, Some, None, is_none, find, filter_map, length, drop, bytes_eq, nat_lt, codes, if◌then◌else◌}
-use Rattle.mote.specs.declared.application.Application.{Application}
+use Rattle.std.specs.Prelude.{ℕ, Bool, List, Option, Some, None, is_none, find, filter_map, length, drop, nat_lt, if◌then◌else◌}
+use Rattle.mote_apps.specs.declared.bundled.Bundled.{Bundled}
+use Rattle.mote_apps.specs.Bundled.{named}
 use Rattle.mote.specs.declared.failure.Failure.{Failure}
 
 -- a word, as it was lent
 abbrev pub Word : Type 0
 Word = Bor (List ℕ)
 
--- the application of this name
-abbrev pub application_named : List ℕ → Option Application
-application_named name =
-    if bytes_eq name (codes "hello") then Some Application.Hello
-    else if bytes_eq name (codes "blink") then Some Application.Blink
-    else if bytes_eq name (codes "ping") then Some Application.Ping
-    else None
-
-abbrev pub application_of : Word → Option Application
-application_of word = application_named word.now
+-- the application of this name, as it is before its first turn
+abbrev pub application_of : Word → Option Bundled
+application_of word = named word.now
 
 abbrev pub is_unknown : Word → Bool
 is_unknown word = is_none (application_of word)
@@ -26,7 +20,7 @@ is_unknown word = is_none (application_of word)
 abbrev pub names_in : List Word → List Word
 names_in words = drop 1 words
 
-abbrev pub applications_in : List Word → List Application
+abbrev pub applications_in : List Word → List Bundled
 applications_in names = filter_map application_of names
 
 abbrev pub failure_with : Option Word → ℕ → Option Failure

@@ -1,10 +1,11 @@
 //! Why the program ends before its run, or in the middle of it.
 
 ghost use Rattle.std.specs.Prelude.{◌≡◌};
-ghost use Rattle.mote.specs.Statuses.{status_of_end, status_of_failure};
+ghost use Rattle.mote.specs.Statuses as statuses;
+ghost use Rattle.mote.specs.Statuses.{status_of_failure, status_of_outcome};
 
+use mote_kit::fault::MoteFault;
 use mote_run::End;
-use mote_run::run::RunFault;
 use mote_types::fault::BootFault;
 use std::alloc::AllocFailed;
 use std::fmt;
@@ -84,27 +85,39 @@ impl From<BootFault> for Failure<'_> {
     }
 }
 
-impl From<RunFault> for Failure<'_> {
+impl From<MoteFault> for Failure<'_> {
     ghost use Rattle.mote.specs.Statuses.{failure_in_run};
 
     ghost from_gives = { λ fault failure. failure ≡ failure_in_run fault };
 
-    fn from(fault: RunFault) -> Self {
+    fn from(fault: MoteFault) -> Self {
         match fault {
-            RunFault::Read => Failure::Read,
-            RunFault::Write => Failure::Write,
+            MoteFault::BadSizes => Failure::BadSizes,
+            MoteFault::Memory => Failure::OutOfMemory,
+            MoteFault::Read => Failure::Read,
+            MoteFault::Write => Failure::Write,
         }
     }
 }
 
 /// The status that the program exits with where its run came to an end.
-pub fn status_of(end: End) -> u8
-    ensures { result ≡ status_of_end end }
+fn status_of_end(end: End) -> u8
+    ensures { result ≡ statuses.status_of_end end }
 {
     match end {
         End::Finished => 0,
         End::BadLine(_) => 2,
         End::Halted => 3,
         End::TooLong => 4,
+    }
+}
+
+/// The status that the program exits with.
+pub fn status_of(outcome: &Result<End, Failure<'_>>) -> u8
+    ensures { result ≡ status_of_outcome outcome.now }
+{
+    match outcome {
+        Ok(end) => status_of_end(*end),
+        Err(failure) => failure.status(),
     }
 }

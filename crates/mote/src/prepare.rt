@@ -5,11 +5,11 @@ ghost use Rattle.mote_run.specs.RunText.{WasBooted};
 ghost use Rattle.mote.specs.CommandLine.{applications_in, failure_of, names_in};
 ghost use Rattle.mote.specs.declared.failure.Failure.{Failure as Refused};
 
-use crate::application::Application;
 use crate::failure::Failure;
 use arrayvec::ArrayVec;
 use kernel_core::config::Config;
 use kernel_core::kernel::Kernel;
+use mote_apps::bundled::Bundled;
 use std::alloc::Global;
 
 /// How many applications a mote may have.
@@ -19,7 +19,7 @@ const MOST_APPLICATIONS: usize = 16;
 const DEFAULT_SIZE: u32 = 4_096;
 
 /// The applications of a mote, in the order of their process numbers.
-pub type Applications = ArrayVec<Application, MOST_APPLICATIONS>;
+pub type Applications = ArrayVec<Bundled, MOST_APPLICATIONS>;
 
 /// A mote that is ready for its run.
 #[derive(Drop)]
@@ -46,7 +46,7 @@ fn read_names<'a>(names: &'a [&'a str]) -> Result<Applications, Failure<'a>>
 {
     let mut applications = Applications::new();
     for name in names {
-        let application = Application::named(name).ok_or(Failure::NoApplication(name))?;
+        let application = Bundled::named(name).ok_or(Failure::NoApplication(name))?;
         let _ = applications.try_push(application);
     }
     if names.len() > MOST_APPLICATIONS {

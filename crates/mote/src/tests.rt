@@ -1,8 +1,11 @@
 //! What the program makes of its words.
 
-use crate::application::Application;
 use crate::failure::{Failure, status_of};
 use crate::prepare::prepare;
+use crate::running::run_prepared;
+use mote_apps::bundled::Bundled;
+use mote_kit::script::Script;
+use mote_kit::transcript::Transcript;
 use mote_run::End;
 use std::process::Abort;
 use std::test::Fail;
@@ -53,7 +56,9 @@ fn up_to_sixteen_applications_boot(rt: HostRuntime) -> Result<(), Fail> {
             Ok(prepared) => {
                 let applications = prepared.applications.as_slice();
                 assert_eq!(rt; applications.len(), count);
-                assert!(rt; applications.iter().all(|app| *app == Application::Hello));
+                for application in applications {
+                    assert!(rt; matches!(application, Bundled::Hello(_)));
+                }
             }
             Err(failure) => assert!(rt; false, "{failure}"),
         }
@@ -63,11 +68,47 @@ fn up_to_sixteen_applications_boot(rt: HostRuntime) -> Result<(), Fail> {
 
 #[test]
 fn statuses_of_runs(rt: HostRuntime) {
-    assert_eq!(rt; status_of(End::Finished), 0);
-    assert_eq!(rt; status_of(End::BadLine(1)), 2);
-    assert_eq!(rt; status_of(End::Halted), 3);
-    assert_eq!(rt; status_of(End::TooLong), 4);
-    assert_eq!(rt; Failure::Read.status(), 5);
-    assert_eq!(rt; Failure::Write.status(), 6);
-    assert_eq!(rt; Failure::OutOfMemory.status(), 70);
+    for (end, status) in [
+        (End::Finished, 0),
+        (End::BadLine(1), 2),
+        (End::Halted, 3),
+        (End::TooLong, 4),
+    ] {
+        assert_eq!(rt; status_of(&Ok(end)), status);
+    }
+    for (failure, status) in [
+        (Failure::Read, 5),
+        (Failure::Write, 6),
+        (Failure::OutOfMemory, 70),
+    ] {
+        assert_eq!(rt; status_of(&Err(failure)), status);
+    }
+}
+
+// The applications are told apart by what they ask for at their start.
+#[test]
+fn the_words_choose_the_applications(rt: HostRuntime) -> Result<(), Fail> {
+    let words = ["mote", "ping", "hello", "blink", "echo", "relay"];
+    let prepared = match prepare(rt.alloc(), words.as_slice()) {
+        Ok(prepared) => prepared,
+        Err(_) => return Ok(assert!(rt; false)),
+    };
+    let mut source = Script::new(b"");
+    let mut sink = Transcript::new(rt.alloc()).in_pieces_of(7);
+    let end = run_prepared(rt.alloc(), prepared, &mut source, &mut sink, false)?;
+    assert_eq!(rt; end, End::Finished);
+    let transcript = "\
+4 synch 129 - -> alloc-event
+4 answer num 140 -> timer-set 0 5
+4 answer done -> wait
+5 synch 129 - -> print 68690a
+5 answer done -> wait
+6 synch 129 - -> timer-set 0 10
+6 answer done -> wait
+7 synch 129 - -> wait
+8 synch 129 - -> packet-open
+8 answer done -> wait
+";
+    assert_eq!(rt; str::from_utf8(sink.text.as_slice())?, transcript);
+    Ok(())
 }

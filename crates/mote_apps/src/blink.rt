@@ -3,6 +3,7 @@
 ghost use Rattle.std.specs.Prelude.{◌≡◌, false};
 ghost use Rattle.mote_apps.specs.Blink.{blink_says, light_text};
 
+use crate::chunk::chunk_of;
 use mote_types::app::App;
 use mote_types::call::Call;
 use mote_types::event::{Event, INIT, Stimulus, TIMER};
@@ -25,10 +26,7 @@ pub struct Blink {
 fn make_text(lit: bool) -> Chunk
     ensures { result.items ≡ light_text lit }
 {
-    let text: &[u8] = if lit { b"on\n" } else { b"off\n" };
-    let mut chunk = Chunk::new();
-    let _ = chunk.try_extend_from_slice(text);
-    chunk
+    chunk_of(if lit { b"on\n" } else { b"off\n" })
 }
 
 impl Blink {

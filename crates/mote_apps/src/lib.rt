@@ -2,8 +2,11 @@
 #![tactic(auto)]
 
 pub mod blink;
+pub mod bundled;
+mod chunk;
+pub mod churn;
+pub mod echo;
 pub mod hello;
 pub mod ping;
+pub mod relay;
 pub mod steps;
-#[cfg(test)]
-mod tests;

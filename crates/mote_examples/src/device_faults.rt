@@ -1,54 +1,94 @@
-//! Devices that fail: how much of the transcript is written before.
+//! Devices that give and take little at a time, and devices that fail: what is written.
 
-use crate::harness::{NEVER, outcome_of};
+ghost use Rattle.std.specs.Prelude.{◌≡◌, ◌<◌, ◌-◌, ◌^◌, false};
+
 use mote_apps::hello::Hello;
+use mote_kit::boxes;
+use mote_kit::fault::MoteFault;
+use mote_kit::mote::{DEFAULT_SIZES, run_boxes};
+use mote_kit::script::Script;
+use mote_kit::transcript::Transcript;
 use mote_run::End;
-use mote_run::run::RunFault;
-use mote_types::app::App;
 use std::process::Abort;
 use std::test::Fail;
 
 /// What hello writes of this script.
-const SCRIPT: &str = "tick 5\n";
+const SCRIPT: &[u8] = b"tick 5\n";
 
-const TEXT: &str = "\
+const TEXT: &[u8] = b"\
 4 synch 129 - -> print 68690a
 4 answer done -> wait
 > tick 5
 ";
 
-/// Runs hello on devices that take and give one byte at a time and fail after so many reads and writes, and looks at the
-/// end and at how many bytes of the text were written.
+/// Runs hello from this source to this sink, and looks at the end and at how many bytes of the text were written.
 fn check_hello<R: Abort + AllocGlobal>(
     rt: &R,
-    reads: u64,
-    writes: u64,
-    end: Result<End, RunFault>,
+    source: Script<'_>,
+    sink: Transcript,
+    end: Result<End, MoteFault>,
     written: usize,
-) -> Result<(), Fail> {
-    let mut apps: Vec<Box<dyn App>> = Vec::new(rt.alloc());
-    apps.push(Box::new(rt.alloc(), Hello)?)?;
-    let outcome = outcome_of(rt, apps.as_mut_slice(), SCRIPT, reads, writes, 1)?;
-    assert_eq!(rt; outcome.end, end, "{reads} reads, {writes} writes");
-    let text = str::from_utf8(outcome.text.as_slice())?;
-    assert!(rt; TEXT.starts_with(text), "{reads} reads, {writes} writes");
-    assert_eq!(rt; text.len(), written, "{reads} reads, {writes} writes");
+) -> Result<(), Fail>
+    requires unended { source.ended ≡ false }
+    requires countable_reads { source.failed < 2 ^ 64 - 1 }
+    requires countable_writes { sink.failed < 2 ^ 64 - 1 }
+{
+    let mut source = source;
+    let mut sink = sink;
+    let mut apps = boxes![rt.alloc(); Hello];
+    let ended = run_boxes(
+        rt.alloc(),
+        DEFAULT_SIZES,
+        apps.as_mut_slice(),
+        &mut source,
+        &mut sink,
+        false,
+    );
+    assert_eq!(rt; ended, end);
+    assert_eq!(rt; sink.text.len(), written);
+    assert!(rt; TEXT.starts_with(sink.text.as_slice()));
     Ok(())
 }
 
 #[test]
 fn all_that_was_due_is_written_before_a_read_fails(rt: HostRuntime) -> Result<(), Fail> {
-    for reads in 0u64..7 {
-        check_hello(&rt, reads, NEVER, Err(RunFault::Read), 52)?;
+    for k in 1u64..10 {
+        let source = Script::new(SCRIPT).in_pieces_of(1).failing_at(k);
+        let end = if k < 9 {
+            Err(MoteFault::Read)
+        } else {
+            Ok(End::Finished)
+        };
+        let written = if k < 8 { 52 } else { 61 };
+        check_hello(&rt, source, Transcript::new(rt.alloc()), end, written)?;
     }
-    check_hello(&rt, 7, NEVER, Err(RunFault::Read), 61)?;
-    check_hello(&rt, 8, NEVER, Ok(End::Finished), 61)
+    Ok(())
 }
 
 #[test]
 fn nothing_follows_a_write_that_fails(rt: HostRuntime) -> Result<(), Fail> {
-    for writes in 0u64..61 {
-        check_hello(&rt, NEVER, writes, Err(RunFault::Write), writes as usize)?;
+    for k in 1u64..62 {
+        let sink = Transcript::new(rt.alloc()).in_pieces_of(1).failing_at(k);
+        check_hello(
+            &rt,
+            Script::new(SCRIPT),
+            sink,
+            Err(MoteFault::Write),
+            (k - 1) as usize,
+        )?;
     }
-    check_hello(&rt, NEVER, 61, Ok(End::Finished), 61)
+    let sink = Transcript::new(rt.alloc()).in_pieces_of(1).failing_at(62);
+    check_hello(&rt, Script::new(SCRIPT), sink, Ok(End::Finished), 61)
+}
+
+#[test]
+fn the_text_is_the_same_however_the_bytes_are_cut(rt: HostRuntime) -> Result<(), Fail> {
+    for read in [1usize, 2, 3, 7, 4_096] {
+        for written in [1usize, 5, 640] {
+            let source = Script::new(SCRIPT).in_pieces_of(read);
+            let sink = Transcript::new(rt.alloc()).in_pieces_of(written);
+            check_hello(&rt, source, sink, Ok(End::Finished), 61)?;
+        }
+    }
+    Ok(())
 }

@@ -1,52 +1,24 @@
-//! Whole runs over memory.
+//! Whole runs over memory, and what they come to.
 
-ghost use Rattle.std.specs.Prelude.{◌<◌};
-
-use crate::devices::{Script, Transcript};
-use kernel_core::config::Config;
-use kernel_core::kernel::Kernel;
+use mote_kit::mote::{DEFAULT_SIZES, run_script};
 use mote_run::End;
-use mote_run::run::{RunFault, run};
 use mote_types::app::App;
+use node_memory::Sizes;
 use std::process::Abort;
 use std::test::Fail;
 
-/// A device that never fails.
-pub const NEVER: u64 = u64::MAX;
-
-/// What a run came to, and what it wrote.
-#[derive(Drop)]
-pub struct Outcome {
-    pub end: Result<End, RunFault>,
-    pub text: Vec<u8>,
-}
-
-/// Runs the applications over a script on a mote of the default sizes. After so many reads, or so many writes, the next
-/// one fails; a write takes at most `width` bytes.
-pub fn outcome_of<R: Abort + AllocGlobal>(
+/// Runs the applications over a script on a mote of these sizes; the run finishes with this transcript.
+pub fn check_with<R: Abort + AllocGlobal>(
     rt: &R,
+    sizes: Sizes,
     apps: &mut [Box<dyn App>],
     script: &str,
-    reads: u64,
-    writes: u64,
-    width: usize,
-) -> Result<Outcome, Fail>
-    requires { 0 < width }
-{
-    assert!(rt; apps.len() <= 16);
-    let config = Config {
-        mmem: 4_096,
-        heap: 4_096,
-        apps: apps.len() as u8,
-    };
-    let kernel = Kernel::boot(rt.alloc(), config)?;
-    let mut source = Script::new(script.as_bytes(), reads);
-    let mut sink = Transcript::new(Vec::new(rt.alloc()), width, writes);
-    let end = run(&mut source, &mut sink, kernel, apps);
-    Ok(Outcome {
-        end,
-        text: sink.text,
-    })
+    transcript: &str,
+) -> Result<(), Fail> {
+    let ran = run_script(rt.alloc(), sizes, apps, script.as_bytes(), false)?;
+    assert_eq!(rt; str::from_utf8(ran.transcript.as_slice())?, transcript);
+    assert_eq!(rt; ran.end, End::Finished);
+    Ok(())
 }
 
 /// Runs the applications over a script on a mote of the default sizes, and looks at its end and its transcript.
@@ -57,9 +29,9 @@ pub fn check_end<R: Abort + AllocGlobal>(
     end: End,
     transcript: &str,
 ) -> Result<(), Fail> {
-    let outcome = outcome_of(rt, apps, script, NEVER, NEVER, 640)?;
-    assert_eq!(rt; str::from_utf8(outcome.text.as_slice())?, transcript);
-    assert_eq!(rt; outcome.end, Ok(end));
+    let ran = run_script(rt.alloc(), DEFAULT_SIZES, apps, script.as_bytes(), false)?;
+    assert_eq!(rt; str::from_utf8(ran.transcript.as_slice())?, transcript);
+    assert_eq!(rt; ran.end, end);
     Ok(())
 }
 
@@ -75,11 +47,9 @@ pub fn check<R: Abort + AllocGlobal>(
 
 /// The boxes of applications that go through these lists of calls.
 macro_rules! steps {
-    ($rt:expr; $([$($call:expr),*]),*) => {{
-        let mut apps: Vec<Box<dyn App>> = Vec::new($rt.alloc());
-        $(apps.push(Box::new($rt.alloc(), Steps::new([$($call),*]))?)?;)*
-        apps
-    }};
+    ($rt:expr; $([$($call:expr),*]),*) => {
+        mote_kit::boxes![$rt.alloc(); $(Steps::new([$($call),*])),*]
+    };
 }
 
 pub(crate) use steps;

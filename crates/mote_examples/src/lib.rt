@@ -10,15 +10,17 @@ mod clock_watcher;
 #[cfg(test)]
 mod device_faults;
 #[cfg(test)]
-mod devices;
-#[cfg(test)]
 mod events;
 #[cfg(test)]
 mod harness;
 #[cfg(test)]
+mod heap;
+#[cfg(test)]
 mod memory;
 #[cfg(test)]
 mod nested_activations;
+#[cfg(test)]
+mod packets;
 #[cfg(test)]
 mod polls;
 #[cfg(test)]
@@ -26,6 +28,14 @@ mod pools;
 #[cfg(test)]
 mod processes;
 #[cfg(test)]
+mod quiet;
+#[cfg(test)]
 mod scripts;
+#[cfg(test)]
+mod serial_line;
+#[cfg(test)]
+mod sizes;
+#[cfg(test)]
+mod streams;
 #[cfg(test)]
 mod timers;

@@ -1,15 +1,12 @@
 //! Managed memory: what is refused, and what a process reads after a slide, a copy or a new allocation.
 
-use crate::devices::{Script, Transcript};
-use crate::harness::{NEVER, check, steps};
+use crate::harness::{check, check_with, steps};
 use arrayvec::ArrayVec;
-use kernel_core::config::Config;
-use kernel_core::kernel::Kernel;
 use mote_apps::steps::Steps;
-use mote_run::End;
-use mote_run::run::run;
+use mote_kit::mote::DEFAULT_SIZES;
 use mote_types::app::App;
 use mote_types::call::Call;
+use node_memory::Sizes;
 use std::process::Abort;
 use std::test::Fail;
 
@@ -25,19 +22,11 @@ fn check_with_32_bytes<R: Abort + AllocGlobal>(
     apps: &mut [Box<dyn App>],
     transcript: &str,
 ) -> Result<(), Fail> {
-    assert!(rt; apps.len() <= 16);
-    let config = Config {
+    let sizes = Sizes {
         mmem: 32,
-        heap: 4_096,
-        apps: apps.len() as u8,
+        ..DEFAULT_SIZES
     };
-    let kernel = Kernel::boot(rt.alloc(), config)?;
-    let mut source = Script::new(b"", NEVER);
-    let mut sink = Transcript::new(Vec::new(rt.alloc()), 640, NEVER);
-    let end = run(&mut source, &mut sink, kernel, apps);
-    assert_eq!(rt; str::from_utf8(sink.text.as_slice())?, transcript);
-    assert_eq!(rt; end, Ok(End::Finished));
-    Ok(())
+    check_with(rt, sizes, apps, "", transcript)
 }
 
 // The lengths of 10 and 20 take 12 and 20 bytes.

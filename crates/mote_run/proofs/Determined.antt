@@ -7,7 +7,7 @@ use Rattle.mote_types.specs.declared.entry.Entry.{Entry}
 use Rattle.mote_types.specs.declared.entry.Input.{Input}
 use Rattle.mote_text.specs.declared.script.End.{End}
 use Rattle.mote_text.specs.Script.{inputs}
-use Rattle.mote_text.specs.Transcript.{end_of, text}
+use Rattle.mote_text.specs.Transcript.{end_of, shown, text}
 use Rattle.kernel_core.specs.declared.config.Config.{Config}
 use Rattle.mote_run.specs.RunText.{IsRunText}
 use Rattle.kernel_core.specs.Run.{at_start, Running, Runs, ComesToRest, after_step, after_steps, answers_after, one_step, is_still, with_input}
@@ -89,12 +89,12 @@ run_extends says (input ∷ later) a w (m, rests, stop, go) =
     extends_on a m w (rest_extends says a m rests)
     (run_goes_on says input later m w (λ a w r. run_extends says later a w r) stop go m.machine.is_halted refl)
 
-module _ {config : Config} {says : Applications} {script out also : List ℕ} {end ends : End} where
-  one_last : (x : IsRunText config says script out end) (y : IsRunText config says script also ends) → x.last ≡ y.last
+module _ {config : Config} {says : Applications} {quiet : Bool} {script out also : List ℕ} {end ends : End} where
+  one_last : (x : IsRunText config says quiet script out end) (y : IsRunText config says quiet script also ends) → x.last ≡ y.last
   one_last x y = runs_one says (inputs script).0 (at_start config) x.last y.last x.runs y.runs
 
-  pub one_end : IsRunText config says script out end → IsRunText config says script also ends → end ≡ ends
+  pub one_end : IsRunText config says quiet script out end → IsRunText config says quiet script also ends → end ≡ ends
   one_end x y = x.ends ∙ (ap (λ last. end_of last.entries (inputs script).1) (one_last x y) ∙ sym y.ends)
 
-  pub one_text : IsRunText config says script out end → IsRunText config says script also ends → out ≡ also
-  one_text x y = x.is_text ∙ (ap (λ last. text last.entries end) (one_last x y) ∙ (ap (text y.last.entries) (one_end x y) ∙ sym y.is_text))
+  pub one_text : IsRunText config says quiet script out end → IsRunText config says quiet script also ends → out ≡ also
+  one_text x y = x.is_text ∙ (ap (λ last. text (shown quiet last.entries) end) (one_last x y) ∙ (ap (text (shown quiet y.last.entries)) (one_end x y) ∙ sym y.is_text))

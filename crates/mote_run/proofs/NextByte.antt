@@ -16,7 +16,7 @@ Put byte number line says number' line' = byte ≢ 10 → (says ≡ None) × (le
 abbrev pub Ended : ℕ → ℕ → List ℕ → Option Input → ℕ → List ℕ → Type 0
 Ended byte number line says number' line' = byte ≡ 10 → (read_line line ≡ Some says) × (number' ≡ number + 1) × (line' ≡ [])
 
-either : {A : Type 0} (byte : ℕ) → (byte ≡ 10 → A) → (byte ≢ 10 → A) → A
+pub either : {A : Type 0} (byte : ℕ) → (byte ≡ 10 → A) → (byte ≢ 10 → A) → A
 either byte at_end at_other = ⊎_elim (λ h. at_end h.1) (λ h. at_other h.1) (eqb_tells byte 10)
 
 module _ {taken : List ℕ} {earlier : List Input} {number : ℕ} {line : List ℕ} (byte : ℕ) (number' : ℕ) (line' : List ℕ) (before : Before taken earlier number line) (room : length taken < script_limit) where

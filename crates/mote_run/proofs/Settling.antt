@@ -1,10 +1,10 @@
 -- Steps of the kernel, as steps of the run.
 use Rattle.std.proofs.Common.{◌≡◌, ℕ, zero, suc, Bool, List, [], ◌∷◌, ◌++◌, refl, ap, sym, ◌∙◌, append_assoc}
 use Rattle.std.proofs.Math.Seq.{take-append-add}
-use Rattle.std.specs.Prelude.{take, length, ◌+◌, ◌||◌}
+use Rattle.std.specs.Prelude.{take, length, flat_map, ◌+◌, ◌||◌}
 use Rattle.std.specs.List.{list_any}
 use Rattle.std.proofs.lemmas.List.{append-nil}
-use Rattle.std.proofs.lemmas.List.Elements.{filter_map-append}
+use Rattle.std.proofs.lemmas.List.Elements.{filter-append, filter_map-append}
 use Rattle.std.proofs.lemmas.List.Folds.{list_any-append}
 use Rattle.std.proofs.Math.Path.{fun_ext}
 use Rattle.std.proofs.lemmas.Grind.{flat_map-append}
@@ -13,10 +13,17 @@ use Rattle.mote_types.specs.declared.entry.Entry.{Entry}
 use Rattle.mote_types.specs.Applications.{Applications}
 use Rattle.mote_types.specs.Entries.{is_halt}
 use Rattle.mote_text.specs.EntryText.{entry_line}
+use Rattle.mote_text.specs.Transcript.{is_shown, shown}
 use Rattle.kernel_core.specs.declared.step.Step.{Step}
 use Rattle.kernel_core.specs.Machine.{Machine}
 use Rattle.kernel_core.specs.Run.{Silently, MakesEntry, GoesOn, Running, made, heard, stimulus_of, answers_after, after_step, after_steps}
-use Rattle.mote_run.specs.Settling.{CutOff, IsTold, Settled, lines}
+use Rattle.mote_run.specs.Code.Settling.{CutOff, IsTold, Settled, lines}
+
+-- the lines of more entries come behind those of the entries before
+pub lines-append : (quiet : Bool) (entries more : List Entry) → lines quiet (entries ++ more) ≡ lines quiet entries ++ lines quiet more
+lines-append quiet entries more =
+    ap (flat_map entry_line) (filter-append (λ entry. is_shown entry quiet) entries more)
+    ∙ flat_map-append entry_line (shown quiet entries) (shown quiet more)
 
 -- k steps after n steps are some steps
 pub steps_after : (says : Applications) (n k : ℕ) (r : Running) → (j : ℕ) × (after_steps says j r ≡ after_steps says k (after_steps says n r))
@@ -68,9 +75,9 @@ told_after says now later entries more is_told law = record {
       ∙ ap (λ v. v ++ (next ∷ rest)) (sym (filter_map-append (stimulus_of p) entries more))));
 }
 
-pub nothing_settled : (says now : Applications) (before : List Entry) (m : Machine) (given : List ℕ) → IsTold says before now →
-    Settled says before m m now given given
-nothing_settled says now before m given told = record {
+pub nothing_settled : (says now : Applications) (quiet : Bool) (before : List Entry) (m : Machine) (given : List ℕ) → IsTold says before now →
+    Settled says quiet before m m now given given
+nothing_settled says now quiet before m given told = record {
   entries = [];
   count = 0;
   walked = rw append-nil refl;
@@ -85,14 +92,14 @@ halts_more : (says : Applications) (before entries more : List Entry) (old mid n
 halts_more says before entries more old mid new so_far e h =
     rw (← append_assoc before entries more, list_any-append is_halt (before ++ entries) more, so_far h, e) refl
 
-pub settled_more : (says now later : Applications) (before : List Entry) (old mid new : Machine) (given₀ given₁ given₂ : List ℕ) (step : Step) →
-    Settled says before old mid now given₀ given₁ →
+pub settled_more : (says now later : Applications) (quiet : Bool) (before : List Entry) (old mid new : Machine) (given₀ given₁ given₂ : List ℕ) (step : Step) →
+    Settled says quiet before old mid now given₀ given₁ →
     GoesOn (λ p stimulus. now p (stimulus ∷ [])) mid step new →
     ((p : ℕ) (next : Stimulus) (rest : List Stimulus) → later p (next ∷ rest) ≡ now p (heard p (made step) ++ (next ∷ rest))) →
     new.is_halted ≡ (mid.is_halted || list_any is_halt (made step)) →
-    given₂ ≡ given₁ ++ lines (made step) →
-    Settled says before old new later given₀ given₂
-settled_more says now later before old mid new given₀ given₁ given₂ step so_far goes law halted written =
+    given₂ ≡ given₁ ++ lines quiet (made step) →
+    Settled says quiet before old new later given₀ given₂
+settled_more says now later quiet before old mid new given₀ given₁ given₂ step so_far goes law halted written =
     let same : (λ p stimulus. now p (stimulus ∷ [])) ≡ answers_after says (before ++ so_far.entries) =
     fun_ext (λ p. fun_ext (λ stimulus. so_far.told.each p stimulus [])) in
     let k = made_steps says (before ++ so_far.entries) mid new step (rw same at goes) in
@@ -102,27 +109,27 @@ settled_more says now later before old mid new given₀ given₁ given₂ step s
       count = j.0;
       walked = j.1 ∙ (ap (after_steps says k.0) so_far.walked ∙ (k.1 ∙ rw (append_assoc before so_far.entries (made step)) refl));
       told = rw (append_assoc before so_far.entries (made step)) at (told_after says now later (before ++ so_far.entries) (made step) so_far.told law);
-      written = rw (written, so_far.written, flat_map-append entry_line so_far.entries (made step)) (append_assoc given₀ (lines so_far.entries) (lines (made step)));
+      written = rw (written, so_far.written, lines-append quiet so_far.entries (made step)) (append_assoc given₀ (lines quiet so_far.entries) (lines quiet (made step)));
       halts = halts_more says before so_far.entries (made step) old.is_halted mid.is_halted new.is_halted so_far.halts halted;
     }
 
-pub cut_off_at : (says now : Applications) (before : List Entry) (old mid new : Machine) (given₀ given₁ given₂ : List ℕ) (entry : Entry) (n : ℕ) →
-    Settled says before old mid now given₀ given₁ →
+pub cut_off_at : (says now : Applications) (quiet : Bool) (before : List Entry) (old mid new : Machine) (given₀ given₁ given₂ : List ℕ) (entry : Entry) (n : ℕ) →
+    Settled says quiet before old mid now given₀ given₁ →
     MakesEntry (λ p stimulus. now p (stimulus ∷ [])) mid entry new →
-    given₂ ≡ given₁ ++ take n (entry_line entry) →
-    CutOff says before old given₀ given₂
-cut_off_at says now before old mid new given₀ given₁ given₂ entry n so_far makes written =
+    given₂ ≡ given₁ ++ take n (lines quiet (entry ∷ [])) →
+    CutOff says quiet before old given₀ given₂
+cut_off_at says now quiet before old mid new given₀ given₁ given₂ entry n so_far makes written =
     let same : (λ p stimulus. now p (stimulus ∷ [])) ≡ answers_after says (before ++ so_far.entries) =
     fun_ext (λ p. fun_ext (λ stimulus. so_far.told.each p stimulus [])) in
     let k = made_steps says (before ++ so_far.entries) mid new (Step.Entry entry) (rw same at makes) in
     let j = steps_after says so_far.count k.0 (record { machine = old; entries = before }) in
-    let front : take (length (lines so_far.entries) + n) (lines (so_far.entries ++ entry ∷ [])) ≡ lines so_far.entries ++ take n (entry_line entry) =
-    rw (flat_map-append entry_line so_far.entries (entry ∷ []), append-nil (entry_line entry)) (take-append-add (lines so_far.entries) (entry_line entry) n) in
+    let front : take (length (lines quiet so_far.entries) + n) (lines quiet (so_far.entries ++ entry ∷ [])) ≡ lines quiet so_far.entries ++ take n (lines quiet (entry ∷ [])) =
+    rw (lines-append quiet so_far.entries (entry ∷ [])) (take-append-add (lines quiet so_far.entries) (lines quiet (entry ∷ [])) n) in
     record {
       entries = so_far.entries ++ entry ∷ [];
       count = j.0;
       machine = new;
       walked = j.1 ∙ (ap (after_steps says k.0) so_far.walked ∙ (k.1 ∙ rw (append_assoc before so_far.entries (entry ∷ [])) refl));
-      size = length (lines so_far.entries) + n;
-      written = rw (front, written, so_far.written) (append_assoc given₀ (lines so_far.entries) (take n (entry_line entry)));
+      size = length (lines quiet so_far.entries) + n;
+      written = rw (front, written, so_far.written) (append_assoc given₀ (lines quiet so_far.entries) (take n (lines quiet (entry ∷ []))));
     }

@@ -1,2 +1,4 @@
+-- What a reader has to believe.
 pub mod RunText
-pub mod Settling
+-- What the code keeps.
+pub mod Code

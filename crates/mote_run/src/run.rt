@@ -5,7 +5,7 @@ ghost use Rattle.mote_types.specs.Applications.{says_of};
 ghost use Rattle.mote_text.specs.Transcript.{final_line};
 ghost use Rattle.kernel_core.specs.declared.config.Config.{Config};
 ghost use Rattle.kernel_core.specs.Machine.{booted};
-ghost use Rattle.mote_run.specs.RunText.{HasRun, HasRunInPart, HasRunOnWholeLines, WasBooted, script_done};
+ghost use Rattle.mote_run.specs.RunText.{HasRead, HasRun, HasRunInPart, HasRunOnWholeLines, WasBooted, script_done};
 
 use crate::device::{read_byte, write_all};
 use crate::present_line::PresentLine;
@@ -53,7 +53,8 @@ fn end_of(kernel: &Kernel) -> End
 }
 
 /// Runs the applications over a script: reads it byte by byte, hands each line's input to the mote, and writes the text
-/// of the run. All text that is due is written before it reads again, and nothing is read behind the end.
+/// of the run; where `quiet` is true, only the lines of a quiet transcript. All text that is due is written before it reads
+/// again, and nothing is read behind the end.
 ///
 /// What is written is the text of the run that the machine makes with the same inputs and applications, and the answer
 /// is how that run ends.
@@ -66,24 +67,26 @@ pub fn run<S: ByteSource, K: ByteSink>(
     sink: &mut K,
     kernel: Kernel,
     apps: &mut [Box<dyn App>],
+    quiet: bool,
 ) -> Result<End, RunFault>
     requires booted { WasBooted kernel (length apps.old) }
     requires unended { S.is_ended source.old ≡ false }
     requires countable_reads { S.failure_count source.old < 2 ^ 64 - 1 }
     requires countable_writes { K.failure_count sink.old < 2 ^ 64 - 1 }
     ensures text { IfOk result (λ end. S.is_named → K.is_named → (config : Config) → kernel.machine ≡ booted config →
-        HasRun config (says_of says apps.old) (S.taken source.old) (S.taken source.new) (S.is_ended source.new) (K.given sink.old) (K.given sink.new) end) }
+        HasRun config (says_of says apps.old) quiet (S.taken source.old) (S.taken source.new) (S.is_ended source.new) (K.given sink.old) (K.given sink.new) end) }
     ensures front { OnErr result (S.is_named → K.is_named → (config : Config) → kernel.machine ≡ booted config →
-        HasRunInPart config (says_of says apps.old) (S.taken source.old) (S.taken source.new) (S.is_ended source.new) (K.given sink.old) (K.given sink.new)) }
+        HasRunInPart config (says_of says apps.old) quiet (S.taken source.old) (S.taken source.new) (S.is_ended source.new) (K.given sink.old) (K.given sink.new)) }
     ensures after_read_fault { IsErrOf result RunFault.Read → S.is_named → K.is_named → (config : Config) → kernel.machine ≡ booted config →
-        HasRunOnWholeLines config (says_of says apps.old) (S.taken source.old) (S.taken source.new) (K.given sink.old) (K.given sink.new) }
+        HasRunOnWholeLines config (says_of says apps.old) quiet (S.taken source.old) (S.taken source.new) (K.given sink.old) (K.given sink.new) }
+    ensures few { S.is_named → (count : ℕ) × (count ≤ SCRIPT_LIMIT + 1) × HasRead count (S.taken source.old) (S.taken source.new) }
     ensures read_fault { IsErrOf result RunFault.Read ↔ (S.failure_count source.old < S.failure_count source.new) }
     ensures write_fault { IsErrOf result RunFault.Write ↔ (K.failure_count sink.old < K.failure_count sink.new) }
 {
     let mut kernel = kernel;
     let mut line = PresentLine::new();
     let mut taken = 0;
-    settle(sink, &mut kernel, apps)?;
+    settle(sink, &mut kernel, apps, quiet)?;
     'byte: loop {
         if kernel.halted() {
             return Ok(End::Halted);
@@ -93,7 +96,7 @@ pub fn run<S: ByteSource, K: ByteSink>(
                 Ok(None) => return Ok(End::Finished),
                 Ok(Some(input)) => {
                     kernel.feed(input);
-                    settle(sink, &mut kernel, apps)?;
+                    settle(sink, &mut kernel, apps, quiet)?;
                     return Ok(end_of(&kernel));
                 }
                 Err(BadLine) => {
@@ -111,7 +114,7 @@ pub fn run<S: ByteSource, K: ByteSink>(
             Ok(None) => {}
             Ok(Some(input)) => {
                 kernel.feed(input);
-                settle(sink, &mut kernel, apps)?;
+                settle(sink, &mut kernel, apps, quiet)?;
             }
             Err(BadLine) => {
                 close(sink, End::BadLine(line.number))?;

@@ -2,5 +2,6 @@ pub mod Bytewise
 mod Digits
 mod Examples
 pub mod Reading
+mod ShownBytes
 mod Ticks
 mod WholeLines

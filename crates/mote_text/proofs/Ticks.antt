@@ -2,13 +2,14 @@
 use Rattle.std.proofs.Common.{◌≡◌, ◌<◌, ◌≤◌, ◌≢◌, ◌^◌, option_map, option_and_then, le-ltb, ne_eqb, Bool, true, false, ◌&&◌, ℕ, zero, suc, List, ◌++◌, length, decimal, codes, get_or, take, drop, bytes_eq, nat_lt, Option, Some, None, refl, sym, ap, ◌∙◌, arith, lt-ltb}
 use Rattle.std.specs.Char.{is_ascii_digit}
 use Rattle.std.specs.List.{list_all}
+use Rattle.std.specs.Option.{option_or}
 use Rattle.std.specs.Str.Parse.{digits_value}
 use Rattle.std.proofs.lemmas.Bool.Decides.{nat_tests}
 use Rattle.std.proofs.lemmas.Slice.Eq.{bytes_eq-Decides}
 use Rattle.std.proofs.Math.ListN.{take-append-drop}
 use Rattle.std.proofs.lemmas.Fmt.{digits_decimal, digits_value-decimal, decimal-digits_value, decimal_nonempty, decimal_digit, first_decimal, length-decimal-le}
 use Rattle.mote_types.specs.declared.entry.Input.{Input}
-use Rattle.mote_text.specs.Script.{is_number, has_leading_zero, read_number, read_line, argument_of, line_limit, says_nothing}
+use Rattle.mote_text.specs.Script.{is_number, has_leading_zero, read_number, read_bytes, read_line, argument_of, line_limit, says_nothing}
 use Rattle.mote_text.proofs.Digits.{digits_are_numerals}
 
 no_leading_zero : (n : ℕ) → n < 2 ^ 64 → has_leading_zero (decimal n) ≡ false
@@ -64,30 +65,34 @@ read_tick_line n small =
     let some : length line ≢ 0 = λ none. omega (arith, none) in
     rw (le-ltb 1024 (length line) short, ne_eqb (length line) 0 some, read_decimal n small)
 
-says_tick : Option ℕ → Option (Option Input)
-says_tick number = option_map (λ input. Some input) (option_map (λ n. Input.Tick n) number)
-
-from_number : (n : ℕ) (number : Option ℕ) → says_tick number ≡ Some (Some (Input.Tick n)) → number ≡ Some n
-unfolding says_tick
-from_number n None says = cc
-from_number n (Some m) says = cc
+-- of the three forms it is that of a tick
+is_tick : (n : ℕ) (number : Option ℕ) (serial frame : Option (List ℕ)) →
+    option_map (λ input. Some input) (option_or (option_map (λ m. Input.Tick m) number)
+    (option_or (option_map (λ bytes. Input.Serial (record { items = bytes })) serial) (option_map (λ bytes. Input.Frame (record { items = bytes })) frame)))
+    ≡ Some (Some (Input.Tick n)) → number ≡ Some n
+is_tick n (Some m) serial frame says = cc
+is_tick n None (Some bytes) frame says = cc
+is_tick n None None (Some bytes) says = cc
+is_tick n None None None says = cc
 
 from_argument : (line : List ℕ) (n : ℕ) (argument : Option (List ℕ)) → argument_of (codes "tick ") line ≡ argument →
-    says_tick (option_and_then read_number argument) ≡ Some (Some (Input.Tick n)) → line ≡ codes "tick " ++ decimal n
-from_argument line n None is says =
-    let none : None ≡ Some n = from_number n None says in
-    cc
-from_argument line n (Some text) is says =
+    option_and_then read_number argument ≡ Some n → line ≡ codes "tick " ++ decimal n
+from_argument line n None is reads = cc
+from_argument line n (Some text) is reads =
     let behind = behind_word (codes "tick ") line text (bytes_eq (take 5 line) (codes "tick ")) refl is in
-    let number = decimal_of_read text n (from_number n (read_number text) says) in
+    let number = decimal_of_read text n reads in
     behind ∙ ap (λ t. codes "tick " ++ t) number
 
 from_tests : (line : List ℕ) (n : ℕ) (is_long is_nothing : Bool) → nat_lt line_limit (length line) ≡ is_long → says_nothing line ≡ is_nothing →
     read_line line ≡ Some (Some (Input.Tick n)) → line ≡ codes "tick " ++ decimal n
-unfolding read_line says_tick
+unfolding read_line
 from_tests line n true is_nothing long nothing says = let none : None ≡ Some (Some (Input.Tick n)) = rw long at says in cc
 from_tests line n false true long nothing says = let none : Some None ≡ Some (Some (Input.Tick n)) = rw (long, nothing) at says in cc
-from_tests line n false false long nothing says = from_argument line n (argument_of (codes "tick ") line) refl (rw (long, nothing) at says)
+from_tests line n false false long nothing says =
+    let number = option_and_then read_number (argument_of (codes "tick ") line) in
+    let serial = option_and_then (read_bytes 256) (argument_of (codes "serial ") line) in
+    let frame = option_and_then (read_bytes 127) (argument_of (codes "frame ") line) in
+    from_argument line n (argument_of (codes "tick ") line) refl (is_tick n number serial frame (rw (long, nothing) at says))
 
 pub tick_line : (line : List ℕ) (n : ℕ) → read_line line ≡ Some (Some (Input.Tick n)) → line ≡ codes "tick " ++ decimal n
 tick_line line n says = from_tests line n (nat_lt line_limit (length line)) (says_nothing line) refl refl says

@@ -54,98 +54,63 @@ stimulus_words (Stimulus.Event event) = decimal event.code ∷ payload_word even
 stimulus_words (Stimulus.Answer reply) = reply_words reply
 stimulus_words (Stimulus.Callback timer) = decimal timer ∷ []
 
-abbrev pub call_word : Call → Word
-call_word (Call.Post process code payload) = codes "post"
-call_word (Call.Broadcast code payload) = codes "broadcast"
-call_word (Call.PostSynch process code payload) = codes "post-synch"
-call_word (Call.Poll process) = codes "poll"
-call_word (Call.Start process) = codes "start"
-call_word (Call.Kill process) = codes "kill"
-call_word (Call.IsRunning process) = codes "is-running"
-call_word Call.AllocEvent = codes "alloc-event"
-call_word (Call.TimerSet timer interval) = codes "timer-set"
-call_word (Call.TimerStop timer) = codes "timer-stop"
-call_word (Call.TimerReset timer) = codes "timer-reset"
-call_word (Call.TimerRestart timer) = codes "timer-restart"
-call_word (Call.TimerExpired timer) = codes "timer-expired"
-call_word (Call.CallbackSet timer interval) = codes "callback-set"
-call_word (Call.CallbackStop timer) = codes "callback-stop"
-call_word Call.Clock = codes "clock"
-call_word (Call.Print chunk) = codes "print"
-call_word Call.Wait = codes "wait"
-call_word Call.Exit = codes "exit"
-call_word (Call.MmemAlloc handle n) = codes "mmem-alloc"
-call_word (Call.MmemFree handle) = codes "mmem-free"
-call_word (Call.MmemWrite handle at chunk) = codes "mmem-write"
-call_word (Call.MmemRead handle at len) = codes "mmem-read"
-call_word (Call.MmemCopy source target) = codes "mmem-copy"
-call_word Call.MmemAvail = codes "mmem-avail"
-call_word (Call.MembAlloc pool) = codes "memb-alloc"
-call_word (Call.MembFree pool block) = codes "memb-free"
-call_word (Call.MembWrite pool block at chunk) = codes "memb-write"
-call_word (Call.MembRead pool block at len) = codes "memb-read"
-call_word (Call.MembNumFree pool) = codes "memb-num-free"
-call_word (Call.ListAdd list block) = codes "list-add"
-call_word (Call.ListPush list block) = codes "list-push"
-call_word (Call.ListInsert list prev block) = codes "list-insert"
-call_word (Call.ListPop list) = codes "list-pop"
-call_word (Call.ListChop list) = codes "list-chop"
-call_word (Call.ListRemove list block) = codes "list-remove"
-call_word (Call.ListHead list) = codes "list-head"
-call_word (Call.ListNext list block) = codes "list-next"
-call_word (Call.ListLength list) = codes "list-length"
-
--- the arguments of the calls on memory
-abbrev pub memory_argument_words : Call → List Word
-memory_argument_words (Call.MmemAlloc handle n) = decimal handle ∷ decimal n ∷ []
-memory_argument_words (Call.MmemFree handle) = decimal handle ∷ []
-memory_argument_words (Call.MmemWrite handle at chunk) = decimal handle ∷ decimal at ∷ hex chunk.items ∷ []
-memory_argument_words (Call.MmemRead handle at len) = decimal handle ∷ decimal at ∷ decimal len ∷ []
-memory_argument_words (Call.MmemCopy source target) = decimal source ∷ decimal target ∷ []
-memory_argument_words Call.MmemAvail = []
-memory_argument_words (Call.MembAlloc pool) = decimal pool ∷ []
-memory_argument_words (Call.MembFree pool block) = decimal pool ∷ decimal block ∷ []
-memory_argument_words (Call.MembWrite pool block at chunk) = decimal pool ∷ decimal block ∷ decimal at ∷ hex chunk.items ∷ []
-memory_argument_words (Call.MembRead pool block at len) = decimal pool ∷ decimal block ∷ decimal at ∷ decimal len ∷ []
-memory_argument_words (Call.MembNumFree pool) = decimal pool ∷ []
-memory_argument_words (Call.ListAdd list block) = decimal list ∷ decimal block ∷ []
-memory_argument_words (Call.ListPush list block) = decimal list ∷ decimal block ∷ []
-memory_argument_words (Call.ListInsert list prev block) = decimal list ∷ decimal prev ∷ decimal block ∷ []
-memory_argument_words (Call.ListPop list) = decimal list ∷ []
-memory_argument_words (Call.ListChop list) = decimal list ∷ []
-memory_argument_words (Call.ListRemove list block) = decimal list ∷ decimal block ∷ []
-memory_argument_words (Call.ListHead list) = decimal list ∷ []
-memory_argument_words (Call.ListNext list block) = decimal list ∷ decimal block ∷ []
-memory_argument_words (Call.ListLength list) = decimal list ∷ []
-memory_argument_words _ = []
-
-abbrev pub argument_words : Call → List Word
-argument_words (Call.Post process code payload) = decimal process ∷ decimal code ∷ payload_word payload ∷ []
-argument_words (Call.Broadcast code payload) = decimal code ∷ payload_word payload ∷ []
-argument_words (Call.PostSynch process code payload) = decimal process ∷ decimal code ∷ payload_word payload ∷ []
-argument_words (Call.Poll process) = decimal process ∷ []
-argument_words (Call.Start process) = decimal process ∷ []
-argument_words (Call.Kill process) = decimal process ∷ []
-argument_words (Call.IsRunning process) = decimal process ∷ []
-argument_words Call.AllocEvent = []
-argument_words (Call.TimerSet timer interval) = decimal timer ∷ decimal interval ∷ []
-argument_words (Call.TimerStop timer) = decimal timer ∷ []
-argument_words (Call.TimerReset timer) = decimal timer ∷ []
-argument_words (Call.TimerRestart timer) = decimal timer ∷ []
-argument_words (Call.TimerExpired timer) = decimal timer ∷ []
-argument_words (Call.CallbackSet timer interval) = decimal timer ∷ decimal interval ∷ []
-argument_words (Call.CallbackStop timer) = decimal timer ∷ []
-argument_words Call.Clock = []
-argument_words (Call.Print chunk) = hex chunk.items ∷ []
-argument_words Call.Wait = []
-argument_words Call.Exit = []
-argument_words call = memory_argument_words call
-
+-- the call's word, then its arguments
 abbrev pub call_words : Call → List Word
-call_words call = call_word call ∷ argument_words call
+call_words (Call.Post process code payload) = codes "post" ∷ decimal process ∷ decimal code ∷ payload_word payload ∷ []
+call_words (Call.Broadcast code payload) = codes "broadcast" ∷ decimal code ∷ payload_word payload ∷ []
+call_words (Call.PostSynch process code payload) = codes "post-synch" ∷ decimal process ∷ decimal code ∷ payload_word payload ∷ []
+call_words (Call.Poll process) = codes "poll" ∷ decimal process ∷ []
+call_words (Call.Start process) = codes "start" ∷ decimal process ∷ []
+call_words (Call.Kill process) = codes "kill" ∷ decimal process ∷ []
+call_words (Call.IsRunning process) = codes "is-running" ∷ decimal process ∷ []
+call_words Call.AllocEvent = codes "alloc-event" ∷ []
+call_words Call.Clock = codes "clock" ∷ []
+call_words (Call.Print chunk) = codes "print" ∷ hex chunk.items ∷ []
+call_words Call.Wait = codes "wait" ∷ []
+call_words Call.Exit = codes "exit" ∷ []
+call_words (Call.TimerSet timer interval) = codes "timer-set" ∷ decimal timer ∷ decimal interval ∷ []
+call_words (Call.TimerStop timer) = codes "timer-stop" ∷ decimal timer ∷ []
+call_words (Call.TimerReset timer) = codes "timer-reset" ∷ decimal timer ∷ []
+call_words (Call.TimerRestart timer) = codes "timer-restart" ∷ decimal timer ∷ []
+call_words (Call.TimerExpired timer) = codes "timer-expired" ∷ decimal timer ∷ []
+call_words (Call.CallbackSet timer interval) = codes "callback-set" ∷ decimal timer ∷ decimal interval ∷ []
+call_words (Call.CallbackStop timer) = codes "callback-stop" ∷ decimal timer ∷ []
+call_words (Call.MmemAlloc handle n) = codes "mmem-alloc" ∷ decimal handle ∷ decimal n ∷ []
+call_words (Call.MmemFree handle) = codes "mmem-free" ∷ decimal handle ∷ []
+call_words (Call.MmemWrite handle at chunk) = codes "mmem-write" ∷ decimal handle ∷ decimal at ∷ hex chunk.items ∷ []
+call_words (Call.MmemRead handle at len) = codes "mmem-read" ∷ decimal handle ∷ decimal at ∷ decimal len ∷ []
+call_words (Call.MmemCopy source target) = codes "mmem-copy" ∷ decimal source ∷ decimal target ∷ []
+call_words Call.MmemAvail = codes "mmem-avail" ∷ []
+call_words (Call.HeapAlloc block n) = codes "heap-alloc" ∷ decimal block ∷ decimal n ∷ []
+call_words (Call.HeapRealloc block n) = codes "heap-realloc" ∷ decimal block ∷ decimal n ∷ []
+call_words (Call.HeapFree block) = codes "heap-free" ∷ decimal block ∷ []
+call_words (Call.HeapWrite block at chunk) = codes "heap-write" ∷ decimal block ∷ decimal at ∷ hex chunk.items ∷ []
+call_words (Call.HeapRead block at len) = codes "heap-read" ∷ decimal block ∷ decimal at ∷ decimal len ∷ []
+call_words Call.HeapStats = codes "heap-stats" ∷ []
+call_words (Call.MembAlloc pool) = codes "memb-alloc" ∷ decimal pool ∷ []
+call_words (Call.MembFree pool block) = codes "memb-free" ∷ decimal pool ∷ decimal block ∷ []
+call_words (Call.MembWrite pool block at chunk) = codes "memb-write" ∷ decimal pool ∷ decimal block ∷ decimal at ∷ hex chunk.items ∷ []
+call_words (Call.MembRead pool block at len) = codes "memb-read" ∷ decimal pool ∷ decimal block ∷ decimal at ∷ decimal len ∷ []
+call_words (Call.MembNumFree pool) = codes "memb-num-free" ∷ decimal pool ∷ []
+call_words (Call.ListAdd list block) = codes "list-add" ∷ decimal list ∷ decimal block ∷ []
+call_words (Call.ListPush list block) = codes "list-push" ∷ decimal list ∷ decimal block ∷ []
+call_words (Call.ListInsert list prev block) = codes "list-insert" ∷ decimal list ∷ decimal prev ∷ decimal block ∷ []
+call_words (Call.ListPop list) = codes "list-pop" ∷ decimal list ∷ []
+call_words (Call.ListChop list) = codes "list-chop" ∷ decimal list ∷ []
+call_words (Call.ListRemove list block) = codes "list-remove" ∷ decimal list ∷ decimal block ∷ []
+call_words (Call.ListHead list) = codes "list-head" ∷ decimal list ∷ []
+call_words (Call.ListNext list block) = codes "list-next" ∷ decimal list ∷ decimal block ∷ []
+call_words (Call.ListLength list) = codes "list-length" ∷ decimal list ∷ []
+call_words Call.PacketOpen = codes "packet-open" ∷ []
+call_words (Call.PacketRead at len) = codes "packet-read" ∷ decimal at ∷ decimal len ∷ []
+call_words Call.PacketDone = codes "packet-done" ∷ []
+call_words Call.PacketCount = codes "packet-count" ∷ []
+call_words (Call.PacketSend handle) = codes "packet-send" ∷ decimal handle ∷ []
 
 abbrev pub input_words : Input → List Word
 input_words (Input.Tick n) = codes "tick" ∷ decimal n ∷ []
+input_words (Input.Serial bytes) = codes "serial" ∷ hex bytes.items ∷ []
+input_words (Input.Frame bytes) = codes "frame" ∷ hex bytes.items ∷ []
 
 abbrev pub note_words : Note → List Word
 note_words (Note.Lost refusal) = codes "lost" ∷ decimal (refusal_number refusal) ∷ []
@@ -159,7 +124,7 @@ entry_words (Entry.Note note) = codes "note" ∷ note_words note
 entry_words Entry.Halt = codes "halt" ∷ []
 
 -- a space in front of each word
-abbrev pub spaced : List Word → List ℕ
+unfoldable pub spaced : List Word → List ℕ
 spaced words = flat_map (λ word. codes " " ++ word) words
 
 -- the words, a space between each two, and the line's end

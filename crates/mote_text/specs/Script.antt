@@ -1,8 +1,11 @@
 -- A script: its lines, the inputs that they stand for, and how it ends.
-use Rattle.std.specs.Prelude.{ℕ, ◌+◌, ◌^◌, Bool, not, ◌&&◌, ◌||◌, List, [], ◌∷◌, ◌++◌, length, take, drop, slice_index, codes, bytes_eq, Option, Some, None, option_map, option_and_then, if◌then◌else◌, ◌==◌, nat_lt}
+use Rattle.std.specs.Prelude.{ℕ, ◌+◌, ◌*◌, ◌^◌, Bool, not, ◌&&◌, ◌||◌, List, [], ◌∷◌, ◌++◌, length, take, drop, slice_index, codes, bytes_eq, Option, Some, None, option_map, option_and_then, if◌then◌else◌, ◌==◌, nat_le, nat_lt}
 use Rattle.std.specs.Char.{is_ascii_digit}
 use Rattle.std.specs.List.{list_all, slice_split}
+use Rattle.std.specs.Option.{option_or}
+use Rattle.std.specs.Result.{result_ok}
 use Rattle.std.specs.Str.Parse.{digits_value}
+use Rattle.hex.specs.Hex.{decode_of}
 use Rattle.mote_types.specs.declared.entry.Input.{Input}
 use Rattle.mote_text.specs.declared.script.End.{End}
 
@@ -18,6 +21,13 @@ is_number text = nat_lt 0 (length text) && list_all is_ascii_digit text && not (
 abbrev pub read_number : List ℕ → Option ℕ
 read_number text = if is_number text && nat_lt (digits_value 10 text) (2 ^ 32) then Some (digits_value 10 text) else None
 
+-- bytes in hex
+
+-- from one to so many bytes, each as two hex digits of either case
+abbrev pub read_bytes : ℕ → List ℕ → Option (List ℕ)
+read_bytes most digits =
+    if nat_le 2 (length digits) && nat_le (length digits) (2 * most) then result_ok (decode_of digits) else None
+
 -- one line
 
 -- what stands behind the word that the line begins with
@@ -26,6 +36,20 @@ argument_of word line = if bytes_eq (take (length word) line) word then Some (dr
 
 abbrev pub read_tick : List ℕ → Option Input
 read_tick line = option_map (λ n. Input.Tick n) (option_and_then read_number (argument_of (codes "tick ") line))
+
+abbrev pub read_serial : List ℕ → Option Input
+read_serial line =
+    option_map (λ bytes. Input.Serial (record { items = bytes }))
+    (option_and_then (read_bytes 256) (argument_of (codes "serial ") line))
+
+abbrev pub read_frame : List ℕ → Option Input
+read_frame line =
+    option_map (λ bytes. Input.Frame (record { items = bytes }))
+    (option_and_then (read_bytes 127) (argument_of (codes "frame ") line))
+
+-- a tick, bytes on the serial line, or a frame
+abbrev pub read_words : List ℕ → Option Input
+read_words line = option_or (read_tick line) (option_or (read_serial line) (read_frame line))
 
 -- an empty line, or a comment
 abbrev pub says_nothing : List ℕ → Bool
@@ -39,7 +63,7 @@ unfoldable pub read_line : List ℕ → Option (Option Input)
 read_line line =
     if nat_lt line_limit (length line) then None
     else if says_nothing line then Some None
-    else option_map (λ input. Some input) (read_tick line)
+    else option_map (λ input. Some input) (read_words line)
 
 -- the lines of a script
 

@@ -1,9 +1,8 @@
 //! The texts of a mote: lines of a script to inputs, entries of a transcript to lines.
 #![tactic(auto)]
 
+mod calls;
 pub mod line;
 pub mod script;
-#[cfg(test)]
-mod tests;
 pub mod transcript;
 mod words;

@@ -1,8 +1,9 @@
-//! A line of a transcript, and how it is put together.
+//! A line of a transcript, and how it is put together. A word, a number or bytes have a space in front.
+#![tactic(auto, unfolding(crate::specs::EntryText::spaced))]
 
-ghost use Rattle.std.specs.Prelude.{◌≡◌, ◌≤◌, ◌<◌, ◌+◌, ◌*◌, ◌++◌, length, codes, decimal};
+ghost use Rattle.std.specs.Prelude.{◌≡◌, ◌≤◌, ◌<◌, ◌+◌, ◌*◌, ◌++◌, [], ◌∷◌, length, decimal};
 ghost use Rattle.hex.specs.Hex.{encode_lower};
-ghost use Rattle.mote_text.specs.EntryText.{hex};
+ghost use Rattle.mote_text.specs.EntryText.{hex, spaced};
 
 use arrayvec::ArrayVec;
 use itoa::Buffer;
@@ -20,42 +21,42 @@ pub(crate) fn push_bytes(line: &mut LineBuf, bytes: &[u8])
 
 /// Appends two lower case hex digits for each byte.
 pub(crate) fn push_digits(line: &mut LineBuf, bytes: &[u8])
-    requires few { length bytes.now ≤ 127 }
+    requires few { length bytes.now ≤ 256 }
     requires room { length line.old.items + 2 * length bytes.now ≤ 640 }
     ensures text { line.new.items ≡ line.old.items ++ encode_lower bytes.now }
     ensures length { length line.new.items ≡ length line.old.items + 2 * length bytes.now }
 {
-    let mut digits = [0; 254];
+    let mut digits = [0; 512];
     let written = &mut digits[..2 * bytes.len()];
     let _ = hex::encode_to_slice(bytes, written);
     push_bytes(line, written);
 }
 
-/// Appends a space and this word.
+/// Appends this word.
 pub(crate) fn push_word(line: &mut LineBuf, word: &[u8])
     requires { length line.old.items + 1 + length word.now ≤ 640 }
-    ensures text { line.new.items ≡ line.old.items ++ (codes " " ++ word.now) }
+    ensures text { line.new.items ≡ line.old.items ++ spaced (word.now ∷ []) }
     ensures length { length line.new.items ≡ length line.old.items + 1 + length word.now }
 {
     push_bytes(line, b" ");
     push_bytes(line, word);
 }
 
-/// Appends a space and this number in decimal: at most 20 digits.
+/// Appends this number in decimal: at most 20 digits.
 pub(crate) fn push_number(line: &mut LineBuf, n: u64)
     requires { length line.old.items + 21 ≤ 640 }
-    ensures text { line.new.items ≡ line.old.items ++ (codes " " ++ decimal n) }
+    ensures text { line.new.items ≡ line.old.items ++ spaced (decimal n ∷ []) }
     ensures length { length line.new.items ≤ length line.old.items + 21 }
 {
     push_word(line, Buffer::new().format(n).as_bytes());
 }
 
-/// Appends a space and these bytes in hex, or a dash where there are none.
+/// Appends these bytes in hex, or a dash where there are none.
 pub(crate) fn push_hex(line: &mut LineBuf, bytes: &[u8])
-    requires few { length bytes.now ≤ 127 }
-    requires room { length line.old.items + 255 ≤ 640 }
-    ensures text { line.new.items ≡ line.old.items ++ (codes " " ++ hex bytes.now) }
-    ensures length { length line.new.items ≤ length line.old.items + 255 }
+    requires few { length bytes.now ≤ 256 }
+    requires room { length line.old.items + 2 + 2 * length bytes.now ≤ 640 }
+    ensures text { line.new.items ≡ line.old.items ++ spaced (hex bytes.now ∷ []) }
+    ensures length { length line.new.items ≤ length line.old.items + 2 + 2 * length bytes.now }
 {
     if bytes.is_empty() {
         push_word(line, b"-");
@@ -63,4 +64,25 @@ pub(crate) fn push_hex(line: &mut LineBuf, bytes: &[u8])
         push_bytes(line, b" ");
         push_digits(line, bytes);
     }
+}
+
+/// Appends this word, and a number.
+pub(crate) fn push_numbered(line: &mut LineBuf, word: &[u8], n: u64)
+    requires { length line.old.items + 22 + length word.now ≤ 640 }
+    ensures text { line.new.items ≡ line.old.items ++ spaced (word.now ∷ decimal n ∷ []) }
+    ensures length { length line.new.items ≤ length line.old.items + 22 + length word.now }
+{
+    push_word(line, word);
+    push_number(line, n);
+}
+
+/// Appends this word, and bytes.
+pub(crate) fn push_shown(line: &mut LineBuf, word: &[u8], bytes: &[u8])
+    requires few { length bytes.now ≤ 256 }
+    requires room { length line.old.items + 3 + length word.now + 2 * length bytes.now ≤ 640 }
+    ensures text { line.new.items ≡ line.old.items ++ spaced (word.now ∷ hex bytes.now ∷ []) }
+    ensures length { length line.new.items ≤ length line.old.items + 3 + length word.now + 2 * length bytes.now }
+{
+    push_word(line, word);
+    push_hex(line, bytes);
 }

@@ -1,11 +1,13 @@
 //! The lines of a script, and how a run ends.
 
 ghost use Rattle.std.specs.Prelude.{◌≡◌};
+ghost use Rattle.std.specs.Option.{option_map};
 ghost use Rattle.std.specs.Char.{is_ascii_digit};
 ghost use Rattle.std.specs.List.{list_all};
 ghost use Rattle.std.specs.Result.{result_ok};
-ghost use Rattle.mote_text.specs.Script.{is_number, read_number, read_tick, read_line};
+ghost use Rattle.mote_text.specs.Script.{is_number, read_number, read_tick, read_bytes, read_serial, read_frame, read_words, read_line};
 
+use arrayvec::ArrayVec;
 use mote_types::entry::Input;
 use thiserror::Error;
 
@@ -64,6 +66,46 @@ fn read_tick(line: &[u8]) -> Option<Input>
     Some(Input::Tick(number))
 }
 
+/// From one to `N` bytes, which a text is in hex digits of either case.
+fn read_bytes<const N: usize>(digits: &[u8]) -> Option<ArrayVec<u8, N>>
+    ensures { option_map (λ bytes. bytes.items) result ≡ read_bytes N digits.now }
+{
+    if digits.is_empty() || digits.len() / 2 > N {
+        return None;
+    }
+    let mut room = [0; N];
+    let bytes = &mut room[..digits.len() / 2];
+    hex::decode_to_slice(digits, bytes).ok()?;
+    let mut read = ArrayVec::new();
+    let _ = read.try_extend_from_slice(bytes);
+    Some(read)
+}
+
+/// The input of a line `serial HEX`.
+fn read_serial(line: &[u8]) -> Option<Input>
+    ensures { result ≡ read_serial line.now }
+{
+    let bytes = read_bytes(line.strip_prefix(b"serial ")?)?;
+    Some(Input::Serial(bytes))
+}
+
+/// The input of a line `frame HEX`.
+fn read_frame(line: &[u8]) -> Option<Input>
+    ensures { result ≡ read_frame line.now }
+{
+    let bytes = read_bytes(line.strip_prefix(b"frame ")?)?;
+    Some(Input::Frame(bytes))
+}
+
+/// The input of a line that is neither empty nor a comment.
+fn read_words(line: &[u8]) -> Option<Input>
+    ensures { result ≡ read_words line.now }
+{
+    read_tick(line)
+        .or_else(|| read_serial(line))
+        .or_else(|| read_frame(line))
+}
+
 /// What a line of a script says, without its end: an input, or nothing (an empty line, a comment).
 ///
 /// Source: the script format is this project's profile.
@@ -81,7 +123,7 @@ pub fn read_input(line: &[u8]) -> Result<Option<Input>, BadLine>
     if line.is_empty() || line[0] == b'#' {
         return Ok(None);
     }
-    match read_tick(line) {
+    match read_words(line) {
         Some(input) => Ok(Some(input)),
         None => Err(BadLine),
     }

@@ -1,15 +1,17 @@
 //! The lines of a transcript.
+#![tactic(auto, unfolding(crate::specs::EntryText::spaced))]
 
 ghost use Rattle.std.specs.Prelude.{◌≡◌, ◌≤◌, ◌+◌, ◌++◌, [], ◌∷◌, length, codes, decimal};
 ghost use Rattle.mote_text.specs.EntryText.{entry_line, spaced, origin_word, stimulus_words, call_words};
-ghost use Rattle.mote_text.specs.Transcript.{final_line};
+ghost use Rattle.mote_text.specs.Transcript.{final_line, is_shown};
 
+use crate::calls::push_call;
 use crate::line::{LineBuf, push_bytes, push_number, push_word};
 use crate::script::End;
-use crate::words::{push_call, push_input, push_note, push_origin, push_stimulus};
+use crate::words::{push_input, push_note, push_origin, push_stimulus};
 use itoa::Buffer;
 use mote_types::call::Call;
-use mote_types::entry::Entry;
+use mote_types::entry::{Entry, Note};
 use mote_types::event::{Origin, Pid, Stimulus};
 
 /// Appends the words of a turn.
@@ -28,7 +30,7 @@ fn push_turn(line: &mut LineBuf, pid: Pid, origin: Origin, stimulus: &Stimulus, 
 /// Puts the line of an entry, with its end, in place of what is in the buffer.
 ///
 /// Source: the transcript format is this project's profile.
-#[tactic(auto, unfolding(crate::specs::EntryText::entry_line, crate::specs::EntryText::line_of))]
+#[tactic(auto, unfolding(crate::specs::EntryText::entry_line, crate::specs::EntryText::line_of, crate::specs::EntryText::spaced))]
 pub fn entry_text(entry: &Entry, line: &mut LineBuf)
     ensures { line.new.items ≡ entry_line entry.now }
 {
@@ -57,7 +59,7 @@ pub fn entry_text(entry: &Entry, line: &mut LineBuf)
 /// or halted.
 ///
 /// Source: the transcript format is this project's profile.
-#[tactic(auto, unfolding(crate::specs::EntryText::line_of))]
+#[tactic(auto, unfolding(crate::specs::EntryText::line_of, crate::specs::EntryText::spaced))]
 pub fn final_text(end: End, line: &mut LineBuf)
     ensures { line.new.items ≡ final_line end }
 {
@@ -76,4 +78,22 @@ pub fn final_text(end: End, line: &mut LineBuf)
             push_bytes(line, b"\n");
         }
     }
+}
+
+/// Whether a transcript shows this entry. A quiet one shows the turns whose call is `Print` or `PacketSend`, the frames
+/// that were sent, and `halt`.
+///
+/// Source: the transcript format is this project's profile.
+pub fn is_shown(entry: &Entry, quiet: bool) -> bool
+    ensures { result ≡ is_shown entry.now quiet }
+{
+    let is_kept = matches!(
+        entry,
+        Entry::Turn {
+            call: Call::Print(_) | Call::PacketSend(_),
+            ..
+        } | Entry::Note(Note::Sent(_))
+            | Entry::Halt
+    );
+    !quiet || is_kept
 }

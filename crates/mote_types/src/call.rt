@@ -5,9 +5,9 @@ use crate::reply::Chunk;
 
 /// The call by which an application ends a turn. Processes and event codes are named by their numbers.
 ///
-/// Source: process.h, etimer.h, ctimer.h, memb.h, list.h and queue.h of Contiki-NG, and for managed memory the original
-/// Contiki's mmem module, here with handles from 0 to 15 in place of pointers; which names are refused, and in which order, and
-/// the numbers of pools and lists are this project's profile.
+/// Source: process.h, etimer.h, ctimer.h, memb.h, heapmem.h, list.h and queue.h of Contiki-NG, and for managed memory the
+/// original Contiki's mmem module, here with handles from 0 to 15 in place of pointers; packets, which names are refused, and in
+/// which order, and the numbers of blocks, pools and lists are this project's profile.
 #[derive(Drop)]
 pub enum Call {
     /// Puts an event of this code at the end of the event queue, for one process (`process_post`).
@@ -63,6 +63,19 @@ pub enum Call {
     MmemCopy(u8, u8),
     /// Asks how many bytes of managed memory are free.
     MmemAvail,
+    // Heap memory: blocks 0 to 15 of each process.
+    /// Makes a block of so many bytes, all 0 (`heapmem_alloc`).
+    HeapAlloc(u8, u32),
+    /// Gives a block another length: its first bytes stay, and further ones are 0 (`heapmem_realloc`).
+    HeapRealloc(u8, u32),
+    /// Takes a block away (`heapmem_free`).
+    HeapFree(u8),
+    /// Writes bytes into a block, from a place of it on.
+    HeapWrite(u8, u32, Chunk),
+    /// Reads from a block, from a place of it on: so many bytes, at most 64.
+    HeapRead(u8, u32, u8),
+    /// Asks for the state of the whole heap (`heapmem_stats`).
+    HeapStats,
     // Pools 0 to 3, each of 16 blocks.
     /// Takes the unused block of lowest number of a pool, its bytes all 0 (`memb_alloc`).
     MembAlloc(u8),
@@ -93,4 +106,15 @@ pub enum Call {
     ListNext(u8, u8),
     /// Asks how many blocks a list has (`list_length`).
     ListLength(u8),
+    // Packets.
+    /// Becomes the receiver of frames.
+    PacketOpen,
+    /// Reads from the front frame, from a place of it on: so many bytes, at most 64.
+    PacketRead(u32, u8),
+    /// Gives the front frame back.
+    PacketDone,
+    /// Asks how many frames are held.
+    PacketCount,
+    /// Sends the bytes of a handle's block as a frame. The block stays.
+    PacketSend(u8),
 }

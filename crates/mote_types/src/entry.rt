@@ -10,6 +10,10 @@ use arrayvec::ArrayVec;
 pub enum Input {
     /// The clock goes on by so many ticks.
     Tick(u32),
+    /// These bytes come in on the serial line: at least one.
+    Serial(ArrayVec<u8, 256>),
+    /// A frame of these bytes comes in: at least one.
+    Frame(ArrayVec<u8, 127>),
 }
 
 /// What the kernel tells beside the turns.

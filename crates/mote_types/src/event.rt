@@ -14,6 +14,23 @@ pub struct Pid(pub u8);
 /// The first application's number.
 pub const FIRST_APPLICATION: u8 = 4;
 
+/// How many applications a mote may have.
+pub const MOST_APPLICATIONS: u8 = 16;
+
+// The kernel's own processes.
+
+/// It posts the timers that have run out (`etimer_process`).
+pub const ETIMER: Pid = Pid(0);
+
+/// It lets the expiries of callback timers count (`ctimer_process`).
+pub const CTIMER: Pid = Pid(1);
+
+/// It makes lines of the bytes that come in on the serial line (`serial_line_process`).
+pub const SERIAL_PROCESS: Pid = Pid(2);
+
+/// It tells the receiver of the frames that came in (this project's profile).
+pub const PACKET_PROCESS: Pid = Pid(3);
+
 /// What an event carries: a value of its own, no pointer (this project's profile).
 #[derive(Drop)]
 pub enum Payload {

@@ -3,6 +3,7 @@
 
 pub mod app;
 pub mod ask;
+pub mod block_name;
 pub mod call;
 pub mod device;
 pub mod entry;

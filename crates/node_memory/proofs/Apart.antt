@@ -1,18 +1,274 @@
--- The blocks of each pool lie apart.
-use Rattle.std.proofs.Common.{◌+◌, List, get_or, arith}
-use Rattle.std.proofs.lemmas.Nat.{mul-le}
-use Rattle.std.specs.Prelude.{All}
-use Rattle.memb_core.specs.declared.pool.Pool.{Pool}
-use Rattle.memb_core.specs.PoolBytes.{LieApart}
-use Rattle.memb_core.proofs.Bytes.{block_inside}
+-- The live blocks of all kinds lie apart, and each is read from its own part of the arena.
+use Rattle.std.proofs.Common.{◌≡◌, ◌≢◌, ℕ, zero, suc, ◌+◌, ◌≤◌, ◌<◌, ◌⊎◌, inl, inr, Bool, true, false, List, [], ◌∷◌, length, map, get_or, refl, sym, ap, ◌∙◌, arith, subst, Option, Some, None}
+use Rattle.std.specs.Prelude.{slice_get, slice_range, slice_index_or, replicate, IfSome, if◌then◌else◌}
+use Rattle.std.specs.Option.{option_map}
+use Rattle.std.proofs.lemmas.Option.{slice_get-get_or, slice_get_within}
+use Rattle.mote_types.specs.Bytes.{range_of}
+use Rattle.mote_types.specs.BlockNames.{IsName}
+use Rattle.arena_core.specs.declared.span.Span.{Span}
+use Rattle.arena_core.specs.Extents.{Extent, LiesIn, AreApart}
+use Rattle.arena_core.proofs.Ranges.{length-range}
+use Rattle.mmem_core.specs.declared.place.Place.{Place}
+use Rattle.mmem_core.specs.ManagedStore as managed_store
+use Rattle.mmem_core.specs.Separation as managed
+use Rattle.mmem_core.specs.Table.{Table, store_of}
+use Rattle.mmem_core.proofs.PlaceLemmas.{len_le_room}
+use Rattle.heap_core.specs.HeapBytes.{heap_of}
+use Rattle.heap_core.specs.HeapStore as heap_store
+use Rattle.heap_core.specs.HeapStore.{Block}
+use Rattle.heap_core.specs.Separation as heap
+use Rattle.heap_core.proofs.Callers.{IsLaidOut-apart}
+use Rattle.memb_core.specs.BlockPool.{block_of}
+use Rattle.memb_core.specs.Links.{AreLinked}
+use Rattle.memb_core.specs.PoolTable.{PoolTable}
+use Rattle.memb_core.specs.PoolBytes.{IsWithin, place_of, region_of, usable_bytes, pool_of}
+use Rattle.memb_core.specs.Separation as pools
+use Rattle.memb_core.proofs.Blocks.{get_or-blocks}
 use Rattle.node_memory.specs.declared.listed_pool.ListedPool.{ListedPool}
+use Rattle.node_memory.specs.Code.Layout.{IsLaidOut, LieBehind, end_of}
+use Rattle.node_memory.specs.ListedPools.{PoolWithLists, seen, unused_pool_of}
+use Rattle.node_memory.specs.Placed.{Layout, placed, contents_of}
+use Rattle.node_memory.specs.Separation.{BlockName, IsBlockName, block_named, extent_in_pool, extent_named, header_of, IsReadFrom, BlocksLieApart}
 
-lie_apart : (pool : Pool) → LieApart pool
-lie_apart pool =
+-- parts of spans that lie one behind the other
+spans_apart : (s t : Span) (e f : Extent) → LiesIn s e → LiesIn t f → s.at + s.len ≤ t.at → AreApart e f
+spans_apart s t e f one other behind = inl (omega (arith, one, other, behind))
+
+swapped : (e f : Extent) → AreApart e f → AreApart f e
+swapped e f (inl before) = inr before
+swapped e f (inr behind) = inl behind
+
+-- what is found where a map of it is
+mapped : {X Y : Type 0} (f : X → Y) (found : Option X) (y : Y) → option_map f found ≡ Some y → (x : X) × (found ≡ Some x) × (f x ≡ y)
+mapped f None y is = absurd (cc)
+mapped f (Some x) y is = (x, refl, cc)
+
+-- a pool in the list of pools
+behind-get : (k from : ℕ) (listed : List ListedPool) (l : ListedPool) (bytes : List ℕ) → LieBehind from listed bytes → slice_get listed k ≡ Some l
+    → (from ≤ l.pool.span.at) × AreLinked l.lists l.pool bytes
+behind-get k from [] l bytes lie there = absurd (cc)
+behind-get zero from (first ∷ later) l bytes lie there =
+    let same : first ≡ l = cc in
+    subst (λ (l : ListedPool). (from ≤ l.pool.span.at) × AreLinked l.lists l.pool bytes) same (lie.0, lie.1)
+behind-get (suc k) from (first ∷ later) l bytes lie there =
+    let rest = behind-get k (end_of first.pool.span) later l bytes lie.2 there in (omega (arith, lie.0, rest.0), rest.1)
+
+in-order : (k j from : ℕ) (listed : List ListedPool) (l m : ListedPool) (bytes : List ℕ) → k < j → LieBehind from listed bytes → slice_get listed k ≡ Some l → slice_get listed j ≡ Some m
+    → l.pool.span.at + l.pool.span.len ≤ m.pool.span.at
+in-order k j from [] l m bytes before lie there there' = absurd (cc)
+in-order k zero from (first ∷ later) l m bytes before lie there there' = absurd (omega (arith, before))
+in-order zero (suc j) from (first ∷ later) l m bytes before lie there there' =
+    let same : first ≡ l = cc in
+    subst (λ (l : ListedPool). l.pool.span.at + l.pool.span.len ≤ m.pool.span.at) same (behind-get j (end_of first.pool.span) later m bytes lie.2 there').0
+in-order (suc k) (suc j) from (first ∷ later) l m bytes before lie there there' =
+    in-order k j (end_of first.pool.span) later l m bytes (omega (arith, before)) lie.2 there there'
+
+-- a block that is live is one of the pool's
+used-within : (used : List Bool) (b : ℕ) → get_or used b false ≡ true → b < length used
+used-within [] b is = absurd (cc)
+used-within (u ∷ used) zero is = omega arith
+used-within (u ∷ used) (suc b) is = omega (arith, used-within used b is)
+
+entry-live : (known : Bool) (bytes block : List ℕ) → (if known then Some bytes else None) ≡ Some block → known ≡ true
+entry-live true bytes block is = refl
+entry-live false bytes block is = absurd (cc)
+
+live-within : (pool : PoolTable) (bytes : List ℕ) (b : ℕ) (block : List ℕ) → block_of b (pool_of pool bytes) ≡ Some block → b < length pool.used
+unfolding pool_of
+live-within pool bytes b block is =
+    used-within pool.used b (entry-live (get_or pool.used b false) _ block (sym (get_or-blocks (usable_bytes pool (region_of pool bytes)) pool.used b) ∙ is))
+
+some-then : {X : Type 0} (found : Option X) (x : X) (F : X → Type 0) → found ≡ Some x → IfSome found F → F x
+some-then found x F is fact = subst (λ o. IfSome o F) is fact
+
+none_some : {X : Type 0} {x : X} → None ≡ Some x → ⊥
+none_some e = absurd (cc)
+
+some-same : {X : Type 0} (x y : X) → Some x ≡ Some y → x ≡ y
+some-same x y e = cc
+
+-- two numbers are the same, or one is below the other
+compared : (k j : ℕ) → (k ≡ j) ⊎ ((k < j) ⊎ (j < k))
+compared zero zero = inl refl
+compared zero (suc j) = inr (inl (omega arith))
+compared (suc k) zero = inr (inr (omega arith))
+compared (suc k) (suc j) = elim (compared k j) [
+  | inl same ↦ inl (ap suc same)
+  | inr (inl before) ↦ inr (inl (omega (arith, before)))
+  | inr (inr behind) ↦ inr (inr (omega (arith, behind)))
+]
+
+name-differs : (p h q g : ℕ) → (p ≡ q → h ≡ g → ⊥) → (p ≢ q) ⊎ (h ≢ g)
+name-differs p h q g ne = elim (compared p q) [
+  | inl same ↦ inr (λ e. ne same e)
+  | inr (inl before) ↦ inl (λ e. absurd (omega (arith, before, e)))
+  | inr (inr behind) ↦ inl (λ e. absurd (omega (arith, behind, e)))
+]
+
+none-of : (n b : ℕ) → get_or (replicate n (let none : Option (List ℕ) = None in none)) b None ≡ None
+none-of zero b = refl
+none-of (suc n) zero = refl
+none-of (suc n) (suc b) = none-of n b
+
+-- what the memory shows as its k-th pool is what that pool shows, or a pool without a block
+seen-or : (k : ℕ) (listed : List ListedPool) (bytes : List ℕ) (d : PoolWithLists)
+    → ((l : ListedPool) × (slice_get listed k ≡ Some l) × (slice_index_or (map (λ m. seen m bytes) listed) k d ≡ seen l bytes))
+    ⊎ (slice_index_or (map (λ m. seen m bytes) listed) k d ≡ d)
+seen-or k [] bytes d = inr refl
+seen-or zero (l ∷ later) bytes d = inl (l, refl, refl)
+seen-or (suc k) (l ∷ later) bytes d = seen-or k later bytes d
+
+-- what holds of each of four pools
+pub of-four : (F : ListedPool → Type 0) (listed : List ListedPool) (a b c d : ListedPool) → length listed ≡ 4
+    → F (get_or listed 0 a) → F (get_or listed 1 b) → F (get_or listed 2 c) → F (get_or listed 3 d) → (k : ℕ) (l : ListedPool) → slice_get listed k ≡ Some l → F l
+of-four F listed a b c d count first second third fourth zero l there = subst F (some-same _ _ (sym (slice_get-get_or listed 0 a (omega (arith, count))) ∙ there)) first
+of-four F listed a b c d count first second third fourth (suc zero) l there = subst F (some-same _ _ (sym (slice_get-get_or listed 1 b (omega (arith, count))) ∙ there)) second
+of-four F listed a b c d count first second third fourth (suc (suc zero)) l there = subst F (some-same _ _ (sym (slice_get-get_or listed 2 c (omega (arith, count))) ∙ there)) third
+of-four F listed a b c d count first second third fourth (suc (suc (suc zero))) l there = subst F (some-same _ _ (sym (slice_get-get_or listed 3 d (omega (arith, count))) ∙ there)) fourth
+of-four F listed a b c d count first second third fourth (suc (suc (suc (suc k)))) l there = absurd (omega (arith, count, slice_get_within listed (suc (suc (suc (suc k)))) l there))
+
+-- the pools' blocks lie apart, where each pool says so of all bytes that its span lies in
+abbrev pub PoolApart : ListedPool → Type 0
+PoolApart l = (bytes : List ℕ) → IsWithin l.pool bytes → pools.BlocksLieApart l.pool bytes
+
+pub pools-apart : (from k : ℕ) (listed : List ListedPool) (l : ListedPool) (bytes : List ℕ) → LieBehind from listed bytes → slice_get listed k ≡ Some l → PoolApart l → pools.BlocksLieApart l.pool bytes
+pools-apart from k listed l bytes lie there apart = apart bytes (behind-get k from listed l bytes lie there).1.within
+
+-- a block that is read from a range of the arena
+read-from : (name : BlockName) (bytes : List ℕ) (layout : Layout) (extent : Extent) (at len : ℕ) → extent_named name layout ≡ Some extent → range_of at len layout.bytes ≡ bytes
+    → at ≡ extent.at + header_of name → at + len ≤ length layout.bytes → header_of name + len ≤ extent.len → IsReadFrom name bytes layout
+read-from name bytes layout extent at len takes is at_is within fits =
+    let count : length bytes ≡ len = ap length (sym is) ∙ length-range layout.bytes at len within in
     record {
-      inside = λ b below. block_inside pool b below;
-      apart = λ b c before. let size = pool.usable + 4 in omega (arith, mul-le (b + 1) size c size (omega arith) (omega arith));
+      extent = extent;
+      takes = takes;
+      fits = omega (arith, fits, count);
+      read = sym is ∙ ap (λ a. range_of a len layout.bytes) at_is ∙ ap (λ n. range_of (extent.at + header_of name) n layout.bytes) (sym count);
     }
 
-pub pools_apart : (listed : List ListedPool) → All (λ l. LieApart l.pool) listed
-pools_apart listed = λ k d below. lie_apart (get_or listed k d).pool
+module _ (l : Layout) (laid_out : IsLaidOut l) (managed_apart : managed.BlocksLieApart l.managed l.bytes) (pools_apart : (k : ℕ) (listed : ListedPool) → slice_get l.pools k ≡ Some listed → pools.BlocksLieApart listed.pool l.bytes) where
+  heap_apart : heap.BlocksLieApart l.heap l.bytes
+  heap_apart = IsLaidOut-apart l.heap l.bytes laid_out.heap
+
+  -- where each kind of block lies
+  managed_in : (p h : ℕ) (e : Extent) → extent_named (BlockName.Managed p h) l ≡ Some e → LiesIn l.managed.span e
+  managed_in p h e is =
+      let place = mapped (managed.extent_of l.managed) (managed.place_of p h l.managed) e is in
+      subst (λ (e : Extent). LiesIn l.managed.span e) place.2 (managed_apart.inside p h place.0 place.1)
+
+  heap_in : (p b : ℕ) (e : Extent) → extent_named (BlockName.Heap p b) l ≡ Some e → LiesIn l.heap.span e
+  heap_in p b e is =
+      let block = mapped (heap.extent_of l.heap) (heap.live_block p b (heap_of l.heap l.bytes)) e is in
+      subst (λ (e : Extent). LiesIn l.heap.span e) block.2 (heap_apart.inside p b block.0 block.1)
+
+  pool_in : (k b : ℕ) (e : Extent) (found : Option ListedPool) → slice_get l.pools k ≡ found → extent_in_pool b l.bytes found ≡ Some e
+      → (listed : ListedPool) × (slice_get l.pools k ≡ Some listed) × LiesIn listed.pool.span e × (pools.extent_of listed.pool b ≡ e)
+  pool_in k b e None there is = absurd (cc)
+  pool_in k b e (Some listed) there is =
+      let block = mapped (λ _. pools.extent_of listed.pool b) (block_of b (pool_of listed.pool l.bytes)) e is in
+      let inside = (pools_apart k listed there).inside b (live-within listed.pool l.bytes b block.0 block.1) in
+      (listed, there, subst (λ (e : Extent). LiesIn listed.pool.span e) block.2 inside, block.2)
+
+  inside : (name : BlockName) (e : Extent) → extent_named name l ≡ Some e → e.at + e.len ≤ length l.bytes
+  inside (BlockName.Managed p h) e is = omega (arith, managed_in p h e is, laid_out.managed)
+  inside (BlockName.Heap p b) e is = omega (arith, heap_in p b e is, laid_out.heap.chunks.within)
+  inside (BlockName.Pooled k b) e is =
+      let there = pool_in k b e (slice_get l.pools k) refl is in
+      let lie = behind-get k (end_of l.heap.span) l.pools there.0 l.bytes laid_out.pools there.1 in
+      omega (arith, there.2, lie.1.within)
+
+  pooled-same : (k b c : ℕ) (e f : Extent) → b ≢ c → extent_named (BlockName.Pooled k b) l ≡ Some e → extent_named (BlockName.Pooled k c) l ≡ Some f → AreApart e f
+  pooled-same k b c e f ne is is' =
+      let one = pool_in k b e (slice_get l.pools k) refl is in
+      let other = pool_in k c f (slice_get l.pools k) refl is' in
+      let same : other.0 ≡ one.0 = some-same other.0 one.0 (sym other.1 ∙ one.1) in
+      let second : pools.extent_of one.0.pool c ≡ f = ap (λ (m : ListedPool). pools.extent_of m.pool c) (sym same) ∙ other.3 in
+      subst (λ (e : Extent). AreApart e f) one.3 (subst (λ (f : Extent). AreApart (pools.extent_of one.0.pool b) f) second ((pools_apart k one.0 one.1).apart b c ne))
+
+  pooled-before : (k b j c : ℕ) (e f : Extent) → k < j → extent_named (BlockName.Pooled k b) l ≡ Some e → extent_named (BlockName.Pooled j c) l ≡ Some f → AreApart e f
+  pooled-before k b j c e f before is is' =
+      let one = pool_in k b e (slice_get l.pools k) refl is in
+      let other = pool_in j c f (slice_get l.pools j) refl is' in
+      spans_apart one.0.pool.span other.0.pool.span e f one.2 other.2 (in-order k j (end_of l.heap.span) l.pools one.0 other.0 l.bytes before laid_out.pools one.1 other.1)
+
+  pooled_apart : (k b j c : ℕ) (e f : Extent) → BlockName.Pooled k b ≢ BlockName.Pooled j c → extent_named (BlockName.Pooled k b) l ≡ Some e → extent_named (BlockName.Pooled j c) l ≡ Some f → AreApart e f
+  pooled_apart k b j c e f ne is is' = elim (compared k j) [
+    | inl same ↦ pooled-same k b c e f (λ i. ne (ap (λ n. BlockName.Pooled n b) same ∙ ap (λ n. BlockName.Pooled j n) i)) is (ap (λ n. extent_named (BlockName.Pooled n c) l) same ∙ is')
+    | inr (inl before) ↦ pooled-before k b j c e f before is is'
+    | inr (inr behind) ↦ swapped f e (pooled-before j c k b f e behind is' is)
+  ]
+
+  apart : (one other : BlockName) (e f : Extent) → IsBlockName one → IsBlockName other → one ≢ other → extent_named one l ≡ Some e → extent_named other l ≡ Some f → AreApart e f
+  apart (BlockName.Managed p h) (BlockName.Managed q g) e f named named' ne is is' =
+      let one = mapped (managed.extent_of l.managed) (managed.place_of p h l.managed) e is in
+      let other = mapped (managed.extent_of l.managed) (managed.place_of q g l.managed) f is' in
+      let differs = name-differs p h q g (λ a b. ne (ap (λ i. BlockName.Managed i h) a ∙ ap (λ i. BlockName.Managed q i) b)) in
+      subst (λ (e : Extent). AreApart e f) one.2 (subst (λ (f : Extent). AreApart (managed.extent_of l.managed one.0) f) other.2
+      (managed_apart.apart p h q g one.0 other.0 named named' differs one.1 other.1))
+  apart (BlockName.Heap p h) (BlockName.Heap q g) e f named named' ne is is' =
+      let one = mapped (heap.extent_of l.heap) (heap.live_block p h (heap_of l.heap l.bytes)) e is in
+      let other = mapped (heap.extent_of l.heap) (heap.live_block q g (heap_of l.heap l.bytes)) f is' in
+      let differs = name-differs p h q g (λ a b. ne (ap (λ i. BlockName.Heap i h) a ∙ ap (λ i. BlockName.Heap q i) b)) in
+      subst (λ (e : Extent). AreApart e f) one.2 (subst (λ (f : Extent). AreApart (heap.extent_of l.heap one.0) f) other.2
+      (heap_apart.apart p h q g one.0 other.0 named named' differs one.1 other.1))
+  apart (BlockName.Pooled k b) (BlockName.Pooled j c) e f named named' ne is is' = pooled_apart k b j c e f ne is is'
+  apart (BlockName.Managed p h) (BlockName.Heap q g) e f named named' ne is is' =
+      spans_apart l.managed.span l.heap.span e f (managed_in p h e is) (heap_in q g f is') laid_out.behind
+  apart (BlockName.Heap p h) (BlockName.Managed q g) e f named named' ne is is' =
+      swapped f e (spans_apart l.managed.span l.heap.span f e (managed_in q g f is') (heap_in p h e is) laid_out.behind)
+  apart (BlockName.Managed p h) (BlockName.Pooled k b) e f named named' ne is is' =
+      let there = pool_in k b f (slice_get l.pools k) refl is' in
+      let lie = behind-get k (end_of l.heap.span) l.pools there.0 l.bytes laid_out.pools there.1 in
+      spans_apart l.managed.span there.0.pool.span e f (managed_in p h e is) there.2 (omega (arith, lie.0, laid_out.behind))
+  apart (BlockName.Pooled k b) (BlockName.Managed p h) e f named named' ne is is' =
+      let there = pool_in k b e (slice_get l.pools k) refl is in
+      let lie = behind-get k (end_of l.heap.span) l.pools there.0 l.bytes laid_out.pools there.1 in
+      swapped f e (spans_apart l.managed.span there.0.pool.span f e (managed_in p h f is') there.2 (omega (arith, lie.0, laid_out.behind)))
+  apart (BlockName.Heap p h) (BlockName.Pooled k b) e f named named' ne is is' =
+      let there = pool_in k b f (slice_get l.pools k) refl is' in
+      let lie = behind-get k (end_of l.heap.span) l.pools there.0 l.bytes laid_out.pools there.1 in
+      spans_apart l.heap.span there.0.pool.span e f (heap_in p h e is) there.2 lie.0
+  apart (BlockName.Pooled k b) (BlockName.Heap p h) e f named named' ne is is' =
+      let there = pool_in k b e (slice_get l.pools k) refl is in
+      let lie = behind-get k (end_of l.heap.span) l.pools there.0 l.bytes laid_out.pools there.1 in
+      swapped f e (spans_apart l.heap.span there.0.pool.span f e (heap_in p h f is') there.2 lie.0)
+
+  read-pool : (k b : ℕ) (bytes : List ℕ)
+      → ((listed : ListedPool) × (slice_get l.pools k ≡ Some listed) × (slice_index_or (map (λ m. seen m l.bytes) l.pools) k (unused_pool_of 0) ≡ seen listed l.bytes))
+      ⊎ (slice_index_or (map (λ m. seen m l.bytes) l.pools) k (unused_pool_of 0) ≡ unused_pool_of 0)
+      → block_named (BlockName.Pooled k b) (contents_of l) ≡ Some bytes → IsReadFrom (BlockName.Pooled k b) bytes l
+  read-pool k b bytes (inr none) is = absurd (none_some (sym (ap (λ (s : PoolWithLists). block_of b s.pool) none ∙ none-of 16 b) ∙ is))
+  read-pool k b bytes (inl found) is =
+      let listed = found.0 in
+      let pool = listed.pool in
+      let live : block_of b (pool_of pool l.bytes) ≡ Some bytes = ap (λ (s : PoolWithLists). block_of b s.pool) (sym found.2) ∙ is in
+      let fact = pools_apart k listed found.1 in
+      let read : bytes ≡ range_of (pool.span.at + place_of pool b + 4) pool.usable l.bytes = some-then (block_of b (pool_of pool l.bytes)) bytes (λ block. block ≡ range_of (pool.span.at + place_of pool b + 4) pool.usable l.bytes) live (fact.read b) in
+      let inside = fact.inside b (live-within pool l.bytes b bytes live) in
+      let lie = behind-get k (end_of l.heap.span) l.pools listed l.bytes laid_out.pools found.1 in
+      let takes : extent_named (BlockName.Pooled k b) l ≡ Some (pools.extent_of pool b) = ap (λ o. extent_in_pool b l.bytes o) found.1 ∙ ap (λ o. option_map (λ _. pools.extent_of pool b) o) live in
+      read-from (BlockName.Pooled k b) bytes l (pools.extent_of pool b) (pool.span.at + place_of pool b + 4) pool.usable takes (sym read) refl (omega (arith, inside, lie.1.within)) (omega arith)
+
+  read : (name : BlockName) (bytes : List ℕ) → block_named name (contents_of l) ≡ Some bytes → IsReadFrom name bytes l
+  read (BlockName.Managed p h) bytes is =
+      let there = mapped (managed.bytes_at_place l.managed l.bytes) (managed.place_of p h l.managed) bytes (sym (managed_apart.read p h) ∙ is) in
+      let place = there.0 in
+      let inside = managed_apart.inside p h place there.1 in
+      let room = len_le_room place.len in
+      let at = l.managed.span.at + place.at in
+      let at_is : at ≡ at + 0 = omega arith in
+      read-from (BlockName.Managed p h) bytes l (managed.extent_of l.managed place) at place.len (ap (λ o. option_map (managed.extent_of l.managed) o) there.1) there.2 at_is (omega (arith, inside, room, laid_out.managed)) (omega (arith, room))
+  read (BlockName.Heap p b) bytes is =
+      let there = mapped (heap.bytes_behind_header l.heap l.bytes) (heap.live_block p b (heap_of l.heap l.bytes)) bytes (sym (heap_apart.read p b) ∙ is) in
+      let block = there.0 in
+      let inside = heap_apart.inside p b block there.1 in
+      let room = heap_apart.room p b block there.1 in
+      read-from (BlockName.Heap p b) bytes l (heap.extent_of l.heap block) (l.heap.span.at + block.at + 16) (length block.bytes) (ap (λ o. option_map (heap.extent_of l.heap) o) there.1) there.2 refl (omega (arith, inside, room, laid_out.heap.chunks.within)) (omega (arith, room))
+  read (BlockName.Pooled k b) bytes is = read-pool k b bytes (seen-or k l.pools l.bytes (unused_pool_of 0)) is
+
+  pub all-apart : BlocksLieApart (placed l)
+  all-apart = record {
+    read = λ name bytes named is. read name bytes is;
+    inside = λ name extent named is. inside name extent is;
+    apart = λ one other first second named named' ne is is'. apart one other first second named named' ne is is';
+  }

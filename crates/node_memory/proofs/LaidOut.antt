@@ -1,16 +1,23 @@
 -- What lies behind managed memory stays where other bytes of the arena change.
-use Rattle.std.proofs.Common.{◌≡◌, false, ℕ, zero, suc, ◌+◌, ◌≤◌, ◌<◌, ◌⊎◌, inl, inr, List, [], ◌∷◌, length, map, set, get_or, refl, sym, ap, ◌∙◌, arith}
-use Rattle.std.specs.Prelude.{nat_lt}
-use Rattle.std.proofs.lemmas.List.{length-set}
+use Rattle.std.proofs.Common.{subst, ◌≡◌, false, ℕ, zero, suc, ◌+◌, ◌≤◌, ◌<◌, ◌⊎◌, inl, inr, List, [], ◌∷◌, length, map, set, get_or, refl, sym, ap, ◌∙◌, arith}
+use Rattle.std.specs.Prelude.{Option, nat_lt}
+use Rattle.std.proofs.lemmas.List.{length-set, length-map, set-get_or}
 use Rattle.mote_types.specs.declared.call.Call.{Call}
 use Rattle.mote_types.specs.declared.reply.Reply.{Reply}
 use Rattle.arena_core.specs.declared.span.Span.{Span}
 use Rattle.arena_core.specs.Contents.{Contents}
 use Rattle.arena_core.specs.Outside.{ChangesOnly}
-use Rattle.mmem_core.specs.ManagedStore.{ManagedStore}
-use Rattle.mmem_core.specs.Table.{Table, store_of, IsWithin}
+use Rattle.mote_types.specs.BlockNames.{number_of}
+use Rattle.mmem_core.specs.ManagedStore.{ManagedStore, with_block}
+use Rattle.heap_core.specs.declared.region.Region.{Region}
+use Rattle.heap_core.specs.HeapStore.{HeapStore}
+use Rattle.heap_core.specs.HeapBytes as heap
+use Rattle.heap_core.specs.HeapBytes.{heap_of}
+use Rattle.heap_core.proofs.Callers.{heap_of-elsewhere, IsLaidOut-elsewhere}
+use Rattle.mmem_core.specs.Table.{Table, region_of, store_of}
 use Rattle.mmem_core.specs.Table as managed
 use Rattle.mmem_core.proofs.Callers as managed_calls
+use Rattle.mmem_core.proofs.StoreLemmas.{block_in}
 use Rattle.memb_core.specs.declared.list_name.ListName.{ListName}
 use Rattle.memb_core.specs.Links.{AreLinked, list_of}
 use Rattle.memb_core.specs.PoolBytes as pools
@@ -18,11 +25,18 @@ use Rattle.memb_core.specs.PoolBytes.{pool_of}
 use Rattle.memb_core.proofs.Callers.{pool_of-elsewhere, list_of-elsewhere, AreLinked-elsewhere}
 use Rattle.node_memory.specs.declared.listed_pool.ListedPool.{ListedPool}
 use Rattle.node_memory.specs.ListedPools.{PoolWithLists, seen, unused_pool_of}
-use Rattle.node_memory.specs.Layout.{LieBehind, IsLaidOut, end_of, memory_of}
-use Rattle.node_memory.specs.Memory.{Memory, with_pool, with_managed}
+use Rattle.node_memory.specs.Code.Layout.{LieBehind, IsLaidOut, end_of}
+use Rattle.node_memory.specs.Placed.{Layout, contents_of, placed}
+use Rattle.node_memory.specs.Memory.{Memory, with_pool, with_managed, with_heap}
 use Rattle.node_memory.specs.Ask.{Asked, ask_pool_of}
 use Rattle.node_memory.specs.PoolCalls.{PoolAsked, ask_pool}
 use Rattle.node_memory.proofs.Listed.{shown}
+
+abbrev pub layout_of : Table → Region → List ListedPool → List ℕ → Layout
+layout_of table heap listed bytes = record { managed = table; heap = heap; pools = listed; bytes = bytes }
+
+abbrev memory_of : ManagedStore → HeapStore → List PoolWithLists → Memory
+memory_of managed heap pools = record { managed = managed; heap = heap; pools = pools }
 
 abbrev seen_by : List ℕ → ListedPool → PoolWithLists
 seen_by bytes l = seen l bytes
@@ -76,37 +90,98 @@ one-changed (suc k) from (l ∷ later) d new before after lt lie kept linked =
       ap (λ s. s ∷ map (seen_by after.bytes) (set later k new)) (seen-elsewhere p.span.at p.span.len before.bytes after.bytes kept.bytes l (inl far)) ∙ ap (λ s. seen l before.bytes ∷ s) rest.1,
     )
 
--- a call on managed memory leaves the pools
-pub after-managed : (old new : Table) (listed : List ListedPool) (before after : Contents) → IsLaidOut old listed before.bytes → managed.KeepsToSpan old new before after
-    → IsLaidOut new listed after.bytes × (map (seen_by after.bytes) listed ≡ map (seen_by before.bytes) listed)
-after-managed old new listed before after laid_out kept =
-    let at = ap (λ (s : Span). s.at) kept.span in
-    let len = ap (λ (s : Span). s.len) kept.span in
-    let rest = behind-same old.span.at old.span.len before.bytes after.bytes kept.bytes (new.span.at + new.span.len) listed (omega (arith, at, len)) (rw at (rw len laid_out.pools)) in
-    (record { managed = managed_calls.IsWithin-kept old new before after kept laid_out.managed; count = laid_out.count; pools = rest.0 }, rest.1)
+-- a call on managed memory changed one name's block, and left the heap and the pools
+module _ (p h : ℕ) (block : Option (List ℕ)) (old new : Table) (heap : Region) (listed : List ListedPool) (before after : Contents) (laid_out : IsLaidOut (layout_of old heap listed before.bytes)) (kept : managed.KeepsToSpan old new before after) (is : store_of new after.bytes ≡ with_block p h block (store_of old before.bytes)) where
+  apart : (heap.span.at + heap.span.len ≤ old.span.at) ⊎ (old.span.at + old.span.len ≤ heap.span.at)
+  apart = inr laid_out.behind
 
--- a call on a pool leaves managed memory and the other pools
-pub after-pool : (table : Table) (k : ℕ) (listed : List ListedPool) (d new : ListedPool) (before after : Contents) → k < length listed
-    → IsLaidOut table listed before.bytes → pools.KeepsToSpan (get_or listed k d).pool new.pool before after → AreLinked new.lists new.pool after.bytes
-    → IsLaidOut table (set listed k new) after.bytes
-    × (memory_of table (set listed k new) after.bytes ≡ with_pool k (seen new after.bytes) (memory_of table listed before.bytes))
-after-pool table k listed d new before after lt laid_out kept linked =
+  heap_same : heap_of heap after.bytes ≡ heap_of heap before.bytes
+  heap_same = heap_of-elsewhere heap old.span.at old.span.len before.bytes after.bytes kept.bytes apart laid_out.heap
+
+  pools_same : LieBehind (end_of heap.span) listed after.bytes × (map (seen_by after.bytes) listed ≡ map (seen_by before.bytes) listed)
+  pools_same = behind-same old.span.at old.span.len before.bytes after.bytes kept.bytes (end_of heap.span) listed (omega (arith, laid_out.behind)) laid_out.pools
+
+  names_same : length new.places ≡ length old.places
+  names_same =
+      sym (length-map new.places (block_in (region_of new after.bytes)))
+      ∙ ap (λ (s : ManagedStore). length s.blocks) is
+      ∙ length-set (map (block_in (region_of old before.bytes)) old.places) (number_of p h) block
+      ∙ length-map old.places (block_in (region_of old before.bytes))
+
+  pub after-managed : IsLaidOut (layout_of new heap listed after.bytes)
+  after-managed = record {
+    managed = managed_calls.IsWithin-kept old new before after kept laid_out.managed;
+    names = names_same ∙ laid_out.names;
+    behind = omega (arith, ap (λ (s : Span). s.at) kept.span, ap (λ (s : Span). s.len) kept.span, laid_out.behind);
+    heap = IsLaidOut-elsewhere heap old.span.at old.span.len before.bytes after.bytes kept.bytes apart laid_out.heap;
+    count = laid_out.count;
+    pools = pools_same.0;
+  }
+
+  pub managed-changed : contents_of (layout_of new heap listed after.bytes) ≡ with_managed (with_block p h block (store_of old before.bytes)) (contents_of (layout_of old heap listed before.bytes))
+  managed-changed =
+      let store = with_block p h block (store_of old before.bytes) in
+      ap (λ s. memory_of s (heap_of heap after.bytes) (map (seen_by after.bytes) listed)) is
+      ∙ ap (λ k. memory_of store k (map (seen_by after.bytes) listed)) heap_same
+      ∙ ap (λ l. memory_of store (heap_of heap before.bytes) l) pools_same.1
+
+-- a call on the heap left managed memory and the pools
+module _ (table : Table) (old new : Region) (listed : List ListedPool) (before after : Contents) (laid_out : IsLaidOut (layout_of table old listed before.bytes)) (kept : heap.KeepsToSpan old new before after) (now : heap.IsLaidOut new after.bytes) where
+  start : new.span.at ≡ old.span.at
+  start = ap (λ (s : Span). s.at) kept.span
+
+  size : new.span.len ≡ old.span.len
+  size = ap (λ (s : Span). s.len) kept.span
+
+  lie_behind : LieBehind (end_of new.span) listed after.bytes × (map (seen_by after.bytes) listed ≡ map (seen_by before.bytes) listed)
+  lie_behind = behind-same old.span.at old.span.len before.bytes after.bytes kept.bytes (end_of new.span) listed (omega (arith, start, size)) (rw start (rw size laid_out.pools))
+
+  pub after-heap : IsLaidOut (layout_of table new listed after.bytes)
+  after-heap = record {
+    managed = omega (arith, kept.bytes.size, laid_out.managed);
+    names = laid_out.names;
+    behind = omega (arith, start, laid_out.behind);
+    heap = now;
+    count = laid_out.count;
+    pools = lie_behind.0;
+  }
+
+  pub heap-changed : contents_of (layout_of table new listed after.bytes) ≡ with_heap (heap_of new after.bytes) (contents_of (layout_of table old listed before.bytes))
+  heap-changed =
+      ap (λ s. memory_of s (heap_of new after.bytes) (map (seen_by after.bytes) listed)) (managed_calls.store_of-elsewhere table old.span.at old.span.len before.bytes after.bytes kept.bytes (inl laid_out.behind))
+      ∙ ap (λ l. memory_of (store_of table before.bytes) (heap_of new after.bytes) l) lie_behind.1
+
+-- a call that is refused changes nothing
+pub still-laid_out : (old new : Table) (heap : Region) (listed : List ListedPool) (before after : Contents) → IsLaidOut (layout_of old heap listed before.bytes) → (new ≡ old) × (after ≡ before)
+    → IsLaidOut (layout_of new heap listed after.bytes)
+still-laid_out old new heap listed before after laid_out same =
+    subst (λ (table : Table). IsLaidOut (layout_of table heap listed after.bytes)) (sym same.0)
+    (subst (λ (a : Contents). IsLaidOut (layout_of old heap listed a.bytes)) (sym same.1) laid_out)
+
+-- a call on a pool leaves managed memory, the heap and the other pools
+pub after-pool : (table : Table) (heap : Region) (k : ℕ) (listed : List ListedPool) (d new : ListedPool) (before after : Contents) → k < length listed
+    → IsLaidOut (layout_of table heap listed before.bytes) → pools.KeepsToSpan (get_or listed k d).pool new.pool before after → AreLinked new.lists new.pool after.bytes
+    → IsLaidOut (layout_of table heap (set listed k new) after.bytes)
+    × (contents_of (layout_of table heap (set listed k new) after.bytes) ≡ with_pool k (seen new after.bytes) (contents_of (layout_of table heap listed before.bytes)))
+after-pool table heap k listed d new before after lt laid_out kept linked =
     let p = (get_or listed k d).pool in
-    let far = lies_behind k (end_of table) listed d before.bytes lt laid_out.pools in
-    let rest = one-changed k (end_of table) listed d new before after lt laid_out.pools kept linked in
-    let store = managed_calls.store_of-elsewhere table p.span.at p.span.len before.bytes after.bytes kept.bytes (inl far) in
-    let size = kept.bytes.size in (
-      record { managed = omega (arith, size, laid_out.managed); count = length-set listed k new ∙ laid_out.count; pools = rest.0 },
-      ap (λ s. let m : Memory = record { managed = s; pools = map (seen_by after.bytes) (set listed k new) } in m) store
-          ∙ ap (λ s. let m : Memory = record { managed = store_of table before.bytes; pools = s } in m) rest.1,
+    let far = lies_behind k (end_of heap.span) listed d before.bytes lt laid_out.pools in
+    let farther : table.span.at + table.span.len ≤ p.span.at = omega (arith, far, laid_out.behind) in
+    let rest = one-changed k (end_of heap.span) listed d new before after lt laid_out.pools kept linked in
+    let store = managed_calls.store_of-elsewhere table p.span.at p.span.len before.bytes after.bytes kept.bytes (inl farther) in
+    let same = heap_of-elsewhere heap p.span.at p.span.len before.bytes after.bytes kept.bytes (inl far) laid_out.heap in (
+      record {
+        managed = omega (arith, kept.bytes.size, laid_out.managed);
+        names = laid_out.names;
+        behind = laid_out.behind;
+        heap = IsLaidOut-elsewhere heap p.span.at p.span.len before.bytes after.bytes kept.bytes (inl far) laid_out.heap;
+        count = length-set listed k new ∙ laid_out.count;
+        pools = rest.0;
+      },
+      ap (λ s. memory_of s (heap_of heap after.bytes) (map (seen_by after.bytes) (set listed k new))) store
+          ∙ ap (λ h. memory_of (store_of table before.bytes) h (map (seen_by after.bytes) (set listed k new))) same
+          ∙ ap (λ l. memory_of (store_of table before.bytes) (heap_of heap before.bytes) l) rest.1,
     )
-
-pub managed-changed : (old new : Table) (listed : List ListedPool) (before after : Contents) (store : ManagedStore) → IsLaidOut old listed before.bytes
-    → managed.KeepsToSpan old new before after → store_of new after.bytes ≡ store
-    → memory_of new listed after.bytes ≡ with_managed store (memory_of old listed before.bytes)
-managed-changed old new listed before after store laid_out kept is =
-    ap (λ s. let m : Memory = record { managed = s; pools = map (seen_by after.bytes) listed } in m) is
-    ∙ ap (λ s. let m : Memory = record { managed = store; pools = s } in m) (after-managed old new listed before after laid_out kept).1
 
 -- each pool's bytes link its lists
 pub linked-at : (k from : ℕ) (listed : List ListedPool) (d : ListedPool) (bytes : List ℕ) → k < length listed → LieBehind from listed bytes
@@ -123,13 +198,21 @@ pool_in-is zero (l ∷ later) d other bytes lt = refl
 pool_in-is (suc k) (l ∷ later) d other bytes lt = pool_in-is k later d other bytes (omega arith)
 
 -- what is asked of a pool is asked of the memory
-pub asked-pool : (table : Table) (k : ℕ) (listed : List ListedPool) (d new : ListedPool) (before after : Contents) (call : Call) (reply : Reply) → k < length listed → nat_lt 3 k ≡ false
-    → IsLaidOut table listed before.bytes → pools.KeepsToSpan (get_or listed k d).pool new.pool before after → AreLinked new.lists new.pool after.bytes
+pub asked-pool : (table : Table) (heap : Region) (k : ℕ) (listed : List ListedPool) (d new : ListedPool) (before after : Contents) (call : Call) (reply : Reply) → k < length listed → nat_lt 3 k ≡ false
+    → IsLaidOut (layout_of table heap listed before.bytes) → pools.KeepsToSpan (get_or listed k d).pool new.pool before after → AreLinked new.lists new.pool after.bytes
     → ask_pool call (seen (get_or listed k d) before.bytes) ≡ (seen new after.bytes, reply)
-    → ask_pool_of k call (memory_of table listed before.bytes) ≡ (memory_of table (set listed k new) after.bytes, reply)
-asked-pool table k listed d new before after call reply lt known laid_out kept linked asked =
-    let m = memory_of table listed before.bytes in
+    → ask_pool_of k call (contents_of (layout_of table heap listed before.bytes)) ≡ (contents_of (layout_of table heap (set listed k new) after.bytes), reply)
+asked-pool table heap k listed d new before after call reply lt known laid_out kept linked asked =
+    let m = contents_of (layout_of table heap listed before.bytes) in
     let is = ap (ask_pool call) (pool_in-is k listed d (unused_pool_of 0) before.bytes lt) ∙ asked in
     rw known
     (ap (λ (a : PoolAsked). let answer : Asked = (with_pool k a.0 m, a.1) in answer) is
-    ∙ ap (λ (changed : Memory). let answer : Asked = (changed, reply) in answer) (sym (after-pool table k listed d new before after lt laid_out kept linked).1))
+    ∙ ap (λ (changed : Memory). let answer : Asked = (changed, reply) in answer) (sym (after-pool table heap k listed d new before after lt laid_out kept linked).1))
+
+-- a refused call on a pool changed nothing
+pub refused-pool : (table : Table) (heap : Region) (k : ℕ) (listed : List ListedPool) (d new : ListedPool) (before after : Contents) → (new ≡ get_or listed k d) × (after ≡ before)
+    → placed (layout_of table heap (set listed k new) after.bytes) ≡ placed (layout_of table heap listed before.bytes)
+refused-pool table heap k listed d new before after same =
+    ap (λ (a : Contents). placed (layout_of table heap (set listed k new) a.bytes)) same.1
+    ∙ ap (λ l. placed (layout_of table heap (set listed k l) before.bytes)) same.0
+    ∙ ap (λ l. placed (layout_of table heap l before.bytes)) (set-get_or listed k d)

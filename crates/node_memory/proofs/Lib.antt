@@ -1,4 +1,8 @@
 pub mod Apart
+pub mod FrameBlocks
+pub mod HeapAsked
+pub mod HeapOthers
 pub mod LaidOut
 pub mod Listed
 pub mod Others
+pub mod Refused

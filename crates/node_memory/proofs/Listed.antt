@@ -3,8 +3,7 @@ use Rattle.std.proofs.Common.{◌≡◌, ℕ, ◌-◌, arith, Bool, true, false,
 use Rattle.std.specs.Prelude.{Some, None, is_some, slice_get, if◌then◌else◌}
 use Rattle.std.proofs.lemmas.Bool.{false≢true}
 use Rattle.memb_core.specs.declared.list_name.ListName.{ListName}
-use Rattle.memb_core.specs.declared.lists.Lists.{Lists}
-use Rattle.memb_core.specs.declared.pool.Pool.{Pool}
+use Rattle.memb_core.specs.PoolTable.{PoolTable, ListHeads}
 use Rattle.memb_core.specs.BlockPool.{BlockPool}
 use Rattle.memb_core.specs.BlockLists.{has_number, holder_of, head_of, tail_of, popped, chopped}
 use Rattle.memb_core.specs.Links.{list_of, AreLinked, LeavesOthers}
@@ -12,7 +11,7 @@ use Rattle.memb_core.specs.PoolBytes.{pool_of}
 use Rattle.node_memory.specs.declared.listed_pool.ListedPool.{ListedPool}
 use Rattle.node_memory.specs.ListedPools.{PoolWithLists, list_in, with_list, with_blocks, seen, is_holder}
 
-abbrev pub listed_of : Pool → Lists → ListedPool
+abbrev pub listed_of : PoolTable → ListHeads → ListedPool
 listed_of pool lists = record { pool = pool; lists = lists }
 
 abbrev pub shown : BlockPool → List ℕ → List ℕ → PoolWithLists
@@ -23,7 +22,7 @@ list_in-seen ListName.First listed bytes = refl
 list_in-seen ListName.Second listed bytes = refl
 
 -- a call on one list changed that list alone
-pub seen-list : (name : ListName) (pool : Pool) (old new : Lists) (before after list : List ℕ) → LeavesOthers name pool old new before after
+pub seen-list : (name : ListName) (pool : PoolTable) (old new : ListHeads) (before after list : List ℕ) → LeavesOthers name pool old new before after
     → list_of name new pool after ≡ list → with_list name list (seen (listed_of pool old) before) ≡ seen (listed_of pool new) after
 seen-list ListName.First pool old new before after list leaves is =
     ap (λ p. shown p list (list_of ListName.Second old pool before)) (sym leaves.blocks)
@@ -35,7 +34,7 @@ seen-list ListName.Second pool old new before after list leaves is =
     ∙ ap (λ l. shown (pool_of pool after) l (list_of ListName.Second new pool after)) (sym (leaves.list ListName.First (λ e. absurd (cc))))
 
 -- a call on the blocks changed no list
-pub seen-blocks : (lists : Lists) (old new : Pool) (before after : List ℕ) (blocks : BlockPool)
+pub seen-blocks : (lists : ListHeads) (old new : PoolTable) (before after : List ℕ) (blocks : BlockPool)
     → ((name : ListName) → list_of name lists new after ≡ list_of name lists old before)
     → pool_of new after ≡ blocks → with_blocks blocks (seen (listed_of old lists) before) ≡ seen (listed_of new lists) after
 seen-blocks lists old new before after blocks same is =
@@ -72,7 +71,7 @@ holder_cases ListName.Second false true apart = refl
 holder_cases ListName.Second false false apart = refl
 
 -- a block is in the list that holds it, and in no other
-pub is_holder-is : (name : ListName) (b : ℕ) (lists : Lists) (pool : Pool) (bytes : List ℕ) → AreLinked lists pool bytes
+pub is_holder-is : (name : ListName) (b : ℕ) (lists : ListHeads) (pool : PoolTable) (bytes : List ℕ) → AreLinked lists pool bytes
     → is_holder name (holder_of b (list_of ListName.First lists pool bytes) (list_of ListName.Second lists pool bytes)) ≡ has_number b (list_of name lists pool bytes)
 is_holder-is ListName.First b lists pool bytes linked =
     holder_cases ListName.First (has_number b (list_of ListName.First lists pool bytes)) (has_number b (list_of ListName.Second lists pool bytes)) (linked.apart b ListName.First ListName.Second (λ e. absurd (cc)))

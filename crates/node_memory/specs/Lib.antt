@@ -1,8 +1,14 @@
+-- what a reader must believe
 pub mod Ask
-pub mod Layout
+pub mod Frames
+pub mod HeapCalls
 pub mod ListedPools
 pub mod ManagedCalls
 pub mod Memory
+pub mod Parts
+pub mod Placed
 pub mod PoolCalls
 pub mod Separation
 pub mod Sizes
+-- the code's own invariants
+pub mod Code

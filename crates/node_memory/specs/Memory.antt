@@ -1,25 +1,32 @@
--- The memory of a node, as its users see it.
-use Rattle.std.specs.Prelude.{ℕ, List, [], ◌∷◌, slice_index_or, slice_set}
+-- The memory of a node, as its users see it: no block of managed memory or of a pool has a place in it, and no link shows.
+use Rattle.std.specs.Prelude.{ℕ, List, [], ◌∷◌, map, slice_index_or, slice_set}
 use Rattle.mmem_core.specs.ManagedStore.{ManagedStore, empty_store}
+use Rattle.heap_core.specs.HeapStore.{HeapStore, empty_heap}
 use Rattle.node_memory.specs.declared.sizes.Sizes.{Sizes}
 use Rattle.node_memory.specs.ListedPools.{PoolWithLists, unused_pool_of}
 
 pub record Memory : Type 0 where
   -- the blocks behind the handles of the processes
   pub managed : ManagedStore
+  -- the blocks of the processes in the heap
+  pub heap : HeapStore
   -- pools 0 to 3, which all processes share
   pub pools : List PoolWithLists
+
+-- how many bytes of a block of each pool may be used
+abbrev pub usable_sizes : List ℕ
+usable_sizes = 12 ∷ 28 ∷ 60 ∷ 124 ∷ []
 
 -- no block is live
 abbrev pub fresh_memory : Sizes → Memory
 fresh_memory sizes =
-    record {
-      managed = empty_store sizes.mmem;
-      pools = unused_pool_of 12 ∷ unused_pool_of 28 ∷ unused_pool_of 60 ∷ unused_pool_of 124 ∷ [];
-    }
+    record { managed = empty_store sizes.mmem; heap = empty_heap sizes.heap; pools = map unused_pool_of usable_sizes }
 
 abbrev pub with_managed : ManagedStore → Memory → Memory
 with_managed store m = record m { managed = store }
+
+abbrev pub with_heap : HeapStore → Memory → Memory
+with_heap heap m = record m { heap = heap }
 
 -- pool k with its lists
 abbrev pub pool_in : ℕ → Memory → PoolWithLists

@@ -1,6 +1,6 @@
 -- The calls on a pool and on its lists, one row each: when the call is refused, and else what the pool and its lists are after
 -- it, and the reply.
-use Rattle.std.specs.Prelude.{ℕ, ◌/◌, Bool, not, ◌||◌, length, Option, Some, None, if◌then◌else◌, ◌==◌, nat_le, nat_lt}
+use Rattle.std.specs.Prelude.{ℕ, Bool, not, ◌||◌, length, Option, Some, None, if◌then◌else◌, ◌==◌, nat_le, nat_lt}
 use Rattle.mote_types.specs.Bytes.{is_within, range_of}
 use Rattle.mote_types.specs.declared.call.Call.{Call}
 use Rattle.mote_types.specs.declared.reply.Reply.{Reply}
@@ -9,24 +9,6 @@ use Rattle.memb_core.specs.declared.list_name.ListName.{ListName}
 use Rattle.memb_core.specs.BlockPool.{is_live, first_unused, unused_count, allocated, freed, bytes_of, with_bytes}
 use Rattle.memb_core.specs.BlockLists.{has_number, without, head_of, tail_of, next_of, added, pushed, inserted, popped, chopped}
 use Rattle.node_memory.specs.ListedPools.{PoolWithLists, list_in, other_list, with_list, with_blocks, is_linked, list_named}
-
--- the pool that a call is on, if it is on one
-abbrev pub pool_called : Call → Option ℕ
-pool_called (Call.MembAlloc k) = Some k
-pool_called (Call.MembFree k b) = Some k
-pool_called (Call.MembWrite k b at chunk) = Some k
-pool_called (Call.MembRead k b at len) = Some k
-pool_called (Call.MembNumFree k) = Some k
-pool_called (Call.ListAdd l b) = Some (l / 2)
-pool_called (Call.ListPush l b) = Some (l / 2)
-pool_called (Call.ListInsert l prev b) = Some (l / 2)
-pool_called (Call.ListPop l) = Some (l / 2)
-pool_called (Call.ListChop l) = Some (l / 2)
-pool_called (Call.ListRemove l b) = Some (l / 2)
-pool_called (Call.ListHead l) = Some (l / 2)
-pool_called (Call.ListNext l b) = Some (l / 2)
-pool_called (Call.ListLength l) = Some (l / 2)
-pool_called _ = None
 
 -- a pool has blocks 0 to 15
 abbrev pub is_block : ℕ → Bool

@@ -1,35 +1,96 @@
--- That a call on one block leaves every other block as it was.
-use Rattle.std.specs.Prelude.{◌≡◌, ◌≢◌, ℕ, ◌⊎◌, Option, Some, None}
+-- Where the live blocks lie in the arena, and that a call on one block leaves every other block as it was.
+use Rattle.std.specs.Prelude.{◌≡◌, ◌≢◌, ℕ, ◌+◌, ◌≤◌, List, length, slice_get, Option, Some, None}
+use Rattle.std.specs.Option.{option_map}
 use Rattle.mote_types.specs.declared.call.Call.{Call}
+use Rattle.mote_types.specs.BlockNames.{IsName}
 use Rattle.mmem_core.specs.ManagedStore as managed
-use Rattle.mmem_core.specs.ManagedStore.{IsName}
+use Rattle.heap_core.specs.HeapStore as heap
 use Rattle.memb_core.specs.BlockPool as pools
 use Rattle.memb_core.specs.BlockPool.{first_unused}
-use Rattle.node_memory.specs.ListedPools.{PoolWithLists}
+use Rattle.mote_types.specs.Bytes.{range_of}
+use Rattle.arena_core.specs.Extents.{Extent, AreApart}
+use Rattle.mmem_core.specs.Separation as managed_places
+use Rattle.mmem_core.specs.Separation.{place_of}
+use Rattle.heap_core.specs.HeapBytes.{heap_of}
+use Rattle.heap_core.specs.Separation as heap_places
+use Rattle.heap_core.specs.Separation.{live_block}
+use Rattle.memb_core.specs.PoolBytes.{pool_of}
+use Rattle.memb_core.specs.Separation as places_in_pool
+use Rattle.node_memory.specs.declared.listed_pool.ListedPool.{ListedPool}
 use Rattle.node_memory.specs.Memory.{Memory, pool_in}
-use Rattle.node_memory.specs.PoolCalls.{pool_called}
+use Rattle.node_memory.specs.Placed.{Layout, PlacedMemory}
 
--- the handle of the caller whose block the call makes, takes away or writes to
-abbrev pub changed_handle : Call → Option ℕ
-changed_handle (Call.MmemAlloc h n) = Some h
-changed_handle (Call.MmemFree h) = Some h
-changed_handle (Call.MmemWrite h at chunk) = Some h
-changed_handle (Call.MmemCopy source target) = Some target
-changed_handle _ = None
+-- the name of a block of memory
+pub data BlockName : Type 0 where
+  -- that process's handle
+  Managed : ℕ → ℕ → BlockName
+  -- that process's block in the heap
+  Heap : ℕ → ℕ → BlockName
+  -- that pool's block
+  Pooled : ℕ → ℕ → BlockName
 
--- the block that the call takes into use, gives back or writes to, of the pool that it is on
-abbrev pub changed_block : Call → PoolWithLists → Option ℕ
-changed_block (Call.MembAlloc k) s = first_unused s.pool
-changed_block (Call.MembFree k b) s = Some b
-changed_block (Call.MembWrite k b at chunk) s = Some b
-changed_block _ s = None
+-- processes 3 to 19 have handles 0 to 15, and as many blocks in the heap
+abbrev pub IsBlockName : BlockName → Type 0
+IsBlockName (BlockName.Managed p h) = IsName p h
+IsBlockName (BlockName.Heap p b) = IsName p b
+IsBlockName (BlockName.Pooled k b) = Unit {0}
 
--- p's call leaves every block of every other process, and every block of p under another handle, and every other block of a
--- pool: it is live if it was, and has the bytes that it had, wherever it may lie now
-pub record LeavesOthers (call : Call) (p : ℕ) (old new : Memory) : Type 0 where
-  pub managed :
-      (q h : ℕ) → IsName q h → (q ≢ p) ⊎ (changed_handle call ≢ Some h)
-      → managed.block_of q h new.managed ≡ managed.block_of q h old.managed
-  pub pools :
-      (k b : ℕ) → (pool_called call ≢ Some k) ⊎ (changed_block call (pool_in k old) ≢ Some b)
-      → pools.block_of b (pool_in k new).pool ≡ pools.block_of b (pool_in k old).pool
+-- the bytes of a block, if it is live
+abbrev pub block_named : BlockName → Memory → Option (List ℕ)
+block_named (BlockName.Managed p h) m = managed.block_of p h m.managed
+block_named (BlockName.Heap p b) m = heap.block_of p b m.heap
+block_named (BlockName.Pooled k b) m = pools.block_of b (pool_in k m).pool
+
+-- the block that p's call makes, takes away or writes to
+abbrev pub changed_block : Call → ℕ → Memory → Option BlockName
+changed_block (Call.MmemAlloc h n) p m = Some (BlockName.Managed p h)
+changed_block (Call.MmemFree h) p m = Some (BlockName.Managed p h)
+changed_block (Call.MmemWrite h at chunk) p m = Some (BlockName.Managed p h)
+changed_block (Call.MmemCopy source target) p m = Some (BlockName.Managed p target)
+changed_block (Call.HeapAlloc b n) p m = Some (BlockName.Heap p b)
+changed_block (Call.HeapRealloc b n) p m = Some (BlockName.Heap p b)
+changed_block (Call.HeapFree b) p m = Some (BlockName.Heap p b)
+changed_block (Call.HeapWrite b at chunk) p m = Some (BlockName.Heap p b)
+changed_block (Call.MembAlloc k) p m = option_map (BlockName.Pooled k) (first_unused (pool_in k m).pool)
+changed_block (Call.MembFree k b) p m = Some (BlockName.Pooled k b)
+changed_block (Call.MembWrite k b at chunk) p m = Some (BlockName.Pooled k b)
+changed_block _ p m = None
+
+-- every block but this one is live if it was, and has the bytes that it had, wherever it may lie now
+abbrev pub LeavesOthers : Option BlockName → Memory → Memory → Type 0
+LeavesOthers changed old new =
+    (name : BlockName) → IsBlockName name → changed ≢ Some name → block_named name new ≡ block_named name old
+
+-- the part of the arena that a pool's block takes, if it is live
+abbrev pub extent_in_pool : ℕ → List ℕ → Option ListedPool → Option Extent
+extent_in_pool b bytes None = None
+extent_in_pool b bytes (Some listed) =
+    option_map (λ _. places_in_pool.extent_of listed.pool b) (pools.block_of b (pool_of listed.pool bytes))
+
+-- the part of the arena that a live block takes, with its header or its link
+abbrev pub extent_named : BlockName → Layout → Option Extent
+extent_named (BlockName.Managed p h) l = option_map (managed_places.extent_of l.managed) (place_of p h l.managed)
+extent_named (BlockName.Heap p b) l = option_map (heap_places.extent_of l.heap) (live_block p b (heap_of l.heap l.bytes))
+extent_named (BlockName.Pooled k b) l = extent_in_pool b l.bytes (slice_get l.pools k)
+
+-- what stands in that part before the block's bytes: the header of a block of the heap, the link of a pool's block
+abbrev pub header_of : BlockName → ℕ
+header_of (BlockName.Managed p h) = 0
+header_of (BlockName.Heap p b) = 16
+header_of (BlockName.Pooled k b) = 4
+
+-- the block of that name takes a part of the arena, and these are the bytes that stand there behind its header
+pub record IsReadFrom (name : BlockName) (bytes : List ℕ) (layout : Layout) : Type 0 where
+  pub extent : Extent
+  pub takes : extent_named name layout ≡ Some extent
+  pub fits : header_of name + length bytes ≤ extent.len
+  pub read : bytes ≡ range_of (extent.at + header_of name) (length bytes) layout.bytes
+
+-- Each live block, whatever its kind, takes a part of the one arena and is read from there; the parts of two different blocks
+-- share no byte.
+pub record BlocksLieApart (m : PlacedMemory) : Type 0 where
+  pub read : (name : BlockName) (bytes : List ℕ) → IsBlockName name → block_named name m.contents ≡ Some bytes → IsReadFrom name bytes m.layout
+  pub inside : (name : BlockName) (extent : Extent) → IsBlockName name → extent_named name m.layout ≡ Some extent
+      → extent.at + extent.len ≤ length m.layout.bytes
+  pub apart : (one other : BlockName) (first second : Extent) → IsBlockName one → IsBlockName other → one ≢ other
+      → extent_named one m.layout ≡ Some first → extent_named other m.layout ≡ Some second → AreApart first second

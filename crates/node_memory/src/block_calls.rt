@@ -4,6 +4,7 @@ ghost use Rattle.std.specs.Prelude.{◌≡◌, ℕ};
 ghost use Rattle.mote_types.specs.declared.call.Call.{Call};
 ghost use Rattle.memb_core.specs.Links.{AreLinked};
 ghost use Rattle.memb_core.specs.PoolBytes.{KeepsToSpan};
+ghost use Rattle.node_memory.specs.Ask.{IfRefused};
 ghost use Rattle.node_memory.specs.ListedPools.{seen};
 ghost use Rattle.node_memory.specs.PoolCalls.{ask_pool};
 
@@ -22,6 +23,7 @@ impl ListedPool {
     pub fn alloc(&mut self, arena: &mut Arena) -> Reply
         requires { AreLinked self.old.lists self.old.pool arena.old.bytes }
         ensures asked { (k : ℕ) → ask_pool (Call.MembAlloc k) (seen self.old arena.old.bytes) ≡ (seen self.new arena.new.bytes, result) }
+        ensures refused { IfRefused result ((self.new ≡ self.old) × (arena.new ≡ arena.old)) }
         ensures linked { AreLinked self.new.lists self.new.pool arena.new.bytes }
         ensures rest { KeepsToSpan self.old.pool self.new.pool arena.old arena.new }
     {
@@ -35,6 +37,7 @@ impl ListedPool {
     pub fn free(&mut self, arena: &mut Arena, block: u8) -> Reply
         requires { AreLinked self.old.lists self.old.pool arena.old.bytes }
         ensures asked { (k : ℕ) → ask_pool (Call.MembFree k block) (seen self.old arena.old.bytes) ≡ (seen self.new arena.new.bytes, result) }
+        ensures refused { IfRefused result ((self.new ≡ self.old) × (arena.new ≡ arena.old)) }
         ensures linked { AreLinked self.new.lists self.new.pool arena.new.bytes }
         ensures rest { KeepsToSpan self.old.pool self.new.pool arena.old arena.new }
     {
@@ -55,6 +58,7 @@ impl ListedPool {
     pub fn write(&mut self, arena: &mut Arena, block: u8, at: u32, chunk: &Chunk) -> Reply
         requires { AreLinked self.old.lists self.old.pool arena.old.bytes }
         ensures asked { (k : ℕ) → ask_pool (Call.MembWrite k block at chunk.now) (seen self.old arena.old.bytes) ≡ (seen self.new arena.new.bytes, result) }
+        ensures refused { IfRefused result ((self.new ≡ self.old) × (arena.new ≡ arena.old)) }
         ensures linked { AreLinked self.new.lists self.new.pool arena.new.bytes }
         ensures rest { KeepsToSpan self.old.pool self.new.pool arena.old arena.new }
     {
@@ -73,11 +77,9 @@ impl ListedPool {
     }
 
     /// Reads `len` of the usable bytes of a block, from the place `at` of them on.
-    pub fn read(&mut self, arena: &mut Arena, block: u8, at: u32, len: u8) -> Reply
-        requires { AreLinked self.old.lists self.old.pool arena.old.bytes }
-        ensures asked { (k : ℕ) → ask_pool (Call.MembRead k block at len) (seen self.old arena.old.bytes) ≡ (seen self.new arena.new.bytes, result) }
-        ensures linked { AreLinked self.new.lists self.new.pool arena.new.bytes }
-        ensures rest { KeepsToSpan self.old.pool self.new.pool arena.old arena.new }
+    pub fn read(&self, arena: &Arena, block: u8, at: u32, len: u8) -> Reply
+        requires { AreLinked self.now.lists self.now.pool arena.now.bytes }
+        ensures { (k : ℕ) → ask_pool (Call.MembRead k block at len) (seen self.now arena.now.bytes) ≡ (seen self.now arena.now.bytes, result) }
     {
         if block > LAST_BLOCK {
             return Reply::Refused(Refusal::BadName);

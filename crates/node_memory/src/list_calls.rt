@@ -4,6 +4,7 @@ ghost use Rattle.std.specs.Prelude.{◌≡◌};
 ghost use Rattle.mote_types.specs.declared.call.Call.{Call};
 ghost use Rattle.memb_core.specs.Links.{AreLinked};
 ghost use Rattle.memb_core.specs.PoolBytes.{KeepsToSpan};
+ghost use Rattle.node_memory.specs.Ask.{IfRefused};
 ghost use Rattle.node_memory.specs.ListedPools.{seen};
 ghost use Rattle.node_memory.specs.PoolCalls as calls;
 ghost use Rattle.node_memory.specs.PoolCalls.{ask_pool};
@@ -37,6 +38,7 @@ impl ListedPool {
     pub fn add(&mut self, arena: &mut Arena, list: u8, block: u8) -> Reply
         requires { AreLinked self.old.lists self.old.pool arena.old.bytes }
         ensures asked { ask_pool (Call.ListAdd list block) (seen self.old arena.old.bytes) ≡ (seen self.new arena.new.bytes, result) }
+        ensures refused { IfRefused result ((self.new ≡ self.old) × (arena.new ≡ arena.old)) }
         ensures linked { AreLinked self.new.lists self.new.pool arena.new.bytes }
         ensures rest { KeepsToSpan self.old.pool self.new.pool arena.old arena.new }
     {
@@ -52,6 +54,7 @@ impl ListedPool {
     pub fn push(&mut self, arena: &mut Arena, list: u8, block: u8) -> Reply
         requires { AreLinked self.old.lists self.old.pool arena.old.bytes }
         ensures asked { ask_pool (Call.ListPush list block) (seen self.old arena.old.bytes) ≡ (seen self.new arena.new.bytes, result) }
+        ensures refused { IfRefused result ((self.new ≡ self.old) × (arena.new ≡ arena.old)) }
         ensures linked { AreLinked self.new.lists self.new.pool arena.new.bytes }
         ensures rest { KeepsToSpan self.old.pool self.new.pool arena.old arena.new }
     {
@@ -67,6 +70,7 @@ impl ListedPool {
     pub fn insert(&mut self, arena: &mut Arena, list: u8, prev: u8, block: u8) -> Reply
         requires { AreLinked self.old.lists self.old.pool arena.old.bytes }
         ensures asked { ask_pool (Call.ListInsert list prev block) (seen self.old arena.old.bytes) ≡ (seen self.new arena.new.bytes, result) }
+        ensures refused { IfRefused result ((self.new ≡ self.old) × (arena.new ≡ arena.old)) }
         ensures linked { AreLinked self.new.lists self.new.pool arena.new.bytes }
         ensures rest { KeepsToSpan self.old.pool self.new.pool arena.old arena.new }
     {
@@ -88,34 +92,39 @@ impl ListedPool {
     pub fn pop(&mut self, arena: &mut Arena, list: u8) -> Reply
         requires { AreLinked self.old.lists self.old.pool arena.old.bytes }
         ensures asked { ask_pool (Call.ListPop list) (seen self.old arena.old.bytes) ≡ (seen self.new arena.new.bytes, result) }
+        ensures refused { IfRefused result ((self.new ≡ self.old) × (arena.new ≡ arena.old)) }
         ensures linked { AreLinked self.new.lists self.new.pool arena.new.bytes }
         ensures rest { KeepsToSpan self.old.pool self.new.pool arena.old arena.new }
     {
         let list = list_named(list);
-        match self.lists.pop(arena, &self.pool, list) {
-            Some(block) => Reply::Num(u32::from(block)),
-            None => Reply::Refused(Refusal::Empty),
-        }
+        let Some(head) = self.lists.head(list) else {
+            return Reply::Refused(Refusal::Empty);
+        };
+        self.lists.pop(arena, &self.pool, list);
+        Reply::Num(u32::from(head))
     }
 
     /// Takes the tail out of a list.
     pub fn chop(&mut self, arena: &mut Arena, list: u8) -> Reply
         requires { AreLinked self.old.lists self.old.pool arena.old.bytes }
         ensures asked { ask_pool (Call.ListChop list) (seen self.old arena.old.bytes) ≡ (seen self.new arena.new.bytes, result) }
+        ensures refused { IfRefused result ((self.new ≡ self.old) × (arena.new ≡ arena.old)) }
         ensures linked { AreLinked self.new.lists self.new.pool arena.new.bytes }
         ensures rest { KeepsToSpan self.old.pool self.new.pool arena.old arena.new }
     {
         let list = list_named(list);
-        match self.lists.chop(arena, &self.pool, list) {
-            Some(block) => Reply::Num(u32::from(block)),
-            None => Reply::Refused(Refusal::Empty),
+        if self.lists.head(list).is_none() {
+            return Reply::Refused(Refusal::Empty);
         }
+        let tail = self.lists.chop(arena, &self.pool, list).unwrap();
+        Reply::Num(u32::from(tail))
     }
 
     /// Takes a block out of a list.
     pub fn remove(&mut self, arena: &mut Arena, list: u8, block: u8) -> Reply
         requires { AreLinked self.old.lists self.old.pool arena.old.bytes }
         ensures asked { ask_pool (Call.ListRemove list block) (seen self.old arena.old.bytes) ≡ (seen self.new arena.new.bytes, result) }
+        ensures refused { IfRefused result ((self.new ≡ self.old) × (arena.new ≡ arena.old)) }
         ensures linked { AreLinked self.new.lists self.new.pool arena.new.bytes }
         ensures rest { KeepsToSpan self.old.pool self.new.pool arena.old arena.new }
     {
@@ -131,11 +140,9 @@ impl ListedPool {
     }
 
     /// Tells the head of a list.
-    pub fn head(&mut self, arena: &mut Arena, list: u8) -> Reply
-        requires { AreLinked self.old.lists self.old.pool arena.old.bytes }
-        ensures asked { ask_pool (Call.ListHead list) (seen self.old arena.old.bytes) ≡ (seen self.new arena.new.bytes, result) }
-        ensures linked { AreLinked self.new.lists self.new.pool arena.new.bytes }
-        ensures rest { KeepsToSpan self.old.pool self.new.pool arena.old arena.new }
+    pub fn head(&self, arena: &Arena, list: u8) -> Reply
+        requires { AreLinked self.now.lists self.now.pool arena.now.bytes }
+        ensures { ask_pool (Call.ListHead list) (seen self.now arena.now.bytes) ≡ (seen self.now arena.now.bytes, result) }
     {
         let list = list_named(list);
         match self.lists.head(list) {
@@ -145,11 +152,9 @@ impl ListedPool {
     }
 
     /// Tells the block behind another one of a list.
-    pub fn next(&mut self, arena: &mut Arena, list: u8, block: u8) -> Reply
-        requires { AreLinked self.old.lists self.old.pool arena.old.bytes }
-        ensures asked { ask_pool (Call.ListNext list block) (seen self.old arena.old.bytes) ≡ (seen self.new arena.new.bytes, result) }
-        ensures linked { AreLinked self.new.lists self.new.pool arena.new.bytes }
-        ensures rest { KeepsToSpan self.old.pool self.new.pool arena.old arena.new }
+    pub fn next(&self, arena: &Arena, list: u8, block: u8) -> Reply
+        requires { AreLinked self.now.lists self.now.pool arena.now.bytes }
+        ensures { ask_pool (Call.ListNext list block) (seen self.now arena.now.bytes) ≡ (seen self.now arena.now.bytes, result) }
     {
         let list = list_named(list);
         if block > LAST_BLOCK {
@@ -165,11 +170,9 @@ impl ListedPool {
     }
 
     /// Tells how many blocks a list has.
-    pub fn length(&mut self, arena: &mut Arena, list: u8) -> Reply
-        requires { AreLinked self.old.lists self.old.pool arena.old.bytes }
-        ensures asked { ask_pool (Call.ListLength list) (seen self.old arena.old.bytes) ≡ (seen self.new arena.new.bytes, result) }
-        ensures linked { AreLinked self.new.lists self.new.pool arena.new.bytes }
-        ensures rest { KeepsToSpan self.old.pool self.new.pool arena.old arena.new }
+    pub fn length(&self, arena: &Arena, list: u8) -> Reply
+        requires { AreLinked self.now.lists self.now.pool arena.now.bytes }
+        ensures { ask_pool (Call.ListLength list) (seen self.now arena.now.bytes) ≡ (seen self.now arena.now.bytes, result) }
     {
         let list = list_named(list);
         Reply::Num(u32::from(self.lists.length(arena, &self.pool, list)))

@@ -1,13 +1,15 @@
 //! A pool with its two lists.
 
-ghost use Rattle.std.specs.Prelude.{◌≡◌, ◌≢◌, ◌+◌, ◌*◌, ◌≤◌, length, None};
+ghost use Rattle.std.specs.Prelude.{◌≡◌, ◌+◌, ◌*◌, ◌≤◌, length, IsSomeAnd};
 ghost use Rattle.arena_core.specs.Contents.{contents};
 ghost use Rattle.memb_core.specs.BlockLists.{has_number};
 ghost use Rattle.memb_core.specs.Links.{AreLinked, list_of};
 ghost use Rattle.memb_core.specs.PoolBytes.{KeepsToSpan};
+ghost use Rattle.node_memory.specs.Ask.{IfRefused};
 ghost use Rattle.node_memory.specs.ListedPools as specs;
 ghost use Rattle.node_memory.specs.ListedPools.{seen, unused_pool_of};
-ghost use Rattle.node_memory.specs.PoolCalls.{ask_pool, pool_called};
+ghost use Rattle.node_memory.specs.Parts.{part_called, IsPool};
+ghost use Rattle.node_memory.specs.PoolCalls.{ask_pool};
 
 use arena_core::Arena;
 use memb_core::{ListName, Lists, Pool};
@@ -16,6 +18,17 @@ use mote_types::reply::Reply;
 
 /// How many blocks a pool has.
 const BLOCKS: u8 = 16;
+
+/// How many bytes of a block its link takes.
+const LINK_LEN: u32 = 4;
+
+/// What a pool takes of the arena whose blocks have so many usable bytes.
+pub fn pool_size(usable: u32) -> u32
+    requires { usable ≤ 124 }
+    ensures { result ≡ 16 * (usable + 4) }
+{
+    u32::from(BLOCKS) * (usable + LINK_LEN)
+}
 
 /// A pool with its two lists. Each call is given the arena that they lie in.
 #[derive(Drop)]
@@ -66,7 +79,7 @@ impl ListedPool {
         ensures linked { AreLinked result.lists result.pool arena.old.bytes }
         ensures unused { seen result arena.old.bytes ≡ unused_pool_of usable }
     {
-        let span = arena.carve(u32::from(BLOCKS) * (usable + 4)).unwrap();
+        let span = arena.carve(pool_size(usable)).unwrap();
         ListedPool {
             pool: Pool::new(span, BLOCKS, usable),
             lists: Lists::new(),
@@ -84,8 +97,9 @@ impl ListedPool {
     /// Carries out a call on the pool or on one of its lists, and answers its reply. A refused call changes nothing.
     pub fn ask(&mut self, arena: &mut Arena, call: &Call) -> Reply
         requires linked { AreLinked self.old.lists self.old.pool arena.old.bytes }
-        requires on_pool { pool_called call.now ≢ None }
+        requires on_pool { IsSomeAnd (part_called call.now) IsPool }
         ensures asked { ask_pool call.now (seen self.old arena.old.bytes) ≡ (seen self.new arena.new.bytes, result) }
+        ensures refused { IfRefused result ((self.new ≡ self.old) × (arena.new ≡ arena.old)) }
         ensures linked { AreLinked self.new.lists self.new.pool arena.new.bytes }
         ensures rest { KeepsToSpan self.old.pool self.new.pool arena.old arena.new }
     {

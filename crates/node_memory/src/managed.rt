@@ -3,25 +3,25 @@
 ghost use Rattle.std.specs.Prelude.{◌≡◌, ◌≤◌, ◌+◌, None, Some, length, IfOk, IfErr};
 ghost use Rattle.mote_types.specs.Bytes.{range_of};
 ghost use Rattle.mmem_core.specs.ManagedStore as store;
-ghost use Rattle.mmem_core.specs.ManagedStore.{IsName};
+ghost use Rattle.mote_types.specs.BlockNames.{IsName};
 ghost use Rattle.node_memory.specs.ManagedCalls as calls;
 ghost use Rattle.node_memory.specs.Memory.{with_managed};
 
 use crate::memory::NodeMemory;
 use crate::ranges::{LONGEST_READ, chunk_of, is_outside};
-use mmem_core::Key;
+use mote_types::block_name::Key;
 use mote_types::event::Pid;
 use mote_types::refusal::Refusal;
 use mote_types::reply::Chunk;
 
 /// The last handle of each process.
-const LAST_HANDLE: u8 = 15;
+pub(crate) const LAST_HANDLE: u8 = 15;
 
 impl NodeMemory {
     /// The length of a block, if it is live.
-    fn len_of(&self, key: Key) -> Option<u32>
+    pub(crate) fn len_of(&self, key: Key) -> Option<u32>
         requires { IsName key.0.0 key.1 }
-        ensures { result ≡ store.length_of key.0.0 key.1 self.now.managed }
+        ensures { result ≡ store.length_of key.0.0 key.1 self.now.contents.managed }
     {
         let _arena = &self.arena;
         self.mmem.len_of(key)
@@ -31,9 +31,9 @@ impl NodeMemory {
     pub(crate) fn mmem_alloc(&mut self, pid: Pid, handle: u8, n: u32) -> Result<(), Refusal>
         requires least { 3 ≤ pid.0 }
         requires most { pid.0 ≤ 19 }
-        ensures accepted { IfOk result (λ _. (calls.alloc_refusal pid.0 handle n self.old.managed ≡ None)
-            × (self.new ≡ with_managed (store.allocated pid.0 handle n self.old.managed) self.old)) }
-        ensures refused { IfErr result (λ r. (calls.alloc_refusal pid.0 handle n self.old.managed ≡ Some r) × (self.new ≡ self.old)) }
+        ensures accepted { IfOk result (λ _. (calls.alloc_refusal pid.0 handle n self.old.contents.managed ≡ None)
+            × (self.new.contents ≡ with_managed (store.allocated pid.0 handle n self.old.contents.managed) self.old.contents)) }
+        ensures refused { IfErr result (λ r. (calls.alloc_refusal pid.0 handle n self.old.contents.managed ≡ Some r) × (self.new ≡ self.old)) }
     {
         if handle > LAST_HANDLE {
             return Err(Refusal::BadName);
@@ -54,9 +54,9 @@ impl NodeMemory {
     pub(crate) fn mmem_free(&mut self, pid: Pid, handle: u8) -> Result<(), Refusal>
         requires least { 3 ≤ pid.0 }
         requires most { pid.0 ≤ 19 }
-        ensures accepted { IfOk result (λ _. (calls.free_refusal pid.0 handle self.old.managed ≡ None)
-            × (self.new ≡ with_managed (store.freed pid.0 handle self.old.managed) self.old)) }
-        ensures refused { IfErr result (λ r. (calls.free_refusal pid.0 handle self.old.managed ≡ Some r) × (self.new ≡ self.old)) }
+        ensures accepted { IfOk result (λ _. (calls.free_refusal pid.0 handle self.old.contents.managed ≡ None)
+            × (self.new.contents ≡ with_managed (store.freed pid.0 handle self.old.contents.managed) self.old.contents)) }
+        ensures refused { IfErr result (λ r. (calls.free_refusal pid.0 handle self.old.contents.managed ≡ Some r) × (self.new ≡ self.old)) }
     {
         if handle > LAST_HANDLE {
             return Err(Refusal::BadName);
@@ -79,9 +79,9 @@ impl NodeMemory {
         requires least { 3 ≤ pid.0 }
         requires most { pid.0 ≤ 19 }
         requires few { length bytes.now ≤ 64 }
-        ensures accepted { IfOk result (λ _. (calls.write_refusal pid.0 handle at (length bytes.now) self.old.managed ≡ None)
-            × (self.new ≡ with_managed (store.with_bytes pid.0 handle at bytes.now self.old.managed) self.old)) }
-        ensures refused { IfErr result (λ r. (calls.write_refusal pid.0 handle at (length bytes.now) self.old.managed ≡ Some r) × (self.new ≡ self.old)) }
+        ensures accepted { IfOk result (λ _. (calls.write_refusal pid.0 handle at (length bytes.now) self.old.contents.managed ≡ None)
+            × (self.new.contents ≡ with_managed (store.with_bytes pid.0 handle at bytes.now self.old.contents.managed) self.old.contents)) }
+        ensures refused { IfErr result (λ r. (calls.write_refusal pid.0 handle at (length bytes.now) self.old.contents.managed ≡ Some r) × (self.new ≡ self.old)) }
     {
         if handle > LAST_HANDLE {
             return Err(Refusal::BadName);
@@ -100,9 +100,9 @@ impl NodeMemory {
     pub(crate) fn mmem_read(&self, pid: Pid, handle: u8, at: u32, len: u8) -> Result<Chunk, Refusal>
         requires least { 3 ≤ pid.0 }
         requires most { pid.0 ≤ 19 }
-        ensures accepted { IfOk result (λ chunk. (calls.read_refusal pid.0 handle at len self.now.managed ≡ None)
-            × (chunk.items ≡ range_of at len (store.bytes_of pid.0 handle self.now.managed))) }
-        ensures refused { IfErr result (λ r. calls.read_refusal pid.0 handle at len self.now.managed ≡ Some r) }
+        ensures accepted { IfOk result (λ chunk. (calls.read_refusal pid.0 handle at len self.now.contents.managed ≡ None)
+            × (chunk.items ≡ range_of at len (store.bytes_of pid.0 handle self.now.contents.managed))) }
+        ensures refused { IfErr result (λ r. calls.read_refusal pid.0 handle at len self.now.contents.managed ≡ Some r) }
     {
         if handle > LAST_HANDLE {
             return Err(Refusal::BadName);
@@ -121,9 +121,9 @@ impl NodeMemory {
     pub(crate) fn mmem_copy(&mut self, pid: Pid, source: u8, target: u8) -> Result<(), Refusal>
         requires least { 3 ≤ pid.0 }
         requires most { pid.0 ≤ 19 }
-        ensures accepted { IfOk result (λ _. (calls.copy_refusal pid.0 source target self.old.managed ≡ None)
-            × (self.new ≡ with_managed (store.copied pid.0 source pid.0 target self.old.managed) self.old)) }
-        ensures refused { IfErr result (λ r. (calls.copy_refusal pid.0 source target self.old.managed ≡ Some r) × (self.new ≡ self.old)) }
+        ensures accepted { IfOk result (λ _. (calls.copy_refusal pid.0 source target self.old.contents.managed ≡ None)
+            × (self.new.contents ≡ with_managed (store.copied pid.0 source pid.0 target self.old.contents.managed) self.old.contents)) }
+        ensures refused { IfErr result (λ r. (calls.copy_refusal pid.0 source target self.old.contents.managed ≡ Some r) × (self.new ≡ self.old)) }
     {
         if source > LAST_HANDLE || target > LAST_HANDLE {
             return Err(Refusal::BadName);
@@ -144,7 +144,7 @@ impl NodeMemory {
 
     /// How many bytes of managed memory are free.
     pub(crate) fn mmem_avail(&self) -> u32
-        ensures { result ≡ store.free self.now.managed }
+        ensures { result ≡ store.free self.now.contents.managed }
     {
         let _arena = &self.arena;
         self.mmem.avail()

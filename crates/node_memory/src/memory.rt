@@ -1,13 +1,19 @@
 //! The arena with all that lies in it, and the calls on it.
 
-ghost use Rattle.std.specs.Prelude.{◌≡◌, ◌↔◌, true, false, Some, IfOk, IsErrOf};
+ghost use Rattle.std.specs.Prelude.{◌≡◌, ◌↔◌, ◌+◌, ◌*◌, true, false, Some, sum_by, IfOk, IsErrOf};
+ghost use Rattle.node_memory.specs.Memory.{usable_sizes};
 ghost use Rattle.node_memory.specs.Sizes.{are_sizes};
 ghost use Rattle.node_memory.specs.Ask as asking;
-ghost use Rattle.node_memory.specs.PoolCalls as calls;
+ghost use Rattle.node_memory.specs.Ask.{IfRefused};
+ghost use Rattle.node_memory.specs.Parts as parts;
+ghost use Rattle.node_memory.specs.Parts.{is_memory_call};
+ghost use Rattle.node_memory.specs.declared.part.Part.{Part as MemoryPart};
 
-use crate::listed_pool::ListedPool;
+use crate::listed_pool::{ListedPool, pool_size};
+use crate::part::{Part, part_called};
 use crate::sizes::Sizes;
 use arena_core::Arena;
+use heap_core::Heap;
 use mmem_core::Mmem;
 use mote_types::call::Call;
 use mote_types::event::Pid;
@@ -20,77 +26,39 @@ use std::marker::Model;
 /// How many pools there are.
 const POOLS: usize = 4;
 
-/// What the pools take of the arena: 16 blocks each, of 12, 28, 60 and 124 usable bytes and 4 more.
-const POOL_BYTES: u32 = 3_840;
+/// How many bytes of a block of each pool may be used (this project's profile).
+const USABLE: [u32; POOLS] = [12, 28, 60, 124];
+
+/// What all pools take of the arena.
+fn pools_size() -> u32
+    ensures { result ≡ sum_by (λ usable. 16 * (usable + 4)) usable_sizes }
+{
+    pool_size(USABLE[0]) + pool_size(USABLE[1]) + pool_size(USABLE[2]) + pool_size(USABLE[3])
+}
 
 /// The memory of a node, in one arena.
 #[derive(Drop)]
 pub struct NodeMemory {
     pub(crate) arena: Arena,
     pub(crate) mmem: Mmem,
+    pub(crate) heap: Heap,
     pools: [ListedPool; POOLS],
 }
 
 impl Model for NodeMemory {
-    ghost use Rattle.node_memory.specs.Memory.{Memory};
-    ghost use Rattle.node_memory.specs.Layout.{IsLaidOut, memory_of};
+    ghost use Rattle.node_memory.specs.Code.Layout.{IsLaidOut};
+    ghost use Rattle.node_memory.specs.Placed.{PlacedMemory, placed};
 
-    ghost Value = { Memory };
+    ghost Value = { PlacedMemory };
 
-    ghost view = { λ m. memory_of m.mmem m.pools m.arena.bytes };
+    ghost view = { λ m. placed (record { managed = m.mmem; heap = m.heap; pools = m.pools; bytes = m.arena.bytes }) };
 
-    ghost invariant = { λ m. IsLaidOut m.mmem m.pools m.arena.bytes };
-}
-
-/// The pool that a call is on, if it is on one or on one of its lists.
-fn pool_called(call: &Call) -> Option<u8>
-    ensures { result ≡ calls.pool_called call.now }
-{
-    match call {
-        Call::MembAlloc(pool)
-        | Call::MembFree(pool, _)
-        | Call::MembWrite(pool, ..)
-        | Call::MembRead(pool, ..)
-        | Call::MembNumFree(pool) => Some(*pool),
-        Call::ListAdd(list, _)
-        | Call::ListPush(list, _)
-        | Call::ListInsert(list, ..)
-        | Call::ListPop(list)
-        | Call::ListChop(list)
-        | Call::ListRemove(list, _)
-        | Call::ListHead(list)
-        | Call::ListNext(list, _)
-        | Call::ListLength(list) => Some(*list / 2),
-        _ => None,
-    }
-}
-
-/// Whether a call is on managed memory.
-fn is_managed_call(call: &Call) -> bool
-    ensures { result ≡ asking.is_managed_call call.now }
-{
-    matches!(
-        call,
-        Call::MmemAlloc(..)
-            | Call::MmemFree(_)
-            | Call::MmemWrite(..)
-            | Call::MmemRead(..)
-            | Call::MmemCopy(..)
-            | Call::MmemAvail
-    )
-}
-
-/// Whether a call is on memory, so that `NodeMemory::ask` answers it.
-pub fn is_memory_call(call: &Call) -> bool
-    ensures { result ≡ asking.is_memory_call call.now }
-{
-    pool_called(call).is_some() || is_managed_call(call)
+    ghost invariant = { λ m. IsLaidOut (record { managed = m.mmem; heap = m.heap; pools = m.pools; bytes = m.arena.bytes }) };
 }
 
 impl NodeMemory {
-    ghost use Rattle.node_memory.specs.Layout.{BlocksLieApart};
     ghost use Rattle.node_memory.specs.Memory.{fresh_memory};
-    ghost use Rattle.node_memory.specs.Separation.{LeavesOthers};
+    ghost use Rattle.node_memory.specs.Separation.{BlocksLieApart, LeavesOthers, changed_block};
 
     /// A node's memory without a block. All memory is taken here.
     ///
@@ -98,44 +66,55 @@ impl NodeMemory {
     /// `BadSizes` exactly where a size is out of its range or no multiple of 4, however little memory there is; else
     /// `Memory` where memory is refused.
     pub fn new(alloc: Global, sizes: Sizes) -> Result<NodeMemory, BootFault>
-        ensures fresh { IfOk result (λ memory. memory ≡ fresh_memory sizes) }
+        ensures fresh { IfOk result (λ memory. memory.contents ≡ fresh_memory sizes) }
         ensures bad_sizes { IsErrOf result BootFault.BadSizes ↔ (are_sizes sizes ≡ false) }
     {
         if !sizes.are_allowed() {
             return Err(BootFault::BadSizes);
         }
-        let mut arena = Arena::new(alloc, sizes.mmem + POOL_BYTES).map_err(|_| BootFault::Memory)?;
+        let mut arena = Arena::new(alloc, sizes.mmem + sizes.heap + pools_size()).map_err(
+            |_| BootFault::Memory,
+        )?;
         let mmem = Mmem::new(arena.carve(sizes.mmem).unwrap());
+        let heap = Heap::new(arena.carve(sizes.heap).unwrap());
         let pools = [
-            ListedPool::new(&mut arena, 12),
-            ListedPool::new(&mut arena, 28),
-            ListedPool::new(&mut arena, 60),
-            ListedPool::new(&mut arena, 124),
+            ListedPool::new(&mut arena, USABLE[0]),
+            ListedPool::new(&mut arena, USABLE[1]),
+            ListedPool::new(&mut arena, USABLE[2]),
+            ListedPool::new(&mut arena, USABLE[3]),
         ];
-        Ok(NodeMemory { arena, mmem, pools })
+        Ok(NodeMemory {
+            arena,
+            mmem,
+            heap,
+            pools,
+        })
     }
 
     /// Carries out an application's call on memory, and answers its reply. A refused call changes nothing.
     ///
     /// Process 3 too may ask how much managed memory is free.
     pub fn ask(&mut self, pid: Pid, call: &Call) -> Reply
-        requires on_memory { asking.is_memory_call call.now ≡ true }
+        requires on_memory { is_memory_call call.now ≡ true }
         requires asker { asking.MayAsk pid.0 call.now }
-        ensures asked { asking.ask call.now pid.0 self.old ≡ (self.new, result) }
-        ensures others { LeavesOthers call.now pid.0 self.old self.new }
+        ensures asked { asking.ask call.now pid.0 self.old.contents ≡ (self.new.contents, result) }
+        ensures refused { IfRefused result (self.new ≡ self.old) }
+        ensures others { LeavesOthers (changed_block call.now pid.0 self.old.contents) self.old.contents self.new.contents }
     {
-        match pool_called(call) {
-            Some(pool) => self.ask_pool(pool, call),
-            None => self.ask_managed(pid, call),
+        match part_called(call) {
+            Some(Part::Managed) => self.ask_managed(pid, call),
+            Some(Part::Heap) => self.ask_heap(pid, call),
+            Some(Part::Pool(pool)) => self.ask_pool(pool, call),
+            None => unreachable!(),
         }
     }
 
     /// Carries out a call on managed memory.
     fn ask_managed(&mut self, pid: Pid, call: &Call) -> Reply
-        requires on_managed { asking.is_managed_call call.now ≡ true }
+        requires on_managed { parts.part_called call.now ≡ Some MemoryPart.Managed }
         requires asker { asking.MayAsk pid.0 call.now }
-        ensures asked { asking.ask_managed call.now pid.0 self.old ≡ (self.new, result) }
-        ensures others { LeavesOthers call.now pid.0 self.old self.new }
+        ensures asked { asking.ask_managed call.now pid.0 self.old.contents ≡ (self.new.contents, result) }
+        ensures refused { IfRefused result (self.new ≡ self.old) }
     {
         match call {
             Call::MmemAlloc(handle, n) => Reply::done_or_refused(self.mmem_alloc(pid, *handle, *n)),
@@ -155,10 +134,29 @@ impl NodeMemory {
         }
     }
 
+    /// Carries out a call on heap memory.
+    fn ask_heap(&mut self, pid: Pid, call: &Call) -> Reply
+        requires on_heap { parts.part_called call.now ≡ Some MemoryPart.Heap }
+        requires asker { asking.MayAsk pid.0 call.now }
+        ensures asked { asking.ask_heap call.now pid.0 self.old.contents ≡ (self.new.contents, result) }
+        ensures refused { IfRefused result (self.new ≡ self.old) }
+    {
+        match call {
+            Call::HeapAlloc(block, n) => self.heap_alloc(pid, *block, *n),
+            Call::HeapRealloc(block, n) => self.heap_realloc(pid, *block, *n),
+            Call::HeapFree(block) => self.heap_free(pid, *block),
+            Call::HeapWrite(block, at, chunk) => self.heap_write(pid, *block, *at, chunk),
+            Call::HeapRead(block, at, len) => self.heap_read(pid, *block, *at, *len),
+            Call::HeapStats => self.heap_stats(),
+            _ => unreachable!(),
+        }
+    }
+
     /// Carries out a call on a pool or on one of its lists.
     fn ask_pool(&mut self, pool: u8, call: &Call) -> Reply
-        requires { calls.pool_called call.now ≡ Some pool }
-        ensures { asking.ask_pool_of pool call.now self.old ≡ (self.new, result) }
+        requires { parts.part_called call.now ≡ Some (MemoryPart.Pool pool) }
+        ensures asked { asking.ask_pool_of pool call.now self.old.contents ≡ (self.new.contents, result) }
+        ensures refused { IfRefused result (self.new ≡ self.old) }
     {
         if pool as usize >= POOLS {
             return Reply::Refused(Refusal::BadName);
@@ -166,11 +164,17 @@ impl NodeMemory {
         self.pools[pool as usize].ask(&mut self.arena, call)
     }
 
-    /// No two live blocks share a byte of the arena.
+    /// No two live blocks share a byte of the arena, whatever their kinds, headers and links included, and each one's bytes are
+    /// read from the part that it takes.
     pub fn blocks_lie_apart(&self)
         ensures { BlocksLieApart self.now }
     {
-        let _arena = &self.arena;
+        // Nothing is done: the clause tells what holds of the memory whatever was called before.
         self.mmem.blocks_lie_apart();
+        self.pools[0].pool.blocks_lie_apart();
+        self.pools[1].pool.blocks_lie_apart();
+        self.pools[2].pool.blocks_lie_apart();
+        self.pools[3].pool.blocks_lie_apart();
+        let _arena = &self.arena;
     }
 }

@@ -2,13 +2,13 @@
 use Rattle.std.proofs.Common.{◌≡◌, ℕ, zero, suc, ◌+◌, ◌<◌, ◌≤◌, Bool, true, false, List, [], ◌∷◌, ◌++◌, refl, arith, eqb, None, add-one}
 use Rattle.std.specs.List.{range_with_len}
 use Rattle.std.proofs.lemmas.Bool.Decides.{nat_tests}
-use Rattle.process_core.specs.declared.parts.Parts.{Parts}
+use Rattle.process_core.specs.declared.scheduler_fields.SchedulerFields.{SchedulerFields}
 use Rattle.process_core.specs.declared.frame.Frame.{Frame}
 use Rattle.process_core.specs.Processes.{at_first, state_of}
 use Rattle.process_core.specs.declared.state.State.{State}
 use Rattle.process_core.specs.declared.awaited.Awaited.{Awaited}
-use Rattle.process_core.specs.Nesting.{is_one_of, IsSound}
-use Rattle.process_core.specs.Parts.{IsInOrder}
+use Rattle.process_core.specs.Code.Nesting.{is_one_of, IsSound}
+use Rattle.process_core.specs.Code.SchedulerFields.{IsInOrder}
 
 pub range_more : (a n : ℕ) → range_with_len a (n + 1) ≡ range_with_len a n ++ (a + n) ∷ []
 range_more a zero = grind arith
@@ -40,7 +40,7 @@ first_known n (suc (suc zero)) h = omega arith
 first_known n (suc (suc (suc zero))) h = omega arith
 first_known n (suc (suc (suc (suc p)))) h = absurd (h (none_beyond (suc (suc (suc (suc p)))) (omega arith)))
 
-pub order_at_boot : (d : Parts) (starts : List ℕ) → d.applications ≤ 16 → starts ≡ range_with_len 4 d.applications
+pub order_at_boot : (d : SchedulerFields) (starts : List ℕ) → d.applications ≤ 16 → starts ≡ range_with_len 4 d.applications
     → d.processes ≡ at_first → d.stack ≡ Frame.Boot starts ∷ [] → d.events.capacity ≡ 32 → d.next_event ≡ 140 → d.awaited ≡ Awaited.Nothing → IsInOrder d
 order_at_boot d starts few is_range list stack room next idle =
     record { sound = rw (list, stack, idle) sound; bare = rw idle tt; room = room; few = few; numbers = omega arith }

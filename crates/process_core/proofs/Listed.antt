@@ -11,8 +11,9 @@ use Rattle.std.proofs.lemmas.Map.Steps.{length-le_from_distinct_below}
 use Rattle.std.proofs.lemmas.Map.Keys.{IsDistinct-cons, IsDistinct-head, IsDistinct-tail}
 use Rattle.process_core.specs.declared.process.Process.{Process}
 use Rattle.process_core.specs.declared.state.State.{State}
-use Rattle.process_core.specs.Processes.{state_of, with_state, with_mark, without, is_process, numbers, at_first, AreApart, is_marked}
-use Rattle.process_core.specs.Nesting.{is_one_of}
+use Rattle.process_core.specs.Processes.{state_of, with_state, with_mark, without, is_process, numbers, at_first, is_marked}
+use Rattle.process_core.specs.Code.ProcessList.{AreApart}
+use Rattle.process_core.specs.Code.Nesting.{is_one_of}
 use Rattle.process_core.proofs.Sound.{none_from_is_one_of, state_after, state_at, state_marked, state_without, not_true, same_number}
 
 -- a change of what a process does or of its mark keeps the numbers

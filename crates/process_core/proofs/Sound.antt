@@ -14,7 +14,7 @@ use Rattle.process_core.specs.declared.frame.First.{First}
 use Rattle.process_core.specs.declared.frame.Frame.{Frame}
 use Rattle.process_core.specs.Processes.{state_of, with_state, with_mark, without, IsApplication, IsOfMote}
 use Rattle.process_core.specs.Requests.{is_in_activation}
-use Rattle.process_core.specs.Nesting.{IsKnown, answering, leaving, answering_in, leaving_in, is_one_of, LiesOn, IsNested, has_ended, AreIn, IsAtTurn, IsSound}
+use Rattle.process_core.specs.Code.Nesting.{IsKnown, answering, leaving, answering_in, leaving_in, is_one_of, LiesOn, IsNested, has_ended, AreIn, IsAtTurn, IsSound}
 
 -- the frames that belong to no process are at most two
 short : (n : ℕ) (stack : List Frame) → IsNested n stack → length stack ≤ 2 + length (answering stack) + length (leaving stack)
@@ -101,9 +101,16 @@ others_in test p old new xs same none are q h = split (eqb q p) refl
 
 -- ---- the kernel's processes and the applications
 
+pub application_is : (n p : ℕ) → 4 ≤ p → p < 4 + n → IsApplication n p
+application_is n p low high = grind (arith, nat_tests, low, high)
+
+-- the numbers of the applications
+pub application_range : (n p : ℕ) → IsApplication n p → (4 ≤ p) × (p < 4 + n)
+application_range n p h = (grind (arith, nat_tests, h), grind (arith, nat_tests, h))
+
 pub application_from_state : (n : ℕ) (list : List Process) (p : ℕ) → IsOfMote n list
     → (state_of p list ≡ State.Absent → ⊥) → (state_of p list ≡ State.Running → ⊥) → IsApplication n p
-application_from_state n list p mote present busy = (split (nat_lt p 4) refl, mote.known p present)
+application_from_state n list p mote present busy = application_is n p (split (nat_lt p 4) refl) (mote.known p present)
   where
     split : (b : Bool) → nat_lt p 4 ≡ b → 4 ≤ p
     split true e = absurd (busy (mote.kernel p (grind (arith, nat_tests, e))))
@@ -120,10 +127,10 @@ mote_changed n p old new application same mote =
     record { kernel = λ q low. same q (apart q low) ∙ mote.kernel q low; known = λ q present. split q present (eqb q p) refl }
   where
     apart : (q : ℕ) → q < 4 → eqb q p ≡ false
-    apart q low = grind (arith, nat_tests, application.0)
+    apart q low = let range = application_range n p application in grind (arith, nat_tests, range.0)
 
     split : (q : ℕ) → (state_of q new ≡ State.Absent → ⊥) → (b : Bool) → eqb q p ≡ b → q < 4 + n
-    split q present true e = rw (same_number p q e) application.1
+    split q present true e = let range = application_range n p application in rw (same_number p q e) range.1
     split q present false e = mote.known q (λ a. present (same q e ∙ a))
 
 answering_apart : (n : ℕ) (stack : List Frame) → IsNested n stack → IsDistinct eqb (answering stack)
@@ -139,7 +146,7 @@ leaving_apart n (Frame.Leave pid walk exits ∷ below) h = (none_from_is_one_of 
 leaving_apart n (frame ∷ below) h = leaving_apart n below h.1
 
 not_zero_to_three : (n : ℕ) (xs : List ℕ) → ((p : ℕ) → is_one_of p xs ≡ true → IsApplication n p) → (p : ℕ) → p < 4 → is_one_of p xs ≡ false
-not_zero_to_three n xs are p low = not_true (is_one_of p xs) (λ h. let a = are p h in absurd (omega (arith, a.0, low)))
+not_zero_to_three n xs are p low = not_true (is_one_of p xs) (λ h. let a = application_range n p (are p h) in absurd (omega (arith, a.0, low)))
 
 -- n applications at most
 few_applications : (n : ℕ) (xs : List ℕ) → IsDistinct eqb xs → ((p : ℕ) → is_one_of p xs ≡ true → IsApplication n p) → length xs ≤ n
@@ -165,7 +172,7 @@ few_applications n xs distinct are =
 
         split : (b : Bool) → nat_lt p 4 ≡ b → p < 4 + n
         split true e = let low : p < 4 = grind (arith, nat_tests, e) in omega arith
-        split false e = let a = are p (beyond (grind (arith, nat_tests, e)) h) in omega (arith, a.1)
+        split false e = let a = application_range n p (are p (beyond (grind (arith, nat_tests, e)) h)) in omega (arith, a.1)
 
 -- two frames for each application, and two more
 pub length-le_from_sound : (n : ℕ) (processes : List Process) (stack : List Frame) (turn : Option Pid)
@@ -298,7 +305,7 @@ sound-given n list stack p s application runs =
     let l = none_in has_ended list (leaving stack) p.0 s.leaves (ap has_ended runs) in
     let called = state_at p.0 State.Called list present in
     record {
-      mote = mote_changed n p.0 list new (application, s.mote.known p.0 present) same s.mote;
+      mote = mote_changed n p.0 list new (application_is n p.0 application (s.mote.known p.0 present)) same s.mote;
       nested = s.nested;
       answers = others_in is_in_activation p.0 list new (answering stack) same a s.answers;
       leaves = others_in has_ended p.0 list new (leaving stack) same l s.leaves;
@@ -324,7 +331,7 @@ sound-started n list stack p s known absent =
     let new = record { number = p; state = State.Running; marked = false } ∷ list in
     let same = λ (r : ℕ) (h : eqb r p ≡ false). state_behind p r list h in
     record {
-      mote = mote_changed n p list new (application_from_absent n list p s.mote absent, known) same s.mote;
+      mote = mote_changed n p list new (application_is n p (application_from_absent n list p s.mote absent) known) same s.mote;
       nested = s.nested;
       answers = others_in is_in_activation p list new (answering stack) same (none_in is_in_activation list (answering stack) p s.answers (ap is_in_activation absent)) s.answers;
       leaves = others_in has_ended p list new (leaving stack) same (none_in has_ended list (leaving stack) p s.leaves (ap has_ended absent)) s.leaves;

@@ -5,11 +5,11 @@ use Rattle.std.proofs.lemmas.Bool.Decides.{nat_tests}
 use Rattle.mote_types.specs.declared.event.Stimulus.{Stimulus}
 use Rattle.circular_buffer.specs.Buffer.{Buffer}
 use Rattle.mote_types.specs.declared.event.Pid.{Pid}
-use Rattle.process_core.specs.declared.parts.Parts.{Parts}
+use Rattle.process_core.specs.declared.scheduler_fields.SchedulerFields.{SchedulerFields}
 use Rattle.process_core.specs.declared.queued.Queued as code
-use Rattle.process_core.specs.Parts.{scheduler_of, queued_of}
+use Rattle.process_core.specs.Code.SchedulerFields.{scheduler_of, queued_of}
 use Rattle.process_core.specs.declared.frame.Frame.{Frame}
-use Rattle.process_core.specs.Frames.{items_of}
+use Rattle.process_core.specs.Code.Frames.{items_of}
 use Rattle.mote_types.specs.declared.event.Event.{Event}
 use Rattle.mote_types.specs.declared.event.Origin.{Origin}
 use Rattle.mote_types.specs.declared.event.TheConstants.{INIT, POLL}
@@ -100,7 +100,7 @@ drop_queued [] = refl
 drop_queued (x ∷ xs) = refl
 
 -- the event at the front is for one process
-pub deliver_to_yields : (d : Parts) (rest : Buffer code.Queued) (p : Pid) (event : Event) (next : Option (Job ℕ)) (after : Scheduler ℕ)
+pub deliver_to_yields : (d : SchedulerFields) (rest : Buffer code.Queued) (p : Pid) (event : Event) (next : Option (Job ℕ)) (after : Scheduler ℕ)
     → Some (code.Queued.To p event) ≡ slice_get d.events.items 0 → rest ≡ record { items = drop 1 d.events.items; capacity = d.events.capacity }
     → Yields (in_front (Item.Give p.0 Origin.Event (of_event event) ∷ []) (scheduler_of (record d { events = rest }))) next after
     → Yields (in_front (Item.Deliver ∷ []) (scheduler_of d)) next after
@@ -109,7 +109,7 @@ deliver_to_yields d rest p event next after first left y =
     (rw drop_queued (rw left at y))
 
 -- the front frame is worked on
-pub frame_yields : (start : Scheduler ℕ) (d : Parts) (frame : Frame) (below : List Frame) (next : Option (Job ℕ)) (after : Scheduler ℕ)
+pub frame_yields : (start : Scheduler ℕ) (d : SchedulerFields) (frame : Frame) (below : List Frame) (next : Option (Job ℕ)) (after : Scheduler ℕ)
     → d.stack ≡ frame ∷ below → Yields start None (scheduler_of d)
     → Yields (in_front (items_of frame) (scheduler_of (record d { stack = below }))) next after → Yields start next after
 frame_yields start d frame below next after e first y =

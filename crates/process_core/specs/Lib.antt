@@ -1,9 +1,9 @@
+-- what a reader must believe
 pub mod Agenda
-pub mod Frames
-pub mod Held
-pub mod Nesting
-pub mod Parts
+pub mod Idle
 pub mod Processes
 pub mod Requests
 pub mod Scheduler
-pub mod Idle
+pub mod SchedulerView
+-- what is always true of the code's own parts
+pub mod Code

@@ -1,7 +1,8 @@
 -- The process list: the processes that are on it, the head first, with what each of them is doing.
-use Rattle.std.specs.Prelude.{ℕ, ◌+◌, ◌≤◌, ◌<◌, ◌≡◌, eqb, [], ◌∷◌, Bool, true, false, not, ◌&&◌, List, map, filter, find, if◌then◌else◌, ◌==◌, nat_lt}
-use Rattle.std.specs.List.{list_any, IsDistinct}
+use Rattle.std.specs.Prelude.{ℕ, ◌+◌, ◌<◌, ◌≡◌, eqb, [], ◌∷◌, Bool, true, false, not, ◌&&◌, List, map, filter, find, if◌then◌else◌, ◌==◌, nat_le, nat_lt}
+use Rattle.std.specs.List.{list_any}
 use Rattle.std.specs.Option.{option_map_or}
+use Rattle.mote_types.specs.declared.event.TheConstants.{FIRST_APPLICATION}
 use Rattle.process_core.specs.declared.state.State.{State}
 use Rattle.process_core.specs.declared.process.Process.{Process}
 
@@ -10,7 +11,7 @@ is_process p process = process.number == p
 
 -- the kernel's processes are 0 (etimer), 1 (ctimer), 2 (serial line) and 3 (packet)
 abbrev pub is_kernel_process : ℕ → Bool
-is_kernel_process p = nat_lt p 4
+is_kernel_process p = nat_lt p FIRST_APPLICATION
 
 abbrev pub numbers : List Process → List ℕ
 numbers list = map (λ process. process.number) list
@@ -63,17 +64,14 @@ is_called _ = false
 abbrev pub at_first : List Process
 at_first = map (λ p. record { number = p; state = State.Running; marked = false }) (3 ∷ 2 ∷ 1 ∷ 0 ∷ [])
 
--- the numbers of the applications, where there are so many
+-- whether the process is an application, where there are so many
+abbrev pub is_application : ℕ → ℕ → Bool
+is_application applications p = nat_le FIRST_APPLICATION p && nat_lt p (FIRST_APPLICATION + applications)
+
 abbrev pub IsApplication : ℕ → ℕ → Type 0
-IsApplication applications p = (4 ≤ p) × (p < 4 + applications)
+IsApplication applications p = is_application applications p ≡ true
 
 -- The kernel's processes always run, and any other process on the list is an application
 pub record IsOfMote (applications : ℕ) (list : List Process) : Type 0 where
-  pub kernel : (p : ℕ) → p < 4 → state_of p list ≡ State.Running
-  pub known : (p : ℕ) → (state_of p list ≡ State.Absent → ⊥) → p < 4 + applications
-
--- no process is on the list twice, their numbers are below 20, and none is Absent
-pub record AreApart (list : List Process) : Type 0 where
-  pub distinct : IsDistinct eqb (numbers list)
-  pub below : (p : ℕ) → list_any (eqb p) (numbers list) ≡ true → p < 20
-  pub present : (p : ℕ) → list_any (eqb p) (numbers list) ≡ true → state_of p list ≡ State.Absent → ⊥
+  pub kernel : (p : ℕ) → p < FIRST_APPLICATION → state_of p list ≡ State.Running
+  pub known : (p : ℕ) → (state_of p list ≡ State.Absent → ⊥) → p < FIRST_APPLICATION + applications

@@ -1,5 +1,5 @@
 -- What an application may ask of the scheduler: when it is refused, and what follows where it isn't.
-use Rattle.std.specs.Prelude.{ℕ, ◌+◌, Bool, not, ◌&&◌, ◌||◌, List, [], ◌∷◌, ◌++◌, map, Option, Some, None, if◌then◌else◌, nat_le, nat_lt}
+use Rattle.std.specs.Prelude.{ℕ, ◌+◌, Bool, not, ◌||◌, List, [], ◌∷◌, ◌++◌, map, Option, Some, None, if◌then◌else◌, nat_lt}
 use Rattle.mote_types.specs.declared.event.Event.{Event}
 use Rattle.mote_types.specs.declared.event.Stimulus.{Stimulus}
 use Rattle.mote_types.specs.declared.event.Origin.{Origin}
@@ -8,7 +8,7 @@ use Rattle.mote_types.specs.declared.refusal.Refusal.{Refusal}
 use Rattle.mote_types.specs.declared.event.TheConstants.{EXITED}
 use Rattle.mote_types.specs.Codes.{number_event, is_reserved}
 use Rattle.process_core.specs.declared.state.State.{State}
-use Rattle.process_core.specs.Processes.{numbers, without, is_on_list, is_alive, is_called, is_ending}
+use Rattle.process_core.specs.Processes.{numbers, without, is_on_list, is_alive, is_called, is_ending, is_application}
 use Rattle.process_core.specs.Agenda.{Item}
 use Rattle.process_core.specs.Scheduler.{Scheduler, state_in, in_front, put_in_state, has_room, of_event}
 
@@ -32,36 +32,32 @@ module _ {X : Type 0} where
   abbrev pub called_back : ℕ → ℕ → Scheduler X → Scheduler X
   called_back p number s = in_front (Item.Give p Origin.Callback (Stimulus.Callback number) ∷ []) s
 
-  -- an application of this mote
-  abbrev pub is_application : Scheduler X → ℕ → Bool
-  is_application s p = nat_le 4 p && nat_lt p (4 + s.applications)
-
   abbrev pub post_refusal : Scheduler X → Option Refusal
   post_refusal s = if has_room s then None else Some Refusal.Full
 
   abbrev pub synch_refusal : Scheduler X → ℕ → ℕ → Option Refusal
   synch_refusal s q code =
-      if not (is_application s q) then Some Refusal.BadName
+      if not (is_application s.applications q) then Some Refusal.BadName
       else if is_reserved code then Some Refusal.Reserved
       else None
 
   abbrev pub poll_refusal : Scheduler X → ℕ → Option Refusal
   poll_refusal s q =
-      if not (is_application s q) then Some Refusal.BadName
+      if not (is_application s.applications q) then Some Refusal.BadName
       else if not (is_alive (state_in s q)) then Some Refusal.NotRunning
       else None
 
   abbrev pub start_refusal : Scheduler X → ℕ → Option Refusal
   start_refusal s q =
-      if not (is_application s q) then Some Refusal.BadName
+      if not (is_application s.applications q) then Some Refusal.BadName
       else if is_on_list (state_in s q) then Some Refusal.Already
       else None
 
   abbrev pub kill_refusal : Scheduler X → ℕ → Option Refusal
-  kill_refusal s q = if is_application s q then kill_refusal_in (state_in s q) else Some Refusal.BadName
+  kill_refusal s q = if is_application s.applications q then kill_refusal_in (state_in s q) else Some Refusal.BadName
 
   abbrev pub is_running_refusal : Scheduler X → ℕ → Option Refusal
-  is_running_refusal s q = if is_application s q then None else Some Refusal.BadName
+  is_running_refusal s q = if is_application s.applications q then None else Some Refusal.BadName
 
   abbrev pub alloc_event_refusal : Scheduler X → Option Refusal
   alloc_event_refusal s = if nat_lt s.next_event 256 then None else Some Refusal.NoEvent

@@ -4,8 +4,9 @@ use Rattle.std.specs.List.{range_with_len, list_any, IsDistinct}
 use Rattle.mote_types.specs.declared.event.Event.{Event}
 use Rattle.mote_types.specs.declared.event.Stimulus.{Stimulus}
 use Rattle.mote_types.specs.declared.event.Origin.{Origin}
-use Rattle.mote_types.specs.declared.event.TheConstants.{INIT, POLL, EXIT, FIRST_FREE}
+use Rattle.mote_types.specs.declared.event.TheConstants.{FIRST_APPLICATION, MOST_APPLICATIONS, INIT, POLL, EXIT, FIRST_FREE}
 use Rattle.mote_types.specs.Codes.{plain_event}
+use Rattle.process_core.specs.declared.scheduler.TheConstants.{QUEUE_PLACES}
 use Rattle.process_core.specs.declared.state.State.{State}
 use Rattle.process_core.specs.declared.process.Process.{Process}
 use Rattle.process_core.specs.Processes.{numbers, state_of, is_marked, is_any_marked, with_state, with_mark, without, is_on_list, is_running, is_kernel_process, at_first, IsOfMote}
@@ -39,9 +40,9 @@ module _ {X : Type 0} where
   abbrev pub marked : ℕ → Scheduler X → Scheduler X
   marked p s = record s { processes = with_mark p true s.processes }
 
-  -- the event queue has 32 places
+  -- the event queue has a free place
   abbrev pub has_room : Scheduler X → Bool
-  has_room s = nat_lt (length s.events) 32
+  has_room s = nat_lt (length s.events) QUEUE_PLACES
 
   abbrev pub posted : Queued X → Scheduler X → Scheduler X
   posted event s = record s { events = s.events ++ event ∷ [] }
@@ -148,7 +149,7 @@ at_boot applications =
       applications = applications;
       processes = at_first;
       events = [];
-      agenda = map (λ p. Item.Start p) (range_with_len 4 applications);
+      agenda = map (λ p. Item.Start p) (range_with_len FIRST_APPLICATION applications);
       next_event = FIRST_FREE;
     }
 
@@ -164,7 +165,7 @@ is_shown _ = false
 
 -- what is true of the scheduler at any time
 pub record IsWellFormed {X : Type 0} (s : Scheduler X) : Type 0 where
-  pub few : s.applications ≤ 16
+  pub few : s.applications ≤ MOST_APPLICATIONS
   pub mote : IsOfMote s.applications s.processes
   -- no process is on the list twice
   pub distinct : IsDistinct eqb (numbers s.processes)

@@ -3,17 +3,17 @@
 ghost use Rattle.std.specs.Prelude.{◌≡◌, ◌≤◌, ◌<◌, ◌+◌, ◌∷◌, [], None, option_map, length};
 ghost use Rattle.mote_types.specs.Codes as codes;
 ghost use Rattle.process_core.specs.Agenda.{Item};
-ghost use Rattle.process_core.specs.Frames.{weight};
-ghost use Rattle.process_core.specs.Held.{job_of};
-ghost use Rattle.process_core.specs.Parts.{scheduler_of, awaited_after, IsInOrder};
+ghost use Rattle.process_core.specs.Code.Frames.{weight};
+ghost use Rattle.process_core.specs.SchedulerView.{job_of};
+ghost use Rattle.process_core.specs.Code.SchedulerFields.{scheduler_of, awaited_after, IsInOrder};
 ghost use Rattle.process_core.specs.Scheduler.{in_front, Yields};
 ghost use Rattle.process_core.specs.declared.awaited.Awaited.{Awaited};
 
 use crate::awaited::Awaited;
 use crate::frame::Frame;
 use crate::job::Job;
-use crate::parts::Parts;
 use crate::queued::Queued;
+use crate::scheduler_fields::SchedulerFields;
 use crate::state::State;
 use mote_types::event::{self, Event, FIRST_APPLICATION, Origin, Payload, Pid, Stimulus};
 
@@ -27,7 +27,7 @@ pub fn plain_event(code: u8) -> Event
     }
 }
 
-impl Parts {
+impl SchedulerFields {
     /// Gives the stimulus to the process.
     pub fn give(&mut self, pid: Pid, origin: Origin, stimulus: Stimulus) -> Option<Job>
         requires order { IsInOrder self.old }
@@ -59,7 +59,7 @@ impl Parts {
 
     /// Starts the process, unless it's on the list.
     pub fn start_one(&mut self, pid: Pid) -> Option<Job>
-        requires known { pid.0 < 4 + self.old.applications }
+        requires known { pid.0 < FIRST_APPLICATION + self.old.applications }
         requires order { IsInOrder self.old }
         requires idle { self.old.awaited ≡ Awaited.Nothing }
         ensures yields { Yields (in_front (Item.Start pid.0 ∷ []) (scheduler_of self.old)) (option_map job_of result) (scheduler_of self.new) }

@@ -1,12 +1,13 @@
 //! Whether anything is left to be done.
-ghost use Rattle.std.specs.Prelude.{◌≡◌};
+ghost use Rattle.std.specs.Prelude.{◌≡◌, is_some};
 ghost use Rattle.std.specs.List.{list_all};
-ghost use Rattle.process_core.specs.Frames.{items_of, agenda_of};
-ghost use Rattle.process_core.specs.Idle.{is_empty, is_idle};
-ghost use Rattle.process_core.specs.Parts.{scheduler_of};
+ghost use Rattle.process_core.specs.Code.Frames.{items_of, agenda_of};
+ghost use Rattle.process_core.specs.Idle.{is_empty};
+ghost use Rattle.process_core.specs.SchedulerView.{is_at_rest};
 
+use crate::awaited::Awaited;
 use crate::frame::Frame;
-use crate::parts::Parts;
+use crate::scheduler::Scheduler;
 use crate::stack::Stack;
 
 impl Frame {
@@ -42,11 +43,22 @@ impl Stack {
     }
 }
 
-impl Parts {
-    /// Whether nothing is left to be done.
-    pub fn at_rest(&self) -> bool
-        ensures { result ≡ is_idle (scheduler_of self.now) }
+impl Scheduler {
+    /// Whether it is a process's turn.
+    fn is_awaiting_call(&self) -> bool
+        ensures { result ≡ is_some self.now.turn }
     {
-        self.stack.is_over() && !self.processes.is_any_marked() && self.events.is_empty()
+        matches!(self.fields.awaited, Awaited::Call(_))
+    }
+
+    /// Whether `next` could be called and would answer Rest: no call is awaited, no work is open, no process is marked
+    /// and no event waits.
+    pub fn at_rest(&self) -> bool
+        ensures { result ≡ is_at_rest self.now }
+    {
+        !self.is_awaiting_call()
+            && self.fields.stack.is_over()
+            && !self.fields.processes.is_any_marked()
+            && self.fields.events.is_empty()
     }
 }

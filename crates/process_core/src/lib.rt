@@ -6,17 +6,15 @@ pub mod frame;
 mod giving;
 mod idle;
 pub mod job;
-mod parts;
 mod posting;
 mod process;
 mod process_list;
 mod queued;
 mod requests;
 pub mod scheduler;
+mod scheduler_fields;
 mod stack;
 mod state;
 mod steps;
-#[cfg(test)]
-mod tests;
 mod turns;
 pub mod walk;

@@ -2,38 +2,67 @@
 
 ghost use Rattle.std.specs.Prelude.{◌≡◌, None, Some, IfOk, IfErr};
 ghost use Rattle.process_core.specs.Agenda.{Queued as QueuedEvent};
-ghost use Rattle.process_core.specs.Parts.{scheduler_of, queued_of, IsInOrder};
+ghost use Rattle.process_core.specs.Code.SchedulerFields.{queued_of};
 ghost use Rattle.process_core.specs.Requests as request;
 ghost use Rattle.process_core.specs.Scheduler.{has_room, posted};
 
-use crate::parts::Parts;
 use crate::queued::Queued;
+use crate::scheduler::{QUEUE_PLACES, Scheduler};
+use mote_types::event::{Event, Pid};
 use mote_types::refusal::Refusal;
 
-/// How many events wait at most.
-pub const QUEUE_PLACES: usize = 32;
-
-impl Parts {
-    /// Whether the event queue has a free place.
+impl Scheduler {
+    /// Whether the queue takes one more event.
     pub fn has_room(&self) -> bool
-        requires order { IsInOrder self.now }
-        ensures value { result ≡ has_room (scheduler_of self.now) }
+        ensures { result ≡ has_room self.now.state }
     {
-        self.events.len() < QUEUE_PLACES
+        self.fields.events.len() < QUEUE_PLACES
     }
 
     /// Puts the event at the end of the queue. A full queue refuses it, and keeps what waits in it.
-    pub fn post(&mut self, queued: Queued) -> Result<(), Refusal>
-        requires order { IsInOrder self.old }
-        ensures accepted { IfOk result (λ _. (request.post_refusal (scheduler_of self.old) ≡ None)
-            × (scheduler_of self.new ≡ posted (queued_of queued) (scheduler_of self.old)) × (self.new.awaited ≡ self.old.awaited)) }
-        ensures refused { IfErr result (λ r. (request.post_refusal (scheduler_of self.old) ≡ Some r) × (self.new ≡ self.old)) }
-        ensures order { IsInOrder self.new }
+    fn enqueue(&mut self, queued: Queued) -> Result<(), Refusal>
+        ensures accepted { IfOk result (λ _. (request.post_refusal self.old.state ≡ None)
+            × (self.new ≡ record self.old { state = posted (queued_of queued) self.old.state })) }
+        ensures refused { IfErr result (λ r. (request.post_refusal self.old.state ≡ Some r) × (self.new ≡ self.old)) }
     {
         if !self.has_room() {
             return Err(Refusal::Full);
         }
-        let _ = self.events.push_back(queued);
+        let _ = self.fields.events.push_back(queued);
         Ok(())
+    }
+
+    /// Puts an event at the end of the queue, for one process, whatever its number and its state and whatever the code
+    /// (`process_post`). `Full` where 32 events wait.
+    pub fn post(&mut self, receiver: Pid, event: Event) -> Result<(), Refusal>
+        ensures accepted { IfOk result (λ _. (request.post_refusal self.old.state ≡ None)
+            × (self.new ≡ record self.old { state = posted (QueuedEvent.To receiver.0 event) self.old.state })) }
+        ensures refused { IfErr result (λ r. (request.post_refusal self.old.state ≡ Some r) × (self.new ≡ self.old)) }
+    {
+        self.enqueue(Queued::To(receiver, event))
+    }
+
+    /// As `post`, for each process that is on the list when the event is delivered (`PROCESS_BROADCAST`). It takes one
+    /// place.
+    pub fn broadcast(&mut self, event: Event) -> Result<(), Refusal>
+        ensures accepted { IfOk result (λ _. (request.post_refusal self.old.state ≡ None)
+            × (self.new ≡ record self.old { state = posted (QueuedEvent.ToAll event) self.old.state })) }
+        ensures refused { IfErr result (λ r. (request.post_refusal self.old.state ≡ Some r) × (self.new ≡ self.old)) }
+    {
+        self.enqueue(Queued::ToAll(event))
+    }
+
+    /// As `post`, for the expiry of a process's callback timer. The arming number comes back with the job, so that the
+    /// layer above can tell whether the timer was set or stopped since.
+    pub fn post_callback(&mut self, pid: Pid, number: u8, arming: u64) -> Result<(), Refusal>
+        ensures accepted { IfOk result (λ _. (request.post_refusal self.old.state ≡ None)
+            × (self.new ≡ record self.old { state = posted (QueuedEvent.Expiry pid.0 number arming) self.old.state })) }
+        ensures refused { IfErr result (λ r. (request.post_refusal self.old.state ≡ Some r) × (self.new ≡ self.old)) }
+    {
+        self.enqueue(Queued::Expiry {
+            pid,
+            number,
+            arming,
+        })
     }
 }

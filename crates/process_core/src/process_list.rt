@@ -20,7 +20,7 @@ pub struct ProcessList {
 impl Model for ProcessList {
     ghost use Rattle.std.specs.Prelude.{List, ℕ};
     ghost use Rattle.process_core.specs.declared.process.Process.{Process};
-    ghost use Rattle.process_core.specs.Processes.{AreApart};
+    ghost use Rattle.process_core.specs.Code.ProcessList.{AreApart};
 
     ghost Value = { List Process };
 

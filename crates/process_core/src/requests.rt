@@ -1,96 +1,102 @@
 //! What a process asks of the scheduler.
 
-ghost use Rattle.std.specs.Prelude.{◌≡◌, ◌+◌, None, Some, IfOk, IfErr};
-ghost use Rattle.process_core.specs.Parts.{scheduler_of, turn_in, IsInOrder};
-ghost use Rattle.process_core.specs.Processes.{is_alive};
+ghost use Rattle.std.specs.Prelude.{◌≡◌, ◌<◌, None, Some, true, IfOk, IfErr};
+ghost use Rattle.process_core.specs.Processes.{is_alive, is_application, is_ending, is_marked};
 ghost use Rattle.process_core.specs.Requests as request;
 ghost use Rattle.process_core.specs.Scheduler.{marked, state_in};
-ghost use Rattle.process_core.specs.declared.awaited.Awaited.{Awaited};
+ghost use Rattle.process_core.specs.SchedulerView.{awaiting_nothing};
 
 use crate::awaited::Awaited;
 use crate::frame::{First, Frame};
-use crate::parts::Parts;
+use crate::scheduler::Scheduler;
 use crate::state::State;
 use mote_types::event::{Event, FIRST_APPLICATION, Pid, is_reserved};
 use mote_types::refusal::Refusal;
 use mote_types::reply::Reply;
 
-impl Parts {
+impl Scheduler {
     /// Whether it is an application of this mote.
     fn is_application(&self, pid: Pid) -> bool
-        requires order { IsInOrder self.now }
-        ensures value { result ≡ request.is_application (scheduler_of self.now) pid.0 }
+        ensures { result ≡ is_application self.now.state.applications pid.0 }
     {
-        FIRST_APPLICATION <= pid.0 && pid.0 < FIRST_APPLICATION + self.applications
+        FIRST_APPLICATION <= pid.0 && pid.0 < FIRST_APPLICATION + self.fields.applications
     }
 
-    /// Whether the application runs, or is in its own activation.
+    /// Whether an application runs, or is in its own activation (`process_is_running`). `BadName` where there is no
+    /// such application.
     pub fn is_running(&self, pid: Pid) -> Result<bool, Refusal>
-        requires order { IsInOrder self.now }
-        ensures answered { IfOk result (λ runs. (request.is_running_refusal (scheduler_of self.now) pid.0 ≡ None)
-            × (runs ≡ is_alive (state_in (scheduler_of self.now) pid.0))) }
-        ensures refused { IfErr result (λ r. request.is_running_refusal (scheduler_of self.now) pid.0 ≡ Some r) }
+        ensures answered { IfOk result (λ runs. (request.is_running_refusal self.now.state pid.0 ≡ None)
+            × (runs ≡ is_alive (state_in self.now.state pid.0))) }
+        ensures refused { IfErr result (λ r. request.is_running_refusal self.now.state pid.0 ≡ Some r) }
     {
         if !self.is_application(pid) {
             return Err(Refusal::BadName);
         }
-        Ok(matches!(self.processes.state_of(pid), State::Running | State::Called))
+        Ok(matches!(
+            self.fields.processes.state_of(pid),
+            State::Running | State::Called
+        ))
     }
 
-    /// Marks the application for the next poll round.
+    /// Whether an application is in the activation in which it is told EXIT.
+    pub fn is_ending(&self, pid: Pid) -> bool
+        ensures { result ≡ is_ending (state_in self.now.state pid.0) }
+    {
+        matches!(self.fields.processes.state_of(pid), State::Ending)
+    }
+
+    /// Marks an application for the next poll round (`process_poll`). `BadName` where there is no such application,
+    /// `NotRunning` where it neither runs nor is in its own activation.
     pub fn poll(&mut self, pid: Pid) -> Result<(), Refusal>
-        requires order { IsInOrder self.old }
-        ensures accepted { IfOk result (λ _. (request.poll_refusal (scheduler_of self.old) pid.0 ≡ None)
-            × (scheduler_of self.new ≡ marked pid.0 (scheduler_of self.old)) × (self.new.awaited ≡ self.old.awaited)) }
-        ensures refused { IfErr result (λ r. (request.poll_refusal (scheduler_of self.old) pid.0 ≡ Some r) × (self.new ≡ self.old)) }
-        ensures order { IsInOrder self.new }
+        ensures accepted { IfOk result (λ _. (request.poll_refusal self.old.state pid.0 ≡ None)
+            × (self.new ≡ record self.old { state = marked pid.0 self.old.state })) }
+        ensures refused { IfErr result (λ r. (request.poll_refusal self.old.state pid.0 ≡ Some r) × (self.new ≡ self.old)) }
     {
         if !self.is_application(pid) {
             return Err(Refusal::BadName);
         }
-        match self.processes.state_of(pid) {
+        match self.fields.processes.state_of(pid) {
             State::Running | State::Called => {
-                self.mark(pid);
+                self.fields.processes.set_mark(pid, true);
                 Ok(())
             }
             _ => Err(Refusal::NotRunning),
         }
     }
 
-    /// Marks the process.
+    /// Marks one of the kernel's processes, 0 to 3, for the next poll round (`process_poll`).
     pub fn mark(&mut self, pid: Pid)
-        requires order { IsInOrder self.old }
-        ensures agenda { scheduler_of self.new ≡ marked pid.0 (scheduler_of self.old) }
-        ensures awaited { self.new.awaited ≡ self.old.awaited }
-        ensures order { IsInOrder self.new }
+        requires { pid.0 < FIRST_APPLICATION }
+        ensures value { self.new ≡ record self.old { state = marked pid.0 self.old.state } }
+        // a kernel process is always on the list
+        ensures is_marked { is_marked pid.0 self.new.state.processes ≡ true }
     {
-        self.processes.set_mark(pid, true);
+        self.fields.processes.set_mark(pid, true);
     }
 
-    /// The next event number, from 140 on.
+    /// Draws the next event number, from 140 on (`process_alloc_event`). `NoEvent` for ever once 255 was drawn.
     pub fn alloc_event(&mut self) -> Result<u8, Refusal>
-        requires order { IsInOrder self.old }
-        ensures accepted { IfOk result (λ n. (request.alloc_event_refusal (scheduler_of self.old) ≡ None)
-            × (n ≡ self.old.next_event) × (self.new ≡ record self.old { next_event = self.old.next_event + 1 })) }
-        ensures refused { IfErr result (λ r. (request.alloc_event_refusal (scheduler_of self.old) ≡ Some r) × (self.new ≡ self.old)) }
-        ensures order { IsInOrder self.new }
+        ensures accepted { IfOk result (λ n. (request.alloc_event_refusal self.old.state ≡ None)
+            × (n ≡ self.old.state.next_event)
+            × (self.new ≡ record self.old { state = request.number_drawn self.old.state })) }
+        ensures refused { IfErr result (λ r. (request.alloc_event_refusal self.old.state ≡ Some r) × (self.new ≡ self.old)) }
     {
-        if self.next_event > 255 {
+        if self.fields.next_event > 255 {
             return Err(Refusal::NoEvent);
         }
-        let number = self.next_event as u8;
-        self.next_event += 1;
+        let number = self.fields.next_event as u8;
+        self.fields.next_event += 1;
         Ok(number)
     }
 
-    /// The receiver is given the event within the caller's activation, and then the caller is answered.
+    /// The process at turn gives an application an event at once, within its own activation (`process_post_synch`);
+    /// then it is answered Done. `BadName` where there is no such application, `Reserved` where the code is the
+    /// kernel's own. After a refusal it is still the caller's turn.
     pub fn synch(&mut self, caller: Pid, receiver: Pid, event: Event) -> Result<(), Refusal>
-        requires order { IsInOrder self.old }
-        requires at_turn { turn_in self.old.awaited ≡ Some caller }
-        ensures accepted { IfOk result (λ _. (request.synch_refusal (scheduler_of self.old) receiver.0 event.code ≡ None)
-            × (scheduler_of self.new ≡ request.given_in_turn caller.0 receiver.0 event (scheduler_of self.old)) × (self.new.awaited ≡ Awaited.Nothing)) }
-        ensures refused { IfErr result (λ r. (request.synch_refusal (scheduler_of self.old) receiver.0 event.code ≡ Some r) × (self.new ≡ self.old)) }
-        ensures order { IsInOrder self.new }
+        requires { self.old.turn ≡ Some caller }
+        ensures accepted { IfOk result (λ _. (request.synch_refusal self.old.state receiver.0 event.code ≡ None)
+            × (self.new ≡ awaiting_nothing (request.given_in_turn caller.0 receiver.0 event self.old.state))) }
+        ensures refused { IfErr result (λ r. (request.synch_refusal self.old.state receiver.0 event.code ≡ Some r) × (self.new ≡ self.old)) }
     {
         if !self.is_application(receiver) {
             return Err(Refusal::BadName);
@@ -98,70 +104,71 @@ impl Parts {
         if is_reserved(event.code) {
             return Err(Refusal::Reserved);
         }
-        self.stack.push(Frame::Answer {
+        self.fields.stack.push(Frame::Answer {
             pid: caller,
             first: First::Give(receiver, event),
             reply: Reply::Done,
         });
-        self.awaited = Awaited::Nothing;
+        self.fields.awaited = Awaited::Nothing;
         Ok(())
     }
 
-    /// The application is started within the caller's activation, and then the caller is answered.
+    /// The process at turn starts an application (`process_start`): it goes to the head of the list and is given INIT
+    /// at once; then the caller is answered Done. `BadName` where there is no such application, `Already` where it is
+    /// on the list. After a refusal it is still the caller's turn.
     pub fn start(&mut self, caller: Pid, pid: Pid) -> Result<(), Refusal>
-        requires order { IsInOrder self.old }
-        requires at_turn { turn_in self.old.awaited ≡ Some caller }
-        ensures accepted { IfOk result (λ _. (request.start_refusal (scheduler_of self.old) pid.0 ≡ None)
-            × (scheduler_of self.new ≡ request.started_by caller.0 pid.0 (scheduler_of self.old)) × (self.new.awaited ≡ Awaited.Nothing)) }
-        ensures refused { IfErr result (λ r. (request.start_refusal (scheduler_of self.old) pid.0 ≡ Some r) × (self.new ≡ self.old)) }
-        ensures order { IsInOrder self.new }
+        requires { self.old.turn ≡ Some caller }
+        ensures accepted { IfOk result (λ _. (request.start_refusal self.old.state pid.0 ≡ None)
+            × (self.new ≡ awaiting_nothing (request.started_by caller.0 pid.0 self.old.state))) }
+        ensures refused { IfErr result (λ r. (request.start_refusal self.old.state pid.0 ≡ Some r) × (self.new ≡ self.old)) }
     {
         if !self.is_application(pid) {
             return Err(Refusal::BadName);
         }
-        match self.processes.state_of(pid) {
+        match self.fields.processes.state_of(pid) {
             State::Absent => {
-                self.stack.push(Frame::Answer {
+                self.fields.stack.push(Frame::Answer {
                     pid: caller,
                     first: First::Start(pid),
                     reply: Reply::Done,
                 });
-                self.awaited = Awaited::Nothing;
+                self.fields.awaited = Awaited::Nothing;
                 Ok(())
             }
             _ => Err(Refusal::Already),
         }
     }
 
-    /// The application ends within the caller's activation, and then the caller is answered.
+    /// The process at turn ends an application (`process_exit`): the others on the list are told so, it is given EXIT,
+    /// and leaves the list; then the caller is answered Done. `BadName` where there is no such application,
+    /// `NotRunning` where it is not on the list or has ended, `Busy` where it is in an activation, the caller itself
+    /// among them. After a refusal it is still the caller's turn.
     pub fn kill(&mut self, caller: Pid, pid: Pid) -> Result<(), Refusal>
-        requires order { IsInOrder self.old }
-        requires at_turn { turn_in self.old.awaited ≡ Some caller }
-        ensures accepted { IfOk result (λ _. (request.kill_refusal (scheduler_of self.old) pid.0 ≡ None)
-            × (scheduler_of self.new ≡ request.killed_by caller.0 pid.0 (scheduler_of self.old)) × (self.new.awaited ≡ Awaited.Nothing)) }
-        ensures refused { IfErr result (λ r. (request.kill_refusal (scheduler_of self.old) pid.0 ≡ Some r) × (self.new ≡ self.old)) }
-        ensures order { IsInOrder self.new }
+        requires { self.old.turn ≡ Some caller }
+        ensures accepted { IfOk result (λ _. (request.kill_refusal self.old.state pid.0 ≡ None)
+            × (self.new ≡ awaiting_nothing (request.killed_by caller.0 pid.0 self.old.state))) }
+        ensures refused { IfErr result (λ r. (request.kill_refusal self.old.state pid.0 ≡ Some r) × (self.new ≡ self.old)) }
     {
         if !self.is_application(pid) {
             return Err(Refusal::BadName);
         }
-        match self.processes.state_of(pid) {
+        match self.fields.processes.state_of(pid) {
             State::Called | State::Ending => Err(Refusal::Busy),
             State::Absent | State::Leaving => Err(Refusal::NotRunning),
             State::Running => {
-                let walk = self.processes.walk_others(pid);
-                self.processes.set_state(pid, State::Leaving);
-                self.stack.push(Frame::Answer {
+                let walk = self.fields.processes.walk_others(pid);
+                self.fields.processes.set_state(pid, State::Leaving);
+                self.fields.stack.push(Frame::Answer {
                     pid: caller,
                     first: First::Nothing,
                     reply: Reply::Done,
                 });
-                self.stack.push(Frame::Leave {
+                self.fields.stack.push(Frame::Leave {
                     pid,
                     walk,
                     exits: true,
                 });
-                self.awaited = Awaited::Nothing;
+                self.fields.awaited = Awaited::Nothing;
                 Ok(())
             }
         }

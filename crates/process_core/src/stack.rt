@@ -5,7 +5,7 @@ use crate::frame::Frame;
 use arrayvec::ArrayVec;
 use std::marker::Model;
 
-/// The frames of open work. That a push finds room is proved at each push (`specs/Nesting.antt`).
+/// The frames of open work. That a push finds room is proved at each push (`specs/Code/Nesting.antt`).
 #[derive(Drop)]
 pub struct Stack {
     frames: ArrayVec<Frame, 48>,

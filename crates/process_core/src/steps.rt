@@ -1,10 +1,10 @@
 //! How open work is done.
 
-ghost use Rattle.std.specs.Prelude.{◌≡◌, ◌<◌, ◌∷◌, None, Some, option_map};
-ghost use Rattle.process_core.specs.Frames.{items_of, weight};
-ghost use Rattle.process_core.specs.Held.{job_of};
-ghost use Rattle.process_core.specs.Parts.{scheduler_of, turn_in, awaited_after, IsInOrder, with_frame};
-ghost use Rattle.process_core.specs.Scheduler.{in_front, Yields, ComesTo};
+ghost use Rattle.std.specs.Prelude.{◌≡◌, ◌<◌, [], ◌∷◌, None, Some, option_map};
+ghost use Rattle.process_core.specs.Code.Frames.{items_of, weight};
+ghost use Rattle.process_core.specs.SchedulerView.{job_of};
+ghost use Rattle.process_core.specs.Code.SchedulerFields.{scheduler_of, awaited_after, IsInOrder, with_frame};
+ghost use Rattle.process_core.specs.Scheduler.{in_front, Yields};
 ghost use Rattle.process_core.specs.declared.awaited.Awaited.{Awaited};
 ghost use Rattle.process_core.specs.declared.frame.Frame.{Frame};
 
@@ -12,13 +12,13 @@ use crate::awaited::Awaited;
 use crate::frame::{First, Frame};
 use crate::giving::plain_event;
 use crate::job::Job;
-use crate::parts::Parts;
+use crate::scheduler_fields::SchedulerFields;
 use crate::state::State;
 use crate::walk::Walk;
 use mote_types::event::{self, Event, Origin, Payload, Pid, Stimulus};
 use mote_types::reply::Reply;
 
-impl Parts {
+impl SchedulerFields {
     // The next application is started.
     fn resume_boot(&mut self, mut walk: Walk) -> Option<Job>
         requires order { IsInOrder (with_frame (Frame.Boot walk) self.old) }
@@ -185,8 +185,8 @@ impl Parts {
         }
     }
 
-    // The topmost frame was taken off the stack, and is worked on. What is left of it is put back.
-    fn resume(&mut self, frame: Frame) -> Option<Job>
+    /// The topmost frame was taken off the stack, and is worked on. What is left of it is put back.
+    pub fn resume(&mut self, frame: Frame) -> Option<Job>
         requires order { IsInOrder (with_frame frame self.old) }
         requires idle { self.old.awaited ≡ Awaited.Nothing }
         ensures yields { Yields (in_front (items_of frame) (scheduler_of self.old)) (option_map job_of result) (scheduler_of self.new) }
@@ -206,31 +206,19 @@ impl Parts {
             Frame::Answer { pid, first, reply } => self.resume_answer(pid, first, reply),
         }
     }
-
-    /// What is to be done next. A job comes after some frames that answer none.
-    pub fn next(&mut self) -> Job
+    /// No work is open: a round begins, if it has anything to do.
+    pub fn begin_round(&mut self) -> Job
         requires order { IsInOrder self.old }
-        requires idle { turn_in self.old.awaited ≡ None }
-        ensures job { ComesTo (scheduler_of self.old) (job_of result) (scheduler_of self.new) }
+        requires idle { self.old.awaited ≡ Awaited.Nothing }
+        requires bare { self.old.stack ≡ [] }
+        ensures yields { Yields (scheduler_of self.old) (Some (job_of result)) (scheduler_of self.new) }
         ensures awaited { self.new.awaited ≡ awaited_after (Some result) }
         ensures order { IsInOrder self.new }
     {
-        self.awaited = Awaited::Nothing;
-        'open: loop {
-            match self.stack.pop() {
-                None => {
-                    if self.processes.is_any_marked() || !self.events.is_empty() {
-                        self.stack.push(Frame::Deliver { is_polled: false });
-                        return Job::Round;
-                    }
-                    return Job::Rest;
-                }
-                Some(frame) => {
-                    if let Some(job) = self.resume(frame) {
-                        return job;
-                    }
-                }
-            }
+        if !self.processes.is_any_marked() && self.events.is_empty() {
+            return Job::Rest;
         }
+        self.stack.push(Frame::Deliver { is_polled: false });
+        Job::Round
     }
 }

@@ -1,64 +1,56 @@
 //! What the layer above tells after a job: how a turn ended, or that an expiry counts.
 
 ghost use Rattle.std.specs.Prelude.{◌≡◌, Some};
-ghost use Rattle.process_core.specs.Parts.{scheduler_of, turn_in, callback_in, IsInOrder};
 ghost use Rattle.process_core.specs.Requests as request;
-ghost use Rattle.process_core.specs.declared.awaited.Awaited.{Awaited};
+ghost use Rattle.process_core.specs.SchedulerView.{awaiting_nothing};
 
 use crate::awaited::Awaited;
 use crate::frame::{First, Frame};
-use crate::parts::Parts;
+use crate::scheduler::Scheduler;
 use crate::state::State;
 use mote_types::event::Pid;
 use mote_types::reply::Reply;
 
-impl Parts {
-    /// The caller's next turn is told the reply.
+impl Scheduler {
+    /// The process at turn made a call that ended no activation and is answered at once: its next turn is told the
+    /// reply. It is not called where `synch`, `start` or `kill` was accepted.
     pub fn answered(&mut self, caller: Pid, reply: Reply)
-        requires order { IsInOrder self.old }
-        requires at_turn { turn_in self.old.awaited ≡ Some caller }
-        ensures agenda { scheduler_of self.new ≡ request.answered caller.0 reply (scheduler_of self.old) }
-        ensures awaited { self.new.awaited ≡ Awaited.Nothing }
-        ensures order { IsInOrder self.new }
+        requires { self.old.turn ≡ Some caller }
+        ensures { self.new ≡ awaiting_nothing (request.answered caller.0 reply self.old.state) }
     {
-        self.stack.push(Frame::Answer {
+        self.fields.stack.push(Frame::Answer {
             pid: caller,
             first: First::Nothing,
             reply,
         });
-        self.awaited = Awaited::Nothing;
+        self.fields.awaited = Awaited::Nothing;
     }
 
-    /// The caller's activation ends, and it goes on running. The activation of EXIT only ends.
+    /// The process at turn waits: its activation ends and it runs on, unless it was told EXIT.
     pub fn waited(&mut self, caller: Pid)
-        requires order { IsInOrder self.old }
-        requires at_turn { turn_in self.old.awaited ≡ Some caller }
-        ensures agenda { scheduler_of self.new ≡ request.waited caller.0 (scheduler_of self.old) }
-        ensures awaited { self.new.awaited ≡ Awaited.Nothing }
-        ensures order { IsInOrder self.new }
+        requires { self.old.turn ≡ Some caller }
+        ensures { self.new ≡ awaiting_nothing (request.waited caller.0 self.old.state) }
     {
-        self.awaited = Awaited::Nothing;
-        match self.processes.state_of(caller) {
+        self.fields.awaited = Awaited::Nothing;
+        match self.fields.processes.state_of(caller) {
             State::Ending => {}
-            _ => self.processes.set_state(caller, State::Running),
+            _ => self.fields.processes.set_state(caller, State::Running),
         }
     }
 
-    /// The caller's activation ends, and the process too. The activation of EXIT only ends.
+    /// The process at turn exits: the others on the list are told so, then it leaves the list. Where it was told EXIT,
+    /// its activation ends alone.
     pub fn ended(&mut self, caller: Pid)
-        requires order { IsInOrder self.old }
-        requires at_turn { turn_in self.old.awaited ≡ Some caller }
-        ensures agenda { scheduler_of self.new ≡ request.ended caller.0 (scheduler_of self.old) }
-        ensures awaited { self.new.awaited ≡ Awaited.Nothing }
-        ensures order { IsInOrder self.new }
+        requires { self.old.turn ≡ Some caller }
+        ensures { self.new ≡ awaiting_nothing (request.ended caller.0 self.old.state) }
     {
-        self.awaited = Awaited::Nothing;
-        match self.processes.state_of(caller) {
+        self.fields.awaited = Awaited::Nothing;
+        match self.fields.processes.state_of(caller) {
             State::Ending => {}
             _ => {
-                let walk = self.processes.walk_others(caller);
-                self.processes.set_state(caller, State::Leaving);
-                self.stack.push(Frame::Leave {
+                let walk = self.fields.processes.walk_others(caller);
+                self.fields.processes.set_state(caller, State::Leaving);
+                self.fields.stack.push(Frame::Leave {
                     pid: caller,
                     walk,
                     exits: false,
@@ -67,15 +59,12 @@ impl Parts {
         }
     }
 
-    /// The expiry counts: the process is to be given the callback.
+    /// The expiry that `next` has just answered counts: the process is given the callback, if it runs.
     pub fn give_callback(&mut self, pid: Pid, number: u8)
-        requires order { IsInOrder self.old }
-        requires due { callback_in self.old.awaited ≡ Some (pid, number) }
-        ensures agenda { scheduler_of self.new ≡ request.called_back pid.0 number (scheduler_of self.old) }
-        ensures awaited { self.new.awaited ≡ Awaited.Nothing }
-        ensures order { IsInOrder self.new }
+        requires { self.old.callback ≡ Some (pid, number) }
+        ensures { self.new ≡ awaiting_nothing (request.called_back pid.0 number self.old.state) }
     {
-        self.awaited = Awaited::Nothing;
-        self.stack.push(Frame::Callback { pid, number });
+        self.fields.awaited = Awaited::Nothing;
+        self.fields.stack.push(Frame::Callback { pid, number });
     }
 }

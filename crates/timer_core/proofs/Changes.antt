@@ -1,17 +1,19 @@
 -- What the changes of the table make of the cells and the timer list.
 use Rattle.std.proofs.Common.{◌≡◌, ℕ, ◌<◌, ◌≤◌, true, false, List, [], length, refl, sym, ◌∙◌, ap, arith, set, get_or}
-use Rattle.std.specs.Prelude.{Some, None, map, All, ◌^◌}
+use Rattle.std.specs.Prelude.{Some, None, replicate, All, ◌^◌}
 use Rattle.std.specs.List.{list_any}
-use Rattle.std.proofs.lemmas.List.{length-set, map-set, get_or-map, set-get_or}
+use Rattle.std.proofs.lemmas.List.{length-set}
 use Rattle.std.proofs.lemmas.List.Elements.{All-set, All-get_or}
 use Rattle.timer_core.specs.declared.timer.Timer.{Timer}
 use Rattle.timer_core.specs.declared.timer.Cell.{Cell}
 use Rattle.timer_core.specs.declared.table.LinkedCell.{LinkedCell}
 use Rattle.timer_core.specs.declared.table.TimerTable.TheInside.{Inside}
-use Rattle.timer_core.specs.Names.{IsNamed, is_timer, place_of}
-use Rattle.timer_core.specs.Timers.{Timers, armed_with, stop_timer, zero_cell}
-use Rattle.timer_core.specs.Links.{next_of, listed_from, IsList, IsTable, timers_of, zero_linked}
+use Rattle.timer_core.specs.Code.Places.{place_of}
+use Rattle.timer_core.specs.Names.{IsNamed, all_timers, is_timer}
+use Rattle.timer_core.specs.Timers.{NamedCell, Timers, no_timers, armed_with, stop_timer}
+use Rattle.timer_core.specs.Code.Links.{next_of, listed_from, named_cells, IsList, IsTable, timers_of, zero_linked}
 use Rattle.timer_core.proofs.NameLemmas.{same_timer, place_below}
+use Rattle.timer_core.proofs.Cells.{cells_set, cells_kept, cells_at_boot}
 use Rattle.timer_core.proofs.LinkLemmas.{Passes, Relinked, listed_from_none, relinked_kept, relinked_first}
 use Rattle.timer_core.proofs.Unlinking.{others_first, IsPassed, others_at_end, relinked_without}
 
@@ -20,30 +22,22 @@ pub record StandsFor (table : Inside) (timers : Timers) : Type 0 where
   pub sound : IsTable table
   pub value : timers_of table ≡ timers
 
-abbrev cells_of : List LinkedCell → List Cell
-cells_of cells = map (λ linked_cell. linked_cell.cell) cells
-
 abbrev HasStarts : List LinkedCell → Type 0
 HasStarts cells = All (λ linked_cell. linked_cell.cell.start ≤ 2 ^ 63) cells
 
 same_timers : (t u : Timers) → t.cells ≡ u.cells → t.armed ≡ u.armed → t ≡ u
 same_timers t u cells armed =
-    ap (λ (new : List Cell). let v : Timers = record { cells = new; armed = t.armed } in v) cells
+    ap (λ (new : List NamedCell). let v : Timers = record { cells = new; armed = t.armed } in v) cells
     ∙ ap (λ (new : List Timer). let v : Timers = record { cells = u.cells; armed = new } in v) armed
 
-stands_for : (table : Inside) (timers : Timers) → length table.cells ≡ 192 → HasStarts table.cells → cells_of table.cells ≡ timers.cells
+stands_for : (table : Inside) (timers : Timers) → length table.cells ≡ 192 → HasStarts table.cells → named_cells all_timers table.cells ≡ timers.cells
     → Relinked table.cells table.first timers.armed → StandsFor table timers
 stands_for table timers places starts cells r =
     record { sound = record { places = places; listed = r.sound; starts = starts }; value = same_timers (timers_of table) timers cells r.listed }
 
-cells_of_set : (cells : List LinkedCell) (k : ℕ) (x : LinkedCell) → cells_of (set cells k x) ≡ set (cells_of cells) k x.cell
-cells_of_set cells k x = map-set (λ (c : LinkedCell). c.cell) cells k x
-
-cells_of_kept : (cells : List LinkedCell) (k : ℕ) (x : LinkedCell) → k < length cells → x.cell ≡ (get_or cells k zero_linked).cell →
-    cells_of (set cells k x) ≡ cells_of cells
-cells_of_kept cells k x within e =
-    let read : get_or (cells_of cells) k zero_cell ≡ x.cell = get_or-map (λ (c : LinkedCell). c.cell) cells k zero_linked zero_cell within ∙ sym e in
-    cells_of_set cells k x ∙ (ap (λ (c : Cell). set (cells_of cells) k c) (sym read) ∙ set-get_or (cells_of cells) k zero_cell)
+-- at boot
+pub timers_at_boot : timers_of (record { cells = replicate 192 zero_linked; first = None }) ≡ no_timers
+timers_at_boot = same_timers (timers_of (record { cells = replicate 192 zero_linked; first = None })) no_timers cells_at_boot (listed_from_none (replicate 192 zero_linked))
 
 starts_set : (cells : List LinkedCell) (k : ℕ) (x : LinkedCell) → x.cell.start ≤ 2 ^ 63 → HasStarts cells → HasStarts (set cells k x)
 starts_set cells k x h starts = All-set (λ linked_cell. linked_cell.cell.start ≤ 2 ^ 63) cells k x h starts
@@ -56,7 +50,7 @@ pub cell_changed : (table : Inside) (t : Timer) (cell : Cell) → IsTable table 
 cell_changed table t cell h named start e =
     let within : place_of t < length table.cells = omega (arith, h.places, place_below t named) in
     let x : LinkedCell = record { cell = cell; next = next_of table.cells t } in
-    rw e (stands_for _ _ (length-set table.cells (place_of t) x ∙ h.places) (starts_set table.cells (place_of t) x start h.starts) (cells_of_set table.cells (place_of t) x)
+    rw e (stands_for _ _ (length-set table.cells (place_of t) x ∙ h.places) (starts_set table.cells (place_of t) x start h.starts) (cells_set table.cells t x named)
     (relinked_kept table.cells table.first t x within refl h.listed))
 
 -- a timer that isn't armed becomes the head
@@ -67,7 +61,7 @@ pub head_added : (table : Inside) (t : Timer) (cell : Cell) → IsTable table �
 head_added table t cell h named start e =
     let within : place_of t < length table.cells = omega (arith, h.places, place_below t named) in
     let x : LinkedCell = record { cell = cell; next = table.first } in
-    rw e (stands_for _ _ (length-set table.cells (place_of t) x ∙ h.places) (starts_set table.cells (place_of t) x start h.starts) (cells_of_set table.cells (place_of t) x)
+    rw e (stands_for _ _ (length-set table.cells (place_of t) x ∙ h.places) (starts_set table.cells (place_of t) x start h.starts) (cells_set table.cells t x named)
     (relinked_first table.cells table.first t x named within refl e h.listed))
 
 pub head_removed : (table : Inside) (timer other : Timer) → IsTable table → Passes table.cells table.first other → is_timer timer other ≡ true →
@@ -88,7 +82,7 @@ link_closed table timer before other h w next e =
     let within : place_of before < length table.cells = omega (arith, h.places, place_below before w.named) in
     let x : LinkedCell = record { cell = (get_or table.cells (place_of before) zero_linked).cell; next = next_of table.cells timer } in
     let start = All-get_or (λ linked_cell. linked_cell.cell.start ≤ 2 ^ 63) table.cells (place_of before) zero_linked within h.starts in
-    stands_for _ _ (length-set table.cells (place_of before) x ∙ h.places) (starts_set table.cells (place_of before) x start h.starts) (cells_of_kept table.cells (place_of before) x within refl)
+    stands_for _ _ (length-set table.cells (place_of before) x ∙ h.places) (starts_set table.cells (place_of before) x start h.starts) (cells_kept table.cells (place_of before) x refl)
     (relinked_without table.cells table.first timer before other x w next e within refl h.listed)
 
 -- the timer was not on the list

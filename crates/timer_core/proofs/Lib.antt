@@ -1,4 +1,5 @@
 pub mod ArmingLemmas
+pub mod Cells
 pub mod Changes
 pub mod LinkLemmas
 pub mod NameLemmas

@@ -9,9 +9,9 @@ use Rattle.std.proofs.lemmas.List.Elements.{All-replicate}
 use Rattle.std.proofs.lemmas.Map.Steps.{length-le_from_distinct_below}
 use Rattle.timer_core.specs.declared.timer.Timer.{Timer}
 use Rattle.timer_core.specs.declared.table.LinkedCell.{LinkedCell}
-use Rattle.timer_core.specs.Names.{IsNamed, is_timer, place_of}
-use Rattle.timer_core.specs.Links.{next_of, linked, listed_from, Names, AreApart, IsList, IsTable, timers_of, zero_linked}
-use Rattle.timer_core.specs.Timers.{no_timers}
+use Rattle.timer_core.specs.Code.Places.{place_of}
+use Rattle.timer_core.specs.Names.{IsNamed, is_timer}
+use Rattle.timer_core.specs.Code.Links.{next_of, linked, listed_from, Names, AreApart, IsList, IsTable, zero_linked}
 use Rattle.timer_core.proofs.NameLemmas.{place_below, places_differ}
 
 -- what the links name is what is read along them
@@ -198,7 +198,3 @@ table_at_boot =
       listed = record { ends = refl; apart = tt };
       starts = All-replicate (λ linked_cell. linked_cell.cell.start ≤ 2 ^ 63) 192 zero_linked (lit≤ tt);
     }
-
-pub timers_at_boot : timers_of (record { cells = replicate 192 zero_linked; first = None }) ≡ no_timers
-unfolding listed_from
-timers_at_boot = refl

@@ -1,9 +1,11 @@
 -- Names of timers and their places.
 use Rattle.std.proofs.Common.{◌≡◌, ℕ, ◌<◌, true, false, refl, ap, arith, ◌==◌}
+use Rattle.std.proofs.lemmas.Bool.Decides.{nat_tests}
 use Rattle.std.proofs.lemmas.Bool.{and_parts, and_from, eqb-true, eq-eqb, false_from_ne_true}
 use Rattle.mote_types.specs.declared.event.Pid.{Pid}
 use Rattle.timer_core.specs.declared.timer.Timer.{Timer}
-use Rattle.timer_core.specs.Names.{IsNamed, is_timer, place_of}
+use Rattle.timer_core.specs.Code.Places.{is_named, place_of}
+use Rattle.timer_core.specs.Names.{IsNamed, is_timer}
 
 same_pid : (p q : Pid) → p.0 ≡ q.0 → p ≡ q
 same_pid p q e = ap (λ (n : ℕ). let pid : Pid = record { 0 = n } in pid) e
@@ -43,3 +45,11 @@ same_place (Timer.Callback p n) (Timer.Event q m) h k e = absurd (omega arith)
 
 pub places_differ : (t u : Timer) → IsNamed t → IsNamed u → is_timer t u ≡ false → place_of t ≡ place_of u → ⊥
 places_differ t u h k e same = let here = same_place t u h k same in (cc)
+
+pub is_named_from : (t : Timer) → IsNamed t → is_named t ≡ true
+is_named_from (Timer.Event p n) h = grind (arith, nat_tests, h.0, h.1, h.2)
+is_named_from (Timer.Callback p n) h = grind (arith, nat_tests, h.0, h.1, h.2)
+
+pub named_from_test : (t : Timer) → is_named t ≡ true → IsNamed t
+named_from_test (Timer.Event p n) e = (grind (arith, nat_tests, e), grind (arith, nat_tests, e), grind (arith, nat_tests, e))
+named_from_test (Timer.Callback p n) e = (grind (arith, nat_tests, e), grind (arith, nat_tests, e), grind (arith, nat_tests, e))

@@ -6,8 +6,9 @@ use Rattle.std.proofs.lemmas.Bool.{or_parts}
 use Rattle.std.proofs.lemmas.List.Folds.{list_any-append}
 use Rattle.timer_core.specs.declared.timer.Timer.{Timer}
 use Rattle.timer_core.specs.declared.table.LinkedCell.{LinkedCell}
-use Rattle.timer_core.specs.Names.{IsNamed, is_timer, place_of}
-use Rattle.timer_core.specs.Links.{next_of, listed_from, Names, AreApart, IsList}
+use Rattle.timer_core.specs.Code.Places.{place_of}
+use Rattle.timer_core.specs.Names.{IsNamed, is_timer}
+use Rattle.timer_core.specs.Code.Links.{next_of, listed_from, Names, AreApart, IsList}
 use Rattle.timer_core.proofs.NameLemmas.{same_timer, is_timer_itself, is_timer_flips}
 use Rattle.timer_core.proofs.LinkLemmas.{Passes, passes, Relinked, relinked, names_other, next_of_other, next_of_same, length-listed, listed_from_none}
 

@@ -1,5 +1,6 @@
 -- The names of the timers.
-use Rattle.std.specs.Prelude.{ℕ, ◌+◌, ◌-◌, ◌*◌, ◌<◌, ◌≤◌, Bool, false, ◌&&◌, ◌==◌}
+use Rattle.std.specs.Prelude.{ℕ, ◌<◌, ◌≤◌, Bool, false, ◌&&◌, ◌==◌, List, ◌++◌, map, flat_map}
+use Rattle.std.specs.List.{range_with_len}
 use Rattle.timer_core.specs.declared.timer.Timer.{Timer}
 
 -- applications are the processes 4 to 19; each has timers 0 to 7 and callback timers 0 to 3
@@ -14,6 +15,10 @@ event_timer p t = Timer.Event (record { 0 = p }) t
 abbrev pub callback_timer : ℕ → ℕ → Timer
 callback_timer p c = Timer.Callback (record { 0 = p }) c
 
+-- every timer of the sixteen applications
+unfoldable pub all_timers : List Timer
+all_timers = flat_map (λ p. map (event_timer p) (range_with_len 0 8) ++ map (callback_timer p) (range_with_len 0 4)) (range_with_len 4 16)
+
 abbrev pub is_timer : Timer → Timer → Bool
 is_timer (Timer.Event p t) (Timer.Event q u) = p.0 == q.0 && t == u
 is_timer (Timer.Callback p c) (Timer.Callback q d) = p.0 == q.0 && c == d
@@ -27,8 +32,3 @@ is_event_timer_of p (Timer.Callback q c) = false
 abbrev pub is_callback_timer_of : ℕ → Timer → Bool
 is_callback_timer_of p (Timer.Event q t) = false
 is_callback_timer_of p (Timer.Callback q c) = p == q.0
-
--- the place of a timer's cell: 12 places for each application, the event timers' first
-abbrev pub place_of : Timer → ℕ
-place_of (Timer.Event p t) = 12 * (p.0 - 4) + t
-place_of (Timer.Callback p c) = 12 * (p.0 - 4) + 8 + c

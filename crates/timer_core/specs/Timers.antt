@@ -1,13 +1,19 @@
 -- Event timers and callback timers: their cells, and one list of those that are armed.
-use Rattle.std.specs.Prelude.{ℕ, ◌+◌, ◌*◌, ◌^◌, Bool, not, List, [], ◌∷◌, filter, find, replicate, Option, Some, None, if◌then◌else◌, nat_le, slice_index_or, slice_set}
+use Rattle.std.specs.Prelude.{ℕ, ◌+◌, ◌*◌, ◌^◌, Bool, not, List, [], ◌∷◌, filter, find, map, Option, Some, None, if◌then◌else◌, nat_le}
 use Rattle.std.specs.List.{list_any}
+use Rattle.std.specs.Option.{option_map_or}
 use Rattle.timer_core.specs.declared.timer.Timer.{Timer}
 use Rattle.timer_core.specs.declared.timer.Cell.{Cell}
-use Rattle.timer_core.specs.Names.{is_timer, is_event_timer_of, is_callback_timer_of, place_of}
+use Rattle.timer_core.specs.Names.{all_timers, is_timer, is_event_timer_of, is_callback_timer_of}
+
+-- a timer and its cell
+pub record NamedCell : Type 0 where
+  pub timer : Timer
+  pub cell : Cell
 
 pub record Timers : Type 0 where
-  -- the cells of all timers, in the order of their places
-  pub cells : List Cell
+  -- the cell of each timer
+  pub cells : List NamedCell
   -- the timer list, the head first
   pub armed : List Timer
 
@@ -15,10 +21,20 @@ abbrev pub zero_cell : Cell
 zero_cell = record { start = 0; interval = 0 }
 
 abbrev pub no_timers : Timers
-no_timers = record { cells = replicate 192 zero_cell; armed = [] }
+no_timers = record { cells = map (λ timer. record { timer = timer; cell = zero_cell }) all_timers; armed = [] }
+
+abbrev pub cell_under : Timer → List NamedCell → Cell
+cell_under timer cells = option_map_or (λ named. named.cell) (find (λ named. is_timer timer named.timer) cells) zero_cell
 
 abbrev pub cell_of : Timer → Timers → Cell
-cell_of timer timers = slice_index_or timers.cells (place_of timer) zero_cell
+cell_of timer timers = cell_under timer timers.cells
+
+abbrev pub given_cell : Timer → Cell → NamedCell → NamedCell
+given_cell timer cell named = if is_timer timer named.timer then record named { cell = cell } else named
+
+-- the timer has this cell, and each other one keeps its own
+abbrev pub with_cell : Timer → Cell → List NamedCell → List NamedCell
+with_cell timer cell cells = map (given_cell timer cell) cells
 
 abbrev pub is_armed : Timer → Timers → Bool
 is_armed timer timers = list_any (is_timer timer) timers.armed
@@ -27,7 +43,7 @@ is_armed timer timers = list_any (is_timer timer) timers.armed
 abbrev pub armed_with : Timer → Cell → Timers → Timers
 armed_with timer cell timers =
     record {
-      cells = slice_set timers.cells (place_of timer) cell;
+      cells = with_cell timer cell timers.cells;
       armed = if is_armed timer timers then timers.armed else timer ∷ timers.armed;
     }
 

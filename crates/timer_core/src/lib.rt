@@ -6,7 +6,5 @@
 pub mod due;
 mod numbers;
 mod table;
-#[cfg(test)]
-mod tests;
 pub mod timer;
 pub mod timers;

@@ -39,7 +39,7 @@ impl Model for TimerTable {
 
     ghost Value = { Timers };
 
-    ghost use Rattle.timer_core.specs.Links.{timers_of, IsTable};
+    ghost use Rattle.timer_core.specs.Code.Links.{timers_of, IsTable};
 
     ghost view = { timers_of };
 

@@ -1,7 +1,8 @@
 //! The names of the timers, and what is kept of each.
 
 ghost use Rattle.std.specs.Prelude.{◌≡◌, ◌<◌};
-ghost use Rattle.timer_core.specs.Names.{IsNamed, is_timer, place_of};
+ghost use Rattle.timer_core.specs.Code.Places.{place_of};
+ghost use Rattle.timer_core.specs.Names.{IsNamed, is_timer};
 
 use mote_types::event::Pid;
 

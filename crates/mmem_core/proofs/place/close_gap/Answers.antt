@@ -1,6 +1,6 @@
 use Rattle.std.proofs.Common.{◌≡◌, ◌<◌, length, None, arith, add-one, get_or}
 use Rattle.std.proofs.lemmas.List.Sums.{sum_by_more, sum_by_more_le_part}
-use Rattle.mmem_core.specs.Places.{lowered_place, room_of, room_behind_gap}
+use Rattle.mmem_core.specs.Code.Packing.{lowered_place, room_of, room_behind_gap}
 use Rattle.mmem_core.proofs.PlaceLemmas.{get_or-map_front, set-map_front, room_behind_gap_le}
 use Rattle.mmem_core.proofs.place.close_gap.Goals as goal
 

@@ -1,5 +1,5 @@
 use Rattle.std.proofs.Common.{◌≡◌, ◌++◌, map, take, drop, sum_by}
-use Rattle.mmem_core.specs.Places.{lowered_place, room_behind_gap}
+use Rattle.mmem_core.specs.Code.Packing.{lowered_place, room_behind_gap}
 use Rattle.mmem_core.proofs.place.close_gap.Given as goal
 
 abbrev pub invariant-loop-place : goal.invariant-loop-place

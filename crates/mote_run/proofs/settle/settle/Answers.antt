@@ -1,4 +1,4 @@
-use Rattle.std.proofs.Common.{rules, ◌∙◌, refl, sym, ap, ◌++◌, take}
+use Rattle.std.proofs.Common.{rules, refl, sym}
 use Rattle.std.proofs.lemmas.List.{append-nil}
 use Rattle.kernel_core.specs.declared.step.Step.{Step}
 use Rattle.mote_run.proofs.Pieces.{on_err}
@@ -7,7 +7,7 @@ use Rattle.mote_run.proofs.settle.settle.Goals as goal
 
 pub entry-init : goal.entry-init
 entry-init g c = record {
-  settled = λ named boot_says before told. nothing_settled boot_says _ before _ _ told;
+  settled = λ named boot_says before told. nothing_settled boot_says _ _ before _ _ told;
   applications = refl;
   clock = refl;
   inputs = refl;
@@ -17,10 +17,9 @@ entry-init g c = record {
 pub entry-preserved : goal.entry-preserved
 entry-preserved g c = record {
   settled = λ named boot_says before told.
-      settled_more boot_says _ _ before _ _ _ _ _ _ (Step.Entry c.in-Entry.entry) (c.entry.invariant.settled named boot_says before told)
+      settled_more boot_says _ _ _ before _ _ _ _ _ _ (Step.Entry c.in-Entry.entry) (c.entry.invariant.settled named boot_says before told)
       c.in-Entry.ensures.machine c.in-Entry.ensures.law c.in-Entry.ensures.halted
-      (c.in_ok-write_all-in-Entry.ensures.given named
-      ∙ ap (λ v. g.K.ByteSink.given c.entry.sink ++ v) (c.as_slice.ensures.value ∙ (c.entry_text.ensures ∙ sym (append-nil _))));
+      (c.in_ok-write_entry-in-Entry.ensures.given named);
   applications = search rules;
   clock = search rules;
   inputs = search rules;
@@ -29,17 +28,16 @@ entry-preserved g c = record {
 
 pub returns-in-Rest-clause-settled : goal.returns-in-Rest-clause-settled
 returns-in-Rest-clause-settled g c = λ named boot_says before told.
-    settled_more boot_says _ _ before _ _ _ _ _ _ Step.Rest (c.entry.invariant.settled named boot_says before told)
+    settled_more boot_says _ _ _ before _ _ _ _ _ _ Step.Rest (c.entry.invariant.settled named boot_says before told)
     c.in-Rest.ensures.machine c.in-Rest.ensures.law c.in-Rest.ensures.halted (sym (append-nil _))
 
 pub returns-in-Halted-clause-settled : goal.returns-in-Halted-clause-settled
 returns-in-Halted-clause-settled g c = λ named boot_says before told.
-    settled_more boot_says _ _ before _ _ _ _ _ _ Step.Halted (c.entry.invariant.settled named boot_says before told)
+    settled_more boot_says _ _ _ before _ _ _ _ _ _ Step.Halted (c.entry.invariant.settled named boot_says before told)
     c.in-Halted.ensures.machine c.in-Halted.ensures.law c.in-Halted.ensures.halted (sym (append-nil _))
 
-pub returns-in_err-write_all-in-Entry-clause-cut_off : goal.returns-in_err-write_all-in-Entry-clause-cut_off
-returns-in_err-write_all-in-Entry-clause-cut_off g c = on_err c.from_residual.result (λ named boot_says before told.
-    let f = c.in_err-write_all-in-Entry.ensures.front_given named in
-    let line = c.as_slice.ensures.value ∙ c.entry_text.ensures in
-    cut_off_at boot_says _ before _ _ c.step.new.self.machine _ _ _ c.in-Entry.entry f.0 (c.entry.invariant.settled named boot_says before told)
-    c.in-Entry.ensures.machine (f.1 ∙ ap (λ v. g.K.ByteSink.given c.entry.sink ++ take f.0 v) line))
+pub returns-in_err-write_entry-in-Entry-clause-cut_off : goal.returns-in_err-write_entry-in-Entry-clause-cut_off
+returns-in_err-write_entry-in-Entry-clause-cut_off g c = on_err c.from_residual.result (λ named boot_says before told.
+    let f = c.in_err-write_entry-in-Entry.ensures.front_given named in
+    cut_off_at boot_says _ _ before _ _ c.step.new.self.machine _ _ _ c.in-Entry.entry f.0 (c.entry.invariant.settled named boot_says before told)
+    c.in-Entry.ensures.machine f.1)

@@ -1,14 +1,14 @@
 use Rattle.std.proofs.Common.{◌≡◌, List}
 use Rattle.mote_types.specs.declared.entry.Entry.{Entry}
 use Rattle.mote_types.specs.Applications.{Applications, says_of}
-use Rattle.mote_run.specs.Settling.{IsTold, Settled}
+use Rattle.mote_run.specs.Code.Settling.{IsTold, Settled}
 use Rattle.mote_run.proofs.settle.settle.Given as goal
 
 abbrev pub invariant-entry : goal.invariant-entry
 invariant-entry g l = record {
   settled : g.K.ByteSink.is_named → (boot_says : Applications) (before : List Entry) →
       IsTold boot_says before (says_of (λ b. (goal.App-dyn g (b.vtable, b.value)).says b.value) l.fn.apps) →
-      Settled boot_says before l.fn.kernel.machine l.kernel.machine
+      Settled boot_says l.quiet before l.fn.kernel.machine l.kernel.machine
       (says_of (λ b. (goal.App-dyn g (b.vtable, b.value)).says b.value) l.apps)
       (g.K.ByteSink.given l.fn.sink) (g.K.ByteSink.given l.sink);
   applications : l.kernel.machine.scheduler.applications ≡ l.fn.kernel.machine.scheduler.applications;

@@ -8,7 +8,7 @@ use types.Mut.{close_ref}
 use denote.Lend.{Held, lends_slice, slice_back}
 use denote.Slice.{mut_slice_vals}
 use Rattle.arena_core.specs.Written.{written}
-use Rattle.arena_core.specs.Lending.{with_bytes}
+use Rattle.arena_core.specs.Code.Lending.{with_bytes}
 use Rattle.arena_core.proofs.Blocks.{bytes_out, made}
 use Rattle.arena_core.proofs.block.Block.TheLaws.{lowers}
 use Rattle.arena_core.specs.contracts.block.slide_bytes as g

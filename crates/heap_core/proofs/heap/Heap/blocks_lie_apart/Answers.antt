@@ -1,9 +1,13 @@
 use Rattle.std.proofs.Common.{arith}
-use Rattle.heap_core.specs.HeapBytes.{chunks_of}
+use Rattle.heap_core.specs.Code.Layout.{chunks_of}
 use Rattle.heap_core.proofs.Gaps.{in_order}
+use Rattle.heap_core.proofs.Separation.{blocks_lie_apart}
 use Rattle.heap_core.proofs.heap.Heap.blocks_lie_apart.Goals as goal
 
-pub returns : goal.returns
-returns c =
+pub returns-clause-order : goal.returns-clause-order
+returns-clause-order c =
     let heap = c.args.self.now in let B = c.args.arena.now.bytes in
-    in_order B heap.span.at heap.span.len 0 0 heap.footprint (chunks_of heap B) c.requires.chunks.within (omega arith) (omega arith) c.requires.chunks.told
+    in_order B heap.span.at heap.span.len 0 0 heap.footprint (chunks_of heap B) c.requires.chunks.within (omega (arith, heap.inside)) (omega arith) c.requires.chunks.told
+
+pub returns-clause-apart : goal.returns-clause-apart
+returns-clause-apart c = blocks_lie_apart c.args.self.now c.args.arena.now.bytes c.requires

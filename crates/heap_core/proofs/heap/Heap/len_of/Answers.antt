@@ -1,39 +1,44 @@
-use Rattle.std.proofs.Common.{◌≡◌, ℕ, ◌+◌, List, Some, None, length, slice_range, sym, ap, ◌∙◌, refl}
+use Rattle.std.proofs.Common.{◌≡◌, ℕ, List, Some, None, length, sym, ap, ◌∙◌, subst, refl}
 use Rattle.std.specs.Prelude.{Option, find}
 use Rattle.std.specs.Option.{option_map}
+use Rattle.mote_types.specs.BlockNames.{number_of}
 use Rattle.heap_core.specs.declared.chunk.Chunk.{Chunk}
-use Rattle.heap_core.specs.HeapStore.{Block, has_name, name_of}
-use Rattle.heap_core.specs.HeapBytes.{chunks_of}
-use Rattle.heap_core.proofs.Names.{block_from, find_is, owned}
-use Rattle.heap_core.proofs.Standing.{around}
-use Rattle.heap_core.specs.Chunks.{blocks_in}
-use Rattle.heap_core.specs.Walks.{owned_by}
+use Rattle.heap_core.specs.declared.region.Region.{Region}
+use Rattle.heap_core.specs.HeapStore.{Block, has_name, length_of}
+use Rattle.heap_core.specs.HeapBytes.{heap_of, IsLaidOut}
+use Rattle.heap_core.specs.Code.Chunks.{blocks_in}
+use Rattle.heap_core.specs.Code.Layout.{chunks_of}
+use Rattle.heap_core.specs.Code.Walks.{block_in_chunk, bytes_in_chunk}
 use Rattle.heap_core.proofs.Bodies.{block_bytes}
+use Rattle.heap_core.proofs.Names.{find_is, owned}
 use Rattle.heap_core.proofs.heap.Heap.len_of.Goals as goal
 
-abbrev len_in : Option Block → Option ℕ
-len_in o = option_map length (option_map (λ (block : Block). block.bytes) o)
+abbrev length_in : List ℕ → ℕ → Option Chunk → Option ℕ
+length_in B b o = option_map (λ c. length (bytes_in_chunk B b c)) o
 
-len_is : (B : List ℕ) (b name number : ℕ) (l : List Chunk) (o : Option Chunk) → name ≡ number → o ≡ find (owned_by name) l
-    → option_map (λ c. length (slice_range B (b + c.at + 16) (b + c.at + 16 + c.size))) o ≡ len_in (find (has_name number) (blocks_in B b l))
-len_is B b name number l o e f =
-    len_from o
-    ∙ ap len_in (ap (option_map (block_from B b name)) f ∙ sym (find_is B b name l) ∙ ap (λ k. find (has_name k) (blocks_in B b l)) e)
+length_is : (heap : Region) (B : List ℕ) (name p h : ℕ) (o : Option Chunk) → name ≡ number_of p h → option_map (block_in_chunk B heap.span.at name) o ≡ find (has_name name) (blocks_in B heap.span.at (chunks_of heap B)) → length_in B heap.span.at o ≡ length_of p h (heap_of heap B)
+length_is heap B name p h o same found =
+    length_from o
+    ∙ ap (λ k. option_map length (option_map (λ (block : Block). block.bytes) k)) found
+    ∙ ap (λ k. option_map length (option_map (λ (block : Block). block.bytes) (find (has_name k) (heap_of heap B).blocks))) same
   where
-    len_from : (o : Option Chunk) → option_map (λ c. length (slice_range B (b + c.at + 16) (b + c.at + 16 + c.size))) o ≡ len_in (option_map (block_from B b name) o)
-    len_from None = refl
-    len_from (Some c) = refl
+    length_from : (o : Option Chunk) → length_in B heap.span.at o ≡ option_map length (option_map (λ (block : Block). block.bytes) (option_map (block_in_chunk B heap.span.at name) o))
+    length_from None = refl
+    length_from (Some c) = refl
 
 pub returns-in_err-chunk : goal.returns-in_err-chunk
 returns-in_err-chunk c =
-    let heap = c.args.self.now in let B = c.args.arena.now.bytes in
-    c.from_residual.ensures
-    ∙ len_is B heap.span.at c.number_of.result (name_of c.args.key.0.0 c.args.key.1) (chunks_of heap B) None c.number_of.ensures.number c.in_err-chunk.ensures
+    let heap = c.self.inside.region in let B = c.args.arena.now.bytes in let name = c.number_of.result in
+    subst (λ (r : Region). c.from_residual.result ≡ length_of c.args.key.0.0 c.args.key.1 (heap_of r B)) c.self.view_is
+    (c.from_residual.ensures
+    ∙ length_is heap B name c.args.key.0.0 c.args.key.1 None c.number_of.ensures.number
+    (ap (option_map (block_in_chunk B heap.span.at name)) c.in_err-chunk.ensures ∙ sym (find_is B heap.span.at name (chunks_of heap B))))
 
 pub returns : goal.returns
 returns c =
-    let heap = c.args.self.now in let B = c.args.arena.now.bytes in let chunk = c.in_ok-chunk.chunk in
-    let o = owned c.number_of.result chunk (chunks_of heap B) (sym c.in_ok-chunk.ensures) in
-    let a = around heap B chunk c.requires.laid_out.chunks o.stands in
-    ap Some (sym (block_bytes heap B c.requires.laid_out chunk a c.number_of.result o.owner))
-    ∙ len_is B heap.span.at c.number_of.result (name_of c.args.key.0.0 c.args.key.1) (chunks_of heap B) (Some chunk) c.number_of.ensures.number c.in_ok-chunk.ensures
+    let heap = c.self.inside.region in let B = c.args.arena.now.bytes in let name = c.number_of.result in let chunk = c.in_ok-chunk.chunk in
+    let laid : IsLaidOut heap B = subst (λ (r : Region). IsLaidOut r B) (sym c.self.view_is) c.requires.laid_out in
+    subst (λ (r : Region). Some chunk.size ≡ length_of c.args.key.0.0 c.args.key.1 (heap_of r B)) c.self.view_is
+    (ap Some (sym (block_bytes heap B laid chunk name (owned name chunk (chunks_of heap B) (sym c.in_ok-chunk.ensures))))
+    ∙ length_is heap B name c.args.key.0.0 c.args.key.1 (Some chunk) c.number_of.ensures.number
+    (ap (option_map (block_in_chunk B heap.span.at name)) c.in_ok-chunk.ensures ∙ sym (find_is B heap.span.at name (chunks_of heap B))))

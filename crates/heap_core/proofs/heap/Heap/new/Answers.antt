@@ -1,5 +1,5 @@
 use Rattle.std.proofs.Common.{refl, arith}
-use Rattle.heap_core.specs.HeapBytes.{chunks_of}
+use Rattle.heap_core.specs.Code.Layout.{chunks_of}
 use Rattle.heap_core.proofs.heap.Heap.new.Goals as goal
 
 pub returns-clause-laid_out : goal.returns-clause-laid_out

@@ -1,12 +1,13 @@
 use Rattle.std.proofs.Common.{sym, ap, ◌∙◌}
+use Rattle.memb_core.specs.PoolTable.{ListHeads}
 use Rattle.memb_core.specs.Links.{start_of}
 use Rattle.memb_core.proofs.Chains.{head_named}
 use Rattle.memb_core.proofs.lists.Lists.head.Goals as goal
 
 pub returns-in-First-clause-head : goal.returns-in-First-clause-head
 returns-in-First-clause-head c pool bytes linked =
-    sym (ap (λ name. start_of name c.args.self.now) c.in-First.is) ∙ head_named _ _ _ (linked.each c.args.name).ends
+    ap (λ (heads : ListHeads). heads.first) c.self.view_is ∙ sym (ap (λ name. start_of name c.args.self.now) c.in-First.is) ∙ head_named _ _ _ (linked.each c.args.name).ends
 
 pub returns-in-Second-clause-head : goal.returns-in-Second-clause-head
 returns-in-Second-clause-head c pool bytes linked =
-    sym (ap (λ name. start_of name c.args.self.now) c.in-Second.is) ∙ head_named _ _ _ (linked.each c.args.name).ends
+    ap (λ (heads : ListHeads). heads.second) c.self.view_is ∙ sym (ap (λ name. start_of name c.args.self.now) c.in-Second.is) ∙ head_named _ _ _ (linked.each c.args.name).ends

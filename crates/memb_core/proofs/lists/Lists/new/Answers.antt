@@ -9,7 +9,7 @@ no_start ListName.First = refl
 no_start ListName.Second = refl
 
 pub returns-clause-linked : goal.returns-clause-linked
-returns-clause-linked c pool bytes within = empty_linked _ pool bytes no_start within
+returns-clause-linked c pool bytes few within = empty_linked _ pool bytes no_start few within
 
 pub returns-clause-empty : goal.returns-clause-empty
 returns-clause-empty c pool bytes name = none_listed name _ pool bytes (no_start name)

@@ -15,7 +15,7 @@ link-next-requires-clause-number c =
 
 pub put_link-requires-clause-block : goal.put_link-requires-clause-block
 put_link-requires-clause-block c =
-    used_below c.args.pool.now.used.items c.args.b (sym (live_is c.args.b c.args.pool.now c.args.arena.now.bytes) ∙ c.requires.live)
+    used_below c.args.pool.now.used c.args.b (sym (live_is c.args.b c.args.pool.now c.args.arena.now.bytes) ∙ c.requires.live)
 
 -- what the two writes make of the list
 changes : (c : After-put_link-2) → Changes c.args.name c.args.pool.now c.args.self.now c.args.self.now c.args.arena.now.bytes c.put_link-2.new.arena.bytes

@@ -9,7 +9,7 @@ use Rattle.memb_core.proofs.lists.Lists.put_in_front.Goals.{After-put_head}
 
 pub put_link-requires-clause-block : goal.put_link-requires-clause-block
 put_link-requires-clause-block c =
-    used_below c.args.pool.now.used.items c.args.b (sym (live_is c.args.b c.args.pool.now c.args.arena.now.bytes) ∙ c.requires.live)
+    used_below c.args.pool.now.used c.args.b (sym (live_is c.args.b c.args.pool.now c.args.arena.now.bytes) ∙ c.requires.live)
 
 -- what the write makes of the list
 changes : (c : After-put_head) → Changes c.args.name c.args.pool.now c.args.self.now c.put_head.new.self c.args.arena.now.bytes c.put_link.new.arena.bytes

@@ -47,7 +47,7 @@ put_link-requires-clause-block c =
     let list = list_of c.args.name c.args.self.now c.args.pool.now c.args.arena.now.bytes in
     let here = found c.args.b c.in-Some.place c.deref.result.now list (c.deref.ensures.0 ∙ c.numbers-numbers.ensures) c.in-Some.ensures in
     let below : c.in-Some.place - 1 < length list = omega (arith, here.within) in
-    subst (λ l. get_or l (c.in-Some.place - 1) 0 < length c.args.pool.now.used.items) (sym (c.deref-else-place-eq0.ensures.0 ∙ c.numbers-numbers.ensures))
+    subst (λ l. get_or l (c.in-Some.place - 1) 0 < length c.args.pool.now.used) (sym (c.deref-else-place-eq0.ensures.0 ∙ c.numbers-numbers.ensures))
     (listed_below c.args.name c.args.self.now c.args.pool.now c.args.arena.now.bytes (get_or list (c.in-Some.place - 1) 0) c.requires (has_at (c.in-Some.place - 1) list below))
 
 -- the head is taken out

@@ -17,5 +17,5 @@ returns c =
     c.bytes.ensures
     ∙ ap (λ at. slice_range bytes at (at + c.usable_span.result.len)) c.usable_span.ensures.at
     ∙ ap (λ len. slice_range bytes (pool.span.at + (place_of pool b + 4)) (pool.span.at + (place_of pool b + 4) + len)) c.usable_span.ensures.len
-    ∙ sym (bytes_read pool bytes c.requires.within b below) in
+    ∙ sym (bytes_read pool c.usable_span.ensures.fills bytes c.requires.within b below) in
     block_is pool bytes c.requires.within b used ∙ ap Some (sym read)

@@ -2,7 +2,8 @@ use Rattle.std.proofs.Common.{◌≡◌, ◌+◌, ◌-◌, ◌≤◌, ◌<◌, �
 use Rattle.std.proofs.lemmas.List.{length-replicate}
 use Rattle.mote_types.specs.Bytes.{zeros}
 use Rattle.arena_core.specs.Contents.{Contents}
-use Rattle.mmem_core.specs.ManagedStore.{name_of, block_of, free, allocated}
+use Rattle.mote_types.specs.BlockNames.{number_of}
+use Rattle.mmem_core.specs.ManagedStore.{block_of, free, allocated}
 use Rattle.mmem_core.specs.Places.{place_in, bytes_moved}
 use Rattle.mmem_core.specs.Table.{Table, store_of, IsWithin, KeepsToSpan}
 use Rattle.mmem_core.proofs.PlaceLemmas.{IsPacked-added, bytes_moved-added, bytes_moved-same}
@@ -25,7 +26,7 @@ pub invariant_of-self : goal.invariant_of-self
 invariant_of-self c =
     let m = c.self.inside in let bytes = c.args.arena.now.bytes in let number = c.number_of.result in
     let here = subst (λ (t : Table). IsWithin t bytes) (sym c.self.view_is) c.requires.within in
-    let unused = unused_place m.span m.places m.slid m.used c.self.invariant.0 c.self.invariant.1 bytes here (name_of c.args.key.0.0 c.args.key.1)
+    let unused = unused_place m.span m.places m.slid m.used c.self.invariant.0 c.self.invariant.1 bytes here (number_of c.args.key.0.0 c.args.key.1)
     (subst (λ (t : Table). block_of c.args.key.0.0 c.args.key.1 (store_of t bytes) ≡ None) (sym c.self.view_is) c.requires.unused) in
     let unused' : place_in m.places number ≡ None = ap (place_in m.places) c.number_of.ensures.number ∙ unused in
     let below : number < length m.places = omega (arith, c.number_of.ensures.within) in
@@ -64,7 +65,7 @@ returns-clause-slid c =
     let m = c.self.inside in let bytes = c.args.arena.now.bytes in let number = c.number_of.result in
     let here = subst (λ (t : Table). IsWithin t bytes) (sym c.self.view_is) c.requires.within in
     let fresh : Option _ = Some (record { at = m.used; len = c.args.n }) in
-    let unused = unused_place m.span m.places m.slid m.used c.self.invariant.0 c.self.invariant.1 bytes here (name_of c.args.key.0.0 c.args.key.1)
+    let unused = unused_place m.span m.places m.slid m.used c.self.invariant.0 c.self.invariant.1 bytes here (number_of c.args.key.0.0 c.args.key.1)
     (subst (λ (t : Table). block_of c.args.key.0.0 c.args.key.1 (store_of t bytes) ≡ None) (sym c.self.view_is) c.requires.unused) in
     let unused' : place_in m.places number ≡ None = ap (place_in m.places) c.number_of.ensures.number ∙ unused in
     subst (λ (t : Table). m.slid ≡ min (t.slid + bytes_moved t.places (slice_set m.places number fresh)) (2 ^ 64 - 1)) c.self.view_is

@@ -1,5 +1,6 @@
 use Rattle.std.proofs.Common.{◌≡◌, Some, sym, ap, subst, ◌∙◌}
-use Rattle.mmem_core.specs.ManagedStore.{name_of, block_of}
+use Rattle.mote_types.specs.BlockNames.{number_of}
+use Rattle.mmem_core.specs.ManagedStore.{block_of}
 use Rattle.mmem_core.specs.Places.{place_in}
 use Rattle.mmem_core.specs.Table.{Table, store_of, IsWithin}
 use Rattle.mmem_core.proofs.TableLemmas.{block_is}
@@ -7,7 +8,7 @@ use Rattle.mmem_core.proofs.mmem.Mmem.bytes.Goals as goal
 
 pub returns : goal.returns
 returns c =
-    let m = c.self.inside in let bytes = c.args.arena.now.bytes in let i = name_of c.args.key.0.0 c.args.key.1 in
+    let m = c.self.inside in let bytes = c.args.arena.now.bytes in let i = number_of c.args.key.0.0 c.args.key.1 in
     let here = subst (λ (t : Table). IsWithin t bytes) (sym c.self.view_is) c.requires.within in
     let live : place_in m.places i ≡ Some c.unwrap-place.result = cc (c.unwrap-place.ensures, c.number_of.ensures.number) in
     subst (λ (t : Table). block_of c.args.key.0.0 c.args.key.1 (store_of t bytes) ≡ Some c.bytes.result.now) c.self.view_is

@@ -1,7 +1,8 @@
 use Rattle.std.proofs.Common.{◌≡◌, ℕ, ◌+◌, ◌≤◌, List, length, slice_range, Option, Some, IsSomeAnd, refl, sym, ap, subst, ◌∙◌, arith, add-zero}
 use Rattle.arena_core.specs.Contents.{Contents}
 use Rattle.arena_core.specs.Written.{written}
-use Rattle.mmem_core.specs.ManagedStore.{name_of, block_of, with_bytes, copied}
+use Rattle.mote_types.specs.BlockNames.{number_of}
+use Rattle.mmem_core.specs.ManagedStore.{block_of, with_bytes, copied}
 use Rattle.mmem_core.specs.Places.{place_in}
 use Rattle.mmem_core.specs.Table.{Table, store_of, IsWithin, KeepsToSpan}
 use Rattle.mmem_core.proofs.TableLemmas.{block_is, block_read, bytes_are, place_length, place_inside, rewritten, kept}
@@ -11,7 +12,7 @@ use Rattle.mmem_core.proofs.mmem.Mmem.copy.Goals as goal
 pub returns-then-source-target-clause-block : goal.returns-then-source-target-clause-block
 returns-then-source-target-clause-block c =
     let m = c.self.inside in let bytes = c.args.arena.now.bytes in let from = c.unwrap-from.result in let to = c.unwrap-to.result in
-    let i = name_of c.args.source.0.0 c.args.source.1 in let j = name_of c.args.target.0.0 c.args.target.1 in
+    let i = number_of c.args.source.0.0 c.args.source.1 in let j = number_of c.args.target.0.0 c.args.target.1 in
     let here = subst (λ (t : Table). IsWithin t bytes) (sym c.self.view_is) c.requires.within in
     let live : place_in m.places i ≡ Some from = cc (c.unwrap-from.ensures, c.number_of-source.ensures.number) in
     let live' : place_in m.places j ≡ Some to = cc (c.unwrap-to.ensures, c.number_of-target.ensures.number) in
@@ -37,7 +38,7 @@ returns-then-source-target-clause-block c =
 pub returns-then-source-target-clause-rest : goal.returns-then-source-target-clause-rest
 returns-then-source-target-clause-rest c =
     let m = c.self.inside in let bytes = c.args.arena.now.bytes in let from = c.unwrap-from.result in let to = c.unwrap-to.result in
-    let i = name_of c.args.source.0.0 c.args.source.1 in let j = name_of c.args.target.0.0 c.args.target.1 in
+    let i = number_of c.args.source.0.0 c.args.source.1 in let j = number_of c.args.target.0.0 c.args.target.1 in
     let here = subst (λ (t : Table). IsWithin t bytes) (sym c.self.view_is) c.requires.within in
     let live : place_in m.places i ≡ Some from = cc (c.unwrap-from.ensures, c.number_of-source.ensures.number) in
     let live' : place_in m.places j ≡ Some to = cc (c.unwrap-to.ensures, c.number_of-target.ensures.number) in

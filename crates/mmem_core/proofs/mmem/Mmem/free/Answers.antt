@@ -3,7 +3,8 @@ use Rattle.mote_types.specs.Rounding.{up4}
 use Rattle.arena_core.specs.Contents.{Contents, contents}
 use Rattle.arena_core.specs.Written.{written}
 use Rattle.mmem_core.specs.ManagedStore.{freed}
-use Rattle.mmem_core.specs.Places.{lowered_place, bytes_moved}
+use Rattle.mmem_core.specs.Places.{bytes_moved}
+use Rattle.mmem_core.specs.Code.Packing.{lowered_place}
 use Rattle.mmem_core.specs.Table.{Table, store_of, IsWithin, KeepsToSpan}
 use Rattle.mmem_core.proofs.PlaceLemmas.{IsPacked-closed, behind_gap, bytes_moved-closed, some_size}
 use Rattle.mmem_core.proofs.TableLemmas.{closed, kept, place_inside, with_slot, length-part}

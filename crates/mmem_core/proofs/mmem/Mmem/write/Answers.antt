@@ -1,7 +1,8 @@
 use Rattle.std.proofs.Common.{◌≡◌, ℕ, ◌+◌, ◌≤◌, List, length, slice_range, Option, Some, IsSomeAnd, refl, sym, ap, subst, ◌∙◌, arith}
 use Rattle.arena_core.specs.Contents.{contents}
 use Rattle.arena_core.specs.Written.{written}
-use Rattle.mmem_core.specs.ManagedStore.{name_of, block_of, with_bytes}
+use Rattle.mote_types.specs.BlockNames.{number_of}
+use Rattle.mmem_core.specs.ManagedStore.{block_of, with_bytes}
 use Rattle.mmem_core.specs.Places.{place_in}
 use Rattle.mmem_core.specs.Table.{Table, store_of, IsWithin, KeepsToSpan}
 use Rattle.mmem_core.proofs.TableLemmas.{block_is, place_length, place_inside, rewritten, kept}
@@ -11,7 +12,7 @@ use Rattle.mmem_core.proofs.mmem.Mmem.write.Goals as goal
 pub returns-clause-block : goal.returns-clause-block
 returns-clause-block c =
     let m = c.self.inside in let bytes = c.args.arena.now.bytes in let place = c.unwrap-place.result in let ws = c.args.bytes.now in let at = c.args.at in
-    let i = name_of c.args.key.0.0 c.args.key.1 in
+    let i = number_of c.args.key.0.0 c.args.key.1 in
     let here = subst (λ (t : Table). IsWithin t bytes) (sym c.self.view_is) c.requires.within in
     let live : place_in m.places i ≡ Some place = cc (c.unwrap-place.ensures, c.number_of.ensures.number) in
     let range = subst (λ (t : Table). IsSomeAnd (block_of c.args.key.0.0 c.args.key.1 (store_of t bytes)) (λ block. at + length ws ≤ length block)) (sym c.self.view_is) c.requires.range in
@@ -26,7 +27,7 @@ returns-clause-block c =
 pub returns-clause-rest : goal.returns-clause-rest
 returns-clause-rest c =
     let m = c.self.inside in let bytes = c.args.arena.now.bytes in let place = c.unwrap-place.result in let ws = c.args.bytes.now in let at = c.args.at in
-    let i = name_of c.args.key.0.0 c.args.key.1 in
+    let i = number_of c.args.key.0.0 c.args.key.1 in
     let here = subst (λ (t : Table). IsWithin t bytes) (sym c.self.view_is) c.requires.within in
     let live : place_in m.places i ≡ Some place = cc (c.unwrap-place.ensures, c.number_of.ensures.number) in
     let range = subst (λ (t : Table). IsSomeAnd (block_of c.args.key.0.0 c.args.key.1 (store_of t bytes)) (λ block. at + length ws ≤ length block)) (sym c.self.view_is) c.requires.range in

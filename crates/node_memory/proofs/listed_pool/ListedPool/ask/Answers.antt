@@ -10,4 +10,4 @@ pub returns-in-MembWrite-clause-asked : goal.returns-in-MembWrite-clause-asked
 returns-in-MembWrite-clause-asked c = rw c.in-MembWrite.is (c.write.ensures.asked c.in-MembWrite.field-0)
 
 pub returns-in-MembRead-clause-asked : goal.returns-in-MembRead-clause-asked
-returns-in-MembRead-clause-asked c = rw c.in-MembRead.is (c.read.ensures.asked c.in-MembRead.field-0)
+returns-in-MembRead-clause-asked c = rw c.in-MembRead.is (c.read.ensures c.in-MembRead.field-0)

@@ -1,4 +1,5 @@
-use Rattle.std.proofs.Common.{rules, ap, ◌∙◌, []}
+use Rattle.std.proofs.Common.{rules, arith, subst, sym, length, ◌+◌, ◌≤◌, ap, ◌∙◌, []}
+use Rattle.arena_core.specs.declared.span.Span.{Span}
 use Rattle.memb_core.specs.declared.list_name.ListName.{ListName}
 use Rattle.memb_core.specs.BlockPool.{unused_pool}
 use Rattle.node_memory.specs.ListedPools.{seen}
@@ -7,7 +8,7 @@ use Rattle.node_memory.proofs.listed_pool.ListedPool.new.Goals as goal
 
 pub returns-clause-linked : goal.returns-clause-linked
 returns-clause-linked c =
-    c.new-2.ensures.linked c.new.result c.args.arena.now.bytes (rw c.new.ensures.span (search rules))
+    c.new-2.ensures.linked c.new.result c.args.arena.now.bytes (omega (arith, c.new.ensures.count)) (subst (λ (s : Span). s.at + s.len ≤ length c.args.arena.now.bytes) (sym c.new.ensures.span) (search rules))
 
 pub returns-clause-unused : goal.returns-clause-unused
 returns-clause-unused c =

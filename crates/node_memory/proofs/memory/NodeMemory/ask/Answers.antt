@@ -1,11 +1,28 @@
-use Rattle.std.proofs.Common.{subst, ap, sym, ◌∙◌}
-use Rattle.node_memory.specs.Ask.{Asked}
+use Rattle.std.proofs.Common.{subst, ap, sym, ◌∙◌, ◌≡◌}
+use Rattle.std.specs.Prelude.{Some}
+use Rattle.node_memory.specs.Ask.{Asked, ask, ask_part}
 use Rattle.node_memory.specs.Memory.{Memory}
-use Rattle.node_memory.specs.Separation.{LeavesOthers}
-use Rattle.node_memory.proofs.Others.{leaves-pool}
+use Rattle.node_memory.specs.Separation.{LeavesOthers, changed_block}
+use Rattle.node_memory.proofs.Others.{leaves}
 use Rattle.node_memory.proofs.memory.NodeMemory.ask.Goals as goal
 
-pub returns-in-Some-clause-others : goal.returns-in-Some-clause-others
-returns-in-Some-clause-others c =
-    subst (λ (m : Memory). LeavesOthers c.args.call.now c.args.pid.0 c.args.self.now m) (ap (λ (a : Asked). a.0) c.ask_pool.ensures)
-    (leaves-pool c.args.call.now c.in-Some.pool c.args.pid.0 c.args.self.now (sym c.pool_called.ensures ∙ c.in-Some.is))
+pub returns-in-Some-Managed-clause-others : goal.returns-in-Some-Managed-clause-others
+returns-in-Some-Managed-clause-others c =
+    let old = c.args.self.now.contents in
+    let call = c.args.call.now in
+    let asked : ask call c.args.pid.0 old ≡ (c.ask_managed.new.self.contents, c.ask_managed.result) = ap (λ o. ask_part o call c.args.pid.0 old) (sym c.part_called.ensures ∙ c.in-Some-Managed.is ∙ ap Some c.in-Some-Managed.field-0-is) ∙ c.ask_managed.ensures.asked in
+    subst (λ (m : Memory). LeavesOthers (changed_block call c.args.pid.0 old) old m) (ap (λ (a : Asked). a.0) asked) (leaves call c.args.pid.0 old c.requires.asker)
+
+pub returns-in-Some-Heap-clause-others : goal.returns-in-Some-Heap-clause-others
+returns-in-Some-Heap-clause-others c =
+    let old = c.args.self.now.contents in
+    let call = c.args.call.now in
+    let asked : ask call c.args.pid.0 old ≡ (c.ask_heap.new.self.contents, c.ask_heap.result) = ap (λ o. ask_part o call c.args.pid.0 old) (sym c.part_called.ensures ∙ c.in-Some-Heap.is ∙ ap Some c.in-Some-Heap.field-0-is) ∙ c.ask_heap.ensures.asked in
+    subst (λ (m : Memory). LeavesOthers (changed_block call c.args.pid.0 old) old m) (ap (λ (a : Asked). a.0) asked) (leaves call c.args.pid.0 old c.requires.asker)
+
+pub returns-in-Some-Pool-clause-others : goal.returns-in-Some-Pool-clause-others
+returns-in-Some-Pool-clause-others c =
+    let old = c.args.self.now.contents in
+    let call = c.args.call.now in
+    let asked : ask call c.args.pid.0 old ≡ (c.ask_pool.new.self.contents, c.ask_pool.result) = ap (λ o. ask_part o call c.args.pid.0 old) (sym c.part_called.ensures ∙ c.in-Some-Pool.is ∙ ap Some c.in-Some-Pool.field-0-is) ∙ c.ask_pool.ensures.asked in
+    subst (λ (m : Memory). LeavesOthers (changed_block call c.args.pid.0 old) old m) (ap (λ (a : Asked). a.0) asked) (leaves call c.args.pid.0 old c.requires.asker)

@@ -1,11 +1,16 @@
-use Rattle.std.proofs.Common.{refl, subst}
-use Rattle.node_memory.specs.Layout.{BlocksLieApart}
-use Rattle.node_memory.specs.Memory.{Memory}
-use Rattle.node_memory.proofs.Apart.{pools_apart}
+use Rattle.std.proofs.Common.{subst}
+use Rattle.node_memory.specs.Code.Layout.{end_of}
+use Rattle.node_memory.specs.Placed.{PlacedMemory}
+use Rattle.node_memory.specs.Separation.{BlocksLieApart}
+use Rattle.node_memory.proofs.Apart.{PoolApart, of-four, pools-apart, all-apart}
+use Rattle.node_memory.proofs.LaidOut.{layout_of}
 use Rattle.node_memory.proofs.memory.NodeMemory.blocks_lie_apart.Goals as goal
 
 pub returns : goal.returns
 returns c =
-    let m = c.self.inside in
-    subst (λ (memory : Memory). BlocksLieApart memory) c.self.view_is
-    (record { bytes = m.arena.bytes; table = m.mmem; listed = m.pools; laid_out = c.self.invariant; read = refl; managed = c.blocks_lie_apart.ensures; pools = pools_apart m.pools })
+    let k = c.self.inside in
+    subst (λ (m : PlacedMemory). BlocksLieApart m) c.self.view_is
+    (all-apart (layout_of k.mmem k.heap k.pools k.arena.bytes) c.self.invariant (c.blocks_lie_apart.ensures k.arena.bytes c.self.invariant.managed)
+    (λ i listed there. pools-apart (end_of k.heap.span) i k.pools listed k.arena.bytes c.self.invariant.pools there
+    (of-four PoolApart k.pools c.index-self-0.result c.index-self-1.result c.index-self-2.result c.index-self-3.result c.self.invariant.count
+    c.blocks_lie_apart-2.ensures c.blocks_lie_apart-3.ensures c.blocks_lie_apart-4.ensures c.blocks_lie_apart-5.ensures i listed there)))

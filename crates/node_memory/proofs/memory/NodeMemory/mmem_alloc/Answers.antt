@@ -1,19 +1,27 @@
 use Rattle.std.proofs.Common.{rules, ap, ◌∙◌}
+use Rattle.std.specs.Prelude.{Some}
+use Rattle.mote_types.specs.Bytes.{zeros}
 use Rattle.mmem_core.specs.ManagedStore.{allocated}
-use Rattle.mmem_core.specs.Table.{store_of}
-use Rattle.node_memory.specs.Memory.{Memory, with_managed}
-use Rattle.node_memory.proofs.LaidOut.{after-managed, managed-changed}
+use Rattle.node_memory.specs.Memory.{with_managed}
+use Rattle.node_memory.specs.Placed.{PlacedMemory}
+use Rattle.node_memory.proofs.LaidOut.{after-managed, managed-changed, still-laid_out}
+use Rattle.node_memory.proofs.Refused.{none-then}
 use Rattle.node_memory.proofs.memory.NodeMemory.mmem_alloc.Goals as goal
 
 pub invariant_of-self : goal.invariant_of-self
-invariant_of-self c = (after-managed c.self.inside.mmem c.alloc.new.self c.self.inside.pools c.self.inside.arena c.alloc.new.arena c.self.invariant c.alloc.ensures.rest).0
+invariant_of-self c =
+    let k = c.self.inside in
+    still-laid_out k.mmem c.alloc.new.self k.heap k.pools k.arena c.alloc.new.arena c.self.invariant (none-then c.alloc.result (search rules) c.alloc.ensures.unchanged)
 
 pub invariant_of-self-2 : goal.invariant_of-self-2
-invariant_of-self-2 c = (after-managed c.self.inside.mmem c.alloc.new.self c.self.inside.pools c.self.inside.arena c.alloc.new.arena c.self.invariant c.alloc.ensures.rest).0
+invariant_of-self-2 c =
+    let k = c.self.inside in
+    after-managed c.args.pid.0 c.args.handle (Some (zeros c.args.n)) k.mmem c.alloc.new.self k.heap k.pools k.arena c.alloc.new.arena c.self.invariant c.alloc.ensures.rest (search rules)
 
 pub returns-clause-accepted : goal.returns-clause-accepted
-returns-clause-accepted c = (
-  search rules,
-  managed-changed c.self.inside.mmem c.alloc.new.self c.self.inside.pools c.self.inside.arena c.alloc.new.arena (allocated c.args.pid.0 c.args.handle c.args.n (store_of c.self.inside.mmem c.self.inside.arena.bytes)) c.self.invariant c.alloc.ensures.rest (search rules)
-      ∙ ap (λ (m : Memory). with_managed (allocated c.args.pid.0 c.args.handle c.args.n m.managed) m) c.self.view_is,
-)
+returns-clause-accepted c =
+    let k = c.self.inside in (
+      search rules,
+      managed-changed c.args.pid.0 c.args.handle (Some (zeros c.args.n)) k.mmem c.alloc.new.self k.heap k.pools k.arena c.alloc.new.arena c.self.invariant c.alloc.ensures.rest (search rules)
+          ∙ ap (λ (v : PlacedMemory). with_managed (allocated c.args.pid.0 c.args.handle c.args.n v.contents.managed) v.contents) c.self.view_is,
+    )

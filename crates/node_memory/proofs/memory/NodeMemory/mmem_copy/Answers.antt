@@ -1,16 +1,24 @@
 use Rattle.std.proofs.Common.{rules, ap, ◌∙◌}
-use Rattle.mmem_core.specs.ManagedStore.{copied}
+use Rattle.std.specs.Prelude.{Some}
+use Rattle.mote_types.specs.Bytes.{overwritten}
+use Rattle.mmem_core.specs.ManagedStore.{bytes_of, copied}
 use Rattle.mmem_core.specs.Table.{store_of}
-use Rattle.node_memory.specs.Memory.{Memory, with_managed}
+use Rattle.node_memory.specs.Memory.{with_managed}
+use Rattle.node_memory.specs.Placed.{PlacedMemory}
 use Rattle.node_memory.proofs.LaidOut.{after-managed, managed-changed}
 use Rattle.node_memory.proofs.memory.NodeMemory.mmem_copy.Goals as goal
 
 pub invariant_of-self : goal.invariant_of-self
-invariant_of-self c = (after-managed c.self.inside.mmem c.self.inside.mmem c.self.inside.pools c.self.inside.arena c.copy.new.arena c.self.invariant c.copy.ensures.rest).0
+invariant_of-self c =
+    let k = c.self.inside in
+    let store = store_of k.mmem k.arena.bytes in
+    after-managed c.args.pid.0 c.args.target (Some (overwritten 0 (bytes_of c.args.pid.0 c.args.source store) (bytes_of c.args.pid.0 c.args.target store))) k.mmem k.mmem k.heap k.pools k.arena c.copy.new.arena c.self.invariant c.copy.ensures.rest c.copy.ensures.block
 
 pub returns-clause-accepted : goal.returns-clause-accepted
-returns-clause-accepted c = (
-  search rules,
-  managed-changed c.self.inside.mmem c.self.inside.mmem c.self.inside.pools c.self.inside.arena c.copy.new.arena (copied c.args.pid.0 c.args.source c.args.pid.0 c.args.target (store_of c.self.inside.mmem c.self.inside.arena.bytes)) c.self.invariant c.copy.ensures.rest c.copy.ensures.block
-      ∙ ap (λ (m : Memory). with_managed (copied c.args.pid.0 c.args.source c.args.pid.0 c.args.target m.managed) m) c.self.view_is,
-)
+returns-clause-accepted c =
+    let k = c.self.inside in
+    let store = store_of k.mmem k.arena.bytes in (
+      search rules,
+      managed-changed c.args.pid.0 c.args.target (Some (overwritten 0 (bytes_of c.args.pid.0 c.args.source store) (bytes_of c.args.pid.0 c.args.target store))) k.mmem k.mmem k.heap k.pools k.arena c.copy.new.arena c.self.invariant c.copy.ensures.rest c.copy.ensures.block
+          ∙ ap (λ (v : PlacedMemory). with_managed (copied c.args.pid.0 c.args.source c.args.pid.0 c.args.target v.contents.managed) v.contents) c.self.view_is,
+    )

@@ -1,16 +1,22 @@
 use Rattle.std.proofs.Common.{rules, ap, ◌∙◌}
-use Rattle.mmem_core.specs.ManagedStore.{with_bytes}
+use Rattle.std.specs.Prelude.{Some}
+use Rattle.mote_types.specs.Bytes.{overwritten}
+use Rattle.mmem_core.specs.ManagedStore.{bytes_of, with_bytes}
 use Rattle.mmem_core.specs.Table.{store_of}
-use Rattle.node_memory.specs.Memory.{Memory, with_managed}
+use Rattle.node_memory.specs.Memory.{with_managed}
+use Rattle.node_memory.specs.Placed.{PlacedMemory}
 use Rattle.node_memory.proofs.LaidOut.{after-managed, managed-changed}
 use Rattle.node_memory.proofs.memory.NodeMemory.mmem_write.Goals as goal
 
 pub invariant_of-self : goal.invariant_of-self
-invariant_of-self c = (after-managed c.self.inside.mmem c.self.inside.mmem c.self.inside.pools c.self.inside.arena c.write.new.arena c.self.invariant c.write.ensures.rest).0
+invariant_of-self c =
+    let k = c.self.inside in
+    after-managed c.args.pid.0 c.args.handle (Some (overwritten c.args.at c.args.bytes.now (bytes_of c.args.pid.0 c.args.handle (store_of k.mmem k.arena.bytes)))) k.mmem k.mmem k.heap k.pools k.arena c.write.new.arena c.self.invariant c.write.ensures.rest c.write.ensures.block
 
 pub returns-clause-accepted : goal.returns-clause-accepted
-returns-clause-accepted c = (
-  search rules,
-  managed-changed c.self.inside.mmem c.self.inside.mmem c.self.inside.pools c.self.inside.arena c.write.new.arena (with_bytes c.args.pid.0 c.args.handle c.args.at c.args.bytes.now (store_of c.self.inside.mmem c.self.inside.arena.bytes)) c.self.invariant c.write.ensures.rest c.write.ensures.block
-      ∙ ap (λ (m : Memory). with_managed (with_bytes c.args.pid.0 c.args.handle c.args.at c.args.bytes.now m.managed) m) c.self.view_is,
-)
+returns-clause-accepted c =
+    let k = c.self.inside in (
+      search rules,
+      managed-changed c.args.pid.0 c.args.handle (Some (overwritten c.args.at c.args.bytes.now (bytes_of c.args.pid.0 c.args.handle (store_of k.mmem k.arena.bytes)))) k.mmem k.mmem k.heap k.pools k.arena c.write.new.arena c.self.invariant c.write.ensures.rest c.write.ensures.block
+          ∙ ap (λ (v : PlacedMemory). with_managed (with_bytes c.args.pid.0 c.args.handle c.args.at c.args.bytes.now v.contents.managed) v.contents) c.self.view_is,
+    )

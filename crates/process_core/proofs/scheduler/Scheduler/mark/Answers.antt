@@ -1,8 +1,12 @@
-use Rattle.std.proofs.Common.{ap}
+use Rattle.std.proofs.Common.{true}
 use Rattle.process_core.proofs.Listed.{marked_from_running}
+use Rattle.process_core.proofs.Order.{order_marked}
 use Rattle.process_core.proofs.scheduler.Scheduler.mark.Goals as goal
+
+pub invariant_of-self : goal.invariant_of-self
+invariant_of-self c = order_marked c.self.inside.fields c.set_mark.new.self c.args.pid.0 true c.self.invariant c.set_mark.ensures
 
 pub returns-clause-is_marked : goal.returns-clause-is_marked
 returns-clause-is_marked c =
-    marked_from_running c.args.pid.0 c.self.inside.parts.processes c.mark.new.self.processes
-    (c.self.invariant.sound.mote.kernel c.args.pid.0 c.requires) (ap (λ s. s.processes) c.mark.ensures.agenda)
+    marked_from_running c.args.pid.0 c.self.inside.fields.processes c.set_mark.new.self
+    (c.self.invariant.sound.mote.kernel c.args.pid.0 c.requires) c.set_mark.ensures

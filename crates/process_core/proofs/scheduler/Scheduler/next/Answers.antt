@@ -1,27 +1,52 @@
-use Rattle.process_core.specs.Held.{job_of}
-use Rattle.process_core.specs.Parts.{scheduler_of, turn_in}
-use Rattle.process_core.proofs.Sound.{active_from_sound}
-use Rattle.process_core.proofs.Rest.{idle_from_rest, applications_from_comes_to, served_below, unshown}
+use Rattle.std.proofs.Common.{◌≡◌, ◌∙◌, sym, Some, None}
+use Rattle.process_core.specs.Code.SchedulerFields.{scheduler_of, IsInOrder}
+use Rattle.process_core.specs.Scheduler.{ComesTo}
+use Rattle.process_core.specs.SchedulerView.{job_of}
+use Rattle.process_core.proofs.Rest.{applications_from_comes_to, unshown}
+use Rattle.process_core.proofs.Yields.{frame_yields, yields_after}
 use Rattle.process_core.proofs.scheduler.Scheduler.next.Goals as goal
+use Rattle.process_core.proofs.scheduler.Scheduler.next.Goals.{in-None, in-Some+in-Some-resume}
 
-pub returns-clause-rest : goal.returns-clause-rest
-returns-clause-rest c =
-    λ e. let i = idle_from_rest (scheduler_of c.self.inside.parts) (scheduler_of c.next-job.new.self) (rw e at c.next-job.ensures.job) in (i.done, i.quiet)
+pub open-preserved : goal.open-preserved
+open-preserved c =
+    record {
+      order = c.in_default.ensures.order;
+      idle = c.in_default.ensures.awaited;
+      so_far =
+          frame_yields c.args.self.now.state c.open.self-inside.fields c.in-Some.frame c.pop.new.self None (scheduler_of c.resume.new.self)
+          c.in-Some.ensures c.open.invariant.so_far c.in_default.ensures.yields;
+    }
+
+-- either the topmost frame led to the job, or no frame was left
+comes_to : (c : goal.After-each_is_once) → ComesTo c.args.self.now.state (job_of c.match-pop.job) (scheduler_of c.match-pop.self-inside.fields)
+comes_to c =
+    elim c.match-pop.branch [
+      | in-None w ↦
+          let none_left : c.pop.new.self ≡ c.open.self-inside.fields.stack = w.in-None.ensures.1 ∙ sym w.in-None.ensures.0 in
+          rw (w.job-is, w.self-inside-is)
+          (yields_after c.args.self.now.state (scheduler_of c.open.self-inside.fields) (Some (job_of w.begin_round-job.result)) (scheduler_of w.begin_round-job.new.self)
+          c.open.invariant.so_far (rw none_left at w.begin_round-job.ensures.yields))
+      | in-Some+in-Some-resume w ↦
+          rw (w.job-is, w.self-inside-is)
+          (frame_yields c.args.self.now.state c.open.self-inside.fields w.in-Some.frame c.pop.new.self (Some (job_of w.in-Some-resume.job)) (scheduler_of w.resume.new.self)
+          w.in-Some.ensures c.open.invariant.so_far w.in-Some-resume.ensures.yields)
+    ]
+
+in_order : (c : goal.After-each_is_once) → IsInOrder c.match-pop.self-inside.fields
+in_order c =
+    elim c.match-pop.branch [
+      | in-None w ↦ rw w.self-inside-is w.begin_round-job.ensures.order
+      | in-Some+in-Some-resume w ↦ rw w.self-inside-is w.in-Some-resume.ensures.order
+    ]
+
+pub returns-clause-job : goal.returns-clause-job
+returns-clause-job c = comes_to c
 
 pub returns-clause-applications : goal.returns-clause-applications
 returns-clause-applications c =
-    rw (← c.self.view_is)
-    (applications_from_comes_to (scheduler_of c.self.inside.parts) (job_of c.next-job.result) (scheduler_of c.next-job.new.self) c.next-job.ensures.job)
+    applications_from_comes_to c.args.self.now.state (job_of c.match-pop.job) (scheduler_of c.match-pop.self-inside.fields) (comes_to c)
 
 pub returns-clause-standing : goal.returns-clause-standing
 returns-clause-standing c =
-    record { few = c.next-job.ensures.order.few; mote = c.next-job.ensures.order.sound.mote; distinct = c.each_is_once.ensures; unshown = unshown c.next-job.new.self.stack }
-
-pub returns-clause-active : goal.returns-clause-active
-returns-clause-active c =
-    active_from_sound c.next-job.new.self.applications c.next-job.new.self.processes c.next-job.new.self.stack (turn_in c.next-job.new.self.awaited)
-    c.next-job.ensures.order.sound
-
-pub returns-clause-served : goal.returns-clause-served
-returns-clause-served c =
-    λ p event e. served_below (scheduler_of c.self.inside.parts) p.0 event (scheduler_of c.next-job.new.self) (rw e at c.next-job.ensures.job)
+    let order = in_order c in
+    record { few = order.few; mote = order.sound.mote; distinct = c.each_is_once.ensures; unshown = unshown c.match-pop.self-inside.fields.stack }

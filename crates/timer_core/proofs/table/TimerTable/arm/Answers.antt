@@ -1,6 +1,6 @@
 use Rattle.std.proofs.Common.{◌≡◌, true, false, sym, ◌∙◌, ap}
 use Rattle.timer_core.specs.Timers.{armed_with, is_armed}
-use Rattle.timer_core.specs.Links.{timers_of}
+use Rattle.timer_core.specs.Code.Links.{timers_of}
 use Rattle.timer_core.proofs.Changes.{cell_changed, head_added}
 use Rattle.timer_core.proofs.table.TimerTable.arm.Goals as goal
 

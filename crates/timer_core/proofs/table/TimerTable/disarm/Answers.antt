@@ -2,7 +2,7 @@ use Rattle.std.proofs.Common.{◌≡◌, true, false, refl, sym, ◌∙◌, ap}
 use Rattle.std.specs.Prelude.{Some, None}
 use Rattle.timer_core.specs.Names.{is_timer}
 use Rattle.timer_core.specs.Timers.{stop_timer}
-use Rattle.timer_core.specs.Links.{next_of, timers_of, IsTable}
+use Rattle.timer_core.specs.Code.Links.{next_of, timers_of, IsTable}
 use Rattle.timer_core.proofs.LinkLemmas.{passes, listed_shorter}
 use Rattle.timer_core.proofs.Unlinking.{passed_first, passed_more}
 use Rattle.timer_core.proofs.Changes.{head_removed, link_closed, nothing_removed, nothing_listed}

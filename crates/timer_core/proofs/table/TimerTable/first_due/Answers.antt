@@ -1,7 +1,7 @@
 use Rattle.std.proofs.Common.{◌≡◌, ◌≤◌, ◌<◌, true, false, sym, ◌∙◌, ap}
 use Rattle.std.proofs.lemmas.Bool.{le-leb, lt-leb}
 use Rattle.timer_core.specs.Timers.{Timers, is_due, deadline, cell_of, first_due}
-use Rattle.timer_core.specs.Links.{timers_of}
+use Rattle.timer_core.specs.Code.Links.{timers_of}
 use Rattle.timer_core.proofs.LinkLemmas.{passes, listed_shorter, found_here, found_later, listed_from_none}
 use Rattle.timer_core.proofs.table.TimerTable.first_due.Goals as goal
 

@@ -1,7 +1,7 @@
 use Rattle.std.proofs.Common.{◌≡◌, length}
 use Rattle.std.specs.List.{list_any}
 use Rattle.timer_core.specs.Names.{is_timer}
-use Rattle.timer_core.specs.Links.{listed_from, IsList}
+use Rattle.timer_core.specs.Code.Links.{listed_from, IsList}
 use Rattle.timer_core.proofs.table.TimerTable.is_armed.Given as goal
 
 -- the timer is among those still to be passed exactly where it is on the list

@@ -1,4 +1,5 @@
-use Rattle.timer_core.proofs.LinkLemmas.{table_at_boot, timers_at_boot}
+use Rattle.timer_core.proofs.Changes.{timers_at_boot}
+use Rattle.timer_core.proofs.LinkLemmas.{table_at_boot}
 use Rattle.timer_core.proofs.table.TimerTable.new.Goals as goal
 
 pub invariant_of-result : goal.invariant_of-result

@@ -1,0 +1,15 @@
+use Rattle.std.proofs.Common.{◌≡◌, ◌+◌, ◌-◌, length, sym, subst, arith}
+use Rattle.std.proofs.lemmas.List.{length-replicate}
+use Rattle.mote_types.specs.Bytes.{zeros}
+use Rattle.arena_core.specs.Contents.{Contents}
+use Rattle.arena_core.specs.Outside.{ChangesOnly}
+use Rattle.arena_core.proofs.Ranges.{changes_only}
+use Rattle.heap_core.proofs.region.Region.clear.Goals as goal
+
+pub returns-clause-others : goal.returns-clause-others
+returns-clause-others c =
+    let from = c.args.from in let n = c.args.live.size in let P = c.args.self.now.span.at + c.args.live.at + 16 in let B = c.args.arena.now.bytes in
+    let count : length (zeros (n - from)) ≡ n - from = length-replicate (n - from) 0 in
+    let less = c.if-live-from.false in
+    subst (λ (a : Contents). ChangesOnly P n B a.bytes) (sym c.fill.ensures.bytes)
+    (changes_only B (P + from) (zeros (n - from)) (omega (arith, c.requires.within, c.requires.inside)) P n (omega arith) (omega arith))

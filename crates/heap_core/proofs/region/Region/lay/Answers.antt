@@ -1,0 +1,111 @@
+use Rattle.std.proofs.Common.{[], ◌∷◌, ◌++◌, ◌≡◌, ◌+◌, ◌-◌, ◌≤◌, ◌⊎◌, inl, inr, None, refl, sym, ap, ◌∙◌, subst, arith}
+use Rattle.arena_core.specs.Contents.{Contents}
+use Rattle.arena_core.specs.Outside.{ChangesOnly}
+use Rattle.heap_core.specs.declared.chunk.Chunk.{Chunk}
+use Rattle.heap_core.specs.Code.Chunks.{chunk_at, Tell, BeginsLive}
+use Rattle.heap_core.specs.Code.Walks.{laid, bytes_in_chunk}
+use Rattle.heap_core.proofs.Holes.{is_live, live_block, live_joined, laid_block, laid_begins, laid_joined, laid_between}
+use Rattle.heap_core.proofs.Splice.{laid_all, laid_some, left_over}
+use Rattle.heap_core.proofs.Steps.{ended}
+use Rattle.heap_core.proofs.Told.{told_le, chunk_frame, changes_then, changes_more, owner_some}
+use Rattle.heap_core.proofs.region.Region.lay.Goals as goal
+use Rattle.heap_core.proofs.region.Region.lay.Goals.{After-put_chunk-2, then-next-end, else-next-end}
+
+pub returns-then-end-self-clause-laid : goal.returns-then-end-self-clause-laid
+returns-then-end-self-clause-laid c hole =
+    let heap = c.args.self.now in let b = heap.span.at in let B = c.args.arena.now.bytes in let B' = c.put_chunk.new.arena.bytes in let live = c.args.live in let next = live.at + live.len in
+    let o = owner_some live.owner c.requires.fits.owner in let room = c.requires.fits.room in
+    let kept : bytes_in_chunk B' b live ≡ bytes_in_chunk B b live = c.put_chunk.ensures.others.others (b + live.at + 16) live.size (inr (omega arith)) in
+    let none = ended B b c.args.end heap.footprint hole.behind hole.back (omega (arith, c.if-end-self.true)) in
+    laid_between heap _ B B' live hole.before (live ∷ []) hole.behind next refl hole.within
+    (changes_more (b + live.at) 16 (b + live.at) (next - live.at) B B' c.put_chunk.ensures.others (omega arith) (omega arith))
+    hole.front (c.put_chunk.ensures.chunk, room, refl) (subst (Tell B b next next) (sym none) refl)
+    (hole.joined (live ∷ hole.behind) (is_live B B' b live o.0 o.1) (live_joined B B' b live o.0 o.1 hole.behind hole.joined_behind))
+    (live_block B B' b live o.0 o.1 kept)
+
+pub put_chunk-requires-then-next-end-clause-inside : goal.put_chunk-requires-then-next-end-clause-inside
+put_chunk-requires-then-next-end-clause-inside c =
+    let heap = c.args.self.now in let hole = c.requires.hole in
+    let end = told_le c.args.arena.now.bytes heap.span.at c.args.end heap.footprint hole.behind hole.back in
+    elim c.requires.fits.rest [
+      | inl last ↦ absurd (c.if-end-self.false last)
+      | inr f ↦ elim f [ inl all ↦ absurd (omega (arith, c.if-next-end.true)) | inr less ↦ omega (arith, heap.inside) ]
+    ]
+
+-- what the chunk leaves of the hole
+rest : (c : After-put_chunk-2) → (c.args.live.len ≡ c.args.end - c.args.live.at) ⊎ (c.args.live.len + 16 ≤ c.args.end - c.args.live.at)
+rest c = elim c.requires.fits.rest [
+  | inl last ↦ absurd (c.if-end-self.false last)
+  | inr f ↦ elim f [ inl all ↦ inl (omega arith) | inr less ↦ inr (omega arith) ]
+]
+
+-- the gap behind it is written first
+gap : (c : After-put_chunk-2) → ChangesOnly (c.args.self.now.span.at + (c.args.live.at + c.args.live.len)) (c.args.end - (c.args.live.at + c.args.live.len)) c.args.arena.now.bytes c.if-next-end.arena.bytes
+gap c =
+    let s = c.args.self.now.span.at + (c.args.live.at + c.args.live.len) in let n = c.args.end - (c.args.live.at + c.args.live.len) in let B = c.args.arena.now.bytes in
+    elim c.if-next-end.branch [
+      | then-next-end w ↦
+          let left = rest c in let less = w.if-next-end.true in
+          subst (λ (a : Contents). ChangesOnly s n B a.bytes) (sym w.arena-is)
+          (changes_more s 16 s n B w.put_chunk-then-next-end.new.arena.bytes w.put_chunk-then-next-end.ensures.others (omega arith) (elim left [ inl all ↦ absurd (omega (arith, all, less)) | inr some ↦ omega (arith, some) ]))
+      | else-next-end w ↦ subst (λ (a : Contents). ChangesOnly s n B a.bytes) (sym w.arena-is) (record { size = refl; others = λ from m apart. refl })
+    ]
+
+changes : (c : After-put_chunk-2) → ChangesOnly (c.args.self.now.span.at + c.args.live.at) (c.args.end - c.args.live.at) c.args.arena.now.bytes c.put_chunk-2.new.arena.bytes
+changes c =
+    let b = c.args.self.now.span.at in let live = c.args.live in let end = c.args.end in let next = live.at + live.len in
+    let B = c.args.arena.now.bytes in let A = c.if-next-end.arena.bytes in let B' = c.put_chunk-2.new.arena.bytes in
+    let long : live.len ≤ end - live.at = elim (rest c) [ inl all ↦ omega (arith, all) | inr some ↦ omega (arith, some) ] in
+    changes_then (b + live.at) (end - live.at) B A B'
+    (changes_more (b + next) (end - next) (b + live.at) (end - live.at) B A (gap c) (omega arith) (omega (arith, c.requires.fits.room)))
+    (changes_more (b + live.at) 16 (b + live.at) (end - live.at) A B' c.put_chunk-2.ensures.others (omega arith) (omega (arith, c.requires.fits.room)))
+
+told : (c : After-put_chunk-2) → Tell c.put_chunk-2.new.arena.bytes c.args.self.now.span.at c.args.live.at c.args.end (laid c.args.live (c.args.end - c.args.live.at))
+told c =
+    let live = c.args.live in let end = c.args.end in let len = end - live.at in let b = c.args.self.now.span.at in
+    let A = c.if-next-end.arena.bytes in let B' = c.put_chunk-2.new.arena.bytes in let left = rest c in let room = c.requires.fits.room in
+    elim c.if-next-end.branch [
+      | then-next-end w ↦
+          let less = w.if-next-end.true in
+          let some : live.len + 16 ≤ len = elim left [ inl all ↦ absurd (omega (arith, all, less)) | inr some ↦ some ] in
+          let same : end - (live.at + live.len) ≡ len - live.len = omega arith in
+          let gap : chunk_at B' b (live.at + live.len) ≡ left_over live len =
+          chunk_frame A B' b (b + live.at) 16 c.put_chunk-2.ensures.others (live.at + live.len) (inr (omega arith))
+          ∙ ap (λ (a : Contents). chunk_at a.bytes b (live.at + live.len)) w.arena-is
+          ∙ w.put_chunk-then-next-end.ensures.chunk
+          ∙ ap (λ k. let g : Chunk = record { at = live.at + live.len; len = k; owner = None; size = 0 } in g) same in
+          subst (Tell B' b live.at end) (sym (laid_some live len (omega arith))) (c.put_chunk-2.ensures.chunk, room, (gap, omega arith, omega arith))
+      | else-next-end w ↦
+          let more = w.if-next-end.false in
+          let same : live.len ≡ len = elim left [ inl all ↦ all | inr some ↦ absurd (omega (arith, some, more)) ] in
+          subst (Tell B' b live.at end) (sym (laid_all live len same)) (c.put_chunk-2.ensures.chunk, room, omega arith)
+    ]
+
+pub returns-clause-laid : goal.returns-clause-laid
+returns-clause-laid c hole =
+    let heap = c.args.self.now in let b = heap.span.at in let B = c.args.arena.now.bytes in let B' = c.put_chunk-2.new.arena.bytes in let live = c.args.live in let len = c.args.end - live.at in
+    let o = owner_some live.owner c.requires.fits.owner in let room = c.requires.fits.room in
+    let kept : bytes_in_chunk B' b live ≡ bytes_in_chunk B b live =
+    c.put_chunk-2.ensures.others.others (b + live.at + 16) live.size (inr (omega arith)) ∙ (gap c).others (b + live.at + 16) live.size (inl (omega arith)) in
+    let begins : BeginsLive hole.behind = elim hole.begins [
+      | inl none ↦ absurd (c.if-end-self.false (subst (Tell B b c.args.end heap.footprint) none hole.back))
+      | inr begins ↦ begins
+    ] in
+    laid_between heap heap B B' live hole.before (laid live len) hole.behind c.args.end refl hole.within (changes c) hole.front (told c) hole.back
+    (hole.joined (laid live len ++ hole.behind) (laid_begins B B' b live o.0 o.1 len (rest c) hole.behind) (laid_joined B B' b live o.0 o.1 len (rest c) hole.behind begins hole.joined_behind))
+    (laid_block B B' b live o.0 o.1 len (rest c) kept)
+
+pub returns-clause-rest : goal.returns-clause-rest
+returns-clause-rest c =
+    let heap = c.args.self.now in let hole = c.requires.hole in
+    let end = told_le c.args.arena.now.bytes heap.span.at c.args.end heap.footprint hole.behind hole.back in
+    let long : c.args.live.len ≤ c.args.end - c.args.live.at = elim (rest c) [ inl all ↦ omega (arith, all) | inr some ↦ omega (arith, some) ] in
+    record {
+      span = refl;
+      carved = c.put_chunk-2.ensures.carved
+          ∙ elim c.if-next-end.branch [
+            | then-next-end w ↦ ap (λ (a : Contents). a.carved) w.arena-is ∙ w.put_chunk-then-next-end.ensures.carved
+            | else-next-end w ↦ ap (λ (a : Contents). a.carved) w.arena-is
+          ];
+      bytes = changes_more (heap.span.at + c.args.live.at) (c.args.end - c.args.live.at) heap.span.at heap.span.len c.args.arena.now.bytes c.put_chunk-2.new.arena.bytes (changes c) (omega arith) (omega (arith, heap.inside, c.requires.fits.inside));
+    }

@@ -1,0 +1,4 @@
+pub mod Chunks
+pub mod Holes
+pub mod Layout
+pub mod Walks

@@ -1,0 +1,50 @@
+-- Bytes between chunks into which a live chunk may be laid, and what comes of it.
+use Rattle.std.specs.Prelude.{◌≡◌, ℕ, ◌+◌, ◌≤◌, ◌<◌, ◌⊎◌, List, [], ◌++◌, length, IsSomeAnd}
+use Rattle.heap_core.specs.declared.chunk.Chunk.{Chunk}
+use Rattle.heap_core.specs.declared.chunk.Place.{Place}
+use Rattle.heap_core.specs.declared.region.Region.{Region}
+use Rattle.heap_core.specs.HeapStore.{header_len}
+use Rattle.heap_core.specs.Code.Chunks.{Tell, BeginsLive, AreJoined, with_chunk, blocks_in}
+use Rattle.heap_core.specs.Code.Layout.{chunks_of, HasChunks}
+use Rattle.heap_core.specs.Code.Walks.{LiveIn}
+
+-- The headers tell chunks up to one place and from another one on, and what lies between is free: whatever its bytes are.
+pub record Hole (heap : Region) (bytes : List ℕ) (at end : ℕ) : Type 0 where
+  pub before : List Chunk
+  pub behind : List Chunk
+  pub within : heap.span.at + heap.span.len ≤ length bytes
+  pub front : Tell bytes heap.span.at 0 at before
+  pub back : Tell bytes heap.span.at end heap.footprint behind
+  -- a live chunk joins those before it, and comes before those behind
+  pub joined : (chunks : List Chunk) → BeginsLive chunks → AreJoined chunks → AreJoined (before ++ chunks)
+  pub joined_behind : AreJoined behind
+  pub begins : (behind ≡ []) ⊎ BeginsLive behind
+
+-- so many bytes end where the hole does, or leave room for a header before that; up to the top gap any number will do
+abbrev pub Leaves : Region → ℕ → ℕ → Type 0
+Leaves heap next end = (end ≡ heap.footprint) ⊎ ((next ≡ end) ⊎ (next + 16 ≤ end))
+
+-- a live chunk that has its header and its bytes in a hole, which ends there or leaves a gap
+pub record Fits (heap : Region) (live : Chunk) (end : ℕ) : Type 0 where
+  pub inside : live.at + live.len ≤ heap.span.len
+  pub rest : Leaves heap (live.at + live.len) end
+  pub room : 16 + live.size ≤ live.len
+  pub owner : IsSomeAnd live.owner (λ name. name < 272)
+
+-- that chunk was laid between the others
+pub record Laid (heap new : Region) (bytes new_bytes : List ℕ) (live : Chunk) (before behind : List Chunk) : Type 0 where
+  pub chunks : HasChunks new new_bytes
+  pub blocks :
+      blocks_in new_bytes new.span.at (chunks_of new new_bytes)
+      ≡ blocks_in bytes heap.span.at before ++ with_chunk bytes heap.span.at live live.owner (blocks_in bytes heap.span.at behind)
+  pub kept : (other : Chunk) → LiveIn other (before ++ behind) → LiveIn other (chunks_of new new_bytes)
+
+-- a place in a gap or in the top gap, free up to that end
+pub record Free (heap : Region) (bytes : List ℕ) (target : Place) (end : ℕ) : Type 0 where
+  pub hole : Hole heap bytes target.at end
+  pub inside : target.at + (header_len + target.room) ≤ heap.span.len
+  pub rest : Leaves heap (target.at + (header_len + target.room)) end
+  pub apart : (other : Chunk) → LiveIn other (chunks_of heap bytes)
+      → (other.at + 16 + other.size ≤ target.at) ⊎ (target.at + (header_len + target.room) ≤ other.at)
+  pub blocks : blocks_in bytes heap.span.at (chunks_of heap bytes) ≡ blocks_in bytes heap.span.at hole.before ++ blocks_in bytes heap.span.at hole.behind
+  pub kept : (other : Chunk) → LiveIn other (chunks_of heap bytes) → LiveIn other (hole.before ++ hole.behind)

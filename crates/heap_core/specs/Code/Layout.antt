@@ -1,0 +1,15 @@
+-- The chunks of a heap, and that its bytes tell them.
+use Rattle.std.specs.Prelude.{ℕ, ◌+◌, ◌≤◌, List, length}
+use Rattle.heap_core.specs.declared.chunk.Chunk.{Chunk}
+use Rattle.heap_core.specs.declared.region.Region.{Region}
+use Rattle.heap_core.specs.Code.Chunks.{chunks_from, Tell, AreJoined}
+
+-- all chunks, up to the footprint
+unfoldable pub chunks_of : Region → List ℕ → List Chunk
+chunks_of heap bytes = chunks_from heap.footprint bytes heap.span.at 0 heap.footprint
+
+-- the headers in the heap's span tell chunks without a break, and the gaps among them are joined
+pub record HasChunks (heap : Region) (bytes : List ℕ) : Type 0 where
+  pub within : heap.span.at + heap.span.len ≤ length bytes
+  pub told : Tell bytes heap.span.at 0 heap.footprint (chunks_of heap bytes)
+  pub joined : AreJoined (chunks_of heap bytes)

@@ -1,0 +1,166 @@
+-- The held frames, and the blocks that have their bytes.
+use Rattle.std.proofs.Common.{◌≡◌, ◌≢◌, ◌∙◌, ℕ, Bool, true, false, List, [], ◌∷◌, ◌++◌, length, ap, sym, arith, refl, ◌<◌, ◌≤◌, Option, Some, None, eqb, map}
+use Rattle.std.specs.Prelude.{is_some, if◌then◌else◌, nat_lt, ◌==◌, ◌||◌, slice_get, drop}
+use Rattle.std.specs.List.{list_any, AllByRecursion, IsDistinct}
+use Rattle.std.specs.Option.{option_map}
+use Rattle.std.proofs.lemmas.List.{get_or-set_same, get_or-replicate, length-set, length-replicate}
+use Rattle.std.proofs.lemmas.Map.Keys.{IsDistinct-head}
+use Rattle.mote_types.specs.declared.call.Call.{Call}
+use Rattle.device_core.specs.declared.frame.Frame.{Frame}
+use Rattle.mote_types.specs.BlockNames.{number_of}
+use Rattle.mote_types.specs.declared.block_name.TheConstants.{NAMES}
+use Rattle.node_memory.specs.Frames.{frame_block, frame_in, frame_taken, frame_dropped}
+use Rattle.node_memory.specs.Memory.{Memory, fresh_memory}
+use Rattle.node_memory.specs.declared.sizes.Sizes.{Sizes}
+use Rattle.node_memory.specs.Separation.{BlockName, LeavesOthers, changed_block}
+use Rattle.heap_core.specs.HeapStore.{HeapStore, allocated, reallocated}
+use Rattle.node_memory.specs.HeapCalls.{alloc_refusal, realloc_refusal}
+use Rattle.mmem_core.specs.ManagedStore.{with_block}
+use Rattle.mote_types.specs.declared.refusal.Refusal.{Refusal}
+use Rattle.mote_types.specs.declared.reply.Reply.{Reply}
+use Rattle.node_memory.specs.declared.part.Part.{Part}
+use Rattle.node_memory.specs.Ask.{Asked, ask, ask_part, ask_managed, ask_heap, done_or_no_room, unless_refused}
+use Rattle.node_memory.specs.Memory.{pool_in, with_managed, with_pool}
+use Rattle.node_memory.specs.Parts.{part_called}
+use Rattle.node_memory.specs.PoolCalls.{ask_pool}
+use Rattle.kernel_core.specs.Code.View.{HoldsFrames}
+
+abbrev has_slot : ℕ → Frame → Bool
+has_slot slot frame = frame.slot == slot
+
+-- the front frame's block is live
+pub front_is_live : (memory : Memory) (frames : List Frame) (slot : ℕ) → HoldsFrames memory frames → slot < 8
+    → option_map (λ (frame : Frame). frame.slot) (slice_get frames 0) ≡ Some slot → is_some (frame_in slot memory) ≡ true
+front_is_live memory [] slot holds below e = absurd (cc)
+front_is_live memory (frame ∷ frames) slot holds below e =
+    let is : frame.slot ≡ slot = cc in
+    holds.live slot below ∙ rw is (grind arith)
+
+same_frame : (changed : Option BlockName) (old new : Memory) (slot : ℕ) → LeavesOthers changed old new → slot < 8 → changed ≢ Some (frame_block slot)
+    → frame_in slot new ≡ frame_in slot old
+same_frame changed old new slot leaves below other = leaves (frame_block slot) (omega arith, omega arith, omega (arith, below)) other
+
+not_pooled : (k slot : ℕ) (block : Option ℕ) → option_map (BlockName.Pooled k) block ≢ Some (frame_block slot)
+not_pooled k slot None = λ e. absurd (cc)
+not_pooled k slot (Some b) = λ e. absurd (cc)
+
+-- an application's call changes no frame's block
+ask_elsewhere : (call : Call) (p slot : ℕ) (m : Memory) → 4 ≤ p → changed_block call p m ≢ Some (frame_block slot)
+ask_elsewhere (Call.MmemAlloc h n) p slot m least = λ e. let same : p ≡ 3 = cc in absurd (omega (arith, least, same))
+ask_elsewhere (Call.MmemFree h) p slot m least = λ e. let same : p ≡ 3 = cc in absurd (omega (arith, least, same))
+ask_elsewhere (Call.MmemWrite h at chunk) p slot m least = λ e. let same : p ≡ 3 = cc in absurd (omega (arith, least, same))
+ask_elsewhere (Call.MmemCopy source target) p slot m least = λ e. let same : p ≡ 3 = cc in absurd (omega (arith, least, same))
+ask_elsewhere (Call.MembAlloc k) p slot m least = not_pooled k slot _
+ask_elsewhere _ p slot m least = λ e. absurd (cc)
+
+-- nor the number of names
+abbrev count : Memory → ℕ
+count m = length m.managed.blocks
+
+count_unless : (refusal : Option Refusal) (old : Memory) (asked : Asked) → count asked.0 ≡ count old → count (unless_refused refusal old asked).0 ≡ count old
+count_unless None old asked same = same
+count_unless (Some refusal) old asked same = refl
+
+count_changed : (p h : ℕ) (block : Option (List ℕ)) (old : Memory) → count (with_managed (with_block p h block old.managed) old) ≡ count old
+count_changed p h block old = length-set old.managed.blocks (number_of p h) block
+
+count_heap : (refusal : Option Refusal) (heap : Option HeapStore) (old : Memory) → count (unless_refused refusal old (done_or_no_room heap old)).0 ≡ count old
+count_heap (Some refusal) heap old = refl
+count_heap None None old = refl
+count_heap None (Some heap) old = refl
+
+count_pool : (is_none : Bool) (k : ℕ) (call : Call) (old : Memory) →
+    count (if is_none then (let answer : Asked = (old, Reply.Refused Refusal.BadName) in answer)
+    else (let asked = ask_pool call (pool_in k old) in let answer : Asked = (with_pool k asked.0 old, asked.1) in answer)).0 ≡ count old
+count_pool true k call old = refl
+count_pool false k call old = refl
+
+count_in_managed : (call : Call) (p : ℕ) (old : Memory) → count (ask_managed call p old).0 ≡ count old
+count_in_managed (Call.MmemAlloc h n) p old = count_unless _ old _ (count_changed p h _ old)
+count_in_managed (Call.MmemFree h) p old = count_unless _ old _ (count_changed p h _ old)
+count_in_managed (Call.MmemWrite h at chunk) p old = count_unless _ old _ (count_changed p h _ old)
+count_in_managed (Call.MmemRead h at len) p old = count_unless _ old _ refl
+count_in_managed (Call.MmemCopy source target) p old = count_unless _ old _ (count_changed p target _ old)
+count_in_managed _ p old = refl
+
+count_in_heap : (call : Call) (p : ℕ) (old : Memory) → count (ask_heap call p old).0 ≡ count old
+count_in_heap (Call.HeapAlloc b n) p old = count_heap (alloc_refusal p b n old.heap) (allocated p b n old.heap) old
+count_in_heap (Call.HeapRealloc b n) p old = count_heap (realloc_refusal p b n old.heap) (reallocated p b n old.heap) old
+count_in_heap (Call.HeapFree b) p old = count_unless _ old _ refl
+count_in_heap (Call.HeapWrite b at chunk) p old = count_unless _ old _ refl
+count_in_heap (Call.HeapRead b at len) p old = count_unless _ old _ refl
+count_in_heap _ p old = refl
+
+count_in_part : (part : Option Part) (call : Call) (p : ℕ) (old : Memory) → count (ask_part part call p old).0 ≡ count old
+count_in_part (Some Part.Managed) call p old = count_in_managed call p old
+count_in_part (Some Part.Heap) call p old = count_in_heap call p old
+count_in_part (Some (Part.Pool k)) call p old = count_pool (nat_lt 3 k) k call old
+count_in_part None call p old = refl
+
+pub frames_after_ask : (call : Call) (p : ℕ) (old new : Memory) (reply : Reply) (frames : List Frame) → 4 ≤ p → ask call p old ≡ (new, reply) → LeavesOthers (changed_block call p old) old new
+    → HoldsFrames old frames → HoldsFrames new frames
+frames_after_ask call p old new reply frames least asked leaves holds = record {
+  names = ap (λ (a : Asked). count a.0) (sym asked) ∙ count_in_part (part_called call) call p old ∙ holds.names;
+  live = λ slot below. ap is_some (same_frame (changed_block call p old) old new slot leaves below (ask_elsewhere call p slot old least)) ∙ holds.live slot below;
+}
+
+other_slot : (slot s : ℕ) → (slot == s) ≡ false → Some (frame_block slot) ≢ Some (frame_block s)
+other_slot slot s e = λ same. let is : slot ≡ s = cc in absurd (grind (arith, e, is))
+
+list_any_push : (test : Frame → Bool) (frames : List Frame) (frame : Frame) → list_any test (frames ++ frame ∷ []) ≡ (list_any test frames || test frame)
+list_any_push test [] frame = grind arith
+list_any_push test (first ∷ frames) frame = grind (arith, list_any_push test frames frame)
+
+-- a frame was taken
+module _ (slot len : ℕ) (bytes : List ℕ) (old new : Memory) (frames : List Frame) (below : slot < 8)
+    (taken : new ≡ frame_taken slot bytes old) (leaves : LeavesOthers (Some (frame_block slot)) old new) (holds : HoldsFrames old frames) where
+  abbrev frame : Frame
+  frame = record { slot = slot; len = len }
+
+  taken_here : frame_in slot new ≡ Some bytes
+  taken_here = ap (frame_in slot) taken ∙ get_or-set_same old.managed.blocks (number_of 3 slot) (Some bytes) None (omega (arith, holds.names, below))
+
+  live_at : (s : ℕ) (test : Bool) → s < 8 → (slot == s) ≡ test → is_some (frame_in s new) ≡ list_any (has_slot s) (frames ++ frame ∷ [])
+  live_at s true few e =
+      let is : slot ≡ s = grind (arith, e) in
+      rw (list_any_push (has_slot s) frames frame, ← is, taken_here) (grind arith)
+  live_at s false few e =
+      rw (list_any_push (has_slot s) frames frame, e, same_frame (Some (frame_block slot)) old new s leaves few (other_slot slot s e), holds.live s few) (grind arith)
+
+  pub frames_after_taken : HoldsFrames new (frames ++ frame ∷ [])
+  frames_after_taken = record { names = ap (λ (m : Memory). length m.managed.blocks) taken ∙ length-set old.managed.blocks (number_of 3 slot) (Some bytes) ∙ holds.names; live = λ s few. live_at s (slot == s) few refl }
+
+abbrev slots_of : List Frame → List ℕ
+slots_of frames = map (λ (frame : Frame). frame.slot) frames
+
+none_has : (slot : ℕ) (frames : List Frame) → AllByRecursion (λ y. eqb slot y ≡ false) (slots_of frames) → list_any (has_slot slot) frames ≡ false
+none_has slot [] apart = refl
+none_has slot (frame ∷ frames) apart = grind (arith, apart.0, none_has slot frames apart.1)
+
+-- the front frame was dropped
+module _ (slot : ℕ) (old new : Memory) (below : slot < 8) (count : length old.managed.blocks ≡ NAMES) (dropped : new ≡ frame_dropped slot old)
+    (leaves : LeavesOthers (Some (frame_block slot)) old new) where
+  gone_here : frame_in slot new ≡ None
+  gone_here = ap (frame_in slot) dropped ∙ get_or-set_same old.managed.blocks (number_of 3 slot) None None (omega (arith, count, below))
+
+  left_at : (front : Frame) (frames : List Frame) (s : ℕ) (test : Bool) → front.slot ≡ slot → AllByRecursion (λ y. eqb front.slot y ≡ false) (slots_of frames)
+      → HoldsFrames old (front ∷ frames) → s < 8 → (slot == s) ≡ test → is_some (frame_in s new) ≡ list_any (has_slot s) frames
+  left_at front frames s true is apart holds few e =
+      let here : slot ≡ s = grind (arith, e) in
+      rw (← here, gone_here) (sym (none_has slot frames (rw is at apart)))
+  left_at front frames s false is apart holds few e =
+      rw (same_frame (Some (frame_block slot)) old new s leaves few (other_slot slot s e), holds.live s few, is, e) refl
+
+  pub frames_after_dropped : (frames : List Frame) → option_map (λ (frame : Frame). frame.slot) (slice_get frames 0) ≡ Some slot
+      → IsDistinct eqb (map (λ (frame : Frame). frame.slot) frames) → HoldsFrames old frames → HoldsFrames new (drop 1 frames)
+  frames_after_dropped [] e distinct holds = absurd (cc)
+  frames_after_dropped (front ∷ frames) e distinct holds =
+      let is : front.slot ≡ slot = cc in
+      record { names = ap (λ (m : Memory). length m.managed.blocks) dropped ∙ length-set old.managed.blocks (number_of 3 slot) None ∙ count; live = λ s few. left_at front frames s (slot == s) is (IsDistinct-head eqb front.slot (slots_of frames) distinct) holds few refl }
+
+-- fresh memory holds no frame
+pub no_frames : (sizes : Sizes) → HoldsFrames (fresh_memory sizes) []
+no_frames sizes = record {
+  names = length-replicate {A = Option (List ℕ)} NAMES None;
+  live = λ slot below. ap is_some (get_or-replicate NAMES (number_of 3 slot) None None (omega (arith, below)));
+}

@@ -1,0 +1,19 @@
+-- The free places of the event queue.
+use Rattle.std.proofs.Common.{◌≡◌, suc, ◌+◌, true, false, length, arith}
+use Rattle.std.proofs.lemmas.List.{length-map}
+use Rattle.process_core.specs.Agenda.{event_carrying}
+use Rattle.process_core.specs.Scheduler.{has_room}
+use Rattle.kernel_core.specs.declared.fields.KernelFields.{KernelFields}
+use Rattle.kernel_core.specs.Machine.{free_places}
+use Rattle.kernel_core.specs.Code.View.{machine_of, is_struck}
+
+places_of : (k : KernelFields) → length (machine_of k).scheduler.events ≡ length k.scheduler.state.events
+places_of k = length-map k.scheduler.state.events (event_carrying (is_struck k.timers.armings))
+
+-- an event takes one
+pub place_taken : (k new : KernelFields) → has_room k.scheduler.state ≡ true → length new.scheduler.state.events ≡ length k.scheduler.state.events + 1
+    → free_places (machine_of k) ≡ suc (free_places (machine_of new))
+place_taken k new room more = grind (arith, places_of k, places_of new, room, more)
+
+pub no_place : (k : KernelFields) → has_room k.scheduler.state ≡ false → free_places (machine_of k) ≡ 0
+no_place k full = grind (arith, places_of k, full)

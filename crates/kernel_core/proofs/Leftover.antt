@@ -1,0 +1,93 @@
+-- Where something is left that was to be posted, every free place of the queue was taken.
+use Rattle.std.proofs.Common.{◌≡◌, ℕ, zero, suc, ◌+◌, ◌-◌, Bool, true, false, cond, List, ◌∷◌, [], ◌++◌, length, refl, ap, sym, ◌∙◌, arith, Option, Some, None}
+use Rattle.std.specs.Prelude.{is_some, if◌then◌else◌}
+use Rattle.mote_types.specs.Codes.{number_event}
+use Rattle.mote_types.specs.declared.event.TheConstants.{PACKET}
+use Rattle.process_core.specs.Agenda.{Queued}
+use Rattle.process_core.specs.Scheduler.{has_room}
+use Rattle.kernel_core.specs.Machine.{Machine, free_places, mark}
+use Rattle.kernel_core.specs.Repeating.{times}
+use Rattle.kernel_core.specs.TimerProcesses.{expiry_of, post_first_due, is_any_due, post_due}
+use Rattle.kernel_core.specs.PacketProcess.{announce_next, announce_to, has_news, announce}
+use Rattle.device_core.specs.PacketQueue.{unannounced}
+use Rattle.timer_core.specs.Timers.{first_due}
+use Rattle.timer_core.specs.declared.timer.Timer.{Timer}
+use Rattle.device_core.specs.declared.frame.Frame.{Frame}
+use Rattle.kernel_core.proofs.Repeating.{times_none, times_next, times_same}
+
+abbrev waiting : Machine → ℕ
+waiting m = length m.scheduler.events
+
+one_more : {A : Type 0} (xs : List A) (x : A) → length (xs ++ x ∷ []) ≡ suc (length xs)
+one_more [] x = refl
+one_more (y ∷ ys) x = ap suc (one_more ys x)
+
+-- A change that takes a place wherever something is left, and changes nothing elsewhere, takes a place each time
+module _ (change : Machine → Machine) (is_left : Machine → Bool) (takes : (m : Machine) → is_left m ≡ true → waiting (change m) ≡ suc (waiting m))
+    (stops : (m : Machine) → is_left m ≡ false → change m ≡ m) where
+  filled_at : (n : ℕ) (m : Machine) (b : Bool) → is_left m ≡ b → is_left (times (suc n) change m) ≡ true
+      → (is_left (times n change (change m)) ≡ true → waiting (times n change (change m)) ≡ n + waiting (change m))
+      → waiting (times (suc n) change m) ≡ suc n + waiting m
+  filled_at n m true here left rest =
+      let later = rest (ap is_left (sym (times_next n change m)) ∙ left) in
+      ap waiting (times_next n change m) ∙ later ∙ omega (arith, takes m here)
+  filled_at n m false here left rest =
+      let same : true ≡ false = sym left ∙ ap is_left (times_same (suc n) change m (stops m here)) ∙ here in
+      absurd (cc)
+
+  filled : (n : ℕ) (m : Machine) → is_left (times n change m) ≡ true → waiting (times n change m) ≡ n + waiting m
+  filled zero m left = ap waiting (times_none change m) ∙ omega arith
+  filled (suc n) m left = filled_at n m (is_left m) refl left (filled n (change m))
+
+  -- so no place is free
+  pub full : (m : Machine) → is_left (times (free_places m) change m) ≡ true → has_room (times (free_places m) change m).scheduler ≡ false
+  full m left = let e = filled (free_places m) m left in grind (arith, e)
+
+due_takes : (m : Machine) → is_any_due m ≡ true → waiting (post_first_due m) ≡ suc (waiting m)
+due_takes m due = at_due (first_due m.clock m.timers) refl
+  where
+    at_due : (next : Option Timer) → first_due m.clock m.timers ≡ next → waiting (post_first_due m) ≡ suc (waiting m)
+    at_due (Some timer) e = rw e (one_more m.scheduler.events (expiry_of timer))
+    at_due None e = let none : is_some (first_due m.clock m.timers) ≡ false = ap is_some e in absurd (cc)
+
+due_stops : (m : Machine) → is_any_due m ≡ false → post_first_due m ≡ m
+due_stops m due = at_due (first_due m.clock m.timers) refl
+  where
+    at_due : (next : Option Timer) → first_due m.clock m.timers ≡ next → post_first_due m ≡ m
+    at_due (Some timer) e = let some : is_some (first_due m.clock m.timers) ≡ true = ap is_some e in absurd (cc)
+    at_due None e = rw e refl
+
+post_due_at : (after : Machine) (b : Bool) → is_any_due after ≡ b → (is_any_due after ≡ true → has_room after.scheduler ≡ false)
+    → is_any_due (if b then mark 0 after else after) ≡ true → has_room (if b then mark 0 after else after).scheduler ≡ false
+post_due_at after true e is_full left = is_full e
+post_due_at after false e is_full left = is_full left
+
+pub due_or_full : (m : Machine) → is_any_due (post_due m) ≡ true → has_room (post_due m).scheduler ≡ false
+due_or_full m = post_due_at (times (free_places m) post_first_due m) _ refl (full post_first_due is_any_due due_takes due_stops m)
+
+abbrev is_news : Machine → Bool
+is_news m = has_news m.packets
+
+news_takes : (m : Machine) → is_news m ≡ true → waiting (announce_next m) ≡ suc (waiting m)
+news_takes m news = at_news m.packets.receiver (unannounced m.packets) refl refl
+  where
+    at_news : (receiver : Option ℕ) (frame : Option Frame) → m.packets.receiver ≡ receiver → unannounced m.packets ≡ frame → waiting (announce_next m) ≡ suc (waiting m)
+    at_news (Some receiver) (Some frame) r f = rw (r, f) (one_more m.scheduler.events (Queued.To receiver (number_event PACKET frame.len)))
+    at_news None frame r f = absurd (grind (arith, r, news))
+    at_news (Some receiver) None r f = absurd (grind (arith, r, f, news))
+
+news_stops : (m : Machine) → is_news m ≡ false → announce_next m ≡ m
+news_stops m news = at_news m.packets.receiver (unannounced m.packets) refl refl
+  where
+    at_news : (receiver : Option ℕ) (frame : Option Frame) → m.packets.receiver ≡ receiver → unannounced m.packets ≡ frame → announce_next m ≡ m
+    at_news (Some receiver) (Some frame) r f = absurd (grind (arith, r, f, news))
+    at_news None frame r f = rw r refl
+    at_news (Some receiver) None r f = rw (r, f) refl
+
+announce_at : (after : Machine) (b : Bool) → is_news after ≡ b → (is_news after ≡ true → has_room after.scheduler ≡ false)
+    → is_news (if b then mark 3 after else after) ≡ true → has_room (if b then mark 3 after else after).scheduler ≡ false
+announce_at after true e is_full left = is_full e
+announce_at after false e is_full left = is_full left
+
+pub told_or_full : (m : Machine) → has_news (announce m).packets ≡ true → has_room (announce m).scheduler ≡ false
+told_or_full m = announce_at (times (free_places m) announce_next m) _ refl (full announce_next is_news news_takes news_stops m)

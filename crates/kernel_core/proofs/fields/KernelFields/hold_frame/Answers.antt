@@ -1,0 +1,26 @@
+use Rattle.std.proofs.Common.{rules, ◌≡◌, ap}
+use Rattle.kernel_core.specs.Code.View.{HoldsFrames}
+use Rattle.kernel_core.proofs.FrameBlocks.{frames_after_taken}
+use Rattle.kernel_core.proofs.fields.KernelFields.hold_frame.Goals as goal
+
+pub returns-clause-kept : goal.returns-clause-kept
+returns-clause-kept c = record {
+  work = search rules;
+  halted = search rules;
+  inputs = search rules;
+  applications = search rules;
+  mote = search rules;
+  timers = search rules;
+  turn = search rules;
+  events = search rules;
+  agenda = search rules;
+  frames =
+      let k = c.args.self.now in
+      let old = c.free_bytes.new.self in
+      let same : old.memory.contents ≡ k.memory.contents = ap (λ m. m.memory) c.free_bytes.ensures.machine in
+      let frames : old.packets.frames ≡ k.packets.frames = search rules in
+      let holds : HoldsFrames old.memory.contents old.packets.frames = rw same (rw frames c.requires.frames) in
+      rw c.in-Some.ensures.held
+      (frames_after_taken c.in-Some.slot _ c.args.bytes.now old.memory.contents c.take_frame.new.self.contents old.packets.frames
+      c.in-Some.ensures.unused.0 c.in_ok-take_frame.ensures.taken.1 c.take_frame.ensures.others holds);
+}

@@ -1,0 +1,17 @@
+use Rattle.std.proofs.Common.{◌≡◌, ◌-◌, length}
+use Rattle.kernel_core.specs.Code.Draws.{debt}
+use Rattle.kernel_core.specs.Code.View.{machine_of, IsServed}
+use Rattle.kernel_core.specs.Machine.{free_places}
+use Rattle.kernel_core.specs.Repeating.{times}
+use Rattle.kernel_core.specs.TimerProcesses.{post_first_due}
+use Rattle.kernel_core.proofs.fields.KernelFields.post_while_room.Given as goal
+
+abbrev pub invariant-loop-self : goal.invariant-loop-self
+invariant-loop-self l = record {
+  posted : times (free_places (machine_of l.self)) post_first_due (machine_of l.self) ≡ times (free_places (machine_of l.fn.self)) post_first_due (machine_of l.fn.self);
+  kept : IsServed l.fn.self l.self;
+  draws : debt l.self ≡ debt l.fn.self;
+}
+
+abbrev pub decreases-loop-self : goal.decreases-loop-self
+decreases-loop-self l = 32 - length l.self.scheduler.state.events

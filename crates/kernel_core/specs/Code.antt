@@ -1,0 +1,5 @@
+-- The code's own invariants. Nobody has to read them who wants to know what a mote does.
+pub mod Cost
+pub mod Draws
+pub mod TimerNames
+pub mod View

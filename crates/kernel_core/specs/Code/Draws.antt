@@ -1,0 +1,45 @@
+-- How many arming numbers of callback timers are drawn, and that the expiries in the queue have numbers that were drawn.
+use Rattle.std.specs.Prelude.{◌≡◌, ℕ, ◌+◌, ◌≤◌, ◌<◌, Bool, false, ◌&&◌, List, [], ◌∷◌, All, if◌then◌else◌, ◌==◌}
+use Rattle.mote_types.specs.declared.event.Event.{Event}
+use Rattle.mote_types.specs.declared.event.Stimulus.{Stimulus}
+use Rattle.mote_types.specs.declared.event.TheConstants.{EXITED}
+use Rattle.process_core.specs.Agenda.{Queued, Item, Job}
+use Rattle.kernel_core.specs.declared.fields.KernelFields.{KernelFields}
+
+-- whether ctimer is told that a process has ended
+abbrev pub is_exit_told : ℕ → Event → Bool
+is_exit_told p event = p == 1 && event.code == EXITED
+
+-- so each callback timer of that process gets a new number
+abbrev pub draws_of_event : ℕ → Event → ℕ
+draws_of_event p event = if is_exit_told p event then 4 else 0
+
+-- the numbers that are drawn where these items are worked off
+abbrev pub draws : List Item → ℕ
+draws [] = 0
+draws (Item.Give p origin (Stimulus.Event event) ∷ items) = draws_of_event p event + draws items
+draws (_ ∷ items) = draws items
+
+-- the numbers that are drawn where the job is done
+abbrev pub draws_of_job : Job ℕ → ℕ
+draws_of_job (Job.Serve p event) = draws_of_event p event
+draws_of_job _ = 0
+
+-- An expiry is that of an application's callback timer, and has a number that was drawn. EXITED is given at once and never
+-- waits in the queue
+abbrev pub IsFit : ℕ → Queued ℕ → Type 0
+IsFit drawn (Queued.To p event) = (event.code == EXITED) ≡ false
+IsFit drawn (Queued.ToAll event) = (event.code == EXITED) ≡ false
+IsFit drawn (Queued.Expiry p c arming) = ((4 ≤ p) × (p ≤ 19) × (c < 4)) × (arming < drawn)
+
+-- an expiry that is delivered is fit
+abbrev pub IsFitJob : ℕ → Job ℕ → Type 0
+IsFitJob drawn (Job.CallBack p c arming) = IsFit drawn (Queued.Expiry p c arming)
+IsFitJob drawn _ = Unit {0}
+
+-- the numbers that were drawn, and those that will be drawn by what is on the agenda
+abbrev pub debt : KernelFields → ℕ
+debt k = k.timers.armings.drawn + draws k.scheduler.state.agenda
+
+abbrev pub HasFitEvents : KernelFields → Type 0
+HasFitEvents k = All (IsFit k.timers.armings.drawn) k.scheduler.state.events

@@ -1,0 +1,167 @@
+-- What the fields of a kernel stand for.
+use Rattle.std.specs.Prelude.{◌≡◌, ℕ, ◌+◌, ◌*◌, ◌-◌, ◌≤◌, ◌<◌, ◌^◌, ◌==◌, eqb, Bool, not, false, List, [], ◌∷◌, ◌++◌, is_some, length, Option, None, Some, if◌then◌else◌}
+use Rattle.std.specs.List.{list_any, IsDistinct}
+use Rattle.mote_types.specs.declared.block_name.TheConstants.{NAMES}
+use Rattle.mote_types.specs.declared.entry.Entry.{Entry}
+use Rattle.mote_types.specs.declared.entry.Input.{Input}
+use Rattle.mote_types.specs.declared.entry.Note.{Note}
+use Rattle.mote_types.specs.declared.event.Pid.{Pid}
+use Rattle.device_core.specs.declared.frame.Frame.{Frame}
+use Rattle.node_memory.specs.Frames.{frame_in}
+use Rattle.node_memory.specs.Memory.{Memory}
+use Rattle.process_core.specs.Agenda.{Item, Job, job_carrying}
+use Rattle.process_core.specs.Processes.{numbers}
+use Rattle.process_core.specs.Scheduler.{carrying, in_front}
+use Rattle.kernel_core.specs.declared.fields.KernelFields.{KernelFields}
+use Rattle.kernel_core.specs.declared.unshown.Unshown.{Unshown}
+use Rattle.kernel_core.specs.Machine.{Machine}
+use Rattle.kernel_core.specs.Run.{Answers, GoesSilently, one_step, job_done, work_limit}
+use Rattle.kernel_core.specs.Code.Cost.{present}
+use Rattle.kernel_core.specs.Mote.{Mote}
+use Rattle.kernel_core.specs.Code.Draws.{HasFitEvents, debt}
+use Rattle.timer_core.specs.Armings.{Armings, is_present_arming}
+
+-- an expiry was struck out where its arming number isn't the present one
+abbrev pub is_struck : Armings → ℕ → ℕ → ℕ → Bool
+is_struck armings p c arming = not (is_present_arming p c arming armings)
+
+-- the entries that are still to be shown
+
+abbrev pub none_unshown : Unshown
+none_unshown = record { input = None; note = None }
+
+abbrev pub input_items : Option Input → List Item
+input_items None = []
+input_items (Some input) = Item.Show (Entry.Input input) ∷ []
+
+abbrev pub note_items : Option Note → List Item
+note_items None = []
+note_items (Some note) = Item.Show (Entry.Note note) ∷ []
+
+-- the input comes first
+abbrev pub unshown_items : Unshown → List Item
+unshown_items u = input_items u.input ++ note_items u.note
+
+abbrev pub unshown_count : Unshown → ℕ
+unshown_count u = length (unshown_items u)
+
+abbrev pub machine_of : KernelFields → Machine
+machine_of k =
+    record {
+      clock = k.clock;
+      work = k.work;
+      is_halted = k.halted;
+      scheduler = in_front (unshown_items k.unshown) (carrying (is_struck k.timers.armings) k.scheduler.state);
+      timers = k.timers.timers;
+      memory = k.memory.contents;
+      serial = k.serial;
+      is_serial_waiting = k.serial_waits;
+      packets = k.packets;
+    }
+
+-- a turn or a round makes two entries at most
+abbrev pub entries_left_in : KernelFields → ℕ
+entries_left_in k = if k.halted then 0 else 1 + 2 * (work_limit - k.work) + unshown_count k.unshown
+
+abbrev pub mote_of : KernelFields → Mote
+mote_of k = record { machine = machine_of k; inputs = k.inputs; entries_left = entries_left_in k }
+
+-- The frames and the memory fit together
+pub record HoldsFrames (memory : Memory) (frames : List Frame) : Type 0 where
+  -- there is a place for each name
+  pub names : length memory.managed.blocks ≡ NAMES
+  -- a slot's block is live exactly where a held frame has the slot
+  pub live : (slot : ℕ) → slot < 8 → is_some (frame_in slot memory) ≡ list_any (λ frame. frame.slot == slot) frames
+
+-- the fields are in order
+pub record IsInOrder (k : KernelFields) : Type 0 where
+  pub work : k.work ≤ work_limit
+  pub applications : k.applications ≡ k.scheduler.state.applications
+  pub few : k.applications ≤ 16
+  pub idle : k.halted ≡ false → k.scheduler.turn ≡ None
+  pub clock : k.clock ≤ 2 ^ 62
+  pub inputs : k.inputs ≤ 2 ^ 40
+  pub events : HasFitEvents k
+  pub frames : HoldsFrames k.memory.contents k.packets.frames
+  -- a turn draws a number, or ends a process whose callback timers then get four
+  pub draws : debt k ≤ 1 + 8 * (10000 * k.inputs + k.work)
+
+-- an application has the turn, and all that was to be shown is shown
+pub record IsAtTurn (pid : Pid) (k : KernelFields) : Type 0 where
+  pub turn : k.scheduler.turn ≡ Some pid
+  pub shown : k.unshown ≡ none_unshown
+  pub first : 4 ≤ pid.0
+  pub last : pid.0 ≤ 19
+  pub applications : k.applications ≡ k.scheduler.state.applications
+  pub clock : k.clock ≤ 2 ^ 62
+  pub few : k.timers.armings.drawn < 2 ^ 60
+  pub events : HasFitEvents k
+  pub frames : HoldsFrames k.memory.contents k.packets.frames
+  pub distinct : IsDistinct eqb (numbers k.scheduler.state.processes)
+
+-- nothing but the scheduler, the timers, the memory and the devices was changed
+pub record IsOnlyWorked (old new : KernelFields) : Type 0 where
+  pub clock : new.clock ≡ old.clock
+  pub work : new.work ≡ old.work
+  pub halted : new.halted ≡ old.halted
+  pub inputs : new.inputs ≡ old.inputs
+  pub applications : new.applications ≡ old.applications
+  pub mote : new.scheduler.state.applications ≡ old.scheduler.state.applications
+
+-- nor were the memory, the frames that are held, and what is still to be shown
+pub record LeavesFrames (old new : KernelFields) : Type 0 where
+  pub memory : new.memory ≡ old.memory
+  pub frames : new.packets.frames ≡ old.packets.frames
+  pub unshown : new.unshown ≡ old.unshown
+
+-- nothing but the scheduler was changed
+pub record IsOnlyScheduled (old new : KernelFields) : Type 0 where
+  pub worked : IsOnlyWorked old new
+  pub left : LeavesFrames old new
+  pub timers : new.timers ≡ old.timers
+
+-- a call was carried out that leaves memory and frames: it draws four numbers at most
+pub record IsCallDone (old new : KernelFields) : Type 0 where
+  pub worked : IsOnlyWorked old new
+  pub left : LeavesFrames old new
+  pub turn : new.scheduler.turn ≡ None
+  pub events : HasFitEvents new
+  pub draws : debt new ≤ debt old + 4
+
+-- a call was carried out: it draws four numbers at most, and one note comes of it at most
+pub record IsCarriedOut (old new : KernelFields) : Type 0 where
+  pub worked : IsOnlyWorked old new
+  pub turn : new.scheduler.turn ≡ None
+  pub events : HasFitEvents new
+  pub draws : debt new ≤ debt old + 4
+  pub frames : HoldsFrames new.memory.contents new.packets.frames
+  pub unshown : unshown_count new.unshown ≤ 1
+
+-- an input had its effect
+pub record IsTakenIn (old new : KernelFields) : Type 0 where
+  pub work : new.work ≡ old.work
+  pub halted : new.halted ≡ old.halted
+  pub inputs : new.inputs ≡ old.inputs
+  pub applications : new.applications ≡ old.applications
+  pub mote : new.scheduler.state.applications ≡ old.scheduler.state.applications
+  pub timers : new.timers ≡ old.timers
+  pub turn : new.scheduler.turn ≡ old.scheduler.turn
+  pub events : new.scheduler.state.events ≡ old.scheduler.state.events
+  pub agenda : new.scheduler.state.agenda ≡ old.scheduler.state.agenda
+  pub frames : HoldsFrames new.memory.contents new.packets.frames
+
+-- what a kernel process did
+pub record IsServed (old new : KernelFields) : Type 0 where
+  pub worked : IsOnlyWorked old new
+  pub left : LeavesFrames old new
+  pub turn : new.scheduler.turn ≡ old.scheduler.turn
+  pub events : HasFitEvents new
+  -- it works off nothing of the agenda
+  pub agenda : new.scheduler.state.agenda ≡ old.scheduler.state.agenda
+  pub present : present new.scheduler.state ≡ present old.scheduler.state
+
+-- items that are no jobs were worked off, and then this job's own item
+pub record ComesToJob (armings : Armings) (answers : Answers) (old : Machine) (next : Job ℕ) (new : Machine) : Type 0 where
+  pub last : Machine
+  pub before : GoesSilently answers old last
+  pub asked : one_step answers last ≡ job_done answers (Some (job_carrying (is_struck armings) next)) new

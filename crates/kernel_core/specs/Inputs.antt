@@ -1,0 +1,59 @@
+-- What an input does to the mote.
+use Rattle.std.specs.Prelude.{ℕ, ◌+◌, Bool, true, not, List, length, Option, Some, None, if◌then◌else◌, nat_lt}
+use Rattle.mote_types.specs.declared.entry.Entry.{Entry}
+use Rattle.mote_types.specs.declared.entry.Input.{Input}
+use Rattle.mote_types.specs.declared.entry.Note.{Note}
+use Rattle.mote_types.specs.declared.refusal.Refusal.{Refusal}
+use Rattle.device_core.specs.PacketQueue.{is_full, free_slot, with_frame}
+use Rattle.device_core.specs.SerialLine.{after_bytes}
+use Rattle.mmem_core.specs.ManagedStore.{fits}
+use Rattle.node_memory.specs.Frames.{frame_taken}
+use Rattle.kernel_core.specs.Machine.{Machine, with_memory, with_packets, with_serial, mark, shown_first}
+
+-- The clock goes on, and etimer will look for timers that are due.
+abbrev pub ticked : ℕ → Machine → Machine
+ticked n m = mark 0 (record m { clock = m.clock + n })
+
+-- All bytes go into the ring at once, and then process 2 will empty it.
+abbrev pub serial_arrived : List ℕ → Machine → Machine
+serial_arrived bytes m = mark 2 (with_serial (after_bytes m.serial bytes) m)
+
+-- a frame of so many bytes is lost where 8 are held, or else where managed memory has no room for it
+abbrev pub frame_refusal : ℕ → Machine → Option Refusal
+frame_refusal len m =
+    if is_full m.packets then Some Refusal.Full
+    else if not (fits len m.memory.managed) then Some Refusal.NoRoom
+    else None
+
+-- the frame is held under this slot, its bytes lie in a block of process 3, and process 3 will tell the receiver
+abbrev pub frame_held : Option ℕ → List ℕ → Machine → Machine
+frame_held None bytes m = m
+frame_held (Some slot) bytes m =
+    mark 3
+    (with_memory (frame_taken slot bytes m.memory) (with_packets (with_frame slot (length bytes) m.packets) m))
+
+-- a note tells why a frame is lost
+abbrev pub held_unless_lost : Option Refusal → List ℕ → Machine → Machine
+held_unless_lost (Some refusal) bytes m = shown_first (Entry.Note (Note.Lost refusal)) m
+held_unless_lost None bytes m = frame_held (free_slot m.packets) bytes m
+
+abbrev pub frame_arrived : List ℕ → Machine → Machine
+frame_arrived bytes m = held_unless_lost (frame_refusal (length bytes) m) bytes m
+
+abbrev pub effect : Input → Machine → Machine
+effect (Input.Tick n) m = ticked n m
+effect (Input.Serial bytes) m = serial_arrived bytes.items m
+effect (Input.Frame bytes) m = frame_arrived bytes.items m
+
+-- the input is handed in: its entry comes first, and the work counts from 0 again
+abbrev pub fed : Input → Machine → Machine
+fed input m = shown_first (Entry.Input input) (effect input (record m { work = 0 }))
+
+abbrev pub ticks_of : Input → ℕ
+ticks_of (Input.Tick n) = n
+ticks_of _ = 0
+
+-- a frame has at least one byte
+abbrev pub has_bytes : Input → Bool
+has_bytes (Input.Frame bytes) = nat_lt 0 (length bytes.items)
+has_bytes _ = true

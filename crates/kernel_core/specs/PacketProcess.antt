@@ -1,0 +1,42 @@
+-- Process 3 (packet), which tells the receiver of the frames that came in.
+use Rattle.std.specs.Prelude.{ℕ, Bool, ◌&&◌, Option, Some, None, is_some, if◌then◌else◌, ◌==◌}
+use Rattle.mote_types.specs.declared.event.Event.{Event}
+use Rattle.mote_types.specs.declared.event.TheConstants.{POLL, EXITED, PACKET}
+use Rattle.mote_types.specs.Codes.{number_event}
+use Rattle.device_core.specs.declared.frame.Frame.{Frame}
+use Rattle.device_core.specs.PacketQueue.{PacketQueue, unannounced, with_announced, forgotten}
+use Rattle.process_core.specs.Agenda.{Queued}
+use Rattle.kernel_core.specs.Machine.{Machine, with_packets, with_event, free_places, mark}
+use Rattle.kernel_core.specs.Repeating.{times}
+use Rattle.kernel_core.specs.TimerProcesses.{exited_application}
+
+-- the receiver is told of the frame by an event with its length, if there are both
+abbrev pub announce_to : Option ℕ → Option Frame → Machine → Machine
+announce_to (Some receiver) (Some frame) m =
+    with_event (Queued.To receiver (number_event PACKET frame.len)) (with_packets (with_announced m.packets) m)
+announce_to _ _ m = m
+
+-- the receiver is told of the first frame that it wasn't told of
+abbrev pub announce_next : Machine → Machine
+announce_next m = announce_to m.packets.receiver (unannounced m.packets) m
+
+-- there is a receiver, and a frame that it wasn't told of
+abbrev pub has_news : PacketQueue → Bool
+has_news queue = is_some queue.receiver && is_some (unannounced queue)
+
+-- For each free place of the queue the receiver is told of the next frame. Where one is left, process 3 looks again
+abbrev pub announce : Machine → Machine
+announce m =
+    let after = times (free_places m) announce_next m in
+    if has_news after.packets then mark 3 after else after
+
+-- where the receiver has ended there is none, and no frame counts as announced
+abbrev pub forget_receiver : Option ℕ → Machine → Machine
+forget_receiver None m = m
+forget_receiver (Some p) m = with_packets (forgotten p m.packets) m
+
+abbrev pub packet : Event → Machine → Machine
+packet event m =
+    if event.code == POLL then announce m
+    else if event.code == EXITED then forget_receiver (exited_application event.payload) m
+    else m

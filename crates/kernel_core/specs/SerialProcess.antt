@@ -1,0 +1,56 @@
+-- Process 2 (serial line), which broadcasts the lines that came in.
+use Rattle.std.specs.Prelude.{ℕ, suc, true, false, List, Option, Some, None, if◌then◌else◌, ◌==◌, filter, length}
+use Rattle.mote_types.specs.declared.event.Event.{Event}
+use Rattle.mote_types.specs.declared.event.Payload.{Payload}
+use Rattle.mote_types.specs.declared.event.TheConstants.{POLL, CONTINUE, SERIAL_LINE}
+use Rattle.mote_types.specs.Codes.{plain_event}
+use Rattle.device_core.specs.SerialLine.{SerialLine, is_line_end, line_of, next_line, after_line}
+use Rattle.process_core.specs.Agenda.{Queued}
+use Rattle.process_core.specs.Scheduler.{has_room}
+use Rattle.kernel_core.specs.Machine.{Machine, with_serial, with_event}
+use Rattle.kernel_core.specs.Repeating.{times}
+
+abbrev pub line_event : List ℕ → Event
+line_event line = record { code = SERIAL_LINE; payload = Payload.Line (line_of line) }
+
+-- the line is broadcast. It is lost where the queue is full
+abbrev pub broadcast_line : List ℕ → Machine → Machine
+broadcast_line line m = if has_room m.scheduler then with_event (Queued.ToAll (line_event line)) m else m
+
+-- CONTINUE is posted to process 2, which waits for it. Where the queue is full it does not wait
+abbrev pub post_continue : Machine → Machine
+post_continue m =
+    if has_room m.scheduler
+    then with_event (Queued.To 2 (plain_event CONTINUE)) (record m { is_serial_waiting = true })
+    else m
+
+abbrev pub line_served : Option (List ℕ) → Machine → Machine
+line_served None m = m
+line_served (Some line) m = post_continue (broadcast_line line m)
+
+-- The next whole line leaves the ring and is broadcast; where there is none, the bytes in the ring go into the line that began.
+-- While process 2 waits, the ring stays as it is
+abbrev pub serve_line : Machine → Machine
+serve_line m =
+    if m.is_serial_waiting then m else line_served (next_line m.serial) (with_serial (after_line m.serial) m)
+
+-- how many whole lines the ring has
+abbrev pub line_count : SerialLine → ℕ
+line_count serial = length (filter is_line_end serial.ring)
+
+-- the ring is emptied: line by line, and then the bytes behind the last line
+abbrev pub empty_ring : Machine → Machine
+empty_ring m = times (suc (line_count m.serial)) serve_line m
+
+abbrev pub serial_line_polled : Machine → Machine
+serial_line_polled m = if m.is_serial_waiting then m else empty_ring m
+
+-- the wait ends, whoever posted CONTINUE
+abbrev pub serial_line_continued : Machine → Machine
+serial_line_continued m = empty_ring (record m { is_serial_waiting = false })
+
+abbrev pub serial_line : Event → Machine → Machine
+serial_line event m =
+    if event.code == POLL then serial_line_polled m
+    else if event.code == CONTINUE then serial_line_continued m
+    else m

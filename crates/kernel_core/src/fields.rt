@@ -1,0 +1,148 @@
+//! The fields of a kernel, and how they change.
+
+ghost use Rattle.std.specs.Prelude.{◌≡◌, ◌<◌, ◌≤◌, ◌+◌, ◌-◌, ◌*◌, ◌^◌, ◌∷◌, ℕ, Bool, true, false, ◌||◌, None, Some, List, [], ◌++◌, length, slice_get, IfSome, eqb};
+ghost use Rattle.std.specs.List.{list_any, IsDistinct};
+ghost use Rattle.mote_types.specs.Applications.{says_of};
+ghost use Rattle.mote_types.specs.Entries.{is_halt};
+ghost use Rattle.mote_types.specs.declared.entry.Entry.{Entry as MadeEntry};
+ghost use Rattle.mote_types.specs.declared.event.Stimulus.{Stimulus as Told};
+ghost use Rattle.kernel_core.specs.Mote.{TakesEntry};
+ghost use Rattle.kernel_core.specs.Code.View.{HoldsFrames, machine_of, mote_of, none_unshown, entries_left_in, IsInOrder};
+ghost use Rattle.process_core.specs.declared.job.Job as ready;
+ghost use Rattle.process_core.specs.SchedulerView.{job_of, turn_of, callback_of};
+ghost use Rattle.process_core.specs.Processes.{IsApplication, numbers};
+ghost use Rattle.process_core.specs.Scheduler.{IsWellFormed};
+ghost use Rattle.kernel_core.specs.Code.Draws.{HasFitEvents, IsFitJob, debt, draws_of_job};
+ghost use Rattle.kernel_core.specs.Code.Cost.{IsPaid, costs, present};
+ghost use Rattle.kernel_core.specs.Code.View.{ComesToJob};
+ghost use Rattle.kernel_core.specs.Inputs.{fed, has_bytes, ticks_of};
+ghost use Rattle.kernel_core.specs.Run.{Answers, silent, is_at_rest, GoesOn, heard, made, job_done, within_limit, turn_taken, with_more_work};
+ghost use Rattle.kernel_core.specs.Machine.{Machine};
+
+use crate::step::Step;
+use crate::unshown::Unshown;
+use device_core::packet_queue::PacketQueue;
+use device_core::serial_line::SerialLine;
+use mote_types::app::App;
+use mote_types::ask::ask;
+use mote_types::entry::{Entry, Input};
+use mote_types::event::{ETIMER, Origin, Pid, SERIAL_PROCESS, Stimulus};
+use node_memory::NodeMemory;
+use process_core::job::Job;
+use process_core::scheduler::Scheduler;
+use timer_core::timers::Timers;
+
+/// The turns and rounds that one input may take.
+pub const WORK_LIMIT: u32 = 10_000;
+
+/// The fields of a kernel.
+#[derive(Drop)]
+pub struct KernelFields {
+    pub clock: u64,
+    pub work: u32,
+    pub halted: bool,
+    pub inputs: u64,
+    pub applications: u8,
+    /// These entries are made before anything else is done.
+    pub unshown: Unshown,
+    pub scheduler: Scheduler,
+    pub timers: Timers,
+    pub memory: NodeMemory,
+    pub serial: SerialLine,
+    /// A line was broadcast, and the serial line's process waits for its CONTINUE.
+    pub serial_waits: bool,
+    pub packets: PacketQueue,
+}
+
+impl KernelFields {
+    /// The application takes a turn, or the run is halted.
+    pub fn take_turn(
+        &mut self,
+        apps: &mut [Box<dyn App>],
+        pid: Pid,
+        origin: Origin,
+        stimulus: Stimulus,
+    ) -> Entry
+        requires least { 4 ≤ pid.0 }
+        requires few { self.old.applications ≤ 16 }
+        requires present { pid.0 < 4 + length apps.old }
+        requires boxes { length apps.old ≡ self.old.applications }
+        requires running { self.old.halted ≡ false }
+        requires nothing_shown { self.old.unshown ≡ none_unshown }
+        requires turn { self.old.scheduler.turn ≡ Some pid }
+        requires applications { self.old.applications ≡ self.old.scheduler.state.applications }
+        requires work { self.old.work ≤ 10000 }
+        requires last { pid.0 ≤ 19 }
+        requires clock { self.old.clock ≤ 2 ^ 62 }
+        requires inputs { self.old.inputs ≤ 2 ^ 40 }
+        requires events { HasFitEvents self.old }
+        requires draws { debt self.old ≤ 1 + 8 * (10000 * self.old.inputs + self.old.work) }
+        requires distinct { IsDistinct eqb (numbers self.old.scheduler.state.processes) }
+        requires frames { HoldsFrames self.old.memory.contents self.old.packets.frames }
+        ensures machine { within_limit (machine_of self.old) (turn_taken pid.0 origin stimulus (says_of says apps.old pid.0 (stimulus ∷ [])) (machine_of self.old)) ≡ (machine_of self.new, Some result) }
+        ensures left { entries_left_in self.new < entries_left_in self.old }
+        ensures halted { self.new.halted ≡ is_halt result }
+        ensures clock { self.new.clock ≡ self.old.clock }
+        ensures order { IsInOrder self.new }
+        ensures kept { (self.new.inputs ≡ self.old.inputs) × (self.new.scheduler.state.applications ≡ self.old.scheduler.state.applications) }
+        ensures law { (p : ℕ) (next : Told) (later : List Told) →
+            says_of says apps.new p (next ∷ later) ≡ says_of says apps.old p (heard p (result ∷ []) ++ (next ∷ later)) }
+        ensures others { (p : ℕ) → 4 ≤ p → heard p (result ∷ []) ≡ [] → slice_get apps.new (p - 4) ≡ slice_get apps.old (p - 4) }
+    {
+        if self.work == WORK_LIMIT {
+            self.halted = true;
+            return Entry::Halt;
+        }
+        self.work += 1;
+        let call = ask(apps, pid, &stimulus);
+        self.carry_out(pid, &call);
+        Entry::Turn {
+            pid,
+            origin,
+            stimulus,
+            call,
+        }
+    }
+
+    /// A round begins, or the run is halted.
+    pub fn begin_round(&mut self) -> Option<Entry>
+        requires order { IsInOrder self.old }
+        requires running { self.old.halted ≡ false }
+        requires nothing_shown { self.old.unshown ≡ none_unshown }
+        ensures machine { within_limit (machine_of self.old) (silent (with_more_work (machine_of self.old))) ≡ (machine_of self.new, result) }
+        ensures order { IsInOrder self.new }
+        ensures kept { self.new ≡ record self.old { work = self.new.work; halted = self.new.halted } }
+        ensures halts { IfSome result (λ entry. (entry ≡ MadeEntry.Halt) × (self.new.halted ≡ true) × (entries_left_in self.new < entries_left_in self.old)) }
+        ensures begins { result ≡ None → (self.new.halted ≡ false) × (self.new.work ≡ self.old.work + 1) }
+    {
+        if self.work == WORK_LIMIT {
+            self.halted = true;
+            return Some(Entry::Halt);
+        }
+        self.work += 1;
+        None
+    }
+
+    /// The next thing that is to be done, which is taken from the agenda.
+    pub fn next_job(&mut self) -> Job
+        requires order { IsInOrder self.old }
+        requires running { self.old.halted ≡ false }
+        requires nothing_shown { self.old.unshown ≡ none_unshown }
+        ensures reached { (answers : Answers) → ComesToJob self.old.timers.armings answers (machine_of self.old) (job_of result) (machine_of self.new) }
+        ensures paid { (bound : ℕ) → present self.old.scheduler.state ≤ bound →
+            IsPaid bound (Some (job_of result)) (costs bound self.old.scheduler.state.agenda) (costs bound self.new.scheduler.state.agenda)
+            × (present self.new.scheduler.state ≤ present self.old.scheduler.state) }
+        ensures turn { self.new.scheduler.turn ≡ turn_of result }
+        ensures active { IfSome self.new.scheduler.turn (λ p. IsApplication self.new.applications p.0) }
+        ensures applications { self.new.scheduler.state.applications ≡ self.old.scheduler.state.applications }
+        ensures rest { result ≡ ready.Job.Rest → is_at_rest (machine_of self.new) ≡ true }
+        ensures kept { self.new ≡ record self.old { scheduler = self.new.scheduler } }
+        ensures callback { self.new.scheduler.callback ≡ callback_of result }
+        ensures standing { IsWellFormed self.new.scheduler.state }
+        ensures events { HasFitEvents self.new }
+        ensures draws { debt self.new + draws_of_job (job_of result) ≤ debt self.old }
+        ensures expiry { IsFitJob self.old.timers.armings.drawn (job_of result) }
+    {
+        self.scheduler.next()
+    }
+}

@@ -1,0 +1,97 @@
+//! What reaches the mote from outside.
+
+ghost use Rattle.std.specs.Prelude.{◌≡◌, ◌<◌, ◌≤◌, ◌+◌, ◌^◌, true, length, None, Some, IfErr, IfOk};
+ghost use Rattle.mmem_core.specs.ManagedStore.{free};
+ghost use Rattle.kernel_core.specs.Inputs.{effect, frame_arrived, frame_held, frame_refusal, has_bytes, ticks_of};
+ghost use Rattle.kernel_core.specs.Code.View.{machine_of, none_unshown, HoldsFrames, IsTakenIn};
+ghost use Rattle.device_core.specs.PacketQueue.{free_slot};
+
+use crate::fields::KernelFields;
+use device_core::packet_queue::MOST_FRAMES;
+use mote_types::call::Call;
+use mote_types::entry::{Input, Note};
+use mote_types::event::{ETIMER, PACKET_PROCESS, SERIAL_PROCESS};
+use mote_types::refusal::Refusal;
+use mote_types::reply::Reply;
+
+impl KernelFields {
+    /// How many bytes of managed memory are free.
+    fn free_bytes(&mut self) -> u32
+        ensures free { result ≡ free self.old.memory.contents.managed }
+        ensures machine { machine_of self.new ≡ machine_of self.old }
+        ensures same { self.new ≡ record self.old { memory = self.new.memory } }
+    {
+        match self.memory.ask(PACKET_PROCESS, &Call::MmemAvail) {
+            Reply::Num(free) => free,
+            _ => 0,
+        }
+    }
+
+    /// Holds a frame, unless 8 are held or managed memory has no room for it.
+    fn hold_frame(&mut self, bytes: &[u8]) -> Result<(), Refusal>
+        requires least { 1 ≤ length bytes.now }
+        requires most { length bytes.now ≤ 127 }
+        requires frames { HoldsFrames self.old.memory.contents self.old.packets.frames }
+        ensures held { IfOk result (λ _. (frame_refusal (length bytes.now) (machine_of self.old) ≡ None)
+            × (machine_of self.new ≡ frame_held (free_slot self.old.packets) bytes.now (machine_of self.old))) }
+        ensures lost { IfErr result (λ refusal. (frame_refusal (length bytes.now) (machine_of self.old) ≡ Some refusal)
+            × (machine_of self.new ≡ machine_of self.old)) }
+        ensures kept { IsTakenIn self.old self.new }
+        ensures clock { self.new.clock ≡ self.old.clock }
+        ensures shown { self.new.unshown ≡ self.old.unshown }
+    {
+        if self.packets.held() as usize == MOST_FRAMES {
+            return Err(Refusal::Full);
+        }
+        let size = (bytes.len() as u32 + 3) / 4 * 4;
+        if self.free_bytes() < size {
+            return Err(Refusal::NoRoom);
+        }
+        let Some(slot) = self.packets.arrive(bytes.len() as u8) else {
+            return Err(Refusal::Full);
+        };
+        self.memory.take_frame(slot, bytes)?;
+        self.scheduler.mark(PACKET_PROCESS);
+        Ok(())
+    }
+
+    /// A frame has come in. Where it is lost, a note tells why.
+    fn receive_frame(&mut self, bytes: &[u8])
+        requires least { 1 ≤ length bytes.now }
+        requires most { length bytes.now ≤ 127 }
+        requires frames { HoldsFrames self.old.memory.contents self.old.packets.frames }
+        requires shown { self.old.unshown ≡ none_unshown }
+        ensures machine { machine_of self.new ≡ frame_arrived bytes.now (machine_of self.old) }
+        ensures kept { IsTakenIn self.old self.new }
+        ensures clock { self.new.clock ≡ self.old.clock }
+        ensures shown { self.new.unshown.input ≡ None }
+    {
+        if let Err(refusal) = self.hold_frame(bytes) {
+            self.unshown.note = Some(Note::Lost(refusal));
+        }
+    }
+
+    /// The clock goes on, bytes come in on the serial line, or a frame comes in.
+    pub fn take_in(&mut self, input: &Input)
+        requires clock { self.old.clock + ticks_of input.now ≤ 2 ^ 62 }
+        requires bytes { has_bytes input.now ≡ true }
+        requires frames { HoldsFrames self.old.memory.contents self.old.packets.frames }
+        requires shown { self.old.unshown ≡ none_unshown }
+        ensures machine { machine_of self.new ≡ effect input.now (machine_of self.old) }
+        ensures kept { IsTakenIn self.old self.new }
+        ensures clock { self.new.clock ≡ self.old.clock + ticks_of input.now }
+        ensures shown { self.new.unshown.input ≡ None }
+    {
+        match input {
+            Input::Tick(ticks) => {
+                self.clock += *ticks as u64;
+                self.scheduler.mark(ETIMER);
+            }
+            Input::Serial(bytes) => {
+                self.serial.input(bytes.as_slice());
+                self.scheduler.mark(SERIAL_PROCESS);
+            }
+            Input::Frame(bytes) => self.receive_frame(bytes.as_slice()),
+        }
+    }
+}

@@ -1,0 +1,134 @@
+//! What the kernel does at an application's calls on packets. A call that is refused changes nothing.
+
+ghost use Rattle.std.specs.Prelude.{◌≡◌, ◌<◌, None, Some, IfErr, IfOk};
+ghost use Rattle.mote_types.specs.declared.reply.Reply.{Reply as Answer};
+ghost use Rattle.device_core.specs.PacketQueue.{front_slot, is_receiver};
+ghost use Rattle.kernel_core.specs.PacketCalls.{front_refusal, front_read_refusal, front_read};
+ghost use Rattle.mote_types.specs.declared.call.Call.{Call};
+ghost use Rattle.kernel_core.specs.Calls.{after_call};
+ghost use Rattle.kernel_core.specs.Code.View.{machine_of, IsAtTurn, IsCarriedOut};
+
+use crate::fields::KernelFields;
+use arrayvec::ArrayVec;
+use mote_types::entry::Note;
+use mote_types::event::{PACKET_PROCESS, Pid};
+use mote_types::refusal::Refusal;
+use mote_types::reply::{Chunk, Reply};
+
+/// The most bytes of one read.
+const MOST_READ: u8 = 64;
+
+impl KernelFields {
+    /// Whether an application is the one that frames are for.
+    fn is_receiver(&self, pid: Pid) -> bool
+        ensures { result ≡ is_receiver self.now.packets pid.0 }
+    {
+        self.packets
+            .receiver()
+            .is_some_and(|receiver| receiver.0 == pid.0)
+    }
+
+    /// The application becomes the receiver, unless there is one.
+    pub fn open_packets(&mut self, pid: Pid)
+        requires at_turn { IsAtTurn pid self.old }
+        ensures machine { machine_of self.new ≡ after_call Call.PacketOpen pid.0 (machine_of self.old) }
+        ensures kept { IsCarriedOut self.old self.new }
+    {
+        if self.scheduler.is_ending(pid) {
+            return self.refuse(pid, Refusal::NotRunning);
+        }
+        if self.is_receiver(pid) {
+            return self.refuse(pid, Refusal::Already);
+        }
+        if self.packets.receiver().is_some() {
+            return self.refuse(pid, Refusal::Busy);
+        }
+        self.packets.claim(pid);
+        self.scheduler.mark(PACKET_PROCESS);
+        self.answer(pid, Reply::Done);
+    }
+
+    /// Reads from the front frame.
+    pub fn read_packet(&mut self, pid: Pid, at: u32, len: u8)
+        requires at_turn { IsAtTurn pid self.old }
+        ensures machine { machine_of self.new ≡ after_call (Call.PacketRead at len) pid.0 (machine_of self.old) }
+        ensures kept { IsCarriedOut self.old self.new }
+    {
+        match self.front_range(pid, at, len) {
+            Ok(chunk) => self.answer(pid, Reply::Bytes(chunk)),
+            Err(refusal) => self.refuse(pid, refusal),
+        }
+    }
+
+    /// The slot of the front frame, which is for the receiver alone.
+    fn front_slot_for(&self, pid: Pid) -> Result<u8, Refusal>
+        ensures held { IfOk result (λ slot. (front_refusal pid.0 (machine_of self.now) ≡ None) × (front_slot self.now.packets ≡ Some slot)) }
+        ensures within { IfOk result (λ slot. slot < 8) }
+        ensures refused { IfErr result (λ refusal. front_refusal pid.0 (machine_of self.now) ≡ Some refusal) }
+    {
+        if !self.is_receiver(pid) {
+            return Err(Refusal::NotReceiver);
+        }
+        let frame = self.packets.front().ok_or(Refusal::NoPacket)?;
+        Ok(frame.slot)
+    }
+
+    /// A range of the front frame's bytes.
+    fn front_range(&self, pid: Pid, at: u32, len: u8) -> Result<Chunk, Refusal>
+        requires at_turn { IsAtTurn pid self.now }
+        ensures read { IfOk result (λ chunk. (front_read_refusal pid.0 at len (machine_of self.now) ≡ None)
+            × (Answer.Bytes chunk ≡ front_read at len (machine_of self.now))) }
+        ensures refused { IfErr result (λ refusal. front_read_refusal pid.0 at len (machine_of self.now) ≡ Some refusal) }
+    {
+        let slot = self.front_slot_for(pid)?;
+        let bytes = self.memory.frame_bytes(slot);
+        if len > MOST_READ || at as u64 + len as u64 > bytes.len() as u64 {
+            return Err(Refusal::Range);
+        }
+        let mut chunk = ArrayVec::new();
+        let _ = chunk.try_extend_from_slice(&bytes[at as usize..at as usize + len as usize]);
+        Ok(chunk)
+    }
+
+    /// Gives the front frame back.
+    pub fn drop_packet(&mut self, pid: Pid)
+        requires at_turn { IsAtTurn pid self.old }
+        ensures machine { machine_of self.new ≡ after_call Call.PacketDone pid.0 (machine_of self.old) }
+        ensures kept { IsCarriedOut self.old self.new }
+    {
+        if let Err(refusal) = self.front_slot_for(pid) {
+            return self.refuse(pid, refusal);
+        }
+        let _held = self.packets.held();
+        let slot = self.packets.done();
+        self.memory.drop_frame(slot);
+        self.answer(pid, Reply::Done);
+    }
+
+    /// Tells how many frames are held.
+    pub fn count_packets(&mut self, pid: Pid)
+        requires at_turn { IsAtTurn pid self.old }
+        ensures machine { machine_of self.new ≡ after_call Call.PacketCount pid.0 (machine_of self.old) }
+        ensures kept { IsCarriedOut self.old self.new }
+    {
+        let count = self.packets.held();
+        self.answer(pid, Reply::Num(u32::from(count)));
+    }
+
+    /// Sends the bytes of a handle's block: a note tells them, before the answer.
+    pub fn send_packet(&mut self, pid: Pid, handle: u8)
+        requires at_turn { IsAtTurn pid self.old }
+        ensures machine { machine_of self.new ≡ after_call (Call.PacketSend handle) pid.0 (machine_of self.old) }
+        ensures kept { IsCarriedOut self.old self.new }
+    {
+        let mut sent = ArrayVec::new();
+        match self.memory.send_bytes(pid, handle) {
+            Ok(bytes) => {
+                let _ = sent.try_extend_from_slice(bytes);
+            }
+            Err(refusal) => return self.refuse(pid, refusal),
+        }
+        self.answer(pid, Reply::Done);
+        self.unshown.note = Some(Note::Sent(sent));
+    }
+}

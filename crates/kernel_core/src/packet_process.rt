@@ -1,0 +1,86 @@
+//! Process 3 (packet), which tells the receiver of the frames that came in.
+
+ghost use Rattle.std.specs.Prelude.{◌≡◌, ◌+◌, true, false, length};
+ghost use Rattle.mote_types.specs.Codes.{number_event};
+ghost use Rattle.process_core.specs.Scheduler.{has_room};
+ghost use Rattle.kernel_core.specs.Code.Draws.{HasFitEvents, debt};
+ghost use Rattle.kernel_core.specs.Code.View.{machine_of, IsServed};
+ghost use Rattle.kernel_core.specs.Machine.{free_places};
+ghost use Rattle.kernel_core.specs.PacketProcess as process;
+ghost use Rattle.kernel_core.specs.Repeating.{times};
+ghost use Rattle.kernel_core.specs.TimerProcesses.{exited_application};
+
+use crate::fields::KernelFields;
+use crate::kernel_processes::exited_application;
+use mote_types::event::{Event, PACKET, PACKET_PROCESS, Payload};
+
+fn packet_event(len: u8) -> Event
+    ensures { result ≡ number_event PACKET len }
+{
+    Event {
+        code: PACKET,
+        payload: Payload::Num(u32::from(len)),
+    }
+}
+
+impl KernelFields {
+    /// Tells the receiver of the next frame, if there is a receiver and such a frame.
+    fn announce_next(&mut self) -> bool
+        requires room { has_room self.old.scheduler.state ≡ true }
+        requires events { HasFitEvents self.old }
+        ensures machine { machine_of self.new ≡ process.announce_next (machine_of self.old) }
+        ensures nothing { result ≡ false → machine_of self.new ≡ machine_of self.old }
+        ensures posted { result ≡ true → length self.new.scheduler.state.events ≡ length self.old.scheduler.state.events + 1 }
+        ensures kept { IsServed self.old self.new }
+        ensures draws { debt self.new ≡ debt self.old }
+    {
+        let Some(receiver) = self.packets.receiver() else {
+            return false;
+        };
+        let Some(frame) = self.packets.unannounced() else {
+            return false;
+        };
+        let _ = self.scheduler.post(receiver, packet_event(frame.len));
+        self.packets.announced();
+        true
+    }
+
+    /// Tells the receiver of frames as long as the queue has room.
+    fn announce_while_room(&mut self)
+        requires events { HasFitEvents self.old }
+        ensures machine { machine_of self.new ≡ times (free_places (machine_of self.old)) process.announce_next (machine_of self.old) }
+        ensures kept { IsServed self.old self.new }
+        ensures draws { debt self.new ≡ debt self.old }
+    {
+        while self.scheduler.has_room() {
+            if !self.announce_next() {
+                return;
+            }
+        }
+    }
+
+    /// Tells the receiver of frames as long as the queue has room. Where one is left, the process is polled again.
+    pub fn announce(&mut self)
+        requires events { HasFitEvents self.old }
+        ensures machine { machine_of self.new ≡ process.announce (machine_of self.old) }
+        ensures kept { IsServed self.old self.new }
+        ensures draws { debt self.new ≡ debt self.old }
+    {
+        self.announce_while_room();
+        if self.packets.receiver().is_some() && self.packets.unannounced().is_some() {
+            self.scheduler.mark(PACKET_PROCESS);
+        }
+    }
+
+    /// Where the receiver has ended there is none, and no frame counts as announced.
+    pub fn forget_receiver(&mut self, payload: &Payload)
+        requires events { HasFitEvents self.old }
+        ensures machine { machine_of self.new ≡ process.forget_receiver (exited_application payload.now) (machine_of self.old) }
+        ensures kept { IsServed self.old self.new }
+        ensures draws { debt self.new ≡ debt self.old }
+    {
+        if let Some(pid) = exited_application(payload) {
+            self.packets.forget(pid);
+        }
+    }
+}

@@ -1,0 +1,109 @@
+//! Process 0 (etimer), which posts the timers that have run out, and process 1 (ctimer), for callback timers.
+
+ghost use Rattle.std.specs.Prelude.{◌≡◌, ◌≤◌, ◌<◌, ◌+◌, ◌^◌, true, false, length};
+ghost use Rattle.process_core.specs.Scheduler.{has_room};
+ghost use Rattle.mote_types.specs.Codes.{number_event};
+ghost use Rattle.kernel_core.specs.Code.Draws.{HasFitEvents, debt};
+ghost use Rattle.kernel_core.specs.Repeating.{times};
+ghost use Rattle.kernel_core.specs.Machine.{free_places};
+ghost use Rattle.kernel_core.specs.TimerProcesses as processes;
+ghost use Rattle.kernel_core.specs.TimerProcesses.{exited_application};
+ghost use Rattle.kernel_core.specs.Code.View.{machine_of, IsServed};
+
+use crate::fields::KernelFields;
+use crate::kernel_processes::exited_application;
+use mote_types::event::{ETIMER, Event, Payload, TIMER};
+use timer_core::due::Due;
+
+fn timer_event(number: u8) -> Event
+    ensures { result ≡ number_event TIMER number }
+{
+    Event {
+        code: TIMER,
+        payload: Payload::Num(u32::from(number)),
+    }
+}
+
+impl KernelFields {
+    /// Posts the first due timer, if there is one.
+    fn post_first_due(&mut self) -> bool
+        requires room { has_room self.old.scheduler.state ≡ true }
+        requires events { HasFitEvents self.old }
+        ensures machine { machine_of self.new ≡ processes.post_first_due (machine_of self.old) }
+        ensures nothing { result ≡ false → machine_of self.new ≡ machine_of self.old }
+        ensures posted { result ≡ true → length self.new.scheduler.state.events ≡ length self.old.scheduler.state.events + 1 }
+        ensures kept { IsServed self.old self.new }
+        ensures draws { debt self.new ≡ debt self.old }
+    {
+        match self.timers.take_due(self.clock) {
+            Some(Due::Timer { pid, number }) => {
+                let _ = self.scheduler.post(pid, timer_event(number));
+                true
+            }
+            Some(
+                Due::Callback {
+                    pid,
+                    number,
+                    arming,
+                },
+            ) => {
+                let _ = self.scheduler.post_callback(pid, number, arming);
+                true
+            }
+            None => false,
+        }
+    }
+
+    /// Posts due timers as long as the queue has room.
+    fn post_while_room(&mut self)
+        requires events { HasFitEvents self.old }
+        ensures machine { machine_of self.new ≡ times (free_places (machine_of self.old)) processes.post_first_due (machine_of self.old) }
+        ensures kept { IsServed self.old self.new }
+        ensures draws { debt self.new ≡ debt self.old }
+    {
+        while self.scheduler.has_room() {
+            if !self.post_first_due() {
+                return;
+            }
+        }
+    }
+
+    /// Posts due timers as long as the queue has room. Where one is left, etimer is polled again.
+    pub fn post_due(&mut self)
+        requires events { HasFitEvents self.old }
+        ensures machine { machine_of self.new ≡ processes.post_due (machine_of self.old) }
+        ensures kept { IsServed self.old self.new }
+        ensures draws { debt self.new ≡ debt self.old }
+    {
+        self.post_while_room();
+        if self.timers.any_due(self.clock) {
+            self.scheduler.mark(ETIMER);
+        }
+    }
+
+    /// The event timers of an application that has ended leave the timer list.
+    pub fn forget_event_timers(&mut self, payload: &Payload)
+        requires events { HasFitEvents self.old }
+        ensures machine { machine_of self.new ≡ processes.forget_event_timers (exited_application payload.now) (machine_of self.old) }
+        ensures kept { IsServed self.old self.new }
+        ensures draws { debt self.new ≡ debt self.old }
+    {
+        if let Some(pid) = exited_application(payload) {
+            self.timers.forget(pid);
+        }
+    }
+
+    /// The callback timers of an application that has ended leave the timer list, and what waits of them in the queue
+    /// counts no more.
+    pub fn forget_callback_timers(&mut self, payload: &Payload)
+        requires few { self.old.timers.armings.drawn < 2 ^ 60 }
+        requires events { HasFitEvents self.old }
+        ensures machine { machine_of self.new ≡ processes.forget_callback_timers (exited_application payload.now) (machine_of self.old) }
+        ensures kept { IsServed self.old self.new }
+        ensures draws { debt self.new ≤ debt self.old + 4 }
+    {
+        if let Some(pid) = exited_application(payload) {
+            self.timers.forget_callbacks(pid);
+        }
+    }
+}

@@ -1,0 +1,62 @@
+//! The arena: zeros, moves, words, and two loans at once.
+
+use arena_core::{Arena, Span, pair_mut};
+use std::test::Fail;
+
+#[test]
+fn hands_out_zeros(rt: HostRuntime) -> Result<(), Fail> {
+    let mut arena = Arena::new(rt.alloc(), 12)?;
+    let first = arena.carve(8);
+    let rest = arena.carve(4);
+    assert_eq!(rt; first, Some(Span { at: 0, len: 8 }));
+    assert_eq!(rt; rest, Some(Span { at: 8, len: 4 }));
+    assert_eq!(rt; arena.carve(1), None);
+    assert_eq!(rt; arena.bytes(Span { at: 0, len: 12 }), [0; 12].as_slice());
+    Ok(())
+}
+
+/// A move up and one down, each over a range that overlaps where it came from.
+#[test]
+fn slides_overlapping_ranges(rt: HostRuntime) -> Result<(), Fail> {
+    let mut arena = Arena::new(rt.alloc(), 8)?;
+    let all = Span { at: 0, len: 8 };
+    arena
+        .bytes_mut(Span { at: 0, len: 4 })
+        .copy_from_slice(&[1, 2, 3, 4]);
+    arena.slide(0, 2, 4);
+    assert_eq!(rt; arena.bytes(all), [1, 2, 1, 2, 3, 4, 0, 0].as_slice());
+    arena.slide(2, 0, 4);
+    assert_eq!(rt; arena.bytes(all), [1, 2, 3, 4, 3, 4, 0, 0].as_slice());
+    Ok(())
+}
+
+/// The low byte of a word comes first.
+#[test]
+fn writes_words(rt: HostRuntime) -> Result<(), Fail> {
+    let mut arena = Arena::new(rt.alloc(), 9)?;
+    arena.put_word(1, 0x0403_0201);
+    arena.copy(1, 5, 4);
+    arena.fill(Span { at: 2, len: 2 }, 9);
+    assert_eq!(rt;
+        arena.bytes(Span { at: 0, len: 9 }),
+        [0, 1, 9, 9, 4, 1, 2, 3, 4].as_slice()
+    );
+    assert_eq!(rt; arena.word(5), 0x0403_0201);
+    Ok(())
+}
+
+/// The two ends are written at once; what lies between them stays.
+#[test]
+fn lends_two_ranges(rt: HostRuntime) -> Result<(), Fail> {
+    let mut arena = Arena::new(rt.alloc(), 6)?;
+    let (low, high) = pair_mut(
+        arena.all_mut(),
+        Span { at: 0, len: 2 },
+        Span { at: 4, len: 2 },
+    );
+    low.copy_from_slice(&[1, 2]);
+    high.copy_from_slice(&[3, 4]);
+    let all = arena.carve(6).ok_or("no span")?;
+    assert_eq!(rt; arena.bytes(all), [1, 2, 0, 0, 3, 4].as_slice());
+    Ok(())
+}

@@ -1,0 +1,112 @@
+//! The timers, with values worked out by hand.
+
+use mote_types::event::Pid;
+use mote_types::refusal::Refusal;
+use timer_core::due::Due;
+use timer_core::timers::{LATEST, Timers};
+
+const FIRST: Pid = Pid(4);
+
+const LAST: Pid = Pid(19);
+
+/// The number of the event timer that has run out, or 99.
+fn event_number(due: Option<Due>) -> u8 {
+    match due {
+        Some(Due::Timer { number, .. }) => number,
+        _ => 99,
+    }
+}
+
+/// The arming number of the callback timer that has run out, or 0, which no arming gets.
+fn arming_number(due: Option<Due>) -> u64 {
+    match due {
+        Some(Due::Callback { arming, .. }) => arming,
+        _ => 0,
+    }
+}
+
+#[test]
+fn a_timer_that_is_set_again_keeps_its_place(rt: HostRuntime) {
+    let mut timers = Timers::new();
+    timers.set(0, FIRST, 0, 5);
+    timers.set(0, FIRST, 1, 5);
+    timers.set(0, FIRST, 0, 5);
+    assert!(rt; !timers.any_due(4));
+    assert!(rt; timers.take_due(4).is_none());
+    assert!(rt; timers.any_due(5));
+    assert_eq!(rt; event_number(timers.take_due(5)), 1);
+    assert_eq!(rt; event_number(timers.take_due(5)), 0);
+    assert!(rt; timers.take_due(5).is_none());
+}
+
+#[test]
+fn a_timer_is_expired_where_it_is_not_armed(rt: HostRuntime) {
+    let mut timers = Timers::new();
+    assert!(rt; timers.expired(LAST, 7));
+    timers.set(0, LAST, 7, 3);
+    assert!(rt; !timers.expired(LAST, 7));
+    timers.stop(LAST, 7);
+    assert!(rt; timers.expired(LAST, 7));
+    timers.restart(2, LAST, 7);
+    assert!(rt; !timers.expired(LAST, 7));
+    assert!(rt; !timers.any_due(4));
+    assert_eq!(rt; event_number(timers.take_due(5)), 7);
+    assert!(rt; timers.expired(LAST, 7));
+}
+
+#[test]
+fn a_reset_goes_on_from_the_deadline(rt: HostRuntime) {
+    let mut timers = Timers::new();
+    timers.set(0, FIRST, 0, 10);
+    assert_eq!(rt; event_number(timers.take_due(13)), 0);
+    assert!(rt; timers.reset(FIRST, 0).is_ok());
+    assert!(rt; !timers.any_due(19));
+    assert!(rt; timers.any_due(20));
+}
+
+#[test]
+fn a_reset_past_the_latest_deadline_is_refused(rt: HostRuntime) {
+    let mut timers = Timers::new();
+    timers.set(LATEST - 5, FIRST, 0, 3);
+    assert!(rt; matches!(timers.reset(FIRST, 0), Err(Refusal::Range)));
+    assert!(rt; !timers.expired(FIRST, 0));
+    assert!(rt; !timers.any_due(LATEST - 3));
+    assert!(rt; timers.any_due(LATEST - 2));
+    timers.set(LATEST - 5, FIRST, 0, 2);
+    assert!(rt; timers.reset(FIRST, 0).is_ok());
+    assert!(rt; !timers.any_due(LATEST - 2));
+    assert!(rt; timers.any_due(LATEST - 1));
+}
+
+#[test]
+fn an_expiry_counts_until_its_callback_timer_changes(rt: HostRuntime) {
+    let mut timers = Timers::new();
+    timers.set_callback(0, FIRST, 3, 1);
+    let set = arming_number(timers.take_due(1));
+    assert!(rt; timers.is_present_arming(FIRST, 3, set));
+    timers.set_callback(1, FIRST, 3, 1);
+    assert!(rt; !timers.is_present_arming(FIRST, 3, set));
+    let again = arming_number(timers.take_due(2));
+    assert!(rt; timers.is_present_arming(FIRST, 3, again));
+    timers.stop_callback(FIRST, 3);
+    assert!(rt; !timers.is_present_arming(FIRST, 3, again));
+    assert!(rt; timers.take_due(9).is_none());
+}
+
+#[test]
+fn a_process_forgets_its_timers_and_callback_timers_apart(rt: HostRuntime) {
+    let mut timers = Timers::new();
+    timers.set(0, FIRST, 7, 1);
+    timers.set(0, LAST, 7, 1);
+    timers.set_callback(0, FIRST, 3, 1);
+    timers.set_callback(0, FIRST, 0, 1);
+    timers.forget(FIRST);
+    assert!(rt; timers.expired(FIRST, 7));
+    assert!(rt; !timers.expired(LAST, 7));
+    let first = arming_number(timers.take_due(1));
+    assert!(rt; timers.is_present_arming(FIRST, 0, first));
+    timers.forget_callbacks(FIRST);
+    assert!(rt; !timers.is_present_arming(FIRST, 0, first));
+    assert_eq!(rt; event_number(timers.take_due(1)), 7);
+    assert!(rt; timers.take_due(1).is_none());
+}

@@ -1,4 +1,0 @@
-use Rattle.memb_core.proofs.tests.Memory.alloc.Goals as goal
-
-pub invariant_of-self : goal.invariant_of-self
-invariant_of-self c = c.alloc.ensures.lists.linked c.self.inside.lists c.self.invariant

@@ -1,0 +1,36 @@
+-- What the application says that goes through all kinds of memory.
+use Rattle.std.specs.Prelude.{ℕ, ◌+◌, List, [], ◌∷◌, length, slice_index_or, codes, ◌==◌, if◌then◌else◌, nat_lt}
+use Rattle.mote_types.specs.Applications.{Says, fold_says}
+use Rattle.mote_types.specs.declared.call.Call.{Call}
+use Rattle.mote_types.specs.declared.event.Stimulus.{Stimulus}
+use Rattle.mote_types.specs.declared.event.TheConstants.{INIT}
+use Rattle.mote_apps.specs.declared.churn.Churn.{Churn}
+
+-- its calls, in turn
+abbrev pub churn_calls : List Call
+churn_calls =
+    Call.MmemAlloc 0 10 ∷ Call.MmemAlloc 1 20 ∷ Call.MmemAlloc 2 30 ∷ Call.MmemWrite 2 0 (record { items = codes "churn" })
+    ∷ Call.MmemFree 0 ∷ Call.MmemRead 2 0 5 ∷ Call.MmemAvail ∷ Call.HeapAlloc 0 20 ∷ Call.HeapAlloc 1 20 ∷ Call.HeapFree 0
+    ∷ Call.HeapAlloc 2 4 ∷ Call.HeapStats ∷ Call.MembAlloc 0 ∷ Call.MembAlloc 0 ∷ Call.ListAdd 0 1 ∷ Call.ListPush 0 0
+    ∷ Call.ListChop 0 ∷ Call.MembNumFree 0 ∷ []
+
+-- the call of this place, counted from 0, and a wait behind the last one
+abbrev pub call_at : ℕ → Call
+call_at place = slice_index_or churn_calls place Call.Wait
+
+abbrev pub next_place : ℕ → ℕ
+next_place place = if nat_lt place (length churn_calls) then place + 1 else place
+
+-- its start and each answer give the next call, the start the first one
+abbrev pub churn_answer : Churn → Stimulus → Call
+churn_answer churn (Stimulus.Event event) = if event.code == INIT then call_at 0 else Call.Wait
+churn_answer churn (Stimulus.Answer reply) = call_at churn.place
+churn_answer churn (Stimulus.Callback timer) = Call.Wait
+
+abbrev pub churn_next : Churn → Stimulus → Churn
+churn_next churn (Stimulus.Event event) = if event.code == INIT then record { place = next_place 0 } else churn
+churn_next churn (Stimulus.Answer reply) = record { place = next_place churn.place }
+churn_next churn (Stimulus.Callback timer) = churn
+
+abbrev pub churn_says : Churn → Says
+churn_says = fold_says churn_answer churn_next

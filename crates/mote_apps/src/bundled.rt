@@ -1,0 +1,64 @@
+//! The applications by their names.
+
+ghost use Rattle.std.specs.Prelude.{◌≡◌};
+ghost use Rattle.mote_apps.specs.Bundled.{bundled_says, named};
+
+use crate::blink::Blink;
+use crate::churn::Churn;
+use crate::echo::Echo;
+use crate::hello::Hello;
+use crate::ping::Ping;
+use crate::relay::Relay;
+use mote_types::app::App;
+use mote_types::call::Call;
+use mote_types::event::Stimulus;
+
+/// One of the applications that have a name: it says what that application says.
+#[derive(Drop)]
+pub enum Bundled {
+    Hello(Hello),
+    Blink(Blink),
+    Echo(Echo),
+    Relay(Relay),
+    Churn(Churn),
+    Ping(Ping),
+}
+
+impl Bundled {
+    /// The application of this name, as it is before its first turn: `hello`, `blink`, `echo`, `relay`, `churn` or `ping`.
+    pub fn named(word: &str) -> Option<Self>
+        ensures { result ≡ named word.now }
+    {
+        match word {
+            "hello" => Some(Bundled::Hello(Hello)),
+            "blink" => Some(Bundled::Blink(Blink::new())),
+            "echo" => Some(Bundled::Echo(Echo::new())),
+            "relay" => Some(Bundled::Relay(Relay::new())),
+            "churn" => Some(Bundled::Churn(Churn::new())),
+            "ping" => Some(Bundled::Ping(Ping::new())),
+            _ => None,
+        }
+    }
+}
+
+impl Default for Bundled {
+    /// What an unused place of a list of applications holds.
+    fn default() -> Self {
+        Bundled::Hello(Hello)
+    }
+}
+
+impl App for Bundled {
+    ghost says = { bundled_says };
+
+    fn turn(&mut self, stimulus: &Stimulus) -> Call {
+        match self {
+            Bundled::Hello(hello) => hello.turn(stimulus),
+            Bundled::Blink(blink) => blink.turn(stimulus),
+            Bundled::Echo(echo) => echo.turn(stimulus),
+            Bundled::Relay(relay) => relay.turn(stimulus),
+            Bundled::Churn(churn) => churn.turn(stimulus),
+            Bundled::Ping(ping) => ping.turn(stimulus),
+        }
+    }
+}

@@ -1,0 +1,27 @@
+use Rattle.std.proofs.Common.{rules, ◌≡◌, ◌≤◌, ◌+◌, ◌-◌, ◌++◌, ◌∙◌, ℕ, List, length, take, drop, ap, sym, arith}
+use Rattle.std.proofs.Math.Seq.{take-add, take-append_seam}
+use Rattle.std.proofs.lemmas.List.{length-take-le, length-drop, take_all}
+use Rattle.mote_kit.proofs.script.ScriptByteSource.read.Goals as goal
+
+-- what was written over the front of a buffer is its front
+front_read : (size : ℕ) (text front rest : List ℕ) → front ≡ take size text → size ≤ length text →
+    take size (front ++ rest) ≡ take size text
+front_read size text front rest same few =
+    let long : length front ≡ size = ap length same ∙ length-take-le size text few in
+    ap (λ n. take n (front ++ rest)) (sym long) ∙ (take-append_seam front rest ∙ same)
+
+-- a text that is read on by so many bytes
+read_on : (place size : ℕ) (text front rest : List ℕ) → front ≡ take size (take (length text - place) (drop place text)) →
+    size ≤ length text - place → take (place + size) text ≡ take place text ++ take size (front ++ rest)
+read_on place size text front rest same few =
+    let left : length (drop place text) ≤ length text - place = omega (arith, length-drop place text) in
+    let all : take (length text - place) (drop place text) ≡ drop place text = take_all (length text - place) (drop place text) left in
+    let size_left : size ≤ length (drop place text) = omega (arith, length-drop place text) in
+    take-add place size text
+    ∙ ap (λ v. take place text ++ v) (sym (front_read size (drop place text) front rest (same ∙ ap (λ v. take size v) all) size_left))
+
+pub returns-clause-taken : goal.returns-clause-taken
+returns-clause-taken c =
+    let few : c.min-size.result ≤ length c.args.self.now.text.now - c.args.self.now.place = search rules in
+    λ named. read_on c.args.self.now.place c.min-size.result c.args.self.now.text.now
+    c.copy_from_slice.new.self (drop c.min-size.result c.args.buffer.now) c.copy_from_slice.ensures.after few

@@ -1,0 +1,21 @@
+//! For authors of applications: scripts and transcripts in memory, standard input and output as devices, and whole runs.
+#![tactic(auto)]
+
+pub mod fault;
+pub mod mote;
+pub mod script;
+pub mod stream;
+pub mod transcript;
+
+pub use mote_types::app::App;
+
+/// A list of boxes with these applications, which are processes 4, 5, .. in this order. It stands in a function that
+/// answers a `Result`, since memory may be refused.
+#[macro_export]
+macro_rules! boxes {
+    ($alloc:expr; $($app:expr),* $(,)?) => {{
+        let mut boxes: Vec<Box<dyn $crate::App>> = Vec::new($alloc);
+        $(boxes.push(Box::new($alloc, $app)?)?;)*
+        boxes
+    }};
+}

@@ -1,0 +1,78 @@
+-- A line that is read as a frame gives at least one byte.
+use Rattle.std.proofs.Common.{◌≡◌, ℕ, ◌+◌, ◌*◌, ◌≤◌, Bool, true, false, cond, List, length, refl, ap, subst, arith}
+use Rattle.std.specs.Prelude.{Option, Some, None, Result, Ok, Err, option_map, option_and_then, nat_le, nat_lt, unwrap_or, codes, ◌&&◌}
+use Rattle.std.specs.Option.{option_or}
+use Rattle.std.specs.Result.{result_ok}
+use Rattle.std.proofs.lemmas.Bool.Decides.{nat_tests}
+use Rattle.hex.specs.Hex.{decode_of}
+use Rattle.hex.proofs.HexLemmas.{decode_of-ok}
+use Rattle.mote_types.specs.declared.entry.Input.{Input}
+use Rattle.mote_text.specs.Script.{argument_of, read_bytes, read_number, read_frame, read_line, read_serial, read_tick, read_words, line_limit, says_nothing}
+use Rattle.kernel_core.specs.Inputs.{has_bytes}
+use Rattle.mote_run.proofs.NextByte.{Put, Ended, either}
+
+-- what a choice gives, one of the two gives
+either_gives : {A : Type 0} (P : A → Type 0) (a b : Option A) → ((x : A) → a ≡ Some x → P x) → ((x : A) → b ≡ Some x → P x) →
+    (x : A) → option_or a b ≡ Some x → P x
+either_gives P (Some y) b first second x e = first x e
+either_gives P None b first second x e = second x e
+
+mapped_gives : {A B : Type 0} (f : A → B) (P : B → Type 0) (a : Option A) → ((x : A) → a ≡ Some x → P (f x)) → (y : B) → option_map f a ≡ Some y → P y
+mapped_gives f P (Some x) h y e = subst P (ap (λ o. unwrap_or o (f x)) e) (h x refl)
+mapped_gives f P None h y e = absurd (cc)
+
+then_gives : {A B : Type 0} (k : A → Option B) (P : B → Type 0) (a : Option A) → ((x : A) (y : B) → k x ≡ Some y → P y) → (y : B) → option_and_then k a ≡ Some y → P y
+then_gives k P (Some x) h y e = h x y e
+then_gives k P None h y e = absurd (cc)
+
+-- a value that comes under a test comes where the test holds
+test_gives : {A : Type 0} (test : Bool) (a : Option A) (x : A) → cond test a None ≡ Some x → (test ≡ true) × (a ≡ Some x)
+test_gives true a x e = (refl, e)
+test_gives false a x e = absurd (cc)
+
+else_gives : {A : Type 0} (test : Bool) (a b : Option A) (x : A) → (a ≡ Some x → ⊥) → cond test a b ≡ Some x → b ≡ Some x
+else_gives true a b x never e = absurd (never e)
+else_gives false a b x never e = e
+
+ok_gives : {T E : Type 0} (r : Result T E) (x : T) → result_ok r ≡ Some x → r ≡ Ok x
+ok_gives (Ok y) x e = ap (λ o. Ok (unwrap_or o y)) e
+ok_gives (Err error) x e = absurd (cc)
+
+left_of : (a b : Bool) → (a && b) ≡ true → a ≡ true
+left_of true b h = refl
+left_of false b h = h
+
+some_bytes : (most : ℕ) (digits bytes : List ℕ) → read_bytes most digits ≡ Some bytes → nat_lt 0 (length bytes) ≡ true
+some_bytes most digits bytes e =
+    let t = test_gives (nat_le 2 (length digits) && nat_le (length digits) (2 * most)) (result_ok (decode_of digits)) bytes e in
+    let least = left_of (nat_le 2 (length digits)) (nat_le (length digits) (2 * most)) t.0 in
+    let size : length digits ≡ 2 * length bytes = (decode_of-ok digits bytes (ok_gives (decode_of digits) bytes t.1)).2 in
+    grind (arith, nat_tests, least, size)
+
+words_give : (line : List ℕ) (input : Input) → read_words line ≡ Some input → has_bytes input ≡ true
+words_give line =
+    let Has : Input → Type 0 = λ input. has_bytes input ≡ true in
+    either_gives Has (read_tick line) (option_or (read_serial line) (read_frame line))
+    (mapped_gives (λ n. Input.Tick n) Has (option_and_then read_number (argument_of (codes "tick ") line)) (λ n e. refl))
+    (either_gives Has (read_serial line) (read_frame line)
+    (mapped_gives (λ bytes. Input.Serial (record { items = bytes })) Has (option_and_then (read_bytes 256) (argument_of (codes "serial ") line)) (λ bytes e. refl))
+    (mapped_gives (λ bytes. Input.Frame (record { items = bytes })) Has (option_and_then (read_bytes 127) (argument_of (codes "frame ") line))
+    (then_gives (read_bytes 127) (λ bytes. nat_lt 0 (length bytes) ≡ true) (argument_of (codes "frame ") line)
+    (λ digits bytes e. some_bytes 127 digits bytes e))))
+
+-- whatever input a line gives has a byte, if it is a frame
+pub input_has_bytes : (line : List ℕ) (input : Input) → read_line line ≡ Some (Some input) → has_bytes input ≡ true
+unfolding read_line
+input_has_bytes line input e =
+    let none : (None ≡ Some (Some input)) → ⊥ = λ h. absurd (cc) in
+    let nothing : (Some None ≡ Some (Some input)) → ⊥ = λ h. absurd (let inner : None ≡ Some input = ap (λ o. unwrap_or o None) h in cc) in
+    let spoken = else_gives (says_nothing line) (Some None) (option_map (λ x. Some x) (read_words line)) (Some input) nothing
+    (else_gives (nat_lt line_limit (length line)) None _ (Some input) none e) in
+    mapped_gives (λ x. Some x) (λ o. (x : Input) → o ≡ Some x → has_bytes x ≡ true) (read_words line)
+    (λ x h. λ y same. words_give line y (let g : Some x ≡ Some y = same in rw (← g) h)) (Some input) spoken input refl
+
+-- and so does the input of the line that a byte ended
+pub taken_input_has_bytes : (byte number number' : ℕ) (line line' : List ℕ) (input : Input) →
+    Put byte number line (Some input) number' line' → Ended byte number line (Some input) number' line' → has_bytes input ≡ true
+taken_input_has_bytes byte number number' line line' input put ended =
+    either byte (λ is_end. input_has_bytes line input (ended is_end).0) (λ other. let p = (put other).0 in absurd (cc))

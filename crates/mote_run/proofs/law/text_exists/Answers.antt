@@ -1,0 +1,13 @@
+use Rattle.std.proofs.Common.{refl}
+use Rattle.mote_text.specs.declared.script.End.{End}
+use Rattle.mote_text.specs.Script.{inputs}
+use Rattle.mote_text.specs.Transcript.{end_of, shown, text}
+use Rattle.mote_run.proofs.law.text_exists.Goals as goal
+
+pub returns : goal.returns
+returns c = record {
+  exists = λ config applications script quiet.
+      let run = c.run_exists.ensures.exists config applications (inputs script).0 in
+      let end : End = end_of run.0.entries (inputs script).1 in
+      (text (shown quiet run.0.entries) end, end, record { last = run.0; runs = run.1; ends = refl; is_text = refl });
+}

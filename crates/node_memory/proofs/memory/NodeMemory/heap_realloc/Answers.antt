@@ -1,0 +1,45 @@
+use Rattle.std.proofs.Common.{rules, arith, ap, sym, ◌∙◌, ◌≡◌, None}
+use Rattle.heap_core.specs.HeapBytes.{heap_of}
+use Rattle.heap_core.specs.HeapStore.{reallocated}
+use Rattle.node_memory.specs.HeapCalls.{realloc_refusal}
+use Rattle.node_memory.specs.Memory.{Memory, with_heap}
+use Rattle.node_memory.specs.Placed.{PlacedMemory, contents_of}
+use Rattle.node_memory.proofs.HeapAsked.{realloc-accepted, asked-found, asked-no-room}
+use Rattle.node_memory.proofs.LaidOut.{layout_of, after-heap, heap-changed}
+use Rattle.node_memory.proofs.memory.NodeMemory.heap_realloc.Goals as goal
+use Rattle.node_memory.proofs.memory.NodeMemory.heap_realloc.Goals.{in-Some, in-None}
+use Rattle.arena_core.specs.Contents.{Contents}
+use Rattle.heap_core.specs.declared.region.Region.{Region}
+
+pub invariant_of-self : goal.invariant_of-self
+invariant_of-self c =
+    let k = c.self.inside in
+    after-heap k.mmem k.heap c.realloc.new.self k.pools k.arena c.realloc.new.arena c.self.invariant c.realloc.ensures.rest c.realloc.ensures.laid_out
+
+pub returns-clause-asked : goal.returns-clause-asked
+returns-clause-asked c =
+    let k = c.self.inside in
+    let p = c.args.pid.0 in
+    let b = c.args.block in
+    let old = c.args.self.now.contents in
+    let heap = heap_of k.heap k.arena.bytes in
+    let view : contents_of (layout_of k.mmem k.heap k.pools k.arena.bytes) ≡ old = ap (λ (v : PlacedMemory). v.contents) c.self.view_is in
+    let same : heap ≡ old.heap = ap (λ (m : Memory). m.heap) view in
+    let accepted : realloc_refusal p b c.args.n old.heap ≡ None = realloc-accepted p b c.args.n old.heap c.heap_len_of.result (omega (arith, c.if-block-gt-LAST_HEAP_BLOCK.false)) c.heap_len_of.ensures (search rules) c.if-n-eq0.false in
+    let changed : contents_of (layout_of k.mmem c.realloc.new.self k.pools c.realloc.new.arena.bytes) ≡ with_heap (heap_of c.realloc.new.self c.realloc.new.arena.bytes) old =
+    heap-changed k.mmem k.heap c.realloc.new.self k.pools k.arena c.realloc.new.arena c.self.invariant c.realloc.ensures.rest c.realloc.ensures.laid_out
+    ∙ ap (λ (m : Memory). with_heap (heap_of c.realloc.new.self c.realloc.new.arena.bytes) m) view in
+    let new = contents_of (layout_of k.mmem c.realloc.new.self k.pools c.realloc.new.arena.bytes) in
+    elim c.match-realloc.branch [
+      | in-Some w ↦
+          rw w.result-is
+          (asked-found (realloc_refusal p b c.args.n old.heap) old new accepted (reallocated p b c.args.n old.heap) (heap_of c.realloc.new.self c.realloc.new.arena.bytes)
+          (ap (reallocated p b c.args.n) (sym same) ∙ w.in-Some.ensures.block) changed)
+      | in-None w ↦
+          let unchanged = w.in-None.ensures.unchanged in
+          rw w.result-is
+          (asked-no-room (realloc_refusal p b c.args.n old.heap) old new accepted (reallocated p b c.args.n old.heap)
+          (ap (reallocated p b c.args.n) (sym same) ∙ w.in-None.ensures.refused.0 (search rules))
+          (ap (λ (h : Region). contents_of (layout_of k.mmem h k.pools c.realloc.new.arena.bytes)) unchanged.0
+          ∙ ap (λ (a : Contents). contents_of (layout_of k.mmem k.heap k.pools a.bytes)) unchanged.1 ∙ view))
+    ]

@@ -1,0 +1,29 @@
+use Rattle.std.proofs.Common.{rules, ap, sym, ◌∙◌, subst}
+use Rattle.std.specs.Prelude.{Some}
+use Rattle.node_memory.specs.Frames.{frame_block, frame_taken}
+use Rattle.node_memory.specs.Memory.{Memory}
+use Rattle.node_memory.specs.Placed.{PlacedMemory}
+use Rattle.node_memory.specs.Separation.{LeavesOthers}
+use Rattle.node_memory.proofs.FrameBlocks.{after-frame, frame-changed}
+use Rattle.node_memory.proofs.Others.{leaves-frame}
+use Rattle.node_memory.proofs.memory.NodeMemory.take_frame.Goals as goal
+
+pub invariant_of-self-2 : goal.invariant_of-self-2
+invariant_of-self-2 c =
+    let k = c.self.inside in
+    after-frame c.args.slot c.args.bytes.now k.mmem c.alloc.new.self k.heap k.pools k.arena c.alloc.new.arena c.write.new.arena c.self.invariant c.requires.slot c.alloc.ensures.rest (search rules) c.write.ensures.rest c.write.ensures.block
+
+pub returns-clause-taken : goal.returns-clause-taken
+returns-clause-taken c =
+    let k = c.self.inside in (
+      search rules,
+      frame-changed c.args.slot c.args.bytes.now k.mmem c.alloc.new.self k.heap k.pools k.arena c.alloc.new.arena c.write.new.arena c.self.invariant c.requires.slot c.alloc.ensures.rest (search rules) c.write.ensures.rest c.write.ensures.block
+          ∙ ap (λ (v : PlacedMemory). frame_taken c.args.slot c.args.bytes.now v.contents) c.self.view_is,
+    )
+
+pub returns-clause-others : goal.returns-clause-others
+returns-clause-others c =
+    let k = c.self.inside in
+    let taken = frame-changed c.args.slot c.args.bytes.now k.mmem c.alloc.new.self k.heap k.pools k.arena c.alloc.new.arena c.write.new.arena c.self.invariant c.requires.slot c.alloc.ensures.rest (search rules) c.write.ensures.rest c.write.ensures.block
+    ∙ ap (λ (v : PlacedMemory). frame_taken c.args.slot c.args.bytes.now v.contents) c.self.view_is in
+    subst (λ (m : Memory). LeavesOthers (Some (frame_block c.args.slot)) c.args.self.now.contents m) (sym taken) (leaves-frame c.args.slot (Some c.args.bytes.now) c.args.self.now.contents c.requires.slot)

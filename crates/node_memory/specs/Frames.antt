@@ -1,0 +1,35 @@
+-- Frames, each of which is held in a managed block of process 3, and the bytes that an application sends.
+use Rattle.std.specs.Prelude.{ℕ, not, List, length, Option, Some, None, if◌then◌else◌, nat_lt}
+use Rattle.mote_types.specs.declared.refusal.Refusal.{Refusal}
+use Rattle.mmem_core.specs.ManagedStore.{ManagedStore, block_of, bytes_of, with_block, freed}
+use Rattle.node_memory.specs.ManagedCalls.{is_handle, is_live}
+use Rattle.node_memory.specs.Memory.{Memory, with_managed}
+use Rattle.node_memory.specs.Separation.{BlockName}
+
+-- process 3 holds the frames
+abbrev pub frame_holder : ℕ
+frame_holder = 3
+
+-- the block of the frame in that slot
+abbrev pub frame_block : ℕ → BlockName
+frame_block slot = BlockName.Managed frame_holder slot
+
+-- the bytes of the frame in that slot, if it holds one
+abbrev pub frame_in : ℕ → Memory → Option (List ℕ)
+frame_in slot m = block_of frame_holder slot m.managed
+
+-- the memory with these bytes as the frame in that slot
+abbrev pub frame_taken : ℕ → List ℕ → Memory → Memory
+frame_taken slot bytes m = with_managed (with_block frame_holder slot (Some bytes) m.managed) m
+
+-- the memory without the frame in that slot
+abbrev pub frame_dropped : ℕ → Memory → Memory
+frame_dropped slot m = with_managed (freed frame_holder slot m.managed) m
+
+-- why p's block may not be sent: a frame has at most 127 bytes
+abbrev pub send_refusal : ℕ → ℕ → ManagedStore → Option Refusal
+send_refusal p h store =
+    if not (is_handle h) then Some Refusal.BadName
+    else if not (is_live p h store) then Some Refusal.NotLive
+    else if nat_lt 127 (length (bytes_of p h store)) then Some Refusal.Range
+    else None

@@ -1,0 +1,53 @@
+-- When a call on heap memory is refused: the refusals of each call in the order in which they are checked. The caller is p. That
+-- there is no place for a block is told of in `ask`.
+use Rattle.std.specs.Prelude.{ℕ, Bool, not, ◌||◌, List, [], Option, Some, None, is_some, unwrap_or, if◌then◌else◌, ◌==◌, nat_le, nat_lt}
+use Rattle.mote_types.specs.Bytes.{is_within}
+use Rattle.mote_types.specs.declared.refusal.Refusal.{Refusal}
+use Rattle.heap_core.specs.HeapStore.{HeapStore, block_of}
+
+-- blocks are 0 to 15
+abbrev pub is_heap_block : ℕ → Bool
+is_heap_block b = nat_le b 15
+
+abbrev pub is_live : ℕ → ℕ → HeapStore → Bool
+is_live p b heap = is_some (block_of p b heap)
+
+-- the bytes of p's block, as many as were asked for
+abbrev pub bytes_of : ℕ → ℕ → HeapStore → List ℕ
+bytes_of p b heap = unwrap_or (block_of p b heap) []
+
+abbrev pub alloc_refusal : ℕ → ℕ → ℕ → HeapStore → Option Refusal
+alloc_refusal p b n heap =
+    if not (is_heap_block b) then Some Refusal.BadName
+    else if is_live p b heap then Some Refusal.InUse
+    else if n == 0 then Some Refusal.Range
+    else None
+
+abbrev pub realloc_refusal : ℕ → ℕ → ℕ → HeapStore → Option Refusal
+realloc_refusal p b n heap =
+    if not (is_heap_block b) then Some Refusal.BadName
+    else if not (is_live p b heap) then Some Refusal.NotLive
+    else if n == 0 then Some Refusal.Range
+    else None
+
+abbrev pub free_refusal : ℕ → ℕ → HeapStore → Option Refusal
+free_refusal p b heap =
+    if not (is_heap_block b) then Some Refusal.BadName
+    else if not (is_live p b heap) then Some Refusal.NotLive
+    else None
+
+-- a write of len bytes from that place of the block on
+abbrev pub write_refusal : ℕ → ℕ → ℕ → ℕ → HeapStore → Option Refusal
+write_refusal p b at len heap =
+    if not (is_heap_block b) then Some Refusal.BadName
+    else if not (is_live p b heap) then Some Refusal.NotLive
+    else if not (is_within at len (bytes_of p b heap)) then Some Refusal.Range
+    else None
+
+-- a read of len bytes, which may be at most 64
+abbrev pub read_refusal : ℕ → ℕ → ℕ → ℕ → HeapStore → Option Refusal
+read_refusal p b at len heap =
+    if not (is_heap_block b) then Some Refusal.BadName
+    else if not (is_live p b heap) then Some Refusal.NotLive
+    else if nat_lt 64 len || not (is_within at len (bytes_of p b heap)) then Some Refusal.Range
+    else None

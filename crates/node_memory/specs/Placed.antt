@@ -1,0 +1,32 @@
+-- The memory of a node together with the places of its blocks in the arena.
+use Rattle.std.specs.Prelude.{ℕ, List, map}
+use Rattle.mmem_core.specs.Table.{Table, store_of}
+use Rattle.heap_core.specs.declared.region.Region.{Region}
+use Rattle.heap_core.specs.HeapBytes.{heap_of}
+use Rattle.node_memory.specs.declared.listed_pool.ListedPool.{ListedPool}
+use Rattle.node_memory.specs.ListedPools.{seen}
+use Rattle.node_memory.specs.Memory.{Memory}
+
+-- the arena's bytes, and what is kept beside them: where the blocks lie, and which are live
+pub record Layout : Type 0 where
+  pub managed : Table
+  pub heap : Region
+  pub pools : List ListedPool
+  pub bytes : List ℕ
+
+-- what the bytes stand for
+abbrev pub contents_of : Layout → Memory
+contents_of layout =
+    record {
+      managed = store_of layout.managed layout.bytes;
+      heap = heap_of layout.heap layout.bytes;
+      pools = map (λ l. seen l layout.bytes) layout.pools;
+    }
+
+pub record PlacedMemory : Type 0 where
+  -- all that shows in replies
+  pub contents : Memory
+  pub layout : Layout
+
+abbrev pub placed : Layout → PlacedMemory
+placed layout = record { contents = contents_of layout; layout = layout }

@@ -1,7 +1,0 @@
-use Rattle.process_core.proofs.Yields.{deliver_to_yields}
-use Rattle.process_core.proofs.parts.Parts.deliver.Goals as goal
-
-pub returns-in-Some-To-clause-yields : goal.returns-in-Some-To-clause-yields
-returns-in-Some-To-clause-yields c =
-    deliver_to_yields c.args.self.now c.pop_front.new.self c.in-Some-To.pid c.in-Some-To.event _ _
-    (rw c.in-Some-To.field-0-is at c.in-Some-To.ensures.value) c.pop_front.ensures.items c.give.ensures.yields

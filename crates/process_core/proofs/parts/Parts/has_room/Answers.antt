@@ -1,7 +1,0 @@
-use Rattle.std.proofs.Common.{arith}
-use Rattle.std.proofs.lemmas.List.{length-map}
-use Rattle.std.proofs.lemmas.Bool.Decides.{nat_tests}
-use Rattle.process_core.proofs.parts.Parts.has_room.Goals as goal
-
-pub returns : goal.returns
-returns c = simp length-map (grind (arith, nat_tests))

@@ -1,0 +1,7 @@
+use Rattle.std.proofs.Common.{arith}
+use Rattle.std.proofs.lemmas.List.{length-map}
+use Rattle.std.proofs.lemmas.Bool.Decides.{nat_tests}
+use Rattle.process_core.proofs.scheduler.Scheduler.has_room.Goals as goal
+
+pub returns : goal.returns
+returns c = rw (← c.self.view_is) (simp length-map (grind (arith, nat_tests, c.self.invariant.room)))

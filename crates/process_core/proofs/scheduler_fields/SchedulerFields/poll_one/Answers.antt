@@ -1,0 +1,14 @@
+use Rattle.std.proofs.Common.{sym, false}
+use Rattle.process_core.specs.Code.SchedulerFields.{scheduler_of}
+use Rattle.process_core.proofs.Order.{order_marked}
+use Rattle.process_core.proofs.Yields.{poll_one_yields}
+use Rattle.process_core.proofs.scheduler_fields.SchedulerFields.poll_one.Goals as goal
+
+pub give-requires-clause-order : goal.give-requires-clause-order
+give-requires-clause-order c =
+    order_marked c.args.self.now c.set_mark.new.self c.args.pid.0 false c.requires.order c.set_mark.ensures
+
+pub returns-clause-yields : goal.returns-clause-yields
+returns-clause-yields c =
+    poll_one_yields (scheduler_of c.args.self.now) c.args.pid.0 _ _ (sym c.if-not-is_marked.ensures)
+    (rw (c.set_mark.ensures, c.plain_event.ensures) at c.give.ensures.yields)

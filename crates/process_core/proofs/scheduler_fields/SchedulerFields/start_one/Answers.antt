@@ -1,0 +1,14 @@
+use Rattle.std.proofs.Common.{sym}
+use Rattle.process_core.specs.Code.SchedulerFields.{scheduler_of}
+use Rattle.process_core.proofs.Order.{order_started}
+use Rattle.process_core.proofs.Yields.{start_yields}
+use Rattle.process_core.proofs.scheduler_fields.SchedulerFields.start_one.Goals as goal
+
+pub give-requires-clause-order : goal.give-requires-clause-order
+give-requires-clause-order c =
+    order_started c.args.self.now c.add.new.self c.args.pid.0 c.requires.order c.requires.idle c.requires.known (sym c.in-Absent.ensures.value) c.add.ensures
+
+pub returns-in-Absent-clause-yields : goal.returns-in-Absent-clause-yields
+returns-in-Absent-clause-yields c =
+    start_yields (scheduler_of c.args.self.now) c.args.pid.0 _ _ (sym c.in-Absent.ensures.value)
+    (rw (c.add.ensures, c.plain_event.ensures) at c.give.ensures.yields)

@@ -1,0 +1,80 @@
+-- How frames lie on one another, which keeps the stack short.
+--
+-- Frames of the kinds Boot, Deliver, Callback and Broadcast lie at the bottom alone, and a poll round lies on one of these
+-- at most: so at most two frames belong to no process. Every other frame is an application's, which either waits for a
+-- reply (Answer) or is on its way out (Leave), and no application has two frames of one kind. So with n applications there
+-- are at most 2 * n + 2 frames.
+use Rattle.std.specs.Prelude.{◌≡◌, ℕ, ◌+◌, ◌<◌, ◌≤◌, Bool, true, false, List, [], ◌∷◌, flat_map, length, Option, IfSome, eqb}
+use Rattle.std.specs.List.{list_any}
+use Rattle.mote_types.specs.declared.event.Pid.{Pid}
+use Rattle.mote_types.specs.declared.event.TheConstants.{FIRST_APPLICATION}
+use Rattle.process_core.specs.declared.process.Process.{Process}
+use Rattle.process_core.specs.declared.state.State.{State}
+use Rattle.process_core.specs.declared.frame.First.{First}
+use Rattle.process_core.specs.declared.frame.Frame.{Frame}
+use Rattle.process_core.specs.Processes.{state_of, IsOfMote}
+use Rattle.process_core.specs.Requests.{is_in_activation}
+
+abbrev pub is_one_of : ℕ → List ℕ → Bool
+is_one_of p ps = list_any (eqb p) ps
+
+abbrev pub answering_in : Frame → List ℕ
+answering_in (Frame.Answer pid first reply) = pid.0 ∷ []
+answering_in _ = []
+
+abbrev pub leaving_in : Frame → List ℕ
+leaving_in (Frame.Leave pid walk exits) = pid.0 ∷ []
+leaving_in _ = []
+
+-- the processes that wait for a reply
+abbrev pub answering : List Frame → List ℕ
+answering stack = flat_map answering_in stack
+
+-- the processes that are on their way out
+abbrev pub leaving : List Frame → List ℕ
+leaving stack = flat_map leaving_in stack
+
+-- a process that a caller starts is one of the mote's
+abbrev pub IsKnown : ℕ → First → Type 0
+IsKnown applications (First.Start q) = q.0 < FIRST_APPLICATION + applications
+IsKnown applications _ = Unit {0}
+
+-- what a frame may lie on
+abbrev pub LiesOn : ℕ → Frame → List Frame → Type 0
+-- a process waits for one reply at a time
+LiesOn applications (Frame.Answer pid first reply) below = (is_one_of pid.0 (answering below) ≡ false) × IsKnown applications first
+-- it begins to leave when its activation is over, and leaves once
+LiesOn applications (Frame.Leave pid walk exits) below = (is_one_of pid.0 (answering below) ≡ false) × (is_one_of pid.0 (leaving below) ≡ false)
+LiesOn applications (Frame.Polls walk) below = length below ≤ 1
+LiesOn applications (Frame.Boot walk) below = (below ≡ []) × ((p : ℕ) → is_one_of p walk ≡ true → p < FIRST_APPLICATION + applications)
+LiesOn applications (Frame.Deliver is_polled) below = below ≡ []
+LiesOn applications (Frame.Callback pid number) below = below ≡ []
+LiesOn applications (Frame.Broadcast next walk event) below = below ≡ []
+
+-- each frame may lie on those below it
+abbrev pub IsNested : ℕ → List Frame → Type 0
+IsNested applications [] = Unit {0}
+IsNested applications (frame ∷ below) = LiesOn applications frame below × IsNested applications below
+
+-- whether a process is on its way out
+abbrev pub has_ended : State → Bool
+has_ended State.Leaving = true
+has_ended State.Ending = true
+has_ended _ = false
+
+-- each of these processes is in such a state
+abbrev pub AreIn : (State → Bool) → List Process → List ℕ → Type 0
+AreIn test processes ps = (p : ℕ) → is_one_of p ps ≡ true → test (state_of p processes) ≡ true
+
+-- a process at turn is in its activation, and waits for no reply
+pub record IsAtTurn (processes : List Process) (stack : List Frame) (p : ℕ) : Type 0 where
+  pub active : is_in_activation (state_of p processes) ≡ true
+  pub apart : is_one_of p (answering stack) ≡ false
+
+-- the frames, the process list and the process at turn fit together
+pub record IsSound (applications : ℕ) (processes : List Process) (stack : List Frame) (turn : Option Pid) : Type 0 where
+  pub mote : IsOfMote applications processes
+  pub nested : IsNested applications stack
+  pub answers : AreIn is_in_activation processes (answering stack)
+  pub leaves : AreIn has_ended processes (leaving stack)
+  pub at_turn : IfSome turn (λ p. IsAtTurn processes stack p.0)

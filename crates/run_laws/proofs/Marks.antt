@@ -1,0 +1,137 @@
+-- What the agenda holds for one process.
+use Rattle.std.proofs.Common.{◌≡◌, ℕ, Bool, true, false, not, ◌&&◌, ◌||◌, List, [], ◌∷◌, ◌++◌, refl, arith}
+use Rattle.std.specs.Prelude.{Option, Some, None, map, flat_map, ◌==◌, if◌then◌else◌}
+use Rattle.std.specs.List.{cons_option}
+use Rattle.std.proofs.lemmas.Bool.Decides.{nat_tests}
+use Rattle.mote_types.specs.declared.event.Event.{Event}
+use Rattle.mote_types.specs.declared.event.Stimulus.{Stimulus}
+use Rattle.mote_types.specs.declared.event.Origin.{Origin}
+use Rattle.mote_types.specs.declared.reply.Reply.{Reply}
+use Rattle.process_core.specs.declared.process.Process.{Process}
+use Rattle.process_core.specs.declared.state.State.{State}
+use Rattle.process_core.specs.Agenda.{Queued, Item}
+use Rattle.process_core.specs.Processes.{state_of, with_state, with_mark, without, is_on_list, is_running, is_kernel_process}
+use Rattle.process_core.specs.Scheduler.{Scheduler, delivery}
+use Rattle.run_laws.specs.OwnTurns.{reply_of}
+use Rattle.run_laws.specs.OwnTurns.{is_turn_entry}
+
+-- what an item is to a process
+pub data Mark : Type 0 where
+  -- a turn, and the answer that it is told, if it is one
+  Turns : Option Reply → Mark
+  Exits : Mark
+  Removes : Mark
+  -- an answer that would be given by no turn: there is none
+  Strays : Mark
+
+abbrev pub stray : Option Reply → Option Mark
+stray None = None
+stray (Some reply) = Some Mark.Strays
+
+abbrev pub mark_of : ℕ → Item → Option Mark
+mark_of p (Item.Turn q origin stimulus) = if q == p then Some (Mark.Turns (reply_of stimulus)) else None
+mark_of p (Item.Give q origin stimulus) = if q == p then stray (reply_of stimulus) else None
+mark_of p (Item.GiveExit q) = if q == p then Some Mark.Exits else None
+mark_of p (Item.Remove q) = if q == p then Some Mark.Removes else None
+mark_of p (Item.Show entry) = if is_turn_entry entry then Some Mark.Strays else None
+mark_of p _ = None
+
+abbrev pub marks : ℕ → List Item → List Mark
+marks p [] = []
+marks p (item ∷ items) = cons_option (mark_of p item) (marks p items)
+
+abbrev pub only_removes : List Mark → Bool
+only_removes [] = true
+only_removes (Mark.Removes ∷ rest) = only_removes rest
+only_removes (_ ∷ rest) = false
+
+-- at most one turn is to come, and none where the process could be given one
+abbrev pub fit : Bool → List Mark → Bool
+fit idle (Mark.Turns reply ∷ rest) = not idle && only_removes rest
+fit idle (Mark.Exits ∷ rest) = not idle && only_removes rest
+fit idle rest = only_removes rest
+
+-- the answer that is told next
+abbrev pub due : List Mark → Option Reply
+due (Mark.Turns reply ∷ rest) = reply
+due _ = None
+
+abbrev pub idle : ℕ → List Process → Bool
+idle p list = is_kernel_process p || not (is_on_list (state_of p list)) || is_running (state_of p list)
+
+pub marks-append : (p : ℕ) (xs ys : List Item) → marks p (xs ++ ys) ≡ marks p xs ++ marks p ys
+marks-append p [] ys = refl
+marks-append p (x ∷ xs) ys = grind (arith, marks-append p xs ys)
+
+pub marks-gives : (p : ℕ) (origin : Origin) (event : Event) (ns : List ℕ) (items : List Item)
+    → marks p (map (λ q. Item.Give q origin (Stimulus.Event event)) ns ++ items) ≡ marks p items
+marks-gives p origin event [] items = refl
+marks-gives p origin event (n ∷ ns) items = grind (arith, marks-gives p origin event ns items)
+
+pub marks-polls : (p : ℕ) (ns : List ℕ) (items : List Item) → marks p (map (λ q. Item.PollOne q) ns ++ items) ≡ marks p items
+marks-polls p [] items = refl
+marks-polls p (n ∷ ns) items = marks-polls p ns items
+
+pub marks-broadcast : (p : ℕ) (event : Event) (ns : List ℕ) (items : List Item)
+    → marks p (flat_map (λ q. Item.Polls ∷ Item.Give q Origin.Event (Stimulus.Event event) ∷ []) ns ++ items) ≡ marks p items
+marks-broadcast p event [] items = refl
+marks-broadcast p event (n ∷ ns) items = grind (arith, marks-broadcast p event ns items)
+
+pub marks-delivery : (p : ℕ) (ns : List ℕ) (event : Option (Queued Bool)) (items : List Item) → marks p (delivery ns event ++ items) ≡ marks p items
+marks-delivery p ns (Some (Queued.To q event)) items = grind arith
+marks-delivery p ns (Some (Queued.ToAll event)) items = marks-broadcast p event ns items
+marks-delivery p ns (Some (Queued.Expiry q c struck)) items = refl
+marks-delivery p ns None items = refl
+
+-- the states of the processes after a change
+pub state_of-with_state : (p : ℕ) (state : State) (list : List Process) → is_on_list (state_of p list) ≡ true
+    → state_of p (with_state p state list) ≡ state
+state_of-with_state p state [] h = grind arith
+state_of-with_state p state (x ∷ xs) h = grind (arith, state_of-with_state p state xs)
+
+pub state_of-with_same : (p q : ℕ) (state : State) (list : List Process) → (q == p) ≡ true → is_on_list (state_of p list) ≡ true
+    → state_of p (with_state q state list) ≡ state
+state_of-with_same p q state list e h = let same : q ≡ p = grind (arith, nat_tests) in rw same (state_of-with_state p state list h)
+
+pub state_of-with_other : (p q : ℕ) (state : State) (list : List Process) → (q == p) ≡ false
+    → state_of p (with_state q state list) ≡ state_of p list
+state_of-with_other p q state [] h = refl
+state_of-with_other p q state (x ∷ xs) h = grind (arith, nat_tests, state_of-with_other p q state xs)
+
+pub state_of-with_mark : (p q : ℕ) (mark : Bool) (list : List Process) → state_of p (with_mark q mark list) ≡ state_of p list
+state_of-with_mark p q mark [] = refl
+state_of-with_mark p q mark (x ∷ xs) = grind (arith, nat_tests, state_of-with_mark p q mark xs)
+
+pub state_of-without : (p : ℕ) (list : List Process) → state_of p (without p list) ≡ State.Absent
+state_of-without p [] = refl
+state_of-without p (x ∷ xs) = grind (arith, state_of-without p xs)
+
+pub state_of-without_other : (p q : ℕ) (list : List Process) → (q == p) ≡ false → state_of p (without q list) ≡ state_of p list
+state_of-without_other p q [] h = refl
+state_of-without_other p q (x ∷ xs) h = grind (arith, nat_tests, state_of-without_other p q xs)
+
+pub fit-only : (b : Bool) (ms : List Mark) → only_removes ms ≡ true → fit b ms ≡ true
+fit-only b [] h = refl
+fit-only b (Mark.Removes ∷ ms) h = h
+fit-only b (Mark.Turns reply ∷ ms) h = absurd (grind arith)
+fit-only b (Mark.Exits ∷ ms) h = absurd (grind arith)
+fit-only b (Mark.Strays ∷ ms) h = absurd (grind arith)
+
+pub fit-idle : (ms : List Mark) → fit true ms ≡ true → only_removes ms ≡ true
+fit-idle [] h = refl
+fit-idle (Mark.Removes ∷ ms) h = h
+fit-idle (Mark.Turns reply ∷ ms) h = absurd (grind arith)
+fit-idle (Mark.Exits ∷ ms) h = absurd (grind arith)
+fit-idle (Mark.Strays ∷ ms) h = absurd (grind arith)
+
+pub due-only : (ms : List Mark) → only_removes ms ≡ true → due ms ≡ None
+due-only [] h = refl
+due-only (Mark.Removes ∷ ms) h = refl
+due-only (Mark.Turns reply ∷ ms) h = absurd (grind arith)
+due-only (Mark.Exits ∷ ms) h = absurd (grind arith)
+due-only (Mark.Strays ∷ ms) h = absurd (grind arith)
+
+-- what stays of the agenda for p
+pub record Kept (p : ℕ) (before : List Item) (list : List Process) (s : Scheduler Bool) : Type 0 where
+  pub is_fit : fit (idle p s.processes) (marks p s.agenda) ≡ true
+  pub same_due : due (marks p s.agenda) ≡ due (marks p before)

@@ -1,0 +1,237 @@
+-- Every run comes to rest after each input, or is halted: each step takes something off a measure.
+use Rattle.std.proofs.Common.{◌≡◌, ℕ, zero, suc, ◌+◌, ◌-◌, ◌*◌, ◌≤◌, Bool, true, false, not, ◌&&◌, List, [], ◌∷◌, length, refl, arith}
+use Rattle.std.proofs.Math.Nat.{suc-mul}
+use Rattle.std.specs.Prelude.{Option, Some, None, if◌then◌else◌, ◌==◌}
+use Rattle.std.proofs.lemmas.List.{length-map}
+use Rattle.std.proofs.lemmas.Bool.Decides.{nat_tests}
+use Rattle.mote_types.specs.declared.call.Call.{Call}
+use Rattle.mote_types.specs.declared.event.Stimulus.{Stimulus}
+use Rattle.mote_types.specs.declared.event.Origin.{Origin}
+use Rattle.mote_types.specs.declared.entry.Entry.{Entry}
+use Rattle.mote_types.specs.declared.entry.Input.{Input}
+use Rattle.mote_types.specs.Applications.{Applications}
+use Rattle.process_core.specs.Agenda.{Item, Job}
+use Rattle.process_core.specs.Idle.{is_empty}
+use Rattle.process_core.specs.Scheduler.{Scheduler, worked, job, job_at, job_of_item, job_of_give, job_of_event, first_event, wants_round, in_front}
+use Rattle.process_core.specs.Agenda.{Queued}
+use Rattle.kernel_core.specs.declared.config.Config.{Config}
+use Rattle.kernel_core.specs.Machine.{Machine, scheduled}
+use Rattle.kernel_core.specs.Calls.{after_call}
+use Rattle.kernel_core.specs.Inputs.{fed}
+use Rattle.kernel_core.specs.KernelProcesses.{serve}
+use Rattle.kernel_core.specs.Run.{Answers, StepMade, Running, Runs, ComesToRest, one_step, job_done, within_limit, is_still, after_step, answers_after, with_input, at_start, silent, with_more_work, turn_taken}
+use Rattle.run_laws.proofs.Costs.{present, starts-append, worked-present, is_rest, costs, costs-cons, costs-nil, costs-append, costs-farewells, starts-farewells, round_cost, IsPaid, paid}
+use Rattle.run_laws.proofs.Untouched.{serve-untouched, call-work}
+
+-- a call
+
+call-processes : (call : Call) (p : ℕ) (m : Machine) → length (after_call call p m).scheduler.processes ≡ length m.scheduler.processes
+call-processes call p m = grind (arith, length-map)
+
+-- a call starts one process at most
+call-starts : (call : Call) (p : ℕ) (m : Machine) → present (after_call call p m).scheduler ≤ present m.scheduler + 1
+call-starts Call.Exit p m = grind (arith, length-map, starts-append, starts-farewells p m.scheduler)
+call-starts (Call.Kill q) p m = grind (arith, length-map, starts-append, starts-farewells q m.scheduler)
+call-starts call p m = grind (arith, length-map)
+
+module _ (bound : ℕ) where
+  -- a call puts little on the agenda
+  call-costs : (call : Call) (p : ℕ) (m : Machine) → length m.scheduler.processes ≤ bound
+      → costs bound (after_call call p m).scheduler.agenda ≤ costs bound m.scheduler.agenda + 2 * bound + 4
+  call-costs Call.Exit p m h = grind (arith, costs-append bound, costs-cons bound, costs-nil bound, costs-farewells bound p m.scheduler)
+  call-costs (Call.Kill q) p m h = grind (arith, costs-append bound, costs-cons bound, costs-nil bound, costs-farewells bound q m.scheduler)
+  call-costs call p m h = grind (arith, costs-cons bound, costs-nil bound)
+
+-- a step
+
+job_of_event-works : (event : Option (Queued Bool)) → is_rest (job_of_event event) ≡ false
+job_of_event-works None = refl
+job_of_event-works (Some (Queued.To p event)) = refl
+job_of_event-works (Some (Queued.ToAll event)) = refl
+job_of_event-works (Some (Queued.Expiry p c x)) = refl
+
+job_of_give-works : (p : ℕ) (stimulus : Stimulus) → is_rest (job_of_give p stimulus) ≡ false
+job_of_give-works p stimulus = grind arith
+
+job_of_item-works : (item : Item) (s : Scheduler Bool) → is_rest (job_of_item item s) ≡ false
+job_of_item-works (Item.Give p origin stimulus) s = job_of_give-works p stimulus
+job_of_item-works Item.Deliver s = job_of_event-works (first_event s)
+job_of_item-works item s = refl
+
+-- the job is Rest only where nothing is left to be done
+job_at-works : (agenda : List Item) (s : Scheduler Bool) → (is_empty agenda && not (wants_round s)) ≡ false → is_rest (job_at agenda s) ≡ false
+job_at-works [] s h = grind arith
+job_at-works (item ∷ items) s h = job_of_item-works item s
+
+-- how many processes there can be on the list before the next input
+abbrev reserve : Machine → ℕ
+reserve m = present m.scheduler + (10000 - m.work)
+
+-- a unit of work is worth what a round puts on the agenda, and the round itself
+unfoldable measure : ℕ → Machine → ℕ
+measure bound m = (10000 - m.work) * suc (round_cost bound) + costs bound m.scheduler.agenda
+
+-- what a step does, where so many steps were left
+record Falls (bound left : ℕ) (old new : Machine) : Type 0 where
+  work : new.work ≤ 10000
+  reserve : reserve new ≤ reserve old
+  measure : new.is_halted ≡ false → measure bound new + 1 ≤ left
+
+-- what is left where one unit of work more was done
+one_less : (work unit : ℕ) → work ≤ 10000 → (work == 10000) ≡ false → (10000 - work) * unit ≡ (10000 - (work + 1)) * unit + unit
+one_less work unit h n =
+    let low : work + 1 ≤ 10000 = grind (arith, nat_tests) in
+    let e : 10000 - work ≡ suc (10000 - (work + 1)) = omega arith in
+    rw (e, suc-mul (10000 - (work + 1)) unit)
+
+module _ (bound : ℕ) where
+  limit-falls : (left : ℕ) (m : Machine) (step : StepMade) → m.work ≤ 10000 → ((m.work == 10000) ≡ false → Falls bound left m step.0)
+      → Falls bound left m (within_limit m step).0
+  limit-falls left m step w h = go (m.work == 10000) refl
+    where
+      go : (b : Bool) → (m.work == 10000) ≡ b → Falls bound left m (if b then (record m { is_halted = true }, Some Entry.Halt) else step).0
+      go true e = record { work = w; reserve = omega arith; measure = λ running. absurd (cc) }
+      go false e = h e
+
+  call-falls : (old : ℕ) (call : Call) (p : ℕ) (m : Machine) → m.work ≤ 10000 → (m.work == 10000) ≡ false → length m.scheduler.processes ≤ bound
+      → costs bound m.scheduler.agenda + 1 ≤ old
+      → Falls bound ((10000 - m.work) * suc (round_cost bound) + old) m (after_call call p (with_more_work m))
+  unfolding measure
+  call-falls old call p m w n few paid =
+      let next : Machine = with_more_work m in
+      let same : (after_call call p next).work ≡ m.work + 1 = call-work call p next in
+      let low : m.work + 1 ≤ 10000 = grind (arith, nat_tests) in
+      let more = call-starts call p next in
+      let cheap = call-costs bound call p next few in
+      let worth = one_less m.work (suc (round_cost bound)) w n in
+      record {
+        work = rw same low;
+        reserve = rw same (omega (arith, more, low));
+        measure = λ running. rw same (rw worth (omega (arith, cheap, paid)));
+      }
+
+  round-falls : (old : ℕ) (m : Machine) → m.work ≤ 10000 → (m.work == 10000) ≡ false → costs bound m.scheduler.agenda ≤ round_cost bound
+      → Falls bound ((10000 - m.work) * suc (round_cost bound) + old) m (with_more_work m)
+  unfolding measure
+  round-falls old m w n paid =
+      let low : m.work + 1 ≤ 10000 = grind (arith, nat_tests) in
+      let worth = one_less m.work (suc (round_cost bound)) w n in
+      record {
+        work = low;
+        reserve = omega (arith, low);
+        measure = λ running. rw worth (omega (arith, paid));
+      }
+
+  -- the machine is the same but for less on its agenda
+  quiet-falls : (old : ℕ) (m new : Machine) → m.work ≤ 10000 → new.work ≡ m.work → present new.scheduler ≤ present m.scheduler
+      → costs bound new.scheduler.agenda + 1 ≤ old → Falls bound ((10000 - m.work) * suc (round_cost bound) + old) m new
+  unfolding measure
+  quiet-falls old m new w same few less =
+      record { work = rw same w; reserve = rw same (omega (arith, few)); measure = λ running. rw same (omega (arith, less)) }
+
+  -- a job that was worth so much, and is done
+  job-falls : (answers : Answers) (next : Option (Job Bool)) (m : Machine) (old : ℕ) → length m.scheduler.processes ≤ bound → m.work ≤ 10000
+      → IsPaid bound next old (costs bound m.scheduler.agenda)
+      → Falls bound ((10000 - m.work) * suc (round_cost bound) + old) m (job_done answers next m).0
+  job-falls answers (Some (Job.TakeTurn p origin stimulus)) m old h w paid =
+      limit-falls _ m (turn_taken p origin stimulus (answers p stimulus) m) w (λ n. call-falls old (answers p stimulus) p m w n h paid)
+  job-falls answers (Some (Job.Serve p event)) m old h w paid =
+      let kept = serve-untouched p event m in
+      let few : present (serve p event m).scheduler ≤ present m.scheduler = rw (kept.agenda, kept.processes) (omega arith) in
+      let less : costs bound (serve p event m).scheduler.agenda + 1 ≤ old = rw kept.agenda paid in
+      quiet-falls old m (serve p event m) w kept.work few less
+  job-falls answers (Some (Job.CallBack p c true)) m old h w paid = quiet-falls old m m w refl (omega arith) (omega arith)
+  job-falls answers (Some (Job.CallBack p c false)) m old h w paid =
+      let given : Machine = scheduled (in_front (Item.Give p Origin.Callback (Stimulus.Callback c) ∷ [])) m in
+      let less : costs bound given.scheduler.agenda + 1 ≤ old = rw (costs-cons bound) (omega arith) in
+      quiet-falls old m given w refl (omega arith) less
+  job-falls answers (Some (Job.ShowEntry entry)) m old h w paid = quiet-falls old m m w refl (omega arith) paid
+  job-falls answers (Some Job.Round) m old h w paid = limit-falls _ m (silent (with_more_work m)) w (λ n. round-falls old m w n paid)
+  job-falls answers (Some Job.Rest) m old h w paid = absurd paid
+  job-falls answers None m old h w paid = quiet-falls old m m w refl (omega arith) paid
+
+  step-falls : (answers : Answers) (m : Machine) → m.work ≤ 10000 → reserve m ≤ bound → is_still m ≡ false → Falls bound (measure bound m) m (one_step answers m).0
+  unfolding measure
+  step-falls answers m w few live = go m.is_halted refl
+    where
+      next : Machine
+      next = scheduled worked m
+
+      works : m.is_halted ≡ false → is_rest (job m.scheduler) ≡ false
+      works up = job_at-works m.scheduler.agenda m.scheduler (grind (arith, live, up))
+
+      listed : length m.scheduler.processes ≤ bound
+      listed = omega arith
+
+      fewer : present (worked m.scheduler) ≤ present m.scheduler
+      fewer = worked-present m.scheduler
+
+      done : m.is_halted ≡ false → Falls bound (measure bound m) m (job_done answers (job m.scheduler) next).0
+      done up =
+          let f = job-falls answers (job m.scheduler) next (costs bound m.scheduler.agenda) (omega (arith, fewer, few)) w (paid bound m.scheduler listed (works up)) in
+          record { work = f.work; reserve = omega (arith, f.reserve, fewer); measure = f.measure }
+
+      go : (b : Bool) → m.is_halted ≡ b → Falls bound (measure bound m) m (if b then silent m else job_done answers (job m.scheduler) next).0
+      go true e = absurd (grind (arith, live, e))
+      go false e = done e
+
+-- the run
+
+rests_here : (says : Applications) (r : Running) → is_still r.machine ≡ true → (new : Running) × ComesToRest says r new
+rests_here says r still = (r, (0, refl, still))
+
+rests_later : (says : Applications) (r : Running) → (new : Running) × ComesToRest says (after_step says r) new → (new : Running) × ComesToRest says r new
+rests_later says r (new, (n, goes, still)) = (new, (suc n, goes, still))
+
+rests_within : (says : Applications) (bound fuel : ℕ) (r : Running) → r.machine.work ≤ 10000 → reserve r.machine ≤ bound → measure bound r.machine + 1 ≤ fuel
+    → (new : Running) × ComesToRest says r new
+rests_within says bound zero r w few h = absurd (omega (arith, h))
+rests_within says bound (suc fuel) r w few h = go (is_still r.machine) refl (λ work few less. rests_within says bound fuel (after_step says r) work few less)
+  where
+    later : Running
+    later = after_step says r
+
+    On : Type 0
+    On = later.machine.work ≤ 10000 → reserve later.machine ≤ bound → measure bound later.machine + 1 ≤ fuel → (new : Running) × ComesToRest says later new
+
+    on : is_still r.machine ≡ false → On → (b : Bool) → later.machine.is_halted ≡ b → (new : Running) × ComesToRest says r new
+    on live further true halted = rests_later says r (rests_here says later (rw halted refl))
+    on live further false running =
+        let f = step-falls bound (answers_after says r.entries) r.machine w few live in
+        rests_later says r (further f.work (omega (arith, f.reserve, few)) (omega (arith, f.measure running, h)))
+
+    go : (b : Bool) → is_still r.machine ≡ b → On → (new : Running) × ComesToRest says r new
+    go true still further = rests_here says r still
+    go false live further = on live further later.machine.is_halted refl
+
+-- from each machine whose work is within its bound
+pub rests : (says : Applications) (r : Running) → r.machine.work ≤ 10000 → (new : Running) × ComesToRest says r new
+rests says r w = rests_within says (reserve r.machine) (measure (reserve r.machine) r.machine + 1) r w (omega arith) (omega arith)
+
+-- the work of an input begins at 0
+fed-work : (input : Input) (m : Machine) → (fed input m).work ≡ 0
+fed-work input m = grind arith
+
+-- where the mote was halted nothing follows, else what the machine makes of the next inputs
+goes_on : (says : Applications) (input : Input) (inputs : List Input) (rested : Running) → (after : Running) × Runs says (with_input input rested) inputs after
+    → (after : Running) × (rested.machine.is_halted ≡ true → after ≡ rested) × (rested.machine.is_halted ≡ false → Runs says (with_input input rested) inputs after)
+goes_on says input inputs rested (after, runs) = go rested.machine.is_halted refl
+  where
+    go : (b : Bool) → rested.machine.is_halted ≡ b
+        → (after : Running) × (rested.machine.is_halted ≡ true → after ≡ rested) × (rested.machine.is_halted ≡ false → Runs says (with_input input rested) inputs after)
+    go true halted = (rested, (λ _. refl), (λ running. absurd (cc)))
+    go false running = (after, (λ halted. absurd (cc)), (λ _. runs))
+
+-- for each list of inputs there is a run
+pub runs_on : (says : Applications) (inputs : List Input) (r : Running) → r.machine.work ≤ 10000 → (after : Running) × Runs says r inputs after
+runs_on says [] r w = rests says r w
+runs_on says (input ∷ inputs) r w = joined (rests says r w) (λ rested. runs_on says inputs (with_input input rested) (omega (arith, fed-work input rested.machine)))
+  where
+    joined : (rested : Running) × ComesToRest says r rested → ((rested : Running) → (after : Running) × Runs says (with_input input rested) inputs after)
+        → (after : Running) × Runs says r (input ∷ inputs) after
+    joined (rested, rests) later =
+        let next = goes_on says input inputs rested (later rested) in
+        (next.0, (rested, rests, next.1, next.2))
+
+pub run_of : (config : Config) (says : Applications) (inputs : List Input) → (after : Running) × Runs says (at_start config) inputs after
+run_of config says inputs = runs_on says inputs (at_start config) (omega arith)

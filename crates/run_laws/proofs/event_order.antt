@@ -1,0 +1,10 @@
+pub mod After
+pub mod Events
+pub mod Items
+pub mod Runs
+pub mod Serving
+pub mod Shape
+pub mod Sound
+pub mod Steps
+pub mod Tally
+pub mod Waiting

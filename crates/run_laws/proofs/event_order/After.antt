@@ -1,0 +1,308 @@
+-- What a call does to the shape.
+use Rattle.std.proofs.Common.{◌≡◌, ℕ, Bool, true, false, not, ◌&&◌, List, [], ◌∷◌, ◌++◌, refl, ap, sym, arith, append-nil, append_assoc}
+use Rattle.std.specs.Prelude.{Option, Some, None, option_to_list, map, if◌then◌else◌, ◌==◌}
+use Rattle.std.specs.List.{list_all}
+use Rattle.std.proofs.lemmas.Bool.Decides.{nat_tests}
+use Rattle.mote_types.specs.declared.call.Call.{Call}
+use Rattle.mote_types.specs.declared.reply.Reply.{Reply}
+use Rattle.mote_types.specs.declared.refusal.Refusal.{Refusal}
+use Rattle.mote_types.specs.declared.event.Stimulus.{Stimulus}
+use Rattle.mote_types.specs.declared.event.Origin.{Origin}
+use Rattle.mote_types.specs.declared.event.Payload.{Payload}
+use Rattle.mote_types.specs.declared.entry.Entry.{Entry}
+use Rattle.mote_types.specs.declared.entry.Note.{Note}
+use Rattle.mote_types.specs.declared.event.TheConstants.{EXIT, EXITED}
+use Rattle.mote_types.specs.Codes.{number_event, is_reserved}
+use Rattle.process_core.specs.declared.state.State.{State}
+use Rattle.process_core.specs.Agenda.{Queued, Item}
+use Rattle.process_core.specs.Processes.{numbers, without, is_ending, is_application}
+use Rattle.process_core.specs.Requests.{farewells, kill_refusal, killed_by}
+use Rattle.process_core.specs.Scheduler.{Scheduler, of_event, in_front, state_in, put_in_state, has_room}
+use Rattle.kernel_core.specs.Machine.{Machine, scheduled, with_event}
+use Rattle.kernel_core.specs.Calls.{after_call, unless_refused, event_of, done}
+use Rattle.run_laws.specs.OwnTurns.{is_done}
+use Rattle.run_laws.specs.EventLaws.{is_event_of_code}
+use Rattle.run_laws.specs.EventLaws.{event_for}
+use Rattle.run_laws.proofs.event_order.Tally.{Known, own_event, ends_in}
+use Rattle.run_laws.proofs.event_order.Shape.{is_plain, is_ordered, ordered-append, seats, seats-with_mark, seats-with_state, state_of-seats, first_state, put, stands, waiting_in, waits, queued, queued_in, posted_for, FrontAgrees}
+use Rattle.run_laws.proofs.event_order.Items.{holds, holds-append, is_quiet}
+use Rattle.run_laws.proofs.event_order.Waiting.{waits-append, queued-append}
+use Rattle.run_laws.proofs.event_order.Serving.{queued-struck}
+
+-- every call but Wait, Exit and Kill
+abbrev pub is_plain_call : Call → Bool
+is_plain_call Call.Wait = false
+is_plain_call Call.Exit = false
+is_plain_call (Call.Kill q) = false
+is_plain_call _ = true
+
+call-seats : (p : ℕ) (call : Call) (q : ℕ) (m : Machine) → is_plain_call call ≡ true
+    → seats p (after_call call q m).scheduler.processes ≡ seats p m.scheduler.processes
+call-seats p call q m h = grind (arith, seats-with_mark)
+
+-- such a call puts its answer in front, or that below one more item
+pub call-front : (P : List Item → Bool) (call : Call) (q : ℕ) (m : Machine) → is_plain_call call ≡ true
+    → ((reply : Reply) → P (Item.Turn q Origin.Answer (Stimulus.Answer reply) ∷ m.scheduler.agenda) ≡ true)
+    → ((r : ℕ) (stimulus : Stimulus) (items : List Item) → P items ≡ true → P (Item.Give r Origin.Synch stimulus ∷ items) ≡ true)
+    → ((r : ℕ) (items : List Item) → P items ≡ true → P (Item.Start r ∷ items) ≡ true)
+    → ((note : Note) (items : List Item) → P items ≡ true → P (Item.Show (Entry.Note note) ∷ items) ≡ true)
+    → P (after_call call q m).scheduler.agenda ≡ true
+call-front P call q m h turn give start show = grind (arith, turn, give, start, show)
+
+-- what is said to those that stay
+pub farewells-plain : (stimulus : Stimulus) (ns : List ℕ) → list_all is_plain (map (λ n. Item.Give n Origin.Synch stimulus) ns) ≡ true
+farewells-plain stimulus [] = refl
+farewells-plain stimulus (n ∷ ns) = farewells-plain stimulus ns
+
+farewells-quiet : (p : ℕ) (stimulus : Stimulus) (ns : List ℕ) → list_all (is_quiet p) (map (λ n. Item.Give n Origin.Synch stimulus) ns) ≡ true
+farewells-quiet p stimulus [] = refl
+farewells-quiet p stimulus (n ∷ ns) = farewells-quiet p stimulus ns
+
+no_synch : (p q : ℕ) (stimulus : Stimulus) → waiting_in p (Item.Give q Origin.Synch stimulus) ≡ []
+no_synch p q stimulus = grind arith
+
+no_answer : (p q : ℕ) (stimulus : Stimulus) → waiting_in p (Item.Turn q Origin.Answer stimulus) ≡ []
+no_answer p q stimulus = grind arith
+
+farewells-waits : (p : ℕ) (stimulus : Stimulus) (ns : List ℕ) → waits p (map (λ n. Item.Give n Origin.Synch stimulus) ns) ≡ []
+farewells-waits p stimulus [] = refl
+farewells-waits p stimulus (n ∷ ns) = rw (no_synch p n stimulus) (farewells-waits p stimulus ns)
+
+abbrev pub told_all : ℕ → Scheduler Bool → List Item
+told_all q s = map (λ n. Item.Give n Origin.Synch (of_event (number_event EXITED q))) (numbers (without q s.processes))
+
+-- the order
+
+pub after-ordered : (call : Call) (q : ℕ) (m : Machine) → is_ordered m.scheduler.agenda ≡ true → is_ordered (after_call call q m).scheduler.agenda ≡ true
+after-ordered Call.Wait q m h = grind (arith, h)
+after-ordered Call.Exit q m h = go (is_ending (state_in m.scheduler q))
+  where
+    go : (b : Bool) → is_ordered (if b then m.scheduler else in_front (farewells q m.scheduler ++ Item.Remove q ∷ []) (put_in_state q State.Leaving m.scheduler)).agenda ≡ true
+    go true = h
+    go false =
+        let f : list_all is_plain (told_all q m.scheduler) ≡ true = farewells-plain (of_event (number_event EXITED q)) (numbers (without q m.scheduler.processes)) in
+        rw (append_assoc (told_all q m.scheduler) (Item.Remove q ∷ []) m.scheduler.agenda) (ordered-append (told_all q m.scheduler) (Item.Remove q ∷ m.scheduler.agenda) f h)
+after-ordered (Call.Kill r) q m h = go (kill_refusal m.scheduler r)
+  where
+    go : (o : Option Refusal) → is_ordered (unless_refused o q m (scheduled (killed_by q r) m)).scheduler.agenda ≡ true
+    go (Some refusal) = h
+    go None =
+        let f : list_all is_plain (told_all r m.scheduler) ≡ true = farewells-plain (of_event (number_event EXITED r)) (numbers (without r m.scheduler.processes)) in
+        let xs : List Item = Item.GiveExit r ∷ Item.Remove r ∷ Item.Turn q Origin.Answer (Stimulus.Answer Reply.Done) ∷ [] in
+        rw (append_assoc (told_all r m.scheduler) xs m.scheduler.agenda) (ordered-append (told_all r m.scheduler) (xs ++ m.scheduler.agenda) f h)
+after-ordered call q m h = plain call (grind arith)
+  where
+    plain : (call : Call) → is_plain_call call ≡ true → is_ordered (after_call call q m).scheduler.agenda ≡ true
+    plain call k = call-front is_ordered call q m k (λ reply. h) (λ r stimulus items i. i) (λ r items i. i) (λ note items i. i)
+
+-- the events
+
+pub after-waits : (p : ℕ) (call : Call) (q : ℕ) (m : Machine) → waits p (after_call call q m).scheduler.agenda ≡ waits p m.scheduler.agenda
+after-waits p Call.Wait q m = grind arith
+after-waits p Call.Exit q m = go (is_ending (state_in m.scheduler q))
+  where
+    go : (b : Bool) → waits p (if b then m.scheduler else in_front (farewells q m.scheduler ++ Item.Remove q ∷ []) (put_in_state q State.Leaving m.scheduler)).agenda ≡ waits p m.scheduler.agenda
+    go true = refl
+    go false =
+        rw (
+          append_assoc (told_all q m.scheduler) (Item.Remove q ∷ []) m.scheduler.agenda,
+          waits-append p (told_all q m.scheduler) (Item.Remove q ∷ m.scheduler.agenda),
+          farewells-waits p (of_event (number_event EXITED q)) (numbers (without q m.scheduler.processes)),
+        ) refl
+after-waits p (Call.Kill r) q m = go (kill_refusal m.scheduler r)
+  where
+    go : (o : Option Refusal) → waits p (unless_refused o q m (scheduled (killed_by q r) m)).scheduler.agenda ≡ waits p m.scheduler.agenda
+    go (Some refusal) = rw (no_answer p q (Stimulus.Answer (Reply.Refused refusal))) refl
+    go None =
+        let xs : List Item = Item.GiveExit r ∷ Item.Remove r ∷ Item.Turn q Origin.Answer (Stimulus.Answer Reply.Done) ∷ [] in
+        rw (
+          append_assoc (told_all r m.scheduler) xs m.scheduler.agenda,
+          waits-append p (told_all r m.scheduler) (xs ++ m.scheduler.agenda),
+          farewells-waits p (of_event (number_event EXITED r)) (numbers (without r m.scheduler.processes)),
+          no_answer p q (Stimulus.Answer Reply.Done),
+        ) refl
+after-waits p call q m = grind (arith, no_answer, no_synch)
+
+-- a call that posts
+abbrev pub is_posting : Call → Bool
+is_posting (Call.Post r code payload) = true
+is_posting (Call.Broadcast code payload) = true
+is_posting _ = false
+
+after-queued_other : (p : ℕ) (call : Call) (q : ℕ) (m : Machine) → is_posting call ≡ false
+    → queued p (after_call call q m).scheduler.events ≡ queued p m.scheduler.events
+after-queued_other p (Call.CallbackSet c interval) q m h = grind (arith, queued-struck p (λ r d. r == q && d == c) m.scheduler.events)
+after-queued_other p (Call.CallbackStop c) q m h = grind (arith, queued-struck p (λ r d. r == q && d == c) m.scheduler.events)
+after-queued_other p call q m h = grind arith
+
+no_event : (p : ℕ) (call : Call) → is_posting call ≡ false → event_for p call ≡ None
+no_event p call h = grind arith
+
+nothing_own : (known : Known) (p q : ℕ) (call : Call) → event_for p call ≡ None → own_event known p q call ≡ []
+nothing_own known p q call h = go (is_done (known q))
+  where
+    go : (b : Bool) → option_to_list (if b then event_for p call else None) ≡ []
+    go true = rw h refl
+    go false = refl
+
+posted_plain : (code : ℕ) (payload : Payload) → is_reserved code ≡ false → posted_for (event_of code payload) ≡ event_of code payload ∷ []
+posted_plain code payload h = grind (arith, nat_tests)
+
+-- how a post is refused
+abbrev post_outcome : Bool → Bool → Bool → Option Refusal
+post_outcome named reserved room = if not named then Some Refusal.BadName else if reserved then Some Refusal.Reserved else if room then None else Some Refusal.Full
+
+-- the event of an accepted post waits at the end
+pub after-queued : (known : Known) (p : ℕ) (call : Call) (q : ℕ) (m : Machine) → FrontAgrees known (after_call call q m).scheduler.agenda
+    → queued p (after_call call q m).scheduler.events ≡ queued p m.scheduler.events ++ own_event known p q call
+after-queued known p (Call.Post r code payload) q m =
+    go (is_application m.scheduler.applications r) (is_reserved code) (has_room m.scheduler) refl
+  where
+    go : (named reserved room : Bool) → is_reserved code ≡ reserved
+        → FrontAgrees known (unless_refused (post_outcome named reserved room) q m (done q (with_event (Queued.To r (event_of code payload)) m))).scheduler.agenda
+        → queued p (unless_refused (post_outcome named reserved room) q m (done q (with_event (Queued.To r (event_of code payload)) m))).scheduler.events
+        ≡ queued p m.scheduler.events ++ own_event known p q (Call.Post r code payload)
+    go false reserved room e k = rw k (sym (append-nil (queued p m.scheduler.events)))
+    go true true room e k = rw k (sym (append-nil (queued p m.scheduler.events)))
+    go true false false e k = rw k (sym (append-nil (queued p m.scheduler.events)))
+    go true false true e k =
+        rw (k, queued-append p m.scheduler.events (Queued.To r (event_of code payload) ∷ []), append-nil (queued_in p (Queued.To r (event_of code payload))), posted_plain code payload e)
+        (ap (λ l. queued p m.scheduler.events ++ l) (own (r == p)))
+      where
+        own : (same : Bool) → (if same then event_of code payload ∷ [] else []) ≡ option_to_list (if same then Some (event_of code payload) else None)
+        own true = refl
+        own false = refl
+after-queued known p (Call.Broadcast code payload) q m = go (is_reserved code) (has_room m.scheduler) refl
+  where
+    go : (reserved room : Bool) → is_reserved code ≡ reserved
+        → FrontAgrees known (unless_refused (post_outcome true reserved room) q m (done q (with_event (Queued.ToAll (event_of code payload)) m))).scheduler.agenda
+        → queued p (unless_refused (post_outcome true reserved room) q m (done q (with_event (Queued.ToAll (event_of code payload)) m))).scheduler.events
+        ≡ queued p m.scheduler.events ++ own_event known p q (Call.Broadcast code payload)
+    go true room e k = rw k (sym (append-nil (queued p m.scheduler.events)))
+    go false false e k = rw k (sym (append-nil (queued p m.scheduler.events)))
+    go false true e k =
+        rw (k, queued-append p m.scheduler.events (Queued.ToAll (event_of code payload) ∷ []), append-nil (queued_in p (Queued.ToAll (event_of code payload))), posted_plain code payload e) refl
+after-queued known p call q m = other call (grind arith)
+  where
+    other : (call : Call) → is_posting call ≡ false → FrontAgrees known (after_call call q m).scheduler.agenda
+        → queued p (after_call call q m).scheduler.events ≡ queued p m.scheduler.events ++ own_event known p q call
+    other call n k = rw (nothing_own known p q call (no_event p call n), append-nil (queued p m.scheduler.events)) (after-queued_other p call q m n)
+
+-- p's place
+
+-- a turn that isn't p's EXIT can be another one
+swap : (p q : ℕ) (origin other : Origin) (stimulus next : Stimulus) (l : List State) (items : List Item) → (q == p && is_event_of_code EXIT stimulus) ≡ false
+    → holds p l (Item.Turn q origin stimulus ∷ items) ≡ true → holds p l (Item.Turn q other next ∷ items) ≡ true
+swap p q origin other stimulus next [] items n h = grind arith
+swap p q origin other stimulus next (State.Absent ∷ []) items n h = grind arith
+swap p q origin other stimulus next (State.Running ∷ []) items n h = grind arith
+swap p q origin other stimulus next (State.Called ∷ []) items n h = grind arith
+swap p q origin other stimulus next (State.Leaving ∷ []) items n h = grind arith
+swap p q origin other stimulus next (State.Ending ∷ []) items n h = grind arith
+swap p q origin other stimulus next (_ ∷ _ ∷ _) items n h = h
+
+-- another process's turn says nothing of p
+turn_other-holds : (p q : ℕ) (origin : Origin) (stimulus : Stimulus) (l : List State) (items : List Item) → (q == p) ≡ false
+    → holds p l (Item.Turn q origin stimulus ∷ items) ≡ true → holds p l items ≡ true
+turn_other-holds p q origin stimulus [] items n h = grind arith
+turn_other-holds p q origin stimulus (State.Absent ∷ []) items n h = grind arith
+turn_other-holds p q origin stimulus (State.Running ∷ []) items n h = grind arith
+turn_other-holds p q origin stimulus (State.Called ∷ []) items n h = grind arith
+turn_other-holds p q origin stimulus (State.Leaving ∷ []) items n h = grind arith
+turn_other-holds p q origin stimulus (State.Ending ∷ []) items n h = grind arith
+turn_other-holds p q origin stimulus (_ ∷ _ ∷ _) items n h = h
+
+-- p waits
+wait-holds : (p q : ℕ) (origin : Origin) (stimulus : Stimulus) (l : List State) (items : List Item) → (q == p && is_event_of_code EXIT stimulus) ≡ false
+    → holds p l (Item.Turn q origin stimulus ∷ items) ≡ true → holds p (if is_ending (first_state l) then l else put State.Running l) items ≡ true
+wait-holds p q origin stimulus [] items n h = grind arith
+wait-holds p q origin stimulus (State.Absent ∷ []) items n h = grind arith
+wait-holds p q origin stimulus (State.Running ∷ []) items n h = grind arith
+wait-holds p q origin stimulus (State.Called ∷ []) items n h = grind arith
+wait-holds p q origin stimulus (State.Leaving ∷ []) items n h = grind arith
+wait-holds p q origin stimulus (State.Ending ∷ []) items n h = grind arith
+wait-holds p q origin stimulus (_ ∷ _ ∷ _) items n h = absurd (grind (arith, h))
+
+-- p is killed
+killed-holds : (p r : ℕ) (l : List State) (xs items : List Item) → (p == r) ≡ true → list_all (is_quiet p) xs ≡ true
+    → holds p l items ≡ true → holds p (put State.Leaving l) (xs ++ Item.GiveExit r ∷ Item.Remove r ∷ items) ≡ true
+killed-holds p r l xs items e n h = holds-append p (put State.Leaving l) xs (Item.GiveExit r ∷ Item.Remove r ∷ items) n (front l h)
+  where
+    front : (l : List State) → holds p l items ≡ true → holds p (put State.Leaving l) (Item.GiveExit r ∷ Item.Remove r ∷ items) ≡ true
+    front [] h = grind (arith, nat_tests)
+    front (state ∷ []) h = grind (arith, nat_tests)
+    front (_ ∷ _ ∷ _) h = h
+
+-- another one is killed
+left-holds : (p r : ℕ) (l : List State) (xs items : List Item) → (p == r) ≡ false → list_all (is_quiet p) xs ≡ true
+    → holds p l items ≡ true → holds p l (xs ++ Item.GiveExit r ∷ Item.Remove r ∷ items) ≡ true
+left-holds p r l xs items e n h =
+    let quiet : list_all (is_quiet p) (Item.GiveExit r ∷ Item.Remove r ∷ []) ≡ true = grind (arith, nat_tests) in
+    holds-append p l xs (Item.GiveExit r ∷ Item.Remove r ∷ items) n (holds-append p l (Item.GiveExit r ∷ Item.Remove r ∷ []) items quiet h)
+
+exited-holds : (p q : ℕ) (l : List State) (xs items : List Item) → (p == q) ≡ false → list_all (is_quiet p) xs ≡ true
+    → holds p l items ≡ true → holds p l (xs ++ Item.Remove q ∷ items) ≡ true
+exited-holds p q l xs items e n h =
+    let quiet : list_all (is_quiet p) (Item.Remove q ∷ []) ≡ true = grind (arith, nat_tests) in
+    holds-append p l xs (Item.Remove q ∷ items) n (holds-append p l (Item.Remove q ∷ []) items quiet h)
+
+flip : (p q : ℕ) (b : Bool) → (p == q) ≡ b → (q == p) ≡ b
+flip p q b e = grind (arith, nat_tests)
+
+pub after-stands : (p : ℕ) (call : Call) (q : ℕ) (origin : Origin) (stimulus : Stimulus) (m : Machine)
+    → ends_in p (Entry.Turn (record { 0 = q }) origin stimulus call) ≡ false
+    → holds p (seats p m.scheduler.processes) (Item.Turn q origin stimulus ∷ m.scheduler.agenda) ≡ true
+    → stands p (after_call call q m).scheduler ≡ true
+after-stands p Call.Wait q origin stimulus m n h = go (is_ending (state_in m.scheduler q)) (p == q) refl refl
+  where
+    go : (b same : Bool) → is_ending (state_in m.scheduler q) ≡ b → (p == q) ≡ same
+        → stands p (if b then m.scheduler else put_in_state q State.Running m.scheduler) ≡ true
+    go true true b e =
+        let t : is_ending (first_state (seats p m.scheduler.processes)) ≡ true = grind (arith, nat_tests, state_of-seats q m.scheduler.processes) in
+        let w = wait-holds p q origin stimulus (seats p m.scheduler.processes) m.scheduler.agenda (grind (arith, n)) h in
+        rw t at w
+    go true false b e = turn_other-holds p q origin stimulus (seats p m.scheduler.processes) m.scheduler.agenda (flip p q false e) h
+    go false true b e =
+        let t : is_ending (first_state (seats p m.scheduler.processes)) ≡ false = grind (arith, nat_tests, state_of-seats q m.scheduler.processes) in
+        let w = wait-holds p q origin stimulus (seats p m.scheduler.processes) m.scheduler.agenda (grind (arith, n)) h in
+        rw (seats-with_state p q State.Running m.scheduler.processes, e) (rw t at w)
+    go false false b e =
+        rw (seats-with_state p q State.Running m.scheduler.processes, e) (turn_other-holds p q origin stimulus (seats p m.scheduler.processes) m.scheduler.agenda (flip p q false e) h)
+after-stands p Call.Exit q origin stimulus m n h = go (is_ending (state_in m.scheduler q))
+  where
+    go : (b : Bool) → stands p (if b then m.scheduler else in_front (farewells q m.scheduler ++ Item.Remove q ∷ []) (put_in_state q State.Leaving m.scheduler)) ≡ true
+    go true = turn_other-holds p q origin stimulus (seats p m.scheduler.processes) m.scheduler.agenda (flip p q false (grind (arith, nat_tests, n))) h
+    go false =
+        let e : (p == q) ≡ false = grind (arith, nat_tests, n) in
+        rw (seats-with_state p q State.Leaving m.scheduler.processes, e, append_assoc (told_all q m.scheduler) (Item.Remove q ∷ []) m.scheduler.agenda)
+        (exited-holds p q (seats p m.scheduler.processes) (told_all q m.scheduler) m.scheduler.agenda e
+        (farewells-quiet p (of_event (number_event EXITED q)) (numbers (without q m.scheduler.processes)))
+        (turn_other-holds p q origin stimulus (seats p m.scheduler.processes) m.scheduler.agenda (flip p q false e) h))
+after-stands p (Call.Kill r) q origin stimulus m n h = go (kill_refusal m.scheduler r) (p == r) refl
+  where
+    go : (o : Option Refusal) (same : Bool) → (p == r) ≡ same → stands p (unless_refused o q m (scheduled (killed_by q r) m)).scheduler ≡ true
+    go (Some refusal) same e = swap p q origin Origin.Answer stimulus (Stimulus.Answer (Reply.Refused refusal)) (seats p m.scheduler.processes) m.scheduler.agenda (grind (arith, n)) h
+    go None same e =
+        let xs : List Item = Item.GiveExit r ∷ Item.Remove r ∷ Item.Turn q Origin.Answer (Stimulus.Answer Reply.Done) ∷ [] in
+        let quiet : list_all (is_quiet p) (told_all r m.scheduler) ≡ true = farewells-quiet p (of_event (number_event EXITED r)) (numbers (without r m.scheduler.processes)) in
+        let s = swap p q origin Origin.Answer stimulus (Stimulus.Answer Reply.Done) (seats p m.scheduler.processes) m.scheduler.agenda (grind (arith, n)) h in
+        rw (seats-with_state p r State.Leaving m.scheduler.processes, append_assoc (told_all r m.scheduler) xs m.scheduler.agenda)
+        (pick same e quiet s)
+      where
+        pick : (same : Bool) → (p == r) ≡ same → list_all (is_quiet p) (told_all r m.scheduler) ≡ true
+            → holds p (seats p m.scheduler.processes) (Item.Turn q Origin.Answer (Stimulus.Answer Reply.Done) ∷ m.scheduler.agenda) ≡ true
+            → holds p (if p == r then put State.Leaving (seats p m.scheduler.processes) else seats p m.scheduler.processes)
+            (told_all r m.scheduler ++ Item.GiveExit r ∷ Item.Remove r ∷ Item.Turn q Origin.Answer (Stimulus.Answer Reply.Done) ∷ m.scheduler.agenda) ≡ true
+        pick true e quiet s = rw e (killed-holds p r (seats p m.scheduler.processes) (told_all r m.scheduler) (Item.Turn q Origin.Answer (Stimulus.Answer Reply.Done) ∷ m.scheduler.agenda) e quiet s)
+        pick false e quiet s = rw e (left-holds p r (seats p m.scheduler.processes) (told_all r m.scheduler) (Item.Turn q Origin.Answer (Stimulus.Answer Reply.Done) ∷ m.scheduler.agenda) e quiet s)
+after-stands p call q origin stimulus m n h = plain call n (grind arith)
+  where
+    plain : (call : Call) → ends_in p (Entry.Turn (record { 0 = q }) origin stimulus call) ≡ false → is_plain_call call ≡ true → stands p (after_call call q m).scheduler ≡ true
+    plain call n k =
+        let l : List State = seats p m.scheduler.processes in
+        rw (call-seats p call q m k)
+        (call-front (holds p l) call q m k
+        (λ reply. swap p q origin Origin.Answer stimulus (Stimulus.Answer reply) l m.scheduler.agenda (grind (arith, n)) h)
+        (λ r given items i. holds-append p l (Item.Give r Origin.Synch given ∷ []) items refl i)
+        (λ r items i. holds-append p l (Item.Start r ∷ []) items refl i)
+        (λ note items i. holds-append p l (Item.Show (Entry.Note note) ∷ []) items refl i))

@@ -1,0 +1,321 @@
+-- What every step keeps holds in every run: at each prefix of its transcript, and where the mote rests.
+use Rattle.std.proofs.Common.{◌≡◌, ℕ, zero, suc, ◌+◌, Bool, true, false, ◌||◌, ◌⊎◌, inl, inr, List, [], ◌∷◌, ◌++◌, refl, ap, ◌∙◌, sym, subst, arith, append-nil}
+use Rattle.std.specs.Prelude.{Option, Some, None, option_to_list, if◌then◌else◌, ◌==◌}
+use Rattle.std.specs.List.{list_any}
+use Rattle.mote_types.specs.declared.entry.Input.{Input}
+use Rattle.mote_types.specs.declared.entry.Entry.{Entry}
+use Rattle.mote_types.specs.declared.call.Call.{Call}
+use Rattle.mote_types.specs.Entries.{is_halt}
+use Rattle.mote_types.specs.Applications.{Applications}
+use Rattle.process_core.specs.Agenda.{Job}
+use Rattle.process_core.specs.Scheduler.{worked, job}
+use Rattle.kernel_core.specs.declared.config.Config.{Config}
+use Rattle.kernel_core.specs.Machine.{Machine, scheduled, shown_first}
+use Rattle.kernel_core.specs.Calls.{after_call}
+use Rattle.kernel_core.specs.KernelProcesses.{serve}
+use Rattle.run_laws.specs.EventLaws.{IsAtRest}
+use Rattle.kernel_core.specs.Inputs.{effect, fed}
+use Rattle.kernel_core.specs.Run.{Answers, StepMade, Running, Runs, ComesToRest, silent, one_step, job_done, within_limit, is_still, is_at_rest, after_step, after_steps, answers_after, gone_on, at_start, with_input}
+use Rattle.run_laws.proofs.event_order.Shape.{is_note}
+use Rattle.run_laws.proofs.event_order.Serving.{serve-served}
+
+-- what a step shows
+
+abbrev pub is_input : Entry → Bool
+is_input (Entry.Input input) = true
+is_input _ = false
+
+-- a step halts where it shows Halt, and shows no input
+record StepKind (m : Machine) (step : StepMade) : Type 0 where
+  halts : step.0.is_halted ≡ (m.is_halted || list_any is_halt (option_to_list step.1))
+  inputs : list_any is_input (option_to_list step.1) ≡ false
+
+call-halted : (call : Call) (q : ℕ) (m : Machine) → (after_call call q m).is_halted ≡ m.is_halted
+call-halted call q m = grind arith
+
+limit_kind : (m after : Machine) (step : StepMade) → m.is_halted ≡ false → StepKind m step → StepKind m (within_limit after step)
+limit_kind m after step live h = go (after.work == 10000)
+  where
+    go : (b : Bool) → StepKind m (if b then (record after { is_halted = true }, Some Entry.Halt) else step)
+    go true = record { halts = grind (arith, live); inputs = refl }
+    go false = h
+
+silent_kind : (m after : Machine) → m.is_halted ≡ false → after.is_halted ≡ false → StepKind m (silent after)
+silent_kind m after live still = record { halts = grind (arith, live, still); inputs = refl }
+
+-- where only notes are shown
+abbrev pub ShowsNotes : Machine → Type 0
+ShowsNotes m = (entry : Entry) → job m.scheduler ≡ Some (Job.ShowEntry entry) → is_note entry ≡ true
+
+job_kind : (answers : Answers) (next : Option (Job Bool)) (m after : Machine) → m.is_halted ≡ false → after.is_halted ≡ false
+    → ((entry : Entry) → next ≡ Some (Job.ShowEntry entry) → is_note entry ≡ true) → StepKind m (job_done answers next after)
+job_kind answers None m after live still note = silent_kind m after live still
+job_kind answers (Some Job.Rest) m after live still note = silent_kind m after live still
+job_kind answers (Some Job.Round) m after live still note = limit_kind m after _ live (silent_kind m (record after { work = after.work + 1 }) live still)
+job_kind answers (Some (Job.ShowEntry entry)) m after live still note = shown entry (note entry refl)
+  where
+    shown : (entry : Entry) → is_note entry ≡ true → StepKind m (after, Some entry)
+    shown (Entry.Note n) k = record { halts = grind (arith, live, still); inputs = refl }
+    shown (Entry.Turn pid origin stimulus call) k = absurd (grind (arith, k))
+    shown (Entry.Input input) k = absurd (grind (arith, k))
+    shown Entry.Halt k = absurd (grind (arith, k))
+job_kind answers (Some (Job.CallBack q c true)) m after live still note = silent_kind m after live still
+job_kind answers (Some (Job.CallBack q c false)) m after live still note = silent_kind m _ live still
+job_kind answers (Some (Job.Serve q event)) m after live still note =
+    silent_kind m (serve q event after) live ((serve-served 4 refl q event after).halted ∙ still)
+job_kind answers (Some (Job.TakeTurn q origin stimulus)) m after live still note =
+    limit_kind m after _ live
+    (record { halts = rw live (call-halted (answers q stimulus) q (record after { work = after.work + 1 }) ∙ still); inputs = refl })
+
+step_kind : (answers : Answers) (m : Machine) → m.is_halted ≡ false → ShowsNotes m → StepKind m (one_step answers m)
+step_kind answers m live notes = go m.is_halted live
+  where
+    go : (b : Bool) → b ≡ false → StepKind m (if b then silent m else job_done answers (job m.scheduler) (scheduled worked m))
+    go true e = absurd (grind (arith, e))
+    go false e = job_kind answers (job m.scheduler) m (scheduled worked m) live live notes
+
+-- prefixes
+
+abbrev pub Prefixes : (List Entry → Type 0) → List Entry → Type 0
+Prefixes P X = (before later : List Entry) → before ++ later ≡ X → P before
+
+abbrev pub BeforeInputs : (List Entry → Type 0) → List Entry → Type 0
+BeforeInputs Q X = (before later : List Entry) (input : Input) → before ++ Entry.Input input ∷ later ≡ X → Q before
+
+heads : {A : Type 0} {a b : A} {xs ys : List A} → a ∷ xs ≡ b ∷ ys → a ≡ b
+heads e = cc
+
+tails : {A : Type 0} {a b : A} {xs ys : List A} → a ∷ xs ≡ b ∷ ys → xs ≡ ys
+tails e = cc
+
+not_nil : {A : Type 0} (xs : List A) (a : A) (ys : List A) → xs ++ a ∷ ys ≡ [] → ⊥
+not_nil [] a ys e = cc
+not_nil (x ∷ xs) a ys e = cc
+
+last_split : {A : Type 0} (X before later : List A) (e : A) → before ++ later ≡ X ++ e ∷ []
+    → (before ≡ X ++ e ∷ []) ⊎ ((rest : List A) × (before ++ rest ≡ X))
+last_split X [] later e h = inr (X, refl)
+last_split [] (b ∷ []) later e h = inl (ap (λ x. x ∷ []) (heads h))
+last_split [] (b ∷ c ∷ cs) later e h = absurd (not_nil [] c (cs ++ later) (tails h))
+last_split {A = A} (x ∷ xs) (b ∷ bs) later e h = go (last_split xs bs later e (tails h))
+  where
+    go : (bs ≡ xs ++ e ∷ []) ⊎ ((rest : List A) × (bs ++ rest ≡ xs)) → (b ∷ bs ≡ x ∷ (xs ++ e ∷ [])) ⊎ ((rest : List A) × (b ∷ (bs ++ rest) ≡ x ∷ xs))
+    go (inl k) = inl (rw (heads h, k) refl)
+    go (inr k) = inr (k.0, rw (heads h, k.1) refl)
+
+mid_split : {A : Type 0} (X before later : List A) (a e : A) → before ++ a ∷ later ≡ X ++ e ∷ []
+    → ((before ≡ X) × (a ≡ e)) ⊎ ((rest : List A) × (before ++ a ∷ rest ≡ X))
+mid_split [] [] later a e h = inl (refl, heads h)
+mid_split (x ∷ xs) [] later a e h = inr (xs, ap (λ y. y ∷ xs) (heads h))
+mid_split [] (b ∷ bs) later a e h = absurd (not_nil bs a later (tails h))
+mid_split {A = A} (x ∷ xs) (b ∷ bs) later a e h = go (mid_split xs bs later a e (tails h))
+  where
+    go : ((bs ≡ xs) × (a ≡ e)) ⊎ ((rest : List A) × (bs ++ a ∷ rest ≡ xs)) → ((b ∷ bs ≡ x ∷ xs) × (a ≡ e)) ⊎ ((rest : List A) × (b ∷ (bs ++ a ∷ rest) ≡ x ∷ xs))
+    go (inl k) = inl (rw (heads h, k.0) refl, k.1)
+    go (inr k) = inr (k.0, rw (heads h, k.1) refl)
+
+prefixes-more : (P : List Entry → Type 0) (X : List Entry) (o : Option Entry) → Prefixes P X → P (X ++ option_to_list o) → Prefixes P (X ++ option_to_list o)
+prefixes-more P X None all new = λ before later e. all before later (e ∙ append-nil X)
+prefixes-more P X (Some entry) all new = λ before later e. go before (last_split X before later entry e)
+  where
+    go : (before : List Entry) → (before ≡ X ++ entry ∷ []) ⊎ ((rest : List Entry) × (before ++ rest ≡ X)) → P before
+    go before (inl k) = subst P (sym k) new
+    go before (inr k) = all before k.0 k.1
+
+inputs-more : (Q : List Entry → Type 0) (X : List Entry) (o : Option Entry) → BeforeInputs Q X → list_any is_input (option_to_list o) ≡ false → BeforeInputs Q (X ++ option_to_list o)
+inputs-more Q X None all n = λ before later input e. all before later input (e ∙ append-nil X)
+inputs-more Q X (Some entry) all n = λ before later input e. go before input (mid_split X before later (Entry.Input input) entry e)
+  where
+    go : (before : List Entry) (input : Input) → ((before ≡ X) × (Entry.Input input ≡ entry)) ⊎ ((rest : List Entry) × (before ++ Entry.Input input ∷ rest ≡ X)) → Q before
+    go before input (inl k) = absurd (grind (arith, n, sym k.1))
+    go before input (inr k) = all before k.0 input k.1
+
+inputs-fed : (Q : List Entry → Type 0) (X : List Entry) (fed : Input) → BeforeInputs Q X → Q X → BeforeInputs Q (X ++ Entry.Input fed ∷ [])
+inputs-fed Q X fed all here = λ before later input e. go before input (mid_split X before later (Entry.Input input) (Entry.Input fed) e)
+  where
+    go : (before : List Entry) (input : Input) → ((before ≡ X) × (Entry.Input input ≡ Entry.Input fed)) ⊎ ((rest : List Entry) × (before ++ Entry.Input input ∷ rest ≡ X)) → Q before
+    go before input (inl k) = subst Q (sym k.0) here
+    go before input (inr k) = all before k.0 input k.1
+
+-- what is kept
+
+-- I holds of the machine and the entries while it isn't halted, and P of the entries always
+pub record Kept (I : Machine → List Entry → Type 0) (P : List Entry → Type 0) (X : List Entry) (step : StepMade) : Type 0 where
+  pub holds : step.0.is_halted ≡ false → I step.0 (X ++ option_to_list step.1)
+  pub shown : P (X ++ option_to_list step.1)
+
+abbrev woken : Machine → Machine
+woken m = record m { work = 0 }
+
+-- what has to be shown of I and P, for all machines
+pub record Law (I : Machine → List Entry → Type 0) (P : List Entry → Type 0) : Type 0 where
+  pub step : (answers : Answers) (m : Machine) (X : List Entry) → I m X → P X → Kept I P X (one_step answers m)
+  pub notes : (m : Machine) (X : List Entry) → I m X → ShowsNotes m
+  pub input : (input : Input) (m : Machine) (X : List Entry) → I m X → P X → I (effect input (record m { work = 0 })) (X ++ Entry.Input input ∷ [])
+  pub shown : (input : Input) (X : List Entry) → P X → P (X ++ Entry.Input input ∷ [])
+
+-- Q holds before each input
+record Good (I : Machine → List Entry → Type 0) (P Q : List Entry → Type 0) (r : Running) : Type 0 where
+  prefixes : Prefixes P r.entries
+  inputs : BeforeInputs Q r.entries
+  holds : r.machine.is_halted ≡ false → I r.machine r.entries
+  halts : r.machine.is_halted ≡ true → list_any is_halt r.entries ≡ true
+
+halt-append : (X Y : List Entry) → list_any is_halt (X ++ Y) ≡ (list_any is_halt X || list_any is_halt Y)
+halt-append [] Y = refl
+halt-append (x ∷ xs) Y = grind (arith, halt-append xs Y)
+
+module _ (I : Machine → List Entry → Type 0) (P Q : List Entry → Type 0) (law : Law I P) where
+  now : (X : List Entry) → Prefixes P X → P X
+  now X all = all X [] (append-nil X)
+
+  live-step : (says : Applications) (r : Running) → r.machine.is_halted ≡ false → Good I P Q r → Good I P Q (after_step says r)
+  live-step says r live g =
+      let answers : Answers = answers_after says r.entries in
+      let step : StepMade = one_step answers r.machine in
+      let s = g.holds live in
+      let k = law.step answers r.machine r.entries s (now r.entries g.prefixes) in
+      let kind = step_kind answers r.machine live (law.notes r.machine r.entries s) in
+      record {
+        prefixes = prefixes-more P r.entries step.1 g.prefixes k.shown;
+        inputs = inputs-more Q r.entries step.1 g.inputs kind.inputs;
+        holds = k.holds;
+        halts = λ halted. grind (arith, live, kind.halts, halted, halt-append r.entries (option_to_list step.1));
+      }
+
+  -- a halted machine stays as it is
+  halted-step : (says : Applications) (r : Running) → Good I P Q r → (b : Bool) → b ≡ true
+      → Good I P Q (gone_on r.entries (if b then silent r.machine else job_done (answers_after says r.entries) (job r.machine.scheduler) (scheduled worked r.machine)))
+  halted-step says r g true e = subst (λ (X : List Entry). Good I P Q (record { machine = r.machine; entries = X })) (sym (append-nil r.entries)) g
+  halted-step says r g false e = absurd (cc)
+
+  good-step : (says : Applications) (r : Running) → Good I P Q r → Good I P Q (after_step says r)
+  good-step says r g = go r.machine.is_halted refl
+    where
+      go : (b : Bool) → r.machine.is_halted ≡ b → Good I P Q (after_step says r)
+      go true e = halted-step says r g r.machine.is_halted e
+      go false e = live-step says r e g
+
+  good-steps : (says : Applications) (n : ℕ) (r : Running) → Good I P Q r → Good I P Q (after_steps says n r)
+  good-steps says zero r g = g
+  good-steps says (suc n) r g = good-steps says n (after_step says r) (good-step says r g)
+
+-- an input at rest
+
+effect-live : (input : Input) (m : Machine) → (effect input m).is_halted ≡ m.is_halted
+effect-live (Input.Tick n) m = refl
+effect-live (Input.Serial bytes) m = refl
+effect-live (Input.Frame bytes) m = grind arith
+
+shown_step : (answers : Answers) (input : Input) (t : Machine) → t.is_halted ≡ false
+    → one_step answers (shown_first (Entry.Input input) t) ≡ (t, Some (Entry.Input input))
+shown_step answers input t live = go t.is_halted live
+  where
+    go : (b : Bool) → b ≡ false → (if b then silent (shown_first (Entry.Input input) t) else (t, Some (Entry.Input input))) ≡ (t, Some (Entry.Input input))
+    go true e = absurd (grind (arith, e))
+    go false e = refl
+
+abbrev after_fed : Running → Input → Running
+after_fed r input = record { machine = effect input (record r.machine { work = 0 }); entries = r.entries ++ Entry.Input input ∷ [] }
+
+fed_first : (says : Applications) (r : Running) (input : Input) → r.machine.is_halted ≡ false → after_step says (with_input input r) ≡ after_fed r input
+fed_first says r input live =
+    let t : Machine = effect input (record r.machine { work = 0 }) in
+    let up : t.is_halted ≡ false = effect-live input (record r.machine { work = 0 }) ∙ live in
+    ap (gone_on r.entries) (shown_step (answers_after says r.entries) input t up)
+
+-- where an input was just handed in, something is to be done
+fed_awake : (r : Running) (input : Input) → r.machine.is_halted ≡ false → is_still (with_input input r).machine ≡ false
+fed_awake r input live =
+    let up : (effect input (record r.machine { work = 0 })).is_halted ≡ false = effect-live input (record r.machine { work = 0 }) ∙ live in
+    grind (arith, up)
+
+-- the run
+
+module _ (I : Machine → List Entry → Type 0) (P Q : List Entry → Type 0) (law : Law I P) (rest : (m : Machine) (X : List Entry) → is_at_rest m ≡ true → I m X → Q X) where
+  good-fed : (r : Running) (input : Input) → r.machine.is_halted ≡ false → Q r.entries → Good I P Q r → Good I P Q (after_fed r input)
+  good-fed r input live rests g =
+      let woken : Machine = record r.machine { work = 0 } in
+      let t : Machine = effect input woken in
+      let up : t.is_halted ≡ false = effect-live input woken ∙ live in
+      let old : P r.entries = now I P Q law r.entries g.prefixes in
+      record {
+        prefixes = prefixes-more P r.entries (Some (Entry.Input input)) g.prefixes (law.shown input r.entries old);
+        inputs = inputs-fed Q r.entries input g.inputs rests;
+        holds = λ _. law.input input r.machine r.entries (g.holds live) old;
+        halts = λ halted. absurd (grind (arith, up, halted));
+      }
+
+  -- what each run to rest from here comes to is good
+  abbrev Leads : Applications → Running → Type 0
+  Leads says old = (new : Running) → ComesToRest says old new → Good I P Q new
+
+  good-leads : (says : Applications) (r : Running) → Good I P Q r → Leads says r
+  good-leads says r g new (n, goes, still) = subst (λ (x : Running). Good I P Q x) goes (good-steps I P Q law says n r g)
+
+  rested-holds : (r : Running) → Good I P Q r → is_still r.machine ≡ true → r.machine.is_halted ≡ false → Q r.entries
+  rested-holds r g still live = rest r.machine r.entries (grind (arith, still, live)) (g.holds live)
+
+  fed-leads : (says : Applications) (r : Running) (input : Input) → Good I P Q r → is_still r.machine ≡ true → r.machine.is_halted ≡ false → Leads says (with_input input r)
+  fed-leads says r input g still live new (zero, goes, quiet) =
+      let awake = fed_awake r input live in
+      let same : is_still (with_input input r).machine ≡ is_still new.machine = ap (λ (x : Running). is_still x.machine) goes in
+      absurd (cc)
+  fed-leads says r input g still live new (suc n, goes, quiet) =
+      let first = fed_first says r input live in
+      let later : after_steps says n (after_fed r input) ≡ new = ap (after_steps says n) (sym first) ∙ goes in
+      subst (λ (x : Running). Good I P Q x) later (good-steps I P Q law says n (after_fed r input) (good-fed r input live (rested-holds r g still live) g))
+
+  record Ended (r : Running) : Type 0 where
+    good : Good I P Q r
+    still : is_still r.machine ≡ true
+
+  on-input : (says : Applications) (input : Input) (rested new : Running) → Ended rested → (rested.machine.is_halted ≡ true → new ≡ rested)
+      → (Leads says (with_input input rested) → rested.machine.is_halted ≡ false → Ended new) → (b : Bool) → rested.machine.is_halted ≡ b → Ended new
+  on-input says input rested new h stop go true e = subst (λ (x : Running). Ended x) (sym (stop e)) h
+  on-input says input rested new h stop go false e = go (fed-leads says rested input h.good h.still e) e
+
+  run-ended : (says : Applications) (inputs : List Input) (old new : Running) → Runs says old inputs new → Leads says old → Ended new
+  run-ended says [] old new (n, goes, still) leads = record { good = leads new (n, goes, still); still = still }
+  run-ended says (input ∷ inputs) old new (rested, rests, stop, go) leads =
+      on-input says input rested new (record { good = leads rested rests; still = rests.2 }) stop
+      (λ later live. run-ended says inputs (with_input input rested) new (go live) later) rested.machine.is_halted refl
+
+  good-start : (c : Config) → I (at_start c).machine [] → P [] → Good I P Q (at_start c)
+  good-start c first none =
+      record {
+        prefixes = λ before later e. start before later e;
+        inputs = λ before later input e. absurd (not_nil before (Entry.Input input) later e);
+        holds = λ live. first;
+        halts = λ halted. absurd (grind (arith, halted));
+      }
+    where
+      start : (before later : List Entry) → before ++ later ≡ [] → P before
+      start [] later e = none
+      start (b ∷ bs) later e = absurd (not_nil [] b (bs ++ later) e)
+
+  run-good : (c : Config) (says : Applications) (inputs : List Input) (after : Running) → Runs says (at_start c) inputs after → I (at_start c).machine [] → P [] → Ended after
+  run-good c says inputs after runs first none = run-ended says inputs (at_start c) after runs (good-leads says (at_start c) (good-start c first none))
+
+  -- what follows at rest holds wherever the run rests
+  pub at_rest : (c : Config) (says : Applications) (inputs : List Input) (after : Running) → Runs says (at_start c) inputs after → I (at_start c).machine [] → P []
+      → (before : List Entry) → IsAtRest after.entries before → Q before
+  at_rest c says inputs after runs first none before place = go before place
+    where
+      ended : Ended after
+      ended = run-good c says inputs after runs first none
+
+      not_halted : (b : Bool) → (b ≡ true → list_any is_halt after.entries ≡ true) → list_any is_halt after.entries ≡ false → b ≡ false
+      not_halted true h n = absurd (grind (arith, n, h refl))
+      not_halted false h n = refl
+
+      go : (before : List Entry) → IsAtRest after.entries before → Q before
+      go _ (IsAtRest.before_input before later input e) = ended.good.inputs before later input e
+      go _ (IsAtRest.at_end n) = rested-holds after ended.good ended.still (not_halted after.machine.is_halted ended.good.halts n)
+
+-- P holds at each prefix
+pub at_prefixes : (I : Machine → List Entry → Type 0) (P : List Entry → Type 0) → Law I P
+    → (c : Config) (says : Applications) (inputs : List Input) (after : Running) → Runs says (at_start c) inputs after
+    → I (at_start c).machine [] → P [] → Prefixes P after.entries
+at_prefixes I P law c says inputs after runs first none =
+    (run-good I P (λ _. Unit {0}) law (λ m X e h. tt) c says inputs after runs first none).good.prefixes

@@ -1,0 +1,207 @@
+-- In which order items lie on the agenda, and what it holds of one process.
+use Rattle.std.proofs.Common.{◌≡◌, ℕ, Bool, true, false, not, ◌&&◌, ◌||◌, List, [], ◌∷◌, ◌++◌, refl, arith}
+use Rattle.std.specs.Prelude.{Option, Some, None, option_to_list, filter_map, flat_map, map, if◌then◌else◌, ◌==◌}
+use Rattle.std.specs.List.{cons_option, list_any, list_all}
+use Rattle.std.proofs.lemmas.Bool.Decides.{nat_tests}
+use Rattle.mote_types.specs.declared.event.Event.{Event}
+use Rattle.mote_types.specs.declared.event.Origin.{Origin}
+use Rattle.mote_types.specs.declared.entry.Entry.{Entry}
+use Rattle.mote_types.specs.declared.event.TheConstants.{EXIT}
+use Rattle.process_core.specs.declared.state.State.{State}
+use Rattle.process_core.specs.Agenda.{Queued, Item}
+use Rattle.process_core.specs.declared.process.Process.{Process}
+use Rattle.process_core.specs.Processes.{is_process, numbers, state_of, with_state, with_mark, without}
+use Rattle.process_core.specs.Scheduler.{Scheduler, of_event, delivery}
+use Rattle.run_laws.specs.OwnTurns.{reply_of}
+use Rattle.run_laws.specs.EventLaws.{is_event_of_code}
+use Rattle.run_laws.specs.EventLaws.{posted_event}
+use Rattle.run_laws.proofs.event_order.Tally.{Known}
+
+-- the order
+
+abbrev pub is_from_queue : Origin → Bool
+is_from_queue Origin.Event = true
+is_from_queue _ = false
+
+-- what may lie below a Give of origin event
+abbrev pub is_walk : Item → Bool
+is_walk Item.Polls = true
+is_walk (Item.Give q origin stimulus) = is_from_queue origin
+is_walk _ = false
+
+abbrev pub is_empty : List Item → Bool
+is_empty [] = true
+is_empty _ = false
+
+abbrev pub is_note : Entry → Bool
+is_note (Entry.Note note) = true
+is_note _ = false
+
+abbrev pub is_fit_above : Item → List Item → Bool
+is_fit_above (Item.Give q origin stimulus) items = not (is_from_queue origin) || list_all is_walk items
+is_fit_above Item.Deliver items = is_empty items
+is_fit_above (Item.Show entry) items = is_note entry
+is_fit_above _ items = true
+
+abbrev pub is_ordered : List Item → Bool
+is_ordered [] = true
+is_ordered (item ∷ items) = is_fit_above item items && is_ordered items
+
+-- neither a Give of origin event nor a Deliver
+abbrev pub is_plain : Item → Bool
+is_plain (Item.Give q origin stimulus) = not (is_from_queue origin)
+is_plain Item.Deliver = false
+is_plain (Item.Show entry) = is_note entry
+is_plain _ = true
+
+pub ordered-append : (xs ys : List Item) → list_all is_plain xs ≡ true → is_ordered ys ≡ true → is_ordered (xs ++ ys) ≡ true
+ordered-append [] ys h o = o
+ordered-append (x ∷ xs) ys h o = grind (arith, ordered-append xs ys)
+
+pub ordered-walk : (xs : List Item) → list_all is_walk xs ≡ true → is_ordered xs ≡ true
+ordered-walk [] h = refl
+ordered-walk (x ∷ xs) h = grind (arith, ordered-walk xs)
+
+-- the places of p on the list
+
+abbrev pub seat : ℕ → Process → Option State
+seat p process = if is_process p process then Some process.state else None
+
+abbrev pub seats : ℕ → List Process → List State
+seats p list = filter_map (seat p) list
+
+abbrev pub first_state : List State → State
+first_state [] = State.Absent
+first_state (state ∷ _) = state
+
+pub state_of-seats : (p : ℕ) (list : List Process) → state_of p list ≡ first_state (seats p list)
+state_of-seats p [] = refl
+state_of-seats p (x ∷ xs) = grind (arith, state_of-seats p xs)
+
+abbrev pub put : State → List State → List State
+put state l = map (λ _. state) l
+
+pub seats-with_state : (p q : ℕ) (state : State) (list : List Process)
+    → seats p (with_state q state list) ≡ (if p == q then put state (seats p list) else seats p list)
+seats-with_state p q state [] = grind arith
+seats-with_state p q state (x ∷ xs) = grind (arith, nat_tests, seats-with_state p q state xs)
+
+pub seats-with_mark : (p q : ℕ) (mark : Bool) (list : List Process) → seats p (with_mark q mark list) ≡ seats p list
+seats-with_mark p q mark [] = refl
+seats-with_mark p q mark (x ∷ xs) = grind (arith, nat_tests, seats-with_mark p q mark xs)
+
+pub seats-without : (p q : ℕ) (list : List Process) → seats p (without q list) ≡ (if p == q then [] else seats p list)
+seats-without p q [] = grind arith
+seats-without p q (x ∷ xs) = grind (arith, nat_tests, seats-without p q xs)
+
+-- what the agenda holds of p, while it hasn't ended
+
+abbrev pub is_start : ℕ → Item → Bool
+is_start p (Item.Start q) = q == p
+is_start p _ = false
+
+abbrev pub is_turn_of : ℕ → Item → Bool
+is_turn_of p (Item.Turn q origin stimulus) = q == p
+is_turn_of p _ = false
+
+abbrev pub is_give_exit : ℕ → Item → Bool
+is_give_exit p (Item.GiveExit q) = q == p
+is_give_exit p _ = false
+
+abbrev pub is_exit_turn : ℕ → Item → Bool
+is_exit_turn p (Item.Turn q origin stimulus) = q == p && is_event_of_code EXIT stimulus
+is_exit_turn p _ = false
+
+abbrev pub is_remove : ℕ → Item → Bool
+is_remove p (Item.Remove q) = q == p
+is_remove p _ = false
+
+abbrev pub is_kept : ℕ → State → List Item → Bool
+is_kept p State.Absent agenda = false
+is_kept p State.Running agenda = true
+is_kept p State.Called agenda = list_any (is_turn_of p) agenda
+is_kept p State.Leaving agenda = list_any (is_give_exit p) agenda
+is_kept p State.Ending agenda = list_any (is_exit_turn p) agenda
+
+-- not on the list, it is to be started; on the list it is once
+abbrev pub is_placed : ℕ → List State → List Item → Bool
+is_placed p [] agenda = list_any (is_start p) agenda
+is_placed p (state ∷ []) agenda = is_kept p state agenda
+is_placed p _ agenda = false
+
+-- before it leaves the list it is given EXIT
+abbrev pub is_covered : ℕ → List Item → Bool
+is_covered p [] = true
+is_covered p (item ∷ items) = if is_remove p item then false else is_give_exit p item || (is_exit_turn p item || is_covered p items)
+
+abbrev pub stands : ℕ → Scheduler Bool → Bool
+stands p s = is_placed p (seats p s.processes) s.agenda && is_covered p s.agenda
+
+-- none of these items says anything of p's place
+abbrev pub is_neutral : ℕ → Item → Bool
+is_neutral p item = not (is_start p item) && (not (is_turn_of p item) && (not (is_give_exit p item) && not (is_remove p item)))
+
+pub kept-more : (p : ℕ) (state : State) (item : Item) (items : List Item) → is_kept p state items ≡ true → is_kept p state (item ∷ items) ≡ true
+kept-more p state item items h = grind arith
+
+pub placed-more : (p : ℕ) (l : List State) (item : Item) (items : List Item) → is_placed p l items ≡ true → is_placed p l (item ∷ items) ≡ true
+placed-more p [] item items h = grind arith
+placed-more p (state ∷ []) item items h = kept-more p state item items h
+placed-more p (_ ∷ _ ∷ _) item items h = h
+
+pub placed-append : (p : ℕ) (l : List State) (xs items : List Item) → is_placed p l items ≡ true → is_placed p l (xs ++ items) ≡ true
+placed-append p l [] items h = h
+placed-append p l (x ∷ xs) items h = placed-more p l x (xs ++ items) (placed-append p l xs items h)
+
+pub covered-append : (p : ℕ) (xs items : List Item) → list_all (λ item. not (is_remove p item)) xs ≡ true → is_covered p items ≡ true → is_covered p (xs ++ items) ≡ true
+covered-append p [] items n h = h
+covered-append p (x ∷ xs) items n h = grind (arith, covered-append p xs items)
+
+-- the events that wait for p
+
+abbrev pub waiting_in : ℕ → Item → List Event
+waiting_in p (Item.Give q origin stimulus) = if q == p then option_to_list (posted_event origin stimulus) else []
+waiting_in p (Item.Turn q origin stimulus) = if q == p then option_to_list (posted_event origin stimulus) else []
+waiting_in p _ = []
+
+abbrev pub waits : ℕ → List Item → List Event
+waits p items = flat_map (waiting_in p) items
+
+abbrev pub posted_for : Event → List Event
+posted_for event = option_to_list (posted_event Origin.Event (of_event event))
+
+abbrev pub queued_in : ℕ → Queued Bool → List Event
+queued_in p (Queued.To q event) = if q == p then posted_for event else []
+queued_in p (Queued.ToAll event) = posted_for event
+queued_in p (Queued.Expiry q c struck) = []
+
+abbrev pub queued : ℕ → List (Queued Bool) → List Event
+queued p events = flat_map (queued_in p) events
+
+-- the reply that is known is the one that is given next; the answers of outer activations may be any
+abbrev pub FrontAgrees : Known → List Item → Type 0
+FrontAgrees known (Item.Turn q origin stimulus ∷ items) = known q ≡ reply_of stimulus
+FrontAgrees known (Item.Show entry ∷ items) = FrontAgrees known items
+FrontAgrees known _ = Unit {0}
+
+abbrev pub to_all : Event → Option (Queued Bool)
+to_all event = Some (Queued.ToAll event)
+
+-- all receivers of a broadcast get it once
+pub waits-broadcast : (p : ℕ) (event : Event) (list : List Process)
+    → waits p (delivery (numbers list) (to_all event)) ≡ flat_map (λ _. posted_for event) (seats p list)
+waits-broadcast p event [] = refl
+waits-broadcast p event (x ∷ xs) = go (x.number == p) (waits-broadcast p event xs)
+  where
+    go : (b : Bool) → waits p (delivery (numbers xs) (to_all event)) ≡ flat_map (λ _. posted_for event) (seats p xs)
+        → (if b then posted_for event else []) ++ waits p (delivery (numbers xs) (to_all event))
+        ≡ flat_map (λ _. posted_for event) (cons_option (if b then Some x.state else None) (seats p xs))
+    go true e = rw e refl
+    go false e = e
+
+pub delivery-ordered : (list : List ℕ) (event : Option (Queued Bool)) → list_all is_walk (delivery list event) ≡ true
+delivery-ordered list None = refl
+delivery-ordered list (Some (Queued.To p event)) = refl
+delivery-ordered list (Some (Queued.Expiry p c x)) = refl
+delivery-ordered [] (Some (Queued.ToAll event)) = refl
+delivery-ordered (n ∷ ns) (Some (Queued.ToAll event)) = delivery-ordered ns (Some (Queued.ToAll event))

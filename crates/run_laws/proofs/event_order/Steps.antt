@@ -1,0 +1,166 @@
+-- What holds of each kind of step holds of every step.
+use Rattle.std.proofs.Common.{◌≡◌, ℕ, Bool, true, false, List, [], ◌∷◌, ◌++◌, refl, sym, subst, arith, append-nil}
+use Rattle.std.specs.Prelude.{Option, Some, None, if◌then◌else◌, ◌==◌}
+use Rattle.mote_types.specs.declared.call.Call.{Call}
+use Rattle.mote_types.specs.declared.event.Stimulus.{Stimulus}
+use Rattle.mote_types.specs.declared.event.Event.{Event}
+use Rattle.mote_types.specs.declared.event.Origin.{Origin}
+use Rattle.mote_types.specs.declared.entry.Input.{Input}
+use Rattle.mote_types.specs.declared.entry.Note.{Note}
+use Rattle.mote_types.specs.declared.entry.Entry.{Entry}
+use Rattle.process_core.specs.Agenda.{Queued, Item, Job}
+use Rattle.process_core.specs.Processes.{is_kernel_process}
+use Rattle.process_core.specs.Scheduler.{carried_out, in_front, worked, worked_at, job, job_at, job_of_give, job_of_event, first_event, wants_round}
+use Rattle.kernel_core.specs.Machine.{Machine, scheduled}
+use Rattle.kernel_core.specs.Calls.{after_call}
+use Rattle.kernel_core.specs.KernelProcesses.{serve}
+use Rattle.kernel_core.specs.Run.{Answers, StepMade, silent, one_step, job_done, within_limit, turn_taken, with_more_work}
+use Rattle.kernel_core.specs.Inputs.{effect}
+use Rattle.run_laws.proofs.event_order.Tally.{is_turn}
+use Rattle.run_laws.proofs.event_order.Shape.{is_note}
+use Rattle.run_laws.proofs.event_order.Items.{with_agenda, facing}
+use Rattle.run_laws.proofs.event_order.Runs.{Law, Kept, ShowsNotes}
+
+-- an item that is neither a turn nor shown
+abbrev pub is_quiet_item : Item → Bool
+is_quiet_item (Item.Turn q origin stimulus) = false
+is_quiet_item (Item.Show entry) = false
+is_quiet_item _ = true
+
+-- an event for a kernel process
+abbrev pub is_served : Item → Bool
+is_served (Item.Give q origin (Stimulus.Event event)) = is_kernel_process q
+is_served _ = false
+
+abbrev pub carried : Item → List Item → Machine → Machine
+carried item items m = record m { scheduler = carried_out item (with_agenda items m.scheduler) }
+
+-- a kernel process is Running and takes no turn
+pub kernel_carried : (q : ℕ) (origin : Origin) (stimulus : Stimulus) (items : List Item) (m : Machine) → is_kernel_process q ≡ true
+    → carried (Item.Give q origin stimulus) items m ≡ facing items m
+kernel_carried q origin stimulus items m k = rw k refl
+
+abbrev pub turn_entry : ℕ → Origin → Stimulus → Call → Entry
+turn_entry q origin stimulus call = Entry.Turn (record { 0 = q }) origin stimulus call
+
+-- I holds of each machine and its entries; J where no reply is in front; P of the entries
+pub record Cases (I J : Machine → List Entry → Type 0) (P : List Entry → Type 0) : Type 0 where
+  pub notes : (m : Machine) (X : List Entry) → I m X → ShowsNotes m
+  pub free : (m : Machine) (X : List Entry) → J m X → I m X
+  pub carried : (m : Machine) (X : List Entry) (item : Item) (items : List Item) → is_quiet_item item ≡ true → is_served item ≡ false
+      → I (facing (item ∷ items) m) X → J (carried item items m) X
+  pub served : (m : Machine) (X : List Entry) (q : ℕ) (origin : Origin) (event : Event) (items : List Item) → is_kernel_process q ≡ true
+      → I (facing (Item.Give q origin (Stimulus.Event event) ∷ items) m) X → J (serve q event (facing items m)) X
+  pub called_back : (m : Machine) (X : List Entry) (q c : ℕ) → J m X → J (scheduled (in_front (Item.Give q Origin.Callback (Stimulus.Callback c) ∷ [])) m) X
+  pub round : (m : Machine) (X : List Entry) → I (facing [] m) X → J (with_more_work (facing (Item.Polls ∷ Item.Deliver ∷ []) m)) X
+  pub turn : (m : Machine) (X : List Entry) (items : List Item) (q : ℕ) (origin : Origin) (stimulus : Stimulus) (call : Call)
+      → I (facing (Item.Turn q origin stimulus ∷ items) m) X → I (after_call call q (with_more_work (facing items m))) (X ++ turn_entry q origin stimulus call ∷ [])
+  pub told : (m : Machine) (X : List Entry) (items : List Item) (q : ℕ) (origin : Origin) (stimulus : Stimulus) (call : Call)
+      → I (facing (Item.Turn q origin stimulus ∷ items) m) X → P X → P (X ++ turn_entry q origin stimulus call ∷ [])
+  pub shown : (m : Machine) (X : List Entry) (items : List Item) (note : Note)
+      → I (facing (Item.Show (Entry.Note note) ∷ items) m) X → I (facing items m) (X ++ Entry.Note note ∷ [])
+  pub other : (X : List Entry) (e : Entry) → is_turn e ≡ false → P X → P (X ++ e ∷ [])
+  pub input : (input : Input) (m : Machine) (X : List Entry) → I m X → I (effect input (record m { work = 0 })) (X ++ Entry.Input input ∷ [])
+
+module _ (I J : Machine → List Entry → Type 0) (P : List Entry → Type 0) (cases : Cases I J P) where
+  silent_kept : (X : List Entry) (m : Machine) → P X → I m X → Kept I P X (silent m)
+  silent_kept X m i h =
+      let e : X ≡ X ++ [] = sym (append-nil X) in
+      record { holds = λ live. subst (λ Y. I m Y) e h; shown = subst P e i }
+
+  free_kept : (X : List Entry) (m : Machine) → P X → J m X → Kept I P X (silent m)
+  free_kept X m i h = silent_kept X m i (cases.free m X h)
+
+  limit_kept : (X : List Entry) (m : Machine) (step : StepMade) → P X → Kept I P X step → Kept I P X (within_limit m step)
+  limit_kept X m step i h = go (m.work == 10000)
+    where
+      go : (b : Bool) → Kept I P X (if b then (record m { is_halted = true }, Some Entry.Halt) else step)
+      go true = record { holds = λ live. absurd (grind (arith, live)); shown = cases.other X Entry.Halt refl i }
+      go false = h
+
+  quiet_kept : (X : List Entry) (item : Item) (items : List Item) (m : Machine) → is_quiet_item item ≡ true → is_served item ≡ false → P X
+      → I (facing (item ∷ items) m) X → Kept I P X (silent (carried item items m))
+  quiet_kept X item items m n s i h = free_kept X (carried item items m) i (cases.carried m X item items n s h)
+
+  give_kept : (X : List Entry) (answers : Answers) (q : ℕ) (origin : Origin) (stimulus : Stimulus) (items : List Item) (m : Machine) → P X
+      → I (facing (Item.Give q origin stimulus ∷ items) m) X
+      → Kept I P X (job_done answers (job_of_give q stimulus) (carried (Item.Give q origin stimulus) items m))
+  give_kept X answers q origin (Stimulus.Event event) items m i h = go (is_kernel_process q) refl
+    where
+      go : (b : Bool) → is_kernel_process q ≡ b
+          → Kept I P X (job_done answers (if b then Some (Job.Serve q event) else None) (carried (Item.Give q origin (Stimulus.Event event)) items m))
+      go true k =
+          subst (λ n. Kept I P X (job_done answers (Some (Job.Serve q event)) n)) (sym (kernel_carried q origin (Stimulus.Event event) items m k))
+          (free_kept X (serve q event (facing items m)) i (cases.served m X q origin event items k h))
+      go false k = quiet_kept X (Item.Give q origin (Stimulus.Event event)) items m refl k i h
+  give_kept X answers q origin (Stimulus.Answer reply) items m i h = quiet_kept X (Item.Give q origin (Stimulus.Answer reply)) items m refl refl i h
+  give_kept X answers q origin (Stimulus.Callback c) items m i h = quiet_kept X (Item.Give q origin (Stimulus.Callback c)) items m refl refl i h
+
+  deliver_kept : (X : List Entry) (answers : Answers) (event : Option (Queued Bool)) (m : Machine) → P X → J m X → Kept I P X (job_done answers (job_of_event event) m)
+  deliver_kept X answers None m i h = free_kept X m i h
+  deliver_kept X answers (Some (Queued.To q event)) m i h = free_kept X m i h
+  deliver_kept X answers (Some (Queued.ToAll event)) m i h = free_kept X m i h
+  deliver_kept X answers (Some (Queued.Expiry q c true)) m i h = free_kept X m i h
+  deliver_kept X answers (Some (Queued.Expiry q c false)) m i h =
+      free_kept X (scheduled (in_front (Item.Give q Origin.Callback (Stimulus.Callback c) ∷ [])) m) i (cases.called_back m X q c h)
+
+  shown_kept : (X : List Entry) (m : Machine) (entry : Entry) (items : List Item) → P X → is_note entry ≡ true
+      → I (facing (Item.Show entry ∷ items) m) X → Kept I P X (facing items m, Some entry)
+  shown_kept X m (Entry.Turn pid origin stimulus call) items i n h = absurd (grind (arith, n))
+  shown_kept X m (Entry.Input input) items i n h = absurd (grind (arith, n))
+  shown_kept X m Entry.Halt items i n h = absurd (grind (arith, n))
+  shown_kept X m (Entry.Note note) items i n h = record { holds = λ live. cases.shown m X items note h; shown = cases.other X (Entry.Note note) refl i }
+
+  at_agenda : (X : List Entry) (agenda : List Item) (m : Machine) → m.scheduler.agenda ≡ agenda → I m X → I (facing agenda m) X
+  at_agenda X agenda m e h = subst (λ a. I (facing a m) X) e h
+
+  round_kept : (X : List Entry) (answers : Answers) (m : Machine) (b : Bool) → m.scheduler.agenda ≡ [] → P X → I m X
+      → Kept I P X (job_done answers (Some (if b then Job.Round else Job.Rest)) (record m { scheduler = if b then in_front (Item.Polls ∷ Item.Deliver ∷ []) m.scheduler else m.scheduler }))
+  round_kept X answers m true e i h =
+      let fresh : Machine = facing (Item.Polls ∷ Item.Deliver ∷ []) m in
+      let same : scheduled (in_front (Item.Polls ∷ Item.Deliver ∷ [])) m ≡ fresh = rw e refl in
+      subst (λ n. Kept I P X (job_done answers (Some Job.Round) n)) (sym same)
+      (limit_kept X fresh (silent (with_more_work fresh)) i (free_kept X (with_more_work fresh) i (cases.round m X (at_agenda X [] m e h))))
+  round_kept X answers m false e i h = silent_kept X m i h
+
+  step_kept : (X : List Entry) (answers : Answers) (agenda : List Item) (m : Machine) → m.scheduler.agenda ≡ agenda → P X → I m X
+      → Kept I P X (job_done answers (job_at agenda m.scheduler) (record m { scheduler = worked_at agenda m.scheduler }))
+  step_kept X answers [] m e i h = round_kept X answers m (wants_round m.scheduler) e i h
+  step_kept X answers (Item.Turn q origin stimulus ∷ items) m e i h =
+      let after : Machine = facing items m in
+      let call : Call = answers q stimulus in
+      let g = at_agenda X (Item.Turn q origin stimulus ∷ items) m e h in
+      limit_kept X after (turn_taken q origin stimulus call after) i
+      (record { holds = λ live. cases.turn m X items q origin stimulus call g; shown = cases.told m X items q origin stimulus call g i })
+  step_kept X answers (Item.Show entry ∷ items) m e i h =
+      let g = at_agenda X (Item.Show entry ∷ items) m e h in
+      shown_kept X m entry items i (cases.notes (facing (Item.Show entry ∷ items) m) X g entry refl) g
+  step_kept X answers (Item.Give q origin stimulus ∷ items) m e i h =
+      give_kept X answers q origin stimulus items m i (at_agenda X (Item.Give q origin stimulus ∷ items) m e h)
+  step_kept X answers (Item.Deliver ∷ items) m e i h =
+      deliver_kept X answers (first_event m.scheduler) (carried Item.Deliver items m) i
+      (cases.carried m X Item.Deliver items refl refl (at_agenda X (Item.Deliver ∷ items) m e h))
+  step_kept X answers (Item.Start q ∷ items) m e i h = quiet_kept X (Item.Start q) items m refl refl i (at_agenda X (Item.Start q ∷ items) m e h)
+  step_kept X answers (Item.GiveExit q ∷ items) m e i h = quiet_kept X (Item.GiveExit q) items m refl refl i (at_agenda X (Item.GiveExit q ∷ items) m e h)
+  step_kept X answers (Item.Remove q ∷ items) m e i h = quiet_kept X (Item.Remove q) items m refl refl i (at_agenda X (Item.Remove q ∷ items) m e h)
+  step_kept X answers (Item.Polls ∷ items) m e i h = quiet_kept X Item.Polls items m refl refl i (at_agenda X (Item.Polls ∷ items) m e h)
+  step_kept X answers (Item.PollOne q ∷ items) m e i h = quiet_kept X (Item.PollOne q) items m refl refl i (at_agenda X (Item.PollOne q ∷ items) m e h)
+
+  one_step_kept : (answers : Answers) (m : Machine) (X : List Entry) → I m X → P X → Kept I P X (one_step answers m)
+  one_step_kept answers m X h i = go m.is_halted
+    where
+      go : (b : Bool) → Kept I P X (if b then silent m else job_done answers (job m.scheduler) (scheduled worked m))
+      go true = silent_kept X m i h
+      go false = step_kept X answers m.scheduler.agenda m refl i h
+
+  cases_law : Law I P
+  cases_law =
+      record {
+        step = one_step_kept;
+        notes = cases.notes;
+        input = λ input m X h i. cases.input input m X h;
+        shown = λ input X i. cases.other X (Entry.Input input) refl i;
+      }
+
+pub law_of : (I J : Machine → List Entry → Type 0) (P : List Entry → Type 0) → Cases I J P → Law I P
+law_of I J P cases = cases_law I J P cases

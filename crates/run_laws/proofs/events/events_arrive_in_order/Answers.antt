@@ -1,0 +1,5 @@
+use Rattle.run_laws.proofs.events.events_arrive_in_order.Goals as goal
+use Rattle.run_laws.proofs.event_order.Events.{in_order, no_lost_event}
+
+pub returns : goal.returns
+returns c = record { in_order = in_order; none_lost = no_lost_event }

@@ -1,0 +1,252 @@
+-- Nobody is told that p ended while p goes on.
+use Rattle.std.proofs.Common.{◌≡◌, ℕ, zero, suc, Bool, true, false, not, ◌&&◌, ◌||◌, List, [], ◌∷◌, ◌++◌, refl, ◌∙◌, arith, append_assoc}
+use Rattle.std.specs.Prelude.{Option, Some, None, map, drop, slice_get, if◌then◌else◌, ◌==◌}
+use Rattle.std.specs.List.{list_all, list_any}
+use Rattle.std.proofs.lemmas.Bool.Decides.{nat_tests}
+use Rattle.mote_types.specs.declared.call.Call.{Call}
+use Rattle.mote_types.specs.declared.reply.Reply.{Reply}
+use Rattle.mote_types.specs.declared.refusal.Refusal.{Refusal}
+use Rattle.mote_types.specs.declared.event.Stimulus.{Stimulus}
+use Rattle.mote_types.specs.declared.event.Event.{Event}
+use Rattle.mote_types.specs.declared.event.Origin.{Origin}
+use Rattle.mote_types.specs.declared.event.TheConstants.{INIT, POLL, EXITED, CONTINUE, PACKET}
+use Rattle.mote_types.specs.Codes.{plain_event, number_event}
+use Rattle.process_core.specs.declared.state.State.{State}
+use Rattle.process_core.specs.Agenda.{Queued, Item}
+use Rattle.process_core.specs.Processes.{numbers, without, is_ending}
+use Rattle.process_core.specs.Requests.{farewells, killed_by, kill_refusal, synch_refusal, given_in_turn}
+use Rattle.process_core.specs.Scheduler.{Scheduler, carried_out, delivery, first_event, of_event, in_front, state_in, put_in_state, has_room}
+use Rattle.timer_core.specs.declared.timer.Timer.{Timer}
+use Rattle.timer_core.specs.Timers.{first_due}
+use Rattle.device_core.specs.SerialLine.{next_line, after_line}
+use Rattle.device_core.specs.PacketQueue.{unannounced}
+use Rattle.device_core.specs.declared.frame.Frame.{Frame}
+use Rattle.kernel_core.specs.Machine.{Machine, scheduled, with_event, with_serial, free_places, mark}
+use Rattle.kernel_core.specs.Calls.{after_call, unless_refused, event_of, is_callback_timer}
+use Rattle.kernel_core.specs.Expiries.{struck_if}
+use Rattle.kernel_core.specs.KernelProcesses.{serve}
+use Rattle.kernel_core.specs.PacketProcess.{announce_to, announce_next, announce, has_news, forget_receiver, packet}
+use Rattle.kernel_core.specs.Repeating.{times}
+use Rattle.kernel_core.specs.SerialProcess.{line_event, broadcast_line, post_continue, line_served, serve_line, line_count, empty_ring, serial_line_polled, serial_line_continued, serial_line}
+use Rattle.kernel_core.specs.TimerProcesses.{expiry_of, post_expiry, post_first_due, post_due, is_any_due, exited_application, forget_event_timers, forget_callback_timers, etimer, ctimer}
+use Rattle.run_laws.specs.TimerLaws.{is_number}
+use Rattle.run_laws.proofs.event_order.Tally.{ends_in}
+use Rattle.run_laws.proofs.event_order.Shape.{is_give_exit, is_exit_turn, to_all}
+use Rattle.run_laws.proofs.event_order.Items.{with_agenda}
+use Rattle.run_laws.proofs.timer_deadlines.Fronts.{none-mapped, carried-any, after-any}
+use Rattle.run_laws.proofs.event_order.After.{told_all}
+use Rattle.run_laws.proofs.event_order.Steps.{is_quiet_item, turn_entry}
+
+-- p is given EXIT
+abbrev pub dooms : ℕ → Item → Bool
+dooms p item = is_give_exit p item || is_exit_turn p item
+
+abbrev pub is_doomed : ℕ → List Item → Bool
+is_doomed p agenda = list_any (dooms p) agenda
+
+-- etimer is told that p ended
+abbrev pub is_farewell : ℕ → Item → Bool
+is_farewell p (Item.Give q origin (Stimulus.Event event)) = q == 0 && (event.code == EXITED && is_number p event.payload)
+is_farewell p _ = false
+
+abbrev pub has_farewell : ℕ → List Item → Bool
+has_farewell p agenda = list_any (is_farewell p) agenda
+
+-- an event in the queue that is no EXITED
+abbrev pub is_no_exited : Queued Bool → Bool
+is_no_exited (Queued.To q event) = not (event.code == EXITED)
+is_no_exited (Queued.ToAll event) = not (event.code == EXITED)
+is_no_exited (Queued.Expiry q c x) = true
+
+any-left : {A : Type 0} (test : A → Bool) (xs ys : List A) → list_any test (xs ++ ys) ≡ false → list_any test ys ≡ false
+any-left test [] ys h = h
+any-left test (x ∷ xs) ys h = any-left test xs ys (grind (arith, h))
+
+any-both : {A : Type 0} (test : A → Bool) (xs ys : List A) → list_any test xs ≡ false → list_any test ys ≡ false → list_any test (xs ++ ys) ≡ false
+any-both test [] ys h k = k
+any-both test (x ∷ xs) ys h k = grind (arith, h, any-both test xs ys)
+
+-- the queue
+
+pub events-more : (xs : List (Queued Bool)) (event : Queued Bool) → is_no_exited event ≡ true → list_all is_no_exited xs ≡ true → list_all is_no_exited (xs ++ event ∷ []) ≡ true
+events-more [] event n h = grind (arith, n)
+events-more (x ∷ xs) event n h = grind (arith, n, h, events-more xs event)
+
+events-struck : (test : ℕ → ℕ → Bool) (events : List (Queued Bool)) → list_all is_no_exited (map (struck_if test) events) ≡ list_all is_no_exited events
+events-struck test [] = refl
+events-struck test (Queued.To q event ∷ events) = rw (events-struck test events) refl
+events-struck test (Queued.ToAll event ∷ events) = rw (events-struck test events) refl
+events-struck test (Queued.Expiry q c x ∷ events) = events-struck test events
+
+pub carried-events : (item : Item) (items : List Item) (s : Scheduler Bool) → list_all is_no_exited s.events ≡ true
+    → list_all is_no_exited (carried_out item (with_agenda items s)).events ≡ true
+carried-events Item.Deliver items s h = dropped s.events h
+  where
+    dropped : (events : List (Queued Bool)) → list_all is_no_exited events ≡ true → list_all is_no_exited (drop 1 events) ≡ true
+    dropped [] h = refl
+    dropped (event ∷ events) h = grind (arith, h)
+carried-events item items s h = grind (arith, h)
+
+pub after-events : (call : Call) (q : ℕ) (m : Machine) → list_all is_no_exited m.scheduler.events ≡ true → list_all is_no_exited (after_call call q m).scheduler.events ≡ true
+after-events (Call.CallbackSet c interval) q m h = grind (arith, h, events-struck (is_callback_timer q c) m.scheduler.events)
+after-events (Call.CallbackStop c) q m h = grind (arith, h, events-struck (is_callback_timer q c) m.scheduler.events)
+after-events (Call.Post r code payload) q m h = grind (arith, nat_tests, h, events-more)
+after-events (Call.Broadcast code payload) q m h = grind (arith, nat_tests, h, events-more)
+after-events call q m h = grind (arith, h)
+
+abbrev Clean : Machine → Type 0
+Clean m = list_all is_no_exited m.scheduler.events ≡ true
+
+times-clean : (change : Machine → Machine) → ((m : Machine) → Clean m → Clean (change m)) → (n : ℕ) (m : Machine) → Clean m → Clean (times n change m)
+unfolding times
+times-clean change keeps zero m h = h
+times-clean change keeps (suc n) m h = times-clean change keeps n (change m) (keeps m h)
+
+expiry-clean : (timer : Timer) → is_no_exited (expiry_of timer) ≡ true
+expiry-clean timer = grind (arith, nat_tests)
+
+first_due-clean : (m : Machine) → Clean m → Clean (post_first_due m)
+first_due-clean m h = go (first_due m.clock m.timers)
+  where
+    go : (o : Option Timer) → Clean (post_expiry o m)
+    go None = h
+    go (Some timer) = events-more m.scheduler.events (expiry_of timer) (expiry-clean timer) h
+
+either : (test : Bool) (x y : Machine) → Clean x → Clean y → Clean (if test then x else y)
+either true x y h k = h
+either false x y h k = k
+
+broadcast-clean : (line : List ℕ) (m : Machine) → Clean m → Clean (broadcast_line line m)
+broadcast-clean line m h = either (has_room m.scheduler) (with_event (Queued.ToAll (line_event line)) m) m (events-more m.scheduler.events (Queued.ToAll (line_event line)) refl h) h
+
+continue-clean : (m : Machine) → Clean m → Clean (post_continue m)
+continue-clean m h =
+    either (has_room m.scheduler) (with_event (Queued.To 2 (plain_event CONTINUE)) (record m { is_serial_waiting = true })) m
+    (events-more m.scheduler.events (Queued.To 2 (plain_event CONTINUE)) refl h) h
+
+line-clean : (m : Machine) → Clean m → Clean (serve_line m)
+line-clean m h = either m.is_serial_waiting m (line_served (next_line m.serial) (with_serial (after_line m.serial) m)) h (go (next_line m.serial))
+  where
+    go : (o : Option (List ℕ)) → Clean (line_served o (with_serial (after_line m.serial) m))
+    go None = h
+    go (Some line) =
+        let a : Machine = with_serial (after_line m.serial) m in
+        continue-clean (broadcast_line line a) (broadcast-clean line a h)
+
+next-clean : (m : Machine) → Clean m → Clean (announce_next m)
+next-clean m h = go m.packets.receiver (unannounced m.packets)
+  where
+    go : (o : Option ℕ) (f : Option Frame) → Clean (announce_to o f m)
+    go (Some receiver) (Some frame) = events-more m.scheduler.events (Queued.To receiver (number_event PACKET frame.len)) refl h
+    go None f = h
+    go (Some receiver) None = h
+
+pub serve-events : (q : ℕ) (event : Event) (m : Machine) → Clean m → Clean (serve q event m)
+serve-events q event m h =
+    let due : Machine = times (free_places m) post_first_due m in
+    let posted = times-clean post_first_due first_due-clean (free_places m) m h in
+    let news : Machine = times (free_places m) announce_next m in
+    let told = times-clean announce_next next-clean (free_places m) m h in
+    either (q == 0) (etimer event m) _
+    (either (event.code == POLL) (post_due m) _ (either (is_any_due due) (mark 0 due) due posted posted)
+    (either (event.code == EXITED) _ m (timers_gone (exited_application event.payload)) h))
+    (either (q == 1) (ctimer event m) _ (either (event.code == EXITED) _ m (callbacks_gone (exited_application event.payload)) h)
+    (either (q == 2) (serial_line event m) _
+    (either (event.code == POLL) (serial_line_polled m) _ (either m.is_serial_waiting m (empty_ring m) h (times-clean serve_line line-clean (suc (line_count m.serial)) m h))
+    (either (event.code == CONTINUE) (serial_line_continued m) m (times-clean serve_line line-clean (suc (line_count m.serial)) (record m { is_serial_waiting = false }) h) h))
+    (either (q == 3) (packet event m) m
+    (either (event.code == POLL) (announce m) _ (either (has_news news.packets) (mark 3 news) news told told)
+    (either (event.code == EXITED) _ m (receiver_gone (exited_application event.payload)) h)) h)))
+  where
+    timers_gone : (o : Option ℕ) → Clean (forget_event_timers o m)
+    timers_gone None = h
+    timers_gone (Some n) = h
+
+    callbacks_gone : (o : Option ℕ) → Clean (forget_callback_timers o m)
+    callbacks_gone None = h
+    callbacks_gone (Some n) = events-struck (λ r c. r == n) m.scheduler.events ∙ h
+
+    receiver_gone : (o : Option ℕ) → Clean (forget_receiver o m)
+    receiver_gone None = h
+    receiver_gone (Some n) = h
+
+-- an item
+
+no_farewell-given : (p q : ℕ) (origin : Origin) (event : Event) → (event.code == EXITED) ≡ false → is_farewell p (Item.Give q origin (of_event event)) ≡ false
+no_farewell-given p q origin event h = grind (arith, nat_tests, h)
+
+no_farewell-broadcast : (p : ℕ) (ns : List ℕ) (event : Event) → (event.code == EXITED) ≡ false → has_farewell p (delivery ns (to_all event)) ≡ false
+no_farewell-broadcast p [] event h = refl
+no_farewell-broadcast p (n ∷ ns) event h = grind (arith, no_farewell-given p n Origin.Event event h, no_farewell-broadcast p ns event h)
+
+no_farewell-delivery : (p : ℕ) (ns : List ℕ) (events : List (Queued Bool)) → list_all is_no_exited events ≡ true → has_farewell p (delivery ns (slice_get events 0)) ≡ false
+no_farewell-delivery p ns [] h = refl
+no_farewell-delivery p ns (Queued.To q event ∷ events) h = grind (arith, no_farewell-given p q Origin.Event event (grind (arith, h)))
+no_farewell-delivery p ns (Queued.ToAll event ∷ events) h = no_farewell-broadcast p ns event (grind (arith, h))
+no_farewell-delivery p ns (Queued.Expiry q c x ∷ events) h = refl
+
+-- where p isn't doomed after, it wasn't before
+spared-before : (a b : Bool) → (a ≡ true → b ≡ true) → b ≡ false → a ≡ false
+spared-before true b h n = absurd (grind (arith, h refl, n))
+spared-before false b h n = refl
+
+pub carried-doomed : (p : ℕ) (item : Item) (items : List Item) (s : Scheduler Bool) → is_quiet_item item ≡ true
+    → is_doomed p (carried_out item (with_agenda items s)).agenda ≡ false → is_doomed p (item ∷ items) ≡ false
+carried-doomed p (Item.GiveExit q) items s n h = grind (arith, nat_tests, h)
+carried-doomed p (Item.Turn q origin stimulus) items s n h = absurd (grind (arith, n))
+carried-doomed p item items s n h =
+    spared-before (is_doomed p items) (is_doomed p (carried_out item (with_agenda items s)).agenda) (carried-any (dooms p) item items s) h
+
+pub carried-farewell : (p : ℕ) (item : Item) (items : List Item) (s : Scheduler Bool) → list_all is_no_exited s.events ≡ true
+    → has_farewell p (item ∷ items) ≡ false → has_farewell p (carried_out item (with_agenda items s)).agenda ≡ false
+carried-farewell p Item.Polls items s n h =
+    grind (arith, h, any-both (is_farewell p) (map (λ n. Item.PollOne n) (numbers s.processes)) items (none-mapped (is_farewell p) (λ n. Item.PollOne n) (numbers s.processes) (λ n. refl)))
+carried-farewell p Item.Deliver items s n h =
+    any-both (is_farewell p) (delivery (numbers s.processes) (first_event s)) items (no_farewell-delivery p (numbers s.processes) s.events n) h
+carried-farewell p (Item.Start q) items s n h = grind (arith, h, no_farewell-given p q Origin.Synch (plain_event INIT) refl)
+carried-farewell p (Item.PollOne q) items s n h = grind (arith, h, no_farewell-given p q Origin.Poll (plain_event POLL) refl)
+carried-farewell p item items s n h = grind (arith, h)
+
+-- a turn
+
+no_farewell-others : (p r : ℕ) (ns : List ℕ) → (r == p) ≡ false → has_farewell p (map (λ n. Item.Give n Origin.Synch (of_event (number_event EXITED r))) ns) ≡ false
+no_farewell-others p r [] h = refl
+no_farewell-others p r (n ∷ ns) h = grind (arith, nat_tests, h, no_farewell-others p r ns h)
+
+pub after-doomed : (p : ℕ) (call : Call) (q : ℕ) (m : Machine) → is_doomed p (after_call call q m).scheduler.agenda ≡ false → is_doomed p m.scheduler.agenda ≡ false
+after-doomed p call q m h = spared-before (is_doomed p m.scheduler.agenda) (is_doomed p (after_call call q m).scheduler.agenda) (after-any (dooms p) call q m) h
+
+-- only who ends, or is doomed, is said farewell
+pub after-farewell : (p : ℕ) (call : Call) (q : ℕ) (origin : Origin) (stimulus : Stimulus) (m : Machine) → ends_in p (turn_entry q origin stimulus call) ≡ false
+    → is_doomed p (after_call call q m).scheduler.agenda ≡ false → has_farewell p m.scheduler.agenda ≡ false → has_farewell p (after_call call q m).scheduler.agenda ≡ false
+after-farewell p Call.Exit q origin stimulus m n d h = go (is_ending (state_in m.scheduler q))
+  where
+    other : (q == p) ≡ false
+    other = grind (arith, nat_tests, n)
+
+    go : (b : Bool) → has_farewell p (if b then m.scheduler else in_front (farewells q m.scheduler ++ Item.Remove q ∷ []) (put_in_state q State.Leaving m.scheduler)).agenda ≡ false
+    go true = h
+    go false =
+        rw (append_assoc (told_all q m.scheduler) (Item.Remove q ∷ []) m.scheduler.agenda)
+        (any-both (is_farewell p) (told_all q m.scheduler) (Item.Remove q ∷ m.scheduler.agenda) (no_farewell-others p q (numbers (without q m.scheduler.processes)) other) h)
+after-farewell p (Call.Kill r) q origin stimulus m n d h = go (kill_refusal m.scheduler r) d
+  where
+    go : (o : Option Refusal) → is_doomed p (unless_refused o q m (scheduled (killed_by q r) m)).scheduler.agenda ≡ false
+        → has_farewell p (unless_refused o q m (scheduled (killed_by q r) m)).scheduler.agenda ≡ false
+    go (Some refusal) d = h
+    go None d =
+        let xs : List Item = Item.GiveExit r ∷ Item.Remove r ∷ Item.Turn q Origin.Answer (Stimulus.Answer Reply.Done) ∷ [] in
+        let front : is_doomed p (xs ++ m.scheduler.agenda) ≡ false =
+        any-left (dooms p) (told_all r m.scheduler) (xs ++ m.scheduler.agenda) (rw (append_assoc (told_all r m.scheduler) xs m.scheduler.agenda) at d) in
+        let other : (r == p) ≡ false = grind (arith, front) in
+        rw (append_assoc (told_all r m.scheduler) xs m.scheduler.agenda)
+        (any-both (is_farewell p) (told_all r m.scheduler) (xs ++ m.scheduler.agenda) (no_farewell-others p r (numbers (without r m.scheduler.processes)) other) h)
+after-farewell p (Call.PostSynch r code payload) q origin stimulus m n d h = go (synch_refusal m.scheduler r code) refl
+  where
+    go : (o : Option Refusal) → synch_refusal m.scheduler r code ≡ o
+        → has_farewell p (unless_refused o q m (scheduled (given_in_turn q r (event_of code payload)) m)).scheduler.agenda ≡ false
+    go (Some refusal) e = h
+    go None e =
+        let free : (code == EXITED) ≡ false = grind (arith, nat_tests, e) in
+        grind (arith, h, no_farewell-given p r Origin.Synch (event_of code payload) free)
+after-farewell p call q origin stimulus m n d h = grind (arith, h)

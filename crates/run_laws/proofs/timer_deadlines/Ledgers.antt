@@ -1,0 +1,180 @@
+-- Timer t of p by the turns of p, from the first on.
+use Rattle.std.proofs.Common.{◌≡◌, ℕ, ◌+◌, Bool, true, false, ◌&&◌, ◌||◌, List, [], ◌∷◌, ◌++◌, refl, ◌∙◌, sym, arith}
+use Rattle.std.specs.Prelude.{Option, Some, None, option_to_list, fold, find, if◌then◌else◌, ◌==◌, nat_le}
+use Rattle.std.specs.List.{cons_option}
+use Rattle.std.specs.Option.{option_map_or}
+use Rattle.mote_types.specs.declared.call.Call.{Call}
+use Rattle.mote_types.specs.declared.reply.Reply.{Reply}
+use Rattle.mote_types.specs.declared.event.Stimulus.{Stimulus}
+use Rattle.mote_types.specs.declared.event.Origin.{Origin}
+use Rattle.mote_types.specs.declared.event.Pid.{Pid}
+use Rattle.mote_types.specs.declared.entry.Entry.{Entry}
+use Rattle.timer_core.specs.declared.timer.Cell.{Cell}
+use Rattle.timer_core.specs.Timers.{zero_cell, deadline}
+use Rattle.kernel_core.specs.Run.{heard}
+use Rattle.run_laws.specs.OwnTurns.{is_done, OwnTurn, own, own_from, own_turn, reply_of, ticks_in}
+use Rattle.run_laws.specs.TimerLaws.{clock_after}
+use Rattle.run_laws.specs.TimerLaws.{arms, stops, cell_after, is_arming, is_arming_or_stop, cell_at, stood_until, ripe_from, ripe_armings, is_timer_event, timer_events}
+use Rattle.run_laws.proofs.event_order.Tally.{reply_or, reply_or-none, heard-turn, heard-other, is_turn, cons_option-append, cons_option-nil}
+
+-- the turns of p, where the reply to the last one is k unless the entries show it
+
+abbrev pub own_turn_or : Option Reply → ℕ → ℕ → Entry → List Entry → Option OwnTurn
+own_turn_or k p clock (Entry.Turn pid origin stimulus call) later =
+    if pid.0 == p
+    then Some (record { clock = clock; origin = origin; stimulus = stimulus; call = call; reply = reply_or k (heard p later) })
+    else None
+own_turn_or k p clock _ later = None
+
+abbrev pub turns_or : Option Reply → ℕ → ℕ → List Entry → List OwnTurn
+turns_or k p clock [] = []
+turns_or k p clock (entry ∷ later) = cons_option (own_turn_or k p clock entry later) (turns_or k p (clock + ticks_in entry) later)
+
+abbrev pub clock_from : ℕ → List Entry → ℕ
+clock_from clock entries = fold (λ clock entry. clock + ticks_in entry) clock entries
+
+turn-none : (p clock : ℕ) (entry : Entry) (later : List Entry) → own_turn_or None p clock entry later ≡ own_turn p clock entry later
+turn-none p clock (Entry.Turn pid origin stimulus call) later = rw (reply_or-none p later)
+turn-none p clock _ later = refl
+
+pub turns-none : (p clock : ℕ) (X : List Entry) → turns_or None p clock X ≡ own_from p clock X
+turns-none p clock [] = refl
+turns-none p clock (entry ∷ later) = rw (turn-none p clock entry later, turns-none p (clock + ticks_in entry) later)
+
+abbrev pub told_reply : ℕ → ℕ → Stimulus → Option Reply → Option Reply
+told_reply p q stimulus k = if q == p then reply_of stimulus else k
+
+pub told-front : (p q : ℕ) (stimulus : Stimulus) (k : Option Reply) → (q == p) ≡ true → told_reply p q stimulus k ≡ reply_of stimulus
+told-front p q stimulus k same = rw same refl
+
+reply-told : (k : Option Reply) (b : Bool) (stimulus : Stimulus) (l : List Stimulus)
+    → reply_or k (l ++ option_to_list (if b then Some stimulus else None)) ≡ reply_or (if b then reply_of stimulus else k) l
+reply-told k true stimulus [] = refl
+reply-told k false stimulus [] = refl
+reply-told k b stimulus (first ∷ l) = refl
+
+turn-more : (k : Option Reply) (p clock : ℕ) (entry : Entry) (X : List Entry) (pid : Pid) (origin : Origin) (stimulus : Stimulus) (call : Call)
+    → own_turn_or k p clock entry (X ++ Entry.Turn pid origin stimulus call ∷ []) ≡ own_turn_or (told_reply p pid.0 stimulus k) p clock entry X
+turn-more k p clock (Entry.Turn other o s c) X pid origin stimulus call =
+    rw (heard-turn p X pid origin stimulus call, reply-told k (pid.0 == p) stimulus (heard p X))
+turn-more k p clock _ X pid origin stimulus call = refl
+
+pub turns-turn : (k : Option Reply) (p clock : ℕ) (X : List Entry) (pid : Pid) (origin : Origin) (stimulus : Stimulus) (call : Call)
+    → turns_or k p clock (X ++ Entry.Turn pid origin stimulus call ∷ [])
+    ≡ turns_or (told_reply p pid.0 stimulus k) p clock X ++ option_to_list (own_turn_or k p (clock_from clock X) (Entry.Turn pid origin stimulus call) [])
+turns-turn k p clock [] pid origin stimulus call = cons_option-nil _
+turns-turn k p clock (entry ∷ X) pid origin stimulus call =
+    let e : Entry = Entry.Turn pid origin stimulus call in
+    let k' : Option Reply = told_reply p pid.0 stimulus k in
+    rw (
+      turn-more k p clock entry X pid origin stimulus call,
+      turns-turn k p (clock + ticks_in entry) X pid origin stimulus call,
+      cons_option-append (own_turn_or k' p clock entry X) (turns_or k' p (clock + ticks_in entry) X) (option_to_list (own_turn_or k p (clock_from clock (entry ∷ X)) e [])),
+    )
+
+turn-other : (k : Option Reply) (p clock : ℕ) (entry : Entry) (X : List Entry) (e : Entry) → is_turn e ≡ false
+    → own_turn_or k p clock entry (X ++ e ∷ []) ≡ own_turn_or k p clock entry X
+turn-other k p clock (Entry.Turn other o s c) X e h = rw (heard-other p X e h)
+turn-other k p clock _ X e h = refl
+
+pub turns-other : (k : Option Reply) (p clock : ℕ) (X : List Entry) (e : Entry) → is_turn e ≡ false → turns_or k p clock (X ++ e ∷ []) ≡ turns_or k p clock X
+turns-other k p clock [] (Entry.Turn pid origin stimulus call) h = absurd (grind (arith, h))
+turns-other k p clock [] (Entry.Note n) h = refl
+turns-other k p clock [] (Entry.Input n) h = refl
+turns-other k p clock [] Entry.Halt h = refl
+turns-other k p clock (entry ∷ X) e h = rw (turn-other k p clock entry X e h, turns-other k p (clock + ticks_in entry) X e h)
+
+pub fold-append : {A B : Type 0} (f : B → A → B) (b : B) (xs ys : List A) → fold f b (xs ++ ys) ≡ fold f (fold f b xs) ys
+fold-append f b [] ys = refl
+fold-append f b (x ∷ xs) ys = fold-append f (f b x) xs ys
+
+-- the ledger of a timer
+
+pub record Ledger : Type 0 where
+  pub cell : Cell
+  -- the last arming or stop was an arming
+  pub is_set : Bool
+  -- the ripe ones of the armings before that
+  pub settled : ℕ
+  -- the TIMER events given
+  pub given : ℕ
+
+abbrev pub one_if : Bool → ℕ
+one_if b = if b then 1 else 0
+
+abbrev pub ledger_after : ℕ → Ledger → OwnTurn → Ledger
+ledger_after t ledger turn =
+    let given = ledger.given + one_if (is_timer_event t turn.stimulus) in
+    if is_arming_or_stop t turn
+    then record {
+      cell = cell_at t turn ledger.cell;
+      is_set = is_arming t turn;
+      settled = ledger.settled + one_if (ledger.is_set && nat_le (deadline ledger.cell) turn.clock);
+      given = given;
+    }
+    else record ledger { given = given }
+
+abbrev pub blank : Ledger
+blank = record { cell = zero_cell; is_set = false; settled = 0; given = 0 }
+
+abbrev pub ledger_of : ℕ → List OwnTurn → Ledger
+ledger_of t turns = fold (ledger_after t) blank turns
+
+-- the ripe armings at that clock
+abbrev pub ripe_at : ℕ → Ledger → ℕ
+ripe_at clock ledger = ledger.settled + one_if (ledger.is_set && nat_le (deadline ledger.cell) clock)
+
+ripe-step : (t clock : ℕ) (ledger : Ledger) (turn : OwnTurn) (later : List OwnTurn)
+    → (ledger_after t ledger turn).settled
+    + (one_if ((ledger_after t ledger turn).is_set && nat_le (deadline (ledger_after t ledger turn).cell) (stood_until t clock later)) + ripe_from t clock (ledger_after t ledger turn).cell later)
+    ≡ ledger.settled + (one_if (ledger.is_set && nat_le (deadline ledger.cell) (stood_until t clock (turn ∷ later))) + ripe_from t clock ledger.cell (turn ∷ later))
+ripe-step t clock ledger turn later = go (is_done turn.reply) (arms t turn.call) (stops t turn.call)
+  where
+    go : (d a s : Bool)
+        → (let new : Cell = cell_after t turn.clock turn.call ledger.cell in
+        let st : Ledger = (if d && (a || s) then record {
+          cell = if d && a then new else ledger.cell;
+          is_set = d && a;
+          settled = ledger.settled + one_if (ledger.is_set && nat_le (deadline ledger.cell) turn.clock);
+          given = ledger.given + one_if (is_timer_event t turn.stimulus);
+        } else record ledger { given = ledger.given + one_if (is_timer_event t turn.stimulus) }) in
+        st.settled + (one_if (st.is_set && nat_le (deadline st.cell) (stood_until t clock later)) + ripe_from t clock st.cell later)
+        ≡ ledger.settled
+        + (one_if (ledger.is_set && nat_le (deadline ledger.cell) (option_map_or (λ turn. turn.clock) (if d && (a || s) then Some turn else find (is_arming_or_stop t) later) clock))
+        + ((if (d && a) && nat_le (deadline (if d && a then new else ledger.cell)) (stood_until t clock later) then 1 else 0) + ripe_from t clock (if d && a then new else ledger.cell) later)))
+    go true true s = omega arith
+    go true false true = omega arith
+    go true false false = omega arith
+    go false a s = omega arith
+
+pub ripe-ledger : (t clock : ℕ) (ledger : Ledger) (turns : List OwnTurn)
+    → ripe_at clock (fold (ledger_after t) ledger turns)
+    ≡ ledger.settled + (one_if (ledger.is_set && nat_le (deadline ledger.cell) (stood_until t clock turns)) + ripe_from t clock ledger.cell turns)
+ripe-ledger t clock ledger [] = omega arith
+ripe-ledger t clock ledger (turn ∷ later) =
+    ripe-ledger t clock (ledger_after t ledger turn) later ∙ ripe-step t clock ledger turn later
+
+given_after : (t : ℕ) (ledger : Ledger) (turn : OwnTurn) → (ledger_after t ledger turn).given ≡ ledger.given + one_if (is_timer_event t turn.stimulus)
+given_after t ledger turn = go (is_arming_or_stop t turn)
+  where
+    go : (b : Bool) → (if b then record {
+      cell = cell_at t turn ledger.cell;
+      is_set = is_arming t turn;
+      settled = ledger.settled + one_if (ledger.is_set && nat_le (deadline ledger.cell) turn.clock);
+      given = ledger.given + one_if (is_timer_event t turn.stimulus);
+    } else record ledger { given = ledger.given + one_if (is_timer_event t turn.stimulus) }).given ≡ ledger.given + one_if (is_timer_event t turn.stimulus)
+    go true = refl
+    go false = refl
+
+given-fold : (t : ℕ) (ledger : Ledger) (turns : List OwnTurn)
+    → (fold (ledger_after t) ledger turns).given ≡ fold (λ n turn. n + one_if (is_timer_event t turn.stimulus)) ledger.given turns
+given-fold t ledger [] = refl
+given-fold t ledger (turn ∷ later) = given-fold t (ledger_after t ledger turn) later ∙ rw (given_after t ledger turn) refl
+
+-- the ledger tells both numbers
+pub timer_events-ledger : (X : List Entry) (p t : ℕ) → timer_events X p t ≡ (ledger_of t (turns_or None p 0 X)).given
+timer_events-ledger X p t = rw (turns-none p 0 X) (sym (given-fold t blank (own p X)))
+
+pub ripe_armings-ledger : (X : List Entry) (p t : ℕ) → ripe_armings X p t ≡ ripe_at (clock_after X) (ledger_of t (turns_or None p 0 X))
+ripe_armings-ledger X p t =
+    rw (turns-none p 0 X) (sym (ripe-ledger t (clock_after X) blank (own p X) ∙ omega arith))

@@ -1,0 +1,288 @@
+-- What a call does to a timer: an accepted arming puts it on the list with its new cell, a stop takes it off, and no other call moves it.
+use Rattle.std.proofs.Common.{◌≡◌, ℕ, ◌+◌, Bool, true, false, not, ◌&&◌, ◌||◌, List, ◌∷◌, refl, ◌∙◌, sym, subst, arith}
+use Rattle.std.specs.Prelude.{Option, Some, None, if◌then◌else◌, ◌==◌, nat_le, nat_lt}
+use Rattle.std.proofs.lemmas.Bool.Decides.{nat_tests}
+use Rattle.mote_types.specs.declared.call.Call.{Call}
+use Rattle.mote_types.specs.declared.reply.Reply.{Reply}
+use Rattle.mote_types.specs.declared.refusal.Refusal.{Refusal}
+use Rattle.process_core.specs.Agenda.{Item}
+use Rattle.timer_core.specs.declared.timer.Timer.{Timer}
+use Rattle.timer_core.specs.declared.timer.Cell.{Cell}
+use Rattle.timer_core.specs.Names.{all_timers, event_timer, callback_timer, is_timer}
+use Rattle.timer_core.specs.Timers.{Timers, cell_of, is_armed, armed_with, set_timer, stop_timer, restart_timer, reset_timer, can_reset}
+use Rattle.kernel_core.specs.Machine.{Machine, with_timers, mark}
+use Rattle.kernel_core.specs.Expiries.{strike_out}
+use Rattle.kernel_core.specs.Calls.{after_call, done, unless_refused, is_callback_timer}
+use Rattle.run_laws.specs.OwnTurns.{reply_of, is_done}
+use Rattle.run_laws.specs.TimerLaws.{arms, stops, cell_after}
+use Rattle.run_laws.proofs.timer_deadlines.Timing.{cell_names, armed-names, cell-armed_own, cell-armed_other, armed-own, armed-other, stopped-own, stopped-other}
+
+abbrev pub own_timer : ℕ → ℕ → Timer
+own_timer p t = event_timer p t
+
+-- the reply that p is given next is k, if p is in front
+abbrev pub FrontIs : ℕ → Option Reply → List Item → Type 0
+FrontIs p k (Item.Turn q origin stimulus ∷ items) = (q == p) ≡ true → k ≡ reply_of stimulus
+FrontIs p k (Item.Show entry ∷ items) = FrontIs p k items
+FrontIs p k _ = Unit {0}
+
+-- the calls that leave the timers
+
+abbrev pub is_timer_call : Call → Bool
+is_timer_call (Call.TimerSet u interval) = true
+is_timer_call (Call.TimerStop u) = true
+is_timer_call (Call.TimerReset u) = true
+is_timer_call (Call.TimerRestart u) = true
+is_timer_call (Call.CallbackSet c interval) = true
+is_timer_call (Call.CallbackStop c) = true
+is_timer_call _ = false
+
+pub after-timers : (call : Call) (q : ℕ) (m : Machine) → is_timer_call call ≡ false → (after_call call q m).timers ≡ m.timers
+after-timers call q m h = grind (arith, h)
+
+pub after-clock : (call : Call) (q : ℕ) (m : Machine) → (after_call call q m).clock ≡ m.clock
+after-clock call q m = grind arith
+
+-- an arming keeps the names, accepted or refused
+arming-names : (b : Bool) (q : ℕ) (timer : Timer) (cell : Cell) (m : Machine) (after : Machine) → after.timers ≡ armed_with timer cell m.timers
+    → cell_names (unless_refused (if b then None else Some Refusal.BadName) q m (done q after)).timers.cells ≡ cell_names m.timers.cells
+arming-names true q timer cell m after e = rw e (armed-names timer cell m.timers)
+arming-names false q timer cell m after e = refl
+
+pub after-names : (call : Call) (q : ℕ) (m : Machine) → cell_names (after_call call q m).timers.cells ≡ cell_names m.timers.cells
+after-names (Call.TimerSet u interval) q m =
+    arming-names (nat_lt u 8) q (event_timer q u) (record { start = m.clock; interval = interval }) m (mark 0 (with_timers (set_timer m.clock (event_timer q u) interval m.timers) m)) refl
+after-names (Call.TimerRestart u) q m =
+    arming-names (nat_lt u 8) q (event_timer q u) (record (cell_of (event_timer q u) m.timers) { start = m.clock }) m
+    (mark 0 (with_timers (restart_timer m.clock (event_timer q u) m.timers) m)) refl
+after-names (Call.TimerReset u) q m = go (nat_lt u 8) (can_reset (event_timer q u) m.timers)
+  where
+    cell : Cell
+    cell = cell_of (event_timer q u) m.timers
+
+    after : Machine
+    after = mark 0 (with_timers (reset_timer (event_timer q u) m.timers) m)
+
+    go : (b can : Bool)
+        → cell_names (unless_refused (if not b then Some Refusal.BadName else if can then None else Some Refusal.Range) q m (done q after)).timers.cells ≡ cell_names m.timers.cells
+    go false can = refl
+    go true false = refl
+    go true true = armed-names (event_timer q u) (record cell { start = cell.start + cell.interval }) m.timers
+after-names (Call.CallbackSet c interval) q m =
+    arming-names (nat_lt c 4) q (callback_timer q c) (record { start = m.clock; interval = interval }) m
+    (mark 0 (strike_out (is_callback_timer q c) (with_timers (set_timer m.clock (callback_timer q c) interval m.timers) m))) refl
+after-names (Call.TimerStop u) q m = grind arith
+after-names (Call.CallbackStop c) q m = grind arith
+after-names call q m = plain call (grind arith)
+  where
+    plain : (call : Call) → is_timer_call call ≡ false → cell_names (after_call call q m).timers.cells ≡ cell_names m.timers.cells
+    plain call n = rw (after-timers call q m n) refl
+
+-- p's timers have cells
+pub record Setting (p : ℕ) (timers : Timers) : Type 0 where
+  pub low : nat_le 4 p ≡ true
+  pub high : nat_lt p 20 ≡ true
+  pub names : cell_names timers.cells ≡ all_timers
+
+-- the call of q with reply k arms timer t of p
+abbrev pub is_set_by : ℕ → ℕ → ℕ → Call → Option Reply → Bool
+is_set_by p t q call k = q == p && (is_done k && arms t call)
+
+abbrev pub is_moved_by : ℕ → ℕ → ℕ → Call → Option Reply → Bool
+is_moved_by p t q call k = q == p && (is_done k && (arms t call || stops t call))
+
+pub record Moves (p t q clock : ℕ) (call : Call) (k : Option Reply) (old new : Timers) : Type 0 where
+  pub kept : is_moved_by p t q call k ≡ false → is_armed (own_timer p t) new ≡ is_armed (own_timer p t) old
+  pub kept_cell : is_set_by p t q call k ≡ false → nat_le t 7 ≡ true → cell_of (own_timer p t) new ≡ cell_of (own_timer p t) old
+  pub set : is_set_by p t q call k ≡ true → is_armed (own_timer p t) new ≡ true
+  pub set_cell : is_set_by p t q call k ≡ true → cell_of (own_timer p t) new ≡ cell_after t clock call (cell_of (own_timer p t) old)
+  pub named : is_set_by p t q call k ≡ true → nat_le t 7 ≡ true
+  pub unset : (q == p && (is_done k && stops t call)) ≡ true → is_armed (own_timer p t) new ≡ false
+
+-- a call that neither arms nor stops it
+pub still_moves : (p t q clock : ℕ) (call : Call) (k : Option Reply) (old new : Timers) → is_moved_by p t q call k ≡ false
+    → is_armed (own_timer p t) new ≡ is_armed (own_timer p t) old → (nat_le t 7 ≡ true → cell_of (own_timer p t) new ≡ cell_of (own_timer p t) old)
+    → Moves p t q clock call k old new
+still_moves p t q clock call k old new n e f =
+    let unarmed : is_set_by p t q call k ≡ false = grind (arith, n) in
+    let unstopped : (q == p && (is_done k && stops t call)) ≡ false = grind (arith, n) in
+    record {
+      kept = λ h. e;
+      kept_cell = λ h number. f number;
+      set = λ h. absurd (grind (arith, h, unarmed));
+      set_cell = λ h. absurd (grind (arith, h, unarmed));
+      named = λ h. absurd (grind (arith, h, unarmed));
+      unset = λ h. absurd (grind (arith, h, unstopped));
+    }
+
+-- the reply to q's call, if q is p
+abbrev Told : ℕ → ℕ → Option Reply → Reply → Type 0
+Told p q k reply = (q == p) ≡ true → k ≡ Some reply
+
+refused_moves : (p t q clock : ℕ) (call : Call) (k : Option Reply) (refusal : Refusal) (old : Timers) → Told p q k (Reply.Refused refusal) → Moves p t q clock call k old old
+refused_moves p t q clock call k refusal old told = still_moves p t q clock call k old old (go (q == p) refl) refl (λ number. refl)
+  where
+    go : (b : Bool) → (q == p) ≡ b → (b && (is_done k && (arms t call || stops t call))) ≡ false
+    go false e = refl
+    go true e = let refused : is_done k ≡ false = rw (told e) refl in rw refused refl
+
+same_timer : (p t q u : ℕ) → (q == p) ≡ true → (u == t) ≡ true → own_timer p t ≡ own_timer q u
+same_timer p t q u e f = let qp : q ≡ p = grind (arith, nat_tests, e) in let ut : u ≡ t = grind (arith, nat_tests, f) in rw (qp, ut) refl
+
+-- an arming of timer u of q
+armed_moves : (p t q u clock : ℕ) (call : Call) (k : Option Reply) (cell : Cell) (old : Timers) → Setting p old → nat_le u 7 ≡ true → Told p q k Reply.Done
+    → arms t call ≡ (u == t) → stops t call ≡ false → ((u == t) ≡ true → cell ≡ cell_after t clock call (cell_of (own_timer q u) old))
+    → Moves p t q clock call k old (armed_with (own_timer q u) cell old)
+armed_moves p t q u clock call k cell old s fits told arm stop value = go (q == p) (u == t) refl refl
+  where
+    new : Timers
+    new = armed_with (own_timer q u) cell old
+
+    other : (p == q && t == u) ≡ false → Moves p t q clock call k old new
+    other ne =
+        let n : is_timer (own_timer p t) (own_timer q u) ≡ false = grind (arith, ne) in
+        let unmoved : is_moved_by p t q call k ≡ false = grind (arith, nat_tests, ne, arm, stop) in
+        still_moves p t q clock call k old new unmoved (armed-other (own_timer p t) (own_timer q u) cell old n)
+        (λ number. cell-armed_other (own_timer p t) (own_timer q u) cell old n)
+
+    go : (same this : Bool) → (q == p) ≡ same → (u == t) ≡ this → Moves p t q clock call k old new
+    go false this e f = other (grind (arith, nat_tests, e))
+    go true false e f = other (grind (arith, nat_tests, f))
+    go true true e f =
+        let number : nat_le t 7 ≡ true = grind (arith, nat_tests, f, fits) in
+        let done : is_done k ≡ true = rw (told e) refl in
+        let armed : is_set_by p t q call k ≡ true = grind (arith, e, done, arm, f) in
+        let same : own_timer p t ≡ own_timer q u = same_timer p t q u e f in
+        let on : is_armed (own_timer p t) new ≡ true = subst (λ x. is_armed (own_timer p t) (armed_with x cell old) ≡ true) same (armed-own (own_timer p t) cell old) in
+        let own : cell_of (own_timer p t) new ≡ cell =
+        subst (λ x. cell_of (own_timer p t) (armed_with x cell old) ≡ cell) same (cell-armed_own p t cell old s.names s.low s.high number) in
+        let it : cell ≡ cell_after t clock call (cell_of (own_timer p t) old) = subst (λ x. cell ≡ cell_after t clock call (cell_of x old)) (sym same) (value f) in
+        record {
+          kept = λ h. absurd (grind (arith, h, e, done, arm, f));
+          kept_cell = λ h number. absurd (grind (arith, h, armed));
+          set = λ h. on;
+          set_cell = λ h. own ∙ it;
+          named = λ h. number;
+          unset = λ h. absurd (grind (arith, h, stop));
+        }
+
+-- a stop of timer u of q
+stopped_moves : (p t q u clock : ℕ) (k : Option Reply) (old : Timers) → Told p q k Reply.Done → Moves p t q clock (Call.TimerStop u) k old (stop_timer (own_timer q u) old)
+stopped_moves p t q u clock k old told = go (q == p) (u == t) refl refl
+  where
+    call : Call
+    call = Call.TimerStop u
+
+    new : Timers
+    new = stop_timer (own_timer q u) old
+
+    other : (p == q && t == u) ≡ false → Moves p t q clock call k old new
+    other ne =
+        let n : is_timer (own_timer q u) (own_timer p t) ≡ false = grind (arith, nat_tests, ne) in
+        let unmoved : is_moved_by p t q call k ≡ false = grind (arith, nat_tests, ne) in
+        still_moves p t q clock call k old new unmoved (stopped-other (own_timer p t) (own_timer q u) old.armed n) (λ number. refl)
+
+    go : (same this : Bool) → (q == p) ≡ same → (u == t) ≡ this → Moves p t q clock call k old new
+    go false this e f = other (grind (arith, nat_tests, e))
+    go true false e f = other (grind (arith, nat_tests, f))
+    go true true e f =
+        let done : is_done k ≡ true = rw (told e) refl in
+        let off : is_armed (own_timer p t) new ≡ false =
+        subst (λ x. is_armed (own_timer p t) (stop_timer x old) ≡ false) (same_timer p t q u e f) (stopped-own (own_timer p t) old.armed) in
+        record {
+          kept = λ h. absurd (grind (arith, h, e, done, f));
+          kept_cell = λ h number. refl;
+          set = λ h. absurd (grind (arith, h));
+          set_cell = λ h. absurd (grind (arith, h));
+          named = λ h. absurd (grind (arith, h));
+          unset = λ h. off;
+        }
+
+number_fits : (u : ℕ) → nat_lt u 8 ≡ true → nat_le u 7 ≡ true
+number_fits u h = grind (arith, nat_tests, h)
+
+-- a call that names no event timer
+unmoved_by : (p t q : ℕ) (call : Call) (k : Option Reply) → arms t call ≡ false → stops t call ≡ false → is_moved_by p t q call k ≡ false
+unmoved_by p t q call k a b = grind (arith, a, b)
+
+pub after-moves : (p t : ℕ) (call : Call) (q : ℕ) (k : Option Reply) (m : Machine) → Setting p m.timers → FrontIs p k (after_call call q m).scheduler.agenda
+    → Moves p t q m.clock call k m.timers (after_call call q m).timers
+after-moves p t (Call.TimerSet u interval) q k m s front = go (nat_lt u 8) refl front
+  where
+    after : Machine
+    after = mark 0 (with_timers (set_timer m.clock (event_timer q u) interval m.timers) m)
+
+    go : (b : Bool) → nat_lt u 8 ≡ b → FrontIs p k (unless_refused (if b then None else Some Refusal.BadName) q m (done q after)).scheduler.agenda
+        → Moves p t q m.clock (Call.TimerSet u interval) k m.timers (unless_refused (if b then None else Some Refusal.BadName) q m (done q after)).timers
+    go false e f = refused_moves p t q m.clock (Call.TimerSet u interval) k Refusal.BadName m.timers f
+    go true e f =
+        armed_moves p t q u m.clock (Call.TimerSet u interval) k (record { start = m.clock; interval = interval }) m.timers s (number_fits u e) f refl refl (λ this. rw this refl)
+after-moves p t (Call.TimerRestart u) q k m s front = go (nat_lt u 8) refl front
+  where
+    after : Machine
+    after = mark 0 (with_timers (restart_timer m.clock (event_timer q u) m.timers) m)
+
+    go : (b : Bool) → nat_lt u 8 ≡ b → FrontIs p k (unless_refused (if b then None else Some Refusal.BadName) q m (done q after)).scheduler.agenda
+        → Moves p t q m.clock (Call.TimerRestart u) k m.timers (unless_refused (if b then None else Some Refusal.BadName) q m (done q after)).timers
+    go false e f = refused_moves p t q m.clock (Call.TimerRestart u) k Refusal.BadName m.timers f
+    go true e f =
+        armed_moves p t q u m.clock (Call.TimerRestart u) k (record (cell_of (event_timer q u) m.timers) { start = m.clock }) m.timers s (number_fits u e) f refl refl
+        (λ this. rw this refl)
+after-moves p t (Call.TimerReset u) q k m s front = go (nat_lt u 8) (can_reset (event_timer q u) m.timers) refl front
+  where
+    cell : Cell
+    cell = cell_of (event_timer q u) m.timers
+
+    after : Machine
+    after = mark 0 (with_timers (reset_timer (event_timer q u) m.timers) m)
+
+    go : (b can : Bool) → nat_lt u 8 ≡ b
+        → FrontIs p k (unless_refused (if not b then Some Refusal.BadName else if can then None else Some Refusal.Range) q m (done q after)).scheduler.agenda
+        → Moves p t q m.clock (Call.TimerReset u) k m.timers (unless_refused (if not b then Some Refusal.BadName else if can then None else Some Refusal.Range) q m (done q after)).timers
+    go false can e f = refused_moves p t q m.clock (Call.TimerReset u) k Refusal.BadName m.timers f
+    go true false e f = refused_moves p t q m.clock (Call.TimerReset u) k Refusal.Range m.timers f
+    go true true e f =
+        armed_moves p t q u m.clock (Call.TimerReset u) k (record cell { start = cell.start + cell.interval }) m.timers s (number_fits u e) f refl refl (λ this. rw this refl)
+after-moves p t (Call.TimerStop u) q k m s front = go (nat_lt u 8) front
+  where
+    after : Machine
+    after = with_timers (stop_timer (event_timer q u) m.timers) m
+
+    go : (b : Bool) → FrontIs p k (unless_refused (if b then None else Some Refusal.BadName) q m (done q after)).scheduler.agenda
+        → Moves p t q m.clock (Call.TimerStop u) k m.timers (unless_refused (if b then None else Some Refusal.BadName) q m (done q after)).timers
+    go false f = refused_moves p t q m.clock (Call.TimerStop u) k Refusal.BadName m.timers f
+    go true f = stopped_moves p t q u m.clock k m.timers f
+after-moves p t (Call.CallbackSet c interval) q k m s front = go (nat_lt c 4)
+  where
+    cell : Cell
+    cell = record { start = m.clock; interval = interval }
+
+    after : Machine
+    after = mark 0 (strike_out (is_callback_timer q c) (with_timers (set_timer m.clock (callback_timer q c) interval m.timers) m))
+
+    none : is_moved_by p t q (Call.CallbackSet c interval) k ≡ false
+    none = unmoved_by p t q (Call.CallbackSet c interval) k refl refl
+
+    go : (b : Bool) → Moves p t q m.clock (Call.CallbackSet c interval) k m.timers (unless_refused (if b then None else Some Refusal.BadName) q m (done q after)).timers
+    go false = still_moves p t q m.clock (Call.CallbackSet c interval) k m.timers m.timers none refl (λ number. refl)
+    go true =
+        still_moves p t q m.clock (Call.CallbackSet c interval) k m.timers (armed_with (callback_timer q c) cell m.timers) none
+        (armed-other (own_timer p t) (callback_timer q c) cell m.timers refl)
+        (λ number. cell-armed_other (own_timer p t) (callback_timer q c) cell m.timers refl)
+after-moves p t (Call.CallbackStop c) q k m s front = go (nat_lt c 4)
+  where
+    after : Machine
+    after = strike_out (is_callback_timer q c) (with_timers (stop_timer (callback_timer q c) m.timers) m)
+
+    none : is_moved_by p t q (Call.CallbackStop c) k ≡ false
+    none = unmoved_by p t q (Call.CallbackStop c) k refl refl
+
+    go : (b : Bool) → Moves p t q m.clock (Call.CallbackStop c) k m.timers (unless_refused (if b then None else Some Refusal.BadName) q m (done q after)).timers
+    go false = still_moves p t q m.clock (Call.CallbackStop c) k m.timers m.timers none refl (λ number. refl)
+    go true =
+        still_moves p t q m.clock (Call.CallbackStop c) k m.timers (stop_timer (callback_timer q c) m.timers) none
+        (stopped-other (own_timer p t) (callback_timer q c) m.timers.armed refl) (λ number. refl)
+after-moves p t call q k m s front = plain call (grind arith) (grind arith)
+  where
+    plain : (call : Call) → is_timer_call call ≡ false → is_moved_by p t q call k ≡ false → Moves p t q m.clock call k m.timers (after_call call q m).timers
+    plain call n a = rw (after-timers call q m n) (still_moves p t q m.clock call k m.timers m.timers a refl (λ number. refl))

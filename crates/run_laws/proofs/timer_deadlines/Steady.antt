@@ -1,0 +1,120 @@
+-- The clock, the names of the cells and the codes in the queue, step by step.
+use Rattle.std.proofs.Common.{◌≡◌, ℕ, ◌+◌, Bool, true, List, [], ◌∷◌, ◌++◌, length, refl, ◌∙◌, arith}
+use Rattle.std.specs.Prelude.{Option, Some, None, drop, nat_le}
+use Rattle.std.specs.List.{list_all}
+use Rattle.std.proofs.lemmas.Bool.Decides.{nat_tests}
+use Rattle.mote_types.specs.declared.call.Call.{Call}
+use Rattle.mote_types.specs.declared.refusal.Refusal.{Refusal}
+use Rattle.mote_types.specs.declared.event.Stimulus.{Stimulus}
+use Rattle.mote_types.specs.declared.event.Event.{Event}
+use Rattle.mote_types.specs.declared.event.Origin.{Origin}
+use Rattle.mote_types.specs.declared.entry.Input.{Input}
+use Rattle.mote_types.specs.declared.entry.Note.{Note}
+use Rattle.mote_types.specs.declared.entry.Entry.{Entry}
+use Rattle.process_core.specs.Agenda.{Queued, Item}
+use Rattle.process_core.specs.Scheduler.{Scheduler, carried_out, in_front}
+use Rattle.device_core.specs.PacketQueue.{free_slot}
+use Rattle.timer_core.specs.Names.{all_timers}
+use Rattle.kernel_core.specs.Machine.{Machine, scheduled}
+use Rattle.kernel_core.specs.Calls.{after_call, is_callback_timer}
+use Rattle.kernel_core.specs.KernelProcesses.{serve}
+use Rattle.run_laws.specs.OwnTurns.{ticks_in}
+use Rattle.run_laws.specs.TimerLaws.{clock_after}
+use Rattle.kernel_core.specs.Inputs.{effect, frame_held, frame_refusal, held_unless_lost}
+use Rattle.run_laws.proofs.timer_deadlines.Ledgers.{fold-append}
+use Rattle.run_laws.proofs.event_order.Items.{with_agenda, facing}
+use Rattle.run_laws.proofs.timer_deadlines.Timed.{is_no_timer, plain-more, plain-struck, serve-fair}
+use Rattle.run_laws.proofs.timer_deadlines.Timing.{cell_names}
+use Rattle.run_laws.proofs.timer_deadlines.Moves.{after-clock, after-names}
+use Rattle.run_laws.proofs.timer_deadlines.Regular.{is_regular, carried-regular, after-regular}
+
+pub record Steady (m : Machine) (X : List Entry) : Type 0 where
+  pub clock : m.clock ≡ clock_after X
+  pub names : cell_names m.timers.cells ≡ all_timers
+  -- no broadcast in the queue is a TIMER event
+  pub plain : list_all is_no_timer m.scheduler.events ≡ true
+  pub regular : list_all is_regular m.scheduler.agenda ≡ true
+
+pub clock-more : (X : List Entry) (e : Entry) → clock_after (X ++ e ∷ []) ≡ clock_after X + ticks_in e
+clock-more X e = fold-append (λ clock entry. clock + ticks_in entry) 0 X (e ∷ [])
+
+-- an item
+
+carried-plain : (item : Item) (items : List Item) (s : Scheduler Bool) → list_all is_no_timer s.events ≡ true
+    → list_all is_no_timer (carried_out item (with_agenda items s)).events ≡ true
+carried-plain Item.Deliver items s h = dropped s.events h
+  where
+    dropped : (events : List (Queued Bool)) → list_all is_no_timer events ≡ true → list_all is_no_timer (drop 1 events) ≡ true
+    dropped [] h = refl
+    dropped (event ∷ events) h = grind (arith, h)
+carried-plain item items s h = grind (arith, h)
+
+pub steady-carried : (item : Item) (items : List Item) (m : Machine) (X : List Entry) → Steady (facing (item ∷ items) m) X
+    → Steady (record m { scheduler = carried_out item (with_agenda items m.scheduler) }) X
+steady-carried item items m X h =
+    record {
+      clock = h.clock;
+      names = h.names;
+      plain = carried-plain item items m.scheduler h.plain;
+      regular = carried-regular item items m.scheduler h.regular;
+    }
+
+-- these items, which are no turns
+pub steady-front : (items : List Item) (m : Machine) (X : List Entry) → list_all is_regular (items ++ m.scheduler.agenda) ≡ true → Steady m X
+    → Steady (scheduled (in_front items) m) X
+steady-front items m X r h = record { clock = h.clock; names = h.names; plain = h.plain; regular = r }
+
+-- a kernel process
+pub steady-serve : (q : ℕ) (event : Event) (m : Machine) (X : List Entry) → Steady m X → Steady (serve q event m) X
+steady-serve q event m X h =
+    let fair = serve-fair 0 0 q event m in
+    record {
+      clock = fair.clock ∙ h.clock;
+      names = fair.names ∙ h.names;
+      plain = fair.plain h.plain;
+      regular = rw fair.agenda h.regular;
+    }
+
+-- a turn
+
+after-plain : (call : Call) (q : ℕ) (m : Machine) → list_all is_no_timer m.scheduler.events ≡ true → list_all is_no_timer (after_call call q m).scheduler.events ≡ true
+after-plain (Call.CallbackSet c interval) q m h = grind (arith, h, plain-struck (is_callback_timer q c) m.scheduler.events)
+after-plain (Call.CallbackStop c) q m h = grind (arith, h, plain-struck (is_callback_timer q c) m.scheduler.events)
+after-plain (Call.Post r code payload) q m h = grind (arith, nat_tests, h, plain-more)
+after-plain (Call.Broadcast code payload) q m h = grind (arith, nat_tests, h, plain-more)
+after-plain call q m h = grind (arith, h)
+
+pub steady-turn : (q : ℕ) (origin : Origin) (stimulus : Stimulus) (call : Call) (m : Machine) (X : List Entry) → nat_le 4 q ≡ true → Steady m X
+    → Steady (after_call call q m) (X ++ Entry.Turn (record { 0 = q }) origin stimulus call ∷ [])
+steady-turn q origin stimulus call m X a h =
+    let e : Entry = Entry.Turn (record { 0 = q }) origin stimulus call in
+    record {
+      clock = rw (after-clock call q m, clock-more X e, h.clock) (omega arith);
+      names = after-names call q m ∙ h.names;
+      plain = after-plain call q m h.plain;
+      regular = after-regular call q m a h.regular;
+    }
+
+-- an entry that is shown
+pub steady-shown : (note : Note) (m : Machine) (X : List Entry) → Steady m X → Steady m (X ++ Entry.Note note ∷ [])
+steady-shown note m X h =
+    record { clock = rw (clock-more X (Entry.Note note), h.clock) (omega arith); names = h.names; plain = h.plain; regular = h.regular }
+
+-- an input
+pub steady-input : (input : Input) (m : Machine) (X : List Entry) → Steady m X → Steady (effect input (record m { work = 0 })) (X ++ Entry.Input input ∷ [])
+steady-input (Input.Tick n) m X h =
+    record { clock = rw (clock-more X (Entry.Input (Input.Tick n)), h.clock) refl; names = h.names; plain = h.plain; regular = h.regular }
+steady-input (Input.Serial bytes) m X h =
+    record { clock = rw (clock-more X (Entry.Input (Input.Serial bytes)), h.clock) (omega arith); names = h.names; plain = h.plain; regular = h.regular }
+steady-input (Input.Frame bytes) m X h = arrives (frame_refusal (length bytes.items) (record m { work = 0 }))
+  where
+    same : m.clock ≡ clock_after (X ++ Entry.Input (Input.Frame bytes) ∷ [])
+    same = rw (clock-more X (Entry.Input (Input.Frame bytes)), h.clock) (omega arith)
+
+    held : (o : Option ℕ) → Steady (frame_held o bytes.items (record m { work = 0 })) (X ++ Entry.Input (Input.Frame bytes) ∷ [])
+    held None = record { clock = same; names = h.names; plain = h.plain; regular = h.regular }
+    held (Some slot) = record { clock = same; names = h.names; plain = h.plain; regular = h.regular }
+
+    arrives : (o : Option Refusal) → Steady (held_unless_lost o bytes.items (record m { work = 0 })) (X ++ Entry.Input (Input.Frame bytes) ∷ [])
+    arrives (Some refusal) = record { clock = same; names = h.names; plain = h.plain; regular = h.regular }
+    arrives None = held (free_slot m.packets)

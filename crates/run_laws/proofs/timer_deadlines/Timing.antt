@@ -1,0 +1,152 @@
+-- The machine's timers against the ledger.
+use Rattle.std.proofs.Common.{◌≡◌, ℕ, ◌+◌, ◌-◌, ◌<◌, ◌≤◌, Bool, true, false, not, ◌||◌, List, [], ◌∷◌, ◌++◌, refl, ◌∙◌, sym, arith}
+use Rattle.std.specs.Prelude.{map, filter, flat_map, if◌then◌else◌, ◌==◌, nat_le, nat_lt}
+use Rattle.std.specs.List.{list_any, range_with_len}
+use Rattle.std.proofs.lemmas.Bool.{eq-eqb, eqb-true}
+use Rattle.std.proofs.lemmas.Bool.Decides.{nat_tests}
+use Rattle.std.proofs.lemmas.List.Folds.{list_any-append, list_any_at}
+use Rattle.std.proofs.lemmas.List.FromFn.{length-range_with_len, get_or-range_with_len}
+use Rattle.timer_core.specs.declared.timer.Timer.{Timer}
+use Rattle.timer_core.specs.declared.timer.Cell.{Cell}
+use Rattle.timer_core.specs.Names.{all_timers, event_timer, callback_timer, is_timer}
+use Rattle.timer_core.specs.Timers.{NamedCell, Timers, zero_cell, cell_under, cell_of, given_cell, with_cell, is_armed, armed_with}
+
+-- names
+
+same_timer : (timer : Timer) → is_timer timer timer ≡ true
+same_timer (Timer.Event p t) = grind (arith, nat_tests)
+same_timer (Timer.Callback p t) = grind (arith, nat_tests)
+
+trans : (a b c : Timer) → is_timer a c ≡ true → is_timer b c ≡ is_timer b a
+trans a b c h = grind (arith, nat_tests, h)
+
+pub symm : (a b : Timer) → is_timer a b ≡ is_timer b a
+symm a b = grind (arith, nat_tests)
+
+-- cells
+
+-- the timers that have a cell
+abbrev pub cell_names : List NamedCell → List Timer
+cell_names cells = map (λ named. named.timer) cells
+
+given-name : (timer : Timer) (cell : Cell) (named : NamedCell) → (given_cell timer cell named).timer ≡ named.timer
+given-name timer cell named = go (is_timer timer named.timer)
+  where
+    go : (b : Bool) → (if b then record named { cell = cell } else named).timer ≡ named.timer
+    go true = refl
+    go false = refl
+
+with_cell-names : (timer : Timer) (cell : Cell) (cells : List NamedCell) → cell_names (with_cell timer cell cells) ≡ cell_names cells
+with_cell-names timer cell [] = refl
+with_cell-names timer cell (named ∷ cells) = rw (given-name timer cell named, with_cell-names timer cell cells) refl
+
+-- an arming keeps the names
+pub armed-names : (timer : Timer) (cell : Cell) (timers : Timers) → cell_names (armed_with timer cell timers).cells ≡ cell_names timers.cells
+armed-names timer cell timers = with_cell-names timer cell timers.cells
+
+-- at boot
+
+pub zero-names : (timers : List Timer) → cell_names (map (λ timer. record { timer = timer; cell = zero_cell }) timers) ≡ timers
+zero-names [] = refl
+zero-names (timer ∷ timers) = rw (zero-names timers) refl
+
+pub zero-cells : (timer : Timer) (timers : List Timer) → cell_under timer (map (λ timer. record { timer = timer; cell = zero_cell }) timers) ≡ zero_cell
+zero-cells timer [] = refl
+zero-cells timer (other ∷ others) = go (is_timer timer other) refl (zero-cells timer others)
+  where
+    go : (b : Bool) → is_timer timer other ≡ b → cell_under timer (map (λ timer. record { timer = timer; cell = zero_cell }) others) ≡ zero_cell
+        → cell_under timer (map (λ timer. record { timer = timer; cell = zero_cell }) (other ∷ others)) ≡ zero_cell
+    go true e h = rw e refl
+    go false e h = rw e h
+
+-- after an arming
+
+under-other : (timer other : Timer) (cell : Cell) (cells : List NamedCell) → is_timer timer other ≡ false
+    → cell_under timer (with_cell other cell cells) ≡ cell_under timer cells
+under-other timer other cell [] n = refl
+under-other timer other cell (named ∷ cells) n = go (is_timer other named.timer) (is_timer timer named.timer) refl refl (under-other timer other cell cells n)
+  where
+    go : (changed found : Bool) → is_timer other named.timer ≡ changed → is_timer timer named.timer ≡ found
+        → cell_under timer (with_cell other cell cells) ≡ cell_under timer cells
+        → cell_under timer (with_cell other cell (named ∷ cells)) ≡ cell_under timer (named ∷ cells)
+    go true found e f h = let unlike : is_timer timer named.timer ≡ false = rw (trans other timer named.timer e) n in rw (e, unlike) h
+    go false true e f h = rw (e, f) refl
+    go false false e f h = rw (e, f) h
+
+pub cell-armed_other : (timer other : Timer) (cell : Cell) (timers : Timers) → is_timer timer other ≡ false
+    → cell_of timer (armed_with other cell timers) ≡ cell_of timer timers
+cell-armed_other timer other cell timers n = under-other timer other cell timers.cells n
+
+under-own : (timer : Timer) (cell : Cell) (cells : List NamedCell) → list_any (is_timer timer) (cell_names cells) ≡ true
+    → cell_under timer (with_cell timer cell cells) ≡ cell
+under-own timer cell [] n = absurd (cc)
+under-own timer cell (named ∷ cells) n = go (is_timer timer named.timer) refl n (under-own timer cell cells)
+  where
+    go : (found : Bool) → is_timer timer named.timer ≡ found → (found || list_any (is_timer timer) (cell_names cells)) ≡ true
+        → (list_any (is_timer timer) (cell_names cells) ≡ true → cell_under timer (with_cell timer cell cells) ≡ cell)
+        → cell_under timer (with_cell timer cell (named ∷ cells)) ≡ cell
+    go true e h more = rw (e, e) refl
+    go false e h more = rw (e, e) (more h)
+
+-- every application has its event timers
+
+any_of_each : (test : Timer → Bool) (f : ℕ → List Timer) (p : ℕ) (ns : List ℕ) → list_any (λ n. n == p) ns ≡ true → list_any test (f p) ≡ true → list_any test (flat_map f ns) ≡ true
+any_of_each test f p [] e h = absurd (cc)
+any_of_each test f p (n ∷ ns) e h = rw (list_any-append test (f n) (flat_map f ns)) (go (n == p) refl e (λ later. any_of_each test f p ns later h))
+  where
+    go : (here : Bool) → (n == p) ≡ here → (here || list_any (λ n. n == p) ns) ≡ true → (list_any (λ n. n == p) ns ≡ true → list_any test (flat_map f ns) ≡ true)
+        → (list_any test (f n) || list_any test (flat_map f ns)) ≡ true
+    go true s later more = let same : n ≡ p = eqb-true n p s in rw (same, h) refl
+    go false s later more = let rest : list_any test (flat_map f ns) ≡ true = more later in grind (arith, rest)
+
+in_range : (from n p : ℕ) → from ≤ p → p < from + n → list_any (λ k. k == p) (range_with_len from n) ≡ true
+in_range from n p low high =
+    list_any_at (λ k. k == p) (range_with_len from n) (p - from) 0 (omega (arith, length-range_with_len from n))
+    (eq-eqb _ p (get_or-range_with_len from n (p - from) 0 (omega arith) ∙ omega arith))
+
+event_timer-named : (p t : ℕ) → nat_le 4 p ≡ true → nat_lt p 20 ≡ true → nat_le t 7 ≡ true → list_any (is_timer (event_timer p t)) all_timers ≡ true
+unfolding all_timers
+event_timer-named p t a b c =
+    any_of_each (is_timer (event_timer p t)) (λ q. map (event_timer q) (range_with_len 0 8) ++ map (callback_timer q) (range_with_len 0 4)) p (range_with_len 4 16)
+    (in_range 4 16 p (grind (arith, nat_tests, a)) (grind (arith, nat_tests, b))) (grind (arith, nat_tests, c))
+
+pub cell-armed_own : (p t : ℕ) (cell : Cell) (timers : Timers) → cell_names timers.cells ≡ all_timers → nat_le 4 p ≡ true → nat_lt p 20 ≡ true → nat_le t 7 ≡ true
+    → cell_of (event_timer p t) (armed_with (event_timer p t) cell timers) ≡ cell
+cell-armed_own p t cell timers l a b c = under-own (event_timer p t) cell timers.cells (rw l (event_timer-named p t a b c))
+
+-- the list
+
+pub armed-own : (timer : Timer) (cell : Cell) (timers : Timers) → is_armed timer (armed_with timer cell timers) ≡ true
+armed-own timer cell timers = go (is_armed timer timers) refl
+  where
+    go : (b : Bool) → is_armed timer timers ≡ b → list_any (is_timer timer) (if b then timers.armed else timer ∷ timers.armed) ≡ true
+    go true e = e
+    go false e = rw (same_timer timer) refl
+
+pub armed-other : (timer other : Timer) (cell : Cell) (timers : Timers) → is_timer timer other ≡ false
+    → is_armed timer (armed_with other cell timers) ≡ is_armed timer timers
+armed-other timer other cell timers n = go (is_armed other timers)
+  where
+    go : (b : Bool) → list_any (is_timer timer) (if b then timers.armed else other ∷ timers.armed) ≡ list_any (is_timer timer) timers.armed
+    go true = refl
+    go false = rw n refl
+
+pub stopped-own : (timer : Timer) (armed : List Timer) → list_any (is_timer timer) (filter (λ other. not (is_timer timer other)) armed) ≡ false
+stopped-own timer [] = refl
+stopped-own timer (x ∷ xs) = go (is_timer timer x) refl (stopped-own timer xs)
+  where
+    go : (b : Bool) → is_timer timer x ≡ b → list_any (is_timer timer) (filter (λ other. not (is_timer timer other)) xs) ≡ false
+        → list_any (is_timer timer) (if not b then x ∷ filter (λ other. not (is_timer timer other)) xs else filter (λ other. not (is_timer timer other)) xs) ≡ false
+    go true e h = h
+    go false e h = rw (e, h) refl
+
+pub stopped-other : (timer other : Timer) (armed : List Timer) → is_timer other timer ≡ false
+    → list_any (is_timer timer) (filter (λ x. not (is_timer other x)) armed) ≡ list_any (is_timer timer) armed
+stopped-other timer other [] n = refl
+stopped-other timer other (x ∷ xs) n = go (is_timer other x) refl (stopped-other timer other xs n)
+  where
+    go : (b : Bool) → is_timer other x ≡ b → list_any (is_timer timer) (filter (λ x. not (is_timer other x)) xs) ≡ list_any (is_timer timer) xs
+        → list_any (is_timer timer) (if not b then x ∷ filter (λ x. not (is_timer other x)) xs else filter (λ x. not (is_timer other x)) xs)
+        ≡ (is_timer timer x || list_any (is_timer timer) xs)
+    go true e h = rw h (sym (rw (trans other timer x e, symm timer other, n) refl))
+    go false e h = rw h refl

@@ -1,0 +1,268 @@
+-- While a timer is due, etimer is marked or its POLL is on the agenda.
+use Rattle.std.proofs.Common.{◌≡◌, ℕ, zero, suc, Bool, true, false, not, ◌&&◌, ◌||◌, List, [], ◌∷◌, refl, ◌∙◌, arith}
+use Rattle.std.specs.Prelude.{Option, Some, None, is_some, find, filter, if◌then◌else◌, ◌==◌}
+use Rattle.std.specs.List.{list_any}
+use Rattle.std.proofs.lemmas.Bool.Decides.{nat_tests}
+use Rattle.mote_types.specs.declared.event.Stimulus.{Stimulus}
+use Rattle.mote_types.specs.declared.event.Event.{Event}
+use Rattle.mote_types.specs.declared.event.Origin.{Origin}
+use Rattle.mote_types.specs.declared.event.TheConstants.{POLL, EXITED, CONTINUE}
+use Rattle.process_core.specs.declared.state.State.{State}
+use Rattle.process_core.specs.Agenda.{Item}
+use Rattle.process_core.specs.declared.process.Process.{Process}
+use Rattle.process_core.specs.Processes.{is_process, is_marked, with_state, with_mark, without}
+use Rattle.process_core.specs.Scheduler.{Scheduler, carried_out, in_front}
+use Rattle.timer_core.specs.declared.timer.Timer.{Timer}
+use Rattle.timer_core.specs.Names.{is_event_timer_of, is_callback_timer_of}
+use Rattle.timer_core.specs.Timers.{Timers, is_due, without_callback_timers}
+use Rattle.kernel_core.specs.Machine.{Machine, scheduled, with_timers, free_places, mark}
+use Rattle.kernel_core.specs.KernelProcesses.{serve}
+use Rattle.kernel_core.specs.PacketProcess.{announce_next, announce, has_news, forget_receiver, packet}
+use Rattle.kernel_core.specs.Repeating.{times}
+use Rattle.kernel_core.specs.SerialProcess.{serve_line, line_count, empty_ring, serial_line_polled, serial_line_continued, serial_line}
+use Rattle.kernel_core.specs.TimerProcesses.{post_first_due, post_due, is_any_due, exited_application, forget_event_timers, forget_callback_timers, ctimer}
+use Rattle.run_laws.proofs.event_order.Items.{with_agenda, facing}
+use Rattle.run_laws.proofs.timer_deadlines.Fronts.{any-append, carried-any}
+use Rattle.run_laws.proofs.timer_deadlines.Timed.{any-filter}
+use Rattle.run_laws.proofs.timer_deadlines.Regular.{is_regular}
+use Rattle.run_laws.proofs.event_order.Steps.{is_quiet_item, is_served, carried}
+
+abbrev pub is_etimer_poll : Item → Bool
+is_etimer_poll (Item.Give q origin (Stimulus.Event event)) = q == 0 && event.code == POLL
+is_etimer_poll _ = false
+
+abbrev pub is_polled : List Item → Bool
+is_polled agenda = list_any is_etimer_poll agenda
+
+abbrev pub is_watched : Scheduler Bool → Bool
+is_watched s = is_marked 0 s.processes || is_polled s.agenda
+
+-- etimer is on the list
+abbrev pub is_home : List Process → Bool
+is_home list = list_any (is_process 0) list
+
+abbrev pub is_timer_due : ℕ → Timers → Bool
+is_timer_due clock timers = list_any (is_due clock timers) timers.armed
+
+pub record Watched (m : Machine) : Type 0 where
+  pub home : is_home m.scheduler.processes ≡ true
+  pub due : is_timer_due m.clock m.timers ≡ true → is_watched m.scheduler ≡ true
+
+-- the marks
+
+pub marks-with_state : (q : ℕ) (state : State) (list : List Process) → is_marked 0 (with_state q state list) ≡ is_marked 0 list
+marks-with_state q state [] = refl
+marks-with_state q state (x ∷ xs) = grind (arith, nat_tests, marks-with_state q state xs)
+
+pub marks-with_mark : (q : ℕ) (list : List Process) → is_marked 0 list ≡ true → is_marked 0 (with_mark q true list) ≡ true
+marks-with_mark q [] h = h
+marks-with_mark q (x ∷ xs) h = grind (arith, nat_tests, h, marks-with_mark q xs)
+
+pub marks-other : (q : ℕ) (mark : Bool) (list : List Process) → (q == 0) ≡ false → is_marked 0 (with_mark q mark list) ≡ is_marked 0 list
+marks-other q mark [] n = refl
+marks-other q mark (x ∷ xs) n = grind (arith, nat_tests, n, marks-other q mark xs n)
+
+pub marks-without : (q : ℕ) (list : List Process) → (q == 0) ≡ false → is_marked 0 (without q list) ≡ is_marked 0 list
+marks-without q [] n = refl
+marks-without q (x ∷ xs) n = grind (arith, nat_tests, n, marks-without q xs n)
+
+pub marks-home : (list : List Process) → is_home list ≡ true → is_marked 0 (with_mark 0 true list) ≡ true
+marks-home [] h = h
+marks-home (x ∷ xs) h = grind (arith, nat_tests, h, marks-home xs)
+
+pub home-with_state : (q : ℕ) (state : State) (list : List Process) → is_home (with_state q state list) ≡ is_home list
+home-with_state q state [] = refl
+home-with_state q state (x ∷ xs) = grind (arith, nat_tests, home-with_state q state xs)
+
+pub home-with_mark : (q : ℕ) (mark : Bool) (list : List Process) → is_home (with_mark q mark list) ≡ is_home list
+home-with_mark q mark [] = refl
+home-with_mark q mark (x ∷ xs) = grind (arith, nat_tests, home-with_mark q mark xs)
+
+pub home-without : (q : ℕ) (list : List Process) → (q == 0) ≡ false → is_home (without q list) ≡ is_home list
+home-without q [] n = refl
+home-without q (x ∷ xs) n = grind (arith, nat_tests, n, home-without q xs n)
+
+-- an item
+
+carried-home : (item : Item) (items : List Item) (s : Scheduler Bool) → is_regular item ≡ true → is_home s.processes ≡ true
+    → is_home (carried_out item (with_agenda items s)).processes ≡ true
+carried-home (Item.Remove q) items s r h = let n : (q == 0) ≡ false = grind (arith, nat_tests, r) in home-without q s.processes n ∙ h
+carried-home item items s r h = grind (arith, h, home-with_state, home-with_mark)
+
+carried-watched : (item : Item) (items : List Item) (s : Scheduler Bool) → is_quiet_item item ≡ true → is_served item ≡ false → is_regular item ≡ true
+    → is_watched (with_agenda (item ∷ items) s) ≡ true → is_watched (carried_out item (with_agenda items s)) ≡ true
+carried-watched (Item.Start q) items s n k r h = grind (arith, h)
+carried-watched (Item.Give q origin stimulus) items s n k r h =
+    let free : is_etimer_poll (Item.Give q origin stimulus) ≡ false = grind (arith, nat_tests, k) in
+    grind (arith, h, free, marks-with_state)
+carried-watched (Item.GiveExit q) items s n k r h = grind (arith, h, marks-with_state)
+carried-watched (Item.Remove q) items s n k r h = let other : (q == 0) ≡ false = grind (arith, nat_tests, r) in grind (arith, h, marks-without q s.processes other)
+carried-watched Item.Polls items s n k r h = grind (arith, h, carried-any is_etimer_poll Item.Polls items s)
+carried-watched (Item.PollOne q) items s n k r h = go (q == 0) refl
+  where
+    go : (b : Bool) → (q == 0) ≡ b → is_watched (carried_out (Item.PollOne q) (with_agenda items s)) ≡ true
+    go true e = grind (arith, nat_tests, h, e)
+    go false e = grind (arith, h, marks-other q false s.processes e)
+carried-watched Item.Deliver items s n k r h = grind (arith, h, carried-any is_etimer_poll Item.Deliver items s)
+carried-watched (Item.Turn q origin stimulus) items s n k r h = absurd (grind (arith, n))
+carried-watched (Item.Show entry) items s n k r h = absurd (grind (arith, n))
+
+pub watched-carried : (item : Item) (items : List Item) (m : Machine) → is_quiet_item item ≡ true → is_served item ≡ false → is_regular item ≡ true
+    → Watched (facing (item ∷ items) m) → Watched (carried item items m)
+watched-carried item items m n k r h =
+    record { home = carried-home item items m.scheduler r h.home; due = λ d. carried-watched item items m.scheduler n k r (h.due d) }
+
+-- these items in front
+pub watched-front : (xs : List Item) (m : Machine) → Watched m → Watched (scheduled (in_front xs) m)
+watched-front xs m h = record { home = h.home; due = λ d. grind (arith, h.due d, any-append is_etimer_poll xs m.scheduler.agenda) }
+
+-- a kernel process
+
+pub record Unmoved (old new : Machine) : Type 0 where
+  pub agenda : new.scheduler.agenda ≡ old.scheduler.agenda
+  pub processes : new.scheduler.processes ≡ old.scheduler.processes
+  pub clock : new.clock ≡ old.clock
+
+pub times-unmoved : (change : Machine → Machine) → ((m : Machine) → Unmoved m (change m)) → (n : ℕ) (m : Machine) → Unmoved m (times n change m)
+unfolding times
+times-unmoved change keeps zero m = record { agenda = refl; processes = refl; clock = refl }
+times-unmoved change keeps (suc n) m =
+    let first = keeps m in
+    let rest = times-unmoved change keeps n (change m) in
+    record { agenda = rest.agenda ∙ first.agenda; processes = rest.processes ∙ first.processes; clock = rest.clock ∙ first.clock }
+
+pub times-timers : (change : Machine → Machine) → ((m : Machine) → (change m).timers ≡ m.timers) → (n : ℕ) (m : Machine) → (times n change m).timers ≡ m.timers
+unfolding times
+times-timers change keeps zero m = refl
+times-timers change keeps (suc n) m = times-timers change keeps n (change m) ∙ keeps m
+
+pub first_due-unmoved : (m : Machine) → Unmoved m (post_first_due m)
+first_due-unmoved m = record { agenda = grind arith; processes = grind arith; clock = grind arith }
+
+pub line-unmoved : (m : Machine) → Unmoved m (serve_line m)
+line-unmoved m = record { agenda = grind arith; processes = grind arith; clock = grind arith }
+
+pub line-timers : (m : Machine) → (serve_line m).timers ≡ m.timers
+line-timers m = grind arith
+
+pub next-unmoved : (m : Machine) → Unmoved m (announce_next m)
+next-unmoved m = record { agenda = grind arith; processes = grind arith; clock = grind arith }
+
+pub next-timers : (m : Machine) → (announce_next m).timers ≡ m.timers
+next-timers m = grind arith
+
+some-find : (test : Timer → Bool) (xs : List Timer) → is_some (find test xs) ≡ list_any test xs
+some-find test [] = refl
+some-find test (x ∷ xs) = go (test x) (some-find test xs)
+  where
+    go : (b : Bool) → is_some (find test xs) ≡ list_any test xs → is_some (if b then Some x else find test xs) ≡ (b || list_any test xs)
+    go true h = refl
+    go false h = h
+
+-- after its POLL nothing is due, or etimer is marked again
+watched-due : (m : Machine) → is_home m.scheduler.processes ≡ true → Watched (post_due m)
+watched-due m home = go (is_any_due after) (some-find (is_due after.clock after.timers) after.timers.armed)
+  where
+    after : Machine
+    after = times (free_places m) post_first_due m
+
+    still : is_home after.scheduler.processes ≡ true
+    still = rw ((times-unmoved post_first_due first_due-unmoved (free_places m) m).processes) home
+
+    go : (b : Bool) → b ≡ is_timer_due after.clock after.timers → Watched (if b then mark 0 after else after)
+    go true e = record { home = home-with_mark 0 true after.scheduler.processes ∙ still; due = λ d. rw (marks-home after.scheduler.processes still) refl }
+    go false e = record { home = still; due = λ d. absurd (grind (arith, e, d)) }
+
+-- nothing else is due after, and etimer's mark stays
+pub lesser : (old new : Machine) → new.scheduler.agenda ≡ old.scheduler.agenda → (is_timer_due new.clock new.timers ≡ true → is_timer_due old.clock old.timers ≡ true)
+    → (is_marked 0 old.scheduler.processes ≡ true → is_marked 0 new.scheduler.processes ≡ true)
+    → (is_home old.scheduler.processes ≡ true → is_home new.scheduler.processes ≡ true) → Watched old → Watched new
+lesser old new e less marks home h =
+    record { home = home h.home; due = λ d. rw e (go (is_marked 0 old.scheduler.processes) (h.due (less d)) marks) }
+  where
+    go : (b : Bool) → (b || is_polled old.scheduler.agenda) ≡ true → (b ≡ true → is_marked 0 new.scheduler.processes ≡ true)
+        → (is_marked 0 new.scheduler.processes || is_polled old.scheduler.agenda) ≡ true
+    go true k marks = rw (marks refl) refl
+    go false k marks = grind (arith, k)
+
+pub alike : (old new : Machine) → new.scheduler.agenda ≡ old.scheduler.agenda → new.scheduler.processes ≡ old.scheduler.processes → new.timers ≡ old.timers → new.clock ≡ old.clock
+    → Watched old → Watched new
+alike old new a b c d h = lesser old new a (λ k. rw (c, d) at k) (λ k. rw b k) (λ k. rw b k) h
+
+pub marked_too : (q : ℕ) (m : Machine) → Watched m → Watched (mark q m)
+marked_too q m h =
+    lesser m (mark q m) refl (λ k. k) (λ k. marks-with_mark q m.scheduler.processes k) (λ k. home-with_mark q true m.scheduler.processes ∙ k) h
+
+-- timers leave the list
+pub dropped : (keep : Timer → Bool) (m : Machine) → Watched m → Watched (record m { timers = record m.timers { armed = filter keep m.timers.armed } })
+dropped keep m h =
+    lesser m (record m { timers = record m.timers { armed = filter keep m.timers.armed } }) refl (any-filter (is_due m.clock m.timers) keep m.timers.armed) (λ k. k) (λ k. k) h
+
+lines-watched : (n : ℕ) (m : Machine) → Watched m → Watched (times n serve_line m)
+lines-watched n m h =
+    let u = times-unmoved serve_line line-unmoved n m in
+    alike m (times n serve_line m) u.agenda u.processes (times-timers serve_line line-timers n m) u.clock h
+
+announced-watched : (n : ℕ) (m : Machine) → Watched m → Watched (times n announce_next m)
+announced-watched n m h =
+    let u = times-unmoved announce_next next-unmoved n m in
+    alike m (times n announce_next m) u.agenda u.processes (times-timers announce_next next-timers n m) u.clock h
+
+-- an item that isn't etimer's POLL is gone
+pub without_item : (item : Item) (items : List Item) (m : Machine) → is_etimer_poll item ≡ false → Watched (facing (item ∷ items) m) → Watched (facing items m)
+without_item item items m n h = record { home = h.home; due = λ d. grind (arith, n, h.due d) }
+
+either : (test : Bool) (x y : Machine) → Watched x → Watched y → Watched (if test then x else y)
+either true x y h k = h
+either false x y h k = k
+
+packet-watched : (event : Event) (n : Machine) → Watched n → Watched (packet event n)
+packet-watched event n w =
+    let after : Machine = times (free_places n) announce_next n in
+    let told = announced-watched (free_places n) n w in
+    either (event.code == POLL) (announce n) _ (either (has_news after.packets) (mark 3 after) after (marked_too 3 after told) told)
+    (either (event.code == EXITED) _ n (forgotten (exited_application event.payload)) w)
+  where
+    forgotten : (o : Option ℕ) → Watched (forget_receiver o n)
+    forgotten None = w
+    forgotten (Some q) = alike n (forget_receiver (Some q) n) refl refl refl refl w
+
+serial_line-watched : (event : Event) (n : Machine) → Watched n → Watched (serial_line event n)
+serial_line-watched event n w =
+    let a : Machine = record n { is_serial_waiting = false } in
+    either (event.code == POLL) (serial_line_polled n) _ (either n.is_serial_waiting n (empty_ring n) w (lines-watched (suc (line_count n.serial)) n w))
+    (either (event.code == CONTINUE) (serial_line_continued n) n (lines-watched (suc (line_count a.serial)) a (alike n a refl refl refl refl w)) w)
+
+ctimer-watched : (event : Event) (n : Machine) → Watched n → Watched (ctimer event n)
+ctimer-watched event n w = either (event.code == EXITED) _ n (forgotten (exited_application event.payload)) w
+  where
+    forgotten : (o : Option ℕ) → Watched (forget_callback_timers o n)
+    forgotten None = w
+    forgotten (Some q) =
+        let a : Machine = with_timers (without_callback_timers q n.timers) n in
+        alike a (forget_callback_timers (Some q) n) refl refl refl refl (dropped (λ timer. not (is_callback_timer_of q timer)) n w)
+
+forgotten-watched : (o : Option ℕ) (n : Machine) → Watched n → Watched (forget_event_timers o n)
+forgotten-watched None n w = w
+forgotten-watched (Some q) n w = dropped (λ timer. not (is_event_timer_of q timer)) n w
+
+pub watched-serve : (q : ℕ) (origin : Origin) (event : Event) (items : List Item) (m : Machine) → Watched (facing (Item.Give q origin (Stimulus.Event event) ∷ items) m)
+    → Watched (serve q event (facing items m))
+watched-serve q origin event items m h = go (q == 0) (event.code == POLL) refl refl
+  where
+    others : Watched (facing items m) → Watched (if q == 1 then ctimer event (facing items m) else if q == 2 then serial_line event (facing items m)
+        else if q == 3 then packet event (facing items m) else facing items m)
+    others w =
+        either (q == 1) (ctimer event (facing items m)) _ (ctimer-watched event (facing items m) w)
+        (either (q == 2) (serial_line event (facing items m)) _ (serial_line-watched event (facing items m) w)
+        (either (q == 3) (packet event (facing items m)) (facing items m) (packet-watched event (facing items m) w) w))
+
+    go : (zero poll : Bool) → (q == 0) ≡ zero → (event.code == POLL) ≡ poll → Watched
+        (if zero then (if poll then post_due (facing items m) else if event.code == EXITED then forget_event_timers (exited_application event.payload) (facing items m) else facing items m)
+        else if q == 1 then ctimer event (facing items m) else if q == 2 then serial_line event (facing items m)
+        else if q == 3 then packet event (facing items m) else facing items m)
+    go true true e f = watched-due (facing items m) h.home
+    go true false e f =
+        let w = without_item (Item.Give q origin (Stimulus.Event event)) items m (grind (arith, e, f)) h in
+        either (event.code == EXITED) _ (facing items m) (forgotten-watched (exited_application event.payload) (facing items m) w) w
+    go false poll e f = others (without_item (Item.Give q origin (Stimulus.Event event)) items m (grind (arith, e)) h)

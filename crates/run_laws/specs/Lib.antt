@@ -1,0 +1,6 @@
+pub mod BlockHistory
+pub mod EventLaws
+pub mod MemoryLaws
+pub mod OwnTurns
+pub mod Sent
+pub mod TimerLaws

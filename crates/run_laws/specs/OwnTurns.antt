@@ -1,0 +1,67 @@
+-- What a transcript tells of one process. Nothing here knows of the machine.
+use Rattle.std.specs.Prelude.{◌≡◌, ℕ, ◌+◌, Bool, true, false, List, [], ◌∷◌, ◌++◌, Option, Some, None, slice_get, if◌then◌else◌, ◌==◌}
+use Rattle.std.specs.List.{cons_option}
+use Rattle.std.specs.Option.{option_and_then}
+use Rattle.mote_types.specs.declared.call.Call.{Call}
+use Rattle.mote_types.specs.declared.reply.Reply.{Reply}
+use Rattle.mote_types.specs.declared.event.Stimulus.{Stimulus}
+use Rattle.mote_types.specs.declared.event.Origin.{Origin}
+use Rattle.mote_types.specs.declared.entry.Input.{Input}
+use Rattle.mote_types.specs.declared.entry.Entry.{Entry}
+use Rattle.kernel_core.specs.Run.{heard}
+
+-- the answer that a turn is told, if it is told one
+abbrev pub reply_of : Stimulus → Option Reply
+reply_of (Stimulus.Answer reply) = Some reply
+reply_of _ = None
+
+-- the reply to p's last call before these entries: the answer that its next turn is told
+abbrev pub reply_in : ℕ → List Entry → Option Reply
+reply_in p later = option_and_then reply_of (slice_get (heard p later) 0)
+
+abbrev pub ticks_in : Entry → ℕ
+ticks_in (Entry.Input (Input.Tick n)) = n
+ticks_in _ = 0
+
+-- a turn of p
+pub record OwnTurn : Type 0 where
+  -- the ticks before it
+  pub clock : ℕ
+  pub origin : Origin
+  pub stimulus : Stimulus
+  pub call : Call
+  -- none where the activation ended, or where the entries end first
+  pub reply : Option Reply
+
+abbrev pub own_turn : ℕ → ℕ → Entry → List Entry → Option OwnTurn
+own_turn p clock (Entry.Turn pid origin stimulus call) later =
+    if pid.0 == p
+    then Some (record { clock = clock; origin = origin; stimulus = stimulus; call = call; reply = reply_in p later })
+    else None
+own_turn p clock _ later = None
+
+abbrev pub own_from : ℕ → ℕ → List Entry → List OwnTurn
+own_from p clock [] = []
+own_from p clock (entry ∷ later) = cons_option (own_turn p clock entry later) (own_from p (clock + ticks_in entry) later)
+
+-- the turns of p
+abbrev pub own : ℕ → List Entry → List OwnTurn
+own p entries = own_from p 0 entries
+
+abbrev pub is_done : Option Reply → Bool
+is_done (Some Reply.Done) = true
+is_done _ = false
+
+abbrev pub is_turn_entry : Entry → Bool
+is_turn_entry (Entry.Turn pid origin stimulus call) = true
+is_turn_entry _ = false
+
+-- The transcript X has the call of p behind these entries, and the reply to it.
+pub record HasCall (X before : List Entry) (p : ℕ) (origin : Origin) (stimulus : Stimulus) (call : Call) (reply : Reply) : Type 0 where
+  pub later : List Entry
+  pub is_split : before ++ Entry.Turn (record { 0 = p }) origin stimulus call ∷ later ≡ X
+  pub is_answered : reply_in p later ≡ Some reply
+
+-- the entries up to that call
+abbrev pub up_to_call : List Entry → ℕ → Origin → Stimulus → Call → List Entry
+up_to_call before p origin stimulus call = before ++ Entry.Turn (record { 0 = p }) origin stimulus call ∷ []

@@ -1,0 +1,59 @@
+//! An application that beats.
+
+ghost use Rattle.std.specs.Prelude.{◌≡◌, false};
+ghost use Rattle.mote_types.specs.Applications.{fold_says};
+ghost use Rattle.template_app.specs.Beat.{beat_answer, beat_next, beat_text};
+
+use mote_types::app::App;
+use mote_types::call::Call;
+use mote_types::event::{Event, INIT, Stimulus, TIMER};
+use mote_types::reply::Chunk;
+
+/// The ticks between two beats.
+const INTERVAL: u32 = 10;
+
+/// Prints `beat` each time that its event timer 0 has run out, and resets the timer then.
+#[derive(Drop)]
+pub struct Beat {
+    /// Whether the answer to its print is awaited.
+    printed: bool,
+}
+
+/// The bytes of a beat.
+fn make_text() -> Chunk
+    ensures { result.items ≡ beat_text }
+{
+    let mut text = Chunk::new();
+    let _ = text.try_extend_from_slice(b"beat\n");
+    text
+}
+
+impl Beat {
+    pub fn new() -> Self
+        ensures { result ≡ record { printed = false } }
+    {
+        Beat { printed: false }
+    }
+}
+
+impl App for Beat {
+    ghost says = { λ beat. fold_says beat_answer beat_next beat.printed };
+
+    fn turn(&mut self, stimulus: &Stimulus) -> Call {
+        match stimulus {
+            Stimulus::Event(Event { code: INIT, .. }) => {
+                self.printed = false;
+                Call::TimerSet(0, INTERVAL)
+            }
+            Stimulus::Event(Event { code: TIMER, .. }) => {
+                self.printed = true;
+                Call::Print(make_text())
+            }
+            Stimulus::Answer(_) if self.printed => {
+                self.printed = false;
+                Call::TimerReset(0)
+            }
+            _ => Call::Wait,
+        }
+    }
+}

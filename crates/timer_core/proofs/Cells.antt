@@ -1,0 +1,119 @@
+-- The cells by name are the cells of the table by place.
+use Rattle.std.proofs.Common.{◌≡◌, ◌⊎◌, inl, inr, ℕ, zero, suc, ◌+◌, ◌-◌, ◌<◌, ◌≤◌, Bool, true, false, List, [], ◌∷◌, length, refl, sym, ◌∙◌, ap, arith, set, get_or, ◌==◌, ◌&&◌}
+use Rattle.std.specs.Prelude.{map, replicate}
+use Rattle.std.proofs.lemmas.Bool.{and_parts, cases_eq, eqb-true, false_from_ne_true}
+use Rattle.timer_core.specs.declared.timer.Timer.{Timer}
+use Rattle.timer_core.specs.declared.timer.Cell.{Cell}
+use Rattle.timer_core.specs.declared.table.LinkedCell.{LinkedCell}
+use Rattle.timer_core.specs.Names.{IsNamed, all_timers, is_timer}
+use Rattle.timer_core.specs.Timers.{NamedCell, with_cell, cell_under, zero_cell}
+use Rattle.timer_core.specs.Code.Places.{is_named, place_of, are_placed}
+use Rattle.timer_core.specs.Code.Links.{named_cells, zero_linked}
+use Rattle.timer_core.proofs.NameLemmas.{same_timer, same_place, place_below, named_from_test}
+
+-- what stands first among placed names
+record IsPlaced (n : ℕ) (timer : Timer) (later : List Timer) : Type 0 where
+  pub place : place_of timer ≡ n
+  pub named : IsNamed timer
+  pub rest : are_placed (n + 1) later ≡ true
+
+first_placed : (n : ℕ) (timer : Timer) (later : List Timer) → are_placed n (timer ∷ later) ≡ true → IsPlaced n timer later
+first_placed n timer later e =
+    let parts = and_parts (place_of timer == n && is_named timer) (are_placed (n + 1) later) e in
+    let first = and_parts (place_of timer == n) (is_named timer) parts.0 in
+    record { place = eqb-true (place_of timer) n first.0; named = named_from_test timer first.1; rest = parts.1 }
+
+apart : (t u : Timer) → (place_of t ≡ place_of u → ⊥) → is_timer t u ≡ false
+apart t u far = false_from_ne_true (is_timer t u) (λ here. far (ap place_of (same_timer t u here)))
+
+-- the timer's place comes before all of these
+unchanged : (t : Timer) (cell : Cell) (n : ℕ) (names : List Timer) (cells : List LinkedCell) → place_of t < n → are_placed n names ≡ true →
+    with_cell t cell (named_cells names cells) ≡ named_cells names cells
+unchanged t cell n [] cells low e = refl
+unchanged t cell n (u ∷ us) [] low e = refl
+unchanged t cell n (u ∷ us) (c ∷ cs) low e =
+    let p = first_placed n u us e in
+    let other : is_timer t u ≡ false = apart t u (λ same. omega (arith, low, same, p.place)) in
+    let rest = unchanged t cell (n + 1) us cs (omega arith) p.rest in
+    rw (other, rest) refl
+
+set_from : (t : Timer) (x : LinkedCell) (n : ℕ) (names : List Timer) (cells : List LinkedCell) → IsNamed t → n ≤ place_of t → are_placed n names ≡ true →
+    named_cells names (set cells (place_of t - n) x) ≡ with_cell t x.cell (named_cells names cells)
+set_from t x n [] cells named from e = refl
+set_from t x n (u ∷ us) [] named from e = refl
+set_from t x n (u ∷ us) (c ∷ cs) named from e =
+    step (cases_eq (place_of t) n) (λ later. set_from t x (n + 1) us cs named later p.rest)
+  where
+    p : IsPlaced n u us
+    p = first_placed n u us e
+
+    step : (place_of t ≡ n) ⊎ (place_of t ≡ n → ⊥)
+        → (n + 1 ≤ place_of t → named_cells us (set cs (place_of t - (n + 1)) x) ≡ with_cell t x.cell (named_cells us cs))
+        → named_cells (u ∷ us) (set (c ∷ cs) (place_of t - n) x) ≡ with_cell t x.cell (named_cells (u ∷ us) (c ∷ cs))
+    step (inl same) more =
+        let at : place_of t - n ≡ 0 = omega arith in
+        let here : is_timer t u ≡ true = same_place t u named p.named (same ∙ sym p.place) in
+        rw (at, here, unchanged t x.cell (n + 1) us cs (omega arith) p.rest) refl
+    step (inr far) more =
+        let at : place_of t - n ≡ suc (place_of t - (n + 1)) = omega (arith, far) in
+        let other : is_timer t u ≡ false = apart t u (λ same. far (same ∙ p.place)) in
+        rw (at, other) (ap (λ (rest : List NamedCell). let first : NamedCell = record { timer = u; cell = c.cell } in first ∷ rest) (more (omega (arith, far))))
+
+read_from : (t : Timer) (n : ℕ) (names : List Timer) (cells : List LinkedCell) → IsNamed t → n ≤ place_of t → place_of t < n + length names → are_placed n names ≡ true →
+    cell_under t (named_cells names cells) ≡ (get_or cells (place_of t - n) zero_linked).cell
+read_from t n [] cells named from below e = absurd (omega (arith, from, below))
+read_from t n (u ∷ us) [] named from below e = refl
+read_from t n (u ∷ us) (c ∷ cs) named from below e =
+    step (cases_eq (place_of t) n) (λ later. read_from t (n + 1) us cs named later (omega (arith, below)) p.rest)
+  where
+    p : IsPlaced n u us
+    p = first_placed n u us e
+
+    step : (place_of t ≡ n) ⊎ (place_of t ≡ n → ⊥)
+        → (n + 1 ≤ place_of t → cell_under t (named_cells us cs) ≡ (get_or cs (place_of t - (n + 1)) zero_linked).cell)
+        → cell_under t (named_cells (u ∷ us) (c ∷ cs)) ≡ (get_or (c ∷ cs) (place_of t - n) zero_linked).cell
+    step (inl same) more =
+        let at : place_of t - n ≡ 0 = omega arith in
+        let here : is_timer t u ≡ true = same_place t u named p.named (same ∙ sym p.place) in
+        rw (at, here) refl
+    step (inr far) more =
+        let at : place_of t - n ≡ suc (place_of t - (n + 1)) = omega (arith, far) in
+        let other : is_timer t u ≡ false = apart t u (λ same. far (same ∙ p.place)) in
+        rw (at, other) (more (omega (arith, far)))
+
+all_placed : are_placed 0 all_timers ≡ true
+unfolding all_timers
+all_placed = refl
+
+count : length all_timers ≡ 192
+unfolding all_timers
+count = refl
+
+-- a write to the timer's place
+pub cells_set : (cells : List LinkedCell) (t : Timer) (x : LinkedCell) → IsNamed t →
+    named_cells all_timers (set cells (place_of t) x) ≡ with_cell t x.cell (named_cells all_timers cells)
+cells_set cells t x named =
+    let whole : place_of t - 0 ≡ place_of t = omega arith in rw whole at (set_from t x 0 all_timers cells named (omega arith) all_placed)
+
+-- what stands in the timer's place
+pub cell_read : (cells : List LinkedCell) (t : Timer) → IsNamed t → cell_under t (named_cells all_timers cells) ≡ (get_or cells (place_of t) zero_linked).cell
+cell_read cells t named =
+    let whole : place_of t - 0 ≡ place_of t = omega arith in
+    rw whole at (read_from t 0 all_timers cells named (omega arith) (omega (arith, count, place_below t named)) all_placed)
+
+kept_at : (names : List Timer) (cells : List LinkedCell) (k : ℕ) (x : LinkedCell) → x.cell ≡ (get_or cells k zero_linked).cell →
+    named_cells names (set cells k x) ≡ named_cells names cells
+kept_at [] cells k x e = refl
+kept_at (u ∷ us) [] k x e = refl
+kept_at (u ∷ us) (c ∷ cs) zero x e = ap (λ (cell : Cell). let first : NamedCell = record { timer = u; cell = cell } in first ∷ named_cells us cs) e
+kept_at (u ∷ us) (c ∷ cs) (suc k) x e =
+    ap (λ (rest : List NamedCell). let first : NamedCell = record { timer = u; cell = c.cell } in first ∷ rest) (kept_at us cs k x e)
+
+-- a write that leaves the cell
+pub cells_kept : (cells : List LinkedCell) (k : ℕ) (x : LinkedCell) → x.cell ≡ (get_or cells k zero_linked).cell →
+    named_cells all_timers (set cells k x) ≡ named_cells all_timers cells
+cells_kept cells k x e = kept_at all_timers cells k x e
+
+pub cells_at_boot : named_cells all_timers (replicate 192 zero_linked) ≡ map (λ timer. record { timer = timer; cell = zero_cell }) all_timers
+unfolding all_timers
+cells_at_boot = refl

@@ -1,0 +1,6 @@
+use Rattle.std.proofs.Common.{sym}
+use Rattle.timer_core.proofs.Cells.{cell_read}
+use Rattle.timer_core.proofs.table.TimerTable.cell.Goals as goal
+
+pub returns-clause-value : goal.returns-clause-value
+returns-clause-value c = rw (c.place.ensures.value, ← c.self.view_is) (sym (cell_read c.self.inside.cells c.args.timer c.requires))

@@ -1,0 +1,3 @@
+-- What the code keeps true of its own parts.
+pub mod Links
+pub mod Places

@@ -1,0 +1,55 @@
+-- How the table's links make the timer list.
+use Rattle.std.specs.Prelude.{◌≡◌, ℕ, ◌≤◌, ◌^◌, zero, suc, false, List, [], ◌∷◌, length, All, Option, Some, None, slice_index_or}
+use Rattle.std.specs.List.{list_any}
+use Rattle.timer_core.specs.declared.timer.Timer.{Timer}
+use Rattle.timer_core.specs.declared.table.LinkedCell.{LinkedCell}
+use Rattle.timer_core.specs.declared.table.TimerTable.TheInside.{Inside}
+use Rattle.timer_core.specs.Names.{IsNamed, all_timers, is_timer}
+use Rattle.timer_core.specs.Code.Places.{place_of}
+use Rattle.timer_core.specs.Timers.{NamedCell, Timers, zero_cell}
+
+abbrev pub zero_linked : LinkedCell
+zero_linked = record { cell = zero_cell; next = None }
+
+-- the link in the timer's cell
+abbrev pub next_of : List LinkedCell → Timer → Option Timer
+next_of cells timer = (slice_index_or cells (place_of timer) zero_linked).next
+
+-- the timers along the links, at most n of them
+abbrev pub linked : ℕ → List LinkedCell → Option Timer → List Timer
+linked zero cells link = []
+linked (suc n) cells None = []
+linked (suc n) cells (Some timer) = timer ∷ linked n cells (next_of cells timer)
+
+-- all timers along the links
+unfoldable pub listed_from : List LinkedCell → Option Timer → List Timer
+listed_from cells link = linked 192 cells link
+
+-- the links from this one on name these timers, and end there
+abbrev pub Names : List LinkedCell → Option Timer → List Timer → Type 0
+Names cells link [] = link ≡ None
+Names cells link (timer ∷ later) = (link ≡ Some timer) × (IsNamed timer × Names cells (next_of cells timer) later)
+
+-- no timer is named twice
+abbrev pub AreApart : List Timer → Type 0
+AreApart [] = Unit {0}
+AreApart (timer ∷ later) = (list_any (is_timer timer) later ≡ false) × AreApart later
+
+-- the links from this one on come to an end, and pass no timer twice
+pub record IsList (cells : List LinkedCell) (link : Option Timer) : Type 0 where
+  pub ends : Names cells link (listed_from cells link)
+  pub apart : AreApart (listed_from cells link)
+
+pub record IsTable (table : Inside) : Type 0 where
+  pub places : length table.cells ≡ 192
+  pub listed : IsList table.cells table.first
+  pub starts : All (λ linked_cell. linked_cell.cell.start ≤ 2 ^ 63) table.cells
+
+-- the cells of the table, each under the name of its place
+abbrev pub named_cells : List Timer → List LinkedCell → List NamedCell
+named_cells [] cells = []
+named_cells (timer ∷ names) [] = []
+named_cells (timer ∷ names) (linked_cell ∷ cells) = record { timer = timer; cell = linked_cell.cell } ∷ named_cells names cells
+
+abbrev pub timers_of : Inside → Timers
+timers_of table = record { cells = named_cells all_timers table.cells; armed = listed_from table.cells table.first }
