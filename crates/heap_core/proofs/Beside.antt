@@ -1,5 +1,5 @@
 -- The gap that begins where a block ends.
-use Rattle.std.proofs.Common.{◌≡◌, ◌≢◌, ℕ, ◌+◌, ◌-◌, ◌≤◌, ◌<◌, ◌⊎◌, inl, inr, Bool, List, [], ◌∷◌, ◌++◌, true, false, eqb, leb, ltb, refl, sym, ap, ◌∙◌, arith}
+use Rattle.std.proofs.Common.{◌≡◌, ◌≢◌, ℕ, ◌+◌, ◌-◌, ◌%◌, ◌≤◌, ◌<◌, ◌⊎◌, inl, inr, Bool, List, [], ◌∷◌, ◌++◌, true, false, eqb, leb, ltb, refl, sym, ap, ◌∙◌, arith}
 use Rattle.std.specs.Prelude.{Option, Some, None, find, if◌then◌else◌}
 use Rattle.std.specs.Option.{option_map_or, option_or}
 use Rattle.std.proofs.lemmas.Bool.{ne_eqb, eq-eqb, le-leb, lt-leb, leb-true, leb-false, ltb-true, cases_Bool, cases_eq}
@@ -9,10 +9,10 @@ use Rattle.heap_core.specs.declared.chunk.Chunk.{Chunk}
 use Rattle.heap_core.specs.declared.chunk.Gap.{Gap}
 use Rattle.heap_core.specs.declared.region.Region.{Region}
 use Rattle.heap_core.specs.HeapStore.{header_len, gaps, gap_at, footprint, room_taken, room_in_place}
-use Rattle.heap_core.specs.Code.Chunks.{Tell}
+use Rattle.heap_core.specs.Code.Chunks.{Tell, AreJoined}
 use Rattle.heap_core.specs.Code.Layout.{chunks_of, HasChunks}
 use Rattle.heap_core.specs.HeapBytes.{heap_of}
-use Rattle.heap_core.specs.Code.Walks.{gap_of, front_gap, place_in_chunk}
+use Rattle.heap_core.specs.Code.Walks.{gap_of, front_gap, place_in_chunk, LeavesGap, IsWholeRoom}
 use Rattle.heap_core.proofs.Told.{place_told, told_le, owner_cases}
 use Rattle.heap_core.proofs.Gaps.{with_gap, gaps_in, gaps_are, end_is}
 use Rattle.heap_core.proofs.Standing.{Around}
@@ -133,23 +133,34 @@ module _ (least room end top_at top gap : ℕ) where
 pub record Taken (least room end top_at top gap chosen : ℕ) : Type 0 where
   pub enough : least ≤ chosen
   pub on_top : end ≡ top_at → chosen ≤ room + top
-  pub below : end ≢ top_at → (chosen ≡ room + gap) ⊎ (chosen + 16 ≤ room + gap)
+  pub below : end ≢ top_at → (chosen ≡ room + gap) ⊎ LeavesGap chosen (room + gap)
+  pub whole : IsWholeRoom chosen
 
-taken_is : (least available : ℕ) → least ≤ available → (room_taken least available ≡ available) ⊎ ((room_taken least available ≡ least) × (least + 16 ≤ available))
+taken_is : (least available : ℕ) → least ≤ available → (room_taken least available ≡ available) ⊎ ((room_taken least available ≡ least) × (least + 16 < available))
 taken_is least available fits = elim (cases_Bool (ltb 16 (available - least))) [
   | inl long ↦ let more = ltb-true 16 (available - least) long in inr (rw long refl, omega arith)
   | inr short ↦ inl (rw short refl)
 ]
 
-pub front_gap_long : (B : List ℕ) (b at z : ℕ) (l : List Chunk) → Tell B b at z l → (front_gap l ≡ 0) ⊎ (16 ≤ front_gap l)
-front_gap_long B b at z [] t = inl refl
-front_gap_long B b at z (d ∷ l) t =
-    let enough : header_len + d.size ≤ d.len = t.1 in
-    elim (owner_cases d.owner) [ inl e ↦ inr (omega (arith, ap (gap_of d) e)) | inr s ↦ inl (ap (gap_of d) s.1) ]
+abbrev pub IsWholeGap : ℕ → Type 0
+IsWholeGap gap = (gap ≡ 0) ⊎ ((20 ≤ gap) × (gap % 4 ≡ 0))
 
-module _ (least room end top_at top gap chosen : ℕ) (long : (gap ≡ 0) ⊎ (16 ≤ gap)) where
+pub front_gap_whole : (l : List Chunk) → AreJoined l → IsWholeGap (front_gap l)
+front_gap_whole [] joined = inl refl
+front_gap_whole (d ∷ l) joined =
+    let whole = joined.1 in
+    elim (owner_cases d.owner) [ inl e ↦ inr (omega (arith, ap (gap_of d) e, whole.0), omega (arith, ap (gap_of d) e, whole.1)) | inr s ↦ inl (ap (gap_of d) s.1) ]
+
+module _ (least room end top_at top gap chosen : ℕ) (whole_least : IsWholeRoom least) (whole_room : room % 4 ≡ 0) (long : IsWholeGap gap) where
   same_room : (k : ℕ) → Some k ≡ Some chosen → k ≡ chosen
   same_room k e = cc
+
+  -- what is left over exceeds 16, and all are multiples of 4
+  gap_left_of : {taken : ℕ} → taken ≡ least → least + 16 < room + gap → taken ≡ chosen → LeavesGap chosen (room + gap)
+  gap_left_of is less same = (
+    elim long [ inl none ↦ omega (arith, whole_least.1, whole_room) | inr some ↦ omega (arith, whole_least.1, whole_room, some.1) ],
+    elim long [ inl none ↦ omega (arith, whole_least.1, whole_room) | inr some ↦ omega (arith, whole_least.1, whole_room, some.1) ],
+  )
 
   pub taken : choice least room end top_at top gap ≡ Some chosen → Taken least room end top_at top gap chosen
   taken e = elim (cases_Bool (leb least room)) [
@@ -160,9 +171,15 @@ module _ (least room end top_at top gap chosen : ℕ) (long : (gap ≡ 0) ⊎ (1
           | inl all ↦ record {
             enough = omega arith;
             on_top = λ last. omega arith;
-            below = λ more. elim long [ inl none ↦ inl (omega arith) | inr some ↦ inr (omega arith) ];
+            below = λ more. elim long [ inl none ↦ inl (omega arith) | inr some ↦ inr (omega (arith, some.0), omega (arith, some.0, some.1)) ];
+            whole = (omega (arith, whole_least.0), omega (arith, whole_room));
           }
-          | inr part ↦ record { enough = omega (arith, part.0); on_top = λ last. omega (arith, part.0, part.1); below = λ more. inr (omega (arith, part.0, part.1)) }
+          | inr part ↦ record {
+            enough = omega (arith, part.0);
+            on_top = λ last. omega (arith, part.0, part.1);
+            below = λ more. inr (gap_left_of part.0 (omega (arith, part.1)) is);
+            whole = (omega (arith, part.0, whole_least.0), omega (arith, part.0, whole_least.1));
+          }
         ]
     | inr short ↦
         let less = leb-false least room short in
@@ -171,7 +188,7 @@ module _ (least room end top_at top gap chosen : ℕ) (long : (gap ≡ 0) ⊎ (1
             | inl fits ↦
                 let enough = leb-true least (room + top) fits in
                 let is : least ≡ chosen = same_room least (sym (choice_top least room end top_at top gap less last enough) ∙ e) in
-                record { enough = omega arith; on_top = λ f. omega arith; below = λ more. absurd (more last) }
+                record { enough = omega arith; on_top = λ f. omega arith; below = λ more. absurd (more last); whole = (omega (arith, whole_least.0), omega (arith, whole_least.1)) }
             | inr none ↦ absurd (let two : None ≡ Some chosen = sym (choice_no_top least room end top_at top gap less last (leb-false least (room + top) none)) ∙ e in cc)
           ]
           | inr more ↦ elim (cases_Bool (leb least (room + gap))) [
@@ -179,8 +196,18 @@ module _ (least room end top_at top gap chosen : ℕ) (long : (gap ≡ 0) ⊎ (1
                 let enough = leb-true least (room + gap) fits in
                 let is : room_taken least (room + gap) ≡ chosen = same_room (room_taken least (room + gap)) (sym (choice_gap least room end top_at top gap less more enough) ∙ e) in
                 elim (taken_is least (room + gap) enough) [
-                  | inl all ↦ record { enough = omega arith; on_top = λ last. absurd (more last); below = λ f. inl (omega arith) }
-                  | inr part ↦ record { enough = omega (arith, part.0); on_top = λ last. absurd (more last); below = λ f. inr (omega (arith, part.0, part.1)) }
+                  | inl all ↦ record {
+                    enough = omega arith;
+                    on_top = λ last. absurd (more last);
+                    below = λ f. inl (omega arith);
+                    whole = (omega (arith, whole_least.0), elim long [ inl none ↦ omega (arith, whole_room) | inr some ↦ omega (arith, whole_room, some.1) ]);
+                  }
+                  | inr part ↦ record {
+                    enough = omega (arith, part.0);
+                    on_top = λ last. absurd (more last);
+                    below = λ f. inr (gap_left_of part.0 part.1 is);
+                    whole = (omega (arith, part.0, whole_least.0), omega (arith, part.0, whole_least.1));
+                  }
                 ]
             | inr none ↦ absurd (let two : None ≡ Some chosen = sym (choice_no_gap least room end top_at top gap less more (leb-false least (room + gap) none)) ∙ e in cc)
           ]

@@ -12,6 +12,7 @@ use Rattle.heap_core.specs.declared.region.Region.{Region}
 use Rattle.heap_core.specs.HeapStore.{HeapStore, has_name}
 use Rattle.heap_core.specs.Code.Chunks.{Tell, AreJoined, blocks_in}
 use Rattle.heap_core.specs.Code.Layout.{chunks_of}
+use Rattle.heap_core.specs.Code.Places.{ArePlaced}
 use Rattle.heap_core.specs.HeapBytes.{heap_of, IsWithin, IsLaidOut, KeepsToSpan}
 use Rattle.heap_core.specs.Separation.{BlocksLieApart}
 use Rattle.heap_core.proofs.Separation.{blocks_lie_apart}
@@ -58,4 +59,5 @@ module _ (heap : Region) (at len : ℕ) (old new : List ℕ) (changes : ChangesO
       joined = subst AreJoined (sym same) laid.chunks.joined;
     };
     named = λ name. subst (λ (h : HeapStore). length (filter (has_name name) h.blocks) ≤ 1) (sym heap_of-elsewhere) (laid.named name);
+    places = subst (ArePlaced heap.places) (sym heap_of-elsewhere) laid.places;
   }

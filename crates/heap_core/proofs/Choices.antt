@@ -1,5 +1,5 @@
 -- Where a block is placed: on top, or in a gap among the chunks.
-use Rattle.std.proofs.Common.{◌≡◌, ◌≢◌, ℕ, ◌+◌, ◌-◌, ◌≤◌, ◌<◌, ◌⊎◌, inl, inr, List, ltb, leb, refl, sym, ap, ◌∙◌, arith}
+use Rattle.std.proofs.Common.{◌≡◌, ◌≢◌, ℕ, ◌+◌, ◌-◌, ◌≤◌, ◌<◌, ◌⊎◌, inl, inr, List, ltb, leb, refl, sym, ap, ◌∙◌, subst, arith}
 use Rattle.std.specs.Prelude.{Option, Some, None, if◌then◌else◌}
 use Rattle.std.specs.Option.{option_map, option_or}
 use Rattle.std.proofs.lemmas.Bool.{cases_Bool, leb-true, ltb-true}
@@ -10,23 +10,26 @@ use Rattle.heap_core.specs.declared.region.Region.{Region}
 use Rattle.heap_core.specs.HeapStore.{header_len, best_gap, gaps, place, place_in, top_place, top_gap, footprint}
 use Rattle.heap_core.specs.Code.Layout.{chunks_of, HasChunks}
 use Rattle.heap_core.specs.HeapBytes.{heap_of}
-use Rattle.heap_core.specs.Code.Walks.{GapAt, Stands, LiveIn}
-use Rattle.heap_core.specs.Code.Chunks.{chunk_at}
+use Rattle.heap_core.specs.Code.Walks.{GapAt, Stands, LiveIn, IsWholeRoom}
+use Rattle.heap_core.specs.Code.Chunks.{chunk_at, AreJoined}
 use Rattle.heap_core.specs.declared.chunk.Chunk.{Chunk}
 use Rattle.heap_core.proofs.Gaps.{end_is, best_fits}
+use Rattle.heap_core.proofs.Splice.{whole_at}
 use Rattle.heap_core.proofs.Standing.{around}
 
 pub record OnTop (heap : Region) (target : Place) (n : ℕ) : Type 0 where
   pub at : target.at ≡ heap.footprint
   pub fits : target.at + (header_len + target.room) ≤ heap.span.len
   pub room : n ≤ target.room
+  pub whole : IsWholeRoom target.room
 
 pub record InGap (heap : Region) (B : List ℕ) (target : Place) (n : ℕ) : Type 0 where
   pub gap : GapAt target.at (header_len + target.room) (chunks_of heap B)
   pub below : target.at < heap.footprint
   pub room : n ≤ target.room
+  pub whole : IsWholeRoom target.room
 
-module _ (heap : Region) (B : List ℕ) (has : HasChunks heap B) (n : ℕ) (target : Place) where
+module _ (heap : Region) (B : List ℕ) (has : HasChunks heap B) (n : ℕ) (target : Place) (some : 1 ≤ n) where
   abbrev Outcome : Type 0
   Outcome = OnTop heap target n ⊎ InGap heap B target n
 
@@ -41,7 +44,7 @@ module _ (heap : Region) (B : List ℕ) (has : HasChunks heap B) (n : ℕ) (targ
             let is : Some top ≡ Some target = rw fits at e in
             let same : top ≡ target = cc in
             let at = ap (λ (p : Place). p.at) same in let room = ap (λ (p : Place). p.room) same in
-            inl (record { at = sym at ∙ end; fits = omega (arith, heap.inside); room = omega arith })
+            inl (record { at = sym at ∙ end; fits = omega (arith, heap.inside); room = omega arith; whole = (omega arith, omega arith) })
         | inr short ↦ absurd (let is : None ≡ Some target = rw short at e in cc)
       ]
 
@@ -52,14 +55,16 @@ module _ (heap : Region) (B : List ℕ) (has : HasChunks heap B) (n : ℕ) (targ
       let a = around heap B f.chunk has stands in
       let at = ap (λ (p : Place). p.at) same in let room = ap (λ (p : Place). p.room) same in
       let most = gap.len - header_len in
+      let whole = whole_at f.before f.behind f.chunk (subst AreJoined f.is has.joined) in
       elim (cases_Bool (ltb 16 (most - up4 n))) [
         | inl long ↦
             let rest = ltb-true 16 (most - up4 n) long in
             let least : target.room ≡ up4 n = sym room ∙ ap (λ b. if b then up4 n else most) long in
             inr (record {
-              gap = record { gap = f.chunk; stands = stands; free = f.free; at = f.at ∙ at; rest = inr (omega (arith, f.len, f.fits)) };
+              gap = record { gap = f.chunk; stands = stands; free = f.free; at = f.at ∙ at; rest = inr (omega (arith, f.len, f.fits, whole.1), omega (arith, f.len, f.fits, whole.1)) };
               below = omega (arith, a.fits, a.enough, f.at, at);
               room = omega arith;
+              whole = (omega arith, omega arith);
             })
         | inr short ↦
             let all : target.room ≡ most = sym room ∙ ap (λ b. if b then up4 n else most) short in
@@ -67,6 +72,7 @@ module _ (heap : Region) (B : List ℕ) (has : HasChunks heap B) (n : ℕ) (targ
               gap = record { gap = f.chunk; stands = stands; free = f.free; at = f.at ∙ at; rest = inl (omega (arith, f.len, f.fits)) };
               below = omega (arith, a.fits, a.enough, f.at, at);
               room = omega (arith, f.fits);
+              whole = (omega (arith, f.len, whole.0), omega (arith, f.len, f.fits, whole.1));
             })
       ]
 
@@ -78,10 +84,10 @@ module _ (heap : Region) (B : List ℕ) (has : HasChunks heap B) (n : ℕ) (targ
   place_cases e = chosen (best_gap (header_len + up4 n) (gaps (heap_of heap B))) refl e
 
 -- it is not where a live block is
-pub elsewhere_placed : (heap : Region) (B : List ℕ) (has : HasChunks heap B) (n : ℕ) (target : Place) (chunk : Chunk) → LiveIn chunk (chunks_of heap B) → place n (heap_of heap B) ≡ Some target → target.at ≢ chunk.at
-elsewhere_placed heap B has n target chunk live e same =
+pub elsewhere_placed : (heap : Region) (B : List ℕ) (has : HasChunks heap B) (n : ℕ) (target : Place) (some : 1 ≤ n) (chunk : Chunk) → LiveIn chunk (chunks_of heap B) → place n (heap_of heap B) ≡ Some target → target.at ≢ chunk.at
+elsewhere_placed heap B has n target some chunk live e same =
     let a = around heap B chunk has live.stands in
-    elim (place_cases heap B has n target e) [
+    elim (place_cases heap B has n target some e) [
       | inl top ↦ absurd (omega (arith, top.at, a.fits, a.enough))
       | inr low ↦
           let g = around heap B low.gap.gap has low.gap.stands in

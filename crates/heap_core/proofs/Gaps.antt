@@ -1,7 +1,8 @@
 -- The gaps that the blocks leave are the gaps among the chunks; and what follows from it for the places of a heap.
 use Rattle.std.proofs.Common.{◌≡◌, ℕ, ◌+◌, ◌-◌, ◌*◌, ◌≤◌, ◌<◌, ◌⊎◌, inl, inr, List, [], ◌∷◌, ◌++◌, length, slice_range, false, true, ltb, leb, sum_by, refl, sym, ap, ◌∙◌, subst, arith}
-use Rattle.std.specs.Prelude.{Option, Some, None, is_none, is_some, fold}
+use Rattle.std.specs.Prelude.{All, Option, Some, None, is_none, is_some, fold}
 use Rattle.std.proofs.lemmas.Bool.{lt-ltb, le-ltb, cases_Bool, leb-true, false≢true}
+use Rattle.std.proofs.lemmas.List.Elements.{All-nil, All-cons}
 use Rattle.std.proofs.lemmas.List.Sums.{sum_by-cons}
 use Rattle.arena_core.proofs.Ranges.{length-range}
 use Rattle.heap_core.specs.declared.chunk.Chunk.{Chunk}
@@ -57,7 +58,7 @@ module _ (B : List ℕ) (b : ℕ) where
       let enough : header_len + c.size ≤ c.len = t.1 in
       let at = place_told B b x c t.0 in
       let xs = blocks_in B b l in
-      let later = gaps_both (x + c.len) z l t.2 j.1 in
+      let later = gaps_both (x + c.len) z l t.2 j.2 in
       elim (owner_cases c.owner) [
         | inl e ↦
             let len : x + c.len - x ≡ c.len = omega arith in (
@@ -86,7 +87,7 @@ module _ (B : List ℕ) (b : ℕ) where
       let enough : header_len + c.size ≤ c.len = t.1 in
       let at = place_told B b x c t.0 in
       let xs = blocks_in B b l in
-      let later = end_both (x + c.len) z l t.2 j.1 in
+      let later = end_both (x + c.len) z l t.2 j.2 in
       elim (owner_cases c.owner) [
         | inl e ↦ (ap (last_end x) (none_in_front c xs e) ∙ later.1 x (j.0 e), λ from live. absurd (live e))
         | inr s ↦ (live_end c s.0 x x xs s.1 at (omega arith) ∙ later.0, λ from live. live_end c s.0 from x xs s.1 at (omega arith) ∙ later.0)
@@ -133,6 +134,15 @@ module _ (B : List ℕ) (b : ℕ) where
             let blocks : with_chunk B b c c.owner xs ≡ block ∷ xs = ap (λ o. with_chunk B b c o xs) s.1 in
             omega (arith, ap room_sum blocks, ap length blocks, sum_by-cons (λ (block : Block). block.room) block xs)
       ]
+
+-- each gap has room for a header and more
+pub gaps_whole : (l : List Chunk) → AreJoined l → All (λ (gap : Gap). 20 ≤ gap.len) (gaps_in l)
+gaps_whole [] joined = All-nil (λ (gap : Gap). 20 ≤ gap.len)
+gaps_whole (c ∷ l) joined = elim (owner_cases c.owner) [
+  | inl e ↦ subst (λ o. All (λ (gap : Gap). 20 ≤ gap.len) (with_gap c o (gaps_in l))) (sym e)
+      (All-cons (λ (gap : Gap). 20 ≤ gap.len) (record { at = c.at; len = c.len }) (gaps_in l) joined.1.0 (gaps_whole l joined.2))
+  | inr s ↦ subst (λ o. All (λ (gap : Gap). 20 ≤ gap.len) (with_gap c o (gaps_in l))) (sym s.1) (gaps_whole l joined.2)
+]
 
 -- the best gap is one of the gaps
 better_is : (need : ℕ) (best : Option Gap) (gap : Gap) → (better need best gap ≡ best) ⊎ ((better need best gap ≡ Some gap) × (need ≤ gap.len))

@@ -11,16 +11,16 @@ use Rattle.heap_core.specs.declared.chunk.Place.{Place}
 use Rattle.heap_core.specs.declared.region.Region.{Region}
 use Rattle.heap_core.specs.HeapStore.{Block, HeapStore, header_len, placed, block_at, with_block, room_in_place}
 use Rattle.heap_core.specs.HeapBytes.{heap_of}
-use Rattle.heap_core.specs.Code.Chunks.{Tell, BeginsLive, AreJoined, with_chunk, blocks_in}
+use Rattle.heap_core.specs.Code.Chunks.{Tell, BeginsLive, IsWhole, AreJoined, with_chunk, blocks_in}
 use Rattle.heap_core.specs.Code.Holes.{Hole, Leaves, Laid, Free}
 use Rattle.heap_core.specs.Code.Layout.{chunks_of, HasChunks}
-use Rattle.heap_core.specs.Code.Walks.{chunks_behind, GapAt, LiveIn, Owned, laid, front_gap, place_in_chunk, bytes_in_chunk}
-use Rattle.heap_core.proofs.Beside.{room_is, Taken, taken, front_gap_long}
+use Rattle.heap_core.specs.Code.Walks.{chunks_behind, GapAt, LiveIn, Owned, laid, front_gap, place_in_chunk, bytes_in_chunk, LeavesGap, IsWholeRoom}
+use Rattle.heap_core.proofs.Beside.{room_is, Taken, taken, front_gap_whole}
 use Rattle.heap_core.proofs.Blocks.{blocks_between, placed_behind, placed_front, elsewhere}
 use Rattle.heap_core.proofs.Gaps.{none_in_front}
 use Rattle.heap_core.proofs.Members.{In, in_of, in_left, in_right, in_cases, stands_of, in_told, live_exchanged, apart_from_gap}
 use Rattle.heap_core.proofs.Releases.{r, end_below, left_apart}
-use Rattle.heap_core.proofs.Splice.{Spliced, spliced, joined_swap, joined_behind, laid_all, laid_some}
+use Rattle.heap_core.proofs.Splice.{Spliced, spliced, joined_swap, joined_behind, whole_at, laid_all, laid_some}
 use Rattle.heap_core.proofs.Standing.{Around, around, behind_is}
 use Rattle.heap_core.proofs.Steps.{ended}
 use Rattle.heap_core.proofs.Told.{told_frame, blocks_frame, blocks_append}
@@ -36,23 +36,25 @@ module _ (B B' : List ℕ) (b : ℕ) (live : Chunk) (name : ℕ) (owner : live.o
       ∙ ap (λ bytes. (let k : Block = record { name = name; at = live.at; room = live.len - header_len; bytes = bytes } in k) ∷ ys) same
       ∙ sym (ap (λ o. with_chunk B b live o ys) owner)
 
-  pub live_joined : (behind : List Chunk) → AreJoined behind → AreJoined (live ∷ behind)
-  live_joined behind joined = ((λ none. absurd (is_live none)), joined)
+  pub live_joined : IsWhole live → (behind : List Chunk) → AreJoined behind → AreJoined (live ∷ behind)
+  live_joined whole behind joined = ((λ none. absurd (is_live none)), whole, joined)
 
-  module _ (len : ℕ) (rest : (live.len ≡ len) ⊎ (live.len + 16 ≤ len)) where
+  module _ (len : ℕ) (rest : (live.len ≡ len) ⊎ LeavesGap live.len len) where
     pub laid_block : bytes_in_chunk B' b live ≡ bytes_in_chunk B b live → (ys : List Block) → blocks_in B' b (laid live len) ++ ys ≡ with_chunk B b live live.owner ys
     laid_block same ys = elim rest [
       | inl e ↦ ap (λ l. blocks_in B' b l ++ ys) (laid_all live len e) ∙ live_block same ys
-      | inr less ↦ ap (λ l. blocks_in B' b l ++ ys) (laid_some live len (omega arith)) ∙ live_block same ys
+      | inr less ↦ ap (λ l. blocks_in B' b l ++ ys) (laid_some live len (omega (arith, less.0))) ∙ live_block same ys
     ]
 
     pub laid_begins : (behind : List Chunk) → BeginsLive (laid live len ++ behind)
     laid_begins behind = is_live
 
-    pub laid_joined : (behind : List Chunk) → BeginsLive behind → AreJoined behind → AreJoined (laid live len ++ behind)
-    laid_joined behind begins joined = elim rest [
-      | inl e ↦ subst (λ l. AreJoined (l ++ behind)) (sym (laid_all live len e)) (live_joined behind joined)
-      | inr less ↦ subst (λ l. AreJoined (l ++ behind)) (sym (laid_some live len (omega arith))) ((λ none. absurd (is_live none)), ((λ none. begins), joined))
+    pub laid_joined : IsWhole live → (behind : List Chunk) → BeginsLive behind → AreJoined behind → AreJoined (laid live len ++ behind)
+    laid_joined whole behind begins joined = elim rest [
+      | inl e ↦ subst (λ l. AreJoined (l ++ behind)) (sym (laid_all live len e)) (live_joined whole behind joined)
+      | inr less ↦
+          subst (λ l. AreJoined (l ++ behind)) (sym (laid_some live len (omega (arith, less.0))))
+          ((λ none. absurd (is_live none)), whole, ((λ none. begins), (omega (arith, less.0), less.1), joined))
     ]
 
 module _ (heap new : Region) (B B' : List ℕ) (live : Chunk) (before mid behind : List Chunk) (y : ℕ) (same : new.span ≡ heap.span) (within : heap.span.at + heap.span.len ≤ length B)
@@ -127,7 +129,7 @@ module _ (heap : Region) (B B' : List ℕ) (at end n : ℕ) (hole : Hole heap B 
 
 -- a block's bytes end where the hole does, or before that
 pub below : (heap : Region) (at room n end : ℕ) → Leaves heap (at + (header_len + room)) end → n ≤ room → (end ≡ heap.footprint) ⊎ (at + 16 + n ≤ end)
-below heap at room n end rest fits = elim rest [ inl e ↦ inl e | inr f ↦ elim f [ inl all ↦ inr (omega (arith, fits)) | inr some ↦ inr (omega (arith, fits)) ] ]
+below heap at room n end rest fits = elim rest [ inl e ↦ inl e | inr f ↦ elim f [ inl all ↦ inr (omega (arith, fits)) | inr some ↦ inr (omega (arith, fits, some.0)) ] ]
 
 -- a block that is laid into a hole is one more
 module _ (heap new : Region) (B B1 B2 : List ℕ) (target : Place) (name n end : ℕ) (hole : Hole heap B target.at end)
@@ -181,8 +183,8 @@ module _ (heap : Region) (B : List ℕ) (has : HasChunks heap B) (target : Place
   abbrev all : List Chunk
   all = chunks_of heap B
 
-  pub free_top : target.at ≡ heap.footprint → target.at + (header_len + target.room) ≤ heap.span.len → Free heap B target target.at
-  free_top at fits = record {
+  pub free_top : target.at ≡ heap.footprint → target.at + (header_len + target.room) ≤ heap.span.len → IsWholeRoom target.room → Free heap B target target.at
+  free_top at fits whole = record {
     hole = record {
       before = all;
       behind = [];
@@ -195,13 +197,14 @@ module _ (heap : Region) (B : List ℕ) (has : HasChunks heap B) (target : Place
     };
     inside = fits;
     rest = inl at;
+    whole = whole;
     apart = λ other live. (let in_all = in_told B t 0 heap.footprint other all has.told (in_of other all live.stands) in inl (omega (arith, at, in_all.1, in_all.2)));
     blocks = sym (append-nil (blocks_in B t all));
     kept = λ other live. subst (LiveIn other) (sym (append-nil all)) live;
   }
 
-  pub free_gap : (g : GapAt target.at (header_len + target.room) all) → Free heap B target (target.at + g.gap.len)
-  free_gap g =
+  pub free_gap : (g : GapAt target.at (header_len + target.room) all) → IsWholeRoom target.room → Free heap B target (target.at + g.gap.len)
+  free_gap g whole =
       let a = around heap B g.gap has g.stands in
       let was : AreJoined (a.before ++ (g.gap ∷ a.behind)) = subst AreJoined a.is has.joined in
       let later = joined_behind a.before (g.gap ∷ a.behind) was in
@@ -213,14 +216,15 @@ module _ (heap : Region) (B : List ℕ) (has : HasChunks heap B) (target : Place
           front = subst (λ k. Tell B t 0 k a.before) g.at a.front;
           back = subst (λ k. Tell B t (k + g.gap.len) heap.footprint a.behind) g.at a.back;
           joined = λ chunks begins joined. joined_swap a.before (g.gap ∷ a.behind) chunks (λ _. begins) was joined;
-          joined_behind = later.1;
+          joined_behind = later.2;
           begins = inr (later.0 g.free);
         };
-        inside = elim g.rest [ inl e ↦ omega (arith, g.at, a.fits, heap.inside) | inr less ↦ omega (arith, g.at, a.fits, heap.inside) ];
-        rest = elim g.rest [ inl e ↦ inr (inl (omega arith)) | inr less ↦ inr (inr (omega arith)) ];
+        inside = elim g.rest [ inl e ↦ omega (arith, g.at, a.fits, heap.inside) | inr less ↦ omega (arith, g.at, a.fits, heap.inside, less.0) ];
+        rest = elim g.rest [ inl e ↦ inr (inl (omega arith)) | inr less ↦ inr (inr (omega (arith, less.0), omega (arith, less.0, less.1))) ];
+        whole = whole;
         apart = λ other live. elim (apart_from_gap B t heap.footprint other g.gap a.before a.behind all a.is a.front a.back g.free live) [
           | inl low ↦ inl (omega (arith, g.at))
-          | inr high ↦ inr (elim g.rest [ inl e ↦ omega (arith, g.at) | inr less ↦ omega (arith, g.at) ])
+          | inr high ↦ inr (elim g.rest [ inl e ↦ omega (arith, g.at) | inr less ↦ omega (arith, g.at, less.0) ])
         ];
         blocks = ap (blocks_in B t) a.is ∙ blocks_append B t a.before (g.gap ∷ a.behind) ∙ ap (λ l. blocks_in B t a.before ++ l) (none_in_front B t g.gap (blocks_in B t a.behind) g.free);
         kept = λ other live. live_exchanged other g.gap a.before [] a.behind all (a.before ++ a.behind) g.free a.is refl live;
@@ -233,6 +237,15 @@ module _ (heap : Region) (B : List ℕ) (has : HasChunks heap B) (chunk : Chunk)
 
   pub owns : chunk.owner ≢ None
   owns none = absurd (let two : None ≡ Some name = sym none ∙ o.owner in cc)
+
+  own_joined : AreJoined (own.before ++ (chunk ∷ own.behind))
+  own_joined = subst AreJoined own.is has.joined
+
+  own_whole : IsWhole chunk
+  own_whole = whole_at own.before own.behind chunk own_joined
+
+  own_behind : AreJoined own.behind
+  own_behind = (joined_behind own.before (chunk ∷ own.behind) own_joined).2
 
   pub gap_same : (gap : ℕ) → gap ≡ front_gap (chunks_behind heap B (chunk.at + chunk.len)) → gap ≡ front_gap own.behind
   gap_same gap is = is ∙ ap front_gap (behind_is heap B chunk own)
@@ -263,11 +276,11 @@ module _ (heap : Region) (B : List ℕ) (has : HasChunks heap B) (chunk : Chunk)
     unfolding own_hole
     own_blocks = left_apart heap B has chunk own owns ∙ ap (λ l. blocks_in B heap.span.at own.before ++ l) (r heap B has chunk own owns).blocks
 
-    module _ (n room : ℕ) (chosen : room_in_place (place_in_chunk chunk) n (heap_of heap B) ≡ Some room) where
+    module _ (n room : ℕ) (some : 1 ≤ n) (chosen : room_in_place (place_in_chunk chunk) n (heap_of heap B) ≡ Some room) where
       known : Taken (up4 n) (chunk.len - 16) (chunk.at + chunk.len) heap.footprint (heap.span.len - heap.footprint) (front_gap own.behind) room
       known =
           taken (up4 n) (chunk.len - 16) (chunk.at + chunk.len) heap.footprint (heap.span.len - heap.footprint) (front_gap own.behind) room
-          (front_gap_long B heap.span.at (chunk.at + chunk.len) heap.footprint own.behind own.back)
+          (omega arith, omega arith) (omega (arith, own_whole.0, own_whole.1)) (front_gap_whole own.behind own_behind)
           (sym (room_is heap B chunk n own has owns) ∙ chosen)
 
       pub own_room : n ≤ room
@@ -276,14 +289,20 @@ module _ (heap : Region) (B : List ℕ) (has : HasChunks heap B) (chunk : Chunk)
       pub own_rest : Leaves heap (chunk.at + (16 + room)) end
       own_rest = elim (cases_eq (chunk.at + chunk.len) heap.footprint) [
         | inl last ↦ inl (omega (arith, last, own_end))
-        | inr more ↦ inr (elim (known.below more) [ inl e ↦ inl (omega (arith, own.enough, gap_is)) | inr less ↦ inr (omega (arith, own.enough, gap_is)) ])
+        | inr more ↦ inr (elim (known.below more) [
+          | inl e ↦ inl (omega (arith, own.enough, gap_is))
+          | inr less ↦ inr (omega (arith, own.enough, gap_is, less.0), omega (arith, own.enough, gap_is, less.0, less.1))
+        ])
       ]
+
+      pub own_live : IsWhole (record { at = chunk.at; len = 16 + room; owner = Some name; size = n })
+      own_live = (omega (arith, known.whole.0), omega (arith, known.whole.1))
 
       pub own_inside : chunk.at + (16 + room) ≤ heap.span.len
       own_inside = elim (cases_eq (chunk.at + chunk.len) heap.footprint) [
         | inl last ↦ omega (arith, known.on_top last, own.enough, last, heap.inside)
         | inr more ↦ elim own_rest [
-          | inl e ↦ elim (known.below more) [ inl f ↦ omega (arith, own.enough, gap_is, own_end, heap.inside) | inr f ↦ omega (arith, own.enough, gap_is, own_end, heap.inside) ]
-          | inr f ↦ elim f [ inl e ↦ omega (arith, own_end, heap.inside) | inr less ↦ omega (arith, own_end, heap.inside) ]
+          | inl e ↦ elim (known.below more) [ inl f ↦ omega (arith, own.enough, gap_is, own_end, heap.inside) | inr f ↦ omega (arith, own.enough, gap_is, own_end, heap.inside, f.0) ]
+          | inr f ↦ elim f [ inl e ↦ omega (arith, own_end, heap.inside) | inr less ↦ omega (arith, own_end, heap.inside, less.0) ]
         ]
       ]

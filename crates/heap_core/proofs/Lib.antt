@@ -8,6 +8,7 @@ pub mod Holes
 pub mod Members
 pub mod Moves
 pub mod Names
+pub mod Places
 pub mod Releases
 pub mod Resized
 pub mod Separation

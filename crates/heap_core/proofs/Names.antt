@@ -159,6 +159,9 @@ count_map name f keeps (x ∷ xs) =
 pub keeps_name : (name : ℕ) (f : Block → Block) → ((block : Block) → (f block).name ≡ block.name) → (block : Block) → (if has_name name block then f block else block).name ≡ block.name
 keeps_name name f keeps block = elim (cases_Bool (eqb block.name name)) [ inl hit ↦ rw hit (keeps block) | inr miss ↦ rw miss refl ]
 
+pub keeps_place : (name : ℕ) (f : Block → Block) → ((block : Block) → (f block).at ≡ block.at) → (block : Block) → (if has_name name block then f block else block).at ≡ block.at
+keeps_place name f keeps block = elim (cases_Bool (eqb block.name name)) [ inl hit ↦ rw hit (keeps block) | inr miss ↦ rw miss refl ]
+
 pub map_none : {X Y : Type 0} (f : X → Y) (o : Option X) → option_map f o ≡ None → o ≡ None
 map_none f None e = refl
 map_none f (Some x) e = absurd (cc)

@@ -1,5 +1,5 @@
 -- A block that is taken away, and the gaps beside it.
-use Rattle.std.proofs.Common.{◌≡◌, ◌≢◌, ℕ, ◌+◌, ◌-◌, ◌≤◌, ◌⊎◌, inl, inr, List, [], ◌∷◌, ◌++◌, slice_range, refl, sym, ap, ◌∙◌, subst, arith, true, eqb}
+use Rattle.std.proofs.Common.{◌≡◌, ◌≢◌, ℕ, ◌+◌, ◌-◌, ◌%◌, ◌≤◌, ◌⊎◌, inl, inr, List, [], ◌∷◌, ◌++◌, slice_range, refl, sym, ap, ◌∙◌, subst, arith, true, eqb}
 use Rattle.std.specs.Prelude.{Some, None, fold, filter}
 use Rattle.std.proofs.lemmas.List.Elements.{filter-append}
 use Rattle.std.proofs.lemmas.Bool.{eq-eqb}
@@ -15,7 +15,7 @@ use Rattle.heap_core.specs.Code.Walks.{free_behind, free_from, gap_of, front_gap
 use Rattle.heap_core.proofs.Told.{place_told, told_le, blocks_append, owner_cases, changes_more}
 use Rattle.heap_core.proofs.Gaps.{none_in_front}
 use Rattle.heap_core.proofs.Blocks.{blocks_between, elsewhere, filter_elsewhere}
-use Rattle.heap_core.proofs.Splice.{Spliced, spliced, joined_behind}
+use Rattle.heap_core.proofs.Splice.{Spliced, spliced, joined_behind, whole_at}
 use Rattle.heap_core.proofs.Standing.{Around}
 use Rattle.heap_core.proofs.Steps.{ended}
 
@@ -51,7 +51,7 @@ front_of B b x at i (c ∷ []) old t none = elim (owner_cases c.owner) [
     told = (t.0, t.1, ap (λ k. k + c.len) (sym (place_told B b x c t.0)) ∙ sym (ap (free_behind c) s.1));
     blocks = refl;
     begins = λ live ne new. live;
-    joined = λ was new joined. ((λ e. absurd (let two : None ≡ Some s.0 = sym e ∙ s.1 in cc)), joined);
+    joined = λ was new joined. ((λ e. absurd (let two : None ≡ Some s.0 = sym e ∙ s.1 in cc)), was.1, joined);
   }
 ]
 front_of B b x at i (c ∷ (d ∷ l)) old t none =
@@ -61,7 +61,7 @@ front_of B b x at i (c ∷ (d ∷ l)) old t none =
       told = (t.0, t.1, f.told);
       blocks = ap (with_chunk B b c c.owner) f.blocks;
       begins = λ live ne new. live;
-      joined = λ was new joined. ((λ e. f.begins (was.0 e) (λ none. absurd (cc)) new), f.joined was.1 new joined);
+      joined = λ was new joined. ((λ e. f.begins (was.0 e) (λ none. absurd (cc)) new), was.1, f.joined was.2 new joined);
     }
 
 -- the chunks from a place on, without a gap that begins there
@@ -79,7 +79,7 @@ rest_of B b at end (d ∷ l) t joined = elim (owner_cases d.owner) [
     post = l;
     told = subst (λ k. Tell B b (at + k) end l) (sym (ap (gap_of d) e)) t.2;
     blocks = none_in_front B b d (blocks_in B b l) e;
-    joined = joined.1;
+    joined = joined.2;
     begins = inr (joined.0 e);
   }
   | inr s ↦ record {
@@ -90,6 +90,20 @@ rest_of B b at end (d ∷ l) t joined = elim (owner_cases d.owner) [
     begins = inr (λ e. absurd (let two : None ≡ Some s.0 = sym e ∙ s.1 in cc));
   }
 ]
+
+-- how far they begin before that place, and how long the gap is, are multiples of 4
+front_whole : (B : List ℕ) (b x at i : ℕ) (before old : List Chunk) → Tell B b x at before → (before ≡ [] → i ≡ x) → AreJoined (before ++ old) → (at - walk_free i before) % 4 ≡ 0
+front_whole B b x at i [] old t none joined = omega (arith, t, none refl)
+front_whole B b x at i (c ∷ []) old t none joined =
+    let place = place_told B b x c t.0 in let last : x + c.len ≡ at = t.2 in let whole = joined.1 in
+    elim (owner_cases c.owner) [ inl e ↦ omega (arith, ap (free_behind c) e, whole.1) | inr s ↦ omega (arith, ap (free_behind c) s.1) ]
+front_whole B b x at i (c ∷ (d ∷ l)) old t none joined = front_whole B b (x + c.len) at (free_behind c c.owner) (d ∷ l) old t.2 (λ e. absurd (cc)) joined.2
+
+pub gap_len_whole : (l : List Chunk) → AreJoined l → front_gap l % 4 ≡ 0
+gap_len_whole [] joined = refl
+gap_len_whole (d ∷ l) joined =
+    let whole = joined.1 in
+    elim (owner_cases d.owner) [ inl e ↦ omega (arith, ap (gap_of d) e, whole.1) | inr s ↦ omega (arith, ap (gap_of d) s.1) ]
 
 module _ (heap : Region) (B : List ℕ) (has : HasChunks heap B) (chunk : Chunk) (a : Around B heap.span.at heap.footprint chunk (chunks_of heap B)) (live : chunk.owner ≢ None) where
   abbrev b : ℕ
@@ -108,7 +122,7 @@ module _ (heap : Region) (B : List ℕ) (has : HasChunks heap B) (chunk : Chunk)
   f = front_of B b 0 chunk.at 0 a.before (chunk ∷ a.behind) a.front (λ e. refl)
 
   pub r : Rest B b (chunk.at + chunk.len) heap.footprint a.behind
-  r = rest_of B b (chunk.at + chunk.len) heap.footprint a.behind a.back (joined_behind a.before (chunk ∷ a.behind) was_joined).1
+  r = rest_of B b (chunk.at + chunk.len) heap.footprint a.behind a.back (joined_behind a.before (chunk ∷ a.behind) was_joined).2
 
   pub from_below : from ≤ chunk.at
   from_below = free_below B b 0 chunk.at 0 a.before a.front (λ e. refl)
@@ -170,7 +184,15 @@ module _ (heap : Region) (B : List ℕ) (has : HasChunks heap B) (chunk : Chunk)
         ∙ ap (λ l. blocks_in B b f.pre ++ blocks_in B b l) (sym none_behind)
         ∙ sym left)
 
-  -- else it becomes a gap
+  -- else it becomes a gap, which is whole
+  gap_whole : (20 ≤ end - from) × ((end - from) % 4 ≡ 0)
+  gap_whole =
+      let whole = whole_at a.before a.behind chunk was_joined in
+      let front = front_whole B b 0 chunk.at 0 a.before (chunk ∷ a.behind) a.front (λ e. refl) was_joined in
+      let back = gap_len_whole a.behind (joined_behind a.before (chunk ∷ a.behind) was_joined).2 in
+      let low = from_below in
+      (omega (arith, whole.0), omega (arith, whole.1, front, back))
+
   abbrev gap : Chunk
   gap = record { at = from; len = end - from; owner = None; size = 0 }
 
@@ -185,7 +207,7 @@ module _ (heap : Region) (B : List ℕ) (has : HasChunks heap B) (chunk : Chunk)
         spliced heap B B' from end f.pre (gap ∷ []) r.post has.within
         (changes_more (b + from) 16 (b + from) (end - from) B B' changes (omega arith) (omega (arith, a.enough)))
         f.told (told, omega (arith, a.enough), omega arith) r.told
-        (f.joined was_joined (gap ∷ r.post) ((λ none. begins), r.joined))
+        (f.joined was_joined (gap ∷ r.post) ((λ none. begins), (omega (arith, gap_whole), omega (arith, gap_whole)), r.joined))
 
     pub gap_released : heap_of heap B' ≡ without_place chunk.at (heap_of heap B)
     gap_released =

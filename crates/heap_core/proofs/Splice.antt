@@ -5,7 +5,7 @@ use Rattle.std.proofs.lemmas.Bool.{lt-ltb, le-ltb}
 use Rattle.arena_core.specs.Outside.{ChangesOnly}
 use Rattle.heap_core.specs.declared.chunk.Chunk.{Chunk}
 use Rattle.heap_core.specs.declared.region.Region.{Region}
-use Rattle.heap_core.specs.Code.Chunks.{chunks_from, Tell, BeginsLive, AreJoined, blocks_in}
+use Rattle.heap_core.specs.Code.Chunks.{chunks_from, Tell, BeginsLive, IsWhole, AreJoined, blocks_in}
 use Rattle.heap_core.specs.Code.Layout.{chunks_of, HasChunks}
 use Rattle.heap_core.specs.Code.Walks.{laid}
 use Rattle.heap_core.proofs.Told.{told_le, told_append, told_frame, blocks_frame, blocks_append, walked}
@@ -18,11 +18,15 @@ begins_swap (c ∷ pre) old new keep begins = begins
 pub joined_swap : (pre old new : List Chunk) → (BeginsLive old → BeginsLive new) → AreJoined (pre ++ old) → AreJoined new → AreJoined (pre ++ new)
 joined_swap [] old new keep was joined = joined
 joined_swap (c ∷ pre) old new keep was joined =
-    (λ free. begins_swap pre old new keep (was.0 free), joined_swap pre old new keep was.1 joined)
+    (λ free. begins_swap pre old new keep (was.0 free), was.1, joined_swap pre old new keep was.2 joined)
 
 pub joined_behind : (pre new : List Chunk) → AreJoined (pre ++ new) → AreJoined new
 joined_behind [] new joined = joined
-joined_behind (c ∷ pre) new joined = joined_behind pre new joined.1
+joined_behind (c ∷ pre) new joined = joined_behind pre new joined.2
+
+-- each of them is whole
+pub whole_at : (pre behind : List Chunk) (c : Chunk) → AreJoined (pre ++ (c ∷ behind)) → IsWhole c
+whole_at pre behind c joined = (joined_behind pre (c ∷ behind) joined).1
 
 pub laid_all : (live : Chunk) (len : ℕ) → live.len ≡ len → laid live len ≡ live ∷ []
 laid_all live len e = let none : ltb live.len len ≡ false = le-ltb live.len len (omega arith) in rw none refl

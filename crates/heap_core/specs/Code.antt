@@ -1,4 +1,5 @@
 pub mod Chunks
 pub mod Holes
 pub mod Layout
+pub mod Places
 pub mod Walks

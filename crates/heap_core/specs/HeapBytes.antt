@@ -6,6 +6,7 @@ use Rattle.heap_core.specs.declared.heap.Heap.{Heap}
 use Rattle.heap_core.specs.HeapStore.{HeapStore, has_name}
 use Rattle.heap_core.specs.Code.Chunks.{blocks_in}
 use Rattle.heap_core.specs.Code.Layout.{chunks_of, HasChunks}
+use Rattle.heap_core.specs.Code.Places.{ArePlaced}
 
 -- the blocks and where they lie. Of the arena's bytes it reads the span's alone
 abbrev pub heap_of : Heap → List ℕ → HeapStore
@@ -20,6 +21,7 @@ pub record IsLaidOut (heap : Heap) (bytes : List ℕ) : Type 0 where
   pub chunks : HasChunks heap bytes
   -- no name has two blocks
   pub named : (name : ℕ) → length (filter (has_name name) (heap_of heap bytes).blocks) ≤ 1
+  pub places : ArePlaced heap.places (heap_of heap bytes)
 
 -- the heap keeps its span, and of the arena only bytes of that span changed
 pub record KeepsToSpan (old new : Heap) (old_arena new_arena : Contents) : Type 0 where

@@ -4,7 +4,6 @@ ghost use Rattle.std.specs.Prelude.{◌≡◌, ◌≤◌, ◌<◌, IfSome, is_no
 ghost use Rattle.mote_types.specs.Rounding.{up4};
 ghost use Rattle.heap_core.specs.HeapStore.{room_taken, better};
 ghost use Rattle.heap_core.specs.Code.Chunks.{owner_in};
-ghost use Rattle.heap_core.specs.Code.Walks.{owned_by};
 
 /// The length of a header. It precedes each chunk's bytes.
 pub(crate) const HEADER: u32 = 16;
@@ -82,16 +81,6 @@ pub(crate) fn is_live(chunk: Chunk) -> bool
     ensures { result ≡ is_some chunk.owner }
 {
     chunk.owner.is_some()
-}
-
-/// Whether a chunk is the block of that name.
-pub(crate) fn is_owned_by(chunk: Chunk, name: u32) -> bool
-    ensures { result ≡ owned_by name chunk }
-{
-    match chunk.owner {
-        Some(other) => other == name,
-        None => false,
-    }
 }
 
 /// The word for a chunk's owner.

@@ -1,12 +1,12 @@
 //! The heap, and the calls on blocks.
 
-ghost use Rattle.std.specs.Prelude.{◌≡◌, ℕ, List, ◌+◌, ◌≤◌, ◌<◌, ◌↔◌, length, IsNone, IfNone, OnSome, IsSome, IsSomeAnd, Some, None};
+ghost use Rattle.std.specs.Prelude.{◌≡◌, ℕ, List, ◌+◌, ◌≤◌, ◌<◌, ◌↔◌, length, All, IsNone, IfNone, OnSome, IsSome, IsSomeAnd, Some, None};
 ghost use Rattle.mote_types.specs.BlockNames.{IsName};
-ghost use Rattle.heap_core.specs.HeapStore.{IsHeapSize, empty_heap, block_of, length_of, place, allocated, freed, reallocated, with_bytes, stats_of, LieApart};
+ghost use Rattle.heap_core.specs.HeapStore.{IsHeapSize, empty_heap, block_of, length_of, place, allocated, freed, reallocated, with_bytes, stats_of, gaps, LieApart};
 
 use crate::region::Region;
 use arena_core::{Arena, Span};
-use mote_types::block_name::{Key, number_of};
+use mote_types::block_name::{Key, NAMES, number_of};
 use mote_types::reply::HeapStats;
 use std::marker::Model;
 
@@ -38,7 +38,11 @@ impl Heap {
         ensures empty { (bytes : List ℕ) → heap_of result bytes ≡ empty_heap span.len }
     {
         Heap {
-            region: Region { span, footprint: 0 },
+            region: Region {
+                span,
+                footprint: 0,
+                places: [None; NAMES],
+            },
         }
     }
 
@@ -56,8 +60,9 @@ impl Heap {
         ensures rest { KeepsToSpan self.old self.new arena.old arena.new }
     {
         let place = self.region.place(arena, n)?;
-        self.region
-            .settle(arena, place, number_of(key) as u32, n, None);
+        let name = number_of(key);
+        self.region.settle(arena, place, name as u32, n, None);
+        self.region.places[name] = Some(place.at);
         Some(())
     }
 
@@ -74,13 +79,14 @@ impl Heap {
         ensures laid_out { IsLaidOut self.new arena.new.bytes }
         ensures rest { KeepsToSpan self.old self.new arena.old arena.new }
     {
-        let name = number_of(key) as u32;
-        let chunk = self.region.live_chunk(arena, name);
+        let name = number_of(key);
+        let chunk = self.region.live_chunk(arena, name as u32);
         let Some(room) = self.region.room_in_place(arena, chunk, n) else {
-            self.region.relocate(arena, chunk, name, n)?;
+            let at = self.region.relocate(arena, chunk, name as u32, n)?;
+            self.region.places[name] = Some(at);
             return Some(());
         };
-        self.region.resize(arena, chunk, name, room, n);
+        self.region.resize(arena, chunk, name as u32, room, n);
         Some(())
     }
 
@@ -93,8 +99,10 @@ impl Heap {
         ensures laid_out { IsLaidOut self.new arena.new.bytes }
         ensures rest { KeepsToSpan self.old self.new arena.old arena.new }
     {
-        let chunk = self.region.live_chunk(arena, number_of(key) as u32);
+        let name = number_of(key);
+        let chunk = self.region.live_chunk(arena, name as u32);
         self.region.release(arena, chunk);
+        self.region.places[name] = None;
     }
 
     /// The bytes of a name's block.
@@ -145,10 +153,11 @@ impl Heap {
     }
 
     /// The blocks lie in the span with their headers, one behind the other, and no two of them share a byte. Each block's bytes
-    /// are those behind its header.
+    /// are those behind its header. Each gap below the top gap has 20 bytes at least, so a header fits into it.
     pub fn blocks_lie_apart(&self, arena: &Arena)
         requires { IsLaidOut self.now arena.now.bytes }
         ensures order { LieApart (heap_of self.now arena.now.bytes) }
+        ensures gaps { All (λ gap. 20 ≤ gap.len) (gaps (heap_of self.now arena.now.bytes)) }
         ensures apart { BlocksLieApart self.now arena.now.bytes }
     {
         // Nothing is done: the clauses tell what holds of the heap whatever was called before.

@@ -22,6 +22,7 @@ impl Region {
         requires hole { Hole self.old arena.old.bytes live.at end }
         requires fits { Fits self.old live end }
         ensures laid { (hole : Hole self.old arena.old.bytes live.at end) → Laid self.old self.new arena.old.bytes arena.new.bytes live hole.before hole.behind }
+        ensures places { self.new.places ≡ self.old.places }
         ensures rest { KeepsToSpan self.old self.new arena.old arena.new }
     {
         let next = live.at + live.len;
@@ -48,6 +49,7 @@ impl Region {
     fn free_end(&self, arena: &Arena, target: Place, n: u32) -> u32
         requires chunks { HasChunks self.now arena.now.bytes }
         requires place { place n (heap_of self.now arena.now.bytes) ≡ Some target }
+        requires some { 1 ≤ n }
         ensures free { Free self.now arena.now.bytes target result }
         ensures room { n ≤ target.room }
     {
@@ -70,10 +72,12 @@ impl Region {
         requires chunks { HasChunks self.old arena.old.bytes }
         requires place { place n (heap_of self.old arena.old.bytes) ≡ Some target }
         requires name { name < 272 }
+        requires some { 1 ≤ n }
         requires source { IfSome source (λ other. LiveIn other (chunks_of self.old arena.old.bytes)) }
         ensures chunks { HasChunks self.new arena.new.bytes }
         ensures block { heap_of self.new arena.new.bytes ≡ with_block (block_at target name (resized n (bytes_given arena.old.bytes self.old.span.at source))) (heap_of self.old arena.old.bytes) }
         ensures stands { (other : OfChunks) → LiveIn other (chunks_of self.old arena.old.bytes) → LiveIn other (chunks_of self.new arena.new.bytes) }
+        ensures places { self.new.places ≡ self.old.places }
         ensures rest { KeepsToSpan self.old self.new arena.old arena.new }
     {
         let end = self.free_end(arena, target, n);
@@ -94,6 +98,7 @@ impl Region {
         requires live { chunk.owner ≢ None }
         ensures chunks { HasChunks self.new arena.new.bytes }
         ensures block { heap_of self.new arena.new.bytes ≡ without_place chunk.at (heap_of self.old arena.old.bytes) }
+        ensures places { self.new.places ≡ self.old.places }
         ensures rest { KeepsToSpan self.old self.new arena.old arena.new }
     {
         let from = self.free_before(arena, chunk);
@@ -119,9 +124,11 @@ impl Region {
         requires chunks { HasChunks self.old arena.old.bytes }
         requires owned { Owned name chunk (chunks_of self.old arena.old.bytes) }
         requires name { name < 272 }
+        requires some { 1 ≤ n }
         requires room { room_in_place (place_in_chunk chunk) n (heap_of self.old arena.old.bytes) ≡ Some room }
         ensures chunks { HasChunks self.new arena.new.bytes }
         ensures block { heap_of self.new arena.new.bytes ≡ with_block (block_at (at_place chunk.at room) name (resized n (bytes_in_chunk arena.old.bytes self.old.span.at chunk))) (without_place chunk.at (heap_of self.old arena.old.bytes)) }
+        ensures places { self.new.places ≡ self.old.places }
         ensures rest { KeepsToSpan self.old self.new arena.old arena.new }
     {
         let end = chunk.at + chunk.len + self.gap_behind(arena, chunk);
@@ -135,27 +142,30 @@ impl Region {
         self.lay(arena, live, end);
     }
 
-    /// Moves a live chunk's block to another place, where it gets `n` bytes: the first ones stay, and zeros follow. `None`
-    /// exactly where there is no place for it; then nothing changes.
+    /// Moves a live chunk's block to another place, which is answered. It gets `n` bytes there: the first ones stay, and zeros
+    /// follow. `None` exactly where there is no place for it; then nothing changes.
     pub(crate) fn relocate(
         &mut self,
         arena: &mut Arena,
         chunk: Chunk,
         name: u32,
         n: u32,
-    ) -> Option<()>
+    ) -> Option<u32>
         requires chunks { HasChunks self.old arena.old.bytes }
         requires live { LiveIn chunk (chunks_of self.old arena.old.bytes) }
         requires name { name < 272 }
+        requires some { 1 ≤ n }
+        ensures at { result ≡ option_map (λ target. target.at) (place n (heap_of self.old arena.old.bytes)) }
         ensures refused { IfNone result (place n (heap_of self.old arena.old.bytes) ≡ None) }
         ensures unchanged { IfNone result ((self.new ≡ self.old) × (arena.new ≡ arena.old)) }
         ensures block { OnSome result (option_map (λ target. with_block (block_at target name (resized n (bytes_in_chunk arena.old.bytes self.old.span.at chunk))) (without_place chunk.at (heap_of self.old arena.old.bytes))) (place n (heap_of self.old arena.old.bytes)) ≡ Some (heap_of self.new arena.new.bytes)) }
         ensures chunks { OnSome result (HasChunks self.new arena.new.bytes) }
+        ensures places { self.new.places ≡ self.old.places }
         ensures rest { KeepsToSpan self.old self.new arena.old arena.new }
     {
         let target = self.place(arena, n)?;
         self.settle(arena, target, name, n, Some(chunk));
         self.release(arena, chunk);
-        Some(())
+        Some(target.at)
     }
 }

@@ -6,6 +6,7 @@
 #![tactic(auto)]
 
 mod chunk;
+mod chunks;
 mod headers;
 mod heap;
 mod layout;

@@ -3,13 +3,17 @@
 ghost use Rattle.std.specs.Prelude.{◌≤◌};
 
 use arena_core::Span;
+use mote_types::block_name::NAMES;
 
-/// The span of a heap, and how much of it is divided into chunks. All else stands in the headers.
+/// The span of a heap, how much of it is divided into chunks, and where the chunk of each name's block begins. All else stands in
+/// the headers.
 #[derive(Drop)]
 pub struct Region {
     pub span: Span,
     /// The end of the highest chunk. What lies above it is the top gap.
     pub footprint: u32,
+    /// For each name that is live the place of its chunk, by the name's number.
+    pub places: [Option<u32>; NAMES],
     pub ghost small: { span.len ≤ 65536 },
     pub ghost inside: { footprint ≤ span.len },
 }

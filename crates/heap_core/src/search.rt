@@ -1,39 +1,32 @@
-//! Walks over the chunks, from the lowest on.
+//! The chunk of a name, and walks over the chunks, from the lowest on.
 
-ghost use Rattle.std.specs.Prelude.{◌≡◌, ◌≢◌, ◌≤◌, ◌+◌, find, Some, None, IsSome};
+ghost use Rattle.std.specs.Prelude.{◌≡◌, ◌≢◌, ◌≤◌, ◌<◌, ◌+◌, find, Some, None, IsSome};
 ghost use Rattle.heap_core.specs.HeapStore.{stats_of, find_block, best_gap, gaps, place, room_in_place};
 ghost use Rattle.heap_core.specs.Code.Walks.{owned_by, Owned, block_in_chunk, chunks_before, chunks_behind, free_from, Stands, front_gap, place_in_chunk};
 
-use crate::chunk::{
-    Chunk, Gap, HEADER, Place, better, is_gap, is_live, is_owned_by, room_taken, rounded,
-};
+use crate::chunk::{Chunk, Gap, HEADER, Place, better, is_gap, is_live, room_taken, rounded};
 use crate::region::Region;
 use arena_core::Arena;
 use mote_types::reply::HeapStats;
 
 impl Region {
     ghost use Rattle.heap_core.specs.Code.Layout.{chunks_of, HasChunks};
-    ghost use Rattle.heap_core.specs.HeapBytes.{heap_of};
+    ghost use Rattle.heap_core.specs.HeapBytes.{heap_of, IsLaidOut};
 
     /// The chunk of a name's block.
     pub(crate) fn find(&self, arena: &Arena, name: u32) -> Option<Chunk>
-        requires { HasChunks self.now arena.now.bytes }
+        requires laid_out { IsLaidOut self.now arena.now.bytes }
+        requires name { name < 272 }
         ensures { result ≡ find (owned_by name) (chunks_of self.now arena.now.bytes) }
     {
-        let mut at = 0;
-        while at < self.footprint {
-            let chunk = self.chunk_at(arena, at);
-            if is_owned_by(chunk, name) {
-                return Some(chunk);
-            }
-            at += chunk.len;
-        }
-        None
+        let at = self.places[name as usize]?;
+        Some(self.chunk_at(arena, at))
     }
 
     /// The chunk of a live block.
     pub(crate) fn live_chunk(&self, arena: &Arena, name: u32) -> Chunk
-        requires chunks { HasChunks self.now arena.now.bytes }
+        requires laid_out { IsLaidOut self.now arena.now.bytes }
+        requires name { name < 272 }
         requires live { IsSome (find_block name (heap_of self.now arena.now.bytes)) }
         ensures owned { Owned name result (chunks_of self.now arena.now.bytes) }
         ensures inside { result.at + 16 + result.size ≤ self.now.span.len }
@@ -48,13 +41,17 @@ impl Region {
         ensures { result ≡ best_gap need (gaps (heap_of self.now arena.now.bytes)) }
     {
         let mut best = None;
-        let mut at = 0;
-        while at < self.footprint {
-            let chunk = self.chunk_at(arena, at);
+        for chunk in self.chunks(arena) {
             if is_gap(chunk) {
-                best = better(need, best, Gap { at, len: chunk.len });
+                best = better(
+                    need,
+                    best,
+                    Gap {
+                        at: chunk.at,
+                        len: chunk.len,
+                    },
+                );
             }
-            at += chunk.len;
         }
         best
     }
@@ -66,14 +63,11 @@ impl Region {
     {
         let mut allocated = 0;
         let mut chunks = 0;
-        let mut at = 0;
-        while at < self.footprint {
-            let chunk = self.chunk_at(arena, at);
+        for chunk in self.chunks(arena) {
             if is_live(chunk) {
                 allocated += chunk.len - HEADER;
                 chunks += 1;
             }
-            at += chunk.len;
         }
         let overhead = HEADER * chunks;
         HeapStats {
@@ -112,11 +106,12 @@ impl Region {
         ensures { result ≡ free_from (chunks_before self.now arena.now.bytes chunk.at) }
     {
         let mut from = 0;
-        let mut at = 0;
-        while at < chunk.at {
-            let other = self.chunk_at(arena, at);
-            at += other.len;
-            from = if is_gap(other) { other.at } else { at };
+        for other in self.chunks_below(arena, chunk) {
+            from = if is_gap(other) {
+                other.at
+            } else {
+                other.at + other.len
+            };
         }
         from
     }

@@ -147,11 +147,7 @@ impl Kernel {
                     pid,
                     number,
                     arming,
-                } => {
-                    if self.fields.timers.is_present_arming(pid, number, arming) {
-                        self.fields.scheduler.give_callback(pid, number);
-                    }
-                }
+                } => self.fields.expire(pid, number, arming),
                 Job::Round => {
                     if let Some(halt) = self.fields.begin_round() {
                         return Step::Entry(halt);

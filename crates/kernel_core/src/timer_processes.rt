@@ -1,18 +1,22 @@
 //! Process 0 (etimer), which posts the timers that have run out, and process 1 (ctimer), for callback timers.
 
-ghost use Rattle.std.specs.Prelude.{◌≡◌, ◌≤◌, ◌<◌, ◌+◌, ◌^◌, true, false, length};
+ghost use Rattle.std.specs.Prelude.{◌≡◌, ◌≤◌, ◌<◌, ◌+◌, ◌^◌, true, false, length, Some};
+ghost use Rattle.process_core.specs.Requests.{called_back};
 ghost use Rattle.process_core.specs.Scheduler.{has_room};
+ghost use Rattle.process_core.specs.SchedulerView.{awaiting_nothing};
+ghost use Rattle.timer_core.specs.Names.{IsNamed};
+ghost use Rattle.timer_core.specs.declared.timer.Timer.{Timer};
 ghost use Rattle.mote_types.specs.Codes.{number_event};
 ghost use Rattle.kernel_core.specs.Code.Draws.{HasFitEvents, debt};
 ghost use Rattle.kernel_core.specs.Repeating.{times};
 ghost use Rattle.kernel_core.specs.Machine.{free_places};
 ghost use Rattle.kernel_core.specs.TimerProcesses as processes;
 ghost use Rattle.kernel_core.specs.TimerProcesses.{exited_application};
-ghost use Rattle.kernel_core.specs.Code.View.{machine_of, IsServed};
+ghost use Rattle.kernel_core.specs.Code.View.{machine_of, is_struck, IsServed};
 
 use crate::fields::KernelFields;
 use crate::kernel_processes::exited_application;
-use mote_types::event::{ETIMER, Event, Payload, TIMER};
+use mote_types::event::{ETIMER, Event, Payload, Pid, TIMER};
 use timer_core::due::Due;
 
 fn timer_event(number: u8) -> Event
@@ -78,6 +82,20 @@ impl KernelFields {
         self.post_while_room();
         if self.timers.any_due(self.clock) {
             self.scheduler.mark(ETIMER);
+        }
+    }
+
+    /// An expiry of a callback timer has come out of the queue: the callback is given, unless the timer was set again or
+    /// stopped since.
+    pub fn expire(&mut self, pid: Pid, number: u8, arming: u64)
+        requires named { IsNamed (Timer.Callback pid number) }
+        requires taken { self.old.scheduler.callback ≡ Some (pid, number) }
+        ensures struck_out { is_struck self.old.timers.armings pid.0 number arming ≡ true → self.new ≡ self.old }
+        ensures given { is_struck self.old.timers.armings pid.0 number arming ≡ false →
+            self.new ≡ record self.old { scheduler = awaiting_nothing (called_back pid.0 number self.old.scheduler.state) } }
+    {
+        if self.timers.is_present_arming(pid, number, arming) {
+            self.scheduler.give_callback(pid, number);
         }
     }
 

@@ -112,6 +112,10 @@ fn refused(refusal: Refusal) -> Stimulus {
     Stimulus::Answer(Reply::Refused(refusal))
 }
 
+fn number(number: u32) -> Stimulus {
+    Stimulus::Answer(Reply::Num(number))
+}
+
 fn given(read: &[u8]) -> Stimulus {
     Stimulus::Answer(Reply::Bytes(bytes(read)))
 }
@@ -228,7 +232,8 @@ fn writes_churn(call: Call) -> bool {
     }
 }
 
-fn check_churn(rt: &impl Abort, churn: &mut Churn) {
+/// Churn begins anew and goes through managed memory.
+fn check_managed_memory(rt: &impl Abort, churn: &mut Churn) {
     assert!(rt; matches!(churn.turn(&event(INIT)), Call::MmemAlloc(0, 10)));
     assert!(rt; matches!(churn.turn(&done()), Call::MmemAlloc(1, 20)));
     assert!(rt; matches!(churn.turn(&done()), Call::MmemAlloc(2, 30)));
@@ -236,16 +241,19 @@ fn check_churn(rt: &impl Abort, churn: &mut Churn) {
     assert!(rt; matches!(churn.turn(&done()), Call::MmemFree(0)));
     assert!(rt; matches!(churn.turn(&done()), Call::MmemRead(2, 0, 5)));
     assert!(rt; matches!(churn.turn(&given(b"churn")), Call::MmemAvail));
-    assert!(rt;
-        matches!(
-            churn.turn(&Stimulus::Answer(Reply::Num(4_044))),
-            Call::HeapAlloc(0, 20)
-        )
-    );
+}
+
+/// Then it goes through heap memory.
+fn check_heap(rt: &impl Abort, churn: &mut Churn) {
+    assert!(rt; matches!(churn.turn(&number(4_044)), Call::HeapAlloc(0, 20)));
     assert!(rt; matches!(churn.turn(&done()), Call::HeapAlloc(1, 20)));
     assert!(rt; matches!(churn.turn(&done()), Call::HeapFree(0)));
     assert!(rt; matches!(churn.turn(&done()), Call::HeapAlloc(2, 4)));
     assert!(rt; matches!(churn.turn(&done()), Call::HeapStats));
+}
+
+/// Then it goes through a pool and a list, and waits.
+fn check_pool(rt: &impl Abort, churn: &mut Churn) {
     let stats = HeapStats {
         allocated: 40,
         overhead: 32,
@@ -253,34 +261,21 @@ fn check_churn(rt: &impl Abort, churn: &mut Churn) {
         footprint: 72,
         chunks: 2,
     };
-    assert!(rt;
-        matches!(
-            churn.turn(&Stimulus::Answer(Reply::Stats(stats))),
-            Call::MembAlloc(0)
-        )
-    );
-    assert!(rt;
-        matches!(
-            churn.turn(&Stimulus::Answer(Reply::Num(0))),
-            Call::MembAlloc(0)
-        )
-    );
-    assert!(rt;
-        matches!(
-            churn.turn(&Stimulus::Answer(Reply::Num(1))),
-            Call::ListAdd(0, 1)
-        )
-    );
+    let told = Stimulus::Answer(Reply::Stats(stats));
+    assert!(rt; matches!(churn.turn(&told), Call::MembAlloc(0)));
+    assert!(rt; matches!(churn.turn(&number(0)), Call::MembAlloc(0)));
+    assert!(rt; matches!(churn.turn(&number(1)), Call::ListAdd(0, 1)));
     assert!(rt; matches!(churn.turn(&done()), Call::ListPush(0, 0)));
     assert!(rt; matches!(churn.turn(&done()), Call::ListChop(0)));
-    assert!(rt;
-        matches!(
-            churn.turn(&Stimulus::Answer(Reply::Num(1))),
-            Call::MembNumFree(0)
-        )
-    );
-    assert!(rt; matches!(churn.turn(&Stimulus::Answer(Reply::Num(14))), Call::Wait));
+    assert!(rt; matches!(churn.turn(&number(1)), Call::MembNumFree(0)));
+    assert!(rt; matches!(churn.turn(&number(14)), Call::Wait));
     assert!(rt; matches!(churn.turn(&done()), Call::Wait));
+}
+
+fn check_churn(rt: &impl Abort, churn: &mut Churn) {
+    check_managed_memory(rt, churn);
+    check_heap(rt, churn);
+    check_pool(rt, churn);
 }
 
 #[test]

@@ -16,6 +16,8 @@ mod memory_calls;
 #[cfg(test)]
 mod scheduling;
 #[cfg(test)]
+mod spoilt_lines;
+#[cfg(test)]
 mod texts;
 #[cfg(test)]
 mod timers;

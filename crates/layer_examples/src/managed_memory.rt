@@ -1,6 +1,7 @@
 //! Managed memory with its arena: the conditions of each call are looked at before it, as the kernel does.
 
 ghost use Rattle.std.specs.Prelude.{◌≤◌, ◌%◌, ◌≡◌};
+ghost use Rattle.mote_types.specs.BlockNames.{IsName};
 ghost use Rattle.mmem_core.specs.ManagedStore.{IsManagedSize};
 
 use arena_core::Arena;
@@ -55,7 +56,12 @@ impl Memory {
     fn alloc(&mut self, handle: u8, n: u32) -> Result<(), Refusal>
         requires { handle ≤ 15 }
     {
-        let key = key(handle);
+        self.alloc_as(key(handle), n)
+    }
+
+    fn alloc_as(&mut self, key: Key, n: u32) -> Result<(), Refusal>
+        requires { IsName key.0.0 key.1 }
+    {
         let _arena = &self.arena;
         if self.mmem.len_of(key).is_some() {
             return Err(Refusal::InUse);
@@ -99,7 +105,12 @@ impl Memory {
     fn read(&self, handle: u8, at: usize, len: usize) -> Result<&[u8], Refusal>
         requires { handle ≤ 15 }
     {
-        let key = key(handle);
+        self.read_as(key(handle), at, len)
+    }
+
+    fn read_as(&self, key: Key, at: usize, len: usize) -> Result<&[u8], Refusal>
+        requires { IsName key.0.0 key.1 }
+    {
         let _arena = &self.arena;
         if self.mmem.len_of(key).is_none() {
             return Err(Refusal::NotLive);
@@ -110,52 +121,17 @@ impl Memory {
         }
         Ok(&bytes[at..at + len])
     }
-
-    fn copy(&mut self, source: u8, target: u8) -> Result<(), Refusal>
-        requires source { source ≤ 15 }
-        requires target { target ≤ 15 }
-    {
-        let source = key(source);
-        let target = key(target);
-        let _arena = &self.arena;
-        let Some(from) = self.mmem.len_of(source) else {
-            return Err(Refusal::NotLive);
-        };
-        let Some(to) = self.mmem.len_of(target) else {
-            return Err(Refusal::NotLive);
-        };
-        if from > to {
-            return Err(Refusal::Range);
-        }
-        self.mmem.copy(&mut self.arena, source, target);
-        Ok(())
-    }
 }
 
-/// Lengths of 10 and 20 take 12 and 20 of 32 bytes. The second block keeps its bytes when the first one's room closes.
-#[test]
-fn refuses_by_rounded_sizes(rt: HostRuntime) -> Result<(), Fail> {
-    let mut memory = Memory::new(rt.alloc(), 32)?.ok_or("no span")?;
-    assert_eq!(rt; memory.alloc(0, 10), Ok(()));
-    assert_eq!(rt; memory.alloc(1, 20), Ok(()));
-    assert_eq!(rt; memory.alloc(2, 1), Err(Refusal::NoRoom));
-    assert_eq!(rt; memory.mmem.avail(), 0);
-    assert_eq!(rt; memory.write(1, 0, &[1, 2]), Ok(()));
-    assert_eq!(rt; memory.free(0), Ok(()));
-    assert_eq!(rt; memory.read(1, 0, 2), Ok([1, 2].as_slice()));
-    assert_eq!(rt; memory.alloc(0, 12), Ok(()));
-    assert_eq!(rt; memory.alloc(2, 1), Err(Refusal::NoRoom));
-    Ok(())
-}
-
-/// The first free moves the block of 20 bytes. Nothing lies behind the block that the second one takes away.
+/// A free moves nothing. For the next block there is no space behind the block of 20 bytes, which moves down. Nothing lies
+/// behind the block that the second free takes away.
 #[test]
 fn counts_moved_bytes(rt: HostRuntime) -> Result<(), Fail> {
     let mut memory = Memory::new(rt.alloc(), 32)?.ok_or("no span")?;
     assert_eq!(rt; memory.alloc(0, 10), Ok(()));
     assert_eq!(rt; memory.alloc(1, 20), Ok(()));
     assert_eq!(rt; memory.free(0), Ok(()));
-    assert_eq!(rt; memory.mmem.slid(), 20);
+    assert_eq!(rt; memory.mmem.slid(), 0);
     assert_eq!(rt; memory.alloc(0, 12), Ok(()));
     assert_eq!(rt; memory.mmem.slid(), 20);
     assert_eq!(rt; memory.free(0), Ok(()));
@@ -163,35 +139,40 @@ fn counts_moved_bytes(rt: HostRuntime) -> Result<(), Fail> {
     Ok(())
 }
 
+/// A block that can't be had moves nothing. One that can be had moves the blocks of 8 and 16 bytes behind the hole, which
+/// keep their bytes; its own are 0 although the last one's lay there.
 #[test]
-fn copies_to_the_front(rt: HostRuntime) -> Result<(), Fail> {
-    let mut memory = Memory::new(rt.alloc(), 4096)?.ok_or("no span")?;
-    assert_eq!(rt; memory.alloc(0, 4), Ok(()));
-    assert_eq!(rt; memory.write(0, 0, &[1, 2, 3, 4]), Ok(()));
+fn slides_where_the_end_is_too_short(rt: HostRuntime) -> Result<(), Fail> {
+    let mut memory = Memory::new(rt.alloc(), 32)?.ok_or("no span")?;
+    assert_eq!(rt; memory.alloc(0, 8), Ok(()));
     assert_eq!(rt; memory.alloc(1, 8), Ok(()));
-    assert_eq!(rt; memory.copy(0, 1), Ok(()));
-    assert_eq!(rt;
-        memory.read(1, 0, 8),
-        Ok([1, 2, 3, 4, 0, 0, 0, 0].as_slice())
-    );
-    assert_eq!(rt; memory.copy(1, 0), Err(Refusal::Range));
-    assert_eq!(rt; memory.copy(0, 0), Ok(()));
-    assert_eq!(rt; memory.alloc(0, 4), Err(Refusal::InUse));
+    assert_eq!(rt; memory.alloc(2, 16), Ok(()));
+    assert_eq!(rt; memory.write(1, 6, &[1, 2]), Ok(()));
+    assert_eq!(rt; memory.write(2, 14, &[3, 4]), Ok(()));
+    assert_eq!(rt; memory.free(0), Ok(()));
+    assert_eq!(rt; memory.mmem.slid(), 0);
+    let other = (Pid(5), 0);
+    assert_eq!(rt; memory.alloc_as(other, 9), Err(Refusal::NoRoom));
+    assert_eq!(rt; memory.mmem.slid(), 0);
+    assert_eq!(rt; memory.alloc_as(other, 8), Ok(()));
+    assert_eq!(rt; memory.mmem.slid(), 24);
+    assert_eq!(rt; memory.read_as(other, 0, 8), Ok([0; 8].as_slice()));
+    assert_eq!(rt; memory.read(1, 6, 2), Ok([1, 2].as_slice()));
+    assert_eq!(rt; memory.read(2, 14, 2), Ok([3, 4].as_slice()));
     Ok(())
 }
 
-/// A new block does not show what lay there. A range of no bytes may begin at the block's end.
+/// What a freed last block leaves is space behind the block before it, so the next one takes it although there is a hole
+/// further down.
 #[test]
-fn fresh_bytes_are_zero(rt: HostRuntime) -> Result<(), Fail> {
-    let mut memory = Memory::new(rt.alloc(), 4096)?.ok_or("no span")?;
-    assert_eq!(rt; memory.alloc(0, 0), Err(Refusal::Range));
-    assert_eq!(rt; memory.free(0), Err(Refusal::NotLive));
-    assert_eq!(rt; memory.alloc(0, 4), Ok(()));
-    assert_eq!(rt; memory.write(0, 0, &[1, 2, 3, 4]), Ok(()));
+fn a_freed_last_block_leaves_space(rt: HostRuntime) -> Result<(), Fail> {
+    let mut memory = Memory::new(rt.alloc(), 32)?.ok_or("no span")?;
+    assert_eq!(rt; memory.alloc(0, 8), Ok(()));
+    assert_eq!(rt; memory.alloc(1, 8), Ok(()));
+    assert_eq!(rt; memory.alloc(2, 16), Ok(()));
     assert_eq!(rt; memory.free(0), Ok(()));
-    assert_eq!(rt; memory.alloc(1, 4), Ok(()));
-    assert_eq!(rt; memory.read(1, 0, 4), Ok([0, 0, 0, 0].as_slice()));
-    assert_eq!(rt; memory.read(1, 4, 0), Ok([].as_slice()));
-    assert_eq!(rt; memory.read(1, 4, 1), Err(Refusal::Range));
+    assert_eq!(rt; memory.free(2), Ok(()));
+    assert_eq!(rt; memory.alloc(3, 16), Ok(()));
+    assert_eq!(rt; memory.mmem.slid(), 0);
     Ok(())
 }

@@ -1,7 +1,10 @@
 //! Lines of a script and of a transcript, as the format writes them.
 
+ghost use Rattle.std.specs.Prelude.{◌<◌};
+
 use arrayvec::ArrayVec;
 use mote_text::line::LineBuf;
+use mote_text::lines::{Lines, Taken};
 use mote_text::script::{BadLine, End, read_input};
 use mote_text::transcript::{entry_text, final_text, is_shown};
 use mote_types::call::Call;
@@ -139,6 +142,83 @@ fn lines_of_no_form(rt: HostRuntime) {
         assert_eq!(rt; ticks(line.as_bytes()), Err(BadLine), "{line:?}");
     }
     assert_eq!(rt; ticks(&[b'#'; 1_025]), Err(BadLine));
+}
+
+/// The lines of a script whose bytes come so many at a time, a bar behind each, and then what is unfinished.
+fn cut(script: &[u8], size: usize) -> ArrayVec<u8, 64>
+    requires { 0 < size }
+{
+    let mut all = ArrayVec::new();
+    let mut lines = Lines::new();
+    let mut last = Taken::More;
+    for piece in script.chunks(size) {
+        let mut rest = piece;
+        // Each take uses a byte at least.
+        for _ in 0..piece.len() {
+            if rest.is_empty() {
+                break;
+            }
+            let (used, taken) = lines.take(rest);
+            rest = &rest[used..];
+            last = taken;
+            if last == Taken::Line {
+                let _ = all.try_extend_from_slice(lines.line());
+                let _ = all.try_push(b'|');
+            }
+        }
+    }
+    if last != Taken::Line {
+        let _ = all.try_extend_from_slice(lines.line());
+    }
+    all
+}
+
+fn check_cut(rt: &impl Abort, script: &[u8], size: usize, lines: &[u8])
+    requires { 0 < size }
+{
+    assert_eq!(rt; cut(script, size).as_slice(), lines, "{size}");
+}
+
+fn check_unfinished(rt: &impl Abort, lines: &Lines, expected: &[u8]) {
+    assert_eq!(rt; lines.line(), expected);
+}
+
+#[test]
+fn the_same_lines_however_cut(rt: HostRuntime) {
+    let script = b"tick 1\n\n# x\r\ntick 22\nti";
+    let lines = b"tick 1||# x\r|tick 22|ti";
+    check_cut(&rt, script, 1, lines);
+    check_cut(&rt, script, 2, lines);
+    check_cut(&rt, script, 3, lines);
+    check_cut(&rt, script, 7, lines);
+    check_cut(&rt, script, 4_096, lines);
+    check_cut(&rt, b"\n", 1, b"|");
+    check_cut(&rt, b"", 1, b"");
+}
+
+#[test]
+fn a_line_of_1024_bytes_is_not_too_wide(rt: HostRuntime) {
+    let mut lines = Lines::new();
+    assert_eq!(rt; lines.take(&[b'#'; 1_000]), (1_000, Taken::More));
+    assert_eq!(rt; lines.take(&[b'#'; 24]), (24, Taken::More));
+    assert_eq!(rt; lines.take(b""), (0, Taken::More));
+    assert_eq!(rt; lines.take(b"\ntick 1"), (1, Taken::Line));
+    check_unfinished(&rt, &lines, &[b'#'; 1_024]);
+    assert_eq!(rt; lines.take(b"tick 1"), (6, Taken::More));
+    check_unfinished(&rt, &lines, b"tick 1");
+}
+
+#[test]
+fn nothing_is_taken_of_a_line_that_is_too_wide(rt: HostRuntime) {
+    let mut lines = Lines::new();
+    assert_eq!(rt; lines.take(&[b'#'; 1_024]), (1_024, Taken::More));
+    assert_eq!(rt; lines.take(b"#\n"), (0, Taken::TooWide));
+    check_unfinished(&rt, &lines, &[b'#'; 1_024]);
+    assert_eq!(rt; lines.take(b"\n"), (0, Taken::TooWide));
+    assert_eq!(rt; lines.take(b""), (0, Taken::TooWide));
+
+    let mut wide = Lines::new();
+    assert_eq!(rt; wide.take(&[b'#'; 1_026]), (1_024, Taken::TooWide));
 }
 
 fn bytes<const N: usize>(bytes: &[u8]) -> ArrayVec<u8, N> {

@@ -1,5 +1,7 @@
 mod Apart
 pub mod Callers
 pub mod PlaceLemmas
+mod RingLemmas
+mod Sliding
 pub mod StoreLemmas
 pub mod TableLemmas

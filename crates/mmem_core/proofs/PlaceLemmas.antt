@@ -1,12 +1,21 @@
 -- How the places change, and what the blocks take.
-use Rattle.std.proofs.Common.{◌≡◌, ◌≢◌, ℕ, zero, suc, ◌+◌, ◌-◌, ◌≤◌, ◌<◌, ◌⊎◌, inl, inr, List, [], ◌∷◌, ◌++◌, length, map, take, drop, get_or, slice_set, replicate, sum_by, Option, Some, None, nat_lt, if◌then◌else◌, ◌==◌, Bool, true, false, refl, sym, ap, ◌∙◌, arith, zero-add}
-use Rattle.std.proofs.lemmas.List.{get_or-set_same, get_or-set_other}
-use Rattle.std.proofs.lemmas.Bool.{cases_eq, cases_lt, cases_Bool, ltb-true, ltb-false, lt-ltb, le-ltb, eq-eqb, ne_eqb}
-use Rattle.std.proofs.lemmas.List.Sums.{sum_by-cons, sum_by-set}
+use Rattle.std.proofs.Common.{◌≡◌, ◌≢◌, ℕ, zero, suc, ◌+◌, ◌-◌, ◌≤◌, ◌<◌, ◌⊎◌, inl, inr, List, [], ◌∷◌, ◌++◌, length, get_or, slice_set, replicate, sum_by, Option, Some, None, if◌then◌else◌, ◌==◌, Bool, true, refl, sym, ap, ◌∙◌, subst, arith, zero-add, append_assoc}
+use Rattle.std.specs.Prelude.{Contains, IsSome, slice_get}
+use Rattle.std.specs.List.{AllByRecursion}
+use Rattle.std.proofs.lemmas.List.{get_or-set_same, get_or-set_other, append-nil}
+use Rattle.std.proofs.lemmas.List.Elements.{Contains-append_left, Contains-append_right, Contains-append_cases, Contains-push}
+use Rattle.std.proofs.lemmas.Bool.{cases_eq, cases_lt, eq-eqb}
+use Rattle.std.proofs.lemmas.List.Sums.{sum_by-cons, sum_by-set, sum_by_push}
 use Rattle.mote_types.specs.Rounding.{up4}
 use Rattle.mmem_core.specs.declared.place.Place.{Place}
-use Rattle.mmem_core.specs.Places.{place_in, room_moved, bytes_moved}
-use Rattle.mmem_core.specs.Code.Packing.{at_of, room_of, lowered_place, room_behind_gap, IsPacked}
+use Rattle.mmem_core.specs.Places.{place_in, end_of, last_end, room_moved, bytes_moved}
+use Rattle.mmem_core.specs.Code.Laid.{at_of, room_of, AreLaid, IsLaidOut, LieApart}
+use Rattle.mmem_core.specs.Code.Ring.{Avoids}
+use Rattle.mmem_core.proofs.RingLemmas.{each_joined}
+
+-- a block's length is not above what it takes
+pub len_le_room : (n : ℕ) → n ≤ up4 n
+len_le_room n = omega arith
 
 -- a name is not live in a table of none
 pub place_in-none : (n i : ℕ) → place_in (replicate n None) i ≡ None
@@ -18,33 +27,13 @@ sum-none : (n : ℕ) → sum_by room_of (replicate n None) ≡ 0
 sum-none zero = refl
 sum-none (suc n) = sum_by-cons room_of None (replicate n None) ∙ zero-add (sum_by room_of (replicate n None)) ∙ sum-none n
 
-pub IsPacked-none : (n : ℕ) → IsPacked (replicate n None) 0
-IsPacked-none n = record {
+pub IsLaidOut-none : (n size : ℕ) → IsLaidOut (replicate n None) [] 0 size
+IsLaidOut-none n size = record {
+  laid = omega arith;
+  listed = λ i live. absurd (live (place_in-none n i));
   total = sum-none n;
-  inside = λ i. rw (place_in-none n i) (omega arith);
-  apart = λ i j ne. rw (place_in-none n i) (λ l. absurd (omega arith));
-  no_empty = λ i live. absurd (live (place_in-none n i));
+  fits = omega arith;
 }
-
--- a loop that has put f over the first i elements: what it reads next, and what it leaves
-module _ {X : Type 0} (f : X → X) where
-  pub get_or-map_front : (xs : List X) (i : ℕ) (d : X) → i < length xs → get_or (map f (take i xs) ++ drop i xs) i d ≡ get_or xs i d
-  get_or-map_front [] i d l = absurd (omega arith)
-  get_or-map_front (x ∷ xs) zero d l = refl
-  get_or-map_front (x ∷ xs) (suc i) d l = get_or-map_front xs i d (omega arith)
-
-  pub set-map_front : (xs : List X) (i : ℕ) (d : X) → i < length xs → slice_set (map f (take i xs) ++ drop i xs) i (f (get_or xs i d)) ≡ map f (take (suc i) xs) ++ drop (suc i) xs
-  set-map_front [] i d l = absurd (omega arith)
-  set-map_front (x ∷ xs) zero d l = refl
-  set-map_front (x ∷ xs) (suc i) d l = ap (λ ys. f x ∷ ys) (set-map_front xs i d (omega arith))
-
-if_le : (b : Bool) (n : ℕ) → (if b then n else 0) ≤ n
-if_le true n = omega arith
-if_le false n = omega arith
-
-pub room_behind_gap_le : (gap : ℕ) (place : Option Place) → room_behind_gap gap place ≤ room_of place
-room_behind_gap_le gap None = omega arith
-room_behind_gap_le gap (Some place) = if_le (nat_lt gap place.at) (up4 place.len)
 
 -- a list of places after a change of one
 pub place_in-set_same : (places : List (Option Place)) (i : ℕ) (p : Option Place) → i < length places → place_in (slice_set places i p) i ≡ p
@@ -53,112 +42,423 @@ place_in-set_same places i p l = get_or-set_same places i p None l
 pub place_in-set_other : (places : List (Option Place)) (i j : ℕ) (p : Option Place) → j ≢ i → place_in (slice_set places i p) j ≡ place_in places j
 place_in-set_other places i j p ne = get_or-set_other places i j p None ne
 
-pub place_in-map : (f : Option Place → Option Place) (places : List (Option Place)) (i : ℕ) → f None ≡ None → place_in (map f places) i ≡ f (place_in places i)
-place_in-map f [] i e = sym e
-place_in-map f (x ∷ xs) zero e = refl
-place_in-map f (x ∷ xs) (suc i) e = place_in-map f xs i e
-
 -- a name that is live has its number in the list
 pub live_below : (places : List (Option Place)) (i : ℕ) (place : Place) → place_in places i ≡ Some place → i < length places
 live_below [] i place e = absurd (cc)
 live_below (x ∷ xs) zero place e = omega arith
 live_below (x ∷ xs) (suc i) place e = let below = live_below xs i place e in omega arith
 
--- a block's length is not above what it takes
-pub len_le_room : (n : ℕ) → n ≤ up4 n
-len_le_room n = omega arith
+room_some : (p : Option Place) → 0 < room_of p → p ≢ None
+room_some None h = absurd (omega arith)
+room_some (Some place) h = λ e. absurd (cc)
 
--- a new block behind all others
-module _ (places : List (Option Place)) (used i n : ℕ) (packed : IsPacked places used) (unused : place_in places i ≡ None) (below : i < length places) (some_bytes : 1 ≤ n) where
-  abbrev fresh : Option Place
-  fresh = Some (record { at = used; len = n })
+pub live_from_room : (p : Option Place) → 0 < room_of p → IsSome p
+live_from_room None h = absurd (omega arith)
+live_from_room (Some place) h = refl
 
-  abbrev added : List (Option Place)
-  added = slice_set places i fresh
+pub room_below : (places : List (Option Place)) (i : ℕ) → 0 < room_of (place_in places i) → i < length places
+room_below [] i h = absurd (omega arith)
+room_below (x ∷ xs) zero h = omega arith
+room_below (x ∷ xs) (suc i) h = let below = room_below xs i h in omega arith
 
-  at_new : (j : ℕ) → j ≡ i → place_in added j ≡ fresh
-  at_new j e = ap (place_in added) e ∙ place_in-set_same places i fresh below
+-- a number in a list is the first one, or a later one
+at_cases : (k x : ℕ) (xs : List ℕ) (i : ℕ) → k < length (x ∷ xs) → get_or (x ∷ xs) k i ≡ i → (x ≡ i) ⊎ Contains xs i
+at_cases zero x xs i l e = inl e
+at_cases (suc k) x xs i l e = inr (k, omega arith, e)
 
-  at_other : (j : ℕ) → j ≢ i → place_in added j ≡ place_in places j
-  at_other j ne = place_in-set_other places i j fresh ne
+contains_cases : (x : ℕ) (xs : List ℕ) (i : ℕ) → Contains (x ∷ xs) i → (x ≡ i) ⊎ Contains xs i
+contains_cases x xs i h = at_cases h.0 x xs i h.1 h.2
 
-  pub IsPacked-added : IsPacked added (used + up4 n)
-  IsPacked-added = record {
-    total = omega (arith, sum_by-set room_of places i fresh None below, ap room_of unused, packed.total);
-    inside = λ j. elim (cases_eq j i) [
-      | inl e ↦ let at = ap at_of (at_new j e) in let room = ap room_of (at_new j e) in omega arith
-      | inr ne ↦ let at = ap at_of (at_other j ne) in let room = ap room_of (at_other j ne) in omega (arith, packed.inside j)
-    ];
-    apart = λ a b ne ra rb le. elim (cases_eq a i) [
-      | inl ea ↦ elim (cases_eq b i) [
-        | inl eb ↦ absurd (ne (ea ∙ sym eb))
-        | inr nb ↦
-            let at = ap at_of (at_new a ea) in let at' = ap at_of (at_other b nb) in let room' = ap room_of (at_other b nb) in
-            absurd (omega (arith, packed.inside b))
-      ]
-      | inr na ↦
-          let at = ap at_of (at_other a na) in let room = ap room_of (at_other a na) in
-          elim (cases_eq b i) [
-            | inl eb ↦ let at' = ap at_of (at_new b eb) in omega (arith, packed.inside a)
-            | inr nb ↦
-                let at' = ap at_of (at_other b nb) in let room' = ap room_of (at_other b nb) in
-                omega (arith, packed.apart a b ne (omega arith) (omega arith) (omega arith))
-          ]
-    ];
-    no_empty = λ j live. elim (cases_eq j i) [
-      | inl e ↦ let room = ap room_of (at_new j e) in omega arith
-      | inr ne ↦ let room = ap room_of (at_other j ne) in omega (arith, packed.no_empty j (λ none. live (at_other j ne ∙ none)))
-    ];
+pub Contains-without : (us : List ℕ) (x : ℕ) (vs : List ℕ) (i : ℕ) → i ≢ x → Contains (us ++ x ∷ vs) i → Contains (us ++ vs) i
+Contains-without us x vs i ne h = elim (Contains-append_cases us (x ∷ vs) i h) [
+  | inl lower ↦ Contains-append_left us vs i lower
+  | inr here ↦ elim (contains_cases x vs i here) [ inl e ↦ absurd (ne (sym e)) | inr higher ↦ Contains-append_right us vs i higher ]
+]
+
+-- blocks that lie one behind the other
+module _ (places : List (Option Place)) where
+  abbrev at : ℕ → ℕ
+  at i = at_of (place_in places i)
+
+  abbrev room : ℕ → ℕ
+  room i = room_of (place_in places i)
+
+  pub laid_order : (low : ℕ) (xs : List ℕ) (high : ℕ) → AreLaid places low xs high → low ≤ high
+  laid_order low [] high laid = laid
+  laid_order low (x ∷ xs) high laid = omega (arith, laid.0, laid_order (at x + room x) xs high laid.2)
+
+  pub laid_from : (low low' : ℕ) (xs : List ℕ) (high : ℕ) → low' ≤ low → AreLaid places low xs high → AreLaid places low' xs high
+  laid_from low low' [] high le laid = omega (arith, laid)
+  laid_from low low' (x ∷ xs) high le laid = (omega (arith, laid.0), laid.1, laid.2)
+
+  pub laid_to : (low : ℕ) (xs : List ℕ) (high high' : ℕ) → high ≤ high' → AreLaid places low xs high → AreLaid places low xs high'
+  laid_to low [] high high' le laid = omega (arith, laid)
+  laid_to low (x ∷ xs) high high' le laid = (laid.0, laid.1, laid_to (at x + room x) xs high high' le laid.2)
+
+  -- they end where the last one does
+  pub laid_up : (low : ℕ) (xs : List ℕ) (high end : ℕ) → low ≤ end → ((i : ℕ) → at i + room i ≤ end) → AreLaid places low xs high → AreLaid places low xs end
+  laid_up low [] high end le each laid = le
+  laid_up low (x ∷ xs) high end le each laid = (laid.0, laid.1, laid_up (at x + room x) xs high end (each x) each laid.2)
+
+  pub laid_joined : (low : ℕ) (us : List ℕ) (middle : ℕ) (vs : List ℕ) (high : ℕ) → AreLaid places low us middle → AreLaid places middle vs high → AreLaid places low (us ++ vs) high
+  laid_joined low [] middle vs high lower higher = laid_from middle low vs high lower higher
+  laid_joined low (u ∷ us) middle vs high lower higher = (lower.0, lower.1, laid_joined (at u + room u) us middle vs high lower.2 higher)
+
+  pub laid_front : (low : ℕ) (us : List ℕ) (x : ℕ) (vs : List ℕ) (high : ℕ) → AreLaid places low (us ++ x ∷ vs) high → AreLaid places low us (at x)
+  laid_front low [] x vs high laid = laid.0
+  laid_front low (u ∷ us) x vs high laid = (laid.0, laid.1, laid_front (at u + room u) us x vs high laid.2)
+
+  pub laid_back : (low : ℕ) (us : List ℕ) (x : ℕ) (vs : List ℕ) (high : ℕ) → AreLaid places low (us ++ x ∷ vs) high → (0 < room x) × AreLaid places (at x + room x) vs high
+  laid_back low [] x vs high laid = (laid.1, laid.2)
+  laid_back low (u ∷ us) x vs high laid = laid_back (at u + room u) us x vs high laid.2
+
+  pub laid_in : (low : ℕ) (xs : List ℕ) (high i : ℕ) → AreLaid places low xs high → Contains xs i → (low ≤ at i) × (0 < room i) × (at i + room i ≤ high)
+  laid_in low [] high i laid h = absurd (omega (arith, h.1))
+  laid_in low (x ∷ xs) high i laid h = elim (contains_cases x xs i h) [
+    | inl e ↦
+        let up = laid_order (at x + room x) xs high laid.2 in
+        subst (λ k. (low ≤ at k) × (0 < room k) × (at k + room k ≤ high)) e (laid.0, laid.1, up)
+    | inr later ↦ let rest = laid_in (at x + room x) xs high i laid.2 later in (omega (arith, laid.0, rest.0), rest.1, rest.2)
+  ]
+
+  laid_apart : (low : ℕ) (xs : List ℕ) (high i j : ℕ) → AreLaid places low xs high → Contains xs i → Contains xs j → i ≢ j → at i ≤ at j → at i + room i ≤ at j
+  laid_apart low [] high i j laid h g ne le = absurd (omega (arith, h.1))
+  laid_apart low (x ∷ xs) high i j laid h g ne le = elim (contains_cases x xs i h) [
+    | inl e ↦ elim (contains_cases x xs j g) [
+      | inl f ↦ absurd (ne (sym e ∙ f))
+      | inr later ↦ subst (λ k. at k + room k ≤ at j) e (laid_in (at x + room x) xs high j laid.2 later).0
+    ]
+    | inr later ↦ elim (contains_cases x xs j g) [
+      | inl f ↦
+          let above = (laid_in (at x + room x) xs high i laid.2 later).0 in
+          absurd (omega (arith, laid.1, above, ap at f))
+      | inr later' ↦ laid_apart (at x + room x) xs high i j laid.2 later later' ne le
+    ]
+  ]
+
+  -- a block that lies before them all, or behind them all, or nowhere, is none of them
+  pub avoids_lower : (low : ℕ) (xs : List ℕ) (high x : ℕ) → AreLaid places low xs high → at x + room x ≤ low → 0 < room x → Avoids x xs
+  avoids_lower low [] high x laid le some = tt
+  avoids_lower low (y ∷ ys) high x laid le some =
+      ((λ e. absurd (omega (arith, laid.0, ap at e))), avoids_lower (at y + room y) ys high x laid.2 (omega (arith, laid.0)) some)
+
+  pub avoids_higher : (low : ℕ) (xs : List ℕ) (high x : ℕ) → AreLaid places low xs high → high ≤ at x → Avoids x xs
+  avoids_higher low [] high x laid le = tt
+  avoids_higher low (y ∷ ys) high x laid le =
+      let up = laid_order (at y + room y) ys high laid.2 in
+      ((λ e. absurd (omega (arith, laid.1, ap at e))), avoids_higher (at y + room y) ys high x laid.2 le)
+
+  pub avoids_none : (low : ℕ) (xs : List ℕ) (high x : ℕ) → AreLaid places low xs high → place_in places x ≡ None → Avoids x xs
+  avoids_none low [] high x laid none = tt
+  avoids_none low (y ∷ ys) high x laid none =
+      ((λ e. absurd (room_some (place_in places y) laid.1 (ap (place_in places) e ∙ none))), avoids_none (at y + room y) ys high x laid.2 none)
+
+  pub laid_sum : (low : ℕ) (xs : List ℕ) (high : ℕ) → AreLaid places low xs high → low + sum_by room xs ≤ high
+  laid_sum low [] high laid = omega (arith, laid)
+  laid_sum low (x ∷ xs) high laid = omega (arith, laid.0, sum_by-cons room x xs, laid_sum (at x + room x) xs high laid.2)
+
+-- two tables that have the same places of these names
+module _ (places places' : List (Option Place)) where
+  abbrev pub Same : List ℕ → Type 0
+  Same = AllByRecursion (λ i. place_in places' i ≡ place_in places i)
+
+  pub laid_kept : (low : ℕ) (xs : List ℕ) (high : ℕ) → Same xs → AreLaid places low xs high → AreLaid places' low xs high
+  laid_kept low [] high same laid = laid
+  laid_kept low (x ∷ xs) high same laid =
+      let later = laid_kept (at_of (place_in places x) + room_of (place_in places x)) xs high same.1 laid.2 in
+      rw same.0 (laid.0, laid.1, later)
+
+  pub sum_kept : (xs : List ℕ) → Same xs → sum_by (λ i. room_of (place_in places' i)) xs ≡ sum_by (λ i. room_of (place_in places i)) xs
+  sum_kept [] same = refl
+  sum_kept (x ∷ xs) same =
+      let new : ℕ → ℕ = λ i. room_of (place_in places' i) in let old : ℕ → ℕ = λ i. room_of (place_in places i) in
+      omega (arith, sum_by-cons new x xs, sum_by-cons old x xs, ap room_of same.0, sum_kept xs same.1)
+
+pub others_same : (places : List (Option Place)) (x : ℕ) (p : Option Place) (xs : List ℕ) → Avoids x xs → Same places (slice_set places x p) xs
+others_same places x p [] apart = tt
+others_same places x p (y ∷ ys) apart = (place_in-set_other places x y p apart.0, others_same places x p ys apart.1)
+
+-- what all blocks take is what those take that the order lists
+sum_dead : (places : List (Option Place)) → ((i : ℕ) → place_in places i ≡ None) → sum_by room_of places ≡ 0
+sum_dead [] dead = refl
+sum_dead (x ∷ xs) dead = omega (arith, sum_by-cons room_of x xs, ap room_of (dead 0), sum_dead xs (λ i. dead (suc i)))
+
+dead_or_listed : (xs : List ℕ) (i : ℕ) (p : Option Place) → (p ≢ None → Contains xs i) → (p ≡ None) ⊎ Contains xs i
+dead_or_listed xs i None h = inl refl
+dead_or_listed xs i (Some place) h = inr (h (λ e. absurd (cc)))
+
+sum_listed : (xs : List ℕ) (places : List (Option Place)) (low high : ℕ) → AreLaid places low xs high → ((i : ℕ) → place_in places i ≢ None → Contains xs i) → sum_by room_of places ≡ sum_by (λ i. room_of (place_in places i)) xs
+sum_listed [] places low high laid listed =
+    sum_dead places (λ i. elim (dead_or_listed [] i (place_in places i) (listed i)) [ inl dead ↦ dead | inr h ↦ absurd (omega (arith, h.1)) ])
+sum_listed (x ∷ xs) places low high laid listed =
+    let left = slice_set places x None in
+    let below = room_below places x laid.1 in
+    let mid = at_of (place_in places x) + room_of (place_in places x) in
+    let apart = avoids_lower places mid xs high x laid.2 (omega arith) laid.1 in
+    let same = others_same places x None xs apart in
+    let later = sum_listed xs left mid high (laid_kept places left mid xs high same laid.2)
+    (λ i live. elim (cases_eq i x) [
+      | inl e ↦ absurd (live (ap (place_in left) e ∙ place_in-set_same places x None below))
+      | inr ne ↦ elim (contains_cases x xs i (listed i (λ none. live (place_in-set_other places x i None ne ∙ none)))) [ inl e ↦ absurd (ne (sym e)) | inr h ↦ h ]
+    ]) in
+    let set = sum_by-set room_of places x None None below in
+    omega (arith, set, later, sum_kept places left xs same, sum_by-cons (λ i. room_of (place_in places i)) x xs)
+
+-- where the last block ends
+end_is : (p : Option Place) → end_of p ≡ at_of p + room_of p
+end_is None = refl
+end_is (Some place) = refl
+
+pub end_le_last : (places : List (Option Place)) (i : ℕ) → at_of (place_in places i) + room_of (place_in places i) ≤ last_end places
+end_le_last [] i = omega arith
+end_le_last (x ∷ xs) zero = omega (arith, end_is x)
+end_le_last (x ∷ xs) (suc i) = omega (arith, end_le_last xs i)
+
+pub last_le : (places : List (Option Place)) (n : ℕ) → ((i : ℕ) → at_of (place_in places i) + room_of (place_in places i) ≤ n) → last_end places ≤ n
+last_le [] n each = omega arith
+last_le (x ∷ xs) n each = omega (arith, end_is x, each 0, last_le xs n (λ i. each (suc i)))
+
+-- a block that is put behind the last one is the last one
+pub last_end-added : (places : List (Option Place)) (i n : ℕ) → i < length places → last_end (slice_set places i (Some (record { at = last_end places; len = n }))) ≡ last_end places + up4 n
+last_end-added places i n below =
+    let fresh : Option Place = Some (record { at = last_end places; len = n }) in
+    let added = slice_set places i fresh in
+    let new = place_in-set_same places i fresh below in let new_at = ap at_of new in let new_room = ap room_of new in
+    let up = last_le added (last_end places + up4 n) (λ j. elim (cases_eq j i) [
+      | inl e ↦ let same = ap (place_in added) e ∙ new in let a = ap at_of same in let r = ap room_of same in omega arith
+      | inr ne ↦ let same = place_in-set_other places i j fresh ne in let a = ap at_of same in let r = ap room_of same in omega (arith, end_le_last places j)
+    ]) in
+    omega (arith, up, end_le_last added i)
+
+module _ (places : List (Option Place)) (order : List ℕ) (used size : ℕ) (sound : IsLaidOut places order used size) where
+  listed_or_dead : (i : ℕ) → (place_in places i ≡ None) ⊎ Contains order i
+  listed_or_dead i = dead_or_listed order i (place_in places i) (sound.listed i)
+
+  ends_by : (high : ℕ) → AreLaid places 0 order high → (i : ℕ) → at_of (place_in places i) + room_of (place_in places i) ≤ high
+  ends_by high laid i = elim (listed_or_dead i) [
+    | inl dead ↦ let e = ap at_of dead in let f = ap room_of dead in omega arith
+    | inr h ↦ (laid_in places 0 order high i laid h).2
+  ]
+
+  pub used_is : used ≡ sum_by (λ i. room_of (place_in places i)) order
+  used_is = sym sound.total ∙ sum_listed order places 0 size sound.laid sound.listed
+
+  pub last_inside : last_end places ≤ size
+  last_inside = last_le places size (ends_by size sound.laid)
+
+  pub laid_to_last : AreLaid places 0 order (last_end places)
+  laid_to_last = laid_up places 0 order size (last_end places) (omega arith) (end_le_last places) sound.laid
+
+  pub used_le_last : used ≤ last_end places
+  used_le_last = omega (arith, used_is, laid_sum places 0 order (last_end places) laid_to_last)
+
+  -- the last one of the order ends where the last block ends
+  last_is : (lower : List ℕ) (x : ℕ) → order ≡ lower ++ x ∷ [] → last_end places ≡ at_of (place_in places x) + room_of (place_in places x)
+  last_is lower x e =
+      let parts : AreLaid places 0 (lower ++ x ∷ []) size = rw e at sound.laid in
+      let lies = laid_joined places 0 lower (at_of (place_in places x)) (x ∷ []) (at_of (place_in places x) + room_of (place_in places x))
+      (laid_front places 0 lower x [] size parts) (omega arith, (laid_back places 0 lower x [] size parts).0, omega arith) in
+      let all = last_le places (at_of (place_in places x) + room_of (place_in places x)) (ends_by (at_of (place_in places x) + room_of (place_in places x)) (subst (λ xs. AreLaid places 0 xs (at_of (place_in places x) + room_of (place_in places x))) (sym e) lies)) in
+      omega (arith, all, end_le_last places x)
+
+  last_of_none : order ≡ [] → last_end places ≡ 0
+  last_of_none e =
+      let none : AreLaid places 0 order 0 = subst (λ xs. AreLaid places 0 xs 0) (sym e) (omega arith) in
+      omega (arith, last_le places 0 (ends_by 0 none))
+
+  last_parted : (xs : List ℕ) (y x : ℕ) → slice_get (y ∷ xs) (length xs) ≡ Some x → (lower : List ℕ) × (y ∷ xs ≡ lower ++ x ∷ [])
+  last_parted [] y x e = ([], ap (λ k. k ∷ []) (let same : y ≡ x = cc in same))
+  last_parted (z ∷ zs) y x e = let later = last_parted zs z x e in (y ∷ later.0, ap (λ l. y ∷ l) later.1)
+
+  last_parts : (xs : List ℕ) (x : ℕ) → slice_get xs (length xs - 1) ≡ Some x → (lower : List ℕ) × (xs ≡ lower ++ x ∷ [])
+  last_parts [] x e = absurd (cc)
+  last_parts (y ∷ ys) x e = last_parted ys y x (ap (slice_get (y ∷ ys)) (omega arith) ∙ e)
+
+  empty_order : (xs : List ℕ) → slice_get xs (length xs - 1) ≡ None → xs ≡ []
+  empty_order [] e = refl
+  empty_order (y ∷ ys) e = absurd (never ys y (ap (slice_get (y ∷ ys)) (omega arith) ∙ e))
+    where
+      never : (zs : List ℕ) (z : ℕ) → slice_get (z ∷ zs) (length zs) ≡ None → ⊥
+      never [] z e = absurd (cc)
+      never (w ∷ ws) z e = never ws w e
+
+  -- the block that lies highest is live, and ends where the last one does
+  pub last_live : (x : ℕ) → slice_get order (length order - 1) ≡ Some x → IsSome (place_in places x)
+  last_live x e =
+      let parts = last_parts order x e in
+      let laid : AreLaid places 0 (parts.0 ++ x ∷ []) size = subst (λ xs. AreLaid places 0 xs size) parts.1 sound.laid in
+      live_from_room (place_in places x) (laid_back places 0 parts.0 x [] size laid).0
+
+  pub last_ends : (x : ℕ) (place : Place) → slice_get order (length order - 1) ≡ Some x → place_in places x ≡ Some place → last_end places ≡ place.at + up4 place.len
+  last_ends x place e live =
+      let parts = last_parts order x e in let a = ap at_of live in let r = ap room_of live in
+      omega (arith, last_is parts.0 x parts.1)
+
+  pub none_ends : slice_get order (length order - 1) ≡ None → last_end places ≡ 0
+  none_ends e = last_of_none (empty_order order e)
+
+  pub unlisted : (i : ℕ) → place_in places i ≡ None → Contains order i → ⊥
+  unlisted i none h = room_some (place_in places i) (laid_in places 0 order size i sound.laid h).1 none
+
+  live_room : (i : ℕ) → place_in places i ≢ None → 0 < room_of (place_in places i)
+  live_room i live = (laid_in places 0 order size i sound.laid (sound.listed i live)).1
+
+  pub LieApart-from : LieApart places size
+  LieApart-from = record {
+    inside = ends_by size sound.laid;
+    apart = λ i j ne some some' le.
+        laid_apart places 0 order size i j sound.laid
+        (sound.listed i (room_some (place_in places i) some)) (sound.listed j (room_some (place_in places j) some')) ne le;
+    no_empty = live_room;
   }
 
-if_true : {X : Type 0} (b : Bool) (x y : X) → b ≡ true → (if b then x else y) ≡ x
-if_true b x y e = ap (λ c. if c then x else y) e
+  -- a block is taken away
+  pub IsLaidOut-freed : (us : List ℕ) (x : ℕ) (vs : List ℕ) → order ≡ us ++ x ∷ vs → IsLaidOut (slice_set places x None) (us ++ vs) (used - room_of (place_in places x)) size
+  IsLaidOut-freed us x vs e =
+      let left = slice_set places x None in
+      let laid : AreLaid places 0 (us ++ x ∷ vs) size = rw e at sound.laid in
+      let here = at_of (place_in places x) in let mid = here + room_of (place_in places x) in
+      let lower = laid_front places 0 us x vs size laid in
+      let higher = laid_back places 0 us x vs size laid in
+      let below = room_below places x higher.0 in
+      let apart = each_joined (λ other. other ≢ x) us vs (avoids_higher places 0 us here x lower (omega arith)) (avoids_lower places mid vs size x higher.1 (omega arith) higher.0) in
+      let joined = laid_joined places 0 us here vs size lower (laid_from places mid here vs size (omega arith) higher.1) in
+      record {
+        laid = laid_kept places left 0 (us ++ vs) size (others_same places x None (us ++ vs) apart) joined;
+        listed = λ i live. elim (cases_eq i x) [
+          | inl f ↦ absurd (live (ap (place_in left) f ∙ place_in-set_same places x None below))
+          | inr ne ↦ Contains-without us x vs i ne (subst (λ xs. Contains xs i) e (sound.listed i (λ none. live (place_in-set_other places x i None ne ∙ none))))
+        ];
+        total = omega (arith, sum_by-set room_of places x None None below, sound.total);
+        fits = omega (arith, sound.fits);
+      }
 
-if_false : {X : Type 0} (b : Bool) (x y : X) → b ≡ false → (if b then x else y) ≡ y
-if_false b x y e = ap (λ c. if c then x else y) e
+  -- a new block behind the last one
+  pub IsLaidOut-added : (i n : ℕ) → i < length places → place_in places i ≡ None → 1 ≤ n → last_end places + up4 n ≤ size →
+      IsLaidOut (slice_set places i (Some (record { at = last_end places; len = n }))) (order ++ i ∷ []) (used + up4 n) size
+  IsLaidOut-added i n below none some_bytes room =
+      let fresh : Option Place = Some (record { at = last_end places; len = n }) in
+      let added = slice_set places i fresh in
+      let apart = avoids_none places 0 order size i sound.laid none in
+      let lower = laid_kept places added 0 order (last_end places) (others_same places i fresh order apart) laid_to_last in
+      let new = place_in-set_same places i fresh below in
+      let new_at = ap at_of new in let new_room = ap room_of new in
+      record {
+        laid = laid_joined added 0 order (last_end places) (i ∷ []) size lower (omega arith, omega arith, omega arith);
+        listed = λ j live. elim (cases_eq j i) [
+          | inl e ↦ subst (Contains (order ++ i ∷ [])) (sym e) (Contains-push order i)
+          | inr ne ↦ Contains-append_left order (i ∷ []) j (sound.listed j (λ dead. live (place_in-set_other places i j fresh ne ∙ dead)))
+        ];
+        total = omega (arith, sum_by-set room_of places i fresh None below, ap room_of none, sound.total);
+        fits = omega (arith, used_le_last);
+      }
 
--- what closing a gap makes of one place
-module _ (gap size : ℕ) where
-  pub lowered_behind : (place : Place) → gap < place.at → lowered_place gap size (Some place) ≡ Some (record { at = place.at - size; len = place.len })
-  lowered_behind place h = if_true (nat_lt gap place.at) (Some (record { at = place.at - size; len = place.len })) (Some place) (lt-ltb gap place.at h)
+-- while the blocks slide together: those that lie together already, and those that are to come
+pub record AreSliding (places : List (Option Place)) (order : List ℕ) (used size end : ℕ) (lower higher : List ℕ) : Type 0 where
+  pub parts : order ≡ lower ++ higher
+  pub together : AreLaid places 0 lower end
+  pub full : sum_by (λ i. room_of (place_in places i)) lower ≡ end
+  pub to_come : AreLaid places end higher size
+  pub listed : (i : ℕ) → place_in places i ≢ None → Contains order i
+  pub total : sum_by room_of places ≡ used
+  pub fits : used ≤ size
 
-  pub lowered_before : (place : Place) → place.at ≤ gap → lowered_place gap size (Some place) ≡ Some place
-  lowered_before place h = if_false (nat_lt gap place.at) (Some (record { at = place.at - size; len = place.len })) (Some place) (le-ltb gap place.at h)
+pub AreSliding-none : (places : List (Option Place)) (order : List ℕ) (used size : ℕ) → IsLaidOut places order used size → AreSliding places order used size 0 [] order
+AreSliding-none places order used size sound = record {
+  parts = refl;
+  together = omega arith;
+  full = refl;
+  to_come = sound.laid;
+  listed = sound.listed;
+  total = sound.total;
+  fits = sound.fits;
+}
 
-  at_of-lowered_behind : (p : Option Place) → gap < at_of p → at_of (lowered_place gap size p) ≡ at_of p - size
-  at_of-lowered_behind None h = absurd (omega arith)
-  at_of-lowered_behind (Some place) h = ap at_of (lowered_behind place h)
+module _ (places : List (Option Place)) (order : List ℕ) (used size end : ℕ) (lower : List ℕ) where
+  -- the next one slides down
+  module _ (x : ℕ) (higher : List ℕ) (place : Place) (live : place_in places x ≡ Some place) (sliding : AreSliding places order used size end lower (x ∷ higher)) where
+    abbrev lowered : Option Place
+    lowered = Some (record { at = end; len = place.len })
 
-  at_of-lowered_before : (p : Option Place) → at_of p ≤ gap → at_of (lowered_place gap size p) ≡ at_of p
-  at_of-lowered_before None h = refl
-  at_of-lowered_before (Some place) h = ap at_of (lowered_before place h)
+    pub slides_down : end ≤ place.at
+    slides_down = let e = ap at_of live in omega (arith, sliding.to_come.0)
 
-  room_if : (b : Bool) (place : Place) → room_of (if b then Some (record { at = place.at - size; len = place.len }) else Some place) ≡ up4 place.len
-  room_if true place = refl
-  room_if false place = refl
+    pub slides_inside : place.at + up4 place.len ≤ size
+    slides_inside =
+        let e = ap at_of live in let f = ap room_of live in
+        omega (arith, laid_order places (at_of (place_in places x) + room_of (place_in places x)) higher size sliding.to_come.2)
 
-  pub room_of-lowered : (p : Option Place) → room_of (lowered_place gap size p) ≡ room_of p
-  room_of-lowered None = refl
-  room_of-lowered (Some place) = room_if (nat_lt gap place.at) place
+    -- each other block lies before the end, or behind this one
+    pub slides_past : (i : ℕ) → i ≢ x → (at_of (place_in places i) + room_of (place_in places i) ≤ end) ⊎ (place.at + up4 place.len ≤ at_of (place_in places i))
+    slides_past i ne =
+        let e = ap at_of live in let f = ap room_of live in
+        let mid = at_of (place_in places x) + room_of (place_in places x) in
+        elim (dead_or_listed order i (place_in places i) (sliding.listed i)) [
+          | inl dead ↦ inl (let a = ap at_of dead in let r = ap room_of dead in omega arith)
+          | inr h ↦ elim (Contains-append_cases lower (x ∷ higher) i (subst (λ xs. Contains xs i) sliding.parts h)) [
+            | inl before ↦ inl (laid_in places 0 lower end i sliding.together before).2
+            | inr behind ↦ elim (contains_cases x higher i behind) [
+              | inl same ↦ absurd (ne (sym same))
+              | inr later ↦ inr (omega (arith, (laid_in places mid higher size i sliding.to_come.2 later).0))
+            ]
+          ]
+        ]
 
-  sum-lowered : (xs : List (Option Place)) → sum_by room_of (map (lowered_place gap size) xs) ≡ sum_by room_of xs
-  sum-lowered [] = refl
-  sum-lowered (x ∷ xs) =
-      omega (arith, sum_by-cons room_of (lowered_place gap size x) (map (lowered_place gap size) xs), sum_by-cons room_of x xs, sum-lowered xs, room_of-lowered x)
+    pub AreSliding-more : AreSliding (slice_set places x lowered) order used size (end + up4 place.len) (lower ++ x ∷ []) higher
+    AreSliding-more =
+        let moved = slice_set places x lowered in
+        let e = ap at_of live in let f = ap room_of live in
+        let here = at_of (place_in places x) in let mid = here + room_of (place_in places x) in
+        let below = live_below places x place live in
+        let apart = avoids_higher places 0 lower end x sliding.together sliding.to_come.0 in
+        let apart' = avoids_lower places mid higher size x sliding.to_come.2 (omega arith) sliding.to_come.1 in
+        let same = others_same places x lowered lower apart in
+        let new = place_in-set_same places x lowered below in
+        let new_at = ap at_of new in let new_room = ap room_of new in
+        record {
+          parts = sliding.parts ∙ sym (append_assoc lower (x ∷ []) higher);
+          together = laid_joined moved 0 lower end (x ∷ []) (end + up4 place.len) (laid_kept places moved 0 lower end same sliding.together) (omega arith, omega (arith, sliding.to_come.1), omega arith);
+          full = omega (arith, sum_by_push (λ i. room_of (place_in moved i)) lower x, sum_kept places moved lower same, sliding.full);
+          to_come = laid_kept places moved (end + up4 place.len) higher size (others_same places x lowered higher apart')
+              (laid_from places mid (end + up4 place.len) higher size (omega (arith, sliding.to_come.0)) sliding.to_come.2);
+          listed = λ i here. elim (cases_eq i x) [
+            | inl g ↦ sliding.listed i (λ none. absurd (let l = ap (place_in places) g ∙ live in cc))
+            | inr ne ↦ sliding.listed i (λ none. here (place_in-set_other places x i lowered ne ∙ none))
+          ];
+          total = omega (arith, sum_by-set room_of places x lowered None below, sliding.total);
+          fits = sliding.fits;
+        }
 
--- a block is taken away, and those behind it move down
-module _ (places : List (Option Place)) (used i : ℕ) (gap : Place) (packed : IsPacked places used) (live : place_in places i ≡ Some gap) where
-  abbrev size : ℕ
-  size = up4 gap.len
+  -- all have slid down
+  module _ (sliding : AreSliding places order used size end lower []) where
+    all_lower : order ≡ lower
+    all_lower = sliding.parts ∙ append-nil lower
 
+    laid_together : AreLaid places 0 order end
+    laid_together = subst (λ xs. AreLaid places 0 xs end) (sym all_lower) sliding.together
+
+    pub IsLaidOut-slid : IsLaidOut places order used size
+    IsLaidOut-slid = record {
+      laid = laid_to places 0 order end size sliding.to_come laid_together;
+      listed = sliding.listed;
+      total = sliding.total;
+      fits = sliding.fits;
+    }
+
+    -- what lies behind the last one is all that is free
+    pub last_is_used : last_end places ≡ used
+    last_is_used =
+        let sound = IsLaidOut-slid in
+        let whole = used_is places order used size sound ∙ ap (sum_by (λ i. room_of (place_in places i))) all_lower ∙ sliding.full in
+        omega (arith, whole, last_le places end (ends_by places order used size sound end laid_together), used_le_last places order used size sound)
+
+-- a block of a table, and the other ones
+module _ (places : List (Option Place)) (size i : ℕ) (place : Place) (lie : LieApart places size) (live : place_in places i ≡ Some place) where
   abbrev left : List (Option Place)
   left = slice_set places i None
 
-  abbrev closed : List (Option Place)
-  closed = map (lowered_place gap.at size) left
-
   below : i < length places
-  below = live_below places i gap live
+  below = live_below places i place live
 
   left_same : (j : ℕ) → j ≡ i → place_in left j ≡ None
   left_same j e = ap (place_in left) e ∙ place_in-set_same places i None below
@@ -166,36 +466,24 @@ module _ (places : List (Option Place)) (used i : ℕ) (gap : Place) (packed : I
   left_other : (j : ℕ) → j ≢ i → place_in left j ≡ place_in places j
   left_other j ne = place_in-set_other places i j None ne
 
-  gap_at : at_of (place_in places i) ≡ gap.at
-  gap_at = ap at_of live
+  pub some_size : 0 < up4 place.len
+  some_size = let g = ap room_of live in omega (arith, lie.no_empty i (λ none. absurd (let l = live in cc)))
 
-  gap_room : room_of (place_in places i) ≡ size
-  gap_room = ap room_of live
+  pub place_inside : place.at + up4 place.len ≤ size
+  place_inside = let a = ap at_of live in let r = ap room_of live in omega (arith, lie.inside i)
 
-  pub some_size : 0 < size
-  some_size = let g = gap_room in omega (arith, packed.no_empty i (λ none. absurd (let l = live in cc)))
-
-  pub gap_inside : gap.at + size ≤ used
-  gap_inside = let a = gap_at in let r = gap_room in omega (arith, packed.inside i)
-
-  pub left_inside : (j : ℕ) → at_of (place_in left j) + room_of (place_in left j) ≤ used
-  left_inside j = elim (cases_eq j i) [
-    | inl e ↦ let at = ap at_of (left_same j e) in let room = ap room_of (left_same j e) in omega arith
-    | inr ne ↦ let at = ap at_of (left_other j ne) in let room = ap room_of (left_other j ne) in omega (arith, packed.inside j)
-  ]
-
-  -- each block that is left lies before the gap, or behind it
-  side_of : (j : ℕ) (p : Option Place) → j ≢ i → place_in places j ≡ p → (at_of p + room_of p ≤ gap.at) ⊎ (gap.at + size ≤ at_of p)
+  -- each other block lies before it, or behind
+  side_of : (j : ℕ) (p : Option Place) → j ≢ i → place_in places j ≡ p → (at_of p + room_of p ≤ place.at) ⊎ (place.at + up4 place.len ≤ at_of p)
   side_of j None ne e = inl (omega arith)
-  side_of j (Some place) ne e =
-      let at = ap at_of e in let room = ap room_of e in let a = gap_at in let r = gap_room in let s = some_size in
-      let positive : 0 < room_of (place_in places j) = packed.no_empty j (λ none. absurd (cc)) in
-      elim (cases_lt gap.at place.at) [
-        | inl behind ↦ inr (omega (arith, packed.apart i j (λ f. ne (sym f)) (omega arith) (omega arith) (omega arith)))
-        | inr before ↦ inl (omega (arith, packed.apart j i ne (omega arith) (omega arith) (omega arith)))
+  side_of j (Some other) ne e =
+      let at = ap at_of e in let room = ap room_of e in let a = ap at_of live in let r = ap room_of live in let s = some_size in
+      let positive : 0 < room_of (place_in places j) = lie.no_empty j (λ none. absurd (cc)) in
+      elim (cases_lt place.at other.at) [
+        | inl behind ↦ inr (omega (arith, lie.apart i j (λ f. ne (sym f)) (omega arith) (omega arith) (omega arith)))
+        | inr before ↦ inl (omega (arith, lie.apart j i ne (omega arith) (omega arith) (omega arith)))
       ]
 
-  pub sides : (j : ℕ) → (at_of (place_in left j) + room_of (place_in left j) ≤ gap.at) ⊎ (gap.at + size ≤ at_of (place_in left j))
+  pub sides : (j : ℕ) → (at_of (place_in left j) + room_of (place_in left j) ≤ place.at) ⊎ (place.at + up4 place.len ≤ at_of (place_in left j))
   sides j = elim (cases_eq j i) [
     | inl e ↦ inl (let at = ap at_of (left_same j e) in let room = ap room_of (left_same j e) in omega arith)
     | inr ne ↦
@@ -203,57 +491,8 @@ module _ (places : List (Option Place)) (used i : ℕ) (gap : Place) (packed : I
         elim (side_of j (place_in places j) ne refl) [ inl before ↦ inl (omega arith) | inr behind ↦ inr (omega arith) ]
   ]
 
-  pub behind_gap : (j : ℕ) → gap.at < at_of (place_in left j) → size ≤ at_of (place_in left j)
-  behind_gap j h = elim (sides j) [ inl before ↦ absurd (omega arith) | inr behind ↦ omega arith ]
-
-  left_apart : (a b : ℕ) → a ≢ b → 0 < room_of (place_in left a) → 0 < room_of (place_in left b) → at_of (place_in left a) ≤ at_of (place_in left b) → at_of (place_in left a) + room_of (place_in left a) ≤ at_of (place_in left b)
-  left_apart a b ne ra rb le = elim (cases_eq a i) [
-    | inl ea ↦ absurd (let room = ap room_of (left_same a ea) in omega arith)
-    | inr na ↦ elim (cases_eq b i) [
-      | inl eb ↦ absurd (let room = ap room_of (left_same b eb) in omega arith)
-      | inr nb ↦
-          let at = ap at_of (left_other a na) in let room = ap room_of (left_other a na) in
-          let at' = ap at_of (left_other b nb) in let room' = ap room_of (left_other b nb) in
-          omega (arith, packed.apart a b ne (omega arith) (omega arith) (omega arith))
-    ]
-  ]
-
-  closed_at : (j : ℕ) → place_in closed j ≡ lowered_place gap.at size (place_in left j)
-  closed_at j = place_in-map (lowered_place gap.at size) left j refl
-
-  closed_room : (j : ℕ) → room_of (place_in closed j) ≡ room_of (place_in left j)
-  closed_room j = ap room_of (closed_at j) ∙ room_of-lowered gap.at size (place_in left j)
-
-  -- where a block lies once the gap is closed
-  at_closed : (j : ℕ) → ((at_of (place_in left j) + room_of (place_in left j) ≤ gap.at) × (at_of (place_in closed j) ≡ at_of (place_in left j))) ⊎ ((gap.at + size ≤ at_of (place_in left j)) × (at_of (place_in closed j) + size ≡ at_of (place_in left j)))
-  at_closed j = elim (sides j) [
-    | inl before ↦ inl (before, ap at_of (closed_at j) ∙ at_of-lowered_before gap.at size (place_in left j) (omega arith))
-    | inr behind ↦
-        let s = some_size in
-        let is = ap at_of (closed_at j) ∙ at_of-lowered_behind gap.at size (place_in left j) (omega arith) in
-        inr (behind, omega arith)
-  ]
-
-  pub IsPacked-closed : IsPacked closed (used - size)
-  IsPacked-closed = record {
-    total = omega (arith, sum-lowered gap.at size left, sum_by-set room_of places i None None below, gap_room, packed.total);
-    inside = λ j.
-        let room = closed_room j in let g = gap_inside in let within = left_inside j in
-        elim (at_closed j) [ inl before ↦ omega (arith, before.0, before.1) | inr behind ↦ omega (arith, behind.0, behind.1) ];
-    apart = λ a b ne ra rb le.
-        let room = closed_room a in let room' = closed_room b in
-        let ordered = left_apart a b ne (omega arith) (omega arith) in
-        elim (at_closed a) [
-          | inl before ↦ elim (at_closed b) [ inl before' ↦ omega (arith, before.0, before.1, before'.0, before'.1, ordered (omega (arith, before.1, before'.1))) | inr behind' ↦ omega (arith, before.0, before.1, behind'.0, behind'.1) ]
-          | inr behind ↦ elim (at_closed b) [ inl before' ↦ absurd (omega (arith, behind.0, behind.1, before'.0, before'.1)) | inr behind' ↦ omega (arith, behind.0, behind.1, behind'.0, behind'.1, ordered (omega (arith, behind.1, behind'.1))) ]
-        ];
-    no_empty = λ j here. elim (cases_eq j i) [
-      | inl e ↦ absurd (here (closed_at j ∙ ap (lowered_place gap.at size) (left_same j e)))
-      | inr ne ↦
-          let room = closed_room j in let same = ap room_of (left_other j ne) in
-          omega (arith, packed.no_empty j (λ none. here (closed_at j ∙ ap (lowered_place gap.at size) (left_other j ne ∙ none))))
-    ];
-  }
+if_true : {X : Type 0} (b : Bool) (x y : X) → b ≡ true → (if b then x else y) ≡ x
+if_true b x y e = ap (λ c. if c then x else y) e
 
 -- how many bytes a change of the places moves
 room_moved-same : (p : Option Place) → room_moved p p ≡ 0
@@ -264,40 +503,25 @@ pub bytes_moved-same : (xs : List (Option Place)) → bytes_moved xs xs ≡ 0
 bytes_moved-same [] = refl
 bytes_moved-same (x ∷ xs) = omega (arith, room_moved-same x, bytes_moved-same xs)
 
-pub bytes_moved-added : (xs : List (Option Place)) (i : ℕ) (p : Option Place) → place_in xs i ≡ None → bytes_moved xs (slice_set xs i p) ≡ 0
-bytes_moved-added [] i p e = refl
-bytes_moved-added (x ∷ xs) zero p e = omega (arith, ap (λ q. room_moved q p) e, bytes_moved-same xs)
-bytes_moved-added (x ∷ xs) (suc i) p e = omega (arith, room_moved-same x, bytes_moved-added xs i p e)
+room_moved-none : (p : Option Place) → room_moved p None ≡ 0
+room_moved-none None = refl
+room_moved-none (Some place) = refl
 
-module _ (gap size : ℕ) (some_bytes : 0 < size) where
-  room_moved-lowered : (p : Option Place) → (gap < at_of p → size ≤ at_of p) → room_moved p (lowered_place gap size p) ≡ room_behind_gap gap p
-  room_moved-lowered None h = refl
-  room_moved-lowered (Some place) h = elim (cases_Bool (nat_lt gap place.at)) [
-    | inl t ↦
-        let lt : gap < place.at = ltb-true gap place.at t in let low = h lt in
-        let ne : place.at ≢ place.at - size = λ same. absurd (omega (arith, same)) in
-        ap (room_moved (Some place)) (lowered_behind gap size place lt)
-        ∙ if_false (place.at == place.at - size) 0 (up4 place.len) (ne_eqb place.at (place.at - size) ne)
-        ∙ sym (if_true (nat_lt gap place.at) (up4 place.len) 0 t)
-    | inr f ↦
-        let le : place.at ≤ gap = ltb-false gap place.at f in
-        ap (room_moved (Some place)) (lowered_before gap size place le)
-        ∙ room_moved-same (Some place)
-        ∙ sym (if_false (nat_lt gap place.at) (up4 place.len) 0 f)
-  ]
+-- a block that is taken away moves nothing, and a new one neither
+pub bytes_moved-freed : (xs : List (Option Place)) (i : ℕ) → bytes_moved xs (slice_set xs i None) ≡ 0
+bytes_moved-freed [] i = refl
+bytes_moved-freed (x ∷ xs) zero = omega (arith, room_moved-none x, bytes_moved-same xs)
+bytes_moved-freed (x ∷ xs) (suc i) = omega (arith, room_moved-same x, bytes_moved-freed xs i)
 
-  bytes_moved-lowered : (xs : List (Option Place)) → ((j : ℕ) → gap < at_of (place_in xs j) → size ≤ at_of (place_in xs j)) → bytes_moved xs (map (lowered_place gap size) xs) ≡ sum_by (room_behind_gap gap) xs
-  bytes_moved-lowered [] h = refl
-  bytes_moved-lowered (x ∷ xs) h =
-      omega (arith, room_moved-lowered x (h 0), bytes_moved-lowered xs (λ j. h (suc j)), sum_by-cons (room_behind_gap gap) x xs)
+pub bytes_moved-added : (xs ys : List (Option Place)) (i : ℕ) (p : Option Place) → place_in xs i ≡ None → bytes_moved xs (slice_set ys i p) ≡ bytes_moved xs ys
+bytes_moved-added [] ys i p e = refl
+bytes_moved-added (x ∷ xs) [] i p e = refl
+bytes_moved-added (x ∷ xs) (y ∷ ys) zero p e = omega (arith, ap (λ q. room_moved q p) e, ap (λ q. room_moved q y) e)
+bytes_moved-added (x ∷ xs) (y ∷ ys) (suc i) p e = omega (arith, bytes_moved-added xs ys i p e)
 
-  room_moved-none : (p : Option Place) → room_moved p None ≡ 0
-  room_moved-none None = refl
-  room_moved-none (Some place) = refl
-
-  pub bytes_moved-closed : (xs : List (Option Place)) (i : ℕ) → ((j : ℕ) → gap < at_of (place_in (slice_set xs i None) j) → size ≤ at_of (place_in (slice_set xs i None) j)) → bytes_moved xs (map (lowered_place gap size) (slice_set xs i None)) ≡ sum_by (room_behind_gap gap) (slice_set xs i None)
-  bytes_moved-closed [] i h = refl
-  bytes_moved-closed (x ∷ xs) zero h =
-      omega (arith, room_moved-none x, bytes_moved-lowered xs (λ j. h (suc j)), sum_by-cons (room_behind_gap gap) None xs)
-  bytes_moved-closed (x ∷ xs) (suc i) h =
-      omega (arith, room_moved-lowered x (h 0), bytes_moved-closed xs i (λ j. h (suc j)), sum_by-cons (room_behind_gap gap) x (slice_set xs i None))
+-- one more block has moved
+pub bytes_moved-more : (xs ys : List (Option Place)) (i : ℕ) (p : Option Place) → i < length ys → place_in ys i ≡ place_in xs i → bytes_moved xs (slice_set ys i p) ≡ bytes_moved xs ys + room_moved (place_in xs i) p
+bytes_moved-more [] ys i p l e = refl
+bytes_moved-more (x ∷ xs) [] i p l e = absurd (omega arith)
+bytes_moved-more (x ∷ xs) (y ∷ ys) zero p l e = omega (arith, ap (room_moved x) e, room_moved-same x)
+bytes_moved-more (x ∷ xs) (y ∷ ys) (suc i) p l e = omega (arith, bytes_moved-more xs ys i p (omega arith) e)

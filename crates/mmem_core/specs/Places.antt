@@ -1,11 +1,21 @@
--- The places of the blocks in the span, and how many bytes a change of them moves.
-use Rattle.std.specs.Prelude.{ℕ, ◌+◌, List, [], ◌∷◌, Option, Some, None, get_or, if◌then◌else◌, ◌==◌}
+-- The places of the blocks in the span, where the last one ends, and how many bytes a change of the places moves.
+use Rattle.std.specs.Prelude.{ℕ, ◌+◌, max, List, [], ◌∷◌, Option, Some, None, get_or, if◌then◌else◌, ◌==◌}
 use Rattle.mote_types.specs.Rounding.{up4}
 use Rattle.mmem_core.specs.declared.place.Place.{Place}
 
 -- the place of the name with this number, if it is live
 abbrev pub place_in : List (Option Place) → ℕ → Option Place
 place_in places i = get_or places i None
+
+-- where a block ends that takes its length, rounded up
+abbrev pub end_of : Option Place → ℕ
+end_of None = 0
+end_of (Some place) = place.at + up4 place.len
+
+-- where the last block ends; 0 if none is live. What lies behind it is free
+abbrev pub last_end : List (Option Place) → ℕ
+last_end [] = 0
+last_end (place ∷ places) = max (end_of place) (last_end places)
 
 -- what a block takes whose place changed: its length, rounded up
 abbrev pub room_moved : Option Place → Option Place → ℕ

@@ -1,10 +1,12 @@
 //! Managed memory: blocks behind handles, which slide together so that no room is lost to holes.
 //!
 //! Its users see a map from handles of processes to bytes. Where a block lies, and that it moves, shows in `Mmem::slid`
-//! alone. The blocks lie without gaps here: each free slides all later ones down at once.
+//! alone. A freed block leaves a hole. A new one comes behind the last; only where the space there is too short, all blocks
+//! slide together first.
 #![tactic(auto)]
 
 mod mmem;
+mod order;
 mod place;
 
 pub use mmem::Mmem;

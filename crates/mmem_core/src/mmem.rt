@@ -1,11 +1,13 @@
 //! The handle table, and the calls on blocks.
 
-ghost use Rattle.std.specs.Prelude.{◌≡◌, ℕ, List, ◌+◌, ◌≤◌, ◌<◌, ◌↔◌, length, IsNone, IfNone, OnSome, IsSome, IsSomeAnd, Some, None};
+ghost use Rattle.std.specs.Prelude.{◌≡◌, ℕ, List, ◌+◌, ◌≤◌, ◌<◌, ◌↔◌, length, slice_set, IsNone, IfNone, IfSome, OnSome, IsSome, IsSomeAnd, Some, None};
 ghost use Rattle.mote_types.specs.Rounding.{up4};
+ghost use Rattle.mote_types.specs.BlockNames as names;
 ghost use Rattle.mote_types.specs.BlockNames.{IsName};
 ghost use Rattle.mmem_core.specs.ManagedStore.{IsManagedSize, empty_store, block_of, bytes_of, length_of, free, allocated, freed, with_bytes, copied};
 
-use crate::place::{Place, close_gap, rounded};
+use crate::order::Order;
+use crate::place::{Place, rounded};
 use arena_core::{Arena, Span};
 use mote_types::block_name::{Key, NAMES, number_of};
 use std::marker::Model;
@@ -17,25 +19,27 @@ use std::marker::Model;
 pub struct Mmem {
     span: Span,
     places: [Option<Place>; NAMES],
+    order: Order,
     used: u32,
     slid: u64,
 }
 
 impl Model for Mmem {
-    ghost use Rattle.std.specs.Prelude.{◌≤◌};
-    ghost use Rattle.mmem_core.specs.Code.Packing.{IsPacked};
+    ghost use Rattle.std.specs.Prelude.{◌≡◌, ◌≤◌, length};
+    ghost use Rattle.mmem_core.specs.Code.Laid.{IsLaidOut, LieApart};
     ghost use Rattle.mmem_core.specs.Table.{Table};
 
     ghost Value = { Table };
 
     ghost view = { λ m. record { span = m.span; places = m.places; slid = m.slid } };
 
-    ghost invariant = { λ m. IsPacked m.places m.used × (m.used ≤ m.span.len) × (m.span.len ≤ 65536) };
+    ghost invariant = { λ m. IsLaidOut m.places m.order m.used m.span.len × LieApart m.places m.span.len × (m.span.len ≤ 65536) };
 }
 
 impl Mmem {
+    ghost use Rattle.mmem_core.specs.Places.{bytes_moved, last_end};
     ghost use Rattle.mmem_core.specs.Table.{store_of, IsWithin, KeepsToSpan, CountsMoved};
-    ghost use Rattle.mmem_core.specs.Separation.{BlocksLieApart};
+    ghost use Rattle.mmem_core.specs.Separation.{BlocksLieApart, place_of};
 
     /// Managed memory without a block, over a span of 4 to 65,536 bytes, a multiple of 4.
     pub fn new(span: Span) -> Mmem
@@ -47,6 +51,7 @@ impl Mmem {
         Mmem {
             span,
             places: [None; NAMES],
+            order: Order::new(),
             used: 0,
             slid: 0,
         }
@@ -54,6 +59,8 @@ impl Mmem {
 
     /// Gives a name that is not live a block of `n` bytes, all 0. `None` exactly where `n`, rounded up to a multiple of 4,
     /// is more than what is free; then nothing changes.
+    ///
+    /// The block comes behind the last one. Where the space there is too short, all blocks slide together first.
     pub fn alloc(&mut self, arena: &mut Arena, key: Key, n: u32) -> Option<()>
         requires named { IsName key.0.0 key.1 }
         requires within { IsWithin self.old arena.old.bytes }
@@ -64,12 +71,85 @@ impl Mmem {
         ensures block { OnSome result (store_of self.new arena.new.bytes ≡ allocated key.0.0 key.1 n (store_of self.old arena.old.bytes)) }
         ensures rest { KeepsToSpan self.old self.new arena.old arena.new }
         ensures slid { CountsMoved self.old self.new }
+        ensures still { last_end self.old.places + up4 n ≤ self.old.span.len → bytes_moved self.old.places self.new.places ≡ 0 }
+        ensures together { 0 < bytes_moved self.old.places self.new.places → last_end self.new.places + free (store_of self.new arena.new.bytes) ≤ self.new.span.len }
+        ensures last { IfSome result (λ _. IsSomeAnd (place_of key.0.0 key.1 self.new) (λ place. last_end self.new.places ≡ place.at + up4 n)) }
     {
         let size = rounded(n);
         if ((self.span.len - self.used) as u64) < size {
             return None;
         }
-        let at = self.used;
+        self.make_room(arena, size as u32);
+        self.put_last(arena, key, n);
+        Some(())
+    }
+
+    /// Where the last block ends.
+    fn end(&self) -> u32
+        ensures end { result ≡ last_end self.now.places }
+        ensures inside { result ≤ self.now.span.len }
+    {
+        match self.order.last() {
+            Some(number) => {
+                let place = self.places[number].unwrap();
+                place.at + rounded(place.len) as u32
+            }
+            None => 0,
+        }
+    }
+
+    /// Sees to it that `size` bytes behind the last block are free: where they aren't, all blocks slide together.
+    fn make_room(&mut self, arena: &mut Arena, size: u32)
+        requires within { IsWithin self.old arena.old.bytes }
+        requires room { size ≤ free (store_of self.old arena.old.bytes) }
+        ensures room { last_end self.new.places + size ≤ self.new.span.len }
+        ensures blocks { store_of self.new arena.new.bytes ≡ store_of self.old arena.old.bytes }
+        ensures rest { KeepsToSpan self.old self.new arena.old arena.new }
+        ensures slid { CountsMoved self.old self.new }
+        ensures still { last_end self.old.places + size ≤ self.old.span.len → bytes_moved self.old.places self.new.places ≡ 0 }
+        ensures together { 0 < bytes_moved self.old.places self.new.places → last_end self.new.places + free (store_of self.new arena.new.bytes) ≤ self.new.span.len }
+    {
+        if self.span.len - self.end() < size {
+            self.slide_together(arena);
+        }
+    }
+
+    /// Slides all blocks together, from the span's start on and in the order of their places.
+    fn slide_together(&mut self, arena: &mut Arena)
+        requires { IsWithin self.old arena.old.bytes }
+        ensures room { last_end self.new.places + free (store_of self.new arena.new.bytes) ≤ self.new.span.len }
+        ensures blocks { store_of self.new arena.new.bytes ≡ store_of self.old arena.old.bytes }
+        ensures rest { KeepsToSpan self.old self.new arena.old arena.new }
+        ensures slid { CountsMoved self.old self.new }
+    {
+        let mut end = 0;
+        let mut next = self.order.first();
+        while let Some(number) = next {
+            let place = self.places[number].unwrap();
+            let moved = place.slide_down(arena, self.span, end);
+            self.places[number] = Some(place.moved_to(end));
+            self.slid = self.slid.saturating_add(moved);
+            end += rounded(place.len) as u32;
+            next = self.order.next(number);
+        }
+    }
+
+    /// Puts a new block of zeros behind the last one.
+    fn put_last(&mut self, arena: &mut Arena, key: Key, n: u32)
+        requires named { IsName key.0.0 key.1 }
+        requires within { IsWithin self.old arena.old.bytes }
+        requires unused { block_of key.0.0 key.1 (store_of self.old arena.old.bytes) ≡ None }
+        requires some_bytes { 1 ≤ n }
+        requires room { last_end self.old.places + up4 n ≤ self.old.span.len }
+        ensures block { store_of self.new arena.new.bytes ≡ allocated key.0.0 key.1 n (store_of self.old arena.old.bytes) }
+        ensures place { self.new.places ≡ slice_set self.old.places (names.number_of key.0.0 key.1) (Some (record { at = last_end self.old.places; len = n })) }
+        ensures last { IsSomeAnd (place_of key.0.0 key.1 self.new) (λ place. last_end self.new.places ≡ place.at + up4 n) }
+        ensures end { last_end self.new.places ≡ last_end self.old.places + up4 n }
+        ensures rest { KeepsToSpan self.old self.new arena.old arena.new }
+        ensures slid { self.new.slid ≡ self.old.slid }
+    {
+        let at = self.end();
+        let number = number_of(key);
         arena.fill(
             Span {
                 at: self.span.at + at,
@@ -77,12 +157,12 @@ impl Mmem {
             },
             0,
         );
-        self.places[number_of(key)] = Some(Place { at, len: n });
-        self.used += size as u32;
-        Some(())
+        self.places[number] = Some(Place { at, len: n });
+        self.order.append(number);
+        self.used += rounded(n) as u32;
     }
 
-    /// Takes a name's block away, and moves all later ones down into its room.
+    /// Takes a name's block away, which leaves a hole. No block moves.
     pub fn free(&mut self, arena: &mut Arena, key: Key)
         requires named { IsName key.0.0 key.1 }
         requires within { IsWithin self.old arena.old.bytes }
@@ -90,20 +170,14 @@ impl Mmem {
         ensures block { store_of self.new arena.new.bytes ≡ freed key.0.0 key.1 (store_of self.old arena.old.bytes) }
         ensures rest { KeepsToSpan self.old self.new arena.old arena.new }
         ensures slid { CountsMoved self.old self.new }
+        ensures still { (bytes_moved self.old.places self.new.places ≡ 0) × (arena.new ≡ arena.old) }
     {
+        let _ = arena;
         let number = number_of(key);
-        let gap = self.places[number].unwrap();
-        let size = rounded(gap.len) as u32;
-        let later = gap.at + size;
-        arena.slide(
-            self.span.at + later,
-            self.span.at + gap.at,
-            self.used - later,
-        );
+        let place = self.places[number].unwrap();
+        self.order.remove(number);
         self.places[number] = None;
-        let moved = close_gap(&mut self.places, gap.at, size);
-        self.used -= size;
-        self.slid = self.slid.saturating_add(moved);
+        self.used -= rounded(place.len) as u32;
     }
 
     /// The bytes of a name's block.

@@ -1,9 +1,11 @@
-//! Where the blocks lie, and what a free does to that.
+//! Where a block lies, and how it moves.
 
-ghost use Rattle.std.specs.Prelude.{◌≡◌, ℕ, ◌+◌, ◌≤◌, ◌<◌, length, map, sum_by};
+ghost use Rattle.std.specs.Prelude.{◌≡◌, ◌+◌, ◌≤◌, length, slice_range, Some};
 ghost use Rattle.mote_types.specs.Rounding.{up4};
-ghost use Rattle.mmem_core.specs.Places.{place_in};
-ghost use Rattle.mmem_core.specs.Code.Packing.{at_of, room_of, lowered_place, room_behind_gap};
+ghost use Rattle.arena_core.specs.Contents.{contents};
+ghost use Rattle.arena_core.specs.Written.{written};
+
+use arena_core::{Arena, Span};
 
 /// Where a block lies: so many bytes from the span's start, and how long it is. It takes its length rounded up.
 #[derive(Clone, Copy, Drop)]
@@ -19,42 +21,29 @@ pub fn rounded(n: u32) -> u64
     (n as u64 + 3) / 4 * 4
 }
 
-/// Where a place is once the gap of `size` bytes at `gap` is closed: a later one moves down by as many.
-fn lowered(place: Option<Place>, gap: u32, size: u32) -> Option<Place>
-    requires { gap < at_of place → size ≤ at_of place }
-    ensures { result ≡ lowered_place gap size place }
-{
-    place.map(|place| if place.at > gap {
-        Place {
-            at: place.at - size,
-            len: place.len,
-        }
-    } else {
-        place
-    })
-}
+impl Place {
+    ghost use Rattle.mmem_core.specs.Places.{room_moved};
 
-/// How many bytes a place behind the gap takes.
-fn room_behind(place: Option<Place>, gap: u32) -> u64
-    ensures { result ≡ room_behind_gap gap place }
-{
-    place
-        .filter(|place| place.at > gap)
-        .map_or(0, |place| rounded(place.len))
-}
-
-/// Closes a gap of `size` bytes at `gap`: each later place moves down by as many. Answers how many bytes that moves,
-/// the blocks' lengths rounded up.
-pub fn close_gap(places: &mut [Option<Place>], gap: u32, size: u32) -> u64
-    requires behind { (i : ℕ) → gap < at_of (place_in places.old i) → size ≤ at_of (place_in places.old i) }
-    requires room { sum_by room_of places.old ≤ 65536 }
-    ensures places { places.new ≡ map (lowered_place gap size) places.old }
-    ensures moved { result ≡ sum_by (room_behind_gap gap) places.old }
-{
-    let mut moved = 0;
-    for place in places.iter_mut() {
-        moved += room_behind(*place, gap);
-        *place = lowered(*place, gap, size);
+    /// The same block at another place.
+    pub(crate) fn moved_to(self, at: u32) -> Place
+        ensures { result ≡ record { at = at; len = self.len } }
+    {
+        Place { at, len: self.len }
     }
-    moved
+
+    /// Moves the block's bytes down to another place in the span. Answers how many bytes that moves, its length rounded up;
+    /// none if it lies there already.
+    pub(crate) fn slide_down(self, arena: &mut Arena, span: Span, to: u32) -> u64
+        requires within { span.at + span.len ≤ length arena.old.bytes }
+        requires inside { self.at + self.len ≤ span.len }
+        requires down { to ≤ self.at }
+        ensures bytes { arena.new ≡ contents (written arena.old.bytes (span.at + to) (slice_range arena.old.bytes (span.at + self.at) (span.at + self.at + self.len))) arena.old.carved }
+        ensures moved { result ≡ room_moved (Some self) (Some (record { at = to; len = self.len })) }
+    {
+        if to == self.at {
+            return 0;
+        }
+        arena.slide(span.at + self.at, span.at + to, self.len);
+        rounded(self.len)
+    }
 }

@@ -1,1 +1,3 @@
+mod Boxed
+mod Matches
 mod ReadNames

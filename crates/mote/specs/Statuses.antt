@@ -1,5 +1,8 @@
 -- The statuses that the program exits with, and what it tells on standard error.
-use Rattle.std.specs.Prelude.{◌≡◌, ℕ, List, ◌++◌, codes, Result, Ok, Err}
+use Rattle.std.specs.Prelude.{◌≡◌, ◌⊎◌, ⊤, ℕ, List, ◌++◌, codes, Option, Some, None, Result, Ok, Err}
+use Rattle.clap.specs.Words.{kind_of}
+use Rattle.clap.specs.declared.error.Error.{Error}
+use Rattle.clap.specs.declared.error.kind.ErrorKind.{ErrorKind}
 use Rattle.mote_types.specs.declared.fault.BootFault.{BootFault}
 use Rattle.mote_text.specs.declared.script.End.{End}
 use Rattle.mote_kit.specs.declared.fault.MoteFault.{MoteFault}
@@ -12,9 +15,11 @@ status_of_end End.Halted = 3
 status_of_end End.TooLong = 4
 
 abbrev pub status_of_failure : Failure → ℕ
+status_of_failure (Failure.Request text) = 0
 status_of_failure Failure.Read = 5
 status_of_failure Failure.Write = 6
 status_of_failure Failure.NotText = 64
+status_of_failure (Failure.Words text) = 64
 status_of_failure (Failure.NoApplication name) = 64
 status_of_failure Failure.TooManyApplications = 64
 status_of_failure Failure.BadSizes = 64
@@ -25,19 +30,43 @@ abbrev pub status_of_outcome : Result End Failure → ℕ
 status_of_outcome (Ok end) = status_of_end end
 status_of_outcome (Err failure) = status_of_failure failure
 
+-- how a run that was begun can fail
+abbrev pub IsRunFailure : Failure → Type 0
+IsRunFailure Failure.Read = ⊤
+IsRunFailure Failure.Write = ⊤
+IsRunFailure Failure.OutOfMemory = ⊤
+IsRunFailure _ = ⊥
+
+-- what the program comes to where it was refused a mote: what was asked for is written, and all else stays
+abbrev pub IsAnswerTo : Failure → Result End Failure → Type 0
+IsAnswerTo (Failure.Request text) result = (result ≡ Ok End.Finished) ⊎ (result ≡ Err Failure.Write)
+IsAnswerTo failure result = result ≡ Err failure
+
 -- the statuses that there are
 abbrev pub IsStatus : ℕ → Type 0
 IsStatus status = (outcome : Result End Failure) × (status ≡ status_of_outcome outcome)
 
--- the line on standard error, without its end
-abbrev pub failure_text : Failure → List ℕ
-failure_text Failure.Read = codes "mote: read failed"
-failure_text Failure.Write = codes "mote: write failed"
-failure_text Failure.NotText = codes "mote: a word is not text"
-failure_text (Failure.NoApplication name) = codes "mote: no application " ++ name.now
-failure_text Failure.TooManyApplications = codes "mote: too many applications"
-failure_text Failure.BadSizes = codes "mote: bad sizes"
-failure_text Failure.OutOfMemory = codes "mote: out of memory"
+-- the line on standard error, without its end; the parser's texts are its own
+abbrev pub failure_text : Failure → Option (List ℕ)
+failure_text (Failure.Request text) = None
+failure_text (Failure.Words text) = None
+failure_text Failure.Read = Some (codes "mote: read failed")
+failure_text Failure.Write = Some (codes "mote: write failed")
+failure_text Failure.NotText = Some (codes "mote: a word is not text")
+failure_text (Failure.NoApplication name) = Some (codes "mote: no application " ++ name.now)
+failure_text Failure.TooManyApplications = Some (codes "mote: too many applications")
+failure_text Failure.BadSizes = Some (codes "mote: bad sizes")
+failure_text Failure.OutOfMemory = Some (codes "mote: out of memory")
+
+-- the failure by the kind of what the parser found
+abbrev pub failure_by : ErrorKind → Error → Failure
+failure_by ErrorKind.OutOfMemory error = Failure.OutOfMemory
+failure_by ErrorKind.DisplayHelp error = Failure.Request error
+failure_by ErrorKind.DisplayVersion error = Failure.Request error
+failure_by _ error = Failure.Words error
+
+abbrev pub failure_in_words : Error → Failure
+failure_in_words error = failure_by (kind_of error) error
 
 abbrev pub failure_at_boot : BootFault → Failure
 failure_at_boot BootFault.BadSizes = Failure.BadSizes

@@ -4,17 +4,24 @@ ghost use Rattle.std.specs.Prelude.{◌≡◌};
 ghost use Rattle.mote.specs.Statuses as statuses;
 ghost use Rattle.mote.specs.Statuses.{status_of_failure, status_of_outcome};
 
+use clap::Error;
+use clap::error::ErrorKind;
 use mote_kit::fault::MoteFault;
 use mote_run::End;
 use mote_types::fault::BootFault;
 use std::alloc::AllocFailed;
 use std::fmt;
 
-/// What the program tells on standard error.
-#[derive(Clone, Copy, Debug, PartialEq, Eq, Drop)]
+/// What the program tells in place of a run, or of its end: on standard error, and only what the words asked for on
+/// standard output.
+#[derive(Debug, Drop)]
 pub enum Failure<'a> {
     /// A word is not text in UTF-8.
     NotText,
+    /// The words ask for the help or the version: the text of it.
+    Request(Error),
+    /// The parser refuses the words: its text.
+    Words(Error),
     /// No application has this name.
     NoApplication(&'a str),
     TooManyApplications,
@@ -26,15 +33,17 @@ pub enum Failure<'a> {
 }
 
 impl Failure<'_> {
-    /// The status that the program exits with: 64 for words that are no use, 70 where memory was refused, 5 and 6 where
-    /// standard input and output failed.
+    /// The status that the program exits with: 0 where the words asked for no more than a text, 64 for words that are no
+    /// use, 70 where memory was refused, 5 and 6 where standard input and output failed.
     pub fn status(&self) -> u8
         ensures { result ≡ status_of_failure self.now }
     {
         match self {
+            Failure::Request(_) => 0,
             Failure::Read => 5,
             Failure::Write => 6,
             Failure::NotText
+            | Failure::Words(_)
             | Failure::NoApplication(_)
             | Failure::TooManyApplications
             | Failure::BadSizes => 64,
@@ -44,14 +53,14 @@ impl Failure<'_> {
 }
 
 impl fmt::Display for Failure<'_> {
-    ghost use Rattle.std.specs.Prelude.{Some};
     ghost use Rattle.mote.specs.Statuses.{failure_text};
 
-    ghost output = { λ failure. Some (failure_text failure) };
+    ghost output = { failure_text };
 
     fn fmt<W: fmt::Write>(&self, f: &mut fmt::Formatter<W>) -> fmt::Result {
         match self {
             Failure::NotText => f.write_str("mote: a word is not text"),
+            Failure::Request(text) | Failure::Words(text) => write!(f, "{text}"),
             Failure::NoApplication(name) => write!(f, "mote: no application {name}"),
             Failure::TooManyApplications => f.write_str("mote: too many applications"),
             Failure::BadSizes => f.write_str("mote: bad sizes"),
@@ -69,6 +78,20 @@ impl<T: Drop> From<AllocFailed<T>> for Failure<'_> {
 
     fn from(_error: AllocFailed<T>) -> Self {
         Failure::OutOfMemory
+    }
+}
+
+impl From<Error> for Failure<'_> {
+    ghost use Rattle.mote.specs.Statuses.{failure_in_words};
+
+    ghost from_gives = { λ error failure. failure ≡ failure_in_words error };
+
+    fn from(error: Error) -> Self {
+        match error.kind() {
+            ErrorKind::OutOfMemory => Failure::OutOfMemory,
+            ErrorKind::DisplayHelp | ErrorKind::DisplayVersion => Failure::Request(error),
+            _ => Failure::Words(error),
+        }
     }
 }
 

@@ -1,11 +1,14 @@
 //! Runs applications on a mote: a script comes from standard input, its transcript goes to standard output.
 #![tactic(auto)]
 
-ghost use Rattle.std.specs.Prelude.{◌≡◌, ◌≢◌, Some, IfOk, IfErr, IsErrOf};
-ghost use Rattle.mote.specs.CommandLine.{failure_of, names_in};
-ghost use Rattle.mote.specs.Statuses.{IsStatus, status_of_outcome};
+ghost use Rattle.std.specs.Prelude.{◌≡◌, ◌≢◌, length, IfOk, IfErr};
+ghost use Rattle.clap.specs.Walk.{texts};
+ghost use Rattle.mote_run.specs.RunText.{WasBooted};
+ghost use Rattle.mote.specs.CommandLine.{IsOutcome};
+ghost use Rattle.mote.specs.Statuses.{IsAnswerTo, IsRunFailure, IsStatus, status_of_outcome};
 ghost use Rattle.mote.specs.declared.failure.Failure.{Failure as Refused};
 
+mod command_line;
 mod failure;
 mod prepare;
 mod running;
@@ -15,25 +18,57 @@ mod tests;
 use failure::{Failure, status_of};
 use mote_kit::stream::{Input, Output};
 use mote_run::End;
-use prepare::prepare;
+use prepare::{Prepared, prepare};
 use running::run_prepared;
 use std::io::BufReader;
 use std::process::ExitCode;
 use std::{env, io};
 
-/// Boots a mote for the applications that the words name, and runs it from standard input to standard output.
+/// Runs a mote from standard input to standard output.
+fn run_streams<'a, R: AllocGlobal + io::Input + Print>(
+    rt: &R,
+    prepared: Prepared,
+) -> Result<End, Failure<'a>>
+    requires booted { WasBooted prepared.kernel (length prepared.applications.items) }
+    ensures failure { IfErr result IsRunFailure }
+{
+    let reader = BufReader::new(rt.alloc(), rt.reader()).map_err(|_| Failure::OutOfMemory)?;
+    let mut source = Input::new(reader);
+    let mut sink = Output::new(io::writer(rt));
+    let end = run_prepared(rt.alloc(), prepared, &mut source, &mut sink)?;
+    Ok(end)
+}
+
+/// Writes what the words asked for, the help or the version, to standard output.
+fn show<'a, R: Print>(rt: &R, text: &clap::Error) -> Result<End, Failure<'a>>
+    ensures end { IfOk result (λ end. end ≡ End.Finished) }
+    ensures failure { IfErr result (λ failure. failure ≡ Refused.Write) }
+{
+    print!(rt; "{text}").map_err(|_| Failure::Write)?;
+    Ok(End::Finished)
+}
+
+/// What the program comes to where the words name no mote.
+fn refuse<'a, R: Print>(rt: &R, failure: Failure<'a>) -> Result<End, Failure<'a>>
+    ensures { IsAnswerTo failure.entry result }
+{
+    if let Failure::Request(text) = &failure {
+        return show(rt, text);
+    }
+    Err(failure)
+}
+
+/// Boots a mote for what the words name, and runs it from standard input to standard output.
 fn run_words<'a, R: AllocGlobal + io::Input + Print>(
     rt: &R,
     words: &'a [&'a str],
 ) -> Result<End, Failure<'a>>
-    ensures failure { (failure : Refused) → failure_of (names_in words.now) ≡ Some failure → IsErrOf result failure }
+    ensures { IsOutcome (texts words.now) result }
 {
-    let prepared = prepare(rt.alloc(), words)?;
-    let reader = BufReader::new(rt.alloc(), rt.reader()).map_err(|_| Failure::OutOfMemory)?;
-    let mut source = Input::new(reader);
-    let mut sink = Output::new(io::writer(rt));
-    let end = run_prepared(rt.alloc(), prepared, &mut source, &mut sink, false)?;
-    Ok(end)
+    match prepare(rt.alloc(), words) {
+        Ok(prepared) => run_streams(rt, prepared),
+        Err(failure) => refuse(rt, failure),
+    }
 }
 
 /// The words of the command line, the program's name first.
@@ -61,7 +96,11 @@ fn tell<R: Eprint>(rt: &R, outcome: Result<End, Failure<'_>>) -> u8
     ensures { result ≡ status_of_outcome outcome.entry }
 {
     if let Err(failure) = &outcome {
-        let _ = eprintln!(rt; "{failure}");
+        let _ = match failure {
+            // The parser's texts have their line ends.
+            Failure::Request(text) | Failure::Words(text) => eprint!(rt; "{text}"),
+            _ => eprintln!(rt; "{failure}"),
+        };
     }
     status_of(&outcome)
 }

@@ -1,7 +1,11 @@
 //! The run of a mote that is ready for it.
 
-ghost use Rattle.std.specs.Prelude.{◌≡◌, ◌<◌, ◌-◌, ◌^◌, ◌↔◌, false, length, IsErrOf};
-ghost use Rattle.mote_run.specs.RunText.{WasBooted};
+ghost use Rattle.std.specs.Prelude.{◌≡◌, ◌≢◌, ◌<◌, ◌-◌, ◌^◌, ◌↔◌, false, length, IfOk, IfErr, OnErr, IsErrOf};
+ghost use Rattle.mote_types.specs.Applications.{says_of};
+ghost use Rattle.mote_apps.specs.Bundled.{bundled_says};
+ghost use Rattle.kernel_core.specs.declared.config.Config.{Config};
+ghost use Rattle.kernel_core.specs.Machine.{booted};
+ghost use Rattle.mote_run.specs.RunText.{HasRun, HasRunInPart, HasRunOnWholeLines, WasBooted};
 
 use crate::prepare::Prepared;
 use mote_kit::fault::MoteFault;
@@ -11,22 +15,31 @@ use mote_types::app::App;
 use mote_types::device::{ByteSink, ByteSource};
 use std::alloc::Global;
 
-/// Boxes the applications, each as it is, and runs them from a source to a sink. The answer is how the run ends.
+/// Boxes the applications, each as it is and in their order, and runs them from a source to a sink. What is written is the
+/// text of the run that the machine makes with what these applications say, and the answer is how it ends.
 ///
 /// # Errors
 ///
-/// `Read` and `Write` exactly where that device failed, else `Memory`.
+/// `Read` and `Write` exactly where that device failed, else `Memory`. What was written is a front part of the text then, and
+/// after `Read` all of the text of the whole lines that were read.
+#[tactic(auto, using(crate::proofs::Boxed::nothing_ran))]
 pub fn run_prepared<S: ByteSource, K: ByteSink>(
     alloc: Global,
     prepared: Prepared,
     source: &mut S,
     sink: &mut K,
-    quiet: bool,
 ) -> Result<End, MoteFault>
     requires booted { WasBooted prepared.kernel (length prepared.applications.items) }
     requires unended { S.is_ended source.old ≡ false }
     requires countable_reads { S.failure_count source.old < 2 ^ 64 - 1 }
     requires countable_writes { K.failure_count sink.old < 2 ^ 64 - 1 }
+    ensures text { IfOk result (λ end. S.is_named → K.is_named → (config : Config) → prepared.kernel.machine ≡ booted config →
+        HasRun config (says_of bundled_says prepared.applications.items) prepared.quiet (S.taken source.old) (S.taken source.new) (S.is_ended source.new) (K.given sink.old) (K.given sink.new) end) }
+    ensures front { OnErr result (S.is_named → K.is_named → (config : Config) → prepared.kernel.machine ≡ booted config →
+        HasRunInPart config (says_of bundled_says prepared.applications.items) prepared.quiet (S.taken source.old) (S.taken source.new) (S.is_ended source.new) (K.given sink.old) (K.given sink.new)) }
+    ensures after_read_fault { IsErrOf result MoteFault.Read → S.is_named → K.is_named → (config : Config) → prepared.kernel.machine ≡ booted config →
+        HasRunOnWholeLines config (says_of bundled_says prepared.applications.items) prepared.quiet (S.taken source.old) (S.taken source.new) (K.given sink.old) (K.given sink.new) }
+    ensures fault { IfErr result (λ fault. fault ≢ MoteFault.BadSizes) }
     ensures read_fault { IsErrOf result MoteFault.Read ↔ (S.failure_count source.old < S.failure_count source.new) }
     ensures write_fault { IsErrOf result MoteFault.Write ↔ (K.failure_count sink.old < K.failure_count sink.new) }
 {
@@ -34,6 +47,12 @@ pub fn run_prepared<S: ByteSource, K: ByteSink>(
     for application in prepared.applications {
         boxes.push(Box::new(alloc, application)?)?;
     }
-    let end = run(source, sink, prepared.kernel, boxes.as_mut_slice(), quiet)?;
+    let end = run(
+        source,
+        sink,
+        prepared.kernel,
+        boxes.as_mut_slice(),
+        prepared.quiet,
+    )?;
     Ok(end)
 }

@@ -27,6 +27,60 @@ fn check_failure<R: Abort + AllocGlobal>(
     Ok(())
 }
 
+/// Words that the parser answers: the status that the program exits with, and how the parser's text begins.
+fn check_parser<R: Abort + AllocGlobal>(
+    rt: &R,
+    words: &[&str],
+    status: u8,
+    front: &str,
+) -> Result<(), Fail> {
+    match prepare(rt.alloc(), words) {
+        Ok(_) => assert!(rt; false, "{front}"),
+        Err(failure) => {
+            assert_eq!(rt; failure.status(), status, "{front}");
+            let text = failure.to_string(rt.alloc())?;
+            assert!(rt; text.as_str().starts_with(front), "{text}");
+        }
+    }
+    Ok(())
+}
+
+#[test]
+fn words_that_the_parser_refuses(rt: HostRuntime) -> Result<(), Fail> {
+    for words in [
+        ["mote", "--fast", "hello"],
+        ["mote", "--mmem", "3"],
+        ["mote", "--mmem", "65537"],
+        ["mote", "--mmem", "x"],
+        ["mote", "--heap", "19"],
+        ["mote", "--quiet", "--quiet"],
+        // The parser comes before the names.
+        ["mote", "nobody", "--fast"],
+    ] {
+        check_parser(&rt, words.as_slice(), 64, "error: ")?;
+    }
+    for words in [["mote", "--help"], ["mote", "-h"]] {
+        check_parser(&rt, words.as_slice(), 0, "Runs applications on")?;
+    }
+    check_parser(&rt, &["mote", "--version"], 0, "mote 0.1.0\n")
+}
+
+#[test]
+fn sizes_that_no_mote_has(rt: HostRuntime) -> Result<(), Fail> {
+    check_failure(&rt, &["mote", "--mmem", "6"], 64, "mote: bad sizes")?;
+    check_failure(&rt, &["mote", "--heap=22", "hello"], 64, "mote: bad sizes")?;
+    // The names come before the sizes, and so does their number.
+    check_failure(
+        &rt,
+        &["mote", "--mmem=6", "nobody"],
+        64,
+        "mote: no application nobody",
+    )?;
+    let mut words = vec![in rt.alloc(); "hello"; 18]?;
+    words.push("--mmem=6")?;
+    check_failure(&rt, words.as_slice(), 64, "mote: too many applications")
+}
+
 #[test]
 fn names_that_no_application_has(rt: HostRuntime) -> Result<(), Fail> {
     check_failure(&rt, &["mote", "nobody"], 64, "mote: no application nobody")?;
@@ -95,7 +149,7 @@ fn the_words_choose_the_applications(rt: HostRuntime) -> Result<(), Fail> {
     };
     let mut source = Script::new(b"");
     let mut sink = Transcript::new(rt.alloc()).in_pieces_of(7);
-    let end = run_prepared(rt.alloc(), prepared, &mut source, &mut sink, false)?;
+    let end = run_prepared(rt.alloc(), prepared, &mut source, &mut sink)?;
     assert_eq!(rt; end, End::Finished);
     let transcript = "\
 4 synch 129 - -> alloc-event

@@ -3,6 +3,7 @@
 
 pub mod blink;
 pub mod bundled;
+pub mod chaos;
 mod chunk;
 pub mod churn;
 pub mod echo;

@@ -1,13 +1,12 @@
-//! Scripts: which lines have a form, and how a run ends.
+//! Scripts: which lines have no form, and how long a line may be.
 
-use crate::harness::{check, check_end};
-use mote_apps::hello::Hello;
+use mote_kit::mote::{DEFAULT_SIZES, run_script};
 use mote_run::End;
 use mote_types::app::App;
 use std::process::Abort;
 use std::test::Fail;
 
-/// Runs a script on a mote with no application.
+/// Runs a script on a mote with no application, and looks at its end and its transcript.
 fn check_script<R: Abort + AllocGlobal>(
     rt: &R,
     script: &str,
@@ -15,34 +14,16 @@ fn check_script<R: Abort + AllocGlobal>(
     transcript: &str,
 ) -> Result<(), Fail> {
     let mut apps: Vec<Box<dyn App>> = Vec::new(rt.alloc());
-    check_end(rt, apps.as_mut_slice(), script, end, transcript)
-}
-
-#[test]
-fn an_empty_script_on_an_empty_mote_writes_nothing(rt: HostRuntime) -> Result<(), Fail> {
-    check_script(&rt, "", End::Finished, "")
-}
-
-#[test]
-fn hello_greets_at_boot(rt: HostRuntime) -> Result<(), Fail> {
-    let mut apps: Vec<Box<dyn App>> = Vec::new(rt.alloc());
-    apps.push(Box::new(rt.alloc(), Hello)?)?;
-    let transcript = "\
-4 synch 129 - -> print 68690a
-4 answer done -> wait
-";
-    check(&rt, apps.as_mut_slice(), "", transcript)
-}
-
-#[test]
-fn ticks_of_up_to_32_bits_have_a_form(rt: HostRuntime) -> Result<(), Fail> {
-    check_script(&rt, "tick 4294967295", End::Finished, "> tick 4294967295\n")?;
-    check_script(
-        &rt,
-        "tick 0\ntick 7\n",
-        End::Finished,
-        "> tick 0\n> tick 7\n",
-    )
+    let ran = run_script(
+        rt.alloc(),
+        DEFAULT_SIZES,
+        apps.as_mut_slice(),
+        script.as_bytes(),
+        false,
+    )?;
+    assert_eq!(rt; str::from_utf8(ran.transcript.as_slice())?, transcript);
+    assert_eq!(rt; ran.end, end);
+    Ok(())
 }
 
 #[test]

@@ -9,7 +9,8 @@ use Rattle.hex.proofs.HexLemmas.{decode_of-ok}
 use Rattle.mote_types.specs.declared.entry.Input.{Input}
 use Rattle.mote_text.specs.Script.{argument_of, read_bytes, read_number, read_frame, read_line, read_serial, read_tick, read_words, line_limit, says_nothing}
 use Rattle.kernel_core.specs.Inputs.{has_bytes}
-use Rattle.mote_run.proofs.NextByte.{Put, Ended, either}
+use Rattle.mote_text.specs.declared.lines.Taken.{Taken}
+use Rattle.mote_run.specs.Code.Reading.{said}
 
 -- what a choice gives, one of the two gives
 either_gives : {A : Type 0} (P : A → Type 0) (a b : Option A) → ((x : A) → a ≡ Some x → P x) → ((x : A) → b ≡ Some x → P x) →
@@ -71,8 +72,8 @@ input_has_bytes line input e =
     mapped_gives (λ x. Some x) (λ o. (x : Input) → o ≡ Some x → has_bytes x ≡ true) (read_words line)
     (λ x h. λ y same. words_give line y (let g : Some x ≡ Some y = same in rw (← g) h)) (Some input) spoken input refl
 
--- and so does the input of the line that a byte ended
-pub taken_input_has_bytes : (byte number number' : ℕ) (line line' : List ℕ) (input : Input) →
-    Put byte number line (Some input) number' line' → Ended byte number line (Some input) number' line' → has_bytes input ≡ true
-taken_input_has_bytes byte number number' line line' input put ended =
-    either byte (λ is_end. input_has_bytes line input (ended is_end).0) (λ other. let p = (put other).0 in absurd (cc))
+-- and so does the input of a line that a take ended
+pub said_input_has_bytes : (last : Taken) (bytes : List ℕ) (input : Input) → said last bytes ≡ Some (Some input) → has_bytes input ≡ true
+said_input_has_bytes Taken.Line bytes input says = input_has_bytes bytes input says
+said_input_has_bytes Taken.More bytes input says = absurd (let e : None ≡ Some input = ap (λ o. unwrap_or o None) says in cc)
+said_input_has_bytes Taken.TooWide bytes input says = absurd (cc)

@@ -1,5 +1,5 @@
--- What holds between two bytes of a run's script.
-use Rattle.std.proofs.Common.{◌≡◌, ◌+◌, ◌-◌, ℕ, Bool, true, false, List, [], ◌∷◌, ◌++◌, length, refl, ap, sym, ◌∙◌, append_assoc, length-append, ◌≤◌, ◌<◌, arith}
+-- What holds between two parts of a run's script.
+use Rattle.std.proofs.Common.{◌≡◌, ◌+◌, ◌-◌, ℕ, Bool, true, false, List, [], ◌∷◌, ◌++◌, length, refl, ap, sym, ◌∙◌, append_assoc, length-append, ◌≤◌, ◌==◌, arith}
 use Rattle.std.specs.Prelude.{if◌then◌else◌, Option, Some, None}
 use Rattle.std.specs.List.{list_any}
 use Rattle.std.proofs.lemmas.List.{append-nil}
@@ -7,32 +7,42 @@ use Rattle.mote_types.specs.Applications.{Applications}
 use Rattle.mote_types.specs.Entries.{is_halt}
 use Rattle.mote_types.specs.declared.entry.Entry.{Entry}
 use Rattle.mote_types.specs.declared.entry.Input.{Input}
-use Rattle.mote_text.specs.declared.script.End.{End}
-use Rattle.mote_text.specs.Script.{inputs, script_limit}
+use Rattle.mote_types.specs.declared.refusal.Refusal.{Refusal}
+use Rattle.mote_text.specs.Lines.{has_no_end, unfinished_after, with_end}
+use Rattle.mote_text.specs.Script.{inputs, line_limit, read_line, script_limit}
 use Rattle.mote_text.specs.Transcript.{final_line}
+use Rattle.mote_text.specs.declared.lines.Taken.{Taken}
+use Rattle.mote_text.specs.declared.script.End.{End}
 use Rattle.mote_text.proofs.Bytewise.{read_on}
-use Rattle.mote_text.proofs.Reading.{Before, start, script_limit_is}
+use Rattle.mote_text.proofs.Reading.{Before, ends_with_input, ends_with_no_form, ends_with_nothing, start}
 use Rattle.kernel_core.specs.declared.config.Config.{Config}
 use Rattle.kernel_core.specs.Machine.{Machine, booted}
 use Rattle.kernel_core.specs.Inputs.{fed, frame_held, frame_refusal, held_unless_lost}
 use Rattle.kernel_core.specs.Run.{Running, Runs, ComesToRest, after_steps, at_start, is_still, with_input}
 use Rattle.device_core.specs.PacketQueue.{free_slot}
-use Rattle.mote_types.specs.declared.refusal.Refusal.{Refusal}
 use Rattle.mote_run.specs.RunText.{HasRun, HasRunOnWholeLines, script_done}
+use Rattle.mote_run.specs.Code.Reading.{number_after, said}
 use Rattle.mote_run.specs.Code.Settling.{IsTold, Settled, lines}
+use Rattle.mote_run.specs.Code.Writing.{WritesOn}
 use Rattle.mote_run.proofs.Settling.{lines-append, steps_after}
 use Rattle.mote_run.proofs.Determined.{run_from, still_rest}
+use Rattle.mote_run.proofs.NextPart.{GoesOn, TakenPart, beyond_limit, ended_by, endless_after, in_line, input_said, narrow_after, no_form_said, nothing_said, parted, sizes}
+use Rattle.mote_run.proofs.Writing.{then_flushed, then_written}
 
-pub record InRun (config : Config) (says now : Applications) (quiet : Bool) (machine : Machine) (taken_old taken_new given_old given_new : List ℕ) (count number : ℕ) (line : List ℕ) : Type 0 where
+-- so many bytes were used: those of the lines that have ended, and those of the present line, whose end hasn't come. The rest was
+-- read and not used
+pub record InRun (config : Config) (says now : Applications) (quiet : Bool) (machine : Machine) (taken_old taken_new given_old given_new due rest : List ℕ) (count number : ℕ) (line : List ℕ) : Type 0 where
   pub entries : List Entry
-  pub bytes : List ℕ
-  -- the inputs of the lines that were read whole
+  pub ended : List ℕ
+  -- the inputs of the lines that have ended
   pub earlier : List Input
   pub told : IsTold says entries now
-  pub taken : taken_new ≡ taken_old ++ bytes
-  pub given : given_new ≡ given_old ++ lines quiet entries
-  pub size : length bytes ≡ count
-  pub before : Before bytes earlier number line
+  pub taken : taken_new ≡ taken_old ++ (ended ++ (line ++ rest))
+  pub written : WritesOn given_old [] given_new due (lines quiet entries)
+  pub size : length ended + length line ≡ count
+  pub before : Before ended earlier number []
+  pub narrow : length line ≤ line_limit
+  pub endless : has_no_end line ≡ true
   pub still : is_still machine ≡ true
   pub halts : list_any is_halt entries ≡ machine.is_halted
   -- every run of what follows from here is a run of all from boot
@@ -73,22 +83,24 @@ fed_halts m (Input.Frame bytes) =
     let woken : Machine = record m { work = 0 } in held_halts (frame_refusal (length bytes.items) woken) bytes.items woken
 
 -- a run that finished or was halted has no last line
-no_last_line : (halted : Bool) → final_line (if halted then End.Halted else End.Finished) ≡ []
+pub no_last_line : (halted : Bool) → final_line (if halted then End.Halted else End.Finished) ≡ []
 no_last_line true = refl
 no_last_line false = refl
 
-pub in_run_start : (config : Config) (says now : Applications) (quiet : Bool) (old machine : Machine) (taken given_old given_new : List ℕ) →
-    old ≡ booted config → Settled says quiet [] old machine now given_old given_new → is_still machine ≡ true →
-    InRun config says now quiet machine taken taken given_old given_new 0 1 []
-in_run_start config says now quiet old machine taken given_old given_new boots settled still = record {
+pub in_run_start : (config : Config) (says now : Applications) (quiet : Bool) (old machine : Machine) (taken given_old given_new due_old due : List ℕ) →
+    old ≡ booted config → due_old ≡ [] → Settled says quiet [] old machine now given_old due_old given_new due → is_still machine ≡ true →
+    InRun config says now quiet machine taken taken given_old given_new due [] 0 1 []
+in_run_start config says now quiet old machine taken given_old given_new due_old due boots fresh settled still = record {
   entries = settled.entries;
-  bytes = [];
+  ended = [];
   earlier = [];
   told = settled.told;
   taken = sym (append-nil taken);
-  given = settled.written;
+  written = rw fresh at settled.written;
   size = refl;
   before = start;
+  narrow = omega arith;
+  endless = refl;
   still = still;
   halts = settled.halts (rw boots refl);
   onward = λ later w runs.
@@ -97,27 +109,30 @@ in_run_start config says now quiet old machine taken given_old given_new boots s
       run_from says (at_start config) (record { machine = machine; entries = settled.entries }) w later settled.count (rw (← boots) settled.walked) runs;
 }
 
-module _ {config : Config} {says now : Applications} {quiet : Bool} {machine : Machine} {taken_old taken_new given_old given_new : List ℕ} {count number : ℕ} {line : List ℕ}
-    (i : InRun config says now quiet machine taken_old taken_new given_old given_new count number line) where
+module _ {config : Config} {says now : Applications} {quiet : Bool} {machine : Machine} {taken_old taken_new given_old given_new due rest : List ℕ} {count number : ℕ} {line : List ℕ}
+    (i : InRun config says now quiet machine taken_old taken_new given_old given_new due rest count number line) where
   abbrev here : Running
   here = record { machine = machine; entries = i.entries }
 
-  pub taken_on : (byte : ℕ) (taken_later : List ℕ) → taken_later ≡ taken_new ++ byte ∷ [] → taken_later ≡ taken_old ++ (i.bytes ++ byte ∷ [])
-  taken_on byte taken_later taken = rw (taken, i.taken) (append_assoc taken_old i.bytes (byte ∷ []))
+  -- all bytes that were read
+  abbrev pub read : List ℕ
+  read = i.ended ++ (line ++ rest)
 
-  -- a byte that ends no line with an input
-  pub in_run_byte : (byte number' : ℕ) (line' taken_later : List ℕ) → taken_later ≡ taken_new ++ byte ∷ [] →
-      (Before i.bytes i.earlier number line → Before (i.bytes ++ byte ∷ []) i.earlier number' line') →
-      InRun config says now quiet machine taken_old taken_later given_old given_new (count + 1) number' line'
-  in_run_byte byte number' line' taken_later taken reads = record {
+  -- more bytes were read, or some of what was due was written
+  pub in_run_refilled : (more taken_later given_later due_later rest_later : List ℕ) → taken_later ≡ taken_new ++ more → rest_later ≡ rest ++ more →
+      WritesOn given_new due given_later due_later [] →
+      InRun config says now quiet machine taken_old taken_later given_old given_later due_later rest_later count number line
+  in_run_refilled more taken_later given_later due_later rest_later taken rests writes = record {
     entries = i.entries;
-    bytes = i.bytes ++ byte ∷ [];
+    ended = i.ended;
     earlier = i.earlier;
     told = i.told;
-    taken = rw (taken, i.taken) (append_assoc taken_old i.bytes (byte ∷ []));
-    given = i.given;
-    size = rw (length-append i.bytes (byte ∷ []), i.size) refl;
-    before = reads i.before;
+    taken = rw (taken, i.taken, rests, append_assoc taken_old read more, append_assoc i.ended (line ++ rest) more, append_assoc line rest more) refl;
+    written = then_flushed i.written writes;
+    size = i.size;
+    before = i.before;
+    narrow = i.narrow;
+    endless = i.endless;
     still = i.still;
     halts = i.halts;
     onward = i.onward;
@@ -125,11 +140,11 @@ module _ {config : Config} {says now : Applications} {quiet : Bool} {machine : M
   }
 
   -- the input was handed in, and the mote has come to rest after it
-  pub input_onward : (input : Input) (later : List Input) (new : Machine) (now' : Applications) (given_later : List ℕ) (w : Running) → machine.is_halted ≡ false →
-      (settled : Settled says quiet i.entries (fed input machine) new now' given_new given_later) →
+  input_onward : (input : Input) (later : List Input) (new : Machine) (now' : Applications) (given_later due_later : List ℕ) (w : Running) → machine.is_halted ≡ false →
+      (settled : Settled says quiet i.entries (fed input machine) new now' given_new due given_later due_later) →
       Runs says (record { machine = new; entries = i.entries ++ settled.entries }) later w →
       Runs says (at_start config) (i.earlier ++ (input ∷ later)) w
-  input_onward input later new now' given_later w running settled runs =
+  input_onward input later new now' given_later due_later w running settled runs =
       let go : Runs says here (input ∷ later) w = (
         here,
         (0, refl, i.still),
@@ -139,109 +154,193 @@ module _ {config : Config} {says now : Applications} {quiet : Bool} {machine : M
       i.onward (input ∷ later) w go
 
   -- a run whose next input is this goes on from where it was handed in
-  pub input_inward : (input : Input) (later : List Input) (w : Running) → machine.is_halted ≡ false →
+  input_inward : (input : Input) (later : List Input) (w : Running) → machine.is_halted ≡ false →
       Runs says (at_start config) (i.earlier ++ (input ∷ later)) w → Runs says (with_input input here) later w
   input_inward input later w running runs =
       let r = i.inward (input ∷ later) w runs in
       let same : r.0 ≡ here = still_rest says here r.0 i.still r.1 in
       rw same at (r.3 (rw same running))
 
-  -- a byte that ends a line with an input, which was carried out
-  pub in_run_input : (byte number' : ℕ) (line' taken_later given_later : List ℕ) (input : Input) (handed new : Machine) (now' : Applications) →
-      taken_later ≡ taken_new ++ byte ∷ [] → machine.is_halted ≡ false → handed ≡ fed input machine →
-      (Before i.bytes i.earlier number line → Before (i.bytes ++ byte ∷ []) (i.earlier ++ input ∷ []) number' line') →
-      Settled says quiet i.entries handed new now' given_new given_later → is_still new ≡ true →
-      InRun config says now' quiet new taken_old taken_later given_old given_later (count + 1) number' line'
-  in_run_input byte number' line' taken_later given_later input handed new now' taken running hands reads settles still =
-      let settled : Settled says quiet i.entries (fed input machine) new now' given_new given_later = rw hands at settles in record {
-        entries = i.entries ++ settled.entries;
-        bytes = i.bytes ++ byte ∷ [];
-        earlier = i.earlier ++ input ∷ [];
-        told = settled.told;
-        taken = rw (taken, i.taken) (append_assoc taken_old i.bytes (byte ∷ []));
-        given = rw (settled.written, i.given, lines-append quiet i.entries settled.entries) (append_assoc given_old (lines quiet i.entries) (lines quiet settled.entries));
-        size = rw (length-append i.bytes (byte ∷ []), i.size) refl;
-        before = reads i.before;
-        still = still;
-        halts = settled.halts (i.halts ∙ fed_halts machine input);
-        onward = λ later w runs. rw (append_assoc i.earlier (input ∷ []) later) (input_onward input later new now' given_later w running settled runs);
-        inward = λ later w runs.
-            run_from says (with_input input here) (record { machine = new; entries = i.entries ++ settled.entries }) w later settled.count settled.walked
-            (input_inward input later w running (rw (append_assoc i.earlier (input ∷ []) later) at runs));
-      }
+  -- the bytes that a take used, behind those of the present line
+  module _ {last : Taken} {bytes later : List ℕ} {count_later : ℕ} (t : TakenPart line rest later count count_later last bytes) where
+    all_read : read ≡ i.ended ++ (with_end last bytes ++ later)
+    all_read = rw (t.parts, ← t.used) (ap (λ v. i.ended ++ v) (sym (append_assoc line t.part later)))
+
+    pub size_used : length i.ended + length (with_end last bytes) ≡ count_later
+    size_used = rw (← t.used, length-append line t.part, t.counts, ← i.size) (omega arith)
+
+    room_used : length i.ended + length (with_end last bytes) ≤ script_limit
+    room_used = rw size_used t.within
+
+    -- they say nothing
+    pub in_run_nothing : said last bytes ≡ Some None →
+        InRun config says now quiet machine taken_old taken_new given_old given_new due later count_later (number_after last number) (unfinished_after last bytes)
+    in_run_nothing says_nothing = record {
+      entries = i.entries;
+      ended = i.ended ++ ended_by last bytes;
+      earlier = i.earlier;
+      told = i.told;
+      taken = i.taken ∙ (ap (λ v. taken_old ++ v) (all_read ∙ parted last bytes i.ended later));
+      written = i.written;
+      size = sizes last bytes i.ended ∙ size_used;
+      before = nothing_said i.before last bytes room_used t.narrow t.endless says_nothing;
+      narrow = narrow_after last bytes t.narrow;
+      endless = endless_after last bytes t.endless;
+      still = i.still;
+      halts = i.halts;
+      onward = i.onward;
+      inward = i.inward;
+    }
+
+    -- they end a line with an input, which was carried out
+    pub in_run_input : (input : Input) (handed new : Machine) (now' : Applications) (given_later due_later : List ℕ) →
+        said last bytes ≡ Some (Some input) → machine.is_halted ≡ false → handed ≡ fed input machine →
+        Settled says quiet i.entries handed new now' given_new due given_later due_later → is_still new ≡ true →
+        InRun config says now' quiet new taken_old taken_new given_old given_later due_later later count_later (number_after last number) (unfinished_after last bytes)
+    in_run_input input handed new now' given_later due_later says_input running hands settles still =
+        let settled : Settled says quiet i.entries (fed input machine) new now' given_new due given_later due_later = rw hands at settles in record {
+          entries = i.entries ++ settled.entries;
+          ended = i.ended ++ ended_by last bytes;
+          earlier = i.earlier ++ input ∷ [];
+          told = settled.told;
+          taken = i.taken ∙ (ap (λ v. taken_old ++ v) (all_read ∙ parted last bytes i.ended later));
+          written = rw (lines-append quiet i.entries settled.entries) (then_written i.written settled.written);
+          size = sizes last bytes i.ended ∙ size_used;
+          before = input_said i.before last bytes input room_used t.narrow t.endless says_input;
+          narrow = narrow_after last bytes t.narrow;
+          endless = endless_after last bytes t.endless;
+          still = still;
+          halts = settled.halts (i.halts ∙ fed_halts machine input);
+          onward = λ rest_inputs w runs. rw (append_assoc i.earlier (input ∷ []) rest_inputs) (input_onward input rest_inputs new now' given_later due_later w running settled runs);
+          inward = λ rest_inputs w runs.
+              run_from says (with_input input here) (record { machine = new; entries = i.entries ++ settled.entries }) w rest_inputs settled.count settled.walked
+              (input_inward input rest_inputs w running (rw (append_assoc i.earlier (input ∷ []) rest_inputs) at runs));
+        }
+
+    -- the line that they end, or go on, has no form
+    pub gives_no_form : (last ≡ Taken.TooWide → GoesOn (length i.ended) bytes later) → said last bytes ≡ None → (more : List ℕ) →
+        inputs (read ++ more) ≡ (i.earlier, End.BadLine number)
+    gives_no_form wide says_none more =
+        rw all_read (no_form_said i.before last bytes later room_used t.narrow t.endless wide says_none more)
+
+    -- the inputs of a script that begins so, whose next one is this
+    pub inputs_from : (input : Input) → said last bytes ≡ Some (Some input) → (more : List ℕ) →
+        (later_inputs : List Input) × ((inputs (read ++ more)).0 ≡ i.earlier ++ (input ∷ later_inputs))
+    inputs_from input says_input more =
+        let next = input_said i.before last bytes input room_used t.narrow t.endless says_input in
+        let rests = unfinished_after last bytes ++ later in
+        let later_inputs = (read_on (number_after last number) [] (script_limit - length (i.ended ++ ended_by last bytes)) (rests ++ more)).0 in (
+          later_inputs,
+          rw (all_read, parted last bytes i.ended later, append_assoc (i.ended ++ ended_by last bytes) rests more, next.onward (rests ++ more))
+              (append_assoc i.earlier (input ∷ []) later_inputs),
+        )
+
+  -- the bytes of the present line, where nothing was read behind them
+  pub in_present_line : count ≤ script_limit → Before (i.ended ++ line) i.earlier number line
+  in_present_line few = in_line i.before line i.narrow i.endless (omega (arith, i.size, few))
+
+  pub read_up : rest ≡ [] → read ≡ i.ended ++ line
+  read_up none = rw (none, append-nil) refl
+
+  module _ (few : count ≤ script_limit) where
+    -- what a script gives whose end ends the present line
+    module _ (none : rest ≡ []) (more : List ℕ) (whole : more ≡ []) where
+      all_of_script : read ++ more ≡ i.ended ++ line
+      all_of_script = rw (whole, read_up none) (append-nil (i.ended ++ line))
+
+      pub last_line_nothing : read_line line ≡ Some None → inputs (read ++ more) ≡ (i.earlier, End.Finished)
+      last_line_nothing says_nothing = rw all_of_script (ends_with_nothing (in_present_line few) says_nothing)
+
+      pub last_line_input : (input : Input) → read_line line ≡ Some (Some input) → inputs (read ++ more) ≡ (i.earlier ++ input ∷ [], End.Finished)
+      last_line_input input says_input = rw all_of_script (ends_with_input (in_present_line few) input says_input)
+
+      pub last_line_no_form : read_line line ≡ None → inputs (read ++ more) ≡ (i.earlier, End.BadLine number)
+      last_line_no_form says_none = rw all_of_script (ends_with_no_form (in_present_line few) says_none)
+
+    -- and what one gives that has a byte more than a script may have
+    pub too_long : script_limit ≤ count → (length rest == 0) ≡ false → (more : List ℕ) → inputs (read ++ more) ≡ (i.earlier, End.TooLong)
+    too_long full some more =
+        let all : script_limit ≤ length (i.ended ++ line) = omega (arith, full, i.size, length-append i.ended line) in
+        rw (append_assoc i.ended line rest) at (beyond_limit rest some (in_present_line few) all more)
 
   -- the mote was halted
-  pub in_run_halted : (is_ended : Bool) → machine.is_halted ≡ true →
-      HasRun config says quiet taken_old taken_new is_ended given_old given_new End.Halted
-  in_run_halted is_ended halted = record {
-    bytes = i.bytes;
-    out = lines quiet i.entries;
-    taken = i.taken;
-    given = i.given;
-    is_text = λ more whole.
-        let later = read_on number line (script_limit - length i.bytes) more in
-        record {
-          last = here;
-          runs = rw (i.before.onward more) (i.onward later.0 here (resting_runs says here later.0 i.still (λ h. absurd (cc))));
-          ends = rw (i.halts, halted) refl;
-          is_text = sym (append-nil (lines quiet i.entries));
-        };
-  }
+  pub in_run_halted : (is_ended : Bool) (given_later : List ℕ) → machine.is_halted ≡ true → WritesOn given_new due given_later [] (final_line End.Halted) →
+      HasRun config says quiet taken_old taken_new is_ended given_old given_later End.Halted
+  in_run_halted is_ended given_later halted closes =
+      let w = then_written i.written closes in record {
+        bytes = read;
+        out = w.out;
+        taken = i.taken;
+        given = w.given;
+        is_text = λ more whole.
+            let later = read_on number [] (script_limit - length i.ended) ((line ++ rest) ++ more) in
+            record {
+              last = here;
+              runs = rw (append_assoc i.ended (line ++ rest) more, i.before.onward ((line ++ rest) ++ more)) (i.onward later.0 here (resting_runs says here later.0 i.still (λ h. absurd (cc))));
+              ends = rw (i.halts, halted) refl;
+              is_text = sym (w.parted ∙ append-nil w.out);
+            };
+      }
 
   -- the script ended, or a line had no form, or the script was too long: nothing more is handed in
-  pub in_run_stops : (end : End) (is_ended : Bool) (bytes taken_later given_later : List ℕ) → machine.is_halted ≡ false →
-      taken_later ≡ taken_old ++ bytes → given_later ≡ given_new ++ final_line end →
-      ((more : List ℕ) → (is_ended ≡ true → more ≡ []) → inputs (bytes ++ more) ≡ (i.earlier, end)) →
-      HasRun config says quiet taken_old taken_later is_ended given_old given_later end
-  in_run_stops end is_ended bytes taken_later given_later running taken given gives = record {
-    bytes = bytes;
-    out = lines quiet i.entries ++ final_line end;
-    taken = taken;
-    given = rw (given, i.given) (append_assoc given_old (lines quiet i.entries) (final_line end));
-    is_text = λ more whole.
-        let runs = i.onward [] here (resting_runs says here [] i.still (λ h. refl)) in
-        record {
-          last = here;
-          runs = rw (gives more whole) (rw append-nil at runs);
-          ends = rw (gives more whole, i.halts, running) refl;
-          is_text = refl;
-        };
-  }
+  pub in_run_stops : (end : End) (is_ended : Bool) (given_later : List ℕ) → machine.is_halted ≡ false →
+      WritesOn given_new due given_later [] (final_line end) →
+      ((more : List ℕ) → (is_ended ≡ true → more ≡ []) → inputs (read ++ more) ≡ (i.earlier, end)) →
+      HasRun config says quiet taken_old taken_new is_ended given_old given_later end
+  in_run_stops end is_ended given_later running closes gives =
+      let w = then_written i.written closes in record {
+        bytes = read;
+        out = w.out;
+        taken = i.taken;
+        given = w.given;
+        is_text = λ more whole.
+            let runs = i.onward [] here (resting_runs says here [] i.still (λ h. refl)) in
+            record {
+              last = here;
+              runs = rw (gives more whole) (rw append-nil at runs);
+              ends = rw (gives more whole, i.halts, running) refl;
+              is_text = sym (w.parted ∙ append-nil w.out);
+            };
+      }
 
-  -- reading failed, at rest after the lines that were read whole
-  pub in_run_read_fault : (taken_later given_later : List ℕ) → taken_later ≡ taken_new → given_later ≡ given_new →
+  -- reading failed, at rest after the lines that have ended
+  pub in_run_read_fault : (taken_later given_later : List ℕ) → count ≤ script_limit → rest ≡ [] → taken_later ≡ taken_new → WritesOn given_new due given_later [] [] →
       HasRunOnWholeLines config says quiet taken_old taken_later given_old given_later
-  in_run_read_fault taken_later given_later taken given = record {
-    bytes = i.bytes;
-    out = lines quiet i.entries;
-    taken = taken ∙ i.taken;
-    given = given ∙ i.given;
-    inputs = i.earlier;
-    have_form = i.before.whole;
-    last = here;
-    runs = rw append-nil at (i.onward [] here (resting_runs says here [] i.still (λ h. refl)));
-    is_text = sym (append-nil (lines quiet i.entries));
-  }
+  in_run_read_fault taken_later given_later few none taken writes =
+      let w = then_flushed i.written writes in record {
+        bytes = i.ended ++ line;
+        out = w.out;
+        taken = taken ∙ (i.taken ∙ ap (λ v. taken_old ++ v) (read_up none));
+        given = w.given;
+        inputs = i.earlier;
+        have_form = (in_present_line few).whole;
+        last = here;
+        runs = rw append-nil at (i.onward [] here (resting_runs says here [] i.still (λ h. refl)));
+        is_text = sym (append-nil (lines quiet i.entries) ∙ (w.parted ∙ append-nil w.out));
+      }
 
-  -- the last line had an input, which was carried out
-  pub in_run_ends_with_input : (input : Input) (is_ended : Bool) (taken_later given_later : List ℕ) (handed new : Machine) (now' : Applications) → machine.is_halted ≡ false →
-      taken_later ≡ taken_new → is_ended ≡ true → handed ≡ fed input machine → inputs i.bytes ≡ (i.earlier ++ input ∷ [], End.Finished) →
-      Settled says quiet i.entries handed new now' given_new given_later → is_still new ≡ true →
-      HasRun config says quiet taken_old taken_later is_ended given_old given_later (script_done new)
-  in_run_ends_with_input input is_ended taken_later given_later handed new now' running taken ended hands gives settles still =
-      let settled : Settled says quiet i.entries (fed input machine) new now' given_new given_later = rw hands at settles in record {
-        bytes = i.bytes;
-        out = lines quiet (i.entries ++ settled.entries);
-        taken = taken ∙ i.taken;
-        given = rw (settled.written, i.given, lines-append quiet i.entries settled.entries) (append_assoc given_old (lines quiet i.entries) (lines quiet settled.entries));
+  -- the script's end ended the last line, whose input was carried out
+  pub in_run_ends_with_input : (input : Input) (is_ended : Bool) (handed new : Machine) (now' : Applications) (given_after due_after given_later : List ℕ) → machine.is_halted ≡ false →
+      count ≤ script_limit → rest ≡ [] → is_ended ≡ true → handed ≡ fed input machine → read_line line ≡ Some (Some input) →
+      Settled says quiet i.entries handed new now' given_new due given_after due_after → is_still new ≡ true →
+      WritesOn given_after due_after given_later [] (final_line (script_done new)) →
+      HasRun config says quiet taken_old taken_new is_ended given_old given_later (script_done new)
+  in_run_ends_with_input input is_ended handed new now' given_after due_after given_later running few none ended hands says_input settles still closes =
+      let settled : Settled says quiet i.entries (fed input machine) new now' given_new due given_after due_after = rw hands at settles in
+      let w = then_written (then_written i.written settled.written) closes in
+      let gives = ends_with_input (in_present_line few) input says_input in record {
+        bytes = read;
+        out = w.out;
+        taken = i.taken;
+        given = w.given;
         is_text = λ more whole.
             let last : Running = record { machine = new; entries = i.entries ++ settled.entries } in
-            let runs = input_onward input [] new now' given_later last running settled (resting_runs says last [] still (λ h. refl)) in
-            let all : i.bytes ++ more ≡ i.bytes = rw (whole ended) (append-nil i.bytes) in
+            let runs = input_onward input [] new now' given_after due_after last running settled (resting_runs says last [] still (λ h. refl)) in
+            let all : read ++ more ≡ i.ended ++ line = rw (whole ended, read_up none) (append-nil (i.ended ++ line)) in
             record {
               last = last;
               runs = rw (all, gives) runs;
               ends = rw (all, gives, settled.halts (i.halts ∙ fed_halts machine input)) refl;
-              is_text = rw (no_last_line new.is_halted) (sym (append-nil (lines quiet (i.entries ++ settled.entries))));
+              is_text = rw (lines-append quiet i.entries settled.entries) (sym (w.parted ∙ append-nil w.out));
             };
       }

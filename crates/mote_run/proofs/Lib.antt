@@ -2,7 +2,10 @@ pub mod Determined
 pub mod Fronts
 pub mod GivenBytes
 pub mod InRun
-pub mod NextByte
+pub mod NextPart
 pub mod Pieces
 pub mod ReadSoFar
 pub mod Settling
+pub mod Shown
+pub mod Windows
+pub mod Writing

@@ -1,6 +1,7 @@
 -- Small facts on results and on front parts.
-use Rattle.std.proofs.Common.{◌≡◌, ◌+◌, ◌-◌, ◌++◌, ◌≤◌, ◌∙◌, ℕ, List, length, take, drop, ap, sym, arith, append_assoc}
-use Rattle.std.specs.Prelude.{OnErr, Ok, Err, Result}
+use Rattle.std.proofs.Common.{◌≡◌, ◌+◌, ◌-◌, ◌++◌, ◌≤◌, ◌∙◌, ℕ, List, length, take, drop, ap, subst, sym, arith, append_assoc}
+use Rattle.std.specs.Prelude.{IfOk, IsErrOf, OnErr, OnOk, Ok, Err, Result}
+use Rattle.std.specs.Result.{IsErrAnd}
 use Rattle.std.proofs.Math.Seq.{take-add}
 use Rattle.std.proofs.lemmas.List.{take_all, length-drop}
 
@@ -20,3 +21,17 @@ given_on before now later bytes n m first second =
 pub on_err : {T E P : Type 0} (r : Result T E) → P → OnErr r P
 on_err (Ok value) p = tt
 on_err (Err e) p = p
+
+-- a success with this value
+pub ended_with : {T E : Type 0} {Q : Type 0} (P : T → Type 0) (r : Result T E) (value : T) → IfOk r (λ x. x ≡ value) → OnOk r Q → (Q → P value) → IfOk r P
+ended_with P (Ok x) value is q f = subst P (sym is) (f q)
+ended_with P (Err e) value is q f = tt
+
+-- a failure after which this holds
+pub failed_with : {T E Q P : Type 0} (r : Result T E) → OnErr r Q → (Q → P) → OnErr r P
+failed_with (Ok value) q f = tt
+failed_with (Err e) q f = f q
+
+-- a `?` hands on the same error
+pub same_error : {T U E : Type 0} (r : Result T E) (e kind : E) → IsErrAnd r (λ x. x ≡ e) → IsErrOf r kind → IsErrOf {T = U} (Err e) kind
+same_error {U = U} r e kind and is = ap (λ x. Err x) (sym (subst (λ v. IsErrAnd v (λ x. x ≡ e)) is and))

@@ -1,7 +1,6 @@
 -- Steps of the kernel, as steps of the run.
 use Rattle.std.proofs.Common.{◌≡◌, ℕ, zero, suc, Bool, List, [], ◌∷◌, ◌++◌, refl, ap, sym, ◌∙◌, append_assoc}
-use Rattle.std.proofs.Math.Seq.{take-append-add}
-use Rattle.std.specs.Prelude.{take, length, flat_map, ◌+◌, ◌||◌}
+use Rattle.std.specs.Prelude.{flat_map, ◌||◌}
 use Rattle.std.specs.List.{list_any}
 use Rattle.std.proofs.lemmas.List.{append-nil}
 use Rattle.std.proofs.lemmas.List.Elements.{filter-append, filter_map-append}
@@ -18,6 +17,8 @@ use Rattle.kernel_core.specs.declared.step.Step.{Step}
 use Rattle.kernel_core.specs.Machine.{Machine}
 use Rattle.kernel_core.specs.Run.{Silently, MakesEntry, GoesOn, Running, made, heard, stimulus_of, answers_after, after_step, after_steps}
 use Rattle.mote_run.specs.Code.Settling.{CutOff, IsTold, Settled, lines}
+use Rattle.mote_run.specs.Code.Writing.{WritesOn}
+use Rattle.mote_run.proofs.Writing.{nothing_more, then_written}
 
 -- the lines of more entries come behind those of the entries before
 pub lines-append : (quiet : Bool) (entries more : List Entry) → lines quiet (entries ++ more) ≡ lines quiet entries ++ lines quiet more
@@ -75,14 +76,14 @@ told_after says now later entries more is_told law = record {
       ∙ ap (λ v. v ++ (next ∷ rest)) (sym (filter_map-append (stimulus_of p) entries more))));
 }
 
-pub nothing_settled : (says now : Applications) (quiet : Bool) (before : List Entry) (m : Machine) (given : List ℕ) → IsTold says before now →
-    Settled says quiet before m m now given given
-nothing_settled says now quiet before m given told = record {
+pub nothing_settled : (says now : Applications) (quiet : Bool) (before : List Entry) (m : Machine) (given due : List ℕ) → IsTold says before now →
+    Settled says quiet before m m now given due given due
+nothing_settled says now quiet before m given due told = record {
   entries = [];
   count = 0;
   walked = rw append-nil refl;
   told = rw append-nil told;
-  written = sym (append-nil given);
+  written = nothing_more given due;
   halts = λ h. rw append-nil h;
 }
 
@@ -92,14 +93,14 @@ halts_more : (says : Applications) (before entries more : List Entry) (old mid n
 halts_more says before entries more old mid new so_far e h =
     rw (← append_assoc before entries more, list_any-append is_halt (before ++ entries) more, so_far h, e) refl
 
-pub settled_more : (says now later : Applications) (quiet : Bool) (before : List Entry) (old mid new : Machine) (given₀ given₁ given₂ : List ℕ) (step : Step) →
-    Settled says quiet before old mid now given₀ given₁ →
+pub settled_more : (says now later : Applications) (quiet : Bool) (before : List Entry) (old mid new : Machine) (given₀ due₀ given₁ due₁ given₂ due₂ : List ℕ) (step : Step) →
+    Settled says quiet before old mid now given₀ due₀ given₁ due₁ →
     GoesOn (λ p stimulus. now p (stimulus ∷ [])) mid step new →
     ((p : ℕ) (next : Stimulus) (rest : List Stimulus) → later p (next ∷ rest) ≡ now p (heard p (made step) ++ (next ∷ rest))) →
     new.is_halted ≡ (mid.is_halted || list_any is_halt (made step)) →
-    given₂ ≡ given₁ ++ lines quiet (made step) →
-    Settled says quiet before old new later given₀ given₂
-settled_more says now later quiet before old mid new given₀ given₁ given₂ step so_far goes law halted written =
+    WritesOn given₁ due₁ given₂ due₂ (lines quiet (made step)) →
+    Settled says quiet before old new later given₀ due₀ given₂ due₂
+settled_more says now later quiet before old mid new given₀ due₀ given₁ due₁ given₂ due₂ step so_far goes law halted written =
     let same : (λ p stimulus. now p (stimulus ∷ [])) ≡ answers_after says (before ++ so_far.entries) =
     fun_ext (λ p. fun_ext (λ stimulus. so_far.told.each p stimulus [])) in
     let k = made_steps says (before ++ so_far.entries) mid new step (rw same at goes) in
@@ -109,27 +110,25 @@ settled_more says now later quiet before old mid new given₀ given₁ given₂ 
       count = j.0;
       walked = j.1 ∙ (ap (after_steps says k.0) so_far.walked ∙ (k.1 ∙ rw (append_assoc before so_far.entries (made step)) refl));
       told = rw (append_assoc before so_far.entries (made step)) at (told_after says now later (before ++ so_far.entries) (made step) so_far.told law);
-      written = rw (written, so_far.written, lines-append quiet so_far.entries (made step)) (append_assoc given₀ (lines quiet so_far.entries) (lines quiet (made step)));
+      written = rw (lines-append quiet so_far.entries (made step)) (then_written so_far.written written);
       halts = halts_more says before so_far.entries (made step) old.is_halted mid.is_halted new.is_halted so_far.halts halted;
     }
 
-pub cut_off_at : (says now : Applications) (quiet : Bool) (before : List Entry) (old mid new : Machine) (given₀ given₁ given₂ : List ℕ) (entry : Entry) (n : ℕ) →
-    Settled says quiet before old mid now given₀ given₁ →
+pub cut_off_at : (says now : Applications) (quiet : Bool) (before : List Entry) (old mid new : Machine) (given₀ due₀ given₁ due₁ given₂ lost : List ℕ) (entry : Entry) →
+    Settled says quiet before old mid now given₀ due₀ given₁ due₁ →
     MakesEntry (λ p stimulus. now p (stimulus ∷ [])) mid entry new →
-    given₂ ≡ given₁ ++ take n (lines quiet (entry ∷ [])) →
-    CutOff says quiet before old given₀ given₂
-cut_off_at says now quiet before old mid new given₀ given₁ given₂ entry n so_far makes written =
+    WritesOn given₁ due₁ given₂ lost (lines quiet (entry ∷ [])) →
+    CutOff says quiet before old given₀ due₀ given₂
+cut_off_at says now quiet before old mid new given₀ due₀ given₁ due₁ given₂ lost entry so_far makes written =
     let same : (λ p stimulus. now p (stimulus ∷ [])) ≡ answers_after says (before ++ so_far.entries) =
     fun_ext (λ p. fun_ext (λ stimulus. so_far.told.each p stimulus [])) in
     let k = made_steps says (before ++ so_far.entries) mid new (Step.Entry entry) (rw same at makes) in
     let j = steps_after says so_far.count k.0 (record { machine = old; entries = before }) in
-    let front : take (length (lines quiet so_far.entries) + n) (lines quiet (so_far.entries ++ entry ∷ [])) ≡ lines quiet so_far.entries ++ take n (lines quiet (entry ∷ [])) =
-    rw (lines-append quiet so_far.entries (entry ∷ [])) (take-append-add (lines quiet so_far.entries) (lines quiet (entry ∷ [])) n) in
     record {
       entries = so_far.entries ++ entry ∷ [];
       count = j.0;
       machine = new;
       walked = j.1 ∙ (ap (after_steps says k.0) so_far.walked ∙ (k.1 ∙ rw (append_assoc before so_far.entries (entry ∷ [])) refl));
-      size = length (lines quiet so_far.entries) + n;
-      written = rw (front, written, so_far.written) (append_assoc given₀ (lines quiet so_far.entries) (take n (lines quiet (entry ∷ []))));
+      lost = lost;
+      written = rw (lines-append quiet so_far.entries (entry ∷ [])) (then_written so_far.written written);
     }

@@ -1,9 +1,9 @@
 -- What a run writes.
-use Rattle.std.specs.Prelude.{◌≡◌, ◌≤◌, ◌+◌, ℕ, Bool, true, length, List, [], ◌++◌, if◌then◌else◌}
+use Rattle.std.specs.Prelude.{◌≡◌, ℕ, Bool, true, length, List, [], ◌++◌, if◌then◌else◌}
 use Rattle.mote_types.specs.Applications.{Applications}
 use Rattle.mote_types.specs.declared.entry.Input.{Input}
 use Rattle.mote_text.specs.declared.script.End.{End}
-use Rattle.mote_text.specs.Script.{inputs, read_lines, script_limit, whole_lines}
+use Rattle.mote_text.specs.Script.{inputs, read_lines, whole_lines}
 use Rattle.mote_text.specs.Transcript.{end_of, shown, text}
 use Rattle.kernel_core.specs.declared.config.Config.{Config}
 use Rattle.kernel_core.specs.Machine.{Machine, booted, is_bootable}

@@ -2,8 +2,11 @@
 #![tactic(auto)]
 
 mod device;
+mod due;
 pub mod law;
-mod present_line;
+mod piece;
+mod reader;
+mod refill;
 pub mod run;
 mod settle;
 

@@ -6,9 +6,15 @@ ghost use Rattle.mote_text.specs.Transcript.{final_line};
 ghost use Rattle.kernel_core.specs.declared.config.Config.{Config};
 ghost use Rattle.kernel_core.specs.Machine.{booted};
 ghost use Rattle.mote_run.specs.RunText.{HasRead, HasRun, HasRunInPart, HasRunOnWholeLines, WasBooted, script_done};
+ghost use Rattle.mote_run.specs.Shown.{Shows};
+ghost use Rattle.run_laws.specs.RunLaws.{BlocksAreOwn, EventsArriveInOrder, TimersAreKept};
+ghost use Rattle.mote_run.specs.Code.Writing.{WritesOn};
 
-use crate::device::{read_byte, write_all};
-use crate::present_line::PresentLine;
+use crate::due::Due;
+use crate::law::text_exists;
+use crate::piece::Piece;
+use crate::reader::Reader;
+use crate::refill::refill;
 use crate::settle::settle;
 use kernel_core::kernel::Kernel;
 use mote_text::line::LineBuf;
@@ -16,7 +22,13 @@ use mote_text::script::{BadLine, End, SCRIPT_LIMIT};
 use mote_text::transcript::final_text;
 use mote_types::app::App;
 use mote_types::device::{ByteSink, ByteSource};
+use run_laws::events::events_arrive_in_order;
+use run_laws::memory::blocks_are_own;
+use run_laws::timers::timers_are_kept;
 use thiserror::Error;
+
+/// How many bytes a script has at most.
+const LIMIT: usize = SCRIPT_LIMIT as usize;
 
 /// A device that failed during a run.
 #[derive(Clone, Copy, Debug, PartialEq, Eq, Drop, Error)]
@@ -27,18 +39,21 @@ pub enum RunFault {
     Write,
 }
 
-/// Writes the last line.
-fn close<K: ByteSink>(sink: &mut K, end: End) -> Result<(), RunFault>
+/// Writes the last line, behind all that is due, and answers how the run ends.
+fn close<K: ByteSink>(sink: &mut K, due: &mut Due, end: End) -> Result<End, RunFault>
     requires { K.failure_count sink.old < 2 ^ 64 - 1 }
-    ensures given { OnOk result (K.is_named → K.given sink.new ≡ K.given sink.old ++ final_line end) }
-    ensures front_given { OnErr result (K.is_named → (n : ℕ) × (K.given sink.new ≡ K.given sink.old ++ take n (final_line end))) }
+    ensures end { IfOk result (λ ends. ends ≡ end) }
+    ensures written { OnOk result (K.is_named → WritesOn (K.given sink.old) due.old.text.items (K.given sink.new) [] (final_line end)) }
+    ensures cut_off { OnErr result (K.is_named → (lost : List ℕ) × WritesOn (K.given sink.old) due.old.text.items (K.given sink.new) lost (final_line end)) }
     ensures succeeded { OnOk result (K.failure_count sink.new ≡ K.failure_count sink.old) }
     ensures fault { IfErr result (λ fault. fault ≡ RunFault.Write) }
     ensures failed { OnErr result (K.failure_count sink.new ≡ K.failure_count sink.old + 1) }
 {
     let mut line = LineBuf::new();
     final_text(end, &mut line);
-    write_all(sink, line.as_slice())
+    due.put(sink, line.as_slice())?;
+    due.flush(sink)?;
+    Ok(end)
 }
 
 /// The end of a run whose script has ended.
@@ -52,12 +67,75 @@ fn end_of(kernel: &Kernel) -> End
     }
 }
 
-/// Runs the applications over a script: reads it byte by byte, hands each line's input to the mote, and writes the text
-/// of the run; where `quiet` is true, only the lines of a quiet transcript. All text that is due is written before it reads
-/// again, and nothing is read behind the end.
+/// Reads the script in pieces, hands each line's input to the mote, and writes the text of the run.
+fn write_run<S: ByteSource, K: ByteSink>(
+    source: &mut S,
+    sink: &mut K,
+    kernel: Kernel,
+    apps: &mut [Box<dyn App>],
+    quiet: bool,
+) -> Result<End, RunFault>
+    requires booted { WasBooted kernel (length apps.old) }
+    requires unended { S.is_ended source.old ≡ false }
+    requires countable_reads { S.failure_count source.old < 2 ^ 64 - 1 }
+    requires countable_writes { K.failure_count sink.old < 2 ^ 64 - 1 }
+    ensures text { IfOk result (λ end. S.is_named → K.is_named → (config : Config) → kernel.machine ≡ booted config →
+        HasRun config (says_of says apps.old) quiet (S.taken source.old) (S.taken source.new) (S.is_ended source.new) (K.given sink.old) (K.given sink.new) end) }
+    ensures front { OnErr result (S.is_named → K.is_named → (config : Config) → kernel.machine ≡ booted config →
+        HasRunInPart config (says_of says apps.old) quiet (S.taken source.old) (S.taken source.new) (S.is_ended source.new) (K.given sink.old) (K.given sink.new)) }
+    ensures after_read_fault { IsErrOf result RunFault.Read → S.is_named → K.is_named → (config : Config) → kernel.machine ≡ booted config →
+        HasRunOnWholeLines config (says_of says apps.old) quiet (S.taken source.old) (S.taken source.new) (K.given sink.old) (K.given sink.new) }
+    ensures few { S.is_named → (count : ℕ) × (count ≤ SCRIPT_LIMIT + 1) × HasRead count (S.taken source.old) (S.taken source.new) }
+    ensures read_fault { IsErrOf result RunFault.Read ↔ (S.failure_count source.old < S.failure_count source.new) }
+    ensures write_fault { IsErrOf result RunFault.Write ↔ (K.failure_count sink.old < K.failure_count sink.new) }
+{
+    let mut kernel = kernel;
+    let mut due = Due::new();
+    let mut piece = Piece::new();
+    let mut reader = Reader::new();
+    let mut taken = 0;
+    settle(sink, &mut due, &mut kernel, apps, quiet)?;
+    'part: loop {
+        if kernel.halted() {
+            return close(sink, &mut due, End::Halted);
+        }
+        refill(source, sink, &mut due, &mut piece, LIMIT + 1 - taken)?;
+        if piece.is_empty() {
+            match reader.end() {
+                Ok(None) => return close(sink, &mut due, End::Finished),
+                Ok(Some(input)) => {
+                    kernel.feed(input);
+                    settle(sink, &mut due, &mut kernel, apps, quiet)?;
+                    return close(sink, &mut due, end_of(&kernel));
+                }
+                Err(BadLine) => return close(sink, &mut due, End::BadLine(reader.number)),
+            }
+        }
+        if taken == LIMIT {
+            return close(sink, &mut due, End::TooLong);
+        }
+        let (used, says) = reader.take(piece.first(LIMIT - taken));
+        piece.skip(used);
+        taken += used;
+        match says {
+            Ok(None) => {}
+            Ok(Some(input)) => {
+                kernel.feed(input);
+                settle(sink, &mut due, &mut kernel, apps, quiet)?;
+            }
+            Err(BadLine) => return close(sink, &mut due, End::BadLine(reader.number)),
+        }
+    }
+}
+
+/// Runs the applications over a script: reads it in pieces of at most 4,096 bytes, hands each line's input to the mote, and
+/// writes the text of the run; where `quiet` is true, only the lines of a quiet transcript. All text that is due is written
+/// before it reads again. Nothing is read behind the end, nor after a line of no form or a halt.
 ///
 /// What is written is the text of the run that the machine makes with the same inputs and applications, and the answer
-/// is how that run ends.
+/// is how that run ends. Of what that run shows an author of an application can rely on this: a process's managed and heap
+/// blocks are what its own calls made of them (`memory`); the events that are accepted for it arrive in order, and none is
+/// lost (`events`); no timer event comes early or twice, and none is lost (`timers`).
 ///
 /// # Errors
 ///
@@ -82,44 +160,17 @@ pub fn run<S: ByteSource, K: ByteSink>(
     ensures few { S.is_named → (count : ℕ) × (count ≤ SCRIPT_LIMIT + 1) × HasRead count (S.taken source.old) (S.taken source.new) }
     ensures read_fault { IsErrOf result RunFault.Read ↔ (S.failure_count source.old < S.failure_count source.new) }
     ensures write_fault { IsErrOf result RunFault.Write ↔ (K.failure_count sink.old < K.failure_count sink.new) }
+    ensures memory { S.is_named → K.is_named → (config : Config) → kernel.machine ≡ booted config →
+        Shows BlocksAreOwn config (says_of says apps.old) quiet (S.taken source.old) (S.taken source.new) (S.is_ended source.new) (K.given sink.old) (K.given sink.new) result }
+    ensures events { S.is_named → K.is_named → (config : Config) → kernel.machine ≡ booted config →
+        Shows (EventsArriveInOrder config.apps) config (says_of says apps.old) quiet (S.taken source.old) (S.taken source.new) (S.is_ended source.new) (K.given sink.old) (K.given sink.new) result }
+    ensures timers { S.is_named → K.is_named → (config : Config) → kernel.machine ≡ booted config →
+        Shows (TimersAreKept config.apps) config (says_of says apps.old) quiet (S.taken source.old) (S.taken source.new) (S.is_ended source.new) (K.given sink.old) (K.given sink.new) result }
 {
-    let mut kernel = kernel;
-    let mut line = PresentLine::new();
-    let mut taken = 0;
-    settle(sink, &mut kernel, apps, quiet)?;
-    'byte: loop {
-        if kernel.halted() {
-            return Ok(End::Halted);
-        }
-        let Some(byte) = read_byte(source)? else {
-            match line.read() {
-                Ok(None) => return Ok(End::Finished),
-                Ok(Some(input)) => {
-                    kernel.feed(input);
-                    settle(sink, &mut kernel, apps, quiet)?;
-                    return Ok(end_of(&kernel));
-                }
-                Err(BadLine) => {
-                    close(sink, End::BadLine(line.number))?;
-                    return Ok(End::BadLine(line.number));
-                }
-            }
-        };
-        if taken == SCRIPT_LIMIT {
-            close(sink, End::TooLong)?;
-            return Ok(End::TooLong);
-        }
-        taken += 1;
-        match line.take(byte) {
-            Ok(None) => {}
-            Ok(Some(input)) => {
-                kernel.feed(input);
-                settle(sink, &mut kernel, apps, quiet)?;
-            }
-            Err(BadLine) => {
-                close(sink, End::BadLine(line.number))?;
-                return Ok(End::BadLine(line.number));
-            }
-        }
-    }
+    // Laws of every run of the machine.
+    blocks_are_own();
+    events_arrive_in_order();
+    timers_are_kept();
+    text_exists();
+    write_run(source, sink, kernel, apps, quiet)
 }

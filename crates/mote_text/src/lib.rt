@@ -3,6 +3,7 @@
 
 mod calls;
 pub mod line;
+pub mod lines;
 pub mod script;
 pub mod transcript;
 mod words;

@@ -11,6 +11,9 @@ use itoa::Buffer;
 /// Room for a line of a transcript with its end: no line is longer.
 pub type LineBuf = ArrayVec<u8, 640>;
 
+/// What stands where digits will be written.
+static BLANKS: [u8; 512] = [0; 512];
+
 /// Appends these bytes.
 pub(crate) fn push_bytes(line: &mut LineBuf, bytes: &[u8])
     requires { length line.old.items + length bytes.now ≤ 640 }
@@ -26,10 +29,9 @@ pub(crate) fn push_digits(line: &mut LineBuf, bytes: &[u8])
     ensures text { line.new.items ≡ line.old.items ++ encode_lower bytes.now }
     ensures length { length line.new.items ≡ length line.old.items + 2 * length bytes.now }
 {
-    let mut digits = [0; 512];
-    let written = &mut digits[..2 * bytes.len()];
-    let _ = hex::encode_to_slice(bytes, written);
-    push_bytes(line, written);
+    let start = line.len();
+    push_bytes(line, &BLANKS[..2 * bytes.len()]);
+    let _ = hex::encode_to_slice(bytes, &mut line.as_mut_slice()[start..]);
 }
 
 /// Appends this word.

@@ -1,4 +1,5 @@
 pub mod Apart
+pub mod Asked
 pub mod FrameBlocks
 pub mod HeapAsked
 pub mod HeapOthers

@@ -2,7 +2,13 @@
 use Rattle.std.specs.Prelude.{ℕ, ◌/◌, Bool, Option, Some, None, is_some}
 use Rattle.std.specs.Option.{option_map}
 use Rattle.mote_types.specs.declared.call.Call.{Call}
-use Rattle.node_memory.specs.declared.part.Part.{Part}
+
+-- a part of memory. There are pools 0 to 3; a call may name another one
+pub data Part : Type 0 where
+  Managed : Part
+  Heap : Part
+  -- a pool with its lists
+  Pool : ℕ → Part
 
 -- the pool that a call is on, or on one of whose lists
 abbrev pub pool_called : Call → Option ℕ
@@ -37,10 +43,6 @@ part_called (Call.HeapWrite b at chunk) = Some Part.Heap
 part_called (Call.HeapRead b at len) = Some Part.Heap
 part_called Call.HeapStats = Some Part.Heap
 part_called call = option_map Part.Pool (pool_called call)
-
-abbrev pub IsPool : Part → Type 0
-IsPool (Part.Pool k) = Unit {0}
-IsPool _ = ⊥
 
 abbrev pub is_memory_call : Call → Bool
 is_memory_call call = is_some (part_called call)

@@ -11,10 +11,10 @@ mod list_calls;
 mod listed_pool;
 mod managed;
 mod memory;
-mod part;
+mod memory_call;
 mod ranges;
 mod sizes;
 
 pub use memory::NodeMemory;
-pub use part::is_memory_call;
+pub use memory_call::is_memory_call;
 pub use sizes::Sizes;

@@ -1,16 +1,15 @@
 //! The arena with all that lies in it, and the calls on it.
 
-ghost use Rattle.std.specs.Prelude.{◌≡◌, ◌↔◌, ◌+◌, ◌*◌, true, false, Some, sum_by, IfOk, IsErrOf};
+ghost use Rattle.std.specs.Prelude.{◌≡◌, ◌↔◌, ◌+◌, ◌*◌, true, false, sum_by, IfOk, IsErrOf};
 ghost use Rattle.node_memory.specs.Memory.{usable_sizes};
 ghost use Rattle.node_memory.specs.Sizes.{are_sizes};
 ghost use Rattle.node_memory.specs.Ask as asking;
 ghost use Rattle.node_memory.specs.Ask.{IfRefused};
-ghost use Rattle.node_memory.specs.Parts as parts;
 ghost use Rattle.node_memory.specs.Parts.{is_memory_call};
-ghost use Rattle.node_memory.specs.declared.part.Part.{Part as MemoryPart};
+ghost use Rattle.node_memory.specs.Code.MemoryCalls.{heap_call, managed_call, pool_call};
 
 use crate::listed_pool::{ListedPool, pool_size};
-use crate::part::{Part, part_called};
+use crate::memory_call::{HeapCall, ManagedCall, MemoryCall, PoolCall};
 use crate::sizes::Sizes;
 use arena_core::Arena;
 use heap_core::Heap;
@@ -101,61 +100,58 @@ impl NodeMemory {
         ensures refused { IfRefused result (self.new ≡ self.old) }
         ensures others { LeavesOthers (changed_block call.now pid.0 self.old.contents) self.old.contents self.new.contents }
     {
-        match part_called(call) {
-            Some(Part::Managed) => self.ask_managed(pid, call),
-            Some(Part::Heap) => self.ask_heap(pid, call),
-            Some(Part::Pool(pool)) => self.ask_pool(pool, call),
+        match MemoryCall::of(call) {
+            Some(MemoryCall::Managed(call)) => self.ask_managed(pid, call),
+            Some(MemoryCall::Heap(call)) => self.ask_heap(pid, call),
+            Some(MemoryCall::Pool(pool, call)) => self.ask_pool(pool, call),
             None => unreachable!(),
         }
     }
 
     /// Carries out a call on managed memory.
-    fn ask_managed(&mut self, pid: Pid, call: &Call) -> Reply
-        requires on_managed { parts.part_called call.now ≡ Some MemoryPart.Managed }
-        requires asker { asking.MayAsk pid.0 call.now }
-        ensures asked { asking.ask_managed call.now pid.0 self.old.contents ≡ (self.new.contents, result) }
+    fn ask_managed(&mut self, pid: Pid, call: ManagedCall) -> Reply
+        requires asker { asking.MayAsk pid.0 (managed_call call) }
+        ensures asked { asking.ask_managed (managed_call call.entry) pid.0 self.old.contents ≡ (self.new.contents, result) }
         ensures refused { IfRefused result (self.new ≡ self.old) }
     {
         match call {
-            Call::MmemAlloc(handle, n) => Reply::done_or_refused(self.mmem_alloc(pid, *handle, *n)),
-            Call::MmemFree(handle) => Reply::done_or_refused(self.mmem_free(pid, *handle)),
-            Call::MmemWrite(handle, at, chunk) => {
-                Reply::done_or_refused(self.mmem_write(pid, *handle, *at, chunk.as_slice()))
+            ManagedCall::Alloc(handle, n) => Reply::done_or_refused(self.mmem_alloc(
+                pid, handle, n,
+            )),
+            ManagedCall::Free(handle) => Reply::done_or_refused(self.mmem_free(pid, handle)),
+            ManagedCall::Write(handle, at, chunk) => {
+                Reply::done_or_refused(self.mmem_write(pid, handle, at, chunk.as_slice()))
             }
-            Call::MmemRead(handle, at, len) => match self.mmem_read(pid, *handle, *at, *len) {
+            ManagedCall::Read(handle, at, len) => match self.mmem_read(pid, handle, at, len) {
                 Ok(chunk) => Reply::Bytes(chunk),
                 Err(refusal) => Reply::Refused(refusal),
             },
-            Call::MmemCopy(source, target) => Reply::done_or_refused(self.mmem_copy(
-                pid, *source, *target,
-            )),
-            Call::MmemAvail => Reply::Num(self.mmem_avail()),
-            _ => unreachable!(),
+            ManagedCall::Copy(source, target) => {
+                Reply::done_or_refused(self.mmem_copy(pid, source, target))
+            }
+            ManagedCall::Avail => Reply::Num(self.mmem_avail()),
         }
     }
 
     /// Carries out a call on heap memory.
-    fn ask_heap(&mut self, pid: Pid, call: &Call) -> Reply
-        requires on_heap { parts.part_called call.now ≡ Some MemoryPart.Heap }
-        requires asker { asking.MayAsk pid.0 call.now }
-        ensures asked { asking.ask_heap call.now pid.0 self.old.contents ≡ (self.new.contents, result) }
+    fn ask_heap(&mut self, pid: Pid, call: HeapCall) -> Reply
+        requires asker { asking.MayAsk pid.0 (heap_call call) }
+        ensures asked { asking.ask_heap (heap_call call.entry) pid.0 self.old.contents ≡ (self.new.contents, result) }
         ensures refused { IfRefused result (self.new ≡ self.old) }
     {
         match call {
-            Call::HeapAlloc(block, n) => self.heap_alloc(pid, *block, *n),
-            Call::HeapRealloc(block, n) => self.heap_realloc(pid, *block, *n),
-            Call::HeapFree(block) => self.heap_free(pid, *block),
-            Call::HeapWrite(block, at, chunk) => self.heap_write(pid, *block, *at, chunk),
-            Call::HeapRead(block, at, len) => self.heap_read(pid, *block, *at, *len),
-            Call::HeapStats => self.heap_stats(),
-            _ => unreachable!(),
+            HeapCall::Alloc(block, n) => self.heap_alloc(pid, block, n),
+            HeapCall::Realloc(block, n) => self.heap_realloc(pid, block, n),
+            HeapCall::Free(block) => self.heap_free(pid, block),
+            HeapCall::Write(block, at, chunk) => self.heap_write(pid, block, at, chunk),
+            HeapCall::Read(block, at, len) => self.heap_read(pid, block, at, len),
+            HeapCall::Stats => self.heap_stats(),
         }
     }
 
     /// Carries out a call on a pool or on one of its lists.
-    fn ask_pool(&mut self, pool: u8, call: &Call) -> Reply
-        requires { parts.part_called call.now ≡ Some (MemoryPart.Pool pool) }
-        ensures asked { asking.ask_pool_of pool call.now self.old.contents ≡ (self.new.contents, result) }
+    fn ask_pool(&mut self, pool: u8, call: PoolCall) -> Reply
+        ensures asked { asking.ask_pool_of pool (pool_call pool call.entry) self.old.contents ≡ (self.new.contents, result) }
         ensures refused { IfRefused result (self.new ≡ self.old) }
     {
         if pool as usize >= POOLS {

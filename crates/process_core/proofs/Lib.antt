@@ -5,3 +5,4 @@ pub mod Listed
 pub mod Boot
 pub mod Rest
 pub mod NothingLeft
+pub mod Tops

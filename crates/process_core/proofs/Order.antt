@@ -13,9 +13,6 @@ use Rattle.process_core.specs.Code.Nesting.{IsSound, LiesOn, answering_in, leavi
 use Rattle.process_core.specs.Requests.{is_in_activation}
 use Rattle.process_core.specs.declared.awaited.Awaited.{Awaited}
 use Rattle.process_core.specs.Code.SchedulerFields.{IsInOrder, with_frame, turn_in, callback_in}
-use Rattle.std.proofs.lemmas.Bool.Decides.{nat_tests}
-use Rattle.process_core.specs.Requests as request
-use Rattle.process_core.specs.Code.SchedulerFields.{scheduler_of}
 use Rattle.process_core.proofs.Sound as sound
 
 pub few_frames : (d : SchedulerFields) → IsInOrder d → length d.stack ≤ 2 * d.applications + 2
@@ -25,8 +22,10 @@ few_frames d order = sound.length-le_from_sound d.applications d.processes d.sta
 pub room_on_stack : (d : SchedulerFields) → IsInOrder d → length d.stack ≤ 34
 room_on_stack d order = omega (arith, few_frames d order, order.few)
 
-pub few_below : (d : SchedulerFields) (f : Frame) → IsInOrder (with_frame f d) → length d.stack < 48
-few_below d f order = omega (arith, room_on_stack (with_frame f d) order)
+-- the topmost frame apart
+pub with_top : (d : SchedulerFields) (f : Frame) (below : List Frame) → d.stack ≡ f ∷ below → IsInOrder d → IsInOrder (with_frame f (record d { stack = below }))
+with_top d f below e order =
+    record { sound = rw e at order.sound; bare = rw e at order.bare; room = order.room; few = order.few; numbers = order.numbers }
 
 -- where a frame is on the stack no expiry was answered just now
 never_bare : (awaited : Awaited) (f : Frame) (below new : List Frame)
@@ -76,17 +75,6 @@ pub order_exiting : (d : SchedulerFields) (q : Pid) (walk later : List ℕ) (exi
 order_exiting d q walk later exits still list stack idle e f order =
     record {
       sound = rw (e, f) (sound.sound-exiting d.applications d.processes d.stack q walk later exits still (idle_sound (with_frame (Frame.Leave q walk exits) d) order idle));
-      bare = tt;
-      room = order.room;
-      few = order.few;
-      numbers = order.numbers;
-    }
-
-pub order_taken : (d : SchedulerFields) (p : Pid) (first : First) (reply : Reply) → d.awaited ≡ Awaited.Nothing
-    → IsInOrder (with_frame (Frame.Answer p first reply) d) → IsInOrder (record d { awaited = Awaited.Call p })
-order_taken d p first reply idle order =
-    record {
-      sound = sound.sound-taken d.applications d.processes d.stack p first reply (idle_sound (with_frame (Frame.Answer p first reply) d) order idle);
       bare = tt;
       room = order.room;
       few = order.few;

@@ -9,7 +9,7 @@ use Rattle.process_core.specs.declared.scheduler_fields.SchedulerFields.{Schedul
 use Rattle.process_core.specs.declared.queued.Queued as code
 use Rattle.process_core.specs.Code.SchedulerFields.{scheduler_of, queued_of}
 use Rattle.process_core.specs.declared.frame.Frame.{Frame}
-use Rattle.process_core.specs.Code.Frames.{items_of}
+use Rattle.process_core.specs.Code.Frames.{from_marked}
 use Rattle.mote_types.specs.declared.event.Event.{Event}
 use Rattle.mote_types.specs.declared.event.Origin.{Origin}
 use Rattle.mote_types.specs.declared.event.TheConstants.{INIT, POLL}
@@ -78,6 +78,22 @@ module _ {X : Type 0} where
       → Yields (in_front (Item.PollOne p ∷ []) s) next after
   poll_one_yields s p next after e y = yields_next (in_front (Item.PollOne p ∷ []) s) next after refl (rw e y)
 
+  -- a poll round passes over the processes that are not marked
+  pub unmarked_pass : (s : Scheduler X) (walk : List ℕ)
+      → Yields (in_front (map (λ p. Item.PollOne p) walk) s) None (in_front (map (λ p. Item.PollOne p) (from_marked s.processes walk)) s)
+  unmarked_pass s [] = (0, refl)
+  unmarked_pass s (p ∷ walk) = split (is_marked p s.processes) refl (unmarked_pass s walk)
+    where
+      split : (b : Bool) → is_marked p s.processes ≡ b
+          → Yields (in_front (map (λ q. Item.PollOne q) walk) s) None (in_front (map (λ q. Item.PollOne q) (from_marked s.processes walk)) s)
+          → Yields (in_front (map (λ q. Item.PollOne q) (p ∷ walk)) s) None (in_front (map (λ q. Item.PollOne q) (from_marked s.processes (p ∷ walk))) s)
+      split true e later = rw e (0, refl)
+      split false e later =
+          rw e (
+          yields_next (in_front (map (λ q. Item.PollOne q) (p ∷ walk)) s) None (in_front (map (λ q. Item.PollOne q) (from_marked s.processes walk)) s)
+          refl (rw e later)
+          )
+
   pub start_yields : (s : Scheduler X) (p : ℕ) (next : Option (Job X)) (after : Scheduler X) → state_in s p ≡ State.Absent
       → Yields (in_front (Item.Give p Origin.Synch (of_event (plain_event INIT)) ∷ [])
       (record s { processes = record { number = p; state = State.Running; marked = false } ∷ s.processes })) next after
@@ -108,10 +124,24 @@ deliver_to_yields d rest p event next after first left y =
     deliver_yields (scheduler_of d) p.0 event next after (first_queued d.events.items (code.Queued.To p event) first)
     (rw drop_queued (rw left at y))
 
--- the front frame is worked on
-pub frame_yields : (start : Scheduler ℕ) (d : SchedulerFields) (frame : Frame) (below : List Frame) (next : Option (Job ℕ)) (after : Scheduler ℕ)
-    → d.stack ≡ frame ∷ below → Yields start None (scheduler_of d)
-    → Yields (in_front (items_of frame) (scheduler_of (record d { stack = below }))) next after → Yields start next after
-frame_yields start d frame below next after e first y =
-    let same : scheduler_of d ≡ in_front (items_of frame) (scheduler_of (record d { stack = below })) = rw e refl in
-    yields_after start (scheduler_of d) next after first (rw same y)
+-- the poll round comes to its next marked process
+pub polls_yield : (d : SchedulerFields) (walk later : List ℕ) (below : List Frame) (p : ℕ) (next : Option (Job ℕ)) (after : Scheduler ℕ)
+    → d.stack ≡ Frame.Polls walk ∷ below → from_marked d.processes walk ≡ p ∷ later
+    → Yields (in_front (Item.PollOne p ∷ []) (scheduler_of (record d { stack = Frame.Polls later ∷ below }))) next after
+    → Yields (scheduler_of d) next after
+polls_yield d walk later below p next after e first y =
+    let s = scheduler_of (record d { stack = below }) in
+    let start : scheduler_of d ≡ in_front (map (λ q. Item.PollOne q) walk) s = rw e refl in
+    rw start (
+    yields_after (in_front (map (λ q. Item.PollOne q) walk) s) (in_front (map (λ q. Item.PollOne q) (from_marked d.processes walk)) s) next after
+    (unmarked_pass s walk) (rw first y)
+    )
+
+-- none is marked any more
+pub polls_end : (d : SchedulerFields) (walk : List ℕ) (below : List Frame)
+    → d.stack ≡ Frame.Polls walk ∷ below → from_marked d.processes walk ≡ [] → Yields (scheduler_of d) None (scheduler_of (record d { stack = below }))
+polls_end d walk below e none =
+    let s = scheduler_of (record d { stack = below }) in
+    let start : scheduler_of d ≡ in_front (map (λ q. Item.PollOne q) walk) s = rw e refl in
+    let passed = unmarked_pass s walk in
+    rw start (rw none at passed)

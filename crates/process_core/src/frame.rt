@@ -1,9 +1,15 @@
 //! The pieces of open work.
 
+ghost use Rattle.std.specs.Prelude.{◌≡◌, option_map};
+ghost use Rattle.mote_types.specs.declared.event.Pid.{Pid as At};
+ghost use Rattle.process_core.specs.Code.Frames as part;
+
+use crate::process_list::ProcessList;
 use crate::walk::Walk;
 use arrayvec::ArrayVec;
 use mote_types::event::{Event, Pid};
 use mote_types::reply::Reply;
+use std::mem;
 
 /// What a call does before it is answered.
 #[derive(Drop)]
@@ -49,6 +55,95 @@ pub enum Frame {
         first: First,
         reply: Reply,
     },
+}
+
+impl Frame {
+    /// The next process of a poll round that is marked. The round goes on behind it.
+    pub(crate) fn next_marked(&mut self, processes: &ProcessList) -> Option<Pid>
+        ensures value { option_map (λ (p : At). p.0) result ≡ part.marked_of processes.now self.old }
+        ensures left { self.new ≡ part.past_marked processes.now self.old }
+    {
+        match self {
+            Frame::Polls(walk) => walk.next_marked(processes),
+            _ => None,
+        }
+    }
+
+    /// The next process that boot starts, or that is told that another one has ended.
+    pub(crate) fn advance(&mut self) -> Option<Pid>
+        ensures value { option_map (λ (p : At). p.0) result ≡ part.next_of self.old }
+        ensures left { self.new ≡ part.advanced self.old }
+    {
+        match self {
+            Frame::Boot(walk) => walk.advance(),
+            Frame::Leave { walk, .. } => walk.advance(),
+            _ => None,
+        }
+    }
+
+    /// The next receiver of a broadcast has its turn, if one is left.
+    pub(crate) fn begin_receiver(&mut self) -> bool
+        ensures value { result ≡ part.has_receiver self.old }
+        ensures left { self.new ≡ part.with_receiver self.old }
+    {
+        match self {
+            Frame::Broadcast { next, walk, .. } => match walk.advance() {
+                Some(pid) => {
+                    *next = Some(pid);
+                    true
+                }
+                None => false,
+            },
+            _ => false,
+        }
+    }
+
+    /// What the receiver is given whose turn it is.
+    pub(crate) fn take_given(&mut self) -> Option<(Pid, Event)>
+        ensures value { result ≡ part.given_of self.old }
+        ensures left { self.new ≡ part.past_receiver self.old }
+    {
+        match self {
+            Frame::Broadcast { next, event, .. } => {
+                let pid = next.take()?;
+                Some((pid, event.copied()))
+            }
+            _ => None,
+        }
+    }
+
+    /// Whether a process that leaves is given EXIT, which it is once.
+    pub(crate) fn take_exit(&mut self) -> bool
+        ensures value { result ≡ part.exits_of self.old }
+        ensures left { self.new ≡ part.past_exit self.old }
+    {
+        match self {
+            Frame::Leave { exits, .. } => mem::replace(exits, false),
+            _ => false,
+        }
+    }
+
+    /// What is done before the reply, which is done once.
+    pub(crate) fn take_first(&mut self) -> First
+        ensures value { result ≡ part.first_of self.old }
+        ensures left { self.new ≡ part.past_first self.old }
+    {
+        match self {
+            Frame::Answer { first, .. } => mem::replace(first, First::Nothing),
+            _ => First::Nothing,
+        }
+    }
+
+    /// The reply, which is taken once.
+    pub(crate) fn take_reply(&mut self) -> Reply
+        ensures value { result ≡ part.reply_of self.old }
+        ensures left { self.new ≡ part.past_reply self.old }
+    {
+        match self {
+            Frame::Answer { reply, .. } => mem::replace(reply, Reply::Done),
+            _ => Reply::Done,
+        }
+    }
 }
 
 // The places of the stack that hold no frame.

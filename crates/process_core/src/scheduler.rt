@@ -94,13 +94,11 @@ impl Scheduler {
     {
         self.fields.awaited = Awaited::Nothing;
         let job = 'open: loop {
-            match self.fields.stack.pop() {
-                None => break 'open self.fields.begin_round(),
-                Some(frame) => {
-                    if let Some(job) = self.fields.resume(frame) {
-                        break 'open job;
-                    }
-                }
+            if self.fields.stack.is_empty() {
+                break 'open self.fields.begin_round();
+            }
+            if let Some(job) = self.fields.resume() {
+                break 'open job;
             }
         };
         // Nothing is done: the call tells the proof what is always true of a process list, for the clause `standing`.

@@ -1,8 +1,15 @@
 //! The stack of open work.
-ghost use Rattle.std.specs.Prelude.{◌≡◌, ◌<◌, [], ◌∷◌, length, reverse, MatchOption};
+ghost use Rattle.std.specs.Prelude.{◌≡◌, ◌<◌, ◌==◌, [], ◌∷◌, true, false, length, drop, reverse, slice_get, option_copied, option_map};
+ghost use Rattle.mote_types.specs.declared.event.Pid.{Pid as At};
+ghost use Rattle.mote_types.specs.declared.reply.Reply.{Reply as Answered};
+ghost use Rattle.process_core.specs.Code.Frames as part;
+ghost use Rattle.process_core.specs.declared.frame.First.{First as Before};
 
-use crate::frame::Frame;
+use crate::frame::{First, Frame};
+use crate::process_list::ProcessList;
 use arrayvec::ArrayVec;
+use mote_types::event::{Event, Pid};
+use mote_types::reply::Reply;
 use std::marker::Model;
 
 /// The frames of open work. That a push finds room is proved at each push (`specs/Code/Nesting.antt`).
@@ -18,6 +25,78 @@ impl Model for Stack {
     ghost Value = { List Frame };
 
     ghost view = { λ s. reverse s.frames.items };
+}
+
+// The work on the topmost frame, which is the last of these.
+
+fn next_marked_in(frames: &mut [Frame], processes: &ProcessList) -> Option<Pid>
+    ensures value { option_map (λ (p : At). p.0) result ≡ part.on_top None (part.marked_of processes.now) (reverse frames.old) }
+    ensures left { reverse frames.new ≡ part.changed_top (part.past_marked processes.now) (reverse frames.old) }
+{
+    match frames.last_mut() {
+        Some(frame) => frame.next_marked(processes),
+        None => None,
+    }
+}
+
+fn advance_in(frames: &mut [Frame]) -> Option<Pid>
+    ensures value { option_map (λ (p : At). p.0) result ≡ part.on_top None part.next_of (reverse frames.old) }
+    ensures left { reverse frames.new ≡ part.changed_top part.advanced (reverse frames.old) }
+{
+    match frames.last_mut() {
+        Some(frame) => frame.advance(),
+        None => None,
+    }
+}
+
+fn begin_receiver_in(frames: &mut [Frame]) -> bool
+    ensures value { result ≡ part.on_top false part.has_receiver (reverse frames.old) }
+    ensures left { reverse frames.new ≡ part.changed_top part.with_receiver (reverse frames.old) }
+{
+    match frames.last_mut() {
+        Some(frame) => frame.begin_receiver(),
+        None => false,
+    }
+}
+
+fn take_given_in(frames: &mut [Frame]) -> Option<(Pid, Event)>
+    ensures value { result ≡ part.on_top None part.given_of (reverse frames.old) }
+    ensures left { reverse frames.new ≡ part.changed_top part.past_receiver (reverse frames.old) }
+{
+    match frames.last_mut() {
+        Some(frame) => frame.take_given(),
+        None => None,
+    }
+}
+
+fn take_exit_in(frames: &mut [Frame]) -> bool
+    ensures value { result ≡ part.on_top false part.exits_of (reverse frames.old) }
+    ensures left { reverse frames.new ≡ part.changed_top part.past_exit (reverse frames.old) }
+{
+    match frames.last_mut() {
+        Some(frame) => frame.take_exit(),
+        None => false,
+    }
+}
+
+fn take_first_in(frames: &mut [Frame]) -> First
+    ensures value { result ≡ part.on_top Before.Nothing part.first_of (reverse frames.old) }
+    ensures left { reverse frames.new ≡ part.changed_top part.past_first (reverse frames.old) }
+{
+    match frames.last_mut() {
+        Some(frame) => frame.take_first(),
+        None => First::Nothing,
+    }
+}
+
+fn take_reply_in(frames: &mut [Frame]) -> Reply
+    ensures value { result ≡ part.on_top Answered.Done part.reply_of (reverse frames.old) }
+    ensures left { reverse frames.new ≡ part.changed_top part.past_reply (reverse frames.old) }
+{
+    match frames.last_mut() {
+        Some(frame) => frame.take_reply(),
+        None => Reply::Done,
+    }
 }
 
 impl Stack {
@@ -38,11 +117,81 @@ impl Stack {
         self.frames.push(frame);
     }
 
-    /// Takes the topmost frame.
-    pub fn pop(&mut self) -> Option<Frame>
-        ensures { MatchOption result ((self.old ≡ []) × (self.new ≡ [])) (λ frame. self.old ≡ frame ∷ self.new) }
+    /// The topmost frame.
+    pub fn top(&self) -> Option<&Frame>
+        ensures { option_copied result ≡ slice_get self.now 0 }
     {
-        self.frames.pop()
+        self.frames.as_slice().last()
+    }
+
+    /// Drops the topmost frame, if there is one.
+    pub fn drop_top(&mut self)
+        ensures { self.new ≡ drop 1 self.old }
+    {
+        let _ = self.frames.pop();
+    }
+
+    /// Whether there is no open work.
+    pub fn is_empty(&self) -> bool
+        ensures { result ≡ (length self.now == 0) }
+    {
+        self.frames.is_empty()
+    }
+
+    /// The poll round on top goes on behind the next process that is marked, which is answered.
+    pub fn next_marked(&mut self, processes: &ProcessList) -> Option<Pid>
+        ensures value { option_map (λ (p : At). p.0) result ≡ part.on_top None (part.marked_of processes.now) self.old }
+        ensures left { self.new ≡ part.changed_top (part.past_marked processes.now) self.old }
+    {
+        next_marked_in(self.frames.as_mut_slice(), processes)
+    }
+
+    /// The walk on top goes on behind its next process, which is answered.
+    pub fn advance(&mut self) -> Option<Pid>
+        ensures value { option_map (λ (p : At). p.0) result ≡ part.on_top None part.next_of self.old }
+        ensures left { self.new ≡ part.changed_top part.advanced self.old }
+    {
+        advance_in(self.frames.as_mut_slice())
+    }
+
+    /// The next receiver of the broadcast on top has its turn, if one is left.
+    pub fn begin_receiver(&mut self) -> bool
+        ensures value { result ≡ part.on_top false part.has_receiver self.old }
+        ensures left { self.new ≡ part.changed_top part.with_receiver self.old }
+    {
+        begin_receiver_in(self.frames.as_mut_slice())
+    }
+
+    /// What the receiver is given whose turn it is, of the broadcast on top.
+    pub fn take_given(&mut self) -> Option<(Pid, Event)>
+        ensures value { result ≡ part.on_top None part.given_of self.old }
+        ensures left { self.new ≡ part.changed_top part.past_receiver self.old }
+    {
+        take_given_in(self.frames.as_mut_slice())
+    }
+
+    /// Whether the process that leaves, on top, is given EXIT, which it is once.
+    pub fn take_exit(&mut self) -> bool
+        ensures value { result ≡ part.on_top false part.exits_of self.old }
+        ensures left { self.new ≡ part.changed_top part.past_exit self.old }
+    {
+        take_exit_in(self.frames.as_mut_slice())
+    }
+
+    /// What is done before the reply on top, which is done once.
+    pub fn take_first(&mut self) -> First
+        ensures value { result ≡ part.on_top Before.Nothing part.first_of self.old }
+        ensures left { self.new ≡ part.changed_top part.past_first self.old }
+    {
+        take_first_in(self.frames.as_mut_slice())
+    }
+
+    /// The reply on top, which is taken once.
+    pub fn take_reply(&mut self) -> Reply
+        ensures value { result ≡ part.on_top Answered.Done part.reply_of self.old }
+        ensures left { self.new ≡ part.changed_top part.past_reply self.old }
+    {
+        take_reply_in(self.frames.as_mut_slice())
     }
 
     /// The frames, the undermost first.

@@ -1,7 +1,7 @@
 //! How open work is done.
 
-ghost use Rattle.std.specs.Prelude.{◌≡◌, ◌<◌, [], ◌∷◌, None, Some, option_map};
-ghost use Rattle.process_core.specs.Code.Frames.{items_of, weight};
+ghost use Rattle.std.specs.Prelude.{◌≡◌, ◌<◌, [], ◌∷◌, None, Some, length, option_map};
+ghost use Rattle.process_core.specs.Code.Frames.{items_of, weight, IsBoot, IsPollRound, IsBroadcast, IsFarewell, IsAnswer};
 ghost use Rattle.process_core.specs.SchedulerView.{job_of};
 ghost use Rattle.process_core.specs.Code.SchedulerFields.{scheduler_of, awaited_after, IsInOrder, with_frame};
 ghost use Rattle.process_core.specs.Scheduler.{in_front, Yields};
@@ -14,78 +14,72 @@ use crate::giving::plain_event;
 use crate::job::Job;
 use crate::scheduler_fields::SchedulerFields;
 use crate::state::State;
-use crate::walk::Walk;
 use mote_types::event::{self, Event, Origin, Payload, Pid, Stimulus};
-use mote_types::reply::Reply;
 
 impl SchedulerFields {
     // The next application is started.
-    fn resume_boot(&mut self, mut walk: Walk) -> Option<Job>
-        requires order { IsInOrder (with_frame (Frame.Boot walk) self.old) }
+    fn resume_boot(&mut self) -> Option<Job>
+        requires top { IsBoot self.old.stack }
+        requires order { IsInOrder self.old }
         requires idle { self.old.awaited ≡ Awaited.Nothing }
-        ensures yields { Yields (in_front (items_of (Frame.Boot walk)) (scheduler_of self.old)) (option_map job_of result) (scheduler_of self.new) }
+        ensures yields { Yields (scheduler_of self.old) (option_map job_of result) (scheduler_of self.new) }
         ensures awaited { self.new.awaited ≡ awaited_after result }
         ensures order { IsInOrder self.new }
-        ensures falls { weight self.new.stack < weight (Frame.Boot walk ∷ self.old.stack) }
+        ensures falls { weight self.new.stack < weight self.old.stack }
     {
-        match walk.advance() {
-            None => None,
-            Some(pid) => {
-                self.stack.push(Frame::Boot(walk));
-                self.start_one(pid)
+        match self.stack.advance() {
+            Some(pid) => self.start_one(pid),
+            None => {
+                self.stack.drop_top();
+                None
             }
         }
     }
 
-    // The poll round comes to the next process.
-    fn resume_polls(&mut self, mut walk: Walk) -> Option<Job>
-        requires order { IsInOrder (with_frame (Frame.Polls walk) self.old) }
+    // The poll round comes to the next process that is marked.
+    fn resume_polls(&mut self) -> Option<Job>
+        requires top { IsPollRound self.old.stack }
+        requires order { IsInOrder self.old }
         requires idle { self.old.awaited ≡ Awaited.Nothing }
-        ensures yields { Yields (in_front (items_of (Frame.Polls walk)) (scheduler_of self.old)) (option_map job_of result) (scheduler_of self.new) }
+        ensures yields { Yields (scheduler_of self.old) (option_map job_of result) (scheduler_of self.new) }
         ensures awaited { self.new.awaited ≡ awaited_after result }
         ensures order { IsInOrder self.new }
-        ensures falls { weight self.new.stack < weight (Frame.Polls walk ∷ self.old.stack) }
+        ensures falls { weight self.new.stack < weight self.old.stack }
     {
-        match walk.advance() {
-            None => None,
-            Some(pid) => {
-                self.stack.push(Frame::Polls(walk));
-                self.poll_one(pid)
+        match self.stack.next_marked(&self.processes) {
+            Some(pid) => self.poll_one(pid),
+            None => {
+                self.stack.drop_top();
+                None
             }
         }
     }
 
     // The next process is told that this one has ended. Where all were told, it is given EXIT if it was killed, and leaves.
-    fn resume_leave(&mut self, pid: Pid, mut walk: Walk, exits: bool) -> Option<Job>
-        requires order { IsInOrder (with_frame (Frame.Leave pid walk exits) self.old) }
+    fn resume_leave(&mut self, pid: Pid) -> Option<Job>
+        requires top { IsFarewell pid self.old.stack }
+        requires order { IsInOrder self.old }
         requires idle { self.old.awaited ≡ Awaited.Nothing }
-        ensures yields { Yields (in_front (items_of (Frame.Leave pid walk exits)) (scheduler_of self.old)) (option_map job_of result) (scheduler_of self.new) }
+        ensures yields { Yields (scheduler_of self.old) (option_map job_of result) (scheduler_of self.new) }
         ensures awaited { self.new.awaited ≡ awaited_after result }
         ensures order { IsInOrder self.new }
-        ensures falls { weight self.new.stack < weight (Frame.Leave pid walk exits ∷ self.old.stack) }
+        ensures falls { weight self.new.stack < weight self.old.stack }
     {
-        match walk.advance() {
-            Some(other) => {
-                self.stack.push(Frame::Leave { pid, walk, exits });
-                self.give(
-                    other,
-                    Origin::Synch,
-                    Stimulus::Event(Event {
-                        code: event::EXITED,
-                        payload: Payload::Num(pid.0 as u32),
-                    }),
-                )
-            }
+        match self.stack.advance() {
+            Some(other) => self.give(
+                other,
+                Origin::Synch,
+                Stimulus::Event(Event {
+                    code: event::EXITED,
+                    payload: Payload::Num(pid.0 as u32),
+                }),
+            ),
             None => {
-                if !exits {
+                if !self.stack.take_exit() {
+                    self.stack.drop_top();
                     self.processes.remove(pid);
                     return None;
                 }
-                self.stack.push(Frame::Leave {
-                    pid,
-                    walk,
-                    exits: false,
-                });
                 self.processes.set_state(pid, State::Ending);
                 self.awaited = Awaited::Call(pid);
                 Some(Job::Give {
@@ -98,16 +92,19 @@ impl SchedulerFields {
     }
 
     // What the call does comes first, and then the caller's turn with the reply.
-    fn resume_answer(&mut self, pid: Pid, first: First, reply: Reply) -> Option<Job>
-        requires order { IsInOrder (with_frame (Frame.Answer pid first reply) self.old) }
+    fn resume_answer(&mut self, pid: Pid) -> Option<Job>
+        requires top { IsAnswer pid self.old.stack }
+        requires order { IsInOrder self.old }
         requires idle { self.old.awaited ≡ Awaited.Nothing }
-        ensures yields { Yields (in_front (items_of (Frame.Answer pid first reply)) (scheduler_of self.old)) (option_map job_of result) (scheduler_of self.new) }
+        ensures yields { Yields (scheduler_of self.old) (option_map job_of result) (scheduler_of self.new) }
         ensures awaited { self.new.awaited ≡ awaited_after result }
         ensures order { IsInOrder self.new }
-        ensures falls { weight self.new.stack < weight (Frame.Answer pid first reply ∷ self.old.stack) }
+        ensures falls { weight self.new.stack < weight self.old.stack }
     {
-        match first {
+        match self.stack.take_first() {
             First::Nothing => {
+                let reply = self.stack.take_reply();
+                self.stack.drop_top();
                 self.awaited = Awaited::Call(pid);
                 Some(Job::Give {
                     pid,
@@ -115,22 +112,8 @@ impl SchedulerFields {
                     stimulus: Stimulus::Answer(reply),
                 })
             }
-            First::Give(other, event) => {
-                self.stack.push(Frame::Answer {
-                    pid,
-                    first: First::Nothing,
-                    reply,
-                });
-                self.give(other, Origin::Synch, Stimulus::Event(event))
-            }
-            First::Start(other) => {
-                self.stack.push(Frame::Answer {
-                    pid,
-                    first: First::Nothing,
-                    reply,
-                });
-                self.start_one(other)
-            }
+            First::Give(other, event) => self.give(other, Origin::Synch, Stimulus::Event(event)),
+            First::Start(other) => self.start_one(other),
         }
     }
 
@@ -152,60 +135,62 @@ impl SchedulerFields {
     }
 
     // The next receiver is given the event, after a poll round.
-    fn resume_broadcast(&mut self, next: Option<Pid>, mut walk: Walk, event: Event) -> Option<Job>
-        requires order { IsInOrder (with_frame (Frame.Broadcast next walk event) self.old) }
+    fn resume_broadcast(&mut self) -> Option<Job>
+        requires top { IsBroadcast self.old.stack }
+        requires order { IsInOrder self.old }
         requires idle { self.old.awaited ≡ Awaited.Nothing }
-        ensures yields { Yields (in_front (items_of (Frame.Broadcast next walk event)) (scheduler_of self.old)) (option_map job_of result) (scheduler_of self.new) }
+        ensures yields { Yields (scheduler_of self.old) (option_map job_of result) (scheduler_of self.new) }
         ensures awaited { self.new.awaited ≡ awaited_after result }
         ensures order { IsInOrder self.new }
-        ensures falls { weight self.new.stack < weight (Frame.Broadcast next walk event ∷ self.old.stack) }
+        ensures falls { weight self.new.stack < weight self.old.stack }
     {
-        match next {
-            Some(pid) => {
-                let copy = event.copied();
-                self.stack.push(Frame::Broadcast {
-                    next: None,
-                    walk,
-                    event,
-                });
-                self.give(pid, Origin::Event, Stimulus::Event(copy))
+        if let Some((pid, event)) = self.stack.take_given() {
+            return self.give(pid, Origin::Event, Stimulus::Event(event));
+        }
+        if self.stack.begin_receiver() {
+            self.poll_marked();
+        } else {
+            self.stack.drop_top();
+        }
+        None
+    }
+
+    /// The topmost frame is worked on, where it lies.
+    pub fn resume(&mut self) -> Option<Job>
+        requires open { 0 < length self.old.stack }
+        requires order { IsInOrder self.old }
+        requires idle { self.old.awaited ≡ Awaited.Nothing }
+        ensures yields { Yields (scheduler_of self.old) (option_map job_of result) (scheduler_of self.new) }
+        ensures awaited { self.new.awaited ≡ awaited_after result }
+        ensures order { IsInOrder self.new }
+        ensures falls { weight self.new.stack < weight self.old.stack }
+    {
+        match self.stack.top() {
+            Some(Frame::Boot(_)) => self.resume_boot(),
+            Some(Frame::Polls(_)) => self.resume_polls(),
+            Some(Frame::Broadcast { .. }) => self.resume_broadcast(),
+            Some(Frame::Leave { pid, .. }) => {
+                let pid = *pid;
+                self.resume_leave(pid)
             }
-            None => match walk.advance() {
-                None => None,
-                Some(pid) => {
-                    self.stack.push(Frame::Broadcast {
-                        next: Some(pid),
-                        walk,
-                        event,
-                    });
-                    self.poll_marked();
-                    None
-                }
-            },
+            Some(Frame::Answer { pid, .. }) => {
+                let pid = *pid;
+                self.resume_answer(pid)
+            }
+            Some(Frame::Deliver { is_polled }) => {
+                let is_polled = *is_polled;
+                self.stack.drop_top();
+                self.resume_deliver(is_polled)
+            }
+            Some(Frame::Callback { pid, number }) => {
+                let (pid, number) = (*pid, *number);
+                self.stack.drop_top();
+                self.give(pid, Origin::Callback, Stimulus::Callback(number))
+            }
+            None => None,
         }
     }
 
-    /// The topmost frame was taken off the stack, and is worked on. What is left of it is put back.
-    pub fn resume(&mut self, frame: Frame) -> Option<Job>
-        requires order { IsInOrder (with_frame frame self.old) }
-        requires idle { self.old.awaited ≡ Awaited.Nothing }
-        ensures yields { Yields (in_front (items_of frame) (scheduler_of self.old)) (option_map job_of result) (scheduler_of self.new) }
-        ensures awaited { self.new.awaited ≡ awaited_after result }
-        ensures order { IsInOrder self.new }
-        ensures falls { weight self.new.stack < weight (frame ∷ self.old.stack) }
-    {
-        match frame {
-            Frame::Boot(walk) => self.resume_boot(walk),
-            Frame::Deliver { is_polled } => self.resume_deliver(is_polled),
-            Frame::Broadcast { next, walk, event } => self.resume_broadcast(next, walk, event),
-            Frame::Callback { pid, number } => {
-                self.give(pid, Origin::Callback, Stimulus::Callback(number))
-            }
-            Frame::Polls(walk) => self.resume_polls(walk),
-            Frame::Leave { pid, walk, exits } => self.resume_leave(pid, walk, exits),
-            Frame::Answer { pid, first, reply } => self.resume_answer(pid, first, reply),
-        }
-    }
     /// No work is open: a round begins, if it has anything to do.
     pub fn begin_round(&mut self) -> Job
         requires order { IsInOrder self.old }

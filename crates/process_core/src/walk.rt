@@ -1,7 +1,10 @@
 //! A walk over the process list as it stood when the walk began.
-ghost use Rattle.std.specs.Prelude.{◌≡◌, [], ◌∷◌, ◌≤◌, ◌<◌, length, MatchOption};
+ghost use Rattle.std.specs.Prelude.{◌≡◌, [], ◌∷◌, ◌≤◌, ◌<◌, length, drop, slice_get, option_map, MatchOption};
+ghost use Rattle.mote_types.specs.declared.event.Pid.{Pid as At};
+ghost use Rattle.process_core.specs.Code.Frames.{from_marked};
 ghost use Rattle.process_core.specs.Idle.{is_empty};
 
+use crate::process_list::ProcessList;
 use arrayvec::ArrayVec;
 use mote_types::event::Pid;
 use std::marker::Model;
@@ -41,6 +44,19 @@ impl Walk {
         let number = self.numbers[self.at];
         self.at += 1;
         Some(Pid(number))
+    }
+
+    /// The next process that is marked. The walk leaves it and those before it behind.
+    pub fn next_marked(&mut self, processes: &ProcessList) -> Option<Pid>
+        ensures next { option_map (λ (p : At). p.0) result ≡ slice_get (from_marked processes.now self.old) 0 }
+        ensures behind { self.new ≡ drop 1 (from_marked processes.now self.old) }
+    {
+        while let Some(pid) = self.advance() {
+            if processes.is_marked(pid) {
+                return Some(pid);
+            }
+        }
+        None
     }
 
     #[tactic(auto, using(crate::proofs::NothingLeft::is_empty_drop))]

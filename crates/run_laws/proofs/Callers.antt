@@ -1,5 +1,5 @@
 -- Every note of a packet that was sent comes behind the turn that sends it.
-use Rattle.std.proofs.Common.{◌≡◌, ℕ, zero, suc, ◌+◌, Bool, true, false, not, ◌&&◌, ◌||◌, List, [], ◌∷◌, ◌++◌, refl, ◌∙◌, sym, ap, arith, subst, cond, append_assoc, ◌⊎◌, inl, inr}
+use Rattle.std.proofs.Common.{◌≡◌, ℕ, zero, suc, ◌+◌, ◌≤◌, Bool, true, false, not, ◌&&◌, ◌||◌, List, [], ◌∷◌, ◌++◌, refl, ◌∙◌, sym, ap, arith, subst, cond, append_assoc, ◌⊎◌, inl, inr}
 use Rattle.std.specs.Prelude.{Option, Some, None, ◌==◌, if◌then◌else◌, fold, map, flat_map, option_to_list, length}
 use Rattle.std.proofs.lemmas.List.Sums.{fold-append}
 use Rattle.std.specs.List.{list_any, range_with_len}
@@ -18,15 +18,17 @@ use Rattle.process_core.specs.Processes.{numbers, without}
 use Rattle.process_core.specs.Requests.{farewells}
 use Rattle.process_core.specs.Scheduler.{Scheduler, worked, worked_at, job, job_at, job_of_item, carried_out, delivery, first_event, in_front, wants_round}
 use Rattle.kernel_core.specs.declared.config.Config.{Config}
-use Rattle.kernel_core.specs.Machine.{Machine, scheduled, booted}
+use Rattle.kernel_core.specs.Machine.{Machine, scheduled, booted, is_bootable}
 use Rattle.kernel_core.specs.Calls.{after_call}
 use Rattle.mote_types.specs.declared.refusal.Refusal.{Refusal}
 use Rattle.device_core.specs.PacketQueue.{free_slot}
 use Rattle.kernel_core.specs.Inputs.{fed, frame_arrived, frame_held, frame_refusal, held_unless_lost}
 use Rattle.kernel_core.specs.Run.{Answers, StepMade, Running, Runs, one_step, job_done, with_more_work, turn_taken, silent, answers_after, after_step, at_start, with_input}
 use Rattle.mote_types.specs.declared.event.Pid.{Pid}
+use Rattle.run_laws.specs.BlockHistory.{managed_block}
 use Rattle.run_laws.specs.OwnTurns.{is_turn_entry, up_to_call}
 use Rattle.run_laws.specs.Sent.{Sender, IsSent, EverySent}
+use Rattle.run_laws.proofs.Outsiders.{turns-low}
 use Rattle.run_laws.proofs.Senders.{sends-behind}
 use Rattle.run_laws.proofs.Untouched.{serve-untouched}
 use Rattle.run_laws.proofs.Whole.{run-keeps}
@@ -284,8 +286,9 @@ found (Entry.Input input ∷ later) sends e = quiet-cons sends (Entry.Input inpu
 found (Entry.Note note ∷ later) sends e = quiet-cons sends (Entry.Note note) later refl (found later sends e)
 found (Entry.Halt ∷ later) sends e = quiet-cons sends Entry.Halt later refl (found later sends e)
 
-pub every-sent : (c : Config) (says : Applications) (inputs : List Input) (after : Running) → Runs says (at_start c) inputs after → EverySent after.entries
-every-sent c says inputs after runs before later bytes split =
+pub every-sent : (c : Config) (says : Applications) (inputs : List Input) (after : Running) → Runs says (at_start c) inputs after
+    → is_bootable c ≡ true → EverySent after.entries
+every-sent c says inputs after runs boots before later bytes split =
     let whole : WellSent false (before ++ Entry.Note (Note.Sent bytes) ∷ later) =
     subst (λ (es : List Entry). WellSent false es) (sym split) (led c says inputs after runs).well in
     let behind : WellSent (sends_all false before) (Entry.Note (Note.Sent bytes) ∷ later) = sent-after false before (Entry.Note (Note.Sent bytes) ∷ later) whole in
@@ -295,10 +298,14 @@ every-sent c says inputs after runs before later bytes split =
     of_found (inl f) = absurd (grind (arith, f))
     of_found (inr s) =
         let rest = Entry.Note (Note.Sent bytes) ∷ later in
-        let call = up_to_call s.earlier s.p s.origin s.stimulus (Call.PacketSend s.h) in
-        let at : call ++ (s.between ++ rest) ≡ after.entries =
-        sym (append_assoc call s.between rest) ∙ (ap (λ (es : List Entry). es ++ rest) s.split ∙ split) in
+        let turn = Entry.Turn (record { 0 = s.p }) s.origin s.stimulus (Call.PacketSend s.h) in
+        let at : (up_to_call s.earlier s.p s.origin s.stimulus (Call.PacketSend s.h) ++ s.between) ++ rest ≡ after.entries =
+        ap (λ (es : List Entry). es ++ rest) s.split ∙ split in
+        let turn_at : s.earlier ++ turn ∷ (s.between ++ rest) ≡ after.entries =
+        sym (append_assoc s.earlier (turn ∷ []) (s.between ++ rest)) ∙ (sym (append_assoc (s.earlier ++ turn ∷ []) s.between rest) ∙ at) in
+        let few : s.p ≤ 19 = turns-low c says inputs after runs boots s.earlier (s.between ++ rest) s.p s.origin s.stimulus (Call.PacketSend s.h) turn_at in
         record {
           sender = s;
-          block = λ few. sends-behind c says inputs after runs s.earlier s.between later s.p s.h s.origin s.stimulus bytes few s.no_turn at;
+          block = subst (λ (es : List Entry). managed_block es s.p s.h ≡ Some bytes.items) s.split
+              (sends-behind c says inputs after runs s.earlier s.between later s.p s.h s.origin s.stimulus bytes few s.no_turn at);
         }

@@ -9,6 +9,7 @@ pub mod HeapStores
 pub mod KindLaws
 pub mod Managed
 pub mod Marks
+pub mod Outsiders
 pub mod Rests
 pub mod Senders
 pub mod Silent

@@ -299,30 +299,32 @@ module _ (p : ℕ) (few : p ≤ 19) where
 
   sent-block : (X before between later : List Entry) (h : ℕ) (origin : Origin) (stimulus : Stimulus) (bytes : ArrayVec ℕ)
       → WellShown none_sent X → list_any is_turn_entry between ≡ false
-      → up_to_call before p origin stimulus (Call.PacketSend h) ++ (between ++ Entry.Note (Note.Sent bytes) ∷ later) ≡ X
-      → managed_block (up_to_call before p origin stimulus (Call.PacketSend h)) p h ≡ Some bytes.items
+      → (up_to_call before p origin stimulus (Call.PacketSend h) ++ between) ++ Entry.Note (Note.Sent bytes) ∷ later ≡ X
+      → managed_block (up_to_call before p origin stimulus (Call.PacketSend h) ++ between) p h ≡ Some bytes.items
   sent-block X before between later h origin stimulus bytes well quiet split =
       let turn = Entry.Turn (record { 0 = p }) origin stimulus (Call.PacketSend h) in
       let same : (p == p) ≡ true = grind (arith, nat_tests) in
+      let sent = before ++ turn ∷ [] in
+      let so_far = sent ++ between in
       let rest = Entry.Note (Note.Sent bytes) ∷ later in
-      let whole : WellShown none_sent ((before ++ turn ∷ []) ++ (between ++ rest)) = subst (λ (x : List Entry). WellShown none_sent x) (sym split) well in
-      let behind : WellShown (sending_all none_sent (before ++ turn ∷ [])) (between ++ rest) = shown-after none_sent (before ++ turn ∷ []) (between ++ rest) whole in
-      let there : WellShown (sending_all (sending_all none_sent (before ++ turn ∷ [])) between) rest = shown-after (sending_all none_sent (before ++ turn ∷ [])) between rest behind in
-      let here : WellShown (sending_all none_sent (before ++ turn ∷ [])) rest =
-      subst (λ (x : Sending). WellShown x rest) (quiet_entries between (sending_all none_sent (before ++ turn ∷ [])) quiet) there in
-      let handle_is : (sending_all none_sent (before ++ turn ∷ [])).handle ≡ Some h = rw (fold-append next_sending none_sent before (turn ∷ [])) (grind (arith, same)) in
-      let block : (sending_all none_sent (before ++ turn ∷ [])).told_so_far.now h ≡ Some bytes.items = here.0 h handle_is in
-      let told_is : (told_all (accepted managed_after) p at_first (before ++ turn ∷ [])).now h ≡ Some bytes.items =
-      subst (λ (t : Told Blocks). t.now h ≡ Some bytes.items) (sending-told (before ++ turn ∷ []) none_sent) block in
-      subst (λ (b : Blocks). b h ≡ Some bytes.items) (sym (blocks-told managed_after p (before ++ turn ∷ []))) told_is
+      let whole : WellShown none_sent (so_far ++ rest) = subst (λ (x : List Entry). WellShown none_sent x) (sym split) well in
+      let here : WellShown (sending_all none_sent so_far) rest = shown-after none_sent so_far rest whole in
+      let quietly : sending_all none_sent so_far ≡ sending_all none_sent sent =
+      fold-append next_sending none_sent sent between ∙ quiet_entries between (sending_all none_sent sent) quiet in
+      let handle_then : (sending_all none_sent sent).handle ≡ Some h = rw (fold-append next_sending none_sent before (turn ∷ [])) (grind (arith, same)) in
+      let handle_is : (sending_all none_sent so_far).handle ≡ Some h = ap (λ (x : Sending). x.handle) quietly ∙ handle_then in
+      let block : (sending_all none_sent so_far).told_so_far.now h ≡ Some bytes.items = here.0 h handle_is in
+      let told_is : (told_all (accepted managed_after) p at_first so_far).now h ≡ Some bytes.items =
+      subst (λ (t : Told Blocks). t.now h ≡ Some bytes.items) (sending-told so_far none_sent) block in
+      subst (λ (b : Blocks). b h ≡ Some bytes.items) (sym (blocks-told managed_after p so_far)) told_is
 
 -- a note that holds a packet holds the block of the last call before it
 abbrev pub SendsBehind : List Entry → Type 0
 SendsBehind X =
     (before between later : List Entry) (p h : ℕ) (origin : Origin) (stimulus : Stimulus) (bytes : ArrayVec ℕ)
     → p ≤ 19 → list_any is_turn_entry between ≡ false
-    → up_to_call before p origin stimulus (Call.PacketSend h) ++ (between ++ Entry.Note (Note.Sent bytes) ∷ later) ≡ X
-    → managed_block (up_to_call before p origin stimulus (Call.PacketSend h)) p h ≡ Some bytes.items
+    → (up_to_call before p origin stimulus (Call.PacketSend h) ++ between) ++ Entry.Note (Note.Sent bytes) ∷ later ≡ X
+    → managed_block (up_to_call before p origin stimulus (Call.PacketSend h) ++ between) p h ≡ Some bytes.items
 
 pub sends-behind : (c : Config) (says : Applications) (inputs : List Input) (after : Running) → Runs says (at_start c) inputs after → SendsBehind after.entries
 sends-behind c says inputs after runs before between later p h origin stimulus bytes few quiet split =

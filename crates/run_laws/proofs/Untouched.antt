@@ -19,6 +19,7 @@ use Rattle.run_laws.proofs.Marks.{state_of-with_mark}
 pub record Untouched (old new : Machine) : Type 0 where
   pub agenda : new.scheduler.agenda ≡ old.scheduler.agenda
   pub processes : length new.scheduler.processes ≡ length old.scheduler.processes
+  pub applications : new.scheduler.applications ≡ old.scheduler.applications
   pub states : (p : ℕ) → state_of p new.scheduler.processes ≡ state_of p old.scheduler.processes
   pub memory : new.memory ≡ old.memory
   pub frames : new.packets.frames ≡ old.packets.frames
@@ -27,23 +28,23 @@ pub record Untouched (old new : Machine) : Type 0 where
 
 times-untouched : (change : Machine → Machine) → ((m : Machine) → Untouched m (change m)) → (n : ℕ) (m : Machine) → Untouched m (times n change m)
 unfolding times
-times-untouched change keeps zero m = record { agenda = refl; processes = refl; states = λ p. refl; memory = refl; frames = refl; work = refl; halted = refl }
+times-untouched change keeps zero m = record { agenda = refl; processes = refl; applications = refl; states = λ p. refl; memory = refl; frames = refl; work = refl; halted = refl }
 times-untouched change keeps (suc n) m =
     let first = keeps m in
     let rest = times-untouched change keeps n (change m) in
-    record { agenda = rest.agenda ∙ first.agenda; processes = rest.processes ∙ first.processes; states = λ p. rest.states p ∙ first.states p; memory = rest.memory ∙ first.memory; frames = rest.frames ∙ first.frames; work = rest.work ∙ first.work; halted = rest.halted ∙ first.halted }
+    record { agenda = rest.agenda ∙ first.agenda; processes = rest.processes ∙ first.processes; applications = rest.applications ∙ first.applications; states = λ p. rest.states p ∙ first.states p; memory = rest.memory ∙ first.memory; frames = rest.frames ∙ first.frames; work = rest.work ∙ first.work; halted = rest.halted ∙ first.halted }
 
 post_first_due-untouched : (m : Machine) → Untouched m (post_first_due m)
-post_first_due-untouched m = record { agenda = grind arith; processes = grind arith; states = λ p. grind arith; memory = grind arith; frames = grind arith; work = grind arith; halted = grind arith }
+post_first_due-untouched m = record { agenda = grind arith; processes = grind arith; applications = grind arith; states = λ p. grind arith; memory = grind arith; frames = grind arith; work = grind arith; halted = grind arith }
 
 serve_line-untouched : (m : Machine) → Untouched m (serve_line m)
-serve_line-untouched m = record { agenda = grind arith; processes = grind arith; states = λ p. grind arith; memory = grind arith; frames = grind arith; work = grind arith; halted = grind arith }
+serve_line-untouched m = record { agenda = grind arith; processes = grind arith; applications = grind arith; states = λ p. grind arith; memory = grind arith; frames = grind arith; work = grind arith; halted = grind arith }
 
 announce_next-untouched : (m : Machine) → Untouched m (announce_next m)
-announce_next-untouched m = record { agenda = grind arith; processes = grind arith; states = λ p. grind arith; memory = grind arith; frames = grind arith; work = grind arith; halted = grind arith }
+announce_next-untouched m = record { agenda = grind arith; processes = grind arith; applications = grind arith; states = λ p. grind arith; memory = grind arith; frames = grind arith; work = grind arith; halted = grind arith }
 
 same : (m : Machine) → Untouched m m
-same m = record { agenda = refl; processes = refl; states = λ p. refl; memory = refl; frames = refl; work = refl; halted = refl }
+same m = record { agenda = refl; processes = refl; applications = refl; states = λ p. refl; memory = refl; frames = refl; work = refl; halted = refl }
 
 either : (old : Machine) (test : Bool) (x y : Machine) → Untouched old x → Untouched old y → Untouched old (if test then x else y)
 either old true x y h k = h
@@ -51,7 +52,7 @@ either old false x y h k = k
 
 marked-untouched : (old m : Machine) (q : ℕ) → Untouched old m → Untouched old (mark q m)
 marked-untouched old m q h =
-    record { agenda = h.agenda; processes = length-map m.scheduler.processes _ ∙ h.processes; states = λ p. state_of-with_mark p q true m.scheduler.processes ∙ h.states p; memory = h.memory; frames = h.frames; work = h.work; halted = h.halted }
+    record { agenda = h.agenda; processes = length-map m.scheduler.processes _ ∙ h.processes; applications = h.applications; states = λ p. state_of-with_mark p q true m.scheduler.processes ∙ h.states p; memory = h.memory; frames = h.frames; work = h.work; halted = h.halted }
 
 -- it may be marked to look again
 again-untouched : (old m : Machine) (test : Bool) (q : ℕ) → Untouched old m → Untouched old (if test then mark q m else m)
@@ -66,14 +67,14 @@ etimer-untouched event m =
   where
     forgotten : (o : Option ℕ) → Untouched m (forget_event_timers o m)
     forgotten None = same m
-    forgotten (Some p) = record { agenda = refl; processes = refl; states = λ p. refl; memory = refl; frames = refl; work = refl; halted = refl }
+    forgotten (Some p) = record { agenda = refl; processes = refl; applications = refl; states = λ p. refl; memory = refl; frames = refl; work = refl; halted = refl }
 
 ctimer-untouched : (event : Event) (m : Machine) → Untouched m (ctimer event m)
 ctimer-untouched event m = either m (event.code == EXITED) _ m (forgotten (exited_application event.payload)) (same m)
   where
     forgotten : (o : Option ℕ) → Untouched m (forget_callback_timers o m)
     forgotten None = same m
-    forgotten (Some p) = record { agenda = refl; processes = refl; states = λ p. refl; memory = refl; frames = refl; work = refl; halted = refl }
+    forgotten (Some p) = record { agenda = refl; processes = refl; applications = refl; states = λ p. refl; memory = refl; frames = refl; work = refl; halted = refl }
 
 empty_ring-untouched : (m : Machine) → Untouched m (empty_ring m)
 empty_ring-untouched m = times-untouched serve_line serve_line-untouched (suc (line_count m.serial)) m
@@ -84,7 +85,7 @@ polled-untouched m = either m m.is_serial_waiting m (empty_ring m) (same m) (emp
 continued-untouched : (m : Machine) → Untouched m (serial_line_continued m)
 continued-untouched m =
     let e = empty_ring-untouched (record m { is_serial_waiting = false }) in
-    record { agenda = e.agenda; processes = e.processes; states = e.states; memory = e.memory; frames = e.frames; work = e.work; halted = e.halted }
+    record { agenda = e.agenda; processes = e.processes; applications = e.applications; states = e.states; memory = e.memory; frames = e.frames; work = e.work; halted = e.halted }
 
 serial_line-untouched : (event : Event) (m : Machine) → Untouched m (serial_line event m)
 serial_line-untouched event m =
@@ -100,7 +101,7 @@ packet-untouched event m =
   where
     forgotten : (o : Option ℕ) → Untouched m (forget_receiver o m)
     forgotten None = same m
-    forgotten (Some p) = record { agenda = refl; processes = refl; states = λ p. refl; memory = refl; frames = grind arith; work = refl; halted = refl }
+    forgotten (Some p) = record { agenda = refl; processes = refl; applications = refl; states = λ p. refl; memory = refl; frames = grind arith; work = refl; halted = refl }
 
 pub serve-untouched : (p : ℕ) (event : Event) (m : Machine) → Untouched m (serve p event m)
 serve-untouched p event m =

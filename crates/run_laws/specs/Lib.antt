@@ -2,5 +2,6 @@ pub mod BlockHistory
 pub mod EventLaws
 pub mod MemoryLaws
 pub mod OwnTurns
+pub mod RunLaws
 pub mod Sent
 pub mod TimerLaws

@@ -1,5 +1,5 @@
 -- Every note of a packet has its sender.
-use Rattle.std.specs.Prelude.{◌≡◌, ℕ, ◌≤◌, false, List, ◌∷◌, ◌++◌, Some}
+use Rattle.std.specs.Prelude.{◌≡◌, ℕ, false, List, ◌∷◌, ◌++◌, Some}
 use Rattle.std.specs.List.{list_any}
 use Rattle.arrayvec.specs.ArrayVec.{ArrayVec}
 use Rattle.mote_types.specs.declared.call.Call.{Call}
@@ -21,11 +21,10 @@ pub record Sender (entries : List Entry) : Type 0 where
   pub no_turn : list_any is_turn_entry between ≡ false
   pub split : up_to_call earlier p origin stimulus (Call.PacketSend h) ++ between ≡ entries
 
--- the note holds the sender's block, as its own turns made it
+-- the note holds the sender's block as it is before the note, by its own turns
 pub record IsSent (before : List Entry) (bytes : ArrayVec ℕ) : Type 0 where
   pub sender : Sender before
-  pub block : sender.p ≤ 19
-      → managed_block (up_to_call sender.earlier sender.p sender.origin sender.stimulus (Call.PacketSend sender.h)) sender.p sender.h ≡ Some bytes.items
+  pub block : managed_block before sender.p sender.h ≡ Some bytes.items
 
 abbrev pub EverySent : List Entry → Type 0
 EverySent X = (before later : List Entry) (bytes : ArrayVec ℕ) → before ++ Entry.Note (Note.Sent bytes) ∷ later ≡ X → IsSent before bytes

@@ -1,5 +1,5 @@
 -- How the headers, which lie in the region, divide what is below the top gap into chunks: live blocks and gaps.
-use Rattle.std.specs.Prelude.{◌≡◌, ◌≢◌, ℕ, zero, suc, ◌+◌, ◌-◌, ◌≤◌, List, [], ◌∷◌, slice_range, Option, Some, None, if◌then◌else◌, ◌==◌, nat_lt}
+use Rattle.std.specs.Prelude.{◌≡◌, ◌≢◌, ℕ, zero, suc, ◌+◌, ◌-◌, ◌%◌, ◌≤◌, List, [], ◌∷◌, slice_range, Option, Some, None, if◌then◌else◌, ◌==◌, nat_lt}
 use Rattle.std.specs.Int.{from_le_bytes}
 use mir.Syntax.{w32}
 use Rattle.heap_core.specs.declared.chunk.Chunk.{Chunk}
@@ -40,10 +40,14 @@ abbrev pub BeginsLive : List Chunk → Type 0
 BeginsLive [] = ⊥
 BeginsLive (chunk ∷ chunks) = chunk.owner ≢ None
 
--- directly behind each gap is a live chunk: no two gaps adjoin, and none adjoins the top gap
+-- its length is a multiple of 4, and exceeds a header's
+abbrev pub IsWhole : Chunk → Type 0
+IsWhole chunk = (20 ≤ chunk.len) × (chunk.len % 4 ≡ 0)
+
+-- each chunk is whole, and directly behind each gap is a live one: no two gaps adjoin, and none adjoins the top gap
 abbrev pub AreJoined : List Chunk → Type 0
 AreJoined [] = Unit {0}
-AreJoined (chunk ∷ chunks) = (chunk.owner ≡ None → BeginsLive chunks) × AreJoined chunks
+AreJoined (chunk ∷ chunks) = (chunk.owner ≡ None → BeginsLive chunks) × IsWhole chunk × AreJoined chunks
 
 abbrev pub with_chunk : List ℕ → ℕ → Chunk → Option ℕ → List Block → List Block
 with_chunk bytes base chunk None blocks = blocks

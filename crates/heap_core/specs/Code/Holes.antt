@@ -4,9 +4,9 @@ use Rattle.heap_core.specs.declared.chunk.Chunk.{Chunk}
 use Rattle.heap_core.specs.declared.chunk.Place.{Place}
 use Rattle.heap_core.specs.declared.region.Region.{Region}
 use Rattle.heap_core.specs.HeapStore.{header_len}
-use Rattle.heap_core.specs.Code.Chunks.{Tell, BeginsLive, AreJoined, with_chunk, blocks_in}
+use Rattle.heap_core.specs.Code.Chunks.{Tell, BeginsLive, IsWhole, AreJoined, with_chunk, blocks_in}
 use Rattle.heap_core.specs.Code.Layout.{chunks_of, HasChunks}
-use Rattle.heap_core.specs.Code.Walks.{LiveIn}
+use Rattle.heap_core.specs.Code.Walks.{LeavesGap, IsWholeRoom, LiveIn}
 
 -- The headers tell chunks up to one place and from another one on, and what lies between is free: whatever its bytes are.
 pub record Hole (heap : Region) (bytes : List ℕ) (at end : ℕ) : Type 0 where
@@ -20,15 +20,16 @@ pub record Hole (heap : Region) (bytes : List ℕ) (at end : ℕ) : Type 0 where
   pub joined_behind : AreJoined behind
   pub begins : (behind ≡ []) ⊎ BeginsLive behind
 
--- so many bytes end where the hole does, or leave room for a header before that; up to the top gap any number will do
+-- so many bytes end where the hole does, or leave a whole gap before that; up to the top gap any number will do
 abbrev pub Leaves : Region → ℕ → ℕ → Type 0
-Leaves heap next end = (end ≡ heap.footprint) ⊎ ((next ≡ end) ⊎ (next + 16 ≤ end))
+Leaves heap next end = (end ≡ heap.footprint) ⊎ ((next ≡ end) ⊎ LeavesGap next end)
 
 -- a live chunk that has its header and its bytes in a hole, which ends there or leaves a gap
 pub record Fits (heap : Region) (live : Chunk) (end : ℕ) : Type 0 where
   pub inside : live.at + live.len ≤ heap.span.len
   pub rest : Leaves heap (live.at + live.len) end
   pub room : 16 + live.size ≤ live.len
+  pub whole : IsWhole live
   pub owner : IsSomeAnd live.owner (λ name. name < 272)
 
 -- that chunk was laid between the others
@@ -44,6 +45,7 @@ pub record Free (heap : Region) (bytes : List ℕ) (target : Place) (end : ℕ) 
   pub hole : Hole heap bytes target.at end
   pub inside : target.at + (header_len + target.room) ≤ heap.span.len
   pub rest : Leaves heap (target.at + (header_len + target.room)) end
+  pub whole : IsWholeRoom target.room
   pub apart : (other : Chunk) → LiveIn other (chunks_of heap bytes)
       → (other.at + 16 + other.size ≤ target.at) ⊎ (target.at + (header_len + target.room) ≤ other.at)
   pub blocks : blocks_in bytes heap.span.at (chunks_of heap bytes) ≡ blocks_in bytes heap.span.at hole.before ++ blocks_in bytes heap.span.at hole.behind

@@ -1,5 +1,5 @@
 -- What walks over the chunks look for, and what the steps of a call do to the blocks.
-use Rattle.std.specs.Prelude.{◌≡◌, ◌≢◌, ℕ, ◌+◌, ◌-◌, ◌≤◌, ◌⊎◌, Bool, false, not, List, [], ◌∷◌, ◌++◌, filter, fold, slice_range, Option, Some, None, if◌then◌else◌, ◌==◌, nat_lt}
+use Rattle.std.specs.Prelude.{◌≡◌, ◌≢◌, ℕ, ◌+◌, ◌-◌, ◌%◌, ◌≤◌, ◌⊎◌, Bool, false, not, List, [], ◌∷◌, ◌++◌, filter, fold, slice_range, Option, Some, None, if◌then◌else◌, ◌==◌, nat_lt}
 use Rattle.heap_core.specs.declared.chunk.Chunk.{Chunk}
 use Rattle.heap_core.specs.declared.chunk.Place.{Place}
 use Rattle.heap_core.specs.declared.region.Region.{Region}
@@ -24,18 +24,30 @@ pub record LiveIn (chunk : Chunk) (chunks : List Chunk) : Type 0 where
   pub stands : Stands chunk chunks
   pub live : chunk.owner ≢ None
 
--- one of these chunks is a gap there, which has so many bytes, or 16 more at least
+-- what lies between two places is as long as a whole gap
+abbrev pub LeavesGap : ℕ → ℕ → Type 0
+LeavesGap from to = (from + 20 ≤ to) × ((to - from) % 4 ≡ 0)
+
+-- the room of a whole chunk
+abbrev pub IsWholeRoom : ℕ → Type 0
+IsWholeRoom room = (4 ≤ room) × (room % 4 ≡ 0)
+
+-- one of these chunks is a gap there, which has so many bytes, or leaves a whole gap behind them
 pub record GapAt (place len : ℕ) (chunks : List Chunk) : Type 0 where
   pub gap : Chunk
   pub stands : Stands gap chunks
   pub free : gap.owner ≡ None
   pub at : gap.at ≡ place
-  pub rest : (len ≡ gap.len) ⊎ (len + 16 ≤ gap.len)
+  pub rest : (len ≡ gap.len) ⊎ LeavesGap len gap.len
 
 -- it is one of these chunks, and the block of that name
 pub record Owned (name : ℕ) (chunk : Chunk) (chunks : List Chunk) : Type 0 where
   pub stands : Stands chunk chunks
   pub owner : chunk.owner ≡ Some name
+
+-- the chunks from one place to another
+unfoldable pub chunks_between : Region → List ℕ → ℕ → ℕ → List Chunk
+chunks_between heap bytes at end = chunks_from end bytes heap.span.at at end
 
 -- the chunks up to a place
 unfoldable pub chunks_before : Region → List ℕ → ℕ → List Chunk

@@ -1,14 +1,17 @@
 -- The open work: what each frame of the stack stands for on the agenda.
-use Rattle.std.specs.Prelude.{ℕ, ◌+◌, ◌*◌, Bool, true, false, List, [], ◌∷◌, ◌++◌, map, flat_map, length, Option, Some, None, if◌then◌else◌}
+use Rattle.std.specs.Prelude.{ℕ, ◌≡◌, ◌+◌, ◌*◌, Bool, true, false, List, [], ◌∷◌, ◌++◌, map, flat_map, length, drop, slice_get, Option, Some, None, if◌then◌else◌}
 use Rattle.mote_types.specs.declared.event.Event.{Event}
 use Rattle.mote_types.specs.declared.event.Pid.{Pid}
 use Rattle.mote_types.specs.declared.event.Stimulus.{Stimulus}
 use Rattle.mote_types.specs.declared.event.Origin.{Origin}
 use Rattle.mote_types.specs.declared.event.TheConstants.{EXITED}
 use Rattle.mote_types.specs.Codes.{number_event}
+use Rattle.mote_types.specs.declared.reply.Reply.{Reply}
 use Rattle.process_core.specs.declared.frame.First.{First}
+use Rattle.process_core.specs.declared.process.Process.{Process}
 use Rattle.process_core.specs.declared.frame.Frame.{Frame}
 use Rattle.process_core.specs.Agenda.{Item}
+use Rattle.process_core.specs.Processes.{is_marked}
 use Rattle.process_core.specs.Scheduler.{of_event}
 
 -- what comes before a reply
@@ -48,6 +51,103 @@ items_of (Frame.Answer pid first reply) =
 -- a stack, the topmost frame first
 abbrev pub agenda_of : List Frame → List Item
 agenda_of stack = flat_map items_of stack
+
+-- ---- the topmost frame, which is worked on where it lies
+
+abbrev pub changed_top : (Frame → Frame) → List Frame → List Frame
+changed_top change [] = []
+changed_top change (frame ∷ below) = change frame ∷ below
+
+-- what a frame says, or else the default where there is none
+abbrev pub on_top : {A : Type 0} → A → (Frame → A) → List Frame → A
+on_top default says [] = default
+on_top default says (frame ∷ below) = says frame
+
+-- the rest of a walk from the first marked process on
+abbrev pub from_marked : List Process → List ℕ → List ℕ
+from_marked list [] = []
+from_marked list (p ∷ walk) = if is_marked p list then p ∷ walk else from_marked list walk
+
+-- the marked process that a poll round comes to next, and the round behind it
+abbrev pub marked_of : List Process → Frame → Option ℕ
+marked_of list (Frame.Polls walk) = slice_get (from_marked list walk) 0
+marked_of list _ = None
+
+abbrev pub past_marked : List Process → Frame → Frame
+past_marked list (Frame.Polls walk) = Frame.Polls (drop 1 (from_marked list walk))
+past_marked list frame = frame
+
+-- the process that boot starts next or that is told next, and the walk behind it
+abbrev pub next_of : Frame → Option ℕ
+next_of (Frame.Boot walk) = slice_get walk 0
+next_of (Frame.Leave pid walk exits) = slice_get walk 0
+next_of _ = None
+
+abbrev pub advanced : Frame → Frame
+advanced (Frame.Boot walk) = Frame.Boot (drop 1 walk)
+advanced (Frame.Leave pid walk exits) = Frame.Leave pid (drop 1 walk) exits
+advanced frame = frame
+
+-- whether a receiver of a broadcast is left, and the broadcast with that one as the next
+abbrev pub has_receiver : Frame → Bool
+has_receiver (Frame.Broadcast next (p ∷ walk) event) = true
+has_receiver _ = false
+
+abbrev pub with_receiver : Frame → Frame
+with_receiver (Frame.Broadcast next (p ∷ walk) event) = Frame.Broadcast (Some (record { 0 = p })) walk event
+with_receiver frame = frame
+
+-- what the next receiver is given, and the broadcast behind it
+abbrev pub given_of : Frame → Option (Pid × Event)
+given_of (Frame.Broadcast (Some p) walk event) = Some (p, event)
+given_of _ = None
+
+abbrev pub past_receiver : Frame → Frame
+past_receiver (Frame.Broadcast next walk event) = Frame.Broadcast None walk event
+past_receiver frame = frame
+
+-- whether a process that leaves is given EXIT, and what is left then
+abbrev pub exits_of : Frame → Bool
+exits_of (Frame.Leave pid walk exits) = exits
+exits_of _ = false
+
+abbrev pub past_exit : Frame → Frame
+past_exit (Frame.Leave pid walk exits) = Frame.Leave pid walk false
+past_exit frame = frame
+
+-- what comes before a reply, the reply, and what is left then
+abbrev pub first_of : Frame → First
+first_of (Frame.Answer pid first reply) = first
+first_of _ = First.Nothing
+
+abbrev pub past_first : Frame → Frame
+past_first (Frame.Answer pid first reply) = Frame.Answer pid First.Nothing reply
+past_first frame = frame
+
+abbrev pub reply_of : Frame → Reply
+reply_of (Frame.Answer pid first reply) = reply
+reply_of _ = Reply.Done
+
+abbrev pub past_reply : Frame → Frame
+past_reply (Frame.Answer pid first reply) = Frame.Answer pid first Reply.Done
+past_reply frame = frame
+
+-- of which kind the topmost frame is
+
+abbrev pub IsBoot : List Frame → Type 0
+IsBoot stack = (walk : List ℕ) × (below : List Frame) × (stack ≡ Frame.Boot walk ∷ below)
+
+abbrev pub IsPollRound : List Frame → Type 0
+IsPollRound stack = (walk : List ℕ) × (below : List Frame) × (stack ≡ Frame.Polls walk ∷ below)
+
+abbrev pub IsBroadcast : List Frame → Type 0
+IsBroadcast stack = (next : Option Pid) × (walk : List ℕ) × (event : Event) × (below : List Frame) × (stack ≡ Frame.Broadcast next walk event ∷ below)
+
+abbrev pub IsFarewell : Pid → List Frame → Type 0
+IsFarewell pid stack = (walk : List ℕ) × (exits : Bool) × (below : List Frame) × (stack ≡ Frame.Leave pid walk exits ∷ below)
+
+abbrev pub IsAnswer : Pid → List Frame → Type 0
+IsAnswer pid stack = (first : First) × (reply : Reply) × (below : List Frame) × (stack ≡ Frame.Answer pid first reply ∷ below)
 
 -- ---- why `next` ends: a frame weighs more than what is left of it and lies on it after one step
 

@@ -1,6 +1,31 @@
-use Rattle.std.proofs.Common.{◌≡◌, ◌++◌, ◌∙◌, ap, sym, length}
-use Rattle.std.proofs.lemmas.List.{append-nil}
+use Rattle.std.proofs.Common.{rules, refl, inl, ◌≡◌, ◌∷◌, [], ◌++◌, ◌∙◌, ap, sym, length}
+use Rattle.std.specs.Prelude.{Result, Ok, Err, OnErr}
+use Rattle.std.proofs.lemmas.List.{append-nil, append_assoc}
+use denote.Param.Object.{read_made}
+use Rattle.mote_types.specs.Applications.{Says}
+use Rattle.mote_apps.specs.Bundled.{bundled_says}
+use Rattle.mote_run.specs.RunText.{HasRun, HasRunInPart, HasRunOnWholeLines}
+use Rattle.mote.proofs.Boxed.{as_many_more, one_more, said_the_same, same_applications}
+use Rattle.mote.proofs.running.run_prepared.OwnLists.{own-1}
 use Rattle.mote.proofs.running.run_prepared.Goals as goal
+
+-- what holds anyway holds of an error
+on_err : {T E P : Type 0} (r : Result T E) → P → OnErr r P
+on_err (Ok value) p = tt
+on_err (Err error) p = p
+
+pub loop-application-preserved : goal.loop-application-preserved
+loop-application-preserved g c =
+    let before = c.loop-application.invariant in
+    let application = c.in-Some.application in
+    let boxed = c.into_dyn_box.result in
+    let told : (own-1.entry boxed.vtable).1.says boxed.value ≡ bundled_says application =
+    read_made own-1 (own-1.entry (inl tt)) (inl tt) refl Says (λ object value. object.1.says value) boxed.vtable boxed.value c.in_ok-new.field-0.value c.into_dyn_box.ensures.1
+    ∙ ap bundled_says c.in_ok-new.ensures.ok in (
+      as_many_more _ _ boxed _ application c.in_ok-push.ensures.items before.0,
+      append_assoc c.loop-application.yielded (application ∷ []) c.next.new.self ∙ (ap (λ rest. c.loop-application.yielded ++ rest) (sym c.in-Some.ensures.steps) ∙ before.1),
+      one_more _ bundled_says _ _ boxed _ application c.in_ok-push.ensures.items told before.2,
+    )
 
 pub run-requires-clause-booted : goal.run-requires-clause-booted
 run-requires-clause-booted g c =
@@ -11,3 +36,31 @@ run-requires-clause-booted g c =
     ap length c.as_mut_slice.ensures.value ∙ (c.loop-application.invariant.0 ∙ ap length all) in
     let given = c.requires.booted in
     ((given.0.0, given.0.1, given.0.2 ∙ sym as_many, given.0.3), given.1)
+
+pub returns-clause-text : goal.returns-clause-text
+returns-clause-text g c =
+    let yielded = c.loop-application.yielded in
+    let all : yielded ≡ c.args.prepared.applications.items =
+    sym (append-nil yielded) ∙ (ap (λ rest. yielded ++ rest) (sym c.in-None.ensures.steps.0) ∙ c.loop-application.invariant.1) in
+    said_the_same
+    (λ config says. HasRun config says c.args.prepared.quiet (g.S.ByteSource.taken c.args.source.now) (g.S.ByteSource.taken c.run.new.source) (g.S.ByteSource.is_ended c.run.new.source) (g.K.ByteSink.given c.args.sink.now) (g.K.ByteSink.given c.run.new.sink) c.in_ok-end.end)
+    _ _ (same_applications _ bundled_says _ _ _ _ c.as_mut_slice.ensures.value c.loop-application.invariant.2 all) c.in_ok-end.ensures.text
+
+pub returns-in_err-end-clause-front : goal.returns-in_err-end-clause-front
+returns-in_err-end-clause-front g c =
+    let yielded = c.loop-application.yielded in
+    let all : yielded ≡ c.args.prepared.applications.items =
+    sym (append-nil yielded) ∙ (ap (λ rest. yielded ++ rest) (sym c.in-None.ensures.steps.0) ∙ c.loop-application.invariant.1) in
+    on_err _ (said_the_same
+    (λ config says. HasRunInPart config says c.args.prepared.quiet (g.S.ByteSource.taken c.args.source.now) (g.S.ByteSource.taken c.run.new.source) (g.S.ByteSource.is_ended c.run.new.source) (g.K.ByteSink.given c.args.sink.now) (g.K.ByteSink.given c.run.new.sink))
+    _ _ (same_applications _ bundled_says _ _ _ _ c.as_mut_slice.ensures.value c.loop-application.invariant.2 all) c.in_err-end.ensures.front)
+
+pub returns-in_err-end-clause-after_read_fault : goal.returns-in_err-end-clause-after_read_fault
+returns-in_err-end-clause-after_read_fault g c =
+    let yielded = c.loop-application.yielded in
+    let all : yielded ≡ c.args.prepared.applications.items =
+    sym (append-nil yielded) ∙ (ap (λ rest. yielded ++ rest) (sym c.in-None.ensures.steps.0) ∙ c.loop-application.invariant.1) in
+    λ is_read. said_the_same
+    (λ config says. HasRunOnWholeLines config says c.args.prepared.quiet (g.S.ByteSource.taken c.args.source.now) (g.S.ByteSource.taken c.run.new.source) (g.K.ByteSink.given c.args.sink.now) (g.K.ByteSink.given c.run.new.sink))
+    _ _ (same_applications _ bundled_says _ _ _ _ c.as_mut_slice.ensures.value c.loop-application.invariant.2 all)
+    (c.in_err-end.ensures.after_read_fault (c.in_err-end.ensures.read_fault.1 (search rules)))

@@ -1,13 +1,13 @@
-use Rattle.std.proofs.Common.{rules, refl, sym}
-use Rattle.std.proofs.lemmas.List.{append-nil}
+use Rattle.std.proofs.Common.{rules, refl}
 use Rattle.kernel_core.specs.declared.step.Step.{Step}
 use Rattle.mote_run.proofs.Pieces.{on_err}
 use Rattle.mote_run.proofs.Settling.{nothing_settled, settled_more, cut_off_at}
+use Rattle.mote_run.proofs.Writing.{nothing_more}
 use Rattle.mote_run.proofs.settle.settle.Goals as goal
 
 pub entry-init : goal.entry-init
 entry-init g c = record {
-  settled = λ named boot_says before told. nothing_settled boot_says _ _ before _ _ told;
+  settled = λ named boot_says before told. nothing_settled boot_says _ _ before _ _ _ told;
   applications = refl;
   clock = refl;
   inputs = refl;
@@ -17,9 +17,9 @@ entry-init g c = record {
 pub entry-preserved : goal.entry-preserved
 entry-preserved g c = record {
   settled = λ named boot_says before told.
-      settled_more boot_says _ _ _ before _ _ _ _ _ _ (Step.Entry c.in-Entry.entry) (c.entry.invariant.settled named boot_says before told)
+      settled_more boot_says _ _ _ before _ _ _ _ _ _ _ _ _ (Step.Entry c.in-Entry.entry) (c.entry.invariant.settled named boot_says before told)
       c.in-Entry.ensures.machine c.in-Entry.ensures.law c.in-Entry.ensures.halted
-      (c.in_ok-write_entry-in-Entry.ensures.given named);
+      (c.in_ok-write_entry-in-Entry.ensures.written named);
   applications = search rules;
   clock = search rules;
   inputs = search rules;
@@ -28,16 +28,16 @@ entry-preserved g c = record {
 
 pub returns-in-Rest-clause-settled : goal.returns-in-Rest-clause-settled
 returns-in-Rest-clause-settled g c = λ named boot_says before told.
-    settled_more boot_says _ _ _ before _ _ _ _ _ _ Step.Rest (c.entry.invariant.settled named boot_says before told)
-    c.in-Rest.ensures.machine c.in-Rest.ensures.law c.in-Rest.ensures.halted (sym (append-nil _))
+    settled_more boot_says _ _ _ before _ _ _ _ _ _ _ _ _ Step.Rest (c.entry.invariant.settled named boot_says before told)
+    c.in-Rest.ensures.machine c.in-Rest.ensures.law c.in-Rest.ensures.halted (nothing_more _ _)
 
 pub returns-in-Halted-clause-settled : goal.returns-in-Halted-clause-settled
 returns-in-Halted-clause-settled g c = λ named boot_says before told.
-    settled_more boot_says _ _ _ before _ _ _ _ _ _ Step.Halted (c.entry.invariant.settled named boot_says before told)
-    c.in-Halted.ensures.machine c.in-Halted.ensures.law c.in-Halted.ensures.halted (sym (append-nil _))
+    settled_more boot_says _ _ _ before _ _ _ _ _ _ _ _ _ Step.Halted (c.entry.invariant.settled named boot_says before told)
+    c.in-Halted.ensures.machine c.in-Halted.ensures.law c.in-Halted.ensures.halted (nothing_more _ _)
 
 pub returns-in_err-write_entry-in-Entry-clause-cut_off : goal.returns-in_err-write_entry-in-Entry-clause-cut_off
 returns-in_err-write_entry-in-Entry-clause-cut_off g c = on_err c.from_residual.result (λ named boot_says before told.
-    let f = c.in_err-write_entry-in-Entry.ensures.front_given named in
-    cut_off_at boot_says _ _ before _ _ c.step.new.self.machine _ _ _ c.in-Entry.entry f.0 (c.entry.invariant.settled named boot_says before told)
-    c.in-Entry.ensures.machine f.1)
+    let cut = c.in_err-write_entry-in-Entry.ensures.cut_off named in
+    cut_off_at boot_says _ _ before _ _ c.step.new.self.machine _ _ _ _ _ cut.0 c.in-Entry.entry (c.entry.invariant.settled named boot_says before told)
+    c.in-Entry.ensures.machine cut.1)

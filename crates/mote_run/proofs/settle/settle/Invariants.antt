@@ -10,7 +10,7 @@ invariant-entry g l = record {
       IsTold boot_says before (says_of (λ b. (goal.App-dyn g (b.vtable, b.value)).says b.value) l.fn.apps) →
       Settled boot_says l.quiet before l.fn.kernel.machine l.kernel.machine
       (says_of (λ b. (goal.App-dyn g (b.vtable, b.value)).says b.value) l.apps)
-      (g.K.ByteSink.given l.fn.sink) (g.K.ByteSink.given l.sink);
+      (g.K.ByteSink.given l.fn.sink) l.fn.due.text.items (g.K.ByteSink.given l.sink) l.due.text.items;
   applications : l.kernel.machine.scheduler.applications ≡ l.fn.kernel.machine.scheduler.applications;
   clock : l.kernel.machine.clock ≡ l.fn.kernel.machine.clock;
   inputs : l.kernel.inputs ≡ l.fn.kernel.inputs;

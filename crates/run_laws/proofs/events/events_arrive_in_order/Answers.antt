@@ -2,4 +2,7 @@ use Rattle.run_laws.proofs.events.events_arrive_in_order.Goals as goal
 use Rattle.run_laws.proofs.event_order.Events.{in_order, no_lost_event}
 
 pub returns : goal.returns
-returns c = record { in_order = in_order; none_lost = no_lost_event }
+returns c = record {
+  in_order = λ config says inputs after runs.
+      record { in_order = in_order config says inputs after runs; none_lost = no_lost_event config says inputs after runs };
+}

@@ -1,10 +1,12 @@
 use Rattle.std.proofs.Common.{refl, arith}
+use Rattle.std.proofs.lemmas.List.{length-replicate}
 use Rattle.heap_core.specs.Code.Layout.{chunks_of}
+use Rattle.heap_core.proofs.Places.{nowhere, none_placed}
 use Rattle.heap_core.proofs.heap.Heap.new.Goals as goal
 
 pub returns-clause-laid_out : goal.returns-clause-laid_out
 unfolding chunks_of
-returns-clause-laid_out c bytes within = record { chunks = record { within = within; told = refl; joined = tt }; named = λ name. omega arith }
+returns-clause-laid_out c bytes within = record { chunks = record { within = within; told = refl; joined = tt }; named = λ name. omega arith; places = record { entries = length-replicate 272 nowhere; told = λ name less. none_placed 272 name } }
 
 pub returns-clause-empty : goal.returns-clause-empty
 unfolding chunks_of

@@ -1,5 +1,6 @@
 use Rattle.std.proofs.Common.{◌≡◌, ◌+◌, ◌≤◌, length, sym, ap, ◌∙◌, subst, refl, arith}
-use Rattle.std.specs.Prelude.{IsSomeAnd, map, if◌then◌else◌}
+use Rattle.std.specs.Prelude.{IsSomeAnd, find, map, if◌then◌else◌}
+use Rattle.std.specs.Option.{option_map}
 use Rattle.mote_types.specs.Bytes.{overwritten}
 use Rattle.arena_core.specs.Contents.{contents}
 use Rattle.arena_core.specs.Written.{written}
@@ -9,7 +10,8 @@ use Rattle.heap_core.specs.HeapStore.{Block, HeapStore, header_len, has_name, bl
 use Rattle.heap_core.specs.HeapBytes.{heap_of, IsLaidOut, KeepsToSpan}
 use Rattle.heap_core.proofs.Blocks.{count}
 use Rattle.heap_core.proofs.Bodies.{range_fits, body_spliced, body_blocks}
-use Rattle.heap_core.proofs.Names.{count_map, keeps_name}
+use Rattle.heap_core.proofs.Names.{count_map, keeps_name, keeps_place}
+use Rattle.heap_core.proofs.Places.{find_map}
 use Rattle.heap_core.proofs.heap.Heap.write.Goals as goal
 
 pub bytes_mut-target-requires : goal.bytes_mut-target-requires
@@ -52,6 +54,13 @@ returns-clause-laid_out c =
         count_map other (λ (block : Block). if has_name name block then over block else block) (keeps_name name over (λ block. refl)) (heap_of heap B).blocks,
         laid.named other,
       );
+      places = record {
+        entries = laid.places.entries;
+        told = λ other less.
+            laid.places.told other less
+            ∙ sym (find_map other (λ (block : Block). if has_name name block then over block else block) (keeps_name name over (λ block. refl)) (keeps_place name over (λ block. refl)) (heap_of heap B).blocks)
+            ∙ ap (λ blocks. option_map (λ (block : Block). block.at) (find (has_name other) blocks)) (sym (body_blocks heap B laid chunk name o at ws room));
+      };
     } in
     subst (λ (r : Region). IsLaidOut r (written B (c.body-body.result.at + at) c.copy_from_slice.new.self)) c.self.view_is (subst (IsLaidOut heap) after new)
 

@@ -10,19 +10,19 @@ use Rattle.heap_core.proofs.region.Region.free_end.Goals as goal
 pub returns-then-target-self-clause-free : goal.returns-then-target-self-clause-free
 returns-then-target-self-clause-free c =
     let heap = c.args.self.now in let B = c.args.arena.now.bytes in let target = c.args.target in
-    elim (place_cases heap B c.requires.chunks c.args.n target c.requires.place) [
-      | inl top ↦ free_top heap B c.requires.chunks target top.at top.fits
+    elim (place_cases heap B c.requires.chunks c.args.n target c.requires.some c.requires.place) [
+      | inl top ↦ free_top heap B c.requires.chunks target top.at top.fits top.whole
       | inr low ↦ absurd (omega (arith, low.below, c.if-target-self.true))
     ]
 
 pub returns-then-target-self-clause-room : goal.returns-then-target-self-clause-room
 returns-then-target-self-clause-room c =
-    elim (place_cases c.args.self.now c.args.arena.now.bytes c.requires.chunks c.args.n c.args.target c.requires.place) [ inl top ↦ top.room | inr low ↦ low.room ]
+    elim (place_cases c.args.self.now c.args.arena.now.bytes c.requires.chunks c.args.n c.args.target c.requires.some c.requires.place) [ inl top ↦ top.room | inr low ↦ low.room ]
 
 pub chunk_at-requires-clause-inside : goal.chunk_at-requires-clause-inside
 chunk_at-requires-clause-inside c =
     let heap = c.args.self.now in let B = c.args.arena.now.bytes in
-    elim (place_cases heap B c.requires.chunks c.args.n c.args.target c.requires.place) [
+    elim (place_cases heap B c.requires.chunks c.args.n c.args.target c.requires.some c.requires.place) [
       | inl top ↦ absurd (c.if-target-self.false top.at)
       | inr low ↦ let a = around heap B low.gap.gap c.requires.chunks low.gap.stands in omega (arith, a.fits, a.enough, low.gap.at, heap.inside)
     ]
@@ -30,7 +30,7 @@ chunk_at-requires-clause-inside c =
 pub overflow_add-result : goal.overflow_add-result
 overflow_add-result c =
     let heap = c.args.self.now in let B = c.args.arena.now.bytes in
-    elim (place_cases heap B c.requires.chunks c.args.n c.args.target c.requires.place) [
+    elim (place_cases heap B c.requires.chunks c.args.n c.args.target c.requires.some c.requires.place) [
       | inl top ↦ absurd (c.if-target-self.false top.at)
       | inr low ↦
           let g = low.gap in let a = around heap B g.gap c.requires.chunks g.stands in
@@ -41,14 +41,14 @@ overflow_add-result c =
 pub returns-clause-free : goal.returns-clause-free
 returns-clause-free c =
     let heap = c.args.self.now in let B = c.args.arena.now.bytes in let target = c.args.target in
-    elim (place_cases heap B c.requires.chunks c.args.n target c.requires.place) [
+    elim (place_cases heap B c.requires.chunks c.args.n target c.requires.some c.requires.place) [
       | inl top ↦ absurd (c.if-target-self.false top.at)
       | inr low ↦
           let g = low.gap in let a = around heap B g.gap c.requires.chunks g.stands in
           let is : c.chunk_at.result ≡ g.gap = c.chunk_at.ensures ∙ ap (chunk_at B heap.span.at) (sym g.at) ∙ a.here in
-          subst (λ (k : Chunk). Free heap B target (target.at + k.len)) (sym is) (free_gap heap B c.requires.chunks target g)
+          subst (λ (k : Chunk). Free heap B target (target.at + k.len)) (sym is) (free_gap heap B c.requires.chunks target g low.whole)
     ]
 
 pub returns-clause-room : goal.returns-clause-room
 returns-clause-room c =
-    elim (place_cases c.args.self.now c.args.arena.now.bytes c.requires.chunks c.args.n c.args.target c.requires.place) [ inl top ↦ top.room | inr low ↦ low.room ]
+    elim (place_cases c.args.self.now c.args.arena.now.bytes c.requires.chunks c.args.n c.args.target c.requires.some c.requires.place) [ inl top ↦ top.room | inr low ↦ low.room ]

@@ -3,7 +3,7 @@ use Rattle.arena_core.specs.Contents.{Contents}
 use Rattle.arena_core.specs.Outside.{ChangesOnly}
 use Rattle.heap_core.specs.declared.chunk.Chunk.{Chunk}
 use Rattle.heap_core.specs.Code.Chunks.{chunk_at, Tell, BeginsLive}
-use Rattle.heap_core.specs.Code.Walks.{laid, bytes_in_chunk}
+use Rattle.heap_core.specs.Code.Walks.{laid, bytes_in_chunk, LeavesGap}
 use Rattle.heap_core.proofs.Holes.{is_live, live_block, live_joined, laid_block, laid_begins, laid_joined, laid_between}
 use Rattle.heap_core.proofs.Splice.{laid_all, laid_some, left_over}
 use Rattle.heap_core.proofs.Steps.{ended}
@@ -20,7 +20,7 @@ returns-then-end-self-clause-laid c hole =
     laid_between heap _ B B' live hole.before (live ∷ []) hole.behind next refl hole.within
     (changes_more (b + live.at) 16 (b + live.at) (next - live.at) B B' c.put_chunk.ensures.others (omega arith) (omega arith))
     hole.front (c.put_chunk.ensures.chunk, room, refl) (subst (Tell B b next next) (sym none) refl)
-    (hole.joined (live ∷ hole.behind) (is_live B B' b live o.0 o.1) (live_joined B B' b live o.0 o.1 hole.behind hole.joined_behind))
+    (hole.joined (live ∷ hole.behind) (is_live B B' b live o.0 o.1) (live_joined B B' b live o.0 o.1 c.requires.fits.whole hole.behind hole.joined_behind))
     (live_block B B' b live o.0 o.1 kept)
 
 pub put_chunk-requires-then-next-end-clause-inside : goal.put_chunk-requires-then-next-end-clause-inside
@@ -29,14 +29,14 @@ put_chunk-requires-then-next-end-clause-inside c =
     let end = told_le c.args.arena.now.bytes heap.span.at c.args.end heap.footprint hole.behind hole.back in
     elim c.requires.fits.rest [
       | inl last ↦ absurd (c.if-end-self.false last)
-      | inr f ↦ elim f [ inl all ↦ absurd (omega (arith, c.if-next-end.true)) | inr less ↦ omega (arith, heap.inside) ]
+      | inr f ↦ elim f [ inl all ↦ absurd (omega (arith, c.if-next-end.true)) | inr less ↦ omega (arith, heap.inside, less.0) ]
     ]
 
 -- what the chunk leaves of the hole
-rest : (c : After-put_chunk-2) → (c.args.live.len ≡ c.args.end - c.args.live.at) ⊎ (c.args.live.len + 16 ≤ c.args.end - c.args.live.at)
+rest : (c : After-put_chunk-2) → (c.args.live.len ≡ c.args.end - c.args.live.at) ⊎ LeavesGap c.args.live.len (c.args.end - c.args.live.at)
 rest c = elim c.requires.fits.rest [
   | inl last ↦ absurd (c.if-end-self.false last)
-  | inr f ↦ elim f [ inl all ↦ inl (omega arith) | inr less ↦ inr (omega arith) ]
+  | inr f ↦ elim f [ inl all ↦ inl (omega arith) | inr less ↦ inr (omega (arith, less.0), omega (arith, less.0, less.1)) ]
 ]
 
 -- the gap behind it is written first
@@ -47,7 +47,7 @@ gap c =
       | then-next-end w ↦
           let left = rest c in let less = w.if-next-end.true in
           subst (λ (a : Contents). ChangesOnly s n B a.bytes) (sym w.arena-is)
-          (changes_more s 16 s n B w.put_chunk-then-next-end.new.arena.bytes w.put_chunk-then-next-end.ensures.others (omega arith) (elim left [ inl all ↦ absurd (omega (arith, all, less)) | inr some ↦ omega (arith, some) ]))
+          (changes_more s 16 s n B w.put_chunk-then-next-end.new.arena.bytes w.put_chunk-then-next-end.ensures.others (omega arith) (elim left [ inl all ↦ absurd (omega (arith, all, less)) | inr some ↦ omega (arith, some.0) ]))
       | else-next-end w ↦ subst (λ (a : Contents). ChangesOnly s n B a.bytes) (sym w.arena-is) (record { size = refl; others = λ from m apart. refl })
     ]
 
@@ -55,7 +55,7 @@ changes : (c : After-put_chunk-2) → ChangesOnly (c.args.self.now.span.at + c.a
 changes c =
     let b = c.args.self.now.span.at in let live = c.args.live in let end = c.args.end in let next = live.at + live.len in
     let B = c.args.arena.now.bytes in let A = c.if-next-end.arena.bytes in let B' = c.put_chunk-2.new.arena.bytes in
-    let long : live.len ≤ end - live.at = elim (rest c) [ inl all ↦ omega (arith, all) | inr some ↦ omega (arith, some) ] in
+    let long : live.len ≤ end - live.at = elim (rest c) [ inl all ↦ omega (arith, all) | inr some ↦ omega (arith, some.0) ] in
     changes_then (b + live.at) (end - live.at) B A B'
     (changes_more (b + next) (end - next) (b + live.at) (end - live.at) B A (gap c) (omega arith) (omega (arith, c.requires.fits.room)))
     (changes_more (b + live.at) 16 (b + live.at) (end - live.at) A B' c.put_chunk-2.ensures.others (omega arith) (omega (arith, c.requires.fits.room)))
@@ -67,7 +67,7 @@ told c =
     elim c.if-next-end.branch [
       | then-next-end w ↦
           let less = w.if-next-end.true in
-          let some : live.len + 16 ≤ len = elim left [ inl all ↦ absurd (omega (arith, all, less)) | inr some ↦ some ] in
+          let some : live.len + 20 ≤ len = elim left [ inl all ↦ absurd (omega (arith, all, less)) | inr some ↦ some.0 ] in
           let same : end - (live.at + live.len) ≡ len - live.len = omega arith in
           let gap : chunk_at B' b (live.at + live.len) ≡ left_over live len =
           chunk_frame A B' b (b + live.at) 16 c.put_chunk-2.ensures.others (live.at + live.len) (inr (omega arith))
@@ -77,7 +77,7 @@ told c =
           subst (Tell B' b live.at end) (sym (laid_some live len (omega arith))) (c.put_chunk-2.ensures.chunk, room, (gap, omega arith, omega arith))
       | else-next-end w ↦
           let more = w.if-next-end.false in
-          let same : live.len ≡ len = elim left [ inl all ↦ all | inr some ↦ absurd (omega (arith, some, more)) ] in
+          let same : live.len ≡ len = elim left [ inl all ↦ all | inr some ↦ absurd (omega (arith, some.0, more)) ] in
           subst (Tell B' b live.at end) (sym (laid_all live len same)) (c.put_chunk-2.ensures.chunk, room, omega arith)
     ]
 
@@ -92,14 +92,14 @@ returns-clause-laid c hole =
       | inr begins ↦ begins
     ] in
     laid_between heap heap B B' live hole.before (laid live len) hole.behind c.args.end refl hole.within (changes c) hole.front (told c) hole.back
-    (hole.joined (laid live len ++ hole.behind) (laid_begins B B' b live o.0 o.1 len (rest c) hole.behind) (laid_joined B B' b live o.0 o.1 len (rest c) hole.behind begins hole.joined_behind))
+    (hole.joined (laid live len ++ hole.behind) (laid_begins B B' b live o.0 o.1 len (rest c) hole.behind) (laid_joined B B' b live o.0 o.1 len (rest c) c.requires.fits.whole hole.behind begins hole.joined_behind))
     (laid_block B B' b live o.0 o.1 len (rest c) kept)
 
 pub returns-clause-rest : goal.returns-clause-rest
 returns-clause-rest c =
     let heap = c.args.self.now in let hole = c.requires.hole in
     let end = told_le c.args.arena.now.bytes heap.span.at c.args.end heap.footprint hole.behind hole.back in
-    let long : c.args.live.len ≤ c.args.end - c.args.live.at = elim (rest c) [ inl all ↦ omega (arith, all) | inr some ↦ omega (arith, some) ] in
+    let long : c.args.live.len ≤ c.args.end - c.args.live.at = elim (rest c) [ inl all ↦ omega (arith, all) | inr some ↦ omega (arith, some.0) ] in
     record {
       span = refl;
       carved = c.put_chunk-2.ensures.carved

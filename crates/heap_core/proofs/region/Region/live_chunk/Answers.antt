@@ -23,5 +23,5 @@ pub returns-clause-inside : goal.returns-clause-inside
 returns-clause-inside c =
     let heap = c.args.self.now in let B = c.args.arena.now.bytes in let chunk = c.unwrap.result in
     let o = owned c.args.name chunk (chunks_of heap B) (sym c.find.ensures ∙ c.unwrap.ensures) in
-    let a = around heap B chunk c.requires.chunks o.stands in
+    let a = around heap B chunk c.requires.laid_out.chunks o.stands in
     omega (arith, a.fits, a.enough, heap.inside)

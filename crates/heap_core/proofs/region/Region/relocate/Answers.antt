@@ -17,7 +17,7 @@ returns-clause-block c =
     let heap = c.args.self.now in let B = c.args.arena.now.bytes in let b = heap.span.at in let chunk = c.args.chunk in let n = c.args.n in
     let target = c.in_ok-target.target in
     let block : Block = block_at target c.args.name (resized n (bytes_in_chunk B b chunk)) in
-    let far = elsewhere_placed heap B c.requires.chunks n target chunk c.requires.live (sym c.in_ok-target.ensures) in
+    let far = elsewhere_placed heap B c.requires.chunks n target c.requires.some chunk c.requires.live (sym c.in_ok-target.ensures) in
     let stays : elsewhere chunk.at block ≡ true = ap not (ne_eqb target.at chunk.at far) in
     ap (option_map (λ (p : Place). with_block (block_at p c.args.name (resized n (bytes_in_chunk B b chunk))) (without_place chunk.at (heap_of heap B)))) (sym c.in_ok-target.ensures)
     ∙ ap Some (sym (c.release.ensures.block

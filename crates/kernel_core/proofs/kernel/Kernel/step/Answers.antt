@@ -1,8 +1,9 @@
-use Rattle.std.proofs.Common.{◌≡◌, rules, refl, arith, ap, sym}
+use Rattle.std.proofs.Common.{◌≡◌, Bool, true, false, rules, refl, arith, ap, sym}
 use Rattle.kernel_core.specs.Run.{silent}
 use Rattle.kernel_core.proofs.Reaching.{then_job, job_makes, job_silently, entry_is_shown}
 use Rattle.kernel_core.proofs.Costs.{costs-cons}
 use Rattle.kernel_core.specs.Code.Cost.{present}
+use Rattle.kernel_core.specs.Code.View.{is_struck}
 use Rattle.process_core.specs.Agenda.{Item}
 use Rattle.mote_types.specs.declared.event.Origin.{Origin}
 use Rattle.mote_types.specs.declared.event.Stimulus.{Stimulus}
@@ -32,33 +33,38 @@ job-preserved-in-Serve g c = record {
       omega (arith, paid.1, c.serve.ensures.kept.present, c.job.invariant.present);
 }
 
-pub job-preserved-then-is_present_arming : goal.job-preserved-then-is_present_arming
-job-preserved-then-is_present_arming g c = record {
-  order = search rules;
-  running = search rules;
-  nothing_shown = search rules;
-  inputs = search rules;
-  applications = search rules;
-  clock = search rules;
-  apps = search rules;
-  left = search rules;
-  so_far = λ answers. job_silently (then_job (c.job.invariant.so_far answers) (c.in-Callback.ensures.reached answers)) (search rules);
-  present = search rules;
-}
+-- an expiry was struck out or not
+either : {X : Type 0} (b : Bool) → (b ≡ true → X) → (b ≡ false → X) → X
+either true if_true if_false = if_true refl
+either false if_true if_false = if_false refl
 
-pub job-preserved-else-is_present_arming : goal.job-preserved-else-is_present_arming
-job-preserved-else-is_present_arming g c = record {
-  order = search rules;
-  running = search rules;
-  nothing_shown = search rules;
-  inputs = search rules;
-  applications = search rules;
-  clock = search rules;
-  apps = search rules;
-  left = search rules;
-  so_far = λ answers. job_silently (then_job (c.job.invariant.so_far answers) (c.in-Callback.ensures.reached answers)) (search rules);
-  present = search rules;
-}
+pub job-preserved-in-Callback : goal.job-preserved-in-Callback
+job-preserved-in-Callback g c =
+    either (is_struck c.next_job.new.self.timers.armings c.in-Callback.pid.0 c.in-Callback.number c.in-Callback.arming)
+    (λ struck. rw (c.expire.ensures.struck_out struck) record {
+      order = search rules;
+      running = search rules;
+      nothing_shown = search rules;
+      inputs = search rules;
+      applications = search rules;
+      clock = search rules;
+      apps = search rules;
+      left = search rules;
+      so_far = λ answers. job_silently (then_job (c.job.invariant.so_far answers) (c.in-Callback.ensures.reached answers)) (search (struck, rules));
+      present = search rules;
+    })
+    (λ counts. rw (c.expire.ensures.given counts) record {
+      order = search rules;
+      running = search rules;
+      nothing_shown = search rules;
+      inputs = search rules;
+      applications = search rules;
+      clock = search rules;
+      apps = search rules;
+      left = search rules;
+      so_far = λ answers. job_silently (then_job (c.job.invariant.so_far answers) (c.in-Callback.ensures.reached answers)) (search (counts, rules));
+      present = search rules;
+    })
 
 pub returns-in-Rest-clause-machine : goal.returns-in-Rest-clause-machine
 returns-in-Rest-clause-machine g c =
@@ -85,10 +91,12 @@ job-preserved g c = record {
   present = search rules;
 }
 
-pub job-smaller-then-is_present_arming : goal.job-smaller-then-is_present_arming
-job-smaller-then-is_present_arming g c =
+pub job-smaller-in-Callback : goal.job-smaller-in-Callback
+job-smaller-in-Callback g c =
     let bound = present c.self.inside.fields.scheduler.state in
     let paid = c.in-Callback.ensures.paid bound c.job.invariant.present in
     let cons = costs-cons bound (Item.Give c.in-Callback.pid.0 Origin.Callback (Stimulus.Callback c.in-Callback.number)) c.next_job.new.self.scheduler.state.agenda in
     let same : c.next_job.new.self.work ≡ c.job.self-inside.fields.work = search rules in
-    rw (c.give_callback.ensures, cons, same) (omega (arith, paid.0))
+    either (is_struck c.next_job.new.self.timers.armings c.in-Callback.pid.0 c.in-Callback.number c.in-Callback.arming)
+    (λ struck. rw (c.expire.ensures.struck_out struck, same) (omega (arith, paid.0)))
+    (λ counts. rw (c.expire.ensures.given counts, cons, same) (omega (arith, paid.0)))

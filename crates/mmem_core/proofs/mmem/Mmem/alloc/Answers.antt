@@ -1,20 +1,22 @@
-use Rattle.std.proofs.Common.{◌≡◌, ◌+◌, ◌-◌, ◌≤◌, ◌<◌, ◌^◌, min, length, slice_set, Option, Some, None, refl, sym, ap, subst, ◌∙◌, arith}
-use Rattle.std.proofs.lemmas.List.{length-replicate}
-use Rattle.mote_types.specs.Bytes.{zeros}
-use Rattle.arena_core.specs.Contents.{Contents}
+use Rattle.std.proofs.lemmas.List.{length-map}
+use Rattle.arena_core.specs.declared.span.Span.{Span}
+use Rattle.std.proofs.Common.{length, get_or, rules, ◌≡◌, ◌+◌, ◌-◌, ◌≤◌, ◌<◌, ◌^◌, min, Option, Some, None, refl, sym, ap, subst, ◌∙◌, arith}
+use Rattle.mote_types.specs.Rounding.{up4}
 use Rattle.mote_types.specs.BlockNames.{number_of}
-use Rattle.mmem_core.specs.ManagedStore.{block_of, free, allocated}
-use Rattle.mmem_core.specs.Places.{place_in, bytes_moved}
-use Rattle.mmem_core.specs.Table.{Table, store_of, IsWithin, KeepsToSpan}
-use Rattle.mmem_core.proofs.PlaceLemmas.{IsPacked-added, bytes_moved-added, bytes_moved-same}
-use Rattle.mmem_core.proofs.TableLemmas.{free_is, unused_place, added, kept, with_slot}
+use Rattle.mmem_core.specs.declared.place.Place.{Place}
+use Rattle.mmem_core.specs.ManagedStore.{ManagedStore, free}
+use Rattle.mmem_core.specs.Places.{place_in, last_end, bytes_moved}
+use Rattle.mmem_core.specs.Table.{Table, store_of, region_of, IsWithin}
+use Rattle.mmem_core.proofs.PlaceLemmas.{bytes_moved-added, bytes_moved-same}
+use Rattle.mmem_core.proofs.StoreLemmas.{no_place, get_or-blocks, block_in, free-added}
+use Rattle.mmem_core.proofs.TableLemmas.{free_is}
 use Rattle.mmem_core.proofs.mmem.Mmem.alloc.Goals as goal
 
 pub returns-then-self-size-clause-refused : goal.returns-then-self-size-clause-refused
 returns-then-self-size-clause-refused c =
     let m = c.self.inside in let bytes = c.args.arena.now.bytes in
     let here = subst (λ (t : Table). IsWithin t bytes) (sym c.self.view_is) c.requires.within in
-    let rest = subst (λ (t : Table). free (store_of t bytes) ≡ m.span.len - m.used) c.self.view_is (free_is m.span m.places m.slid m.used c.self.invariant.0 c.self.invariant.1 bytes here) in
+    let rest = subst (λ (t : Table). free (store_of t bytes) ≡ m.span.len - m.used) c.self.view_is (free_is m.span m.places m.slid c.self.invariant.1 bytes here m.used c.self.invariant.0.total) in
     ((λ _. omega (arith, rest, c.rounded-size.ensures)), (λ _. refl))
 
 pub returns-then-self-size-clause-slid : goal.returns-then-self-size-clause-slid
@@ -22,51 +24,58 @@ returns-then-self-size-clause-slid c =
     let slid = ap (λ (t : Table). t.slid) c.self.view_is in
     omega (arith, slid, bytes_moved-same c.args.self.now.places)
 
-pub invariant_of-self : goal.invariant_of-self
-invariant_of-self c =
-    let m = c.self.inside in let bytes = c.args.arena.now.bytes in let number = c.number_of.result in
+pub returns-then-self-size-clause-still : goal.returns-then-self-size-clause-still
+returns-then-self-size-clause-still c = λ _. bytes_moved-same c.args.self.now.places
+
+pub make_room-requires-clause-room : goal.make_room-requires-clause-room
+make_room-requires-clause-room c =
+    let m = c.self.inside in let bytes = c.args.arena.now.bytes in
     let here = subst (λ (t : Table). IsWithin t bytes) (sym c.self.view_is) c.requires.within in
-    let unused = unused_place m.span m.places m.slid m.used c.self.invariant.0 c.self.invariant.1 bytes here (number_of c.args.key.0.0 c.args.key.1)
-    (subst (λ (t : Table). block_of c.args.key.0.0 c.args.key.1 (store_of t bytes) ≡ None) (sym c.self.view_is) c.requires.unused) in
-    let unused' : place_in m.places number ≡ None = ap (place_in m.places) c.number_of.ensures.number ∙ unused in
-    let below : number < length m.places = omega (arith, c.number_of.ensures.within) in
-    (rw c.rounded-size.ensures (IsPacked-added m.places m.used number c.args.n c.self.invariant.0 unused' below c.requires.some_bytes), omega (arith, c.if-self-size.false, c.self.invariant.1), c.self.invariant.2)
+    let rest = subst (λ (t : Table). free (store_of t bytes) ≡ m.span.len - m.used) c.self.view_is (free_is m.span m.places m.slid c.self.invariant.1 bytes here m.used c.self.invariant.0.total) in
+    omega (arith, rest, c.if-self-size.false)
 
 pub returns-clause-refused : goal.returns-clause-refused
 returns-clause-refused c =
     let m = c.self.inside in let bytes = c.args.arena.now.bytes in
     let here = subst (λ (t : Table). IsWithin t bytes) (sym c.self.view_is) c.requires.within in
-    let rest = subst (λ (t : Table). free (store_of t bytes) ≡ m.span.len - m.used) c.self.view_is (free_is m.span m.places m.slid m.used c.self.invariant.0 c.self.invariant.1 bytes here) in
+    let rest = subst (λ (t : Table). free (store_of t bytes) ≡ m.span.len - m.used) c.self.view_is (free_is m.span m.places m.slid c.self.invariant.1 bytes here m.used c.self.invariant.0.total) in
     ((λ e. absurd (cc)), (λ less. absurd (omega (arith, rest, c.rounded-size.ensures, c.if-self-size.false))))
-
-pub returns-clause-block : goal.returns-clause-block
-returns-clause-block c =
-    let m = c.self.inside in let bytes = c.args.arena.now.bytes in let number = c.number_of.result in let n = c.args.n in
-    let here = subst (λ (t : Table). IsWithin t bytes) (sym c.self.view_is) c.requires.within in
-    let room : m.used + n ≤ m.span.len = omega (arith, c.rounded-size.ensures, c.if-self-size.false, c.self.invariant.1) in
-    let result : Table = record { span = m.span; places = slice_set m.places number (Some (record { at = m.used; len = n })); slid = m.slid } in
-    subst (λ (t : Table). store_of result c.fill.new.self.bytes ≡ allocated c.args.key.0.0 c.args.key.1 n (store_of t bytes)) c.self.view_is
-    (ap (λ (a : Contents). store_of result a.bytes) c.fill.ensures.bytes
-    ∙ added m.span m.places m.slid m.used c.self.invariant.0 c.self.invariant.1 bytes here m.slid number n room
-    ∙ ap (λ i. with_slot i (Some (zeros n)) (store_of (record { span = m.span; places = m.places; slid = m.slid }) bytes)) c.number_of.ensures.number)
-
-pub returns-clause-rest : goal.returns-clause-rest
-returns-clause-rest c =
-    let m = c.self.inside in let bytes = c.args.arena.now.bytes in let number = c.number_of.result in let n = c.args.n in
-    let here = subst (λ (t : Table). IsWithin t bytes) (sym c.self.view_is) c.requires.within in
-    let count : length (zeros n) ≡ n = length-replicate n 0 in
-    let result : Table = record { span = m.span; places = slice_set m.places number (Some (record { at = m.used; len = n })); slid = m.slid } in
-    subst (λ (t : Table). KeepsToSpan t result c.args.arena.now c.fill.new.self) c.self.view_is
-    (subst (λ (a : Contents). KeepsToSpan (record { span = m.span; places = m.places; slid = m.slid }) result c.args.arena.now a) (sym c.fill.ensures.bytes)
-    (kept m.span m.places m.slid m.used c.self.invariant.0 c.self.invariant.1 bytes here result (m.span.at + m.used) c.args.arena.now.carved (zeros n) refl (omega arith) (omega (arith, c.rounded-size.ensures, c.if-self-size.false, c.self.invariant.1))))
 
 pub returns-clause-slid : goal.returns-clause-slid
 returns-clause-slid c =
-    let m = c.self.inside in let bytes = c.args.arena.now.bytes in let number = c.number_of.result in
-    let here = subst (λ (t : Table). IsWithin t bytes) (sym c.self.view_is) c.requires.within in
-    let fresh : Option _ = Some (record { at = m.used; len = c.args.n }) in
-    let unused = unused_place m.span m.places m.slid m.used c.self.invariant.0 c.self.invariant.1 bytes here (number_of c.args.key.0.0 c.args.key.1)
-    (subst (λ (t : Table). block_of c.args.key.0.0 c.args.key.1 (store_of t bytes) ≡ None) (sym c.self.view_is) c.requires.unused) in
-    let unused' : place_in m.places number ≡ None = ap (place_in m.places) c.number_of.ensures.number ∙ unused in
-    subst (λ (t : Table). m.slid ≡ min (t.slid + bytes_moved t.places (slice_set m.places number fresh)) (2 ^ 64 - 1)) c.self.view_is
-    (omega (arith, bytes_moved-added m.places number fresh unused'))
+    let old = c.args.self.now in let middle = c.make_room.new.self in let i = number_of c.args.key.0.0 c.args.key.1 in
+    let none = no_place (region_of old c.args.arena.now.bytes) (place_in old.places i) (sym (get_or-blocks (region_of old c.args.arena.now.bytes) old.places i) ∙ c.requires.unused) in
+    let fresh : Option Place = Some (record { at = last_end middle.places; len = c.args.n }) in
+    let same = ap (bytes_moved old.places) c.put_last.ensures.place ∙ bytes_moved-added old.places middle.places i fresh none in
+    c.put_last.ensures.slid ∙ c.make_room.ensures.slid ∙ ap (λ k. min (old.slid + k) (2 ^ 64 - 1)) (sym same)
+
+pub returns-clause-still : goal.returns-clause-still
+returns-clause-still c fits =
+    let old = c.args.self.now in let middle = c.make_room.new.self in let i = number_of c.args.key.0.0 c.args.key.1 in
+    let none = no_place (region_of old c.args.arena.now.bytes) (place_in old.places i) (sym (get_or-blocks (region_of old c.args.arena.now.bytes) old.places i) ∙ c.requires.unused) in
+    let fresh : Option Place = Some (record { at = last_end middle.places; len = c.args.n }) in
+    ap (bytes_moved old.places) c.put_last.ensures.place
+    ∙ bytes_moved-added old.places middle.places i fresh none
+    ∙ c.make_room.ensures.still (omega (arith, fits, c.rounded-size.ensures))
+
+pub returns-clause-together : goal.returns-clause-together
+returns-clause-together c moved =
+    let old = c.args.self.now in let middle = c.make_room.new.self in let i = number_of c.args.key.0.0 c.args.key.1 in
+    let bytes = c.args.arena.now.bytes in let n = c.args.n in
+    let none = no_place (region_of old bytes) (place_in old.places i) (sym (get_or-blocks (region_of old bytes) old.places i) ∙ c.requires.unused) in
+    let fresh : Option Place = Some (record { at = last_end middle.places; len = n }) in
+    let same = ap (bytes_moved old.places) c.put_last.ensures.place ∙ bytes_moved-added old.places middle.places i fresh none in
+    let before : last_end middle.places + free (store_of middle c.make_room.new.arena.bytes) ≤ middle.span.len = c.make_room.ensures.together (omega (arith, same, moved)) in
+    let store = store_of middle c.make_room.new.arena.bytes in
+    let count : length c.self.inside.places ≡ 272 = search rules in
+    let names = ap (λ (t : Table). length t.places) c.self.view_is in
+    let below : i < length (store_of old bytes).blocks =
+    omega (arith, c.requires.named.0, c.requires.named.1, c.requires.named.2, count, names, length-map old.places (block_in (region_of old bytes))) in
+    let below' : i < length store.blocks = subst (λ (s : ManagedStore). i < length s.blocks) (sym c.make_room.ensures.blocks) below in
+    let none' : get_or store.blocks i None ≡ None = subst (λ (s : ManagedStore). get_or s.blocks i None ≡ None) (sym c.make_room.ensures.blocks) c.requires.unused in
+    let taken : free (store_of c.put_last.new.self c.put_last.new.arena.bytes) ≡ free store - up4 n = ap free c.put_last.ensures.block ∙ free-added store i n below' none' in
+    let span = ap (λ (s : Span). s.len) c.put_last.ensures.rest.span in
+    omega (arith, before, taken, c.put_last.ensures.end, c.make_room.ensures.room, c.rounded-size.ensures, span)
+
+pub returns-then-self-size-clause-together : goal.returns-then-self-size-clause-together
+returns-then-self-size-clause-together c moved = absurd (omega (arith, moved, bytes_moved-same c.args.self.now.places))

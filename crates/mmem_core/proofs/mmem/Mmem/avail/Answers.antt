@@ -6,7 +6,7 @@ use Rattle.mmem_core.proofs.mmem.Mmem.avail.Goals as goal
 
 pub returns : goal.returns
 returns c bytes within =
-    let m = c.self.inside in
+    let m = c.self.inside in let lie = c.self.invariant.1 in
     let here = subst (λ (t : Table). IsWithin t bytes) (sym c.self.view_is) within in
     subst (λ (t : Table). m.span.len - m.used ≡ free (store_of t bytes)) c.self.view_is
-    (sym (free_is m.span m.places m.slid m.used c.self.invariant.0 c.self.invariant.1 bytes here))
+    (sym (free_is m.span m.places m.slid lie bytes here m.used c.self.invariant.0.total))

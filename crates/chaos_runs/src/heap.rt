@@ -1,0 +1,211 @@
+//! Heap memory as a list of blocks from the lowest place on, and the gaps between them.
+
+use crate::reply::{BAD_NAME, BAD_RANGE, IN_USE, NO_ROOM, NOT_LIVE, Reply, rounded_up};
+use arrayvec::ArrayVec;
+
+/// The bytes of a header.
+const HEADER: u64 = 16;
+
+/// A rest of more bytes than these stays a gap.
+const LARGEST_SPLINTER: u64 = 16;
+
+/// Where a block lies, and the room that it has behind its header.
+#[derive(Clone, Copy, Default, Drop)]
+struct Place {
+    at: u64,
+    room: u64,
+}
+
+impl Place {
+    /// Where the block's extent ends.
+    fn end(self) -> u64 {
+        self.at.saturating_add(HEADER).saturating_add(self.room)
+    }
+}
+
+/// A block: whose it is, its number, and where it lies.
+#[derive(Clone, Copy, Default, Drop)]
+struct Block {
+    pid: u32,
+    number: u32,
+    place: Place,
+}
+
+/// A run of bytes that no extent covers.
+#[derive(Clone, Copy, Default, Drop)]
+struct Gap {
+    at: u64,
+    len: u64,
+}
+
+/// All live blocks, from the lowest place on.
+#[derive(Drop)]
+pub struct HeapMemory {
+    size: u64,
+    blocks: ArrayVec<Block, 256>,
+}
+
+/// The room of a block of this rounded length in a gap below the top gap, where it leaves this rest.
+fn room_with(rounded: u64, rest: u64) -> u64 {
+    if rest > LARGEST_SPLINTER {
+        rounded
+    } else {
+        rounded.saturating_add(rest)
+    }
+}
+
+impl HeapMemory {
+    pub fn new(size: u64) -> Self {
+        HeapMemory {
+            size,
+            blocks: ArrayVec::new(),
+        }
+    }
+
+    fn find(&self, pid: u32, number: u32) -> Option<usize> {
+        self.blocks
+            .iter()
+            .position(|block| block.pid == pid && block.number == number)
+    }
+
+    /// The gaps below the top gap, from the lowest on.
+    fn lower_gaps(&self) -> ArrayVec<Gap, 256> {
+        let mut gaps = ArrayVec::new();
+        let mut end = 0;
+        for block in &self.blocks {
+            let at = block.place.at;
+            if at > end {
+                let _ = gaps.try_push(Gap {
+                    at: end,
+                    len: at - end,
+                });
+            }
+            end = block.place.end();
+        }
+        gaps
+    }
+
+    /// What lies above the highest extent. It may be empty.
+    fn top_gap(&self) -> Gap {
+        let mut at = 0;
+        for block in &self.blocks {
+            at = block.place.end();
+        }
+        Gap {
+            at,
+            len: self.size.saturating_sub(at),
+        }
+    }
+
+    /// The shortest gap below the top gap that has so many bytes, the lowest on a tie.
+    fn best_gap(&self, need: u64) -> Option<Gap> {
+        let mut best: Option<Gap> = None;
+        for gap in &self.lower_gaps() {
+            if gap.len >= need && best.is_none_or(|other| gap.len < other.len) {
+                best = Some(*gap);
+            }
+        }
+        best
+    }
+
+    /// Where a block of so many bytes goes.
+    fn place_of(&self, len: u32) -> Option<Place> {
+        let rounded = rounded_up(len);
+        let need = HEADER.saturating_add(rounded);
+        let Some(gap) = self.best_gap(need) else {
+            let top = self.top_gap();
+            let place = Place {
+                at: top.at,
+                room: rounded,
+            };
+            return (top.len >= need).then_some(place);
+        };
+        let room = room_with(rounded, gap.len.saturating_sub(need));
+        Some(Place { at: gap.at, room })
+    }
+
+    /// Puts a block among the others.
+    fn insert(&mut self, block: Block) {
+        let place = self
+            .blocks
+            .iter()
+            .position(|other| other.place.at > block.place.at)
+            .unwrap_or(self.blocks.len());
+        let _ = self.blocks.try_insert(place, block);
+    }
+
+    pub fn alloc(&mut self, pid: u32, number: u32, len: u32) -> Reply {
+        if number > 15 {
+            return BAD_NAME;
+        }
+        if self.find(pid, number).is_some() {
+            return IN_USE;
+        }
+        if len == 0 {
+            return BAD_RANGE;
+        }
+        let Some(place) = self.place_of(len) else {
+            return NO_ROOM;
+        };
+        self.insert(Block { pid, number, place });
+        Reply::Done
+    }
+
+    pub fn release(&mut self, pid: u32, number: u32) -> Reply {
+        if number > 15 {
+            return BAD_NAME;
+        }
+        let Some(index) = self.find(pid, number) else {
+            return NOT_LIVE;
+        };
+        self.blocks.pop_at(index);
+        Reply::Done
+    }
+
+    /// The room that a block gets where it lies: as it is, or with the gap behind it.
+    fn room_in_place(&self, place: Place, len: u32) -> Option<u64> {
+        let rounded = rounded_up(len);
+        if rounded <= place.room {
+            return Some(if place.room - rounded > LARGEST_SPLINTER {
+                rounded
+            } else {
+                place.room
+            });
+        }
+        let top = self.top_gap();
+        if top.at == place.end() {
+            return (place.room.saturating_add(top.len) >= rounded).then_some(rounded);
+        }
+        let gaps = self.lower_gaps();
+        let gap = gaps.iter().find(|gap| gap.at == place.end())?;
+        let most = place.room.saturating_add(gap.len);
+        (most >= rounded).then_some(room_with(rounded, most.saturating_sub(rounded)))
+    }
+
+    pub fn realloc(&mut self, pid: u32, number: u32, len: u32) -> Reply {
+        if number > 15 {
+            return BAD_NAME;
+        }
+        let Some(index) = self.find(pid, number) else {
+            return NOT_LIVE;
+        };
+        if len == 0 {
+            return BAD_RANGE;
+        }
+        let Some(block) = self.blocks.get(index).copied() else {
+            return NOT_LIVE;
+        };
+        let at = block.place.at;
+        let place = match self.room_in_place(block.place, len) {
+            Some(room) => Some(Place { at, room }),
+            // The old block is still live.
+            None => self.place_of(len),
+        };
+        let Some(place) = place else {
+            return NO_ROOM;
+        };
+        self.blocks.pop_at(index);
+        self.insert(Block { pid, number, place });
+        Reply::Done
+    }
+}

@@ -1,0 +1,33 @@
+//! An application that makes calls at random, and never exits by itself.
+
+ghost use Rattle.std.specs.Prelude.{◌≡◌};
+ghost use Rattle.chaos_runs.specs.Restless.{restless_says, stayed};
+
+use mote_apps::chaos::Chaos;
+use mote_types::app::App;
+use mote_types::call::Call;
+use mote_types::event::{Payload, Stimulus};
+
+/// As `Chaos`, with a broadcast in place of each exit, so that more processes live on and more events are delivered.
+#[derive(Drop)]
+pub struct Restless {
+    pub chaos: Chaos,
+}
+
+/// The call, or a broadcast in place of an exit.
+fn stay(call: Call) -> Call
+    ensures { result ≡ stayed call }
+{
+    match call {
+        Call::Exit => Call::Broadcast(141, Payload::Empty),
+        call => call,
+    }
+}
+
+impl App for Restless {
+    ghost says = { restless_says };
+
+    fn turn(&mut self, stimulus: &Stimulus) -> Call {
+        stay(self.chaos.turn(stimulus))
+    }
+}

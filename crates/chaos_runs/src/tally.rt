@@ -1,0 +1,64 @@
+//! How often each call was made, and how it was answered.
+
+use crate::turn::WORDS;
+use std::io;
+
+/// What became of the calls of one word. Calls that end a turn have no answer, and neither has one that a halt cuts off.
+#[derive(Clone, Copy, Default, Drop)]
+struct Count {
+    made: u64,
+    accepted: u64,
+    refused: u64,
+}
+
+/// The counts of all calls, in the order of their words.
+#[derive(Drop)]
+pub struct Tally {
+    counts: [Count; WORDS.len()],
+}
+
+impl Tally {
+    pub fn new() -> Self {
+        Tally {
+            counts: [Count::default(); WORDS.len()],
+        }
+    }
+
+    pub fn count_call(&mut self, kind: usize) {
+        if let Some(count) = self.counts.get_mut(kind) {
+            count.made = count.made.saturating_add(1);
+        }
+    }
+
+    pub fn count_answer(&mut self, kind: usize, told: &str) {
+        if let Some(count) = self.counts.get_mut(kind) {
+            if told.starts_with("refused ") {
+                count.refused = count.refused.saturating_add(1);
+            } else {
+                count.accepted = count.accepted.saturating_add(1);
+            }
+        }
+    }
+
+    /// All turns: each made one call.
+    pub fn turns(&self) -> u64 {
+        let mut turns = 0u64;
+        for count in &self.counts {
+            turns = turns.saturating_add(count.made);
+        }
+        turns
+    }
+
+    /// Writes a line for each call that was made.
+    pub fn print<R: Print>(&self, rt: &R) -> io::Result<()> {
+        for (word, count) in WORDS.iter().zip(&self.counts) {
+            if count.made > 0 {
+                println!(rt;
+                    "{word}: {} made, {} accepted, {} refused",
+                    count.made, count.accepted, count.refused
+                )?;
+            }
+        }
+        Ok(())
+    }
+}

@@ -1,0 +1,79 @@
+//! The lines of a transcript.
+
+/// The words of the calls that the applications make.
+pub const WORDS: [&str; 17] = [
+    "wait",
+    "post-synch",
+    "kill",
+    "start",
+    "post",
+    "poll",
+    "timer-set",
+    "callback-set",
+    "mmem-alloc",
+    "mmem-free",
+    "mmem-read",
+    "heap-alloc",
+    "heap-realloc",
+    "heap-free",
+    "memb-alloc",
+    "exit",
+    "broadcast",
+];
+
+/// A call: the place of its word, and its numbers, 0 where it has none.
+#[derive(Clone, Copy, Drop)]
+pub struct Call<'a> {
+    pub word: &'a str,
+    /// The place of the word among all.
+    pub kind: usize,
+    pub numbers: [u32; 3],
+}
+
+/// A turn, as its line tells it.
+#[derive(Clone, Copy, Drop)]
+pub struct Turn<'a> {
+    pub pid: u32,
+    pub is_answer: bool,
+    /// What the process was told, without where it came from.
+    pub told: &'a str,
+    pub call: Call<'a>,
+}
+
+/// The number of a word, or 0.
+fn number_of(word: Option<&str>) -> u32 {
+    match word {
+        Some(word) => word.parse().unwrap_or(0),
+        None => 0,
+    }
+}
+
+/// The call of its words, as `mmem-read 3 0 17`.
+fn read_call(text: &str) -> Option<Call<'_>> {
+    let mut words = text.split(' ');
+    let word = words.next()?;
+    let kind = WORDS.iter().position(|known| *known == word)?;
+    let first = number_of(words.next());
+    let second = number_of(words.next());
+    let third = number_of(words.next());
+    Some(Call {
+        word,
+        kind,
+        numbers: [first, second, third],
+    })
+}
+
+impl<'a> Turn<'a> {
+    /// The turn of a line `PID ORIGIN STIMULUS -> CALL`.
+    pub fn read(line: &'a str) -> Option<Turn<'a>> {
+        let (head, call) = line.split_once(" -> ")?;
+        let (pid, rest) = head.split_once(' ')?;
+        let (origin, told) = rest.split_once(' ')?;
+        Some(Turn {
+            pid: pid.parse().ok()?,
+            is_answer: origin == "answer",
+            told,
+            call: read_call(call)?,
+        })
+    }
+}

@@ -1,0 +1,12 @@
+use Rattle.std.proofs.Common.{refl, arith}
+use Rattle.heap_core.specs.Code.Layout.{chunks_of}
+use Rattle.heap_core.specs.Code.Walks.{chunks_between}
+use Rattle.heap_core.proofs.region.Region.chunks.Goals as goal
+
+pub invariant_of-result : goal.invariant_of-result
+unfolding chunks_of chunks_between
+invariant_of-result c = (omega arith, c.requires.within, c.requires.told)
+
+pub returns : goal.returns
+unfolding chunks_of chunks_between
+returns c = refl

@@ -1,0 +1,143 @@
+//! Lines of a script in which one byte is spoilt, read by the mote and by a plain reader.
+
+use arrayvec::ArrayVec;
+use mote_text::script::{BadLine, read_input};
+use mote_types::entry::Input;
+use std::process::Abort;
+
+/// What a line says.
+#[derive(Drop)]
+enum Said {
+    Nothing,
+    Tick(u64),
+    Serial(ArrayVec<u8, 256>),
+    Frame(ArrayVec<u8, 256>),
+    NoForm,
+}
+
+/// A number up to 4294967295 in decimal, with no leading zero.
+fn plain_number(digits: &[u8]) -> Option<u64> {
+    let first = digits.first()?;
+    if digits.len() > 10 || (*first == b'0' && digits.len() > 1) {
+        return None;
+    }
+    let mut number = 0u64;
+    for digit in digits {
+        if *digit < b'0' || *digit > b'9' {
+            return None;
+        }
+        number = number
+            .saturating_mul(10)
+            .saturating_add((*digit - b'0') as u64);
+    }
+    (number <= 4_294_967_295).then_some(number)
+}
+
+/// The value of a hex digit.
+fn plain_digit(digit: u8) -> Option<u8> {
+    match digit {
+        b'0'..=b'9' => Some(digit - b'0'),
+        b'a'..=b'f' => Some(digit - b'a' + 10),
+        b'A'..=b'F' => Some(digit - b'A' + 10),
+        _ => None,
+    }
+}
+
+/// From one byte to so many, by two hex digits each.
+fn plain_bytes(digits: &[u8], most: usize) -> Option<ArrayVec<u8, 256>> {
+    if digits.is_empty() {
+        return None;
+    }
+    let mut bytes = ArrayVec::new();
+    for pair in digits.chunks(2) {
+        let [high, low] = pair else {
+            return None;
+        };
+        bytes
+            .try_push(plain_digit(*high)? << 4 | plain_digit(*low)?)
+            .ok()?;
+    }
+    (bytes.len() <= most).then_some(bytes)
+}
+
+/// What a line says by the format of scripts.
+fn plain_line(line: &[u8]) -> Said {
+    let said = match line {
+        [] | [b'#', ..] => Some(Said::Nothing),
+        [b't', b'i', b'c', b'k', b' ', digits @ ..] => plain_number(digits).map(Said::Tick),
+        [b's', b'e', b'r', b'i', b'a', b'l', b' ', digits @ ..] => {
+            plain_bytes(digits, 256).map(Said::Serial)
+        }
+        [b'f', b'r', b'a', b'm', b'e', b' ', digits @ ..] => {
+            plain_bytes(digits, 127).map(Said::Frame)
+        }
+        _ => None,
+    };
+    said.unwrap_or(Said::NoForm)
+}
+
+/// Whether the mote read what the plain reader says.
+fn is_same(read: &Result<Option<Input>, BadLine>, said: &Said) -> bool {
+    match (read, said) {
+        (Ok(None), Said::Nothing) => true,
+        (Ok(Some(Input::Tick(ticks))), Said::Tick(number)) => *ticks as u64 == *number,
+        (Ok(Some(Input::Serial(read))), Said::Serial(bytes)) => read.as_slice() == bytes.as_slice(),
+        (Ok(Some(Input::Frame(read))), Said::Frame(bytes)) => read.as_slice() == bytes.as_slice(),
+        (Err(BadLine), Said::NoForm) => true,
+        _ => false,
+    }
+}
+
+/// How many lines said an input, and how many said nothing. All others have no form.
+#[derive(Clone, Copy, Debug, PartialEq, Eq, Drop)]
+struct Counts {
+    inputs: u32,
+    nothing: u32,
+}
+
+/// Spoils each byte of the line by each of the 256 values, and compares what the two readers make of it.
+fn count_spoilt<const N: usize>(rt: &impl Abort, line: [u8; N]) -> Counts {
+    let mut counts = Counts {
+        inputs: 0,
+        nothing: 0,
+    };
+    for place in 0..N {
+        for byte in 0u8..=255 {
+            let mut spoilt = line;
+            spoilt[place] = byte;
+            let said = plain_line(&spoilt);
+            assert!(rt; is_same(&read_input(&spoilt), &said), "{spoilt:?}");
+            match said {
+                Said::NoForm => {}
+                Said::Nothing => counts.nothing = counts.nothing.saturating_add(1),
+                _ => counts.inputs = counts.inputs.saturating_add(1),
+            }
+        }
+    }
+    counts
+}
+
+// Itself five times, once for each byte of the word; 9 digits in front, and 10 behind. `#ick 10` is a comment.
+#[test]
+fn spoilt_ticks(rt: HostRuntime) {
+    let counts = Counts {
+        inputs: 24,
+        nothing: 1,
+    };
+    assert_eq!(rt; count_spoilt(&rt, *b"tick 10"), counts);
+}
+
+// Itself once for each byte of the word, and 22 digits in each place.
+#[test]
+fn spoilt_bytes(rt: HostRuntime) {
+    let counts = Counts {
+        inputs: 95,
+        nothing: 1,
+    };
+    assert_eq!(rt; count_spoilt(&rt, *b"serial 0aFf"), counts);
+    let counts = Counts {
+        inputs: 50,
+        nothing: 1,
+    };
+    assert_eq!(rt; count_spoilt(&rt, *b"frame 00"), counts);
+}

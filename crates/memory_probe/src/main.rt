@@ -1,0 +1,67 @@
+//! Each call that takes memory, by itself, and what it comes to. `tests/faults` runs this program while memory is refused.
+#![tactic(auto)]
+
+use arena_core::Arena;
+use device_core::serial_line::SerialLine;
+use kernel_core::config::Config;
+use kernel_core::kernel::Kernel;
+use mote_types::fault::BootFault;
+use node_memory::{NodeMemory, Sizes};
+use process_core::scheduler::Scheduler;
+use std::alloc::AllocError;
+use std::io;
+
+const SIZES: Sizes = Sizes {
+    mmem: 4_096,
+    heap: 4_096,
+};
+
+/// No multiple of 4.
+const BAD_SIZES: Sizes = Sizes {
+    mmem: 4_098,
+    heap: 4_096,
+};
+
+fn made<T: Drop>(answer: Result<T, AllocError>) -> &'static str {
+    match answer {
+        Ok(_) => "stands",
+        Err(AllocError) => "out of memory",
+    }
+}
+
+fn made_of_sizes<T: Drop>(answer: Result<T, BootFault>) -> &'static str {
+    match answer {
+        Ok(_) => "stands",
+        Err(BootFault::BadSizes) => "bad sizes",
+        Err(BootFault::Memory) => "out of memory",
+    }
+}
+
+/// A mote of these sizes with two applications.
+fn config_of(sizes: Sizes) -> Config {
+    Config {
+        mmem: sizes.mmem,
+        heap: sizes.heap,
+        apps: 2,
+    }
+}
+
+fn main(rt: HostRuntime) -> io::Result<()> {
+    let alloc = rt.alloc();
+    // These two ask for no memory, so the first growth is the arena's.
+    let memory = made_of_sizes(NodeMemory::new(alloc, BAD_SIZES));
+    println!(rt; "node memory of bad sizes: {memory}")?;
+    let kernel = made_of_sizes(Kernel::boot(alloc, config_of(BAD_SIZES)));
+    println!(rt; "kernel of bad sizes: {kernel}")?;
+    println!(rt; "arena: {}", made(Arena::new(alloc, 64)))?;
+    println!(rt; "scheduler: {}", made(Scheduler::new(alloc, 2)))?;
+    println!(rt; "serial line: {}", made(SerialLine::new(alloc)))?;
+    println!(rt;
+        "node memory: {}",
+        made_of_sizes(NodeMemory::new(alloc, SIZES))
+    )?;
+    println!(rt;
+        "kernel: {}",
+        made_of_sizes(Kernel::boot(alloc, config_of(SIZES)))
+    )
+}

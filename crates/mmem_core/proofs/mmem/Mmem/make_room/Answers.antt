@@ -1,0 +1,15 @@
+use Rattle.std.proofs.Common.{ap, arith}
+use Rattle.mmem_core.specs.Table.{Table}
+use Rattle.mmem_core.proofs.PlaceLemmas.{bytes_moved-same}
+use Rattle.mmem_core.proofs.mmem.Mmem.make_room.Goals as goal
+
+pub returns-else-self-end-clause-slid : goal.returns-else-self-end-clause-slid
+returns-else-self-end-clause-slid c =
+    let slid = ap (λ (t : Table). t.slid) c.self.view_is in
+    omega (arith, slid, bytes_moved-same c.args.self.now.places)
+
+pub returns-else-self-end-clause-still : goal.returns-else-self-end-clause-still
+returns-else-self-end-clause-still c = λ _. bytes_moved-same c.args.self.now.places
+
+pub returns-else-self-end-clause-together : goal.returns-else-self-end-clause-together
+returns-else-self-end-clause-together c moved = absurd (omega (arith, moved, bytes_moved-same c.args.self.now.places))

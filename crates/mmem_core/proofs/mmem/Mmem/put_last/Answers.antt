@@ -1,0 +1,93 @@
+use Rattle.std.proofs.Common.{◌≡◌, ℕ, ◌+◌, ◌≤◌, ◌<◌, ◌++◌, ◌∷◌, [], List, length, slice_set, Option, Some, None, IsSomeAnd, refl, sym, ap, subst, ◌∙◌, arith}
+use Rattle.std.proofs.lemmas.List.{length-replicate}
+use Rattle.mote_types.specs.Rounding.{up4}
+use Rattle.mote_types.specs.Bytes.{zeros}
+use Rattle.mote_types.specs.BlockNames.{number_of}
+use Rattle.arena_core.specs.Contents.{Contents}
+use Rattle.arena_core.specs.Written.{written}
+use Rattle.mmem_core.specs.declared.place.Place.{Place}
+use Rattle.mmem_core.specs.ManagedStore.{block_of, allocated}
+use Rattle.mmem_core.specs.Places.{place_in, last_end}
+use Rattle.mmem_core.specs.Code.Laid.{IsLaidOut}
+use Rattle.mmem_core.specs.Table.{Table, store_of, IsWithin, KeepsToSpan}
+use Rattle.mmem_core.proofs.PlaceLemmas.{IsLaidOut-added, LieApart-from, unlisted, len_le_room, last_end-added, place_in-set_same}
+use Rattle.mmem_core.proofs.TableLemmas.{unused_place, added, kept, with_slot}
+use Rattle.mmem_core.proofs.mmem.Mmem.put_last.Goals as goal
+
+pub append-requires-clause-fresh : goal.append-requires-clause-fresh
+append-requires-clause-fresh c =
+    let m = c.self.inside in let bytes = c.args.arena.now.bytes in let number = c.number_of-number.result in
+    let here = subst (λ (t : Table). IsWithin t bytes) (sym c.self.view_is) c.requires.within in
+    let unused = unused_place m.span m.places m.slid c.self.invariant.1 bytes here (number_of c.args.key.0.0 c.args.key.1)
+    (subst (λ (t : Table). block_of c.args.key.0.0 c.args.key.1 (store_of t bytes) ≡ None) (sym c.self.view_is) c.requires.unused) in
+    unlisted m.places m.order m.used m.span.len c.self.invariant.0 number (ap (place_in m.places) c.number_of-number.ensures.number ∙ unused)
+
+pub invariant_of-self : goal.invariant_of-self
+invariant_of-self c =
+    let m = c.self.inside in let bytes = c.args.arena.now.bytes in let number = c.number_of-number.result in let n = c.args.n in
+    let here = subst (λ (t : Table). IsWithin t bytes) (sym c.self.view_is) c.requires.within in
+    let unused = unused_place m.span m.places m.slid c.self.invariant.1 bytes here (number_of c.args.key.0.0 c.args.key.1)
+    (subst (λ (t : Table). block_of c.args.key.0.0 c.args.key.1 (store_of t bytes) ≡ None) (sym c.self.view_is) c.requires.unused) in
+    let none : place_in m.places number ≡ None = ap (place_in m.places) c.number_of-number.ensures.number ∙ unused in
+    let below : number < length m.places = omega (arith, c.number_of-number.ensures.within) in
+    let room : last_end m.places + up4 n ≤ m.span.len = subst (λ (t : Table). last_end t.places + up4 n ≤ t.span.len) (sym c.self.view_is) c.requires.room in
+    let at : c.end-at.result ≡ last_end m.places = c.end-at.ensures.end ∙ sym (ap (λ (t : Table). last_end t.places) c.self.view_is) in
+    let places : List (Option Place) = slice_set m.places number (Some (record { at = c.end-at.result; len = n })) in
+    let sound = IsLaidOut-added m.places m.order m.used m.span.len c.self.invariant.0 number n below none c.requires.some_bytes room in
+    let sound' : IsLaidOut places (m.order ++ number ∷ []) (m.used + up4 n) m.span.len =
+    subst (λ (a : ℕ). IsLaidOut (slice_set m.places number (Some (record { at = a; len = n }))) (m.order ++ number ∷ []) (m.used + up4 n) m.span.len) (sym at) sound in
+    let used : m.used + up4 n ≡ m.used + c.rounded.result = ap (λ k. m.used + k) (sym c.rounded.ensures) in
+    let laid_out : IsLaidOut places c.append.new.self (m.used + c.rounded.result) m.span.len =
+    subst (λ (xs : List ℕ). IsLaidOut places xs (m.used + c.rounded.result) m.span.len) (sym c.append.ensures) (subst (λ k. IsLaidOut places (m.order ++ number ∷ []) k m.span.len) used sound') in
+    (laid_out, LieApart-from places c.append.new.self (m.used + c.rounded.result) m.span.len laid_out, c.self.invariant.2)
+
+pub returns-clause-block : goal.returns-clause-block
+returns-clause-block c =
+    let m = c.self.inside in let bytes = c.args.arena.now.bytes in let number = c.number_of-number.result in let n = c.args.n in
+    let here = subst (λ (t : Table). IsWithin t bytes) (sym c.self.view_is) c.requires.within in
+    let room : last_end m.places + up4 n ≤ m.span.len = subst (λ (t : Table). last_end t.places + up4 n ≤ t.span.len) (sym c.self.view_is) c.requires.room in
+    let at : c.end-at.result ≡ last_end m.places = c.end-at.ensures.end ∙ sym (ap (λ (t : Table). last_end t.places) c.self.view_is) in
+    let result : ℕ → Table = λ a. record { span = m.span; places = slice_set m.places number (Some (record { at = a; len = n })); slid = m.slid } in
+    let filled : store_of (result c.end-at.result) c.fill.new.self.bytes ≡ _ =
+    ap (λ (a : Contents). store_of (result c.end-at.result) a.bytes) c.fill.ensures.bytes in
+    subst (λ (t : Table). store_of (result c.end-at.result) c.fill.new.self.bytes ≡ allocated c.args.key.0.0 c.args.key.1 n (store_of t bytes)) c.self.view_is
+    (filled
+    ∙ ap (λ a. store_of (result a) (written bytes (m.span.at + a) (zeros n))) at
+    ∙ added m.span m.places m.slid c.self.invariant.1 bytes here m.slid number n (omega (arith, len_le_room n))
+    ∙ ap (λ i. with_slot i (Some (zeros n)) (store_of (record { span = m.span; places = m.places; slid = m.slid }) bytes)) c.number_of-number.ensures.number)
+
+pub returns-clause-rest : goal.returns-clause-rest
+returns-clause-rest c =
+    let m = c.self.inside in let bytes = c.args.arena.now.bytes in let number = c.number_of-number.result in let n = c.args.n in
+    let here = subst (λ (t : Table). IsWithin t bytes) (sym c.self.view_is) c.requires.within in
+    let room : last_end m.places + up4 n ≤ m.span.len = subst (λ (t : Table). last_end t.places + up4 n ≤ t.span.len) (sym c.self.view_is) c.requires.room in
+    let at : c.end-at.result ≡ last_end m.places = c.end-at.ensures.end ∙ sym (ap (λ (t : Table). last_end t.places) c.self.view_is) in
+    let count : length (zeros n) ≡ n = length-replicate n 0 in
+    let result : Table = record { span = m.span; places = slice_set m.places number (Some (record { at = c.end-at.result; len = n })); slid = m.slid } in
+    subst (λ (t : Table). KeepsToSpan t result c.args.arena.now c.fill.new.self) c.self.view_is
+    (subst (λ (a : Contents). KeepsToSpan (record { span = m.span; places = m.places; slid = m.slid }) result c.args.arena.now a) (sym c.fill.ensures.bytes)
+    (kept m.span m.places m.slid c.self.invariant.1 bytes here result (m.span.at + c.end-at.result) c.args.arena.now.carved (zeros n) refl (omega arith) (omega (arith, at, len_le_room n))))
+
+pub returns-clause-end : goal.returns-clause-end
+returns-clause-end c =
+    let m = c.self.inside in let number = c.number_of-number.result in let n = c.args.n in
+    let below : number < length m.places = omega (arith, c.number_of-number.ensures.within) in
+    let at : c.end-at.result ≡ last_end m.places = c.end-at.ensures.end ∙ sym (ap (λ (t : Table). last_end t.places) c.self.view_is) in
+    ap (λ (a : ℕ). last_end (slice_set m.places number (Some (record { at = a; len = n })))) at
+    ∙ last_end-added m.places number n below
+    ∙ ap (λ (t : Table). last_end t.places + up4 n) c.self.view_is
+
+pub returns-clause-last : goal.returns-clause-last
+returns-clause-last c =
+    let m = c.self.inside in let number = c.number_of-number.result in let n = c.args.n in
+    let below : number < length m.places = omega (arith, c.number_of-number.ensures.within) in
+    let at : c.end-at.result ≡ last_end m.places = c.end-at.ensures.end ∙ sym (ap (λ (t : Table). last_end t.places) c.self.view_is) in
+    let new : Place = record { at = c.end-at.result; len = n } in
+    let places : List (Option Place) = slice_set m.places number (Some new) in
+    let here : place_in places (number_of c.args.key.0.0 c.args.key.1) ≡ Some new =
+    ap (place_in places) (sym c.number_of-number.ensures.number) ∙ place_in-set_same m.places number (Some new) below in
+    let ends : last_end places ≡ c.end-at.result + up4 n =
+    ap (λ (a : ℕ). last_end (slice_set m.places number (Some (record { at = a; len = n })))) at
+    ∙ last_end-added m.places number n below
+    ∙ ap (λ a. a + up4 n) (sym at) in
+    subst (λ (p : Option Place). IsSomeAnd p (λ place. last_end places ≡ place.at + up4 n)) (sym here) ends

@@ -1,0 +1,125 @@
+//! Transcripts that break a law: the walks over a transcript (`transcript_walks`) notice each.
+
+use std::alloc::Global;
+use std::test::Fail;
+use transcript_walks::{events, memory, timers};
+
+/// The transcript with one of its parts spoilt.
+fn spoilt(alloc: Global, transcript: &str, part: &str, instead: &str) -> Result<String, Fail> {
+    let (before, behind) = transcript.split_once(part).unwrap_or(("", ""));
+    let mut text = String::from_str(alloc, before)?;
+    text.push_str(instead)?;
+    text.push_str(behind)?;
+    Ok(text)
+}
+
+// After the slide, handle 1 shows what lay at its old place; a new block shows what lay there before; a resize keeps too much;
+// a call on a block that isn't live, or is, is refused with another number; a frame is sent with a byte of another block.
+#[test]
+fn a_walk_notices_bytes_that_the_process_did_not_put_there(rt: HostRuntime) -> Result<(), Fail> {
+    let transcript = "\
+4 synch 129 - -> mmem-alloc 0 10
+4 answer done -> mmem-alloc 1 2
+4 answer done -> mmem-write 1 0 0102
+4 answer done -> mmem-free 0
+4 answer done -> mmem-read 1 0 2
+4 answer bytes 0102 -> mmem-alloc 2 4
+4 answer done -> mmem-read 2 0 4
+4 answer bytes 00000000 -> mmem-read 0 0 1
+4 answer refused 9 -> mmem-alloc 1 1
+4 answer refused 8 -> mmem-copy 1 2
+4 answer done -> packet-send 2
+note sent 01020000
+4 answer done -> heap-alloc 0 4
+4 answer done -> heap-write 0 0 05060708
+4 answer done -> heap-realloc 0 2
+4 answer done -> heap-realloc 0 3
+4 answer done -> heap-read 0 0 3
+4 answer bytes 050600 -> wait
+";
+    assert!(rt; memory::is_own(rt.alloc(), transcript)?);
+    for (part, instead) in [
+        ("bytes 0102 ", "bytes 0000 "),
+        ("bytes 00000000 ", "bytes 01020000 "),
+        ("bytes 050600 ", "bytes 050607 "),
+        ("refused 9 ", "refused 11 "),
+        ("refused 8 ", "done "),
+        ("sent 01020000", "sent 01020001"),
+    ] {
+        let text = spoilt(rt.alloc(), transcript, part, instead)?;
+        assert!(rt; !memory::is_own(rt.alloc(), text.as_str())?, "{instead}");
+    }
+    Ok(())
+}
+
+// An accepted event is dropped; one is given twice; two change places; one is not given before the mote rests.
+#[test]
+fn a_walk_notices_an_event_that_is_lost_or_out_of_order(rt: HostRuntime) -> Result<(), Fail> {
+    let transcript = "\
+4 synch 129 - -> wait
+5 synch 129 - -> post 4 140 -
+5 answer done -> post 4 141 7
+5 answer done -> broadcast 142 -
+5 answer done -> wait
+4 event 140 - -> wait
+4 event 141 7 -> wait
+5 event 142 - -> wait
+4 event 142 - -> wait
+> tick 1
+";
+    assert!(rt; events::arrive_in_order(rt.alloc(), 2, transcript)?);
+    for (part, instead) in [
+        ("4 event 140 - -> wait\n", ""),
+        (
+            "4 event 140 - -> wait\n",
+            "4 event 140 - -> wait\n4 event 140 - -> wait\n",
+        ),
+        ("4 event 140 -", "4 event 141 7"),
+        (
+            "4 event 142 - -> wait\n> tick 1\n",
+            "> tick 1\n4 event 142 - -> wait\n",
+        ),
+        ("5 event 142 - -> wait\n", ""),
+    ] {
+        let text = spoilt(rt.alloc(), transcript, part, instead)?;
+        assert!(rt;
+            !events::arrive_in_order(rt.alloc(), 2, text.as_str())?,
+            "{instead}"
+        );
+    }
+    Ok(())
+}
+
+// A timer's event comes a tick early; twice; not before the mote rests; though the timer was stopped in time.
+#[test]
+fn a_walk_notices_a_timer_that_is_early_or_lost(rt: HostRuntime) -> Result<(), Fail> {
+    let transcript = "\
+4 synch 129 - -> timer-set 0 5
+4 answer done -> wait
+> tick 4
+> tick 1
+4 event 136 0 -> timer-reset 0
+4 answer done -> wait
+> tick 5
+4 event 136 0 -> wait
+> tick 1
+";
+    assert!(rt; timers::are_kept(rt.alloc(), 1, transcript)?);
+    for (part, instead) in [
+        ("> tick 1\n4 event 136 0 ", "4 event 136 0 "),
+        (
+            "4 event 136 0 -> wait\n",
+            "4 event 136 0 -> wait\n4 event 136 0 -> wait\n",
+        ),
+        ("4 event 136 0 -> wait\n", ""),
+        ("timer-reset 0", "timer-stop 0"),
+        ("timer-reset 0", "timer-set 0 6"),
+    ] {
+        let text = spoilt(rt.alloc(), transcript, part, instead)?;
+        assert!(rt;
+            !timers::are_kept(rt.alloc(), 1, text.as_str())?,
+            "{instead}"
+        );
+    }
+    Ok(())
+}

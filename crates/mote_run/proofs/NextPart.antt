@@ -1,0 +1,192 @@
+-- The script as far as its bytes were used, after a take of more of them.
+use Rattle.std.proofs.Common.{◌≡◌, ◌≢◌, ◌<◌, ◌≤◌, ◌+◌, ℕ, suc, true, false, List, [], ◌∷◌, ◌++◌, length, take, drop, ◌-◌, refl, ap, sym, ◌∙◌, arith, append_assoc, length-append, ne_eqb, not, ◌==◌}
+use Rattle.std.specs.Prelude.{Bool, Option, Some, None, unwrap_or, ◌&&◌}
+use Rattle.std.specs.List.{list_all}
+use Rattle.std.proofs.lemmas.List.{append-nil, length-take, length-take-le}
+use Rattle.std.proofs.lemmas.List.Folds.{list_all-append}
+use Rattle.mote_types.specs.declared.entry.Input.{Input}
+use Rattle.mote_text.specs.declared.lines.Taken.{Taken}
+use Rattle.mote_text.specs.declared.script.End.{End}
+use Rattle.mote_text.specs.Lines.{GoesOnAt, has_no_end, unfinished_after, with_end}
+use Rattle.mote_text.specs.Script.{inputs, line_limit, read_line, script_limit}
+use Rattle.mote_text.proofs.Reading.{Before, Gives, another_byte, line_of_input, line_of_no_form, line_of_nothing, line_too_long, script_limit_is, script_too_long}
+use Rattle.mote_run.specs.Code.Reading.{number_after, said}
+use Rattle.mote_run.proofs.Windows.{next_byte, used_and_later}
+
+-- the bytes that a line's end stands behind, with it
+abbrev pub ended_by : Taken → List ℕ → List ℕ
+ended_by Taken.Line line = line ++ 10 ∷ []
+ended_by Taken.More bytes = []
+ended_by Taken.TooWide bytes = []
+
+pub parted : (last : Taken) (bytes ended later : List ℕ) →
+    ended ++ (with_end last bytes ++ later) ≡ (ended ++ ended_by last bytes) ++ (unfinished_after last bytes ++ later)
+parted Taken.Line bytes ended later = sym (append_assoc ended (bytes ++ 10 ∷ []) later)
+parted Taken.More bytes ended later = rw append-nil refl
+parted Taken.TooWide bytes ended later = rw append-nil refl
+
+pub sizes : (last : Taken) (bytes ended : List ℕ) →
+    length (ended ++ ended_by last bytes) + length (unfinished_after last bytes) ≡ length ended + length (with_end last bytes)
+sizes Taken.Line bytes ended = omega (arith, length-append ended (bytes ++ 10 ∷ []))
+sizes Taken.More bytes ended = rw append-nil refl
+sizes Taken.TooWide bytes ended = rw append-nil refl
+
+pub narrow_after : (last : Taken) (bytes : List ℕ) → length bytes ≤ line_limit → length (unfinished_after last bytes) ≤ line_limit
+narrow_after Taken.Line bytes narrow = omega arith
+narrow_after Taken.More bytes narrow = narrow
+narrow_after Taken.TooWide bytes narrow = narrow
+
+pub endless_after : (last : Taken) (bytes : List ℕ) → has_no_end bytes ≡ true → has_no_end (unfinished_after last bytes) ≡ true
+endless_after Taken.Line bytes endless = refl
+endless_after Taken.More bytes endless = endless
+endless_after Taken.TooWide bytes endless = endless
+
+-- the bytes are as many as a line may have, and another one of the same line stands behind them, within what a script may have
+pub record GoesOn (ended : ℕ) (bytes later : List ℕ) : Type 0 where
+  pub full : length bytes ≡ line_limit
+  pub room : ended + length bytes < script_limit
+  pub byte : ℕ
+  pub tail : List ℕ
+  pub is : later ≡ byte ∷ tail
+  pub other : byte ≢ 10
+
+-- what a take used of a piece, behind the bytes of the present line, and what it left
+pub record TakenPart (line piece later : List ℕ) (count count_later : ℕ) (last : Taken) (bytes : List ℕ) : Type 0 where
+  pub part : List ℕ
+  pub parts : piece ≡ part ++ later
+  pub used : line ++ part ≡ with_end last bytes
+  pub counts : count_later ≡ count + length part
+  pub within : count_later ≤ script_limit
+  pub narrow : length bytes ≤ line_limit
+  pub endless : has_no_end bytes ≡ true
+
+pub took : (line piece window later : List ℕ) (count used : ℕ) (last : Taken) (bytes : List ℕ) → window ≡ take (16_777_216 - count) piece → later ≡ drop used piece →
+    used ≤ length window → line ++ take used window ≡ with_end last bytes → length bytes ≤ line_limit → has_no_end bytes ≡ true → count ≤ 16_777_216 →
+    TakenPart line piece later count (count + used) last bytes
+took line piece window later count used last bytes front rests few joined narrow endless limit =
+    let room = 16_777_216 - count in
+    let within : used ≤ length (take room piece) = rw front at few in record {
+      part = take used window;
+      parts = rw (front, rests) (used_and_later used room piece within);
+      used = joined;
+      counts = ap (λ n. count + n) (sym (length-take-le used window few));
+      within = omega (arith, within, length-take room piece, limit, script_limit_is);
+      narrow = narrow;
+      endless = endless;
+    }
+
+-- the byte behind a line that is too wide stands within what a script may have
+pub goes_on : (line piece window later : List ℕ) (count used ended : ℕ) (bytes : List ℕ) → window ≡ take (16_777_216 - count) piece → later ≡ drop used piece →
+    count ≤ 16_777_216 → ended + length bytes ≡ count + used → length bytes ≡ line_limit → GoesOnAt window used → GoesOn ended bytes later
+goes_on line piece window later count used ended bytes front rests limit size full at =
+    let room = 16_777_216 - count in
+    let next = next_byte used room piece at.0 (rw front at at.1) in record {
+      full = full;
+      room = omega (arith, size, next.0, length-take room piece, limit, script_limit_is);
+      byte = at.0;
+      tail = next.1.0;
+      is = rests ∙ next.1.1;
+      other = at.2;
+    }
+
+pub not_wide : (last : Taken) (bytes : List ℕ) (says : Option Input) → said last bytes ≡ Some says → last ≢ Taken.TooWide
+not_wide Taken.Line bytes says e = λ is. absurd (cc)
+not_wide Taken.More bytes says e = λ is. absurd (cc)
+not_wide Taken.TooWide bytes says e = λ is. absurd (cc)
+
+both : (a b : Bool) → (a && b) ≡ true → (a ≡ true) × (b ≡ true)
+both true b h = (refl, h)
+both false b h = absurd (cc)
+
+not_end : (byte : ℕ) → not (byte == 10) ≡ true → byte ≢ 10
+not_end byte h = λ e. absurd (let f : not (10 == 10) ≡ true = rw e at h in cc)
+
+-- a line end stands in no line
+pub ends_nowhere : (line bytes : List ℕ) → has_no_end line ≡ true → line ≡ bytes ++ 10 ∷ [] → ⊥
+ends_nowhere line bytes endless e =
+    let all = rw (e, list_all-append (λ byte. not (byte == 10)) bytes (10 ∷ [])) at endless in
+    absurd (let no = (both (has_no_end bytes) (has_no_end (10 ∷ [])) all).1 in cc)
+
+-- what has ended no line, no byte was used behind
+pub a_line_used_some : (line bytes : List ℕ) (last : Taken) → has_no_end line ≡ true → line ++ [] ≡ with_end last bytes → last ≢ Taken.Line
+a_line_used_some line bytes Taken.Line endless e = λ is. ends_nowhere line bytes endless (sym (append-nil line) ∙ e)
+a_line_used_some line bytes Taken.More endless e = λ is. absurd (cc)
+a_line_used_some line bytes Taken.TooWide endless e = λ is. absurd (cc)
+
+-- bytes without a line end, behind those of the present line
+more_of_line : {taken : List ℕ} {earlier : List Input} {number : ℕ} {line : List ℕ} (bytes : List ℕ) → Before taken earlier number line → has_no_end bytes ≡ true →
+    length line + length bytes ≤ line_limit → length taken + length bytes ≤ script_limit → Before (taken ++ bytes) earlier number (line ++ bytes)
+more_of_line {taken} {earlier} {number} {line} [] before endless narrow room = rw (append-nil taken, append-nil line) before
+more_of_line {taken} {earlier} {number} {line} (byte ∷ bytes) before endless narrow room =
+    let e = both (not (byte == 10)) (has_no_end bytes) endless in
+    let one = another_byte byte before (omega (arith, room)) (not_end byte e.0) (omega (arith, narrow)) in
+    let all = more_of_line bytes one e.1 (omega (arith, narrow, length-append line (byte ∷ []))) (omega (arith, room, length-append taken (byte ∷ []))) in
+    rw (append_assoc taken (byte ∷ []) bytes, append_assoc line (byte ∷ []) bytes) at all
+
+module _ {ended : List ℕ} {earlier : List Input} {number : ℕ} (before : Before ended earlier number []) where
+  -- the present line, whose end hasn't come
+  pub in_line : (line : List ℕ) → length line ≤ line_limit → has_no_end line ≡ true → length ended + length line ≤ script_limit → Before (ended ++ line) earlier number line
+  in_line line narrow endless room = more_of_line line before endless (omega (arith, narrow)) room
+
+  module _ (line : List ℕ) (narrow : length line ≤ line_limit) (endless : has_no_end line ≡ true) (room : length ended + length (line ++ 10 ∷ []) ≤ script_limit) where
+    here : Before (ended ++ line) earlier number line
+    here = in_line line narrow endless (omega (arith, room, length-append line (10 ∷ [])))
+
+    room_for_end : length (ended ++ line) < script_limit
+    room_for_end = omega (arith, room, length-append line (10 ∷ []), length-append ended line)
+
+    says_nothing : read_line line ≡ Some None → Before (ended ++ (line ++ 10 ∷ [])) earlier (number + 1) []
+    says_nothing says = rw (append_assoc ended line (10 ∷ [])) at (line_of_nothing 10 here room_for_end refl says)
+
+    says_input : (input : Input) → read_line line ≡ Some (Some input) → Before (ended ++ (line ++ 10 ∷ [])) (earlier ++ input ∷ []) (number + 1) []
+    says_input input says = rw (append_assoc ended line (10 ∷ [])) at (line_of_input 10 here input room_for_end refl says)
+
+    has_no_form : read_line line ≡ None → Gives (ended ++ (line ++ 10 ∷ [])) earlier (End.BadLine number)
+    has_no_form says = rw (append_assoc ended line (10 ∷ [])) at (line_of_no_form 10 here room_for_end refl says)
+
+  pub nothing_said : (last : Taken) (bytes : List ℕ) → length ended + length (with_end last bytes) ≤ script_limit → length bytes ≤ line_limit → has_no_end bytes ≡ true →
+      said last bytes ≡ Some None → Before (ended ++ ended_by last bytes) earlier (number_after last number) []
+  nothing_said Taken.Line bytes room narrow endless says = says_nothing bytes narrow endless room says
+  nothing_said Taken.More bytes room narrow endless says = rw (append-nil ended) before
+  nothing_said Taken.TooWide bytes room narrow endless says = absurd (cc)
+
+  pub input_said : (last : Taken) (bytes : List ℕ) (input : Input) → length ended + length (with_end last bytes) ≤ script_limit → length bytes ≤ line_limit → has_no_end bytes ≡ true →
+      said last bytes ≡ Some (Some input) → Before (ended ++ ended_by last bytes) (earlier ++ input ∷ []) (number_after last number) []
+  input_said Taken.Line bytes input room narrow endless says = says_input bytes narrow endless room input says
+  input_said Taken.More bytes input room narrow endless says = absurd (let e : None ≡ Some input = ap (λ o. unwrap_or o None) says in cc)
+  input_said Taken.TooWide bytes input room narrow endless says = absurd (cc)
+
+  -- what stands behind those bytes doesn't matter
+  pub no_form_said : (last : Taken) (bytes later : List ℕ) → length ended + length (with_end last bytes) ≤ script_limit → length bytes ≤ line_limit → has_no_end bytes ≡ true →
+      (last ≡ Taken.TooWide → GoesOn (length ended) bytes later) →
+      said last bytes ≡ None → (more : List ℕ) → inputs ((ended ++ (with_end last bytes ++ later)) ++ more) ≡ (earlier, End.BadLine number)
+  no_form_said Taken.Line bytes later room narrow endless wide says = λ more.
+      rw (append_assoc ended ((bytes ++ 10 ∷ []) ++ later) more, append_assoc (bytes ++ 10 ∷ []) later more, ← append_assoc ended (bytes ++ 10 ∷ []) (later ++ more))
+      (has_no_form bytes narrow endless room says (later ++ more))
+  no_form_said Taken.More bytes later room narrow endless wide says = absurd (cc)
+  no_form_said Taken.TooWide bytes later room narrow endless wide says = λ more.
+      let w = wide refl in
+      let line : Before (ended ++ bytes) earlier number bytes = in_line bytes narrow endless room in
+      let fits : length (ended ++ bytes) < script_limit = omega (arith, w.room, length-append ended bytes) in
+      let given = line_too_long w.byte line fits w.other (omega (arith, w.full)) (w.tail ++ more) in
+      rw (w.is, append_assoc ended (bytes ++ (w.byte ∷ w.tail)) more, append_assoc bytes (w.byte ∷ w.tail) more, ← append_assoc ended bytes (w.byte ∷ (w.tail ++ more)))
+      (rw (append_assoc (ended ++ bytes) (w.byte ∷ []) (w.tail ++ more)) at given)
+
+-- a byte stands behind all that a script may have
+pub beyond_limit : {taken : List ℕ} {earlier : List Input} {number : ℕ} {line : List ℕ} (rest : List ℕ) → (length rest == 0) ≡ false → Before taken earlier number line →
+    script_limit ≤ length taken → (more : List ℕ) → inputs ((taken ++ rest) ++ more) ≡ (earlier, End.TooLong)
+beyond_limit [] some before full more = absurd (cc)
+beyond_limit {taken} (byte ∷ tail) some before full more =
+    rw (append_assoc taken (byte ∷ tail) more) (rw (append_assoc taken (byte ∷ []) (tail ++ more)) at (script_too_long byte before full (tail ++ more)))
+
+pub none_left : (rest : List ℕ) → (length rest == 0) ≡ true → rest ≡ []
+none_left [] h = refl
+none_left (byte ∷ rest) h = absurd (let no = ne_eqb (length (byte ∷ rest)) 0 (λ e. absurd (omega (arith, e))) in let same = sym h ∙ no in cc)
+
+pub is_none : (rest : List ℕ) → length rest ≡ 0 → rest ≡ []
+is_none [] h = refl
+is_none (byte ∷ rest) h = absurd (omega (arith, h))
+
+pub some_left : (rest : List ℕ) → (length rest == 0) ≡ false → 0 < length rest
+some_left [] h = absurd (cc)
+some_left (byte ∷ rest) h = omega arith

@@ -1,0 +1,60 @@
+//! Text that is due: gathered first, and written in pieces.
+
+ghost use Rattle.std.specs.Prelude.{◌≡◌, ◌<◌, ◌≤◌, ◌+◌, ◌-◌, ◌^◌, [], ℕ, List, length, IfErr, OnErr, OnOk};
+ghost use Rattle.mote_run.specs.Code.Writing.{WritesOn};
+
+use crate::device::write_all;
+use crate::run::RunFault;
+use arrayvec::ArrayVec;
+use mote_types::device::ByteSink;
+
+/// How many bytes are gathered at most.
+pub const MOST_DUE: usize = 4_096;
+
+/// The text that was made and is not written yet.
+#[derive(Drop)]
+pub struct Due {
+    pub text: ArrayVec<u8, 4_096>,
+}
+
+impl Due {
+    pub fn new() -> Self
+        ensures { result.text.items ≡ [] }
+    {
+        Due {
+            text: ArrayVec::new(),
+        }
+    }
+
+    /// Writes all of it. Where a write fails, a front part was written.
+    pub fn flush<K: ByteSink>(&mut self, sink: &mut K) -> Result<(), RunFault>
+        requires countable { K.failure_count sink.old < 2 ^ 64 - 1 }
+        ensures written { OnOk result (K.is_named → WritesOn (K.given sink.old) self.old.text.items (K.given sink.new) [] []) }
+        ensures empty { OnOk result (self.new.text.items ≡ []) }
+        ensures cut_off { OnErr result (K.is_named → (lost : List ℕ) × WritesOn (K.given sink.old) self.old.text.items (K.given sink.new) lost []) }
+        ensures succeeded { OnOk result (K.failure_count sink.new ≡ K.failure_count sink.old) }
+        ensures fault { IfErr result (λ fault. fault ≡ RunFault.Write) }
+        ensures failed { OnErr result (K.failure_count sink.new ≡ K.failure_count sink.old + 1) }
+    {
+        write_all(sink, self.text.as_slice())?;
+        self.text.clear();
+        Ok(())
+    }
+
+    /// Puts more text behind it. Where there is no room for that, what is due is written first.
+    pub fn put<K: ByteSink>(&mut self, sink: &mut K, text: &[u8]) -> Result<(), RunFault>
+        requires fits { length text.now ≤ MOST_DUE }
+        requires countable { K.failure_count sink.old < 2 ^ 64 - 1 }
+        ensures written { OnOk result (K.is_named → WritesOn (K.given sink.old) self.old.text.items (K.given sink.new) self.new.text.items text.now) }
+        ensures cut_off { OnErr result (K.is_named → (lost : List ℕ) × WritesOn (K.given sink.old) self.old.text.items (K.given sink.new) lost text.now) }
+        ensures succeeded { OnOk result (K.failure_count sink.new ≡ K.failure_count sink.old) }
+        ensures fault { IfErr result (λ fault. fault ≡ RunFault.Write) }
+        ensures failed { OnErr result (K.failure_count sink.new ≡ K.failure_count sink.old + 1) }
+    {
+        if self.text.remaining_capacity() < text.len() {
+            self.flush(sink)?;
+        }
+        let _ = self.text.try_extend_from_slice(text);
+        Ok(())
+    }
+}

@@ -1,0 +1,42 @@
+//! The next piece of a script, before which all text that is due is written.
+
+ghost use Rattle.std.specs.Prelude.{◌≡◌, ◌<◌, ◌≤◌, ◌+◌, ◌-◌, ◌^◌, ◌++◌, ◌==◌, ◌↔◌, [], ℕ, List, false, length, IfErr, IsErrOf, OnErr, OnOk};
+ghost use Rattle.mote_run.specs.Code.Writing.{WritesOn};
+
+use crate::due::Due;
+use crate::piece::Piece;
+use crate::run::RunFault;
+use mote_types::device::{ByteSink, ByteSource};
+
+/// Where the piece is used up, writes all text that is due, and reads the next one, of at most so many bytes. A piece
+/// that is empty then is the script's end.
+pub fn refill<S: ByteSource, K: ByteSink>(
+    source: &mut S,
+    sink: &mut K,
+    due: &mut Due,
+    piece: &mut Piece,
+    most: usize,
+) -> Result<(), RunFault>
+    requires some { 0 < most }
+    requires unended { S.is_ended source.old ≡ false }
+    requires countable_reads { S.failure_count source.old < 2 ^ 64 - 1 }
+    requires countable_writes { K.failure_count sink.old < 2 ^ 64 - 1 }
+    ensures taken { OnOk result (S.is_named → (read : List ℕ) × (S.taken source.new ≡ S.taken source.old ++ read) × (piece.new ≡ piece.old ++ read)) }
+    ensures few { OnOk result (length piece.old ≤ most → length piece.new ≤ most) }
+    ensures ended { OnOk result (S.is_ended source.new ≡ (length piece.new == 0)) }
+    ensures written { OnOk result (K.is_named → WritesOn (K.given sink.old) due.old.text.items (K.given sink.new) due.new.text.items []) }
+    ensures used_up { OnErr result (length piece.old ≡ 0) }
+    ensures nothing_taken { OnErr result (S.is_named → S.taken source.new ≡ S.taken source.old) }
+    ensures all_written { IsErrOf result RunFault.Read → K.is_named → WritesOn (K.given sink.old) due.old.text.items (K.given sink.new) [] [] }
+    ensures cut_off { OnErr result (K.is_named → (lost : List ℕ) × WritesOn (K.given sink.old) due.old.text.items (K.given sink.new) lost []) }
+    ensures read_succeeded { OnOk result (S.failure_count source.new ≡ S.failure_count source.old) }
+    ensures write_succeeded { OnOk result (K.failure_count sink.new ≡ K.failure_count sink.old) }
+    ensures read_fault { IsErrOf result RunFault.Read ↔ (S.failure_count source.old < S.failure_count source.new) }
+    ensures write_fault { IsErrOf result RunFault.Write ↔ (K.failure_count sink.old < K.failure_count sink.new) }
+{
+    if !piece.is_empty() {
+        return Ok(());
+    }
+    due.flush(sink)?;
+    piece.read(source, most)
+}

@@ -1,0 +1,45 @@
+use Rattle.std.proofs.Common.{◌≡◌, ◌++◌, take, refl, arith}
+use Rattle.std.proofs.lemmas.Grind.{common_steps}
+use Rattle.std.proofs.lemmas.List.{length-take}
+use Rattle.mote_text.proofs.LineEnds.{no_end_append, no_end_before, goes_on_at, within}
+use Rattle.mote_text.proofs.lines.take_up_to_end.Goals as goal
+
+pub returns-in-Some-clause-endless : goal.returns-in-Some-clause-endless
+returns-in-Some-clause-endless c =
+    let near = take c.min.result c.args.piece.now in
+    let e : c.try_extend_from_slice.new.self.items ≡ c.args.bytes.now.items ++ take c.in-Some.end near = grind (arith, common_steps) in
+    rw e (no_end_append c.args.bytes.now.items (take c.in-Some.end near) c.requires (no_end_before near c.in-Some.end (omega (arith, c.in-Some.ensures.0.high)) c.in-Some.ensures.0.before))
+
+pub returns-then-kept-near-clause-endless : goal.returns-then-kept-near-clause-endless
+returns-then-kept-near-clause-endless c =
+    let near = take c.min.result c.args.piece.now in
+    let e : c.try_extend_from_slice-2.new.self.items ≡ c.args.bytes.now.items ++ take c.min-kept.result near = grind (arith, common_steps) in
+    rw e (
+    no_end_append c.args.bytes.now.items (take c.min-kept.result near) c.requires
+    (no_end_before near c.min-kept.result (omega arith) (λ j low high. c.in_default.ensures j low (omega arith)))
+    )
+
+pub returns-then-kept-near-clause-too_wide : goal.returns-then-kept-near-clause-too_wide
+returns-then-kept-near-clause-too_wide c =
+    let near = take c.min.result c.args.piece.now in
+    let e : c.try_extend_from_slice-2.new.self.items ≡ c.args.bytes.now.items ++ take c.min-kept.result near = grind (arith, common_steps) in (
+      λ _. (
+        rw e (grind (arith, common_steps)),
+        goes_on_at c.args.piece.now c.min.result c.min-kept.result (omega (arith, length-take c.min.result c.args.piece.now)) (omega arith)
+            (c.in_default.ensures c.min-kept.result (omega arith) (omega arith)),
+      ),
+      λ _. refl,
+    )
+
+pub returns-else-kept-near-clause-endless : goal.returns-else-kept-near-clause-endless
+returns-else-kept-near-clause-endless c =
+    let near = take c.min.result c.args.piece.now in
+    let e : c.try_extend_from_slice-2.new.self.items ≡ c.args.bytes.now.items ++ take c.min-kept.result near = grind (arith, common_steps) in
+    rw e (
+    no_end_append c.args.bytes.now.items (take c.min-kept.result near) c.requires
+    (no_end_before near c.min-kept.result (omega arith) (λ j low high. c.in_default.ensures j low (omega arith)))
+    )
+
+pub returns-else-kept-near-clause-too_wide : goal.returns-else-kept-near-clause-too_wide
+returns-else-kept-near-clause-too_wide c =
+    (λ e. cc, λ h. absurd (omega (arith, length-take c.min.result c.args.piece.now, h.0, within c.args.piece.now c.min-kept.result h.1)))

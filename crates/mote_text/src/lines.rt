@@ -1,0 +1,118 @@
+//! The lines of a script, whose bytes come in pieces.
+
+ghost use Rattle.std.specs.Prelude.{◌≡◌, ◌≢◌, ◌≤◌, ◌↔◌, ◌++◌, true, length, take};
+ghost use Rattle.mote_text.specs.Lines.{nothing_taken, unfinished, unfinished_after, with_end, has_no_end, GoesOnAt};
+ghost use Rattle.mote_text.specs.Script.{line_limit};
+ghost use Rattle.mote_text.specs.declared.lines.Taken.{Taken as Stopped};
+
+use crate::script::LINE_LIMIT;
+use arrayvec::ArrayVec;
+use memchr::memchr;
+use std::marker::Model;
+
+/// Why a take stopped.
+#[derive(Clone, Copy, Debug, PartialEq, Eq, Drop)]
+pub enum Taken {
+    /// A line ended.
+    Line,
+    /// The next byte is the 1,025th of a line, so the line has no form.
+    TooWide,
+    /// The whole piece was used, and no line ended.
+    More,
+}
+
+/// Cuts a script into lines, from pieces of its bytes as they come. It takes no memory.
+///
+/// Source: the script format is this project's profile.
+#[derive(Drop)]
+pub struct Lines {
+    bytes: ArrayVec<u8, LINE_LIMIT>,
+    last: Taken,
+}
+
+impl Model for Lines {
+    ghost use Rattle.std.specs.Prelude.{◌≡◌, ◌≤◌, true, length};
+    ghost use Rattle.mote_text.specs.Lines.{LinesView, has_no_end};
+    ghost use Rattle.mote_text.specs.Script.{line_limit};
+
+    ghost Value = { LinesView };
+
+    ghost view = { λ lines. record { bytes = lines.bytes.items; last = lines.last } };
+
+    ghost invariant = { λ lines. (length lines.bytes.items ≤ line_limit) × (has_no_end lines.bytes.items ≡ true) };
+}
+
+/// Appends the bytes of the piece up to the end of the line that these bytes begin.
+fn take_up_to_end(bytes: &mut ArrayVec<u8, LINE_LIMIT>, piece: &[u8]) -> (usize, Taken)
+    requires { has_no_end bytes.old.items ≡ true }
+    ensures used { result.0 ≤ length piece.now }
+    ensures bytes { bytes.old.items ++ take result.0 piece.now ≡ with_end result.1 bytes.new.items }
+    ensures narrow { length bytes.new.items ≤ line_limit }
+    ensures endless { has_no_end bytes.new.items ≡ true }
+    ensures more { (result.1 ≡ Stopped.More) ↔ ((result.0 ≡ length piece.now) × (result.1 ≢ Stopped.Line)) }
+    ensures too_wide { (result.1 ≡ Stopped.TooWide) ↔ ((length (unfinished_after result.1 bytes.new.items) ≡ line_limit) × GoesOnAt piece.now result.0) }
+{
+    let room = LINE_LIMIT - bytes.len();
+    // The end of a line that isn't too wide stands among these.
+    let near = &piece[..piece.len().min(room + 1)];
+    if let Some(end) = memchr(b'\n', near) {
+        let _ = bytes.try_extend_from_slice(&near[..end]);
+        return (end + 1, Taken::Line);
+    }
+    let kept = near.len().min(room);
+    let _ = bytes.try_extend_from_slice(&near[..kept]);
+    if kept < near.len() {
+        (kept, Taken::TooWide)
+    } else {
+        (kept, Taken::More)
+    }
+}
+
+impl Lines {
+    /// Before the first byte of a script.
+    pub fn new() -> Lines
+        ensures { result ≡ nothing_taken }
+    {
+        Lines {
+            bytes: ArrayVec::new(),
+            last: Taken::More,
+        }
+    }
+
+    /// After `Line` that line without its end, else the bytes of the line that hasn't ended: at most 1,024, and none of
+    /// them is a line end.
+    pub fn line(&self) -> &[u8]
+        ensures bytes { result.now ≡ self.now.bytes }
+        ensures narrow { length result.now ≤ line_limit }
+        ensures endless { has_no_end result.now ≡ true }
+    {
+        self.bytes.as_slice()
+    }
+
+    /// Takes bytes of the piece up to the end of the present line; after `Line` a new one begins. Answers how many bytes
+    /// were used, and why it stopped there: the line's end is used, and the byte that makes a line too wide is not. Once a
+    /// line was too wide nothing is taken any more.
+    ///
+    /// How the script's bytes are cut into pieces doesn't matter.
+    pub fn take(&mut self, piece: &[u8]) -> (usize, Taken)
+        ensures used { result.0 ≤ length piece.now }
+        ensures bytes { unfinished self.old ++ take result.0 piece.now ≡ with_end result.1 self.new.bytes }
+        ensures last { self.new.last ≡ result.1 }
+        ensures narrow { length self.new.bytes ≤ line_limit }
+        ensures endless { has_no_end self.new.bytes ≡ true }
+        ensures more { self.old.last ≢ Stopped.TooWide →
+            (result.1 ≡ Stopped.More) ↔ ((result.0 ≡ length piece.now) × (result.1 ≢ Stopped.Line)) }
+        ensures too_wide { self.old.last ≢ Stopped.TooWide →
+            (result.1 ≡ Stopped.TooWide) ↔ ((length (unfinished self.new) ≡ line_limit) × GoesOnAt piece.now result.0) }
+        ensures over { self.old.last ≡ Stopped.TooWide → (result ≡ (0, Stopped.TooWide)) × (self.new ≡ self.old) }
+    {
+        match self.last {
+            Taken::TooWide => return (0, Taken::TooWide),
+            Taken::Line => self.bytes.clear(),
+            Taken::More => {}
+        }
+        let (used, last) = take_up_to_end(&mut self.bytes, piece);
+        self.last = last;
+        (used, last)
+    }
+}

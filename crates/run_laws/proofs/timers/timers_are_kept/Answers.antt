@@ -1,0 +1,12 @@
+use Rattle.run_laws.proofs.timers.timers_are_kept.Goals as goal
+use Rattle.run_laws.proofs.timer_deadlines.EarlyRuns.{no_early_timer}
+use Rattle.run_laws.proofs.timer_deadlines.LostRuns.{no_lost_timer}
+
+pub returns : goal.returns
+returns c = record {
+  kept = λ config says inputs after runs boots.
+      record {
+        not_early = λ p named. no_early_timer config says inputs after runs p boots named;
+        not_lost = λ p named. no_lost_timer config says inputs after runs p boots named;
+      };
+}

@@ -1,0 +1,119 @@
+//! Posted events, by a walk over the lines of a transcript.
+
+use crate::turns::{LastCalls, Turn, ends, is_input, number, turn_of};
+use std::alloc::{AllocError, Global};
+
+/// The events that were accepted for an application, and how many of them it was given.
+#[derive(Drop)]
+struct Inbox<'a> {
+    accepted: Vec<&'a str>,
+    given: usize,
+    has_ended: bool,
+}
+
+impl Inbox<'_> {
+    /// The application is given an event: it is the next one that was accepted for it.
+    fn gives_next(&mut self, event: &str) -> bool {
+        let Some(next) = self.accepted.as_slice().get(self.given) else {
+            return false;
+        };
+        self.given = self.given.saturating_add(1);
+        *next == event
+    }
+
+    fn is_all_given(&self) -> bool {
+        self.has_ended || self.given == self.accepted.len()
+    }
+}
+
+/// The inboxes of applications 4, 5, ..
+#[derive(Drop)]
+struct Inboxes<'a> {
+    of: Vec<Inbox<'a>>,
+}
+
+impl<'a> Inboxes<'a> {
+    fn new(alloc: Global, applications: usize) -> Result<Self, AllocError> {
+        let mut of = Vec::new(alloc);
+        for _ in 0..applications {
+            of.push(Inbox {
+                accepted: Vec::new(alloc),
+                given: 0,
+                has_ended: false,
+            })?;
+        }
+        Ok(Inboxes { of })
+    }
+
+    /// A call was answered `done`: it may be a post or a broadcast.
+    fn accept(&mut self, call: &'a str) -> Result<(), AllocError> {
+        if let Some(event) = call.strip_prefix("broadcast ") {
+            for inbox in self.of.as_mut_slice() {
+                inbox.accepted.push(event)?;
+            }
+        }
+        let Some((pid, event)) = post_of(call) else {
+            return Ok(());
+        };
+        if let Some(inbox) = self.of_process(number(pid)) {
+            inbox.accepted.push(event)?;
+        }
+        Ok(())
+    }
+
+    fn of_process(&mut self, pid: Option<usize>) -> Option<&mut Inbox<'a>> {
+        self.of.as_mut_slice().get_mut(pid?.checked_sub(4)?)
+    }
+
+    fn are_all_given(&self) -> bool {
+        self.of.as_slice().iter().all(|inbox| inbox.is_all_given())
+    }
+}
+
+/// The process and the event of a post.
+fn post_of(call: &str) -> Option<(&str, &str)> {
+    call.strip_prefix("post ")?.split_once(' ')
+}
+
+/// An event from the queue that no application posted: a timer's, a line, or a packet.
+fn is_of_kernel(event: &str) -> bool {
+    event.starts_with("136 ") || event.starts_with("138 ") || event.starts_with("139 ")
+}
+
+/// Whether the turn is told what the law says.
+fn is_kept(inboxes: &mut Inboxes<'_>, turn: &Turn<'_>) -> bool {
+    let Some(inbox) = inboxes.of_process(Some(turn.pid)) else {
+        return false;
+    };
+    inbox.has_ended = inbox.has_ended || ends(turn);
+    let is_posted = turn.origin == "event" && !is_of_kernel(turn.stimulus);
+    inbox.has_ended || !is_posted || inbox.gives_next(turn.stimulus)
+}
+
+/// Whether the events that the applications (processes 4, 5, .., so many) post arrive in the order in which they were accepted,
+/// and all of them wherever the mote rests. An application is left out once it has ended, and after a halt none need arrive.
+/// A checker for whole runs and tests: nothing is promised of the answer. The error is that memory was refused.
+pub fn arrive_in_order(
+    alloc: Global,
+    applications: usize,
+    transcript: &str,
+) -> Result<bool, AllocError> {
+    let mut inboxes = Inboxes::new(alloc, applications)?;
+    let mut last_calls = LastCalls::new();
+    for line in transcript.lines() {
+        if is_input(line) && !inboxes.are_all_given() {
+            return Ok(false);
+        }
+        let Some(turn) = turn_of(line) else {
+            continue;
+        };
+        match last_calls.answered(&turn) {
+            Some(call) if turn.stimulus == "done" => inboxes.accept(call)?,
+            _ => {}
+        }
+        if !is_kept(&mut inboxes, &turn) {
+            return Ok(false);
+        }
+    }
+    Ok(transcript.ends_with("halt\n") || inboxes.are_all_given())
+}
