@@ -40,7 +40,7 @@ struct Gap {
 
 /// All live blocks, from the lowest place on.
 #[derive(Drop)]
-pub struct HeapMemory {
+pub(crate) struct HeapMemory {
     size: u64,
     blocks: ArrayVec<Block, 256>,
 }
@@ -55,7 +55,7 @@ fn room_with(rounded: u64, rest: u64) -> u64 {
 }
 
 impl HeapMemory {
-    pub fn new(size: u64) -> Self {
+    pub(crate) fn new(size: u64) -> Self {
         HeapMemory {
             size,
             blocks: ArrayVec::new(),
@@ -134,7 +134,7 @@ impl HeapMemory {
         let _ = self.blocks.try_insert(place, block);
     }
 
-    pub fn alloc(&mut self, pid: u32, number: u32, len: u32) -> Reply {
+    pub(crate) fn alloc(&mut self, pid: u32, number: u32, len: u32) -> Reply {
         if number > 15 {
             return BAD_NAME;
         }
@@ -151,7 +151,7 @@ impl HeapMemory {
         Reply::Done
     }
 
-    pub fn release(&mut self, pid: u32, number: u32) -> Reply {
+    pub(crate) fn release(&mut self, pid: u32, number: u32) -> Reply {
         if number > 15 {
             return BAD_NAME;
         }
@@ -182,7 +182,7 @@ impl HeapMemory {
         (most >= rounded).then_some(room_with(rounded, most.saturating_sub(rounded)))
     }
 
-    pub fn realloc(&mut self, pid: u32, number: u32, len: u32) -> Reply {
+    pub(crate) fn realloc(&mut self, pid: u32, number: u32, len: u32) -> Reply {
         if number > 15 {
             return BAD_NAME;
         }

@@ -13,13 +13,13 @@ struct Block {
 
 /// All live blocks.
 #[derive(Drop)]
-pub struct ManagedMemory {
+pub(crate) struct ManagedMemory {
     size: u64,
     blocks: ArrayVec<Block, 256>,
 }
 
 impl ManagedMemory {
-    pub fn new(size: u64) -> Self {
+    pub(crate) fn new(size: u64) -> Self {
         ManagedMemory {
             size,
             blocks: ArrayVec::new(),
@@ -41,7 +41,7 @@ impl ManagedMemory {
         free
     }
 
-    pub fn alloc(&mut self, pid: u32, handle: u32, len: u32) -> Reply {
+    pub(crate) fn alloc(&mut self, pid: u32, handle: u32, len: u32) -> Reply {
         if handle > 15 {
             return BAD_NAME;
         }
@@ -58,7 +58,7 @@ impl ManagedMemory {
         Reply::Done
     }
 
-    pub fn release(&mut self, pid: u32, handle: u32) -> Reply {
+    pub(crate) fn release(&mut self, pid: u32, handle: u32) -> Reply {
         if handle > 15 {
             return BAD_NAME;
         }
@@ -69,7 +69,7 @@ impl ManagedMemory {
         Reply::Done
     }
 
-    pub fn read(&self, pid: u32, handle: u32, at: u32, len: u32) -> Reply {
+    pub(crate) fn read(&self, pid: u32, handle: u32, at: u32, len: u32) -> Reply {
         if handle > 15 {
             return BAD_NAME;
         }

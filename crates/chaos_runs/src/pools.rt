@@ -12,19 +12,19 @@ struct Block {
 
 /// The used blocks of all four pools, sixteen in each.
 #[derive(Drop)]
-pub struct Pools {
+pub(crate) struct Pools {
     used: ArrayVec<Block, 64>,
 }
 
 impl Pools {
-    pub fn new() -> Self {
+    pub(crate) fn new() -> Self {
         Pools {
             used: ArrayVec::new(),
         }
     }
 
     /// Takes the unused block of lowest number.
-    pub fn alloc(&mut self, pool: u32) -> Reply {
+    pub(crate) fn alloc(&mut self, pool: u32) -> Reply {
         if pool > 3 {
             return BAD_NAME;
         }

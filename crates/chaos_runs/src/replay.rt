@@ -19,7 +19,7 @@ struct Awaited {
 
 /// The memory of a mote, as the calls in its transcript made it so far.
 #[derive(Drop)]
-pub struct Replay {
+pub(crate) struct Replay {
     managed: ManagedMemory,
     heap: HeapMemory,
     pools: Pools,
@@ -28,7 +28,7 @@ pub struct Replay {
 
 impl Replay {
     /// A mote of these sizes at boot.
-    pub fn new(managed: u64, heap: u64) -> Self {
+    pub(crate) fn new(managed: u64, heap: u64) -> Self {
         Replay {
             managed: ManagedMemory::new(managed),
             heap: HeapMemory::new(heap),
@@ -67,7 +67,7 @@ impl Replay {
     }
 
     /// Whether the line is one that the mote may write here.
-    pub fn allows(&mut self, line: &str, tally: &mut Tally) -> bool {
+    pub(crate) fn allows(&mut self, line: &str, tally: &mut Tally) -> bool {
         if line == "halt" || line.starts_with("> tick ") {
             return true;
         }

@@ -2,7 +2,7 @@
 
 /// What a call on memory is answered. No application writes to its memory, so all bytes of a read are 0.
 #[derive(Clone, Copy, Debug, PartialEq, Eq, Drop)]
-pub enum Reply {
+pub(crate) enum Reply {
     Done,
     /// The number of the refusal, as a transcript shows it.
     Refused(u32),
@@ -13,17 +13,17 @@ pub enum Reply {
 
 // The refusals of calls on memory.
 
-pub const BAD_NAME: Reply = Reply::Refused(7);
+pub(crate) const BAD_NAME: Reply = Reply::Refused(7);
 
-pub const IN_USE: Reply = Reply::Refused(8);
+pub(crate) const IN_USE: Reply = Reply::Refused(8);
 
-pub const NOT_LIVE: Reply = Reply::Refused(9);
+pub(crate) const NOT_LIVE: Reply = Reply::Refused(9);
 
-pub const BAD_RANGE: Reply = Reply::Refused(11);
+pub(crate) const BAD_RANGE: Reply = Reply::Refused(11);
 
-pub const NO_ROOM: Reply = Reply::Refused(12);
+pub(crate) const NO_ROOM: Reply = Reply::Refused(12);
 
-pub const NO_BLOCK: Reply = Reply::Refused(13);
+pub(crate) const NO_BLOCK: Reply = Reply::Refused(13);
 
 /// How many zeros these digits are, two for each.
 fn read_zeros(digits: &str) -> Option<usize> {
@@ -36,7 +36,7 @@ fn read_zeros(digits: &str) -> Option<usize> {
 
 impl Reply {
     /// The reply that an answer tells, as `refused 9`.
-    pub fn read(told: &str) -> Option<Reply> {
+    pub(crate) fn read(told: &str) -> Option<Reply> {
         if told == "done" {
             return Some(Reply::Done);
         }
@@ -51,6 +51,6 @@ impl Reply {
 }
 
 /// The least multiple of 4 not below the number.
-pub fn rounded_up(n: u32) -> u64 {
+pub(crate) fn rounded_up(n: u32) -> u64 {
     (n as u64 + 3) / 4 * 4
 }

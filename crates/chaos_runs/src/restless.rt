@@ -10,8 +10,8 @@ use mote_types::event::{Payload, Stimulus};
 
 /// As `Chaos`, with a broadcast in place of each exit, so that more processes live on and more events are delivered.
 #[derive(Drop)]
-pub struct Restless {
-    pub chaos: Chaos,
+pub(crate) struct Restless {
+    pub(crate) chaos: Chaos,
 }
 
 /// The call, or a broadcast in place of an exit.

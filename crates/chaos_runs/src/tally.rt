@@ -13,24 +13,24 @@ struct Count {
 
 /// The counts of all calls, in the order of their words.
 #[derive(Drop)]
-pub struct Tally {
+pub(crate) struct Tally {
     counts: [Count; WORDS.len()],
 }
 
 impl Tally {
-    pub fn new() -> Self {
+    pub(crate) fn new() -> Self {
         Tally {
             counts: [Count::default(); WORDS.len()],
         }
     }
 
-    pub fn count_call(&mut self, kind: usize) {
+    pub(crate) fn count_call(&mut self, kind: usize) {
         if let Some(count) = self.counts.get_mut(kind) {
             count.made = count.made.saturating_add(1);
         }
     }
 
-    pub fn count_answer(&mut self, kind: usize, told: &str) {
+    pub(crate) fn count_answer(&mut self, kind: usize, told: &str) {
         if let Some(count) = self.counts.get_mut(kind) {
             if told.starts_with("refused ") {
                 count.refused = count.refused.saturating_add(1);
@@ -41,7 +41,7 @@ impl Tally {
     }
 
     /// All turns: each made one call.
-    pub fn turns(&self) -> u64 {
+    pub(crate) fn turns(&self) -> u64 {
         let mut turns = 0u64;
         for count in &self.counts {
             turns = turns.saturating_add(count.made);
@@ -50,7 +50,7 @@ impl Tally {
     }
 
     /// Writes a line for each call that was made.
-    pub fn print<R: Print>(&self, rt: &R) -> io::Result<()> {
+    pub(crate) fn print<R: Print>(&self, rt: &R) -> io::Result<()> {
         for (word, count) in WORDS.iter().zip(&self.counts) {
             if count.made > 0 {
                 println!(rt;

@@ -1,7 +1,7 @@
 //! The lines of a transcript.
 
 /// The words of the calls that the applications make.
-pub const WORDS: [&str; 17] = [
+pub(crate) const WORDS: [&str; 17] = [
     "wait",
     "post-synch",
     "kill",
@@ -23,21 +23,21 @@ pub const WORDS: [&str; 17] = [
 
 /// A call: the place of its word, and its numbers, 0 where it has none.
 #[derive(Clone, Copy, Drop)]
-pub struct Call<'a> {
-    pub word: &'a str,
+pub(crate) struct Call<'a> {
+    pub(crate) word: &'a str,
     /// The place of the word among all.
-    pub kind: usize,
-    pub numbers: [u32; 3],
+    pub(crate) kind: usize,
+    pub(crate) numbers: [u32; 3],
 }
 
 /// A turn, as its line tells it.
 #[derive(Clone, Copy, Drop)]
-pub struct Turn<'a> {
-    pub pid: u32,
-    pub is_answer: bool,
+pub(crate) struct Turn<'a> {
+    pub(crate) pid: u32,
+    pub(crate) is_answer: bool,
     /// What the process was told, without where it came from.
-    pub told: &'a str,
-    pub call: Call<'a>,
+    pub(crate) told: &'a str,
+    pub(crate) call: Call<'a>,
 }
 
 /// The number of a word, or 0.
@@ -65,7 +65,7 @@ fn read_call(text: &str) -> Option<Call<'_>> {
 
 impl<'a> Turn<'a> {
     /// The turn of a line `PID ORIGIN STIMULUS -> CALL`.
-    pub fn read(line: &'a str) -> Option<Turn<'a>> {
+    pub(crate) fn read(line: &'a str) -> Option<Turn<'a>> {
         let (head, call) = line.split_once(" -> ")?;
         let (pid, rest) = head.split_once(' ')?;
         let (origin, told) = rest.split_once(' ')?;

@@ -10,8 +10,7 @@ use Rattle.heap_core.specs.declared.chunk.Gap.{Gap}
 use Rattle.heap_core.specs.declared.region.Region.{Region}
 use Rattle.heap_core.specs.HeapStore.{header_len, gaps, gap_at, footprint, room_taken, room_in_place}
 use Rattle.heap_core.specs.Code.Chunks.{Tell, AreJoined}
-use Rattle.heap_core.specs.Code.Layout.{chunks_of, HasChunks}
-use Rattle.heap_core.specs.HeapBytes.{heap_of}
+use Rattle.heap_core.specs.Code.Layout.{chunks_of, HasChunks, store_of}
 use Rattle.heap_core.specs.Code.Walks.{gap_of, front_gap, place_in_chunk, LeavesGap, IsWholeRoom}
 use Rattle.heap_core.proofs.Told.{place_told, told_le, owner_cases}
 use Rattle.heap_core.proofs.Gaps.{with_gap, gaps_in, gaps_are, end_is}
@@ -60,13 +59,13 @@ front_found B b at z (d ∷ l) t =
     ]
 
 pub gap_at_end : (heap : Region) (B : List ℕ) (chunk : Chunk) (a : Around B heap.span.at heap.footprint chunk (chunks_of heap B)) → HasChunks heap B → chunk.owner ≢ None
-    → gap_at (chunk.at + chunk.len) (heap_of heap B) ≡ front_gap a.behind
+    → gap_at (chunk.at + chunk.len) (store_of heap B) ≡ front_gap a.behind
 gap_at_end heap B chunk a has live =
     let b = heap.span.at in let end = chunk.at + chunk.len in
     elim (owner_cases chunk.owner) [
       | inl e ↦ absurd (live e)
       | inr s ↦
-          let all : gaps (heap_of heap B) ≡ gaps_in a.before ++ gaps_in a.behind =
+          let all : gaps (store_of heap B) ≡ gaps_in a.before ++ gaps_in a.behind =
           gaps_are B b 0 heap.footprint (chunks_of heap B) has.told has.joined
           ∙ ap gaps_in a.is
           ∙ gaps_append a.before (chunk ∷ a.behind)
@@ -92,9 +91,9 @@ module _ (heap : Region) (B : List ℕ) (chunk : Chunk) (n : ℕ) (a : Around B 
   abbrev end : ℕ
   end = chunk.at + chunk.len
 
-  pub room_is : room_in_place (place_in_chunk chunk) n (heap_of heap B) ≡ choice (up4 n) room end heap.footprint (heap.span.len - heap.footprint) (front_gap a.behind)
+  pub room_is : room_in_place (place_in_chunk chunk) n (store_of heap B) ≡ choice (up4 n) room end heap.footprint (heap.span.len - heap.footprint) (front_gap a.behind)
   room_is =
-      let store = heap_of heap B in
+      let store = store_of heap B in
       let top : footprint store ≡ heap.footprint = end_is B heap.span.at 0 heap.footprint (chunks_of heap B) has.told has.joined in
       let same : chunk.at + (header_len + room) ≡ end = omega (arith, a.enough) in
       ap (λ k. choice (up4 n) room k (footprint store) (heap.span.len - footprint store) (gap_at k store)) same

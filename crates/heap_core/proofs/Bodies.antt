@@ -1,8 +1,8 @@
 -- A write into a live block's bytes.
-use Rattle.std.proofs.Common.{◌≡◌, ℕ, ◌+◌, ◌-◌, ◌≤◌, List, [], ◌∷◌, ◌++◌, length, take, drop, slice_range, true, not, eqb, refl, sym, ap, ◌∙◌, subst, arith}
-use Rattle.std.specs.Prelude.{Option, Some, None, IsSomeAnd, filter, map, if◌then◌else◌}
+use Rattle.std.proofs.Common.{◌≡◌, ℕ, ◌+◌, ◌-◌, ◌≤◌, ◌<◌, List, [], ◌∷◌, ◌++◌, length, take, drop, slice_range, true, not, eqb, refl, sym, ap, ◌∙◌, subst, arith}
+use Rattle.std.specs.Prelude.{Option, Some, None, IsSomeAnd, filter, map, if◌then◌else◌, nat_lt}
 use Rattle.std.specs.Option.{option_map}
-use Rattle.std.proofs.lemmas.List.{append_assoc, map-append}
+use Rattle.std.proofs.lemmas.List.{append_assoc, map-append, length-map}
 use Rattle.std.proofs.lemmas.List.Elements.{filter-append}
 use Rattle.std.proofs.lemmas.Bool.{eq-eqb}
 use Rattle.mote_types.specs.BlockNames.{number_of}
@@ -14,18 +14,21 @@ use Rattle.arena_core.proofs.Rows.{written_is}
 use Rattle.heap_core.specs.declared.chunk.Chunk.{Chunk}
 use Rattle.heap_core.specs.declared.region.Region.{Region}
 use Rattle.heap_core.specs.HeapStore.{Block, HeapStore, header_len, has_name, block_of, find_block, without_block}
-use Rattle.heap_core.specs.Code.Chunks.{AreJoined, with_chunk, blocks_in}
-use Rattle.heap_core.specs.Code.Layout.{chunks_of}
-use Rattle.heap_core.specs.HeapBytes.{heap_of, IsLaidOut}
+use Rattle.heap_core.specs.Code.Chunks.{AreJoined, with_chunk, blocks_in, is_named}
+use Rattle.heap_core.specs.HeapBytes.{heap_of}
+use Rattle.heap_core.specs.Code.Layout.{chunks_of, store_of}
+use Rattle.heap_core.proofs.Stored.{IsStored}
 use Rattle.heap_core.specs.Code.Walks.{Owned, block_in_chunk, without_place}
 use Rattle.heap_core.proofs.Told.{told_body, changes_more, blocks_append}
-use Rattle.heap_core.proofs.Names.{count_append, count_first, map_unnamed, filter_unnamed}
+use Rattle.heap_core.proofs.Names.{count_append, count_first, map_unnamed, filter_unnamed, keeps_name}
+use Rattle.heap_core.specs.Code.Links.{unnamed}
+use Rattle.heap_core.proofs.Freed.{filter_swap, filter_map}
 use Rattle.heap_core.proofs.Blocks.{count, elsewhere}
 use Rattle.heap_core.proofs.Releases.{left_apart}
 use Rattle.heap_core.proofs.Splice.{Spliced, spliced}
 use Rattle.heap_core.proofs.Standing.{Around, around}
 
-module _ (heap : Region) (B : List ℕ) (laid : IsLaidOut heap B) (chunk : Chunk) (name : ℕ) (o : Owned name chunk (chunks_of heap B)) where
+module _ (heap : Region) (B : List ℕ) (laid : IsStored heap B) (chunk : Chunk) (name : ℕ) (small : name < 272) (o : Owned name chunk (chunks_of heap B)) where
   abbrev b : ℕ
   b = heap.span.at
 
@@ -46,7 +49,7 @@ module _ (heap : Region) (B : List ℕ) (laid : IsLaidOut heap B) (chunk : Chunk
 
   counts : count name xs + (1 + count name ys) ≤ 1
   counts =
-      let one : count name (xs ++ (block ∷ ys)) ≤ 1 = subst (λ l. count name l ≤ 1) all_are (laid.named name) in
+      let one : count name (xs ++ (block ∷ ys)) ≤ 1 = subst (λ l. count name l ≤ 1) all_are (laid.named name small) in
       omega (arith, count_append name xs (block ∷ ys), count_first name block ys refl)
 
   pub few : (count name xs ≡ 0) × (count name ys ≡ 0)
@@ -56,10 +59,10 @@ module _ (heap : Region) (B : List ℕ) (laid : IsLaidOut heap B) (chunk : Chunk
   block_bytes = length-range B (b + chunk.at + header_len) chunk.size (omega (arith, laid.chunks.within, a.fits, a.enough, heap.inside))
 
   -- a range of the name's bytes lies in its chunk
-  pub range_fits : (p h at len : ℕ) → name ≡ number_of p h → find_block name (heap_of heap B) ≡ Some block → IsSomeAnd (block_of p h (heap_of heap B)) (λ bytes. at + len ≤ length bytes) → at + len ≤ chunk.size
-  range_fits p h at len same found range =
+  pub range_fits : (store : HeapStore) (p h at len : ℕ) → name ≡ number_of p h → find_block name store ≡ Some block → IsSomeAnd (block_of p h store) (λ bytes. at + len ≤ length bytes) → at + len ≤ chunk.size
+  range_fits store p h at len same found range =
       let bytes = λ (k : Option Block). option_map (λ (block : Block). block.bytes) k in
-      let is = ap (λ k. bytes (find_block k (heap_of heap B))) (sym same) ∙ ap bytes found in
+      let is = ap (λ k. bytes (find_block k store)) (sym same) ∙ ap bytes found in
       omega (arith, block_bytes, subst (λ (k : Option (List ℕ)). IsSomeAnd k (λ bytes. at + len ≤ length bytes)) is range)
 
   -- it is taken away by its place, or by its name
@@ -75,8 +78,17 @@ module _ (heap : Region) (B : List ℕ) (laid : IsLaidOut heap B) (chunk : Chunk
       ∙ ap (λ l. l ++ filter unnamed ys) (filter_unnamed name xs few.0)
       ∙ ap (λ l. xs ++ l) (filter_unnamed name ys few.1))
 
-  pub without_place_is : without_place chunk.at (heap_of heap B) ≡ without_block name (heap_of heap B)
+  pub without_place_is : without_place chunk.at (store_of heap B) ≡ without_block name (store_of heap B)
   without_place_is = ap (λ blocks. let h : HeapStore = record { size = heap.span.len; blocks = blocks } in h) by_name
+
+  -- among the live blocks too
+  pub live_without_place : without_place chunk.at (heap_of heap B) ≡ without_block name (heap_of heap B)
+  live_without_place =
+      let unnamed = λ (other : Block). not (has_name name other) in
+      ap (λ blocks. let h : HeapStore = record { size = heap.span.len; blocks = blocks } in h)
+      (filter_swap (elsewhere chunk.at) is_named (blocks_in B b (chunks_of heap B))
+      ∙ ap (filter is_named) by_name
+      ∙ filter_swap is_named unnamed (blocks_in B b (chunks_of heap B)))
 
   module _ (at : ℕ) (ws : List ℕ) (room : at + length ws ≤ chunk.size) where
     abbrev B' : List ℕ
@@ -122,3 +134,20 @@ module _ (heap : Region) (B : List ℕ) (laid : IsLaidOut heap B) (chunk : Chunk
         ∙ ap (λ k. map change xs ++ (k ∷ map change ys)) mine
         ∙ ap (λ l. l ++ (over block ∷ map change ys)) (map_unnamed name over xs few.0)
         ∙ ap (λ l. xs ++ (over block ∷ l)) (map_unnamed name over ys few.1))
+
+    abbrev change : Block → Block
+    change = λ other. if has_name name other then over other else other
+
+    pub live_blocks : filter is_named (blocks_in B' b (chunks_of heap B')) ≡ map change (filter is_named (blocks_in B b (chunks_of heap B)))
+    live_blocks =
+        ap (filter is_named) body_blocks
+        ∙ filter_map is_named change (λ other. ap (λ k. nat_lt k 272) (keeps_name name over (λ k. refl) other)) (blocks_in B b (chunks_of heap B))
+
+    pub same_chunks : chunks_of heap B' ≡ chunks_of heap B
+    same_chunks = body_spliced.is ∙ sym a.is
+
+    pub same_unnamed : length (unnamed (blocks_in B' b (chunks_of heap B'))) ≡ length (unnamed (blocks_in B b (chunks_of heap B)))
+    same_unnamed =
+        ap (λ l. length (unnamed l)) body_blocks
+        ∙ ap length (filter_map (λ k. not (is_named k)) change (λ other. ap (λ k. not (nat_lt k 272)) (keeps_name name over (λ k. refl) other)) (blocks_in B b (chunks_of heap B)))
+        ∙ length-map (unnamed (blocks_in B b (chunks_of heap B))) change

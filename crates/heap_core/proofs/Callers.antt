@@ -4,14 +4,15 @@
 --     IsLaidOut-apart          the live blocks lie apart, headers included, and are read from behind their headers
 --     heap_of-, IsLaidOut-elsewhere      what the heap shows depends on the span's bytes alone, and so does whether it is laid out
 use Rattle.std.proofs.Common.{◌≡◌, ℕ, ◌+◌, ◌≤◌, ◌⊎◌, inl, inr, List, length, ap, sym, subst, ◌∙◌, arith}
-use Rattle.std.specs.Prelude.{filter}
+use Rattle.std.specs.Prelude.{None, filter}
 use Rattle.arena_core.specs.declared.span.Span.{Span}
 use Rattle.arena_core.specs.Contents.{Contents}
 use Rattle.arena_core.specs.Outside.{ChangesOnly}
 use Rattle.heap_core.specs.declared.region.Region.{Region}
 use Rattle.heap_core.specs.HeapStore.{HeapStore, has_name}
-use Rattle.heap_core.specs.Code.Chunks.{Tell, AreJoined, blocks_in}
-use Rattle.heap_core.specs.Code.Layout.{chunks_of}
+use Rattle.heap_core.specs.Code.Chunks.{Tell, AreJoined, blocks_in, is_named}
+use Rattle.heap_core.specs.Code.Layout.{chunks_of, store_of}
+use Rattle.heap_core.specs.Code.Links.{LinkedTo, gaps_among, AreFreed, unnamed}
 use Rattle.heap_core.specs.Code.Places.{ArePlaced}
 use Rattle.heap_core.specs.HeapBytes.{heap_of, IsWithin, IsLaidOut, KeepsToSpan}
 use Rattle.heap_core.specs.Separation.{BlocksLieApart}
@@ -46,10 +47,13 @@ module _ (heap : Region) (at len : ℕ) (old new : List ℕ) (changes : ChangesO
   unfolding chunks_of
   same = walked heap.footprint new heap.span.at 0 heap.footprint (chunks_of heap old) told (omega arith)
 
-  pub heap_of-elsewhere : heap_of heap new ≡ heap_of heap old
-  heap_of-elsewhere =
+  store_same : store_of heap new ≡ store_of heap old
+  store_same =
       ap (λ blocks. let h : HeapStore = record { size = heap.span.len; blocks = blocks } in h)
       (ap (blocks_in new heap.span.at) same ∙ blocks_frame old new heap.span.at at len changes 0 heap.footprint (chunks_of heap old) side laid.chunks.told)
+
+  pub heap_of-elsewhere : heap_of heap new ≡ heap_of heap old
+  heap_of-elsewhere = ap (λ (s : HeapStore). let h : HeapStore = record { size = heap.span.len; blocks = filter is_named s.blocks } in h) store_same
 
   pub IsLaidOut-elsewhere : IsLaidOut heap new
   IsLaidOut-elsewhere = record {
@@ -60,4 +64,14 @@ module _ (heap : Region) (at len : ℕ) (old new : List ℕ) (changes : ChangesO
     };
     named = λ name. subst (λ (h : HeapStore). length (filter (has_name name) h.blocks) ≤ 1) (sym heap_of-elsewhere) (laid.named name);
     places = subst (ArePlaced heap.places) (sym heap_of-elsewhere) laid.places;
+    gaps = record {
+      linked = subst (λ l. LinkedTo heap.lowest l None) (sym same) laid.gaps.linked;
+      count = laid.gaps.count ∙ ap (λ l. length (gaps_among l)) (sym same);
+    };
+    freed = record {
+      list = laid.freed.list;
+      linked = subst (λ l. AreFreed l heap.newest laid.freed.list) (sym same) laid.freed.linked;
+      count = laid.freed.count;
+      all = ap (λ (s : HeapStore). length (unnamed s.blocks)) store_same ∙ laid.freed.all;
+    };
   }

@@ -8,8 +8,7 @@ use Rattle.heap_core.specs.declared.chunk.Gap.{Gap}
 use Rattle.heap_core.specs.declared.chunk.Place.{Place}
 use Rattle.heap_core.specs.declared.region.Region.{Region}
 use Rattle.heap_core.specs.HeapStore.{header_len, best_gap, gaps, place, place_in, top_place, top_gap, footprint}
-use Rattle.heap_core.specs.Code.Layout.{chunks_of, HasChunks}
-use Rattle.heap_core.specs.HeapBytes.{heap_of}
+use Rattle.heap_core.specs.Code.Layout.{chunks_of, HasChunks, store_of}
 use Rattle.heap_core.specs.Code.Walks.{GapAt, Stands, LiveIn, IsWholeRoom}
 use Rattle.heap_core.specs.Code.Chunks.{chunk_at, AreJoined}
 use Rattle.heap_core.specs.declared.chunk.Chunk.{Chunk}
@@ -33,9 +32,9 @@ module _ (heap : Region) (B : List ℕ) (has : HasChunks heap B) (n : ℕ) (targ
   abbrev Outcome : Type 0
   Outcome = OnTop heap target n ⊎ InGap heap B target n
 
-  on_top : top_place (up4 n) (heap_of heap B) ≡ Some target → Outcome
+  on_top : top_place (up4 n) (store_of heap B) ≡ Some target → Outcome
   on_top e =
-      let store = heap_of heap B in
+      let store = store_of heap B in
       let end : footprint store ≡ heap.footprint = end_is B heap.span.at 0 heap.footprint (chunks_of heap B) has.told has.joined in
       let top : Place = record { at = footprint store; room = up4 n } in
       elim (cases_Bool (leb (header_len + up4 n) (top_gap store))) [
@@ -48,7 +47,7 @@ module _ (heap : Region) (B : List ℕ) (has : HasChunks heap B) (n : ℕ) (targ
         | inr short ↦ absurd (let is : None ≡ Some target = rw short at e in cc)
       ]
 
-  in_gap : (gap : Gap) → best_gap (header_len + up4 n) (gaps (heap_of heap B)) ≡ Some gap → place_in (up4 n) gap ≡ target → Outcome
+  in_gap : (gap : Gap) → best_gap (header_len + up4 n) (gaps (store_of heap B)) ≡ Some gap → place_in (up4 n) gap ≡ target → Outcome
   in_gap gap found same =
       let f = best_fits B heap.span.at heap.footprint (header_len + up4 n) gap (chunks_of heap B) has.told has.joined (sym found) in
       let stands : Stands f.chunk (chunks_of heap B) = record { before = f.before; behind = f.behind; is = f.is } in
@@ -76,15 +75,15 @@ module _ (heap : Region) (B : List ℕ) (has : HasChunks heap B) (n : ℕ) (targ
             })
       ]
 
-  chosen : (best : Option Gap) → best_gap (header_len + up4 n) (gaps (heap_of heap B)) ≡ best → option_or (option_map (place_in (up4 n)) best) (top_place (up4 n) (heap_of heap B)) ≡ Some target → Outcome
+  chosen : (best : Option Gap) → best_gap (header_len + up4 n) (gaps (store_of heap B)) ≡ best → option_or (option_map (place_in (up4 n)) best) (top_place (up4 n) (store_of heap B)) ≡ Some target → Outcome
   chosen None none e = on_top e
   chosen (Some gap) found e = in_gap gap found (let two : Some (place_in (up4 n) gap) ≡ Some target = e in cc)
 
-  pub place_cases : place n (heap_of heap B) ≡ Some target → Outcome
-  place_cases e = chosen (best_gap (header_len + up4 n) (gaps (heap_of heap B))) refl e
+  pub place_cases : place n (store_of heap B) ≡ Some target → Outcome
+  place_cases e = chosen (best_gap (header_len + up4 n) (gaps (store_of heap B))) refl e
 
 -- it is not where a live block is
-pub elsewhere_placed : (heap : Region) (B : List ℕ) (has : HasChunks heap B) (n : ℕ) (target : Place) (some : 1 ≤ n) (chunk : Chunk) → LiveIn chunk (chunks_of heap B) → place n (heap_of heap B) ≡ Some target → target.at ≢ chunk.at
+pub elsewhere_placed : (heap : Region) (B : List ℕ) (has : HasChunks heap B) (n : ℕ) (target : Place) (some : 1 ≤ n) (chunk : Chunk) → LiveIn chunk (chunks_of heap B) → place n (store_of heap B) ≡ Some target → target.at ≢ chunk.at
 elsewhere_placed heap B has n target some chunk live e same =
     let a = around heap B chunk has live.stands in
     elim (place_cases heap B has n target some e) [

@@ -1,15 +1,14 @@
 -- The gaps that the blocks leave are the gaps among the chunks; and what follows from it for the places of a heap.
-use Rattle.std.proofs.Common.{◌≡◌, ℕ, ◌+◌, ◌-◌, ◌*◌, ◌≤◌, ◌<◌, ◌⊎◌, inl, inr, List, [], ◌∷◌, ◌++◌, length, slice_range, false, true, ltb, leb, sum_by, refl, sym, ap, ◌∙◌, subst, arith}
-use Rattle.std.specs.Prelude.{All, Option, Some, None, is_none, is_some, fold}
+use Rattle.std.proofs.Common.{◌≡◌, ℕ, ◌+◌, ◌-◌, ◌*◌, ◌≤◌, ◌<◌, ◌⊎◌, inl, inr, List, [], ◌∷◌, ◌++◌, length, slice_range, suc, false, true, ltb, leb, sum_by, refl, sym, ap, ◌∙◌, arith}
+use Rattle.std.specs.Prelude.{Option, Some, None, is_none, fold}
 use Rattle.std.proofs.lemmas.Bool.{lt-ltb, le-ltb, cases_Bool, leb-true, false≢true}
-use Rattle.std.proofs.lemmas.List.Elements.{All-nil, All-cons}
 use Rattle.std.proofs.lemmas.List.Sums.{sum_by-cons}
-use Rattle.arena_core.proofs.Ranges.{length-range}
 use Rattle.heap_core.specs.declared.chunk.Chunk.{Chunk}
 use Rattle.heap_core.specs.declared.chunk.Gap.{Gap}
-use Rattle.heap_core.specs.HeapStore.{Block, header_len, end_of, gap_between, gaps_from, better, best_gap, LieInOrder}
+use Rattle.heap_core.specs.HeapStore.{Block, header_len, end_of, gap_between, gaps_from, better, best_gap}
 use Rattle.heap_core.specs.Code.Chunks.{Tell, BeginsLive, AreJoined, with_chunk, blocks_in}
-use Rattle.heap_core.proofs.Told.{place_told, told_le, owner_cases}
+use Rattle.heap_core.specs.Code.Links.{with_free, gaps_among}
+use Rattle.heap_core.proofs.Told.{place_told, owner_cases}
 
 abbrev pub with_gap : Chunk → Option ℕ → List Gap → List Gap
 with_gap c None gaps = record { at = c.at; len = c.len } ∷ gaps
@@ -96,19 +95,6 @@ module _ (B : List ℕ) (b : ℕ) where
   pub end_is : (x z : ℕ) (l : List Chunk) → Tell B b x z l → AreJoined l → last_end x (blocks_in B b l) ≡ z
   end_is x z l t j = (end_both x z l t j).0
 
-  -- each block lies where the one before ends, or behind that
-  pub in_order : (size from x z : ℕ) (l : List Chunk) → b + size ≤ length B → z ≤ size → from ≤ x → Tell B b x z l → LieInOrder from (blocks_in B b l) size
-  in_order size from x z [] fits most le t = omega arith
-  in_order size from x z (c ∷ l) fits most le t =
-      let enough : header_len + c.size ≤ c.len = t.1 in let at = place_told B b x c t.0 in let high = told_le B b (x + c.len) z l t.2 in
-      elim (owner_cases c.owner) [
-        | inl e ↦
-            subst (λ (xs : List Block). LieInOrder from xs size) (sym (none_in_front c (blocks_in B b l) e)) (in_order size from (x + c.len) z l fits most (omega arith) t.2)
-        | inr s ↦
-            subst (λ o. LieInOrder from (with_chunk B b c o (blocks_in B b l)) size) (sym s.1)
-            (omega arith, omega (arith, length-range B (b + c.at + 16) c.size (omega arith)), in_order size (c.at + (16 + (c.len - 16))) (x + c.len) z l fits most (omega arith) t.2)
-      ]
-
   -- the chunks take all bytes
   abbrev room_sum : List Block → ℕ
   room_sum blocks = sum_by (λ (block : Block). block.room) blocks
@@ -134,15 +120,6 @@ module _ (B : List ℕ) (b : ℕ) where
             let blocks : with_chunk B b c c.owner xs ≡ block ∷ xs = ap (λ o. with_chunk B b c o xs) s.1 in
             omega (arith, ap room_sum blocks, ap length blocks, sum_by-cons (λ (block : Block). block.room) block xs)
       ]
-
--- each gap has room for a header and more
-pub gaps_whole : (l : List Chunk) → AreJoined l → All (λ (gap : Gap). 20 ≤ gap.len) (gaps_in l)
-gaps_whole [] joined = All-nil (λ (gap : Gap). 20 ≤ gap.len)
-gaps_whole (c ∷ l) joined = elim (owner_cases c.owner) [
-  | inl e ↦ subst (λ o. All (λ (gap : Gap). 20 ≤ gap.len) (with_gap c o (gaps_in l))) (sym e)
-      (All-cons (λ (gap : Gap). 20 ≤ gap.len) (record { at = c.at; len = c.len }) (gaps_in l) joined.1.0 (gaps_whole l joined.2))
-  | inr s ↦ subst (λ o. All (λ (gap : Gap). 20 ≤ gap.len) (with_gap c o (gaps_in l))) (sym s.1) (gaps_whole l joined.2)
-]
 
 -- the best gap is one of the gaps
 better_is : (need : ℕ) (best : Option Gap) (gap : Gap) → (better need best gap ≡ best) ⊎ ((better need best gap ≡ Some gap) × (need ≤ gap.len))
@@ -210,15 +187,29 @@ found need best gap (c ∷ l) e = elim (owner_cases c.owner) [
       ]
 ]
 
--- a walk for the best gap goes on
-pub better_later : (need : ℕ) (best best' : Option Gap) (c : Chunk) (l : List Chunk) → c.owner ≡ None → best' ≡ better need best (record { at = c.at; len = c.len }) → fold (better need) best' (gaps_in l) ≡ fold (better need) best (gaps_in (c ∷ l))
-better_later need best best' c l e f =
-    ap (λ o. fold (better need) o (gaps_in l)) f ∙ sym (ap (λ o. fold (better need) best (with_gap c o (gaps_in l))) e)
+-- a walk for the best gap looks at the gaps alone
+abbrev pub better_chunk : ℕ → Option Gap → Chunk → Option Gap
+better_chunk need best chunk = better need best (record { at = chunk.at; len = chunk.len })
 
-pub same_later : (need : ℕ) (best : Option Gap) (c : Chunk) (l : List Chunk) → is_none c.owner ≡ false → fold (better need) best (gaps_in l) ≡ fold (better need) best (gaps_in (c ∷ l))
-same_later need best c l live = elim (owner_cases c.owner) [
-  | inl e ↦ absurd (let gap : is_none c.owner ≡ true = ap is_none e in false≢true (sym live ∙ gap))
-  | inr s ↦ sym (ap (λ o. fold (better need) best (with_gap c o (gaps_in l))) s.1)
+pub better_same : (need : ℕ) (best : Option Gap) (l : List Chunk) → fold (better_chunk need) best (gaps_among l) ≡ fold (better need) best (gaps_in l)
+better_same need best [] = refl
+better_same need best (c ∷ l) = elim (owner_cases c.owner) [
+  | inl e ↦
+      ap (λ o. fold (better_chunk need) best (with_free c o (gaps_among l))) e
+      ∙ better_same need (better_chunk need best c) l
+      ∙ sym (ap (λ o. fold (better need) best (with_gap c o (gaps_in l))) e)
+  | inr s ↦
+      ap (λ o. fold (better_chunk need) best (with_free c o (gaps_among l))) s.1
+      ∙ better_same need best l
+      ∙ sym (ap (λ o. fold (better need) best (with_gap c o (gaps_in l))) s.1)
+]
+
+-- there are as many of both
+pub gaps_many : (l : List Chunk) → length (gaps_among l) ≡ length (gaps_in l)
+gaps_many [] = refl
+gaps_many (c ∷ l) = elim (owner_cases c.owner) [
+  | inl e ↦ ap (λ o. length (with_free c o (gaps_among l))) e ∙ ap suc (gaps_many l) ∙ sym (ap (λ o. length (with_gap c o (gaps_in l))) e)
+  | inr s ↦ ap (λ o. length (with_free c o (gaps_among l))) s.1 ∙ gaps_many l ∙ sym (ap (λ o. length (with_gap c o (gaps_in l))) s.1)
 ]
 
 pub is_gap_none : (o : Option ℕ) → is_none o ≡ true → o ≡ None
@@ -228,26 +219,6 @@ is_gap_none (Some name) e = absurd (false≢true e)
 pub is_live_some : (o : Option ℕ) → is_none o ≡ false → (name : ℕ) × (o ≡ Some name)
 is_live_some None e = absurd (false≢true (sym e))
 is_live_some (Some name) e = (name, refl)
-
--- what a chunk adds to the blocks
-module _ (B : List ℕ) (b : ℕ) where
-  abbrev rooms : List Block → ℕ
-  rooms blocks = sum_by (λ (block : Block). block.room) blocks
-
-  pub rooms_gap : (c : Chunk) (xs : List Block) → is_some c.owner ≡ false → (rooms (with_chunk B b c c.owner xs) ≡ rooms xs) × (length (with_chunk B b c c.owner xs) ≡ length xs)
-  rooms_gap c xs e = elim (owner_cases c.owner) [
-    | inl n ↦ let same = none_in_front B b c xs n in (ap rooms same, ap length same)
-    | inr s ↦ absurd (let some : is_some c.owner ≡ true = ap is_some s.1 in false≢true (sym e ∙ some))
-  ]
-
-  pub rooms_live : (c : Chunk) (xs : List Block) → is_some c.owner ≡ true → (rooms (with_chunk B b c c.owner xs) ≡ c.len - 16 + rooms xs) × (length (with_chunk B b c c.owner xs) ≡ 1 + length xs)
-  rooms_live c xs e = elim (owner_cases c.owner) [
-    | inl n ↦ absurd (let none : is_some c.owner ≡ false = ap is_some n in false≢true (sym none ∙ e))
-    | inr s ↦
-        let block : Block = record { name = s.0; at = c.at; room = c.len - 16; bytes = slice_range B (b + c.at + 16) (b + c.at + 16 + c.size) } in
-        let same : with_chunk B b c c.owner xs ≡ block ∷ xs = ap (λ o. with_chunk B b c o xs) s.1 in
-        (ap rooms same ∙ sum_by-cons (λ (block : Block). block.room) block xs, omega (arith, ap length same))
-  ]
 
 pub best_fits : (B : List ℕ) (b z need : ℕ) (gap : Gap) (l : List Chunk) → Tell B b 0 z l → AreJoined l → Some gap ≡ best_gap need (gaps_from 0 (blocks_in B b l)) → Found need gap l
 best_fits B b z need gap l told joined e = elim (found need None gap l (sym (ap (best_gap need) (gaps_are B b 0 z l told joined)) ∙ sym e)) [

@@ -1,6 +1,6 @@
 -- A live chunk that is laid into a hole, and the holes that there are.
 use Rattle.std.proofs.Common.{◌≡◌, ◌≢◌, ℕ, ◌+◌, ◌-◌, ◌≤◌, ◌⊎◌, inl, inr, List, [], ◌∷◌, ◌++◌, length, Some, None, refl, sym, ap, ◌∙◌, subst, arith}
-use Rattle.std.specs.Prelude.{filter}
+use Rattle.std.specs.Prelude.{Option, IfSome, filter}
 use Rattle.std.proofs.lemmas.Bool.{cases_eq}
 use Rattle.std.proofs.lemmas.List.{append-nil}
 use Rattle.mote_types.specs.Rounding.{up4}
@@ -10,15 +10,16 @@ use Rattle.heap_core.specs.declared.chunk.Chunk.{Chunk}
 use Rattle.heap_core.specs.declared.chunk.Place.{Place}
 use Rattle.heap_core.specs.declared.region.Region.{Region}
 use Rattle.heap_core.specs.HeapStore.{Block, HeapStore, header_len, placed, block_at, with_block, room_in_place}
-use Rattle.heap_core.specs.HeapBytes.{heap_of}
 use Rattle.heap_core.specs.Code.Chunks.{Tell, BeginsLive, IsWhole, AreJoined, with_chunk, blocks_in}
 use Rattle.heap_core.specs.Code.Holes.{Hole, Leaves, Laid, Free}
-use Rattle.heap_core.specs.Code.Layout.{chunks_of, HasChunks}
+use Rattle.heap_core.specs.Code.Layout.{chunks_of, HasChunks, store_of}
+use Rattle.heap_core.specs.Code.Links.{LinkedTo, gaps_among, gap_below, gap_from, Relinked}
 use Rattle.heap_core.specs.Code.Walks.{chunks_behind, GapAt, LiveIn, Owned, laid, front_gap, place_in_chunk, bytes_in_chunk, LeavesGap, IsWholeRoom}
 use Rattle.heap_core.proofs.Beside.{room_is, Taken, taken, front_gap_whole}
 use Rattle.heap_core.proofs.Blocks.{blocks_between, placed_behind, placed_front, elsewhere}
 use Rattle.heap_core.proofs.Gaps.{none_in_front}
-use Rattle.heap_core.proofs.Members.{In, in_of, in_left, in_right, in_cases, stands_of, in_told, live_exchanged, apart_from_gap}
+use Rattle.heap_core.proofs.Lists.{Ends, ends_of, IsGapOf, last_stands, list_kept}
+use Rattle.heap_core.proofs.Members.{In, in_of, in_left, in_right, in_cases, stands_of, in_told, in_without, live_exchanged, apart_from_gap}
 use Rattle.heap_core.proofs.Releases.{r, end_below, left_apart}
 use Rattle.heap_core.proofs.Splice.{Spliced, spliced, joined_swap, joined_behind, whole_at, laid_all, laid_some}
 use Rattle.heap_core.proofs.Standing.{Around, around, behind_is}
@@ -39,21 +40,21 @@ module _ (B B' : List ℕ) (b : ℕ) (live : Chunk) (name : ℕ) (owner : live.o
   pub live_joined : IsWhole live → (behind : List Chunk) → AreJoined behind → AreJoined (live ∷ behind)
   live_joined whole behind joined = ((λ none. absurd (is_live none)), whole, joined)
 
-  module _ (len : ℕ) (rest : (live.len ≡ len) ⊎ LeavesGap live.len len) where
-    pub laid_block : bytes_in_chunk B' b live ≡ bytes_in_chunk B b live → (ys : List Block) → blocks_in B' b (laid live len) ++ ys ≡ with_chunk B b live live.owner ys
+  module _ (len : ℕ) (link : Option ℕ) (rest : (live.len ≡ len) ⊎ LeavesGap live.len len) where
+    pub laid_block : bytes_in_chunk B' b live ≡ bytes_in_chunk B b live → (ys : List Block) → blocks_in B' b (laid live len link) ++ ys ≡ with_chunk B b live live.owner ys
     laid_block same ys = elim rest [
-      | inl e ↦ ap (λ l. blocks_in B' b l ++ ys) (laid_all live len e) ∙ live_block same ys
-      | inr less ↦ ap (λ l. blocks_in B' b l ++ ys) (laid_some live len (omega (arith, less.0))) ∙ live_block same ys
+      | inl e ↦ ap (λ l. blocks_in B' b l ++ ys) (laid_all live len link e) ∙ live_block same ys
+      | inr less ↦ ap (λ l. blocks_in B' b l ++ ys) (laid_some live len link (omega (arith, less.0))) ∙ live_block same ys
     ]
 
-    pub laid_begins : (behind : List Chunk) → BeginsLive (laid live len ++ behind)
+    pub laid_begins : (behind : List Chunk) → BeginsLive (laid live len link ++ behind)
     laid_begins behind = is_live
 
-    pub laid_joined : IsWhole live → (behind : List Chunk) → BeginsLive behind → AreJoined behind → AreJoined (laid live len ++ behind)
+    pub laid_joined : IsWhole live → (behind : List Chunk) → BeginsLive behind → AreJoined behind → AreJoined (laid live len link ++ behind)
     laid_joined whole behind begins joined = elim rest [
-      | inl e ↦ subst (λ l. AreJoined (l ++ behind)) (sym (laid_all live len e)) (live_joined whole behind joined)
+      | inl e ↦ subst (λ l. AreJoined (l ++ behind)) (sym (laid_all live len link e)) (live_joined whole behind joined)
       | inr less ↦
-          subst (λ l. AreJoined (l ++ behind)) (sym (laid_some live len (omega (arith, less.0))))
+          subst (λ l. AreJoined (l ++ behind)) (sym (laid_some live len link (omega (arith, less.0))))
           ((λ none. absurd (is_live none)), whole, ((λ none. begins), (omega (arith, less.0), less.1), joined))
     ]
 
@@ -83,8 +84,11 @@ module _ (heap new : Region) (B B' : List ℕ) (live : Chunk) (before mid behind
     | inr later ↦ in_right other before (mid ++ behind) (in_right other mid behind later)
   ]
 
-  pub laid_between : Laid heap new B B' live before behind
-  laid_between = record {
+  pub laid_between : (first link : Option ℕ) → LinkedTo first mid link → Laid heap new B B' live before behind first link
+  laid_between first link linked = record {
+    mid = mid;
+    is = there.is;
+    linked = linked;
     chunks = there.has;
     blocks = there.blocks
         ∙ ap (λ k. blocks_in B k before ++ (blocks_in B' k mid ++ blocks_in B k behind)) start
@@ -134,12 +138,12 @@ below heap at room n end rest fits = elim rest [ inl e ↦ inl e | inr f ↦ eli
 -- a block that is laid into a hole is one more
 module _ (heap new : Region) (B B1 B2 : List ℕ) (target : Place) (name n end : ℕ) (hole : Hole heap B target.at end)
     (changes : ChangesOnly (heap.span.at + target.at + 16) n B B1) (rest : Leaves heap (target.at + (header_len + target.room)) end) (room : n ≤ target.room)
-    (laid : Laid heap new B1 B2 (record { at = target.at; len = header_len + target.room; owner = Some name; size = n }) hole.before hole.behind) where
+    (first link : Option ℕ) (laid : Laid heap new B1 B2 (record { at = target.at; len = header_len + target.room; owner = Some name; size = n; link = None }) hole.before hole.behind first link) where
   abbrev s : ℕ
   s = heap.span.at
 
   abbrev live : Chunk
-  live = record { at = target.at; len = header_len + target.room; owner = Some name; size = n }
+  live = record { at = target.at; len = header_len + target.room; owner = Some name; size = n; link = None }
 
   abbrev xs : List Block
   xs = blocks_in B s hole.before
@@ -159,7 +163,7 @@ module _ (heap new : Region) (B B1 B2 : List ℕ) (target : Place) (name n end :
   ]
 
   pub put_block : (ws : List ℕ) (olds : List Block) → bytes_in_chunk B1 s live ≡ ws → olds ≡ xs ++ ys → new.span ≡ heap.span
-      → heap_of new B2 ≡ with_block (block_at target name ws) (record { size = heap.span.len; blocks = olds })
+      → store_of new B2 ≡ with_block (block_at target name ws) (record { size = heap.span.len; blocks = olds })
   put_block ws olds fresh are span =
       let block = block_at target name ws in
       let same : header_len + target.room - header_len ≡ target.room = omega arith in
@@ -195,6 +199,8 @@ module _ (heap : Region) (B : List ℕ) (has : HasChunks heap B) (target : Place
       joined_behind = tt;
       begins = inl refl;
     };
+    mid = [];
+    is = sym (append-nil all);
     inside = fits;
     rest = inl at;
     whole = whole;
@@ -219,6 +225,8 @@ module _ (heap : Region) (B : List ℕ) (has : HasChunks heap B) (target : Place
           joined_behind = later.2;
           begins = inr (later.0 g.free);
         };
+        mid = g.gap ∷ [];
+        is = a.is;
         inside = elim g.rest [ inl e ↦ omega (arith, g.at, a.fits, heap.inside) | inr less ↦ omega (arith, g.at, a.fits, heap.inside, less.0) ];
         rest = elim g.rest [ inl e ↦ inr (inl (omega arith)) | inr less ↦ inr (inr (omega (arith, less.0), omega (arith, less.0, less.1))) ];
         whole = whole;
@@ -250,6 +258,9 @@ module _ (heap : Region) (B : List ℕ) (has : HasChunks heap B) (chunk : Chunk)
   pub gap_same : (gap : ℕ) → gap ≡ front_gap (chunks_behind heap B (chunk.at + chunk.len)) → gap ≡ front_gap own.behind
   gap_same gap is = is ∙ ap front_gap (behind_is heap B chunk own)
 
+  pub own_gone : List Chunk
+  own_gone = (r heap B has chunk own owns).gone
+
   module _ (gap : ℕ) (gap_is : gap ≡ front_gap own.behind) where
     abbrev end : ℕ
     end = chunk.at + chunk.len + gap
@@ -272,11 +283,27 @@ module _ (heap : Region) (B : List ℕ) (has : HasChunks heap B) (chunk : Chunk)
           begins = elim rest.begins [ inl none ↦ inl none.0 | inr first ↦ inr first ];
         }
 
+    pub own_is : chunks_of heap B ≡ own_hole.before ++ ((chunk ∷ own_gone) ++ own_hole.behind)
+    unfolding own_hole own_gone
+    own_is = own.is ∙ ap (λ l. own.before ++ (chunk ∷ l)) (r heap B has chunk own owns).was
+
+    pub own_others : (other : Chunk) → LiveIn other (chunks_of heap B) → other.at ≢ chunk.at → LiveIn other (own_hole.before ++ own_hole.behind)
+    unfolding own_hole
+    own_others other h far =
+        let rest = r heap B has chunk own owns in
+        let all = own.before ++ rest.post in
+        record {
+          stands = stands_of other all
+              (in_without other chunk own.before rest.gone rest.post h.live far rest.free
+              (subst (In other) (own.is ∙ ap (λ l. own.before ++ (chunk ∷ l)) rest.was) (in_of other (chunks_of heap B) h.stands)));
+          live = h.live;
+        }
+
     pub own_blocks : filter (elsewhere chunk.at) (blocks_in B heap.span.at (chunks_of heap B)) ≡ blocks_in B heap.span.at own_hole.before ++ blocks_in B heap.span.at own_hole.behind
     unfolding own_hole
     own_blocks = left_apart heap B has chunk own owns ∙ ap (λ l. blocks_in B heap.span.at own.before ++ l) (r heap B has chunk own owns).blocks
 
-    module _ (n room : ℕ) (some : 1 ≤ n) (chosen : room_in_place (place_in_chunk chunk) n (heap_of heap B) ≡ Some room) where
+    module _ (n room : ℕ) (some : 1 ≤ n) (chosen : room_in_place (place_in_chunk chunk) n (store_of heap B) ≡ Some room) where
       known : Taken (up4 n) (chunk.len - 16) (chunk.at + chunk.len) heap.footprint (heap.span.len - heap.footprint) (front_gap own.behind) room
       known =
           taken (up4 n) (chunk.len - 16) (chunk.at + chunk.len) heap.footprint (heap.span.len - heap.footprint) (front_gap own.behind) room
@@ -295,7 +322,7 @@ module _ (heap : Region) (B : List ℕ) (has : HasChunks heap B) (chunk : Chunk)
         ])
       ]
 
-      pub own_live : IsWhole (record { at = chunk.at; len = 16 + room; owner = Some name; size = n })
+      pub own_live : IsWhole (record { at = chunk.at; len = 16 + room; owner = Some name; size = n; link = None })
       own_live = (omega (arith, known.whole.0), omega (arith, known.whole.1))
 
       pub own_inside : chunk.at + (16 + room) ≤ heap.span.len
@@ -306,3 +333,17 @@ module _ (heap : Region) (B : List ℕ) (has : HasChunks heap B) (chunk : Chunk)
           | inr f ↦ elim f [ inl e ↦ omega (arith, own_end, heap.inside) | inr less ↦ omega (arith, own_end, heap.inside, less.0) ]
         ]
       ]
+
+-- the list of the gaps after a chunk was laid into a hole
+module _ (heap new : Region) (B B1 B2 : List ℕ) (live : Chunk) (at end : ℕ) (hole : Hole heap B at end) (gone : List Chunk) (is : chunks_of heap B ≡ hole.before ++ (gone ++ hole.behind)) (has : HasChunks heap B)
+    (were : LinkedTo heap.lowest (chunks_of heap B) None) (last : Option Chunk) (first link : Option ℕ) (laid : Laid heap new B1 B2 live hole.before hole.behind first link)
+    (at_last : last ≡ gap_below at (gaps_among (chunks_of heap B))) (at_link : link ≡ gap_from end (gaps_among (chunks_of heap B))) where
+  ends : Ends heap.lowest at end (chunks_of heap B) hole.before hole.behind
+  ends = ends_of heap B at end hole.before gone hole.behind has were is hole.front hole.back
+
+  pub last_laid : IfSome last (IsGapOf (chunks_of new B2))
+  last_laid = last_stands last hole.before (laid.mid ++ hole.behind) (chunks_of new B2) (at_last ∙ ends.last) laid.is
+
+  pub list_laid : (after : Region) (B3 : List ℕ) → new.lowest ≡ heap.lowest → Relinked new after B2 B3 last first → LinkedTo after.lowest (chunks_of after B3) None
+  list_laid after B3 same relinked =
+      list_kept new after B2 B3 heap.lowest first link last at end (chunks_of heap B) hole.before laid.mid hole.behind ends same laid.is at_last at_link laid.linked relinked

@@ -1,6 +1,7 @@
 -- Live chunks among others, before and after one of these is exchanged.
 use Rattle.std.proofs.Common.{◌≡◌, ◌≢◌, ℕ, ◌+◌, ◌≤◌, ◌⊎◌, inl, inr, List, [], ◌∷◌, ◌++◌, refl, sym, ap, ◌∙◌, subst, arith}
-use Rattle.std.specs.Prelude.{Option, Some, None, IfSome}
+use Rattle.std.specs.Prelude.{All, Option, Some, None, IfSome}
+use Rattle.std.proofs.lemmas.List.Elements.{All-head, All-tail}
 use Rattle.heap_core.specs.declared.chunk.Chunk.{Chunk}
 use Rattle.heap_core.specs.HeapStore.{header_len}
 use Rattle.heap_core.specs.Code.Chunks.{Tell}
@@ -78,3 +79,31 @@ apart_from_gap B b end c gap before behind l is front back free h =
 
 pub inside : (B : List ℕ) (b end : ℕ) (c : Chunk) (l : List Chunk) → Tell B b 0 end l → LiveIn c l → c.at + 16 + c.size ≤ end
 inside B b end c l told h = let t = in_told B b 0 end c l told (in_of c l h.stands) in omega (arith, t.1, t.2)
+
+-- none of the gaps is live
+free_in : (c : Chunk) (free : List Chunk) → All (λ (k : Chunk). k.owner ≡ None) free → In c free → c.owner ≡ None
+free_in c [] all h = absurd h
+free_in c (d ∷ free) all (inl e) = sym (ap (λ (k : Chunk). k.owner) e) ∙ All-head (λ (k : Chunk). k.owner ≡ None) d free all
+free_in c (d ∷ free) all (inr h) = free_in c free (All-tail (λ (k : Chunk). k.owner ≡ None) d free all) h
+
+-- a live one stays where it is not the one that is taken out
+pub in_without : (c gone : Chunk) (before free behind : List Chunk) → c.owner ≢ None → c.at ≢ gone.at → All (λ (k : Chunk). k.owner ≡ None) free → In c (before ++ (gone ∷ (free ++ behind))) → In c (before ++ behind)
+in_without c gone before free behind live far all h = elim (in_cases c before (gone ∷ (free ++ behind)) h) [
+  | inl early ↦ in_left c before behind early
+  | inr later ↦ elim later [
+    | inl same ↦ absurd (far (sym (ap (λ (k : Chunk). k.at) same)))
+    | inr rest ↦ elim (in_cases c free behind rest) [
+      | inl one ↦ absurd (live (free_in c free all one))
+      | inr last ↦ in_right c before behind last
+    ]
+  ]
+]
+
+pub in_skip : (c : Chunk) (before free behind : List Chunk) → c.owner ≢ None → All (λ (k : Chunk). k.owner ≡ None) free → In c (before ++ (free ++ behind)) → In c (before ++ behind)
+in_skip c before free behind live all h = elim (in_cases c before (free ++ behind) h) [
+  | inl early ↦ in_left c before behind early
+  | inr rest ↦ elim (in_cases c free behind rest) [
+    | inl one ↦ absurd (live (free_in c free all one))
+    | inr last ↦ in_right c before behind last
+  ]
+]

@@ -9,11 +9,8 @@ use Rattle.heap_core.specs.declared.chunk.Chunk.{Chunk}
 use Rattle.heap_core.specs.declared.chunk.Place.{Place}
 use Rattle.heap_core.specs.declared.region.Region.{Region}
 use Rattle.heap_core.specs.HeapStore.{Block, HeapStore, has_name, find_block, place, place_of, room_in_place, new_place, moved, resized_block, reallocated, block_at, with_block, without_block}
-use Rattle.heap_core.specs.Code.Layout.{chunks_of}
-use Rattle.heap_core.specs.HeapBytes.{heap_of, IsLaidOut}
-use Rattle.heap_core.specs.Code.Walks.{Owned, block_in_chunk, place_in_chunk, at_place, without_place, bytes_in_chunk}
+use Rattle.heap_core.specs.Code.Walks.{block_in_chunk, place_in_chunk, at_place, without_place, bytes_in_chunk}
 use Rattle.heap_core.proofs.Blocks.{count}
-use Rattle.heap_core.proofs.Bodies.{without_place_is}
 use Rattle.heap_core.proofs.Names.{count_placed, count_other, count_filter, count_at_most, count_unnamed}
 
 named_moved : (store : HeapStore) (block : Block) (n : ℕ) → ((other : ℕ) → count other store.blocks ≤ 1) → (o : Option Place) (new : HeapStore) → option_map (λ place. moved place block n store) o ≡ Some new → (other : ℕ) → count other new.blocks ≤ 1
@@ -32,19 +29,13 @@ named_moved store block n named (Some place) new e other =
       | inr ne ↦ omega (arith, count_other other fresh left ne, count_filter other unnamed store.blocks, named other)
     ]
 
-module _ (heap : Region) (B : List ℕ) (laid : IsLaidOut heap B) (chunk : Chunk) (p h name n : ℕ) (o : Owned name chunk (chunks_of heap B))
-    (same : name ≡ number_of p h) (found : find_block name (heap_of heap B) ≡ Some (block_in_chunk B heap.span.at name chunk)) where
-  abbrev store : HeapStore
-  store = heap_of heap B
-
+module _ (heap : Region) (B : List ℕ) (store : HeapStore) (chunk : Chunk) (p h name n : ℕ) (left_is : without_place chunk.at store ≡ without_block name store)
+    (same : name ≡ number_of p h) (found : find_block name store ≡ Some (block_in_chunk B heap.span.at name chunk)) where
   abbrev block : Block
   block = block_in_chunk B heap.span.at name chunk
 
   abbrev at_new : Place → HeapStore → HeapStore
   at_new target left = with_block (block_at target name (resized n (bytes_in_chunk B heap.span.at chunk))) left
-
-  left_is : without_place chunk.at store ≡ without_block name store
-  left_is = without_place_is heap B laid chunk name o
 
   reallocated_is : reallocated p h n store ≡ resized_block block n store
   reallocated_is = ap (λ k. option_map_or (λ (b : Block). resized_block b n store) (find_block k store) None) (sym same) ∙ ap (λ k. option_map_or (λ (b : Block). resized_block b n store) k None) found
@@ -67,5 +58,5 @@ module _ (heap : Region) (B : List ℕ) (laid : IsLaidOut heap B) (chunk : Chunk
   pub nowhere : room_in_place (place_in_chunk chunk) n store ≡ None → place n store ≡ None → reallocated p h n store ≡ None
   nowhere e f = elsewhere_is e ∙ ap (option_map (λ target. at_new target (without_place chunk.at store))) f
 
-  pub named_after : (new : HeapStore) → reallocated p h n store ≡ Some new → (other : ℕ) → count other new.blocks ≤ 1
-  named_after new e = named_moved store block n laid.named (new_place (place_of block) n store) new (sym reallocated_is ∙ e)
+  pub named_after : ((other : ℕ) → count other store.blocks ≤ 1) → (new : HeapStore) → reallocated p h n store ≡ Some new → (other : ℕ) → count other new.blocks ≤ 1
+  named_after named new e = named_moved store block n named (new_place (place_of block) n store) new (sym reallocated_is ∙ e)

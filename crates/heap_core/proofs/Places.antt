@@ -13,7 +13,7 @@ use Rattle.heap_core.specs.Code.Chunks.{chunk_at, chunks_from, Tell, AreJoined}
 use Rattle.heap_core.specs.Code.Layout.{chunks_of, HasChunks}
 use Rattle.heap_core.specs.Code.Places.{place_found, ArePlaced}
 use Rattle.heap_core.specs.Code.Walks.{owned_by, block_in_chunk}
-use Rattle.heap_core.specs.HeapBytes.{IsLaidOut}
+use Rattle.heap_core.proofs.Stored.{IsStored}
 use Rattle.heap_core.proofs.Names.{find_is, owned}
 use Rattle.heap_core.proofs.Standing.{around}
 
@@ -161,7 +161,7 @@ has_same heap new B span footprint has =
     }
 
 -- the chunk that the table tells
-module _ (heap : Region) (B : List ℕ) (laid : IsLaidOut heap B) (name : ℕ) (small : name < 272) where
+module _ (heap : Region) (B : List ℕ) (laid : IsStored heap B) (name : ℕ) (small : name < 272) where
   abbrev found : Option Chunk
   found = find (owned_by name) (chunks_of heap B)
 

@@ -1,7 +1,8 @@
 -- A block that is taken away, and the gaps beside it.
 use Rattle.std.proofs.Common.{◌≡◌, ◌≢◌, ℕ, ◌+◌, ◌-◌, ◌%◌, ◌≤◌, ◌⊎◌, inl, inr, List, [], ◌∷◌, ◌++◌, slice_range, refl, sym, ap, ◌∙◌, subst, arith, true, eqb}
-use Rattle.std.specs.Prelude.{Some, None, fold, filter}
-use Rattle.std.proofs.lemmas.List.Elements.{filter-append}
+use Rattle.std.specs.Prelude.{All, Option, Some, None, fold, filter}
+use Rattle.std.proofs.lemmas.List.{append_assoc}
+use Rattle.std.proofs.lemmas.List.Elements.{filter-append, All-nil, All-cons}
 use Rattle.std.proofs.lemmas.Bool.{eq-eqb}
 use Rattle.arena_core.specs.Outside.{ChangesOnly}
 use Rattle.arena_core.specs.declared.span.Span.{Span}
@@ -9,9 +10,11 @@ use Rattle.heap_core.specs.declared.chunk.Chunk.{Chunk}
 use Rattle.heap_core.specs.declared.region.Region.{Region}
 use Rattle.heap_core.specs.HeapStore.{Block, HeapStore, header_len}
 use Rattle.heap_core.specs.Code.Chunks.{chunk_at, Tell, BeginsLive, AreJoined, with_chunk, blocks_in}
-use Rattle.heap_core.specs.Code.Layout.{chunks_of, HasChunks}
-use Rattle.heap_core.specs.HeapBytes.{heap_of}
-use Rattle.heap_core.specs.Code.Walks.{free_behind, free_from, gap_of, front_gap, without_place}
+use Rattle.heap_core.specs.Code.Layout.{chunks_of, HasChunks, store_of}
+use Rattle.heap_core.specs.Code.Links.{Exchanged}
+use Rattle.heap_core.specs.Code.Walks.{LiveIn, free_behind, free_from, gap_of, front_gap, without_place}
+use Rattle.heap_core.proofs.Lists.{link_gap}
+use Rattle.heap_core.proofs.Members.{In, in_of, in_left, in_right, in_cases, in_without, in_skip, stands_of}
 use Rattle.heap_core.proofs.Told.{place_told, told_le, blocks_append, owner_cases, changes_more}
 use Rattle.heap_core.proofs.Gaps.{none_in_front}
 use Rattle.heap_core.proofs.Blocks.{blocks_between, elsewhere, filter_elsewhere}
@@ -22,6 +25,9 @@ use Rattle.heap_core.proofs.Steps.{ended}
 -- the chunks before a place, without a gap that ends there
 pub record Front (B : List ℕ) (b x from : ℕ) (before old : List Chunk) : Type 0 where
   pub pre : List Chunk
+  pub gone : List Chunk
+  pub was : before ≡ pre ++ gone
+  pub free : All (λ (c : Chunk). c.owner ≡ None) gone
   pub told : Tell B b x from pre
   pub blocks : blocks_in B b before ≡ blocks_in B b pre
   pub begins : BeginsLive (before ++ old) → before ≢ [] → (new : List Chunk) → BeginsLive (pre ++ new)
@@ -33,6 +39,9 @@ walk_free i l = fold (λ _ (c : Chunk). free_behind c c.owner) i l
 pub front_of : (B : List ℕ) (b x at i : ℕ) (before old : List Chunk) → Tell B b x at before → (before ≡ [] → i ≡ x) → Front B b x (walk_free i before) before old
 front_of B b x at i [] old t none = record {
   pre = [];
+  gone = [];
+  was = refl;
+  free = All-nil (λ (c : Chunk). c.owner ≡ None);
   told = sym (none refl);
   blocks = refl;
   begins = λ live ne. absurd (ne refl);
@@ -41,6 +50,9 @@ front_of B b x at i [] old t none = record {
 front_of B b x at i (c ∷ []) old t none = elim (owner_cases c.owner) [
   | inl e ↦ record {
     pre = [];
+    gone = c ∷ [];
+    was = refl;
+    free = All-cons (λ (c : Chunk). c.owner ≡ None) c [] e (All-nil (λ (c : Chunk). c.owner ≡ None));
     told = sym (place_told B b x c t.0) ∙ sym (ap (free_behind c) e);
     blocks = none_in_front B b c [] e;
     begins = λ live ne new. absurd (live e);
@@ -48,6 +60,9 @@ front_of B b x at i (c ∷ []) old t none = elim (owner_cases c.owner) [
   }
   | inr s ↦ record {
     pre = c ∷ [];
+    gone = [];
+    was = refl;
+    free = All-nil (λ (c : Chunk). c.owner ≡ None);
     told = (t.0, t.1, ap (λ k. k + c.len) (sym (place_told B b x c t.0)) ∙ sym (ap (free_behind c) s.1));
     blocks = refl;
     begins = λ live ne new. live;
@@ -58,6 +73,9 @@ front_of B b x at i (c ∷ (d ∷ l)) old t none =
     let f = front_of B b (x + c.len) at (free_behind c c.owner) (d ∷ l) old t.2 (λ e. absurd (cc)) in
     record {
       pre = c ∷ f.pre;
+      gone = f.gone;
+      was = ap (λ k. c ∷ k) f.was;
+      free = f.free;
       told = (t.0, t.1, f.told);
       blocks = ap (with_chunk B b c c.owner) f.blocks;
       begins = λ live ne new. live;
@@ -67,16 +85,22 @@ front_of B b x at i (c ∷ (d ∷ l)) old t none =
 -- the chunks from a place on, without a gap that begins there
 pub record Rest (B : List ℕ) (b at end : ℕ) (behind : List Chunk) : Type 0 where
   pub post : List Chunk
+  pub gone : List Chunk
+  pub was : behind ≡ gone ++ post
+  pub free : All (λ (c : Chunk). c.owner ≡ None) gone
   pub told : Tell B b (at + front_gap behind) end post
   pub blocks : blocks_in B b behind ≡ blocks_in B b post
   pub joined : AreJoined post
   pub begins : ((post ≡ []) × (behind ≡ [])) ⊎ BeginsLive post
 
 pub rest_of : (B : List ℕ) (b at end : ℕ) (behind : List Chunk) → Tell B b at end behind → AreJoined behind → Rest B b at end behind
-rest_of B b at end [] t joined = record { post = []; told = omega (arith, t); blocks = refl; joined = tt; begins = inl (refl, refl) }
+rest_of B b at end [] t joined = record { post = []; gone = []; was = refl; free = All-nil (λ (c : Chunk). c.owner ≡ None); told = omega (arith, t); blocks = refl; joined = tt; begins = inl (refl, refl) }
 rest_of B b at end (d ∷ l) t joined = elim (owner_cases d.owner) [
   | inl e ↦ record {
     post = l;
+    gone = d ∷ [];
+    was = refl;
+    free = All-cons (λ (c : Chunk). c.owner ≡ None) d [] e (All-nil (λ (c : Chunk). c.owner ≡ None));
     told = subst (λ k. Tell B b (at + k) end l) (sym (ap (gap_of d) e)) t.2;
     blocks = none_in_front B b d (blocks_in B b l) e;
     joined = joined.2;
@@ -84,6 +108,9 @@ rest_of B b at end (d ∷ l) t joined = elim (owner_cases d.owner) [
   }
   | inr s ↦ record {
     post = d ∷ l;
+    gone = [];
+    was = refl;
+    free = All-nil (λ (c : Chunk). c.owner ≡ None);
     told = (let none : at ≡ at + gap_of d d.owner = omega (arith, ap (gap_of d) s.1) in subst (λ k. Tell B b k end (d ∷ l)) none t);
     blocks = refl;
     joined = joined;
@@ -157,6 +184,22 @@ module _ (heap : Region) (B : List ℕ) (has : HasChunks heap B) (chunk : Chunk)
   left : filter (elsewhere chunk.at) (blocks_in B b (chunks_of heap B)) ≡ blocks_in B b f.pre ++ blocks_in B b r.post
   left = left_apart ∙ ap (λ l. l ++ blocks_in B b a.behind) f.blocks ∙ ap (λ l. blocks_in B b f.pre ++ l) r.blocks
 
+  -- which chunks go
+  went : chunks_of heap B ≡ f.pre ++ ((f.gone ++ (chunk ∷ r.gone)) ++ r.post)
+  went =
+      a.is
+      ∙ ap (λ l. l ++ (chunk ∷ a.behind)) f.was
+      ∙ ap (λ l. (f.pre ++ f.gone) ++ (chunk ∷ l)) r.was
+      ∙ append_assoc f.pre f.gone (chunk ∷ (r.gone ++ r.post))
+      ∙ ap (λ l. f.pre ++ l) (sym (append_assoc f.gone (chunk ∷ r.gone) r.post))
+
+  stay : (other : Chunk) → LiveIn other (chunks_of heap B) → other.at ≢ chunk.at → In other (f.pre ++ r.post)
+  stay other h far =
+      in_skip other f.pre f.gone r.post h.live f.free
+      (subst (In other) (append_assoc f.pre f.gone r.post)
+      (in_without other chunk (f.pre ++ f.gone) r.gone r.post h.live far r.free
+      (subst (In other) (a.is ∙ ap (λ l. l ++ (chunk ∷ a.behind)) f.was ∙ ap (λ l. (f.pre ++ f.gone) ++ (chunk ∷ l)) r.was) (in_of other (chunks_of heap B) h.stands))))
+
   -- nothing lies behind it: the top gap takes it
   module _ (heap' : Region) (same : heap'.span ≡ heap.span) (new_end : heap'.footprint ≡ from) (last : end ≡ heap.footprint) where
     start : heap'.span.at ≡ b
@@ -175,7 +218,26 @@ module _ (heap : Region) (B : List ℕ) (has : HasChunks heap B) (chunk : Chunk)
         (record { size = refl; others = λ i n apart. refl })
         (subst (λ k. Tell B k 0 from f.pre) (sym start) f.told) refl (sym new_end) (f.joined was_joined [] tt)
 
-    pub top_released : heap_of heap' B ≡ without_place chunk.at (heap_of heap B)
+    top_is : chunks_of heap' B ≡ f.pre ++ ([] ++ r.post)
+    top_is = top_spliced.is ∙ ap (λ l. f.pre ++ l) (sym none_behind)
+
+    pub top_stays : (other : Chunk) → LiveIn other (chunks_of heap B) → other.at ≢ chunk.at → LiveIn other (chunks_of heap' B)
+    top_stays other h far = record { stands = stands_of other (chunks_of heap' B) (subst (In other) (sym top_is) (stay other h far)); live = h.live }
+
+    pub top_exchanged : (p q : ℕ) (link : Option ℕ) → p ≡ from → q ≡ end → Exchanged heap heap' B B p q link link
+    top_exchanged p q link e g = record {
+      before = f.pre;
+      gone = f.gone ++ (chunk ∷ r.gone);
+      mid = [];
+      behind = r.post;
+      was = went;
+      is = top_is;
+      front = subst (λ k. Tell B b 0 k f.pre) (sym e) f.told;
+      back = subst (λ k. Tell B b k heap.footprint r.post) (sym g) r.told;
+      linked = refl;
+    }
+
+    pub top_released : store_of heap' B ≡ without_place chunk.at (store_of heap B)
     top_released =
         ap (λ size. let h : HeapStore = record { size = size; blocks = blocks_in B heap'.span.at (chunks_of heap' B) } in h) (ap (λ (s : Span). s.len) same)
         ∙ ap (λ blocks. let h : HeapStore = record { size = heap.span.len; blocks = blocks } in h)
@@ -193,22 +255,42 @@ module _ (heap : Region) (B : List ℕ) (has : HasChunks heap B) (chunk : Chunk)
       let low = from_below in
       (omega (arith, whole.0), omega (arith, whole.1, front, back))
 
-  abbrev gap : Chunk
-  gap = record { at = from; len = end - from; owner = None; size = 0 }
+  abbrev gap : Option ℕ → Chunk
+  gap link = record { at = from; len = end - from; owner = None; size = 0; link = link }
 
-  module _ (B' : List ℕ) (told : chunk_at B' b from ≡ gap) (changes : ChangesOnly (b + from) 16 B B') (more : end ≢ heap.footprint) where
-    pub gap_spliced : Spliced heap B B' f.pre (gap ∷ []) r.post
+  module _ (link : Option ℕ) (B' : List ℕ) (told : chunk_at B' b from ≡ gap link) (changes : ChangesOnly (b + from) 16 B B') (more : end ≢ heap.footprint) where
+    pub gap_spliced : Spliced heap B B' f.pre (gap link ∷ []) r.post
     gap_spliced =
         let below = from_below in
         let begins : BeginsLive r.post = elim r.begins [
           | inl e ↦ absurd (more (subst (Tell B b end heap.footprint) e.0 r.told))
           | inr begins ↦ begins
         ] in
-        spliced heap B B' from end f.pre (gap ∷ []) r.post has.within
+        spliced heap B B' from end f.pre (gap link ∷ []) r.post has.within
         (changes_more (b + from) 16 (b + from) (end - from) B B' changes (omega arith) (omega (arith, a.enough)))
         f.told (told, omega (arith, a.enough), omega arith) r.told
-        (f.joined was_joined (gap ∷ r.post) ((λ none. begins), (omega (arith, gap_whole), omega (arith, gap_whole)), r.joined))
+        (f.joined was_joined (gap link ∷ r.post) ((λ none. begins), (omega (arith, gap_whole), omega (arith, gap_whole)), r.joined))
 
-    pub gap_released : heap_of heap B' ≡ without_place chunk.at (heap_of heap B)
+    pub gap_released : store_of heap B' ≡ without_place chunk.at (store_of heap B)
     gap_released =
         ap (λ blocks. let h : HeapStore = record { size = heap.span.len; blocks = blocks } in h) (gap_spliced.blocks ∙ sym left)
+
+    pub gap_stays : (other : Chunk) → LiveIn other (chunks_of heap B) → other.at ≢ chunk.at → LiveIn other (chunks_of heap B')
+    gap_stays other h far = record {
+      stands = stands_of other (chunks_of heap B') (subst (In other) (sym gap_spliced.is)
+          (elim (in_cases other f.pre r.post (stay other h far)) [ inl early ↦ in_left other f.pre (gap link ∷ r.post) early | inr later ↦ in_right other f.pre (gap link ∷ r.post) (inr later) ]));
+      live = h.live;
+    }
+
+    pub gap_exchanged : (p q : ℕ) → p ≡ from → q ≡ end → Exchanged heap heap B B' p q (Some p) link
+    gap_exchanged p q e g = record {
+      before = f.pre;
+      gone = f.gone ++ (chunk ∷ r.gone);
+      mid = gap link ∷ [];
+      behind = r.post;
+      was = went;
+      is = gap_spliced.is;
+      front = subst (λ k. Tell B b 0 k f.pre) (sym e) f.told;
+      back = subst (λ k. Tell B b k heap.footprint r.post) (sym g) r.told;
+      linked = link_gap (Some p) link (gap link) [] refl (ap Some e) refl;
+    }

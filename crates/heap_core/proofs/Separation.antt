@@ -1,5 +1,5 @@
 -- The live blocks lie apart in the arena.
-use Rattle.std.proofs.Common.{◌≡◌, ◌≢◌, ℕ, ◌+◌, ◌≤◌, ◌⊎◌, inl, inr, List, [], ◌∷◌, length, slice_range, Some, None, refl, sym, ap, ◌∙◌, subst, arith}
+use Rattle.std.proofs.Common.{◌≡◌, ◌≢◌, ℕ, ◌+◌, ◌≤◌, ◌<◌, ◌⊎◌, inl, inr, List, [], ◌∷◌, length, slice_range, Some, None, refl, sym, ap, ◌∙◌, subst, arith}
 use Rattle.std.specs.Prelude.{Option, find}
 use Rattle.std.specs.Option.{option_map}
 use Rattle.mote_types.specs.BlockNames.{number_of}
@@ -10,11 +10,12 @@ use Rattle.heap_core.specs.HeapStore.{Block, header_len, find_block}
 use Rattle.heap_core.specs.HeapBytes.{heap_of, IsLaidOut}
 use Rattle.heap_core.specs.Separation.{extent_of, bytes_behind_header, BlocksLieApart}
 use Rattle.heap_core.specs.Code.Chunks.{Tell}
-use Rattle.heap_core.specs.Code.Layout.{chunks_of}
+use Rattle.heap_core.specs.Code.Layout.{chunks_of, store_of}
 use Rattle.heap_core.specs.Code.Walks.{owned_by, Owned, block_in_chunk}
 use Rattle.heap_core.proofs.Bodies.{a, block_bytes}
 use Rattle.heap_core.proofs.Members.{In, in_of, in_told}
 use Rattle.heap_core.proofs.Names.{find_is, owned}
+use Rattle.heap_core.proofs.Stored.{IsStored, stored, find_named, name_small}
 use Rattle.heap_core.proofs.Told.{place_told}
 
 -- of two chunks one is the other, or they lie apart
@@ -33,25 +34,35 @@ told_apart B b x y c d (e ∷ l) t (inr h) (inr k) = told_apart B b (x + e.len) 
 
 -- a live block has a chunk
 record Chunked (heap : Region) (B : List ℕ) (name : ℕ) (block : Block) : Type 0 where
+  small : name < 272
   chunk : Chunk
   owned : Owned name chunk (chunks_of heap B)
   is : block_in_chunk B heap.span.at name chunk ≡ block
 
-module _ (heap : Region) (B : List ℕ) (laid : IsLaidOut heap B) where
+module _ (heap : Region) (B : List ℕ) (laid_out : IsLaidOut heap B) where
+  laid : IsStored heap B
+  laid = stored heap B laid_out
+
   chunked : (name : ℕ) (block : Block) → find_block name (heap_of heap B) ≡ Some block → Chunked heap B name block
   chunked name block e = from (find (owned_by name) (chunks_of heap B)) refl
     where
+      few : name < 272
+      few = name_small name (store_of heap B).blocks block e
+
+      found : find_block name (store_of heap B) ≡ Some block
+      found = sym (find_named name (store_of heap B).blocks few) ∙ e
+
       from : (o : Option Chunk) → find (owned_by name) (chunks_of heap B) ≡ o → Chunked heap B name block
-      from None none = absurd (let two : None ≡ Some block = sym (find_is B heap.span.at name (chunks_of heap B) ∙ ap (option_map (block_in_chunk B heap.span.at name)) none) ∙ e in cc)
+      from None none = absurd (let two : None ≡ Some block = sym (find_is B heap.span.at name (chunks_of heap B) ∙ ap (option_map (block_in_chunk B heap.span.at name)) none) ∙ found in cc)
       from (Some chunk) some =
-          let two : Some (block_in_chunk B heap.span.at name chunk) ≡ Some block = sym (find_is B heap.span.at name (chunks_of heap B) ∙ ap (option_map (block_in_chunk B heap.span.at name)) some) ∙ e in
-          record { chunk = chunk; owned = owned name chunk (chunks_of heap B) some; is = cc }
+          let two : Some (block_in_chunk B heap.span.at name chunk) ≡ Some block = sym (find_is B heap.span.at name (chunks_of heap B) ∙ ap (option_map (block_in_chunk B heap.span.at name)) some) ∙ found in
+          record { small = few; chunk = chunk; owned = owned name chunk (chunks_of heap B) some; is = cc }
 
   read : (name : ℕ) (block : Block) → find_block name (heap_of heap B) ≡ Some block → block.bytes ≡ bytes_behind_header heap B block
   read name block e =
       let f = chunked name block e in
       let same = λ (k : ℕ). slice_range B (heap.span.at + f.chunk.at + header_len) (heap.span.at + f.chunk.at + header_len + k) in
-      subst (λ (k : Block). k.bytes ≡ bytes_behind_header heap B k) f.is (ap same (sym (block_bytes heap B laid f.chunk name f.owned)))
+      subst (λ (k : Block). k.bytes ≡ bytes_behind_header heap B k) f.is (ap same (sym (block_bytes heap B laid f.chunk name f.small f.owned)))
 
   read_as : (name : ℕ) (o : Option Block) → find_block name (heap_of heap B) ≡ o → option_map (λ (block : Block). block.bytes) o ≡ option_map (bytes_behind_header heap B) o
   read_as name None e = refl
@@ -60,19 +71,19 @@ module _ (heap : Region) (B : List ℕ) (laid : IsLaidOut heap B) where
   room : (name : ℕ) (block : Block) → find_block name (heap_of heap B) ≡ Some block → length block.bytes ≤ block.room
   room name block e =
       let f = chunked name block e in
-      subst (λ (k : Block). length k.bytes ≤ k.room) f.is (omega (arith, block_bytes heap B laid f.chunk name f.owned, (a heap B laid f.chunk name f.owned).enough))
+      subst (λ (k : Block). length k.bytes ≤ k.room) f.is (omega (arith, block_bytes heap B laid f.chunk name f.small f.owned, (a heap B laid f.chunk name f.small f.owned).enough))
 
   inside : (name : ℕ) (block : Block) → find_block name (heap_of heap B) ≡ Some block → LiesIn heap.span (extent_of heap block)
   inside name block e =
-      let f = chunked name block e in let around = a heap B laid f.chunk name f.owned in
+      let f = chunked name block e in let around = a heap B laid f.chunk name f.small f.owned in
       subst (λ (k : Block). LiesIn heap.span (extent_of heap k)) f.is (omega arith, omega (arith, around.fits, around.enough, heap.inside))
 
   apart : (name name' : ℕ) (one other : Block) → name ≢ name' → find_block name (heap_of heap B) ≡ Some one → find_block name' (heap_of heap B) ≡ Some other → AreApart (extent_of heap one) (extent_of heap other)
   apart name name' one other ne e e' =
       let f = chunked name one e in let g = chunked name' other e' in
-      let around = a heap B laid f.chunk name f.owned in let around' = a heap B laid g.chunk name' g.owned in
+      let around = a heap B laid f.chunk name f.small f.owned in let around' = a heap B laid g.chunk name' g.small g.owned in
       let there : AreApart (extent_of heap (block_in_chunk B heap.span.at name f.chunk)) (extent_of heap (block_in_chunk B heap.span.at name' g.chunk)) =
-      elim (told_apart B heap.span.at 0 heap.footprint f.chunk g.chunk (chunks_of heap B) laid.chunks.told (in_of f.chunk (chunks_of heap B) f.owned.stands) (in_of g.chunk (chunks_of heap B) g.owned.stands)) [
+      elim (told_apart B heap.span.at 0 heap.footprint f.chunk g.chunk (chunks_of heap B) laid_out.chunks.told (in_of f.chunk (chunks_of heap B) f.owned.stands) (in_of g.chunk (chunks_of heap B) g.owned.stands)) [
         | inl same ↦ absurd (ne (let two : Some name ≡ Some name' = sym f.owned.owner ∙ ap (λ (k : Chunk). k.owner) same ∙ g.owned.owner in cc))
         | inr sides ↦ elim sides [ inl low ↦ inl (omega (arith, around.enough)) | inr high ↦ inr (omega (arith, around'.enough)) ]
       ] in

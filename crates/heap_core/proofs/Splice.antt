@@ -1,6 +1,6 @@
 -- Chunks that others take the place of.
 use Rattle.std.proofs.Common.{◌≡◌, ℕ, ◌+◌, ◌-◌, ◌≤◌, ◌<◌, inl, inr, List, [], ◌∷◌, ◌++◌, length, false, true, ltb, refl, sym, ap, ◌∙◌, subst, arith}
-use Rattle.std.specs.Prelude.{None}
+use Rattle.std.specs.Prelude.{Option, None}
 use Rattle.std.proofs.lemmas.Bool.{lt-ltb, le-ltb}
 use Rattle.arena_core.specs.Outside.{ChangesOnly}
 use Rattle.heap_core.specs.declared.chunk.Chunk.{Chunk}
@@ -28,14 +28,14 @@ joined_behind (c ∷ pre) new joined = joined_behind pre new joined.2
 pub whole_at : (pre behind : List Chunk) (c : Chunk) → AreJoined (pre ++ (c ∷ behind)) → IsWhole c
 whole_at pre behind c joined = (joined_behind pre (c ∷ behind) joined).1
 
-pub laid_all : (live : Chunk) (len : ℕ) → live.len ≡ len → laid live len ≡ live ∷ []
-laid_all live len e = let none : ltb live.len len ≡ false = le-ltb live.len len (omega arith) in rw none refl
+pub laid_all : (live : Chunk) (len : ℕ) (link : Option ℕ) → live.len ≡ len → laid live len link ≡ live ∷ []
+laid_all live len link e = let none : ltb live.len len ≡ false = le-ltb live.len len (omega arith) in rw none refl
 
-abbrev pub left_over : Chunk → ℕ → Chunk
-left_over live len = record { at = live.at + live.len; len = len - live.len; owner = None; size = 0 }
+abbrev pub left_over : Chunk → ℕ → Option ℕ → Chunk
+left_over live len link = record { at = live.at + live.len; len = len - live.len; owner = None; size = 0; link = link }
 
-pub laid_some : (live : Chunk) (len : ℕ) → live.len < len → laid live len ≡ live ∷ (left_over live len ∷ [])
-laid_some live len h = let some : ltb live.len len ≡ true = lt-ltb live.len len h in rw some refl
+pub laid_some : (live : Chunk) (len : ℕ) (link : Option ℕ) → live.len < len → laid live len link ≡ live ∷ (left_over live len link ∷ [])
+laid_some live len link h = let some : ltb live.len len ≡ true = lt-ltb live.len len h in rw some refl
 
 -- some chunks stand between others, whose headers and bytes did not change
 pub record Spliced (heap : Region) (B B' : List ℕ) (before mid behind : List Chunk) : Type 0 where

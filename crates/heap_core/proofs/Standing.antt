@@ -17,21 +17,21 @@ pub record Around (B : List ℕ) (b end : ℕ) (chunk : Chunk) (chunks : List Ch
   pub back : Tell B b (chunk.at + chunk.len) end behind
   pub fits : chunk.at + chunk.len ≤ end
 
+pub split_at : (B : List ℕ) (b end : ℕ) (chunk : Chunk) (before behind : List Chunk) → Tell B b 0 end (before ++ (chunk ∷ behind))
+    → Tell B b 0 chunk.at before × (chunk_at B b chunk.at ≡ chunk) × (16 + chunk.size ≤ chunk.len) × Tell B b (chunk.at + chunk.len) end behind
+split_at B b end chunk before behind told =
+    let s = told_split B b 0 end before (chunk ∷ behind) told in
+    let at : chunk.at ≡ s.mid = place_told B b s.mid chunk s.back.0 in (
+      subst (λ k. Tell B b 0 k before) (sym at) s.front,
+      ap (chunk_at B b) at ∙ s.back.0,
+      s.back.1,
+      subst (λ k. Tell B b (k + chunk.len) end behind) (sym at) s.back.2,
+    )
+
 pub around_split : (B : List ℕ) (b end : ℕ) (chunk : Chunk) (before behind : List Chunk) → Tell B b 0 end (before ++ (chunk ∷ behind)) → Around B b end chunk (before ++ (chunk ∷ behind))
 around_split B b end chunk before behind told =
-    let s = told_split B b 0 end before (chunk ∷ behind) told in
-    let at : chunk.at ≡ s.mid = place_told B b s.mid chunk s.back.0 in
-    let back : Tell B b (chunk.at + chunk.len) end behind = subst (λ k. Tell B b (k + chunk.len) end behind) (sym at) s.back.2 in
-    record {
-      before = before;
-      behind = behind;
-      is = refl;
-      front = subst (λ k. Tell B b 0 k before) (sym at) s.front;
-      here = ap (chunk_at B b) at ∙ s.back.0;
-      enough = s.back.1;
-      back = back;
-      fits = told_le B b (chunk.at + chunk.len) end behind back;
-    }
+    let s = split_at B b end chunk before behind told in
+    record { before = before; behind = behind; is = refl; front = s.0; here = s.1; enough = s.2; back = s.3; fits = told_le B b (chunk.at + chunk.len) end behind s.3 }
 
 module _ (heap : Region) (B : List ℕ) (chunk : Chunk) where
   pub around : HasChunks heap B → Stands chunk (chunks_of heap B) → Around B heap.span.at heap.footprint chunk (chunks_of heap B)

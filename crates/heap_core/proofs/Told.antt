@@ -10,15 +10,21 @@ use Rattle.arena_core.specs.Written.{written}
 use Rattle.arena_core.proofs.Ranges.{length-written, range-written, range-written_apart, changes_only}
 use Rattle.heap_core.specs.declared.chunk.Chunk.{Chunk}
 use Rattle.heap_core.specs.HeapStore.{Block, header_len}
-use Rattle.heap_core.specs.Code.Chunks.{word_at, owner_in, chunk_at, chunks_from, Tell, with_chunk, blocks_in}
+use Rattle.heap_core.specs.Code.Chunks.{word_at, number_in, chunk_at, chunks_from, Tell, with_chunk, blocks_in}
 
-abbrev pub header : ℕ → List ℕ → List ℕ → List ℕ → Chunk
-header at len owner size =
-    record { at = at; len = from_le_bytes w32 len; owner = owner_in (from_le_bytes w32 owner); size = from_le_bytes w32 size }
+abbrev pub header : ℕ → List ℕ → List ℕ → List ℕ → List ℕ → Chunk
+header at len owner size link =
+    record {
+      at = at;
+      len = from_le_bytes w32 len;
+      owner = number_in (from_le_bytes w32 owner);
+      size = from_le_bytes w32 size;
+      link = number_in (from_le_bytes w32 link);
+    }
 
-pub header_same : (at : ℕ) {u v w u' v' w' : List ℕ} → u ≡ u' → v ≡ v' → w ≡ w' → header at u v w ≡ header at u' v' w'
-header_same at {v = v} {w = w} {u' = u'} {v' = v'} e f g =
-    ap (λ k. header at k v w) e ∙ ap (λ k. header at u' k w) f ∙ ap (λ k. header at u' v' k) g
+pub header_same : (at : ℕ) {u v w x u' v' w' x' : List ℕ} → u ≡ u' → v ≡ v' → w ≡ w' → x ≡ x' → header at u v w x ≡ header at u' v' w' x'
+header_same at {v = v} {w = w} {x = x} {u' = u'} {v' = v'} {w' = w'} e f g h =
+    ap (λ k. header at k v w x) e ∙ ap (λ k. header at u' k w x) f ∙ ap (λ k. header at u' v' k x) g ∙ ap (λ k. header at u' v' w' k) h
 
 pub place_told : (B : List ℕ) (b at : ℕ) (c : Chunk) → chunk_at B b at ≡ c → c.at ≡ at
 unfolding chunk_at
@@ -67,6 +73,7 @@ module _ (B B' : List ℕ) (b s n : ℕ) (changes : ChangesOnly s n B B') where
       (changes.others (b + at) 4 (elim side [ inl low ↦ inl (omega arith) | inr high ↦ inr (omega arith) ]))
       (changes.others (b + at + 4) 4 (sides 4 (omega arith)))
       (changes.others (b + at + 8) 4 (sides 8 (omega arith)))
+      (changes.others (b + at + 12) 4 (sides 12 (omega arith)))
 
   pub told_frame : (x y : ℕ) (l : List Chunk) → (b + y ≤ s) ⊎ (s + n ≤ b + x) → Tell B b x y l → Tell B' b x y l
   told_frame x y [] side t = t
@@ -113,13 +120,17 @@ pub owner_some : (o : Option ℕ) → IsSomeAnd o (λ name. name < 272) → (nam
 owner_some None h = absurd h
 owner_some (Some name) h = (name, refl)
 
-pub chunk_is : (B : List ℕ) (b at len : ℕ) (owner : Option ℕ) (size : ℕ) → len ≡ word_at B (b + at) → owner ≡ owner_in (word_at B (b + at + 4)) → size ≡ word_at B (b + at + 8)
-    → (let chunk : Chunk = record { at = at; len = len; owner = owner; size = size } in chunk) ≡ chunk_at B b at
+abbrev pub chunk_of : ℕ → ℕ → Option ℕ → ℕ → Option ℕ → Chunk
+chunk_of at len owner size link = record { at = at; len = len; owner = owner; size = size; link = link }
+
+pub chunk_is : (B : List ℕ) (b at len : ℕ) (owner : Option ℕ) (size : ℕ) (link : Option ℕ) → len ≡ word_at B (b + at) → owner ≡ number_in (word_at B (b + at + 4)) → size ≡ word_at B (b + at + 8) → link ≡ number_in (word_at B (b + at + 12))
+    → chunk_of at len owner size link ≡ chunk_at B b at
 unfolding chunk_at
-chunk_is B b at len owner size e f g =
-    ap (λ k. let chunk : Chunk = record { at = at; len = k; owner = owner; size = size } in chunk) e
-    ∙ ap (λ k. let chunk : Chunk = record { at = at; len = word_at B (b + at); owner = k; size = size } in chunk) f
-    ∙ ap (λ k. let chunk : Chunk = record { at = at; len = word_at B (b + at); owner = owner_in (word_at B (b + at + 4)); size = k } in chunk) g
+chunk_is B b at len owner size link e f g h =
+    ap (λ k. chunk_of at k owner size link) e
+    ∙ ap (λ k. chunk_of at (word_at B (b + at)) k size link) f
+    ∙ ap (λ k. chunk_of at (word_at B (b + at)) (number_in (word_at B (b + at + 4))) k link) g
+    ∙ ap (λ k. chunk_of at (word_at B (b + at)) (number_in (word_at B (b + at + 4))) (word_at B (b + at + 8)) k) h
 
 pub changes_then : (s n : ℕ) (A B C : List ℕ) → ChangesOnly s n A B → ChangesOnly s n B C → ChangesOnly s n A C
 changes_then s n A B C first second = record {
@@ -134,51 +145,72 @@ changes_more s n t m A B changes low high = record {
 }
 
 -- a header is written
-module _ (B : List ℕ) (b at len word size : ℕ) (inside : b + at + 16 ≤ length B) (small : len < 2 ^ 32) (small' : word < 2 ^ 32) (small'' : size < 2 ^ 32) where
-  abbrev U : List ℕ
-  U = to_le_bytes w32 len
-
-  abbrev V : List ℕ
-  V = to_le_bytes w32 word
-
-  abbrev W : List ℕ
-  W = to_le_bytes w32 size
+module _ (B : List ℕ) (b at len word size next : ℕ) (inside : b + at + 16 ≤ length B) (small : len < 2 ^ 32) (small' : word < 2 ^ 32) (small'' : size < 2 ^ 32) (small_next : next < 2 ^ 32) where
+  abbrev put : List ℕ → ℕ → ℕ → List ℕ
+  put X i n = written X i (to_le_bytes w32 n)
 
   abbrev B1 : List ℕ
-  B1 = written B (b + at) U
+  B1 = put B (b + at) len
 
   abbrev B2 : List ℕ
-  B2 = written B1 (b + at + 4) V
+  B2 = put B1 (b + at + 4) word
 
   abbrev B3 : List ℕ
-  B3 = written B2 (b + at + 8) W
+  B3 = put B2 (b + at + 8) size
+
+  abbrev B4 : List ℕ
+  B4 = put B3 (b + at + 12) next
 
   long1 : length B1 ≡ length B
-  long1 = length-written B (b + at) U
+  long1 = length-written B (b + at) (to_le_bytes w32 len)
 
   long2 : length B2 ≡ length B
-  long2 = length-written B1 (b + at + 4) V ∙ long1
+  long2 = length-written B1 (b + at + 4) (to_le_bytes w32 word) ∙ long1
 
-  read : (X : List ℕ) (i n : ℕ) → i + 4 ≤ length X → n < 2 ^ 32 → word_at (written X i (to_le_bytes w32 n)) i ≡ n
+  long3 : length B3 ≡ length B
+  long3 = length-written B2 (b + at + 8) (to_le_bytes w32 size) ∙ long2
+
+  read : (X : List ℕ) (i n : ℕ) → i + 4 ≤ length X → n < 2 ^ 32 → word_at (put X i n) i ≡ n
   read X i n fits less = ap (from_le_bytes w32) (range-written X i (to_le_bytes w32 n) fits) ∙ from_le_bytes-to_le_bytes_4 n less
 
-  apart : (X : List ℕ) (i n j : ℕ) → i + 4 ≤ length X → (j + 4 ≤ i) ⊎ (i + 4 ≤ j) → word_at (written X i (to_le_bytes w32 n)) j ≡ word_at X j
+  apart : (X : List ℕ) (i n j : ℕ) → i + 4 ≤ length X → (j + 4 ≤ i) ⊎ (i + 4 ≤ j) → word_at (put X i n) j ≡ word_at X j
   apart X i n j fits side = ap (from_le_bytes w32) (range-written_apart X i (to_le_bytes w32 n) fits j 4 side)
 
-  pub header_written : (owner : Option ℕ) → owner_in word ≡ owner → chunk_at B3 b at ≡ (let chunk : Chunk = record { at = at; len = len; owner = owner; size = size } in chunk)
-  header_written owner e =
-      let l1 = long1 in let l2 = long2 in
-      sym (chunk_is B3 b at len owner size
-      (sym (apart B2 (b + at + 8) size (b + at) (omega arith) (inl (omega arith)) ∙ apart B1 (b + at + 4) word (b + at) (omega arith) (inl (omega arith)) ∙ read B (b + at) len (omega arith) small))
-      (sym e ∙ ap owner_in (sym (apart B2 (b + at + 8) size (b + at + 4) (omega arith) (inl (omega arith)) ∙ read B1 (b + at + 4) word (omega arith) small')))
-      (sym (read B2 (b + at + 8) size (omega arith) small'')))
+  first : word_at B4 (b + at) ≡ len
+  first =
+      let l1 = long1 in let l2 = long2 in let l3 = long3 in
+      apart B3 (b + at + 12) next (b + at) (omega arith) (inl (omega arith))
+      ∙ apart B2 (b + at + 8) size (b + at) (omega arith) (inl (omega arith))
+      ∙ apart B1 (b + at + 4) word (b + at) (omega arith) (inl (omega arith))
+      ∙ read B (b + at) len (omega arith) small
 
-  pub header_changes : ChangesOnly (b + at) 16 B B3
+  second : word_at B4 (b + at + 4) ≡ word
+  second =
+      let l1 = long1 in let l2 = long2 in let l3 = long3 in
+      apart B3 (b + at + 12) next (b + at + 4) (omega arith) (inl (omega arith))
+      ∙ apart B2 (b + at + 8) size (b + at + 4) (omega arith) (inl (omega arith))
+      ∙ read B1 (b + at + 4) word (omega arith) small'
+
+  third : word_at B4 (b + at + 8) ≡ size
+  third =
+      let l1 = long1 in let l2 = long2 in let l3 = long3 in
+      apart B3 (b + at + 12) next (b + at + 8) (omega arith) (inl (omega arith))
+      ∙ read B2 (b + at + 8) size (omega arith) small''
+
+  fourth : word_at B4 (b + at + 12) ≡ next
+  fourth = let l3 = long3 in read B3 (b + at + 12) next (omega arith) small_next
+
+  pub header_written : (owner link : Option ℕ) → number_in word ≡ owner → number_in next ≡ link → chunk_at B4 b at ≡ chunk_of at len owner size link
+  header_written owner link e f =
+      sym (chunk_is B4 b at len owner size link (sym first) (sym e ∙ ap number_in (sym second)) (sym third) (sym f ∙ ap number_in (sym fourth)))
+
+  pub header_changes : ChangesOnly (b + at) 16 B B4
   header_changes =
-      let l1 = long1 in let l2 = long2 in
-      changes_then (b + at) 16 B B1 B3 (changes_only B (b + at) U (omega arith) (b + at) 16 (omega arith) (omega arith))
-      (changes_then (b + at) 16 B1 B2 B3 (changes_only B1 (b + at + 4) V (omega arith) (b + at) 16 (omega arith) (omega arith))
-      (changes_only B2 (b + at + 8) W (omega arith) (b + at) 16 (omega arith) (omega arith)))
+      let l1 = long1 in let l2 = long2 in let l3 = long3 in
+      changes_then (b + at) 16 B B1 B4 (changes_only B (b + at) (to_le_bytes w32 len) (omega arith) (b + at) 16 (omega arith) (omega arith))
+      (changes_then (b + at) 16 B1 B2 B4 (changes_only B1 (b + at + 4) (to_le_bytes w32 word) (omega arith) (b + at) 16 (omega arith) (omega arith))
+      (changes_then (b + at) 16 B2 B3 B4 (changes_only B2 (b + at + 8) (to_le_bytes w32 size) (omega arith) (b + at) 16 (omega arith) (omega arith))
+      (changes_only B3 (b + at + 12) (to_le_bytes w32 next) (omega arith) (b + at) 16 (omega arith) (omega arith))))
 
 -- bytes that change behind a header
 pub told_body : (B B' : List ℕ) (b x y n : ℕ) (c : Chunk) (l : List Chunk) → ChangesOnly (b + x + 16) n B B' → 16 + n ≤ c.len → Tell B b x y (c ∷ l) → Tell B' b x y (c ∷ l)

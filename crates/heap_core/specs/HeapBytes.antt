@@ -4,13 +4,14 @@ use Rattle.arena_core.specs.Contents.{Contents}
 use Rattle.arena_core.specs.Outside.{ChangesOnly}
 use Rattle.heap_core.specs.declared.heap.Heap.{Heap}
 use Rattle.heap_core.specs.HeapStore.{HeapStore, has_name}
-use Rattle.heap_core.specs.Code.Chunks.{blocks_in}
-use Rattle.heap_core.specs.Code.Layout.{chunks_of, HasChunks}
+use Rattle.heap_core.specs.Code.Chunks.{is_named}
+use Rattle.heap_core.specs.Code.Layout.{store_of, HasChunks}
+use Rattle.heap_core.specs.Code.Links.{GapsLinked, FreedLinked}
 use Rattle.heap_core.specs.Code.Places.{ArePlaced}
 
--- the blocks and where they lie. Of the arena's bytes it reads the span's alone
+-- The live blocks and where they lie; a chunk that was freed is none of them. Of the arena's bytes it reads the span's alone.
 abbrev pub heap_of : Heap → List ℕ → HeapStore
-heap_of heap bytes = record { size = heap.span.len; blocks = blocks_in bytes heap.span.at (chunks_of heap bytes) }
+heap_of heap bytes = record { size = heap.span.len; blocks = filter is_named (store_of heap bytes).blocks }
 
 -- the heap's span lies in these bytes
 abbrev pub IsWithin : Heap → List ℕ → Type 0
@@ -22,6 +23,12 @@ pub record IsLaidOut (heap : Heap) (bytes : List ℕ) : Type 0 where
   -- no name has two blocks
   pub named : (name : ℕ) → length (filter (has_name name) (heap_of heap bytes).blocks) ≤ 1
   pub places : ArePlaced heap.places (heap_of heap bytes)
+  pub gaps : GapsLinked heap bytes
+  pub freed : FreedLinked heap bytes
+
+-- how many chunks the free list has: those that were freed and are not joined yet, and behind them the gaps
+abbrev pub linked_of : Heap → ℕ
+linked_of heap = heap.freed + heap.gaps
 
 -- the heap keeps its span, and of the arena only bytes of that span changed
 pub record KeepsToSpan (old new : Heap) (old_arena new_arena : Contents) : Type 0 where

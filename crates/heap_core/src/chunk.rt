@@ -1,12 +1,16 @@
 //! Chunks and gaps, and which gap a block takes how much of.
 
-ghost use Rattle.std.specs.Prelude.{◌≡◌, ◌≤◌, ◌<◌, IfSome, is_none, is_some};
+ghost use Rattle.std.specs.Prelude.{◌≡◌, ◌≤◌, ◌<◌, IfSome, is_none};
 ghost use Rattle.mote_types.specs.Rounding.{up4};
 ghost use Rattle.heap_core.specs.HeapStore.{room_taken, better};
-ghost use Rattle.heap_core.specs.Code.Chunks.{owner_in};
+ghost use Rattle.heap_core.specs.Code.Chunks.{number_in};
+ghost use Rattle.heap_core.specs.Code.Links.{is_a_name};
 
 /// The length of a header. It precedes each chunk's bytes.
 pub(crate) const HEADER: u32 = 16;
+
+/// The owner of a chunk that was freed and is not joined yet. No name has that number.
+pub(crate) const FREED: u32 = 272;
 
 /// The longest rest of a gap that a block takes along.
 const LONGEST_REST: u32 = 16;
@@ -17,10 +21,12 @@ pub struct Chunk {
     pub at: u32,
     /// With its header.
     pub len: u32,
-    /// The number of the block's name. A gap has none.
+    /// The number of the block's name, or `FREED`. A gap has none.
     pub owner: Option<u32>,
     /// How many bytes the block was asked for, 0 for a gap.
     pub size: u32,
+    /// The place of the next chunk in the list that a free chunk is in. A live block has none.
+    pub link: Option<u32>,
 }
 
 /// A run of the region that no block covers.
@@ -78,25 +84,28 @@ pub(crate) fn is_gap(chunk: Chunk) -> bool
 
 /// Whether a chunk is a live block.
 pub(crate) fn is_live(chunk: Chunk) -> bool
-    ensures { result ≡ is_some chunk.owner }
+    ensures { result ≡ is_a_name chunk.owner }
 {
-    chunk.owner.is_some()
+    match chunk.owner {
+        Some(name) => name < FREED,
+        None => false,
+    }
 }
 
-/// The word for a chunk's owner.
-pub(crate) fn word_of(owner: Option<u32>) -> u32
-    requires { IfSome owner (λ name. name < 65536) }
-    ensures { owner_in result ≡ owner }
+/// The word for an owner or a link.
+pub(crate) fn word_of(number: Option<u32>) -> u32
+    requires { IfSome number (λ n. n < 65536) }
+    ensures { number_in result ≡ number }
 {
-    match owner {
-        Some(name) => name + 1,
+    match number {
+        Some(n) => n + 1,
         None => 0,
     }
 }
 
-/// The owner that a word tells.
-pub(crate) fn owner_in(word: u32) -> Option<u32>
-    ensures { result ≡ owner_in word }
+/// The owner or the link that a word tells.
+pub(crate) fn number_in(word: u32) -> Option<u32>
+    ensures { result ≡ number_in word }
 {
     if word == 0 { None } else { Some(word - 1) }
 }

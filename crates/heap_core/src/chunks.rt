@@ -1,7 +1,6 @@
 //! The chunks of a region, one after the other.
 
 ghost use Rattle.std.specs.Prelude.{◌≡◌};
-ghost use Rattle.heap_core.specs.Code.Walks.{Stands, chunks_before};
 
 use crate::chunk::Chunk;
 use crate::region::Region;
@@ -64,20 +63,6 @@ impl Region {
             arena,
             at: 0,
             end: self.footprint,
-        }
-    }
-
-    /// The chunks below another one.
-    pub(crate) fn chunks_below<'a>(&'a self, arena: &'a Arena, chunk: Chunk) -> Chunks<'a>
-        requires chunks { HasChunks self.now arena.now.bytes }
-        requires stands { Stands chunk (chunks_of self.now arena.now.bytes) }
-        ensures { result ≡ chunks_before self.now arena.now.bytes chunk.at }
-    {
-        Chunks {
-            region: self,
-            arena,
-            at: 0,
-            end: chunk.at,
         }
     }
 }

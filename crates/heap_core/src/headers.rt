@@ -6,7 +6,7 @@ ghost use Rattle.mote_types.specs.Bytes.{resized};
 ghost use Rattle.heap_core.specs.Code.Chunks.{chunk_at};
 ghost use Rattle.heap_core.specs.Code.Walks.{bytes_in_chunk, bytes_given};
 
-use crate::chunk::{Chunk, HEADER, owner_in, word_of};
+use crate::chunk::{Chunk, HEADER, number_in, word_of};
 use crate::region::Region;
 use arena_core::{Arena, Span};
 
@@ -23,8 +23,9 @@ impl Region {
         Chunk {
             at,
             len: arena.word(header),
-            owner: owner_in(arena.word(header + 4)),
+            owner: number_in(arena.word(header + 4)),
             size: arena.word(header + 8),
+            link: number_in(arena.word(header + 12)),
         }
     }
 
@@ -45,6 +46,7 @@ impl Region {
         requires within { IsWithin self.now arena.old.bytes }
         requires inside { chunk.at + 16 ≤ self.now.span.len }
         requires owner { IfSome chunk.owner (λ name. name < 65536) }
+        requires link { IfSome chunk.link (λ place. place < 65536) }
         ensures chunk { chunk_at arena.new.bytes self.now.span.at chunk.at ≡ chunk }
         ensures others { ChangesOnly (self.now.span.at + chunk.at) 16 arena.old.bytes arena.new.bytes }
         ensures carved { arena.new.carved ≡ arena.old.carved }
@@ -53,6 +55,7 @@ impl Region {
         arena.put_word(header, chunk.len);
         arena.put_word(header + 4, word_of(chunk.owner));
         arena.put_word(header + 8, chunk.size);
+        arena.put_word(header + 12, word_of(chunk.link));
     }
 
     /// Writes zeros over a live block's bytes from `from` on, where there are so many.

@@ -27,7 +27,7 @@ impl Model for Heap {
 }
 
 impl Heap {
-    ghost use Rattle.heap_core.specs.HeapBytes.{heap_of, IsWithin, IsLaidOut, KeepsToSpan};
+    ghost use Rattle.heap_core.specs.HeapBytes.{heap_of, IsWithin, IsLaidOut, linked_of, KeepsToSpan};
     ghost use Rattle.heap_core.specs.Separation.{BlocksLieApart};
 
     /// A heap without a block, over a span of 20 to 65,536 bytes, a multiple of 4. These bytes may be anything.
@@ -42,23 +42,29 @@ impl Heap {
                 span,
                 footprint: 0,
                 places: [None; NAMES],
+                newest: None,
+                freed: 0,
+                lowest: None,
+                gaps: 0,
             },
         }
     }
 
     /// Gives a name that is not live a block of `n` bytes, all 0 (`heapmem_alloc`). `None` exactly where no gap takes the
-    /// block with its header; then nothing changes.
+    /// block with its header; then every block stays as it is. Joins what was freed first.
     pub fn alloc(&mut self, arena: &mut Arena, key: Key, n: u32) -> Option<()>
         requires named { IsName key.0.0 key.1 }
         requires laid_out { IsLaidOut self.old arena.old.bytes }
         requires unused { block_of key.0.0 key.1 (heap_of self.old arena.old.bytes) ≡ None }
         requires some_bytes { 1 ≤ n }
         ensures refused { IsNone result ↔ (place n (heap_of self.old arena.old.bytes) ≡ None) }
-        ensures unchanged { IfNone result ((self.new ≡ self.old) × (arena.new ≡ arena.old)) }
+        ensures unchanged { IfNone result (heap_of self.new arena.new.bytes ≡ heap_of self.old arena.old.bytes) }
         ensures block { OnSome result (allocated key.0.0 key.1 n (heap_of self.old arena.old.bytes) ≡ Some (heap_of self.new arena.new.bytes)) }
         ensures laid_out { IsLaidOut self.new arena.new.bytes }
+        ensures linked { linked_of self.new ≡ length (gaps (heap_of self.new arena.new.bytes)) }
         ensures rest { KeepsToSpan self.old self.new arena.old arena.new }
     {
+        self.region.join(arena);
         let place = self.region.place(arena, n)?;
         let name = number_of(key);
         self.region.settle(arena, place, name as u32, n, None);
@@ -67,19 +73,21 @@ impl Heap {
     }
 
     /// Resizes a name's block to `n` bytes (`heapmem_realloc`): the first bytes stay, as many as both lengths have, and
-    /// further ones are 0. `None` exactly where there is no place for it; then nothing changes.
+    /// further ones are 0. `None` exactly where there is no place for it; then every block stays as it is. Joins what was
+    /// freed first.
     pub fn realloc(&mut self, arena: &mut Arena, key: Key, n: u32) -> Option<()>
         requires named { IsName key.0.0 key.1 }
         requires laid_out { IsLaidOut self.old arena.old.bytes }
         requires live { IsSome (block_of key.0.0 key.1 (heap_of self.old arena.old.bytes)) }
         requires some_bytes { 1 ≤ n }
         ensures refused { IsNone result ↔ (reallocated key.0.0 key.1 n (heap_of self.old arena.old.bytes) ≡ None) }
-        ensures unchanged { IfNone result ((self.new ≡ self.old) × (arena.new ≡ arena.old)) }
+        ensures unchanged { IfNone result (heap_of self.new arena.new.bytes ≡ heap_of self.old arena.old.bytes) }
         ensures block { OnSome result (reallocated key.0.0 key.1 n (heap_of self.old arena.old.bytes) ≡ Some (heap_of self.new arena.new.bytes)) }
         ensures laid_out { IsLaidOut self.new arena.new.bytes }
         ensures rest { KeepsToSpan self.old self.new arena.old arena.new }
     {
         let name = number_of(key);
+        self.region.join(arena);
         let chunk = self.region.live_chunk(arena, name as u32);
         let Some(room) = self.region.room_in_place(arena, chunk, n) else {
             let at = self.region.relocate(arena, chunk, name as u32, n)?;
@@ -90,18 +98,19 @@ impl Heap {
         Some(())
     }
 
-    /// Takes a name's block away (`heapmem_free`).
+    /// Takes a name's block away (`heapmem_free`). Its chunk is linked to the one that was freed before it, and joined later.
     pub fn free(&mut self, arena: &mut Arena, key: Key)
         requires named { IsName key.0.0 key.1 }
         requires laid_out { IsLaidOut self.old arena.old.bytes }
         requires live { IsSome (block_of key.0.0 key.1 (heap_of self.old arena.old.bytes)) }
         ensures block { heap_of self.new arena.new.bytes ≡ freed key.0.0 key.1 (heap_of self.old arena.old.bytes) }
+        ensures linked { linked_of self.new ≡ linked_of self.old + 1 }
         ensures laid_out { IsLaidOut self.new arena.new.bytes }
         ensures rest { KeepsToSpan self.old self.new arena.old arena.new }
     {
         let name = number_of(key);
         let chunk = self.region.live_chunk(arena, name as u32);
-        self.region.release(arena, chunk);
+        self.region.set_aside(arena, chunk);
         self.region.places[name] = None;
     }
 
@@ -140,6 +149,14 @@ impl Heap {
         ensures { result ≡ stats_of (heap_of self.now arena.now.bytes) }
     {
         self.region.stats(arena)
+    }
+
+    /// The length of the free list: the chunks that were freed and are not joined yet, and behind them the gaps. `free` adds 1
+    /// to it; after each `alloc`, refused or not, it is the number of gaps below the top gap.
+    pub fn linked(&self) -> u32
+        ensures { result ≡ linked_of self.now }
+    {
+        self.region.freed as u32 + self.region.gaps as u32
     }
 
     /// The length of a name's block, as it was asked for, if it is live.

@@ -1,12 +1,14 @@
 //! Heap memory: blocks of any size over one region, after `heapmem.h` of Contiki-NG.
 //!
-//! A block stays where it is until it is freed or resized. The region is divided into chunks, which are live blocks and gaps;
-//! each begins with a header, and a search walks the chunks from the lowest on. Above the last block lies the top gap, which
-//! has no header.
+//! A block stays where it is until it is freed or resized. The region is divided into chunks, each with a header: live blocks,
+//! chunks that were freed, and gaps. `free` only links its chunk, in front of those freed before; the next call that searches
+//! joins them, the newest first, with the gaps beside them or with the top gap, which lies above the last chunk and has no header.
+//! The gaps are linked too, from the lowest on, and a search follows these links.
 #![tactic(auto)]
 
 mod chunk;
 mod chunks;
+mod gap_list;
 mod headers;
 mod heap;
 mod layout;

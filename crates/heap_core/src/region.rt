@@ -14,6 +14,14 @@ pub struct Region {
     pub footprint: u32,
     /// For each name that is live the place of its chunk, by the name's number.
     pub places: [Option<u32>; NAMES],
+    /// The chunk that was freed last, of those that are not joined yet. Each is linked to the one freed before it.
+    pub newest: Option<u32>,
+    /// How many these are.
+    pub freed: u16,
+    /// The lowest gap. Each is linked to the next higher one.
+    pub lowest: Option<u32>,
+    /// How many gaps there are.
+    pub gaps: u16,
     pub ghost small: { span.len ≤ 65536 },
     pub ghost inside: { footprint ≤ span.len },
 }

@@ -10,7 +10,8 @@ use arena_core::Arena;
 use mote_types::reply::HeapStats;
 
 impl Region {
-    ghost use Rattle.heap_core.specs.Code.Layout.{chunks_of, HasChunks};
+    ghost use Rattle.heap_core.specs.Code.Layout.{chunks_of, store_of, HasChunks};
+    ghost use Rattle.heap_core.specs.Code.Links.{LinkedTo};
     ghost use Rattle.heap_core.specs.HeapBytes.{heap_of, IsLaidOut};
 
     /// The chunk of a name's block.
@@ -37,36 +38,37 @@ impl Region {
 
     /// The shortest gap below the top gap that has `need` bytes, the lowest on a tie.
     pub(crate) fn best_gap(&self, arena: &Arena, need: u64) -> Option<Gap>
-        requires { HasChunks self.now arena.now.bytes }
-        ensures { result ≡ best_gap need (gaps (heap_of self.now arena.now.bytes)) }
+        requires chunks { HasChunks self.now arena.now.bytes }
+        requires linked { LinkedTo self.now.lowest (chunks_of self.now arena.now.bytes) None }
+        ensures { result ≡ best_gap need (gaps (store_of self.now arena.now.bytes)) }
     {
         let mut best = None;
-        for chunk in self.chunks(arena) {
-            if is_gap(chunk) {
-                best = better(
-                    need,
-                    best,
-                    Gap {
-                        at: chunk.at,
-                        len: chunk.len,
-                    },
-                );
-            }
+        for gap in self.all_gaps(arena) {
+            best = better(
+                need,
+                best,
+                Gap {
+                    at: gap.at,
+                    len: gap.len,
+                },
+            );
         }
         best
     }
 
-    /// What the chunks take.
+    /// What the live blocks take, and what is left of the span.
     pub(crate) fn stats(&self, arena: &Arena) -> HeapStats
         requires { HasChunks self.now arena.now.bytes }
         ensures { result ≡ stats_of (heap_of self.now arena.now.bytes) }
     {
         let mut allocated = 0;
         let mut chunks = 0;
+        let mut footprint = 0;
         for chunk in self.chunks(arena) {
             if is_live(chunk) {
                 allocated += chunk.len - HEADER;
                 chunks += 1;
+                footprint = chunk.at + chunk.len;
             }
         }
         let overhead = HEADER * chunks;
@@ -74,15 +76,16 @@ impl Region {
             allocated,
             overhead,
             available: self.span.len - allocated - overhead,
-            footprint: self.footprint,
+            footprint,
             chunks,
         }
     }
 
     /// Where a block of `n` bytes goes.
     pub(crate) fn place(&self, arena: &Arena, n: u32) -> Option<Place>
-        requires { HasChunks self.now arena.now.bytes }
-        ensures { result ≡ place n (heap_of self.now arena.now.bytes) }
+        requires chunks { HasChunks self.now arena.now.bytes }
+        requires linked { LinkedTo self.now.lowest (chunks_of self.now arena.now.bytes) None }
+        ensures { result ≡ place n (store_of self.now arena.now.bytes) }
     {
         let room = rounded(n);
         let need = HEADER as u64 + room;
@@ -102,18 +105,14 @@ impl Region {
     /// Where the free bytes begin that end where a chunk begins.
     pub(crate) fn free_before(&self, arena: &Arena, chunk: Chunk) -> u32
         requires chunks { HasChunks self.now arena.now.bytes }
+        requires linked { LinkedTo self.now.lowest (chunks_of self.now arena.now.bytes) None }
         requires stands { Stands chunk (chunks_of self.now arena.now.bytes) }
         ensures { result ≡ free_from (chunks_before self.now arena.now.bytes chunk.at) }
     {
-        let mut from = 0;
-        for other in self.chunks_below(arena, chunk) {
-            from = if is_gap(other) {
-                other.at
-            } else {
-                other.at + other.len
-            };
+        match self.gap_below(arena, chunk.at) {
+            Some(gap) if gap.at + gap.len == chunk.at => gap.at,
+            _ => chunk.at,
         }
-        from
     }
 
     /// The length of the gap below the top gap that is directly behind a chunk, 0 where there is none.
@@ -135,7 +134,7 @@ impl Region {
         requires chunks { HasChunks self.now arena.now.bytes }
         requires stands { Stands chunk (chunks_of self.now arena.now.bytes) }
         requires live { chunk.owner ≢ None }
-        ensures { result ≡ room_in_place (place_in_chunk chunk) n (heap_of self.now arena.now.bytes) }
+        ensures { result ≡ room_in_place (place_in_chunk chunk) n (store_of self.now arena.now.bytes) }
     {
         let least = rounded(n);
         let room = chunk.len - HEADER;

@@ -17,3 +17,6 @@ place_taken k new room more = grind (arith, places_of k, places_of new, room, mo
 
 pub no_place : (k : KernelFields) → has_room k.scheduler.state ≡ false → free_places (machine_of k) ≡ 0
 no_place k full = grind (arith, places_of k, full)
+
+pub room_of : (k : KernelFields) → has_room (machine_of k).scheduler ≡ has_room k.scheduler.state
+room_of k = grind (arith, places_of k)

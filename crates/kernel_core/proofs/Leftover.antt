@@ -1,14 +1,17 @@
 -- Where something is left that was to be posted, every free place of the queue was taken.
-use Rattle.std.proofs.Common.{◌≡◌, ℕ, zero, suc, ◌+◌, ◌-◌, Bool, true, false, cond, List, ◌∷◌, [], ◌++◌, length, refl, ap, sym, ◌∙◌, arith, Option, Some, None}
+use Rattle.std.proofs.Common.{◌≡◌, ℕ, zero, suc, ◌+◌, Bool, true, false, List, ◌∷◌, [], ◌++◌, length, refl, ap, sym, ◌∙◌, arith, Option, Some, None}
 use Rattle.std.specs.Prelude.{is_some, if◌then◌else◌}
 use Rattle.mote_types.specs.Codes.{number_event}
 use Rattle.mote_types.specs.declared.event.TheConstants.{PACKET}
 use Rattle.process_core.specs.Agenda.{Queued}
 use Rattle.process_core.specs.Scheduler.{has_room}
+use Rattle.kernel_core.specs.declared.fields.KernelFields.{KernelFields}
 use Rattle.kernel_core.specs.Machine.{Machine, free_places, mark}
+use Rattle.kernel_core.specs.Code.View.{machine_of}
+use Rattle.kernel_core.proofs.FreePlaces.{room_of}
 use Rattle.kernel_core.specs.Repeating.{times}
 use Rattle.kernel_core.specs.TimerProcesses.{expiry_of, post_first_due, is_any_due, post_due}
-use Rattle.kernel_core.specs.PacketProcess.{announce_next, announce_to, has_news, announce}
+use Rattle.kernel_core.specs.PacketProcess.{announce_next, has_news, announce}
 use Rattle.device_core.specs.PacketQueue.{unannounced}
 use Rattle.timer_core.specs.Timers.{first_due}
 use Rattle.timer_core.specs.declared.timer.Timer.{Timer}
@@ -64,6 +67,19 @@ post_due_at after false e is_full left = is_full left
 
 pub due_or_full : (m : Machine) → is_any_due (post_due m) ≡ true → has_room (post_due m).scheduler ≡ false
 due_or_full m = post_due_at (times (free_places m) post_first_due m) _ refl (full post_first_due is_any_due due_takes due_stops m)
+
+-- where a place is free, nothing due is left
+pub posted_all : (m : Machine) (k : KernelFields) → machine_of k ≡ times (free_places m) post_first_due m → has_room k.scheduler.state ≡ true
+    → machine_of k ≡ post_due m
+posted_all m k same room = at_due (is_any_due (times (free_places m) post_first_due m)) refl
+  where
+    at_due : (b : Bool) → is_any_due (times (free_places m) post_first_due m) ≡ b → machine_of k ≡ post_due m
+    at_due true e =
+        let is_full = full post_first_due is_any_due due_takes due_stops m e in
+        let is_free : has_room (times (free_places m) post_first_due m).scheduler ≡ true =
+        sym (ap (λ (after : Machine). has_room after.scheduler) same) ∙ (room_of k ∙ room) in
+        absurd (cc)
+    at_due false e = same ∙ rw e refl
 
 abbrev is_news : Machine → Bool
 is_news m = has_news m.packets

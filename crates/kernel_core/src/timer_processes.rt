@@ -80,6 +80,10 @@ impl KernelFields {
         ensures draws { debt self.new ≡ debt self.old }
     {
         self.post_while_room();
+        // Where the queue still has room, nothing due is left.
+        if self.scheduler.has_room() {
+            return;
+        }
         if self.timers.any_due(self.clock) {
             self.scheduler.mark(ETIMER);
         }

@@ -40,8 +40,12 @@ impl Unshown {
         ensures left { result ≡ None → self.new ≡ none_unshown }
         ensures kind { IfSome result (λ entry. is_halt entry ≡ false) }
     {
-        if let Some(input) = self.input.take() {
-            return Some(Entry::Input(input));
+        // A take copies the whole place, also where nothing is there.
+        if self.input.is_some() {
+            return self.input.take().map(|input| Entry::Input(input));
+        }
+        if self.note.is_none() {
+            return None;
         }
         self.note.take().map(|note| Entry::Note(note))
     }

@@ -1,107 +1,33 @@
-//! What the applications answer, turn by turn.
+//! What applications answer to stimuli that no whole run gives them, and their names.
 
 use arrayvec::ArrayVec;
-use mote_apps::blink::Blink;
 use mote_apps::bundled::Bundled;
-use mote_apps::churn::Churn;
-use mote_apps::echo::Echo;
-use mote_apps::hello::Hello;
-use mote_apps::ping::Ping;
-use mote_apps::relay::Relay;
-use mote_apps::steps::Steps;
+use mote_text::line::LineBuf;
+use mote_text::transcript::entry_text;
 use mote_types::app::App;
-use mote_types::call::Call;
-use mote_types::event::{EXIT, Event, INIT, PACKET, Payload, SERIAL_LINE, Stimulus, TIMER};
+use mote_types::entry::Entry;
+use mote_types::event::{EXIT, Event, INIT, Origin, PACKET, Payload, Pid, SERIAL_LINE, Stimulus};
 use mote_types::refusal::Refusal;
-use mote_types::reply::{HeapStats, Reply};
+use mote_types::reply::Reply;
 use std::process::Abort;
-
-fn event(code: u8) -> Stimulus {
-    Stimulus::Event(Event {
-        code,
-        payload: Payload::Empty,
-    })
-}
-
-#[test]
-fn hello_greets_at_its_start_alone(rt: HostRuntime) {
-    let mut hello = Hello;
-    let greets = match hello.turn(&event(INIT)) {
-        Call::Print(text) => text.as_slice() == b"hi\n".as_slice(),
-        _ => false,
-    };
-    assert!(rt; greets);
-    assert!(rt; matches!(hello.turn(&Stimulus::Answer(Reply::Done)), Call::Wait));
-    assert!(rt; matches!(hello.turn(&event(EXIT)), Call::Wait));
-}
-
-#[test]
-fn steps_answers_each_call_once(rt: HostRuntime) {
-    let mut steps = Steps::new([Call::Clock, Call::Poll(5)]);
-    assert!(rt; matches!(steps.turn(&event(INIT)), Call::Clock));
-    assert!(rt; matches!(steps.turn(&Stimulus::Answer(Reply::Wide(7))), Call::Poll(5)));
-    assert!(rt; matches!(steps.turn(&event(EXIT)), Call::Wait));
-    assert!(rt; matches!(steps.turn(&event(EXIT)), Call::Wait));
-}
-
-/// Whether the call prints this text.
-fn prints(call: Call, expected: &[u8]) -> bool {
-    match call {
-        Call::Print(text) => text.as_slice() == expected,
-        _ => false,
-    }
-}
-
-#[test]
-fn blink_turns_its_light_on_and_off(rt: HostRuntime) {
-    let mut blink = Blink::new();
-    assert!(rt; matches!(blink.turn(&event(INIT)), Call::TimerSet(0, 10)));
-    assert!(rt; matches!(blink.turn(&Stimulus::Answer(Reply::Done)), Call::Wait));
-    assert!(rt; prints(blink.turn(&event(TIMER)), b"on\n"));
-    assert!(rt;
-        matches!(
-            blink.turn(&Stimulus::Answer(Reply::Done)),
-            Call::TimerReset(0)
-        )
-    );
-    assert!(rt; matches!(blink.turn(&Stimulus::Answer(Reply::Done)), Call::Wait));
-    assert!(rt; prints(blink.turn(&event(TIMER)), b"off\n"));
-}
-
-#[test]
-fn ping_counts_under_its_own_number(rt: HostRuntime) {
-    let mut ping = Ping::new();
-    assert!(rt; matches!(ping.turn(&event(INIT)), Call::AllocEvent));
-    assert!(rt;
-        matches!(
-            ping.turn(&Stimulus::Answer(Reply::Num(140))),
-            Call::TimerSet(0, 5)
-        )
-    );
-    assert!(rt; matches!(ping.turn(&Stimulus::Answer(Reply::Done)), Call::Wait));
-    assert!(rt;
-        matches!(
-            ping.turn(&event(TIMER)),
-            Call::Broadcast(140, Payload::Num(0))
-        )
-    );
-    assert!(rt;
-        matches!(
-            ping.turn(&Stimulus::Answer(Reply::Done)),
-            Call::TimerReset(0)
-        )
-    );
-    let count = Stimulus::Event(Event {
-        code: 140,
-        payload: Payload::Num(0),
-    });
-    assert!(rt; prints(ping.turn(&count), b"0\n"));
-}
+use std::test::Fail;
 
 fn bytes<const N: usize>(bytes: &[u8]) -> ArrayVec<u8, N> {
     let mut all = ArrayVec::new();
     let _ = all.try_extend_from_slice(bytes);
     all
+}
+
+fn event(code: u8, payload: Payload) -> Stimulus {
+    Stimulus::Event(Event { code, payload })
+}
+
+fn line(line: &[u8]) -> Stimulus {
+    event(SERIAL_LINE, Payload::Line(bytes(line)))
+}
+
+fn frame(len: u32) -> Stimulus {
+    event(PACKET, Payload::Num(len))
 }
 
 fn done() -> Stimulus {
@@ -112,219 +38,181 @@ fn refused(refusal: Refusal) -> Stimulus {
     Stimulus::Answer(Reply::Refused(refusal))
 }
 
-fn number(number: u32) -> Stimulus {
-    Stimulus::Answer(Reply::Num(number))
-}
-
-fn given(read: &[u8]) -> Stimulus {
-    Stimulus::Answer(Reply::Bytes(bytes(read)))
-}
-
-fn line(line: &[u8]) -> Stimulus {
-    Stimulus::Event(Event {
-        code: SERIAL_LINE,
-        payload: Payload::Line(bytes(line)),
-    })
-}
-
-fn frame(len: u32) -> Stimulus {
-    Stimulus::Event(Event {
-        code: PACKET,
-        payload: Payload::Num(len),
-    })
-}
-
-/// Whether the call writes these bytes from there on into the block of handle 0.
-fn writes(call: Call, place: u32, expected: &[u8]) -> bool {
-    match call {
-        Call::MmemWrite(0, at, chunk) => at == place && chunk.as_slice() == expected,
-        _ => false,
-    }
-}
-
-#[test]
-fn echo_prints_each_line(rt: HostRuntime) {
-    let mut echo = Echo::new();
-    assert!(rt; matches!(echo.turn(&event(INIT)), Call::Wait));
-    assert!(rt; prints(echo.turn(&line(b"hi")), b"hi"));
-    assert!(rt; matches!(echo.turn(&done()), Call::Wait));
-    assert!(rt; prints(echo.turn(&line(b"")), b""));
-    assert!(rt; matches!(echo.turn(&done()), Call::Wait));
-}
-
-#[test]
-fn echo_prints_a_long_line_by_two_prints(rt: HostRuntime) {
-    let mut echo = Echo::new();
-    assert!(rt; prints(echo.turn(&line(&[b'a'; 127])), &[b'a'; 64]));
-    assert!(rt; matches!(echo.turn(&Stimulus::Callback(0)), Call::Wait));
-    assert!(rt; prints(echo.turn(&done()), &[b'a'; 63]));
-    assert!(rt; matches!(echo.turn(&done()), Call::Wait));
-    assert!(rt; prints(echo.turn(&line(&[b'b'; 65])), &[b'b'; 64]));
-    assert!(rt; prints(echo.turn(&line(b"c")), b"c"));
-    assert!(rt; matches!(echo.turn(&done()), Call::Wait));
-    assert!(rt; prints(echo.turn(&line(&[b'd'; 64])), &[b'd'; 64]));
-    assert!(rt; matches!(echo.turn(&done()), Call::Wait));
-}
-
-#[test]
-fn relay_sends_a_short_frame(rt: HostRuntime) {
-    let mut relay = Relay::new();
-    assert!(rt; matches!(relay.turn(&event(INIT)), Call::PacketOpen));
-    assert!(rt; matches!(relay.turn(&done()), Call::Wait));
-    assert!(rt; matches!(relay.turn(&frame(2)), Call::MmemAlloc(0, 2)));
-    assert!(rt; matches!(relay.turn(&done()), Call::PacketRead(0, 2)));
-    assert!(rt; writes(relay.turn(&given(&[0x0a, 0x0b])), 0, &[0x0a, 0x0b]));
-    assert!(rt; matches!(relay.turn(&done()), Call::PacketSend(0)));
-    assert!(rt; matches!(relay.turn(&done()), Call::MmemFree(0)));
-    assert!(rt; matches!(relay.turn(&done()), Call::PacketDone));
-    assert!(rt; matches!(relay.turn(&done()), Call::Wait));
-    assert!(rt; matches!(relay.turn(&done()), Call::Wait));
-}
-
-#[test]
-fn relay_sends_a_long_frame(rt: HostRuntime) {
-    let mut relay = Relay::new();
-    assert!(rt; matches!(relay.turn(&frame(127)), Call::MmemAlloc(0, 127)));
-    assert!(rt; matches!(relay.turn(&done()), Call::PacketRead(0, 64)));
-    assert!(rt; writes(relay.turn(&given(&[1; 64])), 0, &[1; 64]));
-    assert!(rt; matches!(relay.turn(&done()), Call::PacketRead(64, 63)));
-    assert!(rt; writes(relay.turn(&given(&[2; 63])), 64, &[2; 63]));
-    assert!(rt; matches!(relay.turn(&done()), Call::PacketSend(0)));
-    assert!(rt; matches!(relay.turn(&refused(Refusal::Range)), Call::MmemFree(0)));
-    assert!(rt; matches!(relay.turn(&done()), Call::PacketDone));
-    assert!(rt; matches!(relay.turn(&frame(64)), Call::MmemAlloc(0, 64)));
-    assert!(rt; matches!(relay.turn(&done()), Call::PacketRead(0, 64)));
-    assert!(rt; writes(relay.turn(&given(&[3; 64])), 0, &[3; 64]));
-    assert!(rt; matches!(relay.turn(&done()), Call::PacketSend(0)));
-}
-
-#[test]
-fn relay_gives_back_what_it_cannot_send(rt: HostRuntime) {
-    let mut relay = Relay::new();
-    assert!(rt; matches!(relay.turn(&frame(5)), Call::MmemAlloc(0, 5)));
-    assert!(rt; matches!(relay.turn(&refused(Refusal::NoRoom)), Call::PacketDone));
-    assert!(rt; matches!(relay.turn(&done()), Call::Wait));
-    assert!(rt; matches!(relay.turn(&frame(65)), Call::MmemAlloc(0, 65)));
-    assert!(rt; matches!(relay.turn(&done()), Call::PacketRead(0, 64)));
-    assert!(rt; matches!(relay.turn(&refused(Refusal::NoPacket)), Call::MmemFree(0)));
-    assert!(rt; matches!(relay.turn(&done()), Call::PacketDone));
-    assert!(rt; matches!(relay.turn(&done()), Call::Wait));
-}
-
-#[test]
-fn relay_starts_anew_at_any_frame(rt: HostRuntime) {
-    let mut relay = Relay::new();
-    assert!(rt; matches!(relay.turn(&frame(5)), Call::MmemAlloc(0, 5)));
-    assert!(rt; matches!(relay.turn(&frame(128)), Call::Wait));
-    assert!(rt; matches!(relay.turn(&frame(0)), Call::Wait));
-    assert!(rt; matches!(relay.turn(&event(PACKET)), Call::Wait));
-    assert!(rt; matches!(relay.turn(&frame(6)), Call::MmemAlloc(0, 6)));
-    assert!(rt; matches!(relay.turn(&done()), Call::PacketRead(0, 6)));
-    assert!(rt; matches!(relay.turn(&event(INIT)), Call::PacketOpen));
-    assert!(rt; matches!(relay.turn(&given(&[1])), Call::Wait));
-}
-
-/// Whether the call writes `churn` to the front of the block of handle 2.
-fn writes_churn(call: Call) -> bool {
-    match call {
-        Call::MmemWrite(2, 0, chunk) => chunk.as_slice() == b"churn".as_slice(),
-        _ => false,
-    }
-}
-
-/// Churn begins anew and goes through managed memory.
-fn check_managed_memory(rt: &impl Abort, churn: &mut Churn) {
-    assert!(rt; matches!(churn.turn(&event(INIT)), Call::MmemAlloc(0, 10)));
-    assert!(rt; matches!(churn.turn(&done()), Call::MmemAlloc(1, 20)));
-    assert!(rt; matches!(churn.turn(&done()), Call::MmemAlloc(2, 30)));
-    assert!(rt; writes_churn(churn.turn(&done())));
-    assert!(rt; matches!(churn.turn(&done()), Call::MmemFree(0)));
-    assert!(rt; matches!(churn.turn(&done()), Call::MmemRead(2, 0, 5)));
-    assert!(rt; matches!(churn.turn(&given(b"churn")), Call::MmemAvail));
-}
-
-/// Then it goes through heap memory.
-fn check_heap(rt: &impl Abort, churn: &mut Churn) {
-    assert!(rt; matches!(churn.turn(&number(4_044)), Call::HeapAlloc(0, 20)));
-    assert!(rt; matches!(churn.turn(&done()), Call::HeapAlloc(1, 20)));
-    assert!(rt; matches!(churn.turn(&done()), Call::HeapFree(0)));
-    assert!(rt; matches!(churn.turn(&done()), Call::HeapAlloc(2, 4)));
-    assert!(rt; matches!(churn.turn(&done()), Call::HeapStats));
-}
-
-/// Then it goes through a pool and a list, and waits.
-fn check_pool(rt: &impl Abort, churn: &mut Churn) {
-    let stats = HeapStats {
-        allocated: 40,
-        overhead: 32,
-        available: 4_024,
-        footprint: 72,
-        chunks: 2,
+/// Gives the application a stimulus, and looks at the line of its turn.
+fn check_turn(rt: &impl Abort, application: &mut Bundled, stimulus: Stimulus, text: &str) {
+    let call = application.turn(&stimulus);
+    let origin = match &stimulus {
+        Stimulus::Event(_) => Origin::Event,
+        Stimulus::Answer(_) => Origin::Answer,
+        Stimulus::Callback(_) => Origin::Callback,
     };
-    let told = Stimulus::Answer(Reply::Stats(stats));
-    assert!(rt; matches!(churn.turn(&told), Call::MembAlloc(0)));
-    assert!(rt; matches!(churn.turn(&number(0)), Call::MembAlloc(0)));
-    assert!(rt; matches!(churn.turn(&number(1)), Call::ListAdd(0, 1)));
-    assert!(rt; matches!(churn.turn(&done()), Call::ListPush(0, 0)));
-    assert!(rt; matches!(churn.turn(&done()), Call::ListChop(0)));
-    assert!(rt; matches!(churn.turn(&number(1)), Call::MembNumFree(0)));
-    assert!(rt; matches!(churn.turn(&number(14)), Call::Wait));
-    assert!(rt; matches!(churn.turn(&done()), Call::Wait));
-}
-
-fn check_churn(rt: &impl Abort, churn: &mut Churn) {
-    check_managed_memory(rt, churn);
-    check_heap(rt, churn);
-    check_pool(rt, churn);
-}
-
-#[test]
-fn churn_makes_its_calls_at_each_start(rt: HostRuntime) {
-    let mut churn = Churn::new();
-    assert!(rt; matches!(churn.turn(&done()), Call::Wait));
-    check_churn(&rt, &mut churn);
-    check_churn(&rt, &mut churn);
-}
-
-#[test]
-fn churn_waits_at_other_events(rt: HostRuntime) {
-    let mut churn = Churn::new();
-    assert!(rt; matches!(churn.turn(&event(INIT)), Call::MmemAlloc(0, 10)));
-    assert!(rt; matches!(churn.turn(&event(EXIT)), Call::Wait));
-    assert!(rt; matches!(churn.turn(&Stimulus::Callback(1)), Call::Wait));
-    assert!(rt; matches!(churn.turn(&done()), Call::MmemAlloc(1, 20)));
-}
-
-/// The first call of the application of this name.
-fn first_call(name: &str) -> Option<Call> {
-    let mut app = Bundled::named(name)?;
-    Some(app.turn(&event(INIT)))
-}
-
-#[test]
-fn applications_have_names(rt: HostRuntime) {
-    assert!(rt; prints(first_call("hello").unwrap_or(Call::Exit), b"hi\n"));
-    assert!(rt; matches!(first_call("blink"), Some(Call::TimerSet(0, 10))));
-    assert!(rt; matches!(first_call("echo"), Some(Call::Wait)));
-    assert!(rt; matches!(first_call("relay"), Some(Call::PacketOpen)));
-    assert!(rt; matches!(first_call("churn"), Some(Call::MmemAlloc(0, 10))));
-    assert!(rt; matches!(first_call("ping"), Some(Call::AllocEvent)));
-    for name in ["", "Hello", "hello ", "steps", "nobody"] {
-        assert!(rt; first_call(name).is_none(), "{name:?}");
-    }
-}
-
-#[test]
-fn a_named_application_keeps_its_state(rt: HostRuntime) {
-    let calls = Bundled::named("echo").map(|mut echo| {
-        let front = echo.turn(&line(&[b'a'; 65]));
-        (front, echo.turn(&done()), echo.turn(&done()))
-    });
-    let is_echo = match calls {
-        Some((front, rest, last)) => {
-            prints(front, &[b'a'; 64]) && prints(rest, b"a") && matches!(last, Call::Wait)
-        }
-        None => false,
+    let entry = Entry::Turn {
+        pid: Pid(4),
+        origin,
+        stimulus,
+        call,
     };
-    assert!(rt; is_echo);
+    let mut shown = LineBuf::new();
+    entry_text(&entry, &mut shown);
+    assert_eq!(rt; shown.as_slice(), text.as_bytes(), "{text:?}");
+}
+
+/// A callback does not bring the rest of a line out, and another line takes its place.
+#[test]
+fn echo_prints_the_rest_of_a_line_at_an_answer(rt: HostRuntime) -> Result<(), Fail> {
+    let mut echo = Bundled::named("echo").ok_or("no application")?;
+    let long = "\
+4 event 138 x616161616161616161616161616161616161616161616161616161616161616161616161616161616161616161616161\
+6161616161616161616161616161616162 -> print 6161616161616161616161616161616161616161616161616161616161616161\
+6161616161616161616161616161616161616161616161616161616161616161\n";
+    check_turn(&rt, &mut echo, long_line(), long);
+    check_turn(
+        &rt,
+        &mut echo,
+        Stimulus::Callback(0),
+        "4 callback 0 -> wait\n",
+    );
+    check_turn(&rt, &mut echo, done(), "4 answer done -> print 62\n");
+    check_turn(&rt, &mut echo, done(), "4 answer done -> wait\n");
+    check_turn(&rt, &mut echo, long_line(), long);
+    check_turn(&rt, &mut echo, line(b"c"), "4 event 138 x63 -> print 63\n");
+    check_turn(&rt, &mut echo, done(), "4 answer done -> wait\n");
+    Ok(())
+}
+
+/// 64 times `a`, and `b`.
+fn long_line() -> Stimulus {
+    let mut long = [b'a'; 65];
+    long[64] = b'b';
+    line(&long)
+}
+
+/// A read or a send is refused.
+#[test]
+fn relay_gives_back_what_it_cannot_read(rt: HostRuntime) -> Result<(), Fail> {
+    let mut relay = Bundled::named("relay").ok_or("no application")?;
+    check_turn(
+        &rt,
+        &mut relay,
+        frame(65),
+        "4 event 139 65 -> mmem-alloc 0 65\n",
+    );
+    check_turn(
+        &rt,
+        &mut relay,
+        done(),
+        "4 answer done -> packet-read 0 64\n",
+    );
+    check_turn(
+        &rt,
+        &mut relay,
+        refused(Refusal::NoPacket),
+        "4 answer refused 16 -> mmem-free 0\n",
+    );
+    check_turn(&rt, &mut relay, done(), "4 answer done -> packet-done\n");
+    check_turn(&rt, &mut relay, done(), "4 answer done -> wait\n");
+    Ok(())
+}
+
+#[test]
+fn relay_gives_back_what_it_cannot_send(rt: HostRuntime) -> Result<(), Fail> {
+    let mut relay = Bundled::named("relay").ok_or("no application")?;
+    check_turn(
+        &rt,
+        &mut relay,
+        frame(1),
+        "4 event 139 1 -> mmem-alloc 0 1\n",
+    );
+    check_turn(
+        &rt,
+        &mut relay,
+        done(),
+        "4 answer done -> packet-read 0 1\n",
+    );
+    let given = Stimulus::Answer(Reply::Bytes(bytes(&[10])));
+    check_turn(
+        &rt,
+        &mut relay,
+        given,
+        "4 answer bytes 0a -> mmem-write 0 0 0a\n",
+    );
+    check_turn(&rt, &mut relay, done(), "4 answer done -> packet-send 0\n");
+    check_turn(
+        &rt,
+        &mut relay,
+        refused(Refusal::Range),
+        "4 answer refused 11 -> mmem-free 0\n",
+    );
+    Ok(())
+}
+
+#[test]
+fn relay_starts_anew_at_any_frame(rt: HostRuntime) -> Result<(), Fail> {
+    let mut relay = Bundled::named("relay").ok_or("no application")?;
+    check_turn(
+        &rt,
+        &mut relay,
+        frame(5),
+        "4 event 139 5 -> mmem-alloc 0 5\n",
+    );
+    check_turn(&rt, &mut relay, frame(128), "4 event 139 128 -> wait\n");
+    check_turn(&rt, &mut relay, frame(0), "4 event 139 0 -> wait\n");
+    let empty = event(PACKET, Payload::Empty);
+    check_turn(&rt, &mut relay, empty, "4 event 139 - -> wait\n");
+    check_turn(
+        &rt,
+        &mut relay,
+        frame(6),
+        "4 event 139 6 -> mmem-alloc 0 6\n",
+    );
+    check_turn(
+        &rt,
+        &mut relay,
+        done(),
+        "4 answer done -> packet-read 0 6\n",
+    );
+    let init = event(INIT, Payload::Empty);
+    check_turn(&rt, &mut relay, init, "4 event 129 - -> packet-open\n");
+    let given = Stimulus::Answer(Reply::Bytes(bytes(&[1])));
+    check_turn(&rt, &mut relay, given, "4 answer bytes 01 -> wait\n");
+    Ok(())
+}
+
+#[test]
+fn churn_waits_at_other_events(rt: HostRuntime) -> Result<(), Fail> {
+    let mut churn = Bundled::named("churn").ok_or("no application")?;
+    check_turn(&rt, &mut churn, done(), "4 answer done -> wait\n");
+    let init = event(INIT, Payload::Empty);
+    check_turn(&rt, &mut churn, init, "4 event 129 - -> mmem-alloc 0 10\n");
+    let exit = event(EXIT, Payload::Empty);
+    check_turn(&rt, &mut churn, exit, "4 event 131 - -> wait\n");
+    check_turn(
+        &rt,
+        &mut churn,
+        Stimulus::Callback(1),
+        "4 callback 1 -> wait\n",
+    );
+    check_turn(
+        &rt,
+        &mut churn,
+        done(),
+        "4 answer done -> mmem-alloc 1 20\n",
+    );
+    Ok(())
+}
+
+#[test]
+fn applications_have_names(rt: HostRuntime) -> Result<(), Fail> {
+    let first_turns = "\
+hello: 4 event 129 - -> print 68690a\n|blink: 4 event 129 - -> timer-set 0 10\n|echo: 4 event 129 - -> wait\n\
+|relay: 4 event 129 - -> packet-open\n|churn: 4 event 129 - -> mmem-alloc 0 10\n|ping: 4 event 129 - -> alloc-event\n";
+    for turn in first_turns.split("|") {
+        let (name, text) = turn.split_once(": ").unwrap_or((turn, ""));
+        let mut application = Bundled::named(name).ok_or("no application")?;
+        check_turn(&rt, &mut application, event(INIT, Payload::Empty), text);
+    }
+    for name in "|Hello|hello |steps|nobody".split("|") {
+        assert!(rt; Bundled::named(name).is_none(), "{name:?}");
+    }
+    Ok(())
 }

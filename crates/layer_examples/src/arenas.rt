@@ -1,7 +1,21 @@
 //! The arena: zeros, moves, words, and two loans at once.
 
+ghost use Rattle.std.specs.Prelude.{◌≤◌, length};
+
 use arena_core::{Arena, Span, pair_mut};
 use std::test::Fail;
+
+/// Whether the first bytes are these.
+fn begins_with(arena: &Arena, bytes: &[u8]) -> bool
+    requires few { length bytes.now ≤ 16 }
+    requires within { length bytes.now ≤ length arena.now.bytes }
+{
+    let front = Span {
+        at: 0,
+        len: bytes.len() as u32,
+    };
+    arena.bytes(front) == bytes
+}
 
 #[test]
 fn hands_out_zeros(rt: HostRuntime) -> Result<(), Fail> {
@@ -10,8 +24,7 @@ fn hands_out_zeros(rt: HostRuntime) -> Result<(), Fail> {
     let rest = arena.carve(4);
     assert_eq!(rt; first, Some(Span { at: 0, len: 8 }));
     assert_eq!(rt; rest, Some(Span { at: 8, len: 4 }));
-    assert_eq!(rt; arena.carve(1), None);
-    assert_eq!(rt; arena.bytes(Span { at: 0, len: 12 }), [0; 12].as_slice());
+    assert!(rt; arena.carve(1).is_none() && begins_with(&arena, &[0; 12]));
     Ok(())
 }
 
@@ -19,14 +32,13 @@ fn hands_out_zeros(rt: HostRuntime) -> Result<(), Fail> {
 #[test]
 fn slides_overlapping_ranges(rt: HostRuntime) -> Result<(), Fail> {
     let mut arena = Arena::new(rt.alloc(), 8)?;
-    let all = Span { at: 0, len: 8 };
     arena
         .bytes_mut(Span { at: 0, len: 4 })
         .copy_from_slice(&[1, 2, 3, 4]);
     arena.slide(0, 2, 4);
-    assert_eq!(rt; arena.bytes(all), [1, 2, 1, 2, 3, 4, 0, 0].as_slice());
+    assert!(rt; begins_with(&arena, &[1, 2, 1, 2, 3, 4, 0, 0]));
     arena.slide(2, 0, 4);
-    assert_eq!(rt; arena.bytes(all), [1, 2, 3, 4, 3, 4, 0, 0].as_slice());
+    assert!(rt; begins_with(&arena, &[1, 2, 3, 4, 3, 4, 0, 0]));
     Ok(())
 }
 
@@ -37,10 +49,7 @@ fn writes_words(rt: HostRuntime) -> Result<(), Fail> {
     arena.put_word(1, 0x0403_0201);
     arena.copy(1, 5, 4);
     arena.fill(Span { at: 2, len: 2 }, 9);
-    assert_eq!(rt;
-        arena.bytes(Span { at: 0, len: 9 }),
-        [0, 1, 9, 9, 4, 1, 2, 3, 4].as_slice()
-    );
+    assert!(rt; begins_with(&arena, &[0, 1, 9, 9, 4, 1, 2, 3, 4]));
     assert_eq!(rt; arena.word(5), 0x0403_0201);
     Ok(())
 }

@@ -83,6 +83,39 @@ impl Memory {
         Ok(())
     }
 
+    fn realloc(&mut self, number: u8, n: u32) -> Result<(), Refusal>
+        requires { number ≤ 15 }
+    {
+        let key = key(number);
+        if self.heap.len_of(&self.arena, key).is_none() {
+            return Err(Refusal::NotLive);
+        }
+        if n == 0 {
+            return Err(Refusal::Range);
+        }
+        match self.heap.realloc(&mut self.arena, key, n) {
+            Some(()) => Ok(()),
+            None => Err(Refusal::NoRoom),
+        }
+    }
+
+    /// The free list's length.
+    fn linked(&self) -> u32 {
+        self.heap.linked()
+    }
+
+    /// Allocated, overhead, available, footprint and chunks.
+    fn stats(&self) -> [u32; 5] {
+        let stats = self.heap.stats(&self.arena);
+        [
+            stats.allocated,
+            stats.overhead,
+            stats.available,
+            stats.footprint,
+            stats.chunks,
+        ]
+    }
+
     fn write(&mut self, number: u8, at: u32, bytes: &[u8]) -> Result<(), Refusal>
         requires { number ≤ 15 }
     {
@@ -123,5 +156,39 @@ fn fresh_bytes_are_zero(rt: HostRuntime) -> Result<(), Fail> {
     assert_eq!(rt; memory.alloc(1, 4), Ok(()));
     assert_eq!(rt; memory.read(1, 0, 4), Ok([0, 0, 0, 0].as_slice()));
     assert_eq!(rt; memory.read(0, 0, 4), Err(Refusal::NotLive));
+    Ok(())
+}
+
+/// Frees only link their chunks; the next `alloc` joins them. The joined gap of 108 bytes fits exactly.
+#[test]
+fn alloc_joins_what_was_freed(rt: HostRuntime) -> Result<(), Fail> {
+    let mut memory = Memory::new(rt.alloc(), 4096)?.ok_or("no span")?;
+    assert_eq!(rt; memory.alloc(0, 20), Ok(()));
+    assert_eq!(rt; memory.alloc(1, 20), Ok(()));
+    assert_eq!(rt; memory.alloc(2, 20), Ok(()));
+    assert_eq!(rt; memory.alloc(3, 20), Ok(()));
+    assert_eq!(rt; memory.linked(), 0);
+    assert_eq!(rt; memory.free(0), Ok(()));
+    assert_eq!(rt; memory.free(2), Ok(()));
+    assert_eq!(rt; memory.free(1), Ok(()));
+    assert_eq!(rt; memory.linked(), 3);
+    assert_eq!(rt; memory.alloc(4, 90), Ok(()));
+    assert_eq!(rt; memory.linked(), 0);
+    assert_eq!(rt; memory.stats(), [112, 32, 3952, 144, 2]);
+    Ok(())
+}
+
+/// A block grows where it is, over a gap of 72 bytes that is joined for it.
+#[test]
+fn realloc_joins_what_was_freed(rt: HostRuntime) -> Result<(), Fail> {
+    let mut memory = Memory::new(rt.alloc(), 4096)?.ok_or("no span")?;
+    assert_eq!(rt; memory.alloc(0, 20), Ok(()));
+    assert_eq!(rt; memory.alloc(1, 20), Ok(()));
+    assert_eq!(rt; memory.alloc(2, 20), Ok(()));
+    assert_eq!(rt; memory.alloc(3, 20), Ok(()));
+    assert_eq!(rt; memory.free(2), Ok(()));
+    assert_eq!(rt; memory.free(1), Ok(()));
+    assert_eq!(rt; memory.realloc(0, 90), Ok(()));
+    assert_eq!(rt; memory.stats(), [112, 32, 3952, 144, 2]);
     Ok(())
 }

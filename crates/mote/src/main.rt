@@ -12,15 +12,12 @@ mod command_line;
 mod failure;
 mod prepare;
 mod running;
-#[cfg(test)]
-mod tests;
 
 use failure::{Failure, status_of};
 use mote_kit::stream::{Input, Output};
 use mote_run::End;
 use prepare::{Prepared, prepare};
 use running::run_prepared;
-use std::io::BufReader;
 use std::process::ExitCode;
 use std::{env, io};
 
@@ -32,8 +29,7 @@ fn run_streams<'a, R: AllocGlobal + io::Input + Print>(
     requires booted { WasBooted prepared.kernel (length prepared.applications.items) }
     ensures failure { IfErr result IsRunFailure }
 {
-    let reader = BufReader::new(rt.alloc(), rt.reader()).map_err(|_| Failure::OutOfMemory)?;
-    let mut source = Input::new(reader);
+    let mut source = Input::new(rt.reader());
     let mut sink = Output::new(io::writer(rt));
     let end = run_prepared(rt.alloc(), prepared, &mut source, &mut sink)?;
     Ok(end)

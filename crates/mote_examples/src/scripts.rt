@@ -28,18 +28,8 @@ fn check_script<R: Abort + AllocGlobal>(
 
 #[test]
 fn a_line_of_no_form_ends_the_run(rt: HostRuntime) -> Result<(), Fail> {
-    for line in [
-        "tick 01",
-        "ticks 1",
-        "tick 4294967296",
-        "tick",
-        "tick ",
-        "tick  1",
-        "tick 1 ",
-        "tick 1\r",
-        " ",
-        "Tick 1",
-    ] {
+    let lines = "tick 01|ticks 1|tick 4294967296|tick|tick |tick  1|tick 1 |tick 1\r| |Tick 1";
+    for line in lines.split("|") {
         check_script(&rt, line, End::BadLine(1), "bad line 1\n")?;
     }
     check_script(

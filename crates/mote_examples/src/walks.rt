@@ -4,6 +4,8 @@ use std::alloc::Global;
 use std::test::Fail;
 use transcript_walks::{events, memory, timers};
 
+// Each way to spoil a transcript below is a part of it, an arrow and what stands there instead; a bar parts two.
+
 /// The transcript with one of its parts spoilt.
 fn spoilt(alloc: Global, transcript: &str, part: &str, instead: &str) -> Result<String, Fail> {
     let (before, behind) = transcript.split_once(part).unwrap_or(("", ""));
@@ -38,14 +40,11 @@ note sent 01020000
 4 answer bytes 050600 -> wait
 ";
     assert!(rt; memory::is_own(rt.alloc(), transcript)?);
-    for (part, instead) in [
-        ("bytes 0102 ", "bytes 0000 "),
-        ("bytes 00000000 ", "bytes 01020000 "),
-        ("bytes 050600 ", "bytes 050607 "),
-        ("refused 9 ", "refused 11 "),
-        ("refused 8 ", "done "),
-        ("sent 01020000", "sent 01020001"),
-    ] {
+    let cases = "\
+bytes 0102 =>bytes 0000 |bytes 00000000 =>bytes 01020000 |bytes 050600 =>bytes 050607 \
+|refused 9 =>refused 11 |refused 8 =>done |sent 01020000=>sent 01020001";
+    for case in cases.split("|") {
+        let (part, instead) = case.split_once("=>").unwrap_or((case, ""));
         let text = spoilt(rt.alloc(), transcript, part, instead)?;
         assert!(rt; !memory::is_own(rt.alloc(), text.as_str())?, "{instead}");
     }
@@ -68,19 +67,14 @@ fn a_walk_notices_an_event_that_is_lost_or_out_of_order(rt: HostRuntime) -> Resu
 > tick 1
 ";
     assert!(rt; events::arrive_in_order(rt.alloc(), 2, transcript)?);
-    for (part, instead) in [
-        ("4 event 140 - -> wait\n", ""),
-        (
-            "4 event 140 - -> wait\n",
-            "4 event 140 - -> wait\n4 event 140 - -> wait\n",
-        ),
-        ("4 event 140 -", "4 event 141 7"),
-        (
-            "4 event 142 - -> wait\n> tick 1\n",
-            "> tick 1\n4 event 142 - -> wait\n",
-        ),
-        ("5 event 142 - -> wait\n", ""),
-    ] {
+    let cases = "\
+4 event 140 - -> wait\n=>\
+|4 event 140 - -> wait\n=>4 event 140 - -> wait\n4 event 140 - -> wait\n\
+|4 event 140 -=>4 event 141 7\
+|4 event 142 - -> wait\n> tick 1\n=>> tick 1\n4 event 142 - -> wait\n\
+|5 event 142 - -> wait\n=>";
+    for case in cases.split("|") {
+        let (part, instead) = case.split_once("=>").unwrap_or((case, ""));
         let text = spoilt(rt.alloc(), transcript, part, instead)?;
         assert!(rt;
             !events::arrive_in_order(rt.alloc(), 2, text.as_str())?,
@@ -105,16 +99,13 @@ fn a_walk_notices_a_timer_that_is_early_or_lost(rt: HostRuntime) -> Result<(), F
 > tick 1
 ";
     assert!(rt; timers::are_kept(rt.alloc(), 1, transcript)?);
-    for (part, instead) in [
-        ("> tick 1\n4 event 136 0 ", "4 event 136 0 "),
-        (
-            "4 event 136 0 -> wait\n",
-            "4 event 136 0 -> wait\n4 event 136 0 -> wait\n",
-        ),
-        ("4 event 136 0 -> wait\n", ""),
-        ("timer-reset 0", "timer-stop 0"),
-        ("timer-reset 0", "timer-set 0 6"),
-    ] {
+    let cases = "\
+> tick 1\n4 event 136 0 =>4 event 136 0 \
+|4 event 136 0 -> wait\n=>4 event 136 0 -> wait\n4 event 136 0 -> wait\n\
+|4 event 136 0 -> wait\n=>\
+|timer-reset 0=>timer-stop 0|timer-reset 0=>timer-set 0 6";
+    for case in cases.split("|") {
+        let (part, instead) = case.split_once("=>").unwrap_or((case, ""));
         let text = spoilt(rt.alloc(), transcript, part, instead)?;
         assert!(rt;
             !timers::are_kept(rt.alloc(), 1, text.as_str())?,

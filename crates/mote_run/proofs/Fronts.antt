@@ -4,7 +4,6 @@ use Rattle.std.proofs.lemmas.List.{append-nil}
 use Rattle.mote_types.specs.Applications.{Applications}
 use Rattle.mote_types.specs.declared.entry.Entry.{Entry}
 use Rattle.mote_types.specs.declared.entry.Input.{Input}
-use Rattle.mote_text.specs.declared.script.End.{End}
 use Rattle.mote_text.specs.Script.{inputs, script_limit}
 use Rattle.mote_text.specs.Transcript.{final_line}
 use Rattle.mote_text.proofs.Bytewise.{read_on}
@@ -13,11 +12,12 @@ use Rattle.kernel_core.specs.Machine.{Machine, booted}
 use Rattle.kernel_core.specs.Inputs.{fed}
 use Rattle.kernel_core.specs.Run.{Running, Runs, at_start, with_input}
 use Rattle.mote_run.specs.RunText.{HasRunInPart}
-use Rattle.mote_run.specs.Code.Settling.{CutOff, Settled, lines}
+use Rattle.mote_run.specs.Code.Settling.{CutOff, lines}
 use Rattle.mote_run.specs.Code.Writing.{WritesOn}
 use Rattle.mote_run.proofs.Determined.{Extends, run_extends, run_from, still_rest}
 use Rattle.mote_run.proofs.Settling.{lines-append}
-use Rattle.mote_run.proofs.InRun.{InRun, read}
+use Rattle.mote_run.specs.Code.Between.{InRun}
+use Rattle.mote_run.proofs.InRun.{read}
 use Rattle.mote_run.proofs.Writing.{then_flushed, then_written}
 
 -- what follows the lines of these entries, where others come behind them
@@ -70,24 +70,6 @@ module _ {config : Config} {says now : Applications} {quiet : Bool} {machine : M
             front_of_text quiet i.entries given_old given_later lost here is_text.last whole (final_line end) refl (run_extends says later here is_text.last runs) is_text.is_text w;
       }
 
-  -- a write of the last line failed
-  pub close_failed : (end : End) (is_ended : Bool) (given_later lost : List ℕ) → machine.is_halted ≡ false →
-      WritesOn given_new due given_later lost (final_line end) →
-      ((more : List ℕ) → (is_ended ≡ true → more ≡ []) → inputs (read i ++ more) ≡ (i.earlier, end)) →
-      HasRunInPart config says quiet taken_old taken_new is_ended given_old given_later
-  close_failed end is_ended given_later lost running closes gives =
-      let w = then_written i.written closes in record {
-        bytes = read i;
-        out = w.out;
-        taken = i.taken;
-        given = w.given;
-        is_front = λ more limits whole end' is_text.
-            let runs = i.inward [] is_text.last (rw (gives more limits, ← append-nil i.earlier) at is_text.runs) in
-            let same : is_text.last ≡ here = still_rest says here is_text.last i.still runs in
-            let ends : end' ≡ end = rw (same, gives more limits, i.halts, running) at is_text.ends in
-            (lost, rw (is_text.is_text, same, ends) w.parted);
-      }
-
   -- a write failed before the mote came to rest after this input
   pub input_cut_off : (input : Input) (is_ended : Bool) (given_later : List ℕ) (handed : Machine) → machine.is_halted ≡ false →
       handed ≡ fed input machine →
@@ -110,20 +92,3 @@ module _ {config : Config} {says now : Applications} {quiet : Bool} {machine : M
             front_of_text quiet (i.entries ++ cut.entries) given_old given_later cut.lost from is_text.last whole (final_line end) refl
             (run_extends says g.0 from is_text.last runs) is_text.is_text w;
       }
-
-  -- a write failed after the mote had come to rest after the last line's input
-  pub end_failed : (input : Input) (is_ended : Bool) (handed new : Machine) (now' : Applications) (given_after due_after given_later lost : List ℕ) → machine.is_halted ≡ false →
-      handed ≡ fed input machine → is_ended ≡ true → ((more : List ℕ) → (is_ended ≡ true → more ≡ []) → inputs (read i ++ more) ≡ (i.earlier ++ input ∷ [], End.Finished)) →
-      Settled says quiet i.entries handed new now' given_new due given_after due_after →
-      WritesOn given_after due_after given_later lost [] →
-      HasRunInPart config says quiet taken_old taken_new is_ended given_old given_later
-  end_failed input is_ended handed new now' given_after due_after given_later lost running hands ended gives settled writes =
-      let cut : CutOff says quiet i.entries handed given_new due given_later = record {
-        entries = settled.entries;
-        count = settled.count;
-        machine = new;
-        walked = settled.walked;
-        lost = lost;
-        written = then_flushed settled.written writes;
-      } in
-      input_cut_off input is_ended given_later handed running hands (λ more limits. ([], ap (λ r. r.0) (gives more limits))) cut

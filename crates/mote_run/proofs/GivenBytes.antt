@@ -1,5 +1,5 @@
 -- A line that is read as a frame gives at least one byte.
-use Rattle.std.proofs.Common.{◌≡◌, ℕ, ◌+◌, ◌*◌, ◌≤◌, Bool, true, false, cond, List, length, refl, ap, subst, arith}
+use Rattle.std.proofs.Common.{◌≡◌, ℕ, ◌*◌, Bool, true, false, cond, List, length, refl, ap, subst, sym, arith}
 use Rattle.std.specs.Prelude.{Option, Some, None, Result, Ok, Err, option_map, option_and_then, nat_le, nat_lt, unwrap_or, codes, ◌&&◌}
 use Rattle.std.specs.Option.{option_or}
 use Rattle.std.specs.Result.{result_ok}
@@ -10,7 +10,7 @@ use Rattle.mote_types.specs.declared.entry.Input.{Input}
 use Rattle.mote_text.specs.Script.{argument_of, read_bytes, read_number, read_frame, read_line, read_serial, read_tick, read_words, line_limit, says_nothing}
 use Rattle.kernel_core.specs.Inputs.{has_bytes}
 use Rattle.mote_text.specs.declared.lines.Taken.{Taken}
-use Rattle.mote_run.specs.Code.Reading.{said}
+use Rattle.mote_run.specs.Code.Reading.{Took, said}
 
 -- what a choice gives, one of the two gives
 either_gives : {A : Type 0} (P : A → Type 0) (a b : Option A) → ((x : A) → a ≡ Some x → P x) → ((x : A) → b ≡ Some x → P x) →
@@ -77,3 +77,9 @@ pub said_input_has_bytes : (last : Taken) (bytes : List ℕ) (input : Input) →
 said_input_has_bytes Taken.Line bytes input says = input_has_bytes bytes input says
 said_input_has_bytes Taken.More bytes input says = absurd (let e : None ≡ Some input = ap (λ o. unwrap_or o None) says in cc)
 said_input_has_bytes Taken.TooWide bytes input says = absurd (cc)
+
+pub took_input_has_bytes : {line piece line_later later : List ℕ} {count count_later number number_later : ℕ} (input : Input) →
+    Took line piece line_later later count count_later number number_later (Ok (Some input)) → has_bytes input ≡ true
+took_input_has_bytes input t =
+    let says : said t.last t.bytes ≡ Some (Some input) = sym t.says_so in
+    said_input_has_bytes t.last t.bytes input says

@@ -1,17 +1,14 @@
--- What holds between two parts of a run's script.
+-- How a run goes on from one part of its script to the next, and how it ends.
 use Rattle.std.proofs.Common.{◌≡◌, ◌+◌, ◌-◌, ℕ, Bool, true, false, List, [], ◌∷◌, ◌++◌, length, refl, ap, sym, ◌∙◌, append_assoc, length-append, ◌≤◌, ◌==◌, arith}
-use Rattle.std.specs.Prelude.{if◌then◌else◌, Option, Some, None}
-use Rattle.std.specs.List.{list_any}
+use Rattle.std.specs.Prelude.{Option, Some, None, Ok, Err}
 use Rattle.std.proofs.lemmas.List.{append-nil}
 use Rattle.mote_types.specs.Applications.{Applications}
-use Rattle.mote_types.specs.Entries.{is_halt}
-use Rattle.mote_types.specs.declared.entry.Entry.{Entry}
 use Rattle.mote_types.specs.declared.entry.Input.{Input}
 use Rattle.mote_types.specs.declared.refusal.Refusal.{Refusal}
-use Rattle.mote_text.specs.Lines.{has_no_end, unfinished_after, with_end}
-use Rattle.mote_text.specs.Script.{inputs, line_limit, read_line, script_limit}
-use Rattle.mote_text.specs.Transcript.{final_line}
+use Rattle.mote_text.specs.Lines.{unfinished_after, with_end}
+use Rattle.mote_text.specs.Script.{inputs, read_line, script_limit}
 use Rattle.mote_text.specs.declared.lines.Taken.{Taken}
+use Rattle.mote_text.specs.declared.script.BadLine.{BadLine}
 use Rattle.mote_text.specs.declared.script.End.{End}
 use Rattle.mote_text.proofs.Bytewise.{read_on}
 use Rattle.mote_text.proofs.Reading.{Before, ends_with_input, ends_with_no_form, ends_with_nothing, start}
@@ -20,37 +17,15 @@ use Rattle.kernel_core.specs.Machine.{Machine, booted}
 use Rattle.kernel_core.specs.Inputs.{fed, frame_held, frame_refusal, held_unless_lost}
 use Rattle.kernel_core.specs.Run.{Running, Runs, ComesToRest, after_steps, at_start, is_still, with_input}
 use Rattle.device_core.specs.PacketQueue.{free_slot}
-use Rattle.mote_run.specs.RunText.{HasRun, HasRunOnWholeLines, script_done}
-use Rattle.mote_run.specs.Code.Reading.{number_after, said}
-use Rattle.mote_run.specs.Code.Settling.{IsTold, Settled, lines}
+use Rattle.mote_run.specs.RunText.{HasRunOnWholeLines, script_done}
+use Rattle.mote_run.specs.Code.Between.{HasEnded, InRun}
+use Rattle.mote_run.specs.Code.Reading.{GoesOn, TakenPart, Took, number_after, said}
+use Rattle.mote_run.specs.Code.Settling.{Settled, lines}
 use Rattle.mote_run.specs.Code.Writing.{WritesOn}
 use Rattle.mote_run.proofs.Settling.{lines-append, steps_after}
 use Rattle.mote_run.proofs.Determined.{run_from, still_rest}
-use Rattle.mote_run.proofs.NextPart.{GoesOn, TakenPart, beyond_limit, ended_by, endless_after, in_line, input_said, narrow_after, no_form_said, nothing_said, parted, sizes}
+use Rattle.mote_run.proofs.NextPart.{beyond_limit, ended_by, endless_after, in_line, input_said, narrow_after, no_form_said, nothing_said, parted, sizes}
 use Rattle.mote_run.proofs.Writing.{then_flushed, then_written}
-
--- so many bytes were used: those of the lines that have ended, and those of the present line, whose end hasn't come. The rest was
--- read and not used
-pub record InRun (config : Config) (says now : Applications) (quiet : Bool) (machine : Machine) (taken_old taken_new given_old given_new due rest : List ℕ) (count number : ℕ) (line : List ℕ) : Type 0 where
-  pub entries : List Entry
-  pub ended : List ℕ
-  -- the inputs of the lines that have ended
-  pub earlier : List Input
-  pub told : IsTold says entries now
-  pub taken : taken_new ≡ taken_old ++ (ended ++ (line ++ rest))
-  pub written : WritesOn given_old [] given_new due (lines quiet entries)
-  pub size : length ended + length line ≡ count
-  pub before : Before ended earlier number []
-  pub narrow : length line ≤ line_limit
-  pub endless : has_no_end line ≡ true
-  pub still : is_still machine ≡ true
-  pub halts : list_any is_halt entries ≡ machine.is_halted
-  -- every run of what follows from here is a run of all from boot
-  pub onward : (later : List Input) (w : Running) → Runs says (record { machine = machine; entries = entries }) later w →
-      Runs says (at_start config) (earlier ++ later) w
-  -- and every run of all from boot goes on from here
-  pub inward : (later : List Input) (w : Running) → Runs says (at_start config) (earlier ++ later) w →
-      Runs says (record { machine = machine; entries = entries }) later w
 
 rest_after : (says : Applications) (a b c : Running) (n : ℕ) → after_steps says n a ≡ b → ComesToRest says b c → ComesToRest says a c
 rest_after says a b c n e (k, f, h) =
@@ -81,11 +56,6 @@ fed_halts m (Input.Tick n) = refl
 fed_halts m (Input.Serial bytes) = refl
 fed_halts m (Input.Frame bytes) =
     let woken : Machine = record m { work = 0 } in held_halts (frame_refusal (length bytes.items) woken) bytes.items woken
-
--- a run that finished or was halted has no last line
-pub no_last_line : (halted : Bool) → final_line (if halted then End.Halted else End.Finished) ≡ []
-no_last_line true = refl
-no_last_line false = refl
 
 pub in_run_start : (config : Config) (says now : Applications) (quiet : Bool) (old machine : Machine) (taken given_old given_new due_old due : List ℕ) →
     old ≡ booted config → due_old ≡ [] → Settled says quiet [] old machine now given_old due_old given_new due → is_still machine ≡ true →
@@ -264,44 +234,40 @@ module _ {config : Config} {says now : Applications} {quiet : Bool} {machine : M
         rw (append_assoc i.ended line rest) at (beyond_limit rest some (in_present_line few) all more)
 
   -- the mote was halted
-  pub in_run_halted : (is_ended : Bool) (given_later : List ℕ) → machine.is_halted ≡ true → WritesOn given_new due given_later [] (final_line End.Halted) →
-      HasRun config says quiet taken_old taken_new is_ended given_old given_later End.Halted
-  in_run_halted is_ended given_later halted closes =
-      let w = then_written i.written closes in record {
-        bytes = read;
-        out = w.out;
-        taken = i.taken;
-        given = w.given;
-        is_text = λ more whole.
-            let later = read_on number [] (script_limit - length i.ended) ((line ++ rest) ++ more) in
-            record {
-              last = here;
-              runs = rw (append_assoc i.ended (line ++ rest) more, i.before.onward ((line ++ rest) ++ more)) (i.onward later.0 here (resting_runs says here later.0 i.still (λ h. absurd (cc))));
-              ends = rw (i.halts, halted) refl;
-              is_text = sym (w.parted ∙ append-nil w.out);
-            };
-      }
+  pub in_run_halted : (is_ended : Bool) → machine.is_halted ≡ true → HasEnded config says quiet taken_old taken_new is_ended given_old given_new due End.Halted
+  in_run_halted is_ended halted = record {
+    bytes = read;
+    so_far = lines quiet i.entries;
+    taken = i.taken;
+    written = i.written;
+    is_text = λ more whole.
+        let later = read_on number [] (script_limit - length i.ended) ((line ++ rest) ++ more) in
+        record {
+          last = here;
+          runs = rw (append_assoc i.ended (line ++ rest) more, i.before.onward ((line ++ rest) ++ more)) (i.onward later.0 here (resting_runs says here later.0 i.still (λ h. absurd (cc))));
+          ends = rw (i.halts, halted) refl;
+          is_text = refl;
+        };
+  }
 
   -- the script ended, or a line had no form, or the script was too long: nothing more is handed in
-  pub in_run_stops : (end : End) (is_ended : Bool) (given_later : List ℕ) → machine.is_halted ≡ false →
-      WritesOn given_new due given_later [] (final_line end) →
+  pub in_run_stops : (end : End) (is_ended : Bool) → machine.is_halted ≡ false →
       ((more : List ℕ) → (is_ended ≡ true → more ≡ []) → inputs (read ++ more) ≡ (i.earlier, end)) →
-      HasRun config says quiet taken_old taken_new is_ended given_old given_later end
-  in_run_stops end is_ended given_later running closes gives =
-      let w = then_written i.written closes in record {
-        bytes = read;
-        out = w.out;
-        taken = i.taken;
-        given = w.given;
-        is_text = λ more whole.
-            let runs = i.onward [] here (resting_runs says here [] i.still (λ h. refl)) in
-            record {
-              last = here;
-              runs = rw (gives more whole) (rw append-nil at runs);
-              ends = rw (gives more whole, i.halts, running) refl;
-              is_text = sym (w.parted ∙ append-nil w.out);
-            };
-      }
+      HasEnded config says quiet taken_old taken_new is_ended given_old given_new due end
+  in_run_stops end is_ended running gives = record {
+    bytes = read;
+    so_far = lines quiet i.entries;
+    taken = i.taken;
+    written = i.written;
+    is_text = λ more whole.
+        let runs = i.onward [] here (resting_runs says here [] i.still (λ h. refl)) in
+        record {
+          last = here;
+          runs = rw (gives more whole) (rw append-nil at runs);
+          ends = rw (gives more whole, i.halts, running) refl;
+          is_text = refl;
+        };
+  }
 
   -- reading failed, at rest after the lines that have ended
   pub in_run_read_fault : (taken_later given_later : List ℕ) → count ≤ script_limit → rest ≡ [] → taken_later ≡ taken_new → WritesOn given_new due given_later [] [] →
@@ -320,27 +286,56 @@ module _ {config : Config} {says now : Applications} {quiet : Bool} {machine : M
       }
 
   -- the script's end ended the last line, whose input was carried out
-  pub in_run_ends_with_input : (input : Input) (is_ended : Bool) (handed new : Machine) (now' : Applications) (given_after due_after given_later : List ℕ) → machine.is_halted ≡ false →
-      count ≤ script_limit → rest ≡ [] → is_ended ≡ true → handed ≡ fed input machine → read_line line ≡ Some (Some input) →
-      Settled says quiet i.entries handed new now' given_new due given_after due_after → is_still new ≡ true →
-      WritesOn given_after due_after given_later [] (final_line (script_done new)) →
-      HasRun config says quiet taken_old taken_new is_ended given_old given_later (script_done new)
-  in_run_ends_with_input input is_ended handed new now' given_after due_after given_later running few none ended hands says_input settles still closes =
-      let settled : Settled says quiet i.entries (fed input machine) new now' given_new due given_after due_after = rw hands at settles in
-      let w = then_written (then_written i.written settled.written) closes in
+  pub in_run_ends_with_input : (input : Input) (handed new : Machine) (now' : Applications) (given_later due_later : List ℕ) → machine.is_halted ≡ false →
+      count ≤ script_limit → rest ≡ [] → handed ≡ fed input machine → read_line line ≡ Some (Some input) →
+      Settled says quiet i.entries handed new now' given_new due given_later due_later → is_still new ≡ true →
+      HasEnded config says quiet taken_old taken_new true given_old given_later due_later (script_done new)
+  in_run_ends_with_input input handed new now' given_later due_later running few none hands says_input settles still =
+      let settled : Settled says quiet i.entries (fed input machine) new now' given_new due given_later due_later = rw hands at settles in
       let gives = ends_with_input (in_present_line few) input says_input in record {
         bytes = read;
-        out = w.out;
+        so_far = lines quiet (i.entries ++ settled.entries);
         taken = i.taken;
-        given = w.given;
+        written = rw (lines-append quiet i.entries settled.entries) (then_written i.written settled.written);
         is_text = λ more whole.
             let last : Running = record { machine = new; entries = i.entries ++ settled.entries } in
-            let runs = input_onward input [] new now' given_after due_after last running settled (resting_runs says last [] still (λ h. refl)) in
-            let all : read ++ more ≡ i.ended ++ line = rw (whole ended, read_up none) (append-nil (i.ended ++ line)) in
+            let runs = input_onward input [] new now' given_later due_later last running settled (resting_runs says last [] still (λ h. refl)) in
+            let all : read ++ more ≡ i.ended ++ line = rw (whole refl, read_up none) (append-nil (i.ended ++ line)) in
             record {
               last = last;
               runs = rw (all, gives) runs;
               ends = rw (all, gives, settled.halts (i.halts ∙ fed_halts machine input)) refl;
-              is_text = rw (lines-append quiet i.entries settled.entries) (sym (w.parted ∙ append-nil w.out));
+              is_text = refl;
             };
       }
+
+  -- the same of what a take answered
+  module _ {line_later later : List ℕ} {count_later number_later : ℕ} where
+    pub in_run_took_nothing : Took line rest line_later later count count_later number number_later (Ok None) →
+        InRun config says now quiet machine taken_old taken_new given_old given_new due later count_later number_later line_later
+    in_run_took_nothing t =
+        let numbered : number_later ≡ number_after t.last number = t.numbered in
+        let nothing : said t.last t.bytes ≡ Some None = sym t.says_so in
+        rw (numbered, t.begun) (in_run_nothing t.part nothing)
+
+    module _ (input : Input) (t : Took line rest line_later later count count_later number number_later (Ok (Some input))) where
+      says_input : said t.last t.bytes ≡ Some (Some input)
+      says_input = sym t.says_so
+
+      pub in_run_took_input : (handed new : Machine) (now' : Applications) (given_later due_later : List ℕ) → machine.is_halted ≡ false → handed ≡ fed input machine →
+          Settled says quiet i.entries handed new now' given_new due given_later due_later → is_still new ≡ true →
+          InRun config says now' quiet new taken_old taken_new given_old given_later due_later later count_later number_later line_later
+      in_run_took_input handed new now' given_later due_later running hands settles still =
+          let numbered : number_later ≡ number_after t.last number = t.numbered in
+          rw (numbered, t.begun) (in_run_input t.part input handed new now' given_later due_later says_input running hands settles still)
+
+      pub inputs_from_took : (more : List ℕ) → (later_inputs : List Input) × ((inputs (read ++ more)).0 ≡ i.earlier ++ (input ∷ later_inputs))
+      inputs_from_took more = inputs_from t.part input says_input more
+
+    pub ends_without_form : {fault : BadLine} → Took line rest line_later later count count_later number number_later (Err fault) → (is_ended : Bool) →
+        machine.is_halted ≡ false → HasEnded config says quiet taken_old taken_new is_ended given_old given_new due (End.BadLine number_later)
+    ends_without_form t is_ended running =
+        let same : number_later ≡ number = t.same_number in
+        let no_form : said t.last t.bytes ≡ None = sym t.says_so in
+        let wide : t.last ≡ Taken.TooWide → GoesOn (length i.ended) t.bytes later = λ is. t.goes_on is (length i.ended) (rw is at (size_used t.part)) in
+        rw same (in_run_stops (End.BadLine number) is_ended running (λ more limits. gives_no_form t.part wide no_form more))

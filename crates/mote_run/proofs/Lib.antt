@@ -1,4 +1,5 @@
 pub mod Determined
+pub mod Ended
 pub mod Fronts
 pub mod GivenBytes
 pub mod InRun

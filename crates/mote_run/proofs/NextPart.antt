@@ -1,16 +1,17 @@
 -- The script as far as its bytes were used, after a take of more of them.
-use Rattle.std.proofs.Common.{◌≡◌, ◌≢◌, ◌<◌, ◌≤◌, ◌+◌, ℕ, suc, true, false, List, [], ◌∷◌, ◌++◌, length, take, drop, ◌-◌, refl, ap, sym, ◌∙◌, arith, append_assoc, length-append, ne_eqb, not, ◌==◌}
-use Rattle.std.specs.Prelude.{Bool, Option, Some, None, unwrap_or, ◌&&◌}
-use Rattle.std.specs.List.{list_all}
+use Rattle.std.proofs.Common.{◌≡◌, ◌≢◌, ◌<◌, ◌≤◌, ◌+◌, ℕ, true, false, List, [], ◌∷◌, ◌++◌, length, take, drop, ◌-◌, refl, ap, sym, ◌∙◌, arith, append_assoc, length-append, ne_eqb, not, ◌==◌}
+use Rattle.std.specs.Prelude.{Bool, IfOk, OnErr, OnOk, Option, Some, None, Result, Ok, Err, unwrap_or, ◌&&◌}
+use Rattle.std.specs.Result.{result_ok}
 use Rattle.std.proofs.lemmas.List.{append-nil, length-take, length-take-le}
 use Rattle.std.proofs.lemmas.List.Folds.{list_all-append}
 use Rattle.mote_types.specs.declared.entry.Input.{Input}
 use Rattle.mote_text.specs.declared.lines.Taken.{Taken}
+use Rattle.mote_text.specs.declared.script.BadLine.{BadLine}
 use Rattle.mote_text.specs.declared.script.End.{End}
 use Rattle.mote_text.specs.Lines.{GoesOnAt, has_no_end, unfinished_after, with_end}
 use Rattle.mote_text.specs.Script.{inputs, line_limit, read_line, script_limit}
 use Rattle.mote_text.proofs.Reading.{Before, Gives, another_byte, line_of_input, line_of_no_form, line_of_nothing, line_too_long, script_limit_is, script_too_long}
-use Rattle.mote_run.specs.Code.Reading.{number_after, said}
+use Rattle.mote_run.specs.Code.Reading.{GoesOn, TakenPart, number_after, said}
 use Rattle.mote_run.proofs.Windows.{next_byte, used_and_later}
 
 -- the bytes that a line's end stands behind, with it
@@ -41,25 +42,6 @@ endless_after Taken.Line bytes endless = refl
 endless_after Taken.More bytes endless = endless
 endless_after Taken.TooWide bytes endless = endless
 
--- the bytes are as many as a line may have, and another one of the same line stands behind them, within what a script may have
-pub record GoesOn (ended : ℕ) (bytes later : List ℕ) : Type 0 where
-  pub full : length bytes ≡ line_limit
-  pub room : ended + length bytes < script_limit
-  pub byte : ℕ
-  pub tail : List ℕ
-  pub is : later ≡ byte ∷ tail
-  pub other : byte ≢ 10
-
--- what a take used of a piece, behind the bytes of the present line, and what it left
-pub record TakenPart (line piece later : List ℕ) (count count_later : ℕ) (last : Taken) (bytes : List ℕ) : Type 0 where
-  pub part : List ℕ
-  pub parts : piece ≡ part ++ later
-  pub used : line ++ part ≡ with_end last bytes
-  pub counts : count_later ≡ count + length part
-  pub within : count_later ≤ script_limit
-  pub narrow : length bytes ≤ line_limit
-  pub endless : has_no_end bytes ≡ true
-
 pub took : (line piece window later : List ℕ) (count used : ℕ) (last : Taken) (bytes : List ℕ) → window ≡ take (16_777_216 - count) piece → later ≡ drop used piece →
     used ≤ length window → line ++ take used window ≡ with_end last bytes → length bytes ≤ line_limit → has_no_end bytes ≡ true → count ≤ 16_777_216 →
     TakenPart line piece later count (count + used) last bytes
@@ -89,7 +71,7 @@ goes_on line piece window later count used ended bytes front rests limit size fu
       other = at.2;
     }
 
-pub not_wide : (last : Taken) (bytes : List ℕ) (says : Option Input) → said last bytes ≡ Some says → last ≢ Taken.TooWide
+not_wide : (last : Taken) (bytes : List ℕ) (says : Option Input) → said last bytes ≡ Some says → last ≢ Taken.TooWide
 not_wide Taken.Line bytes says e = λ is. absurd (cc)
 not_wide Taken.More bytes says e = λ is. absurd (cc)
 not_wide Taken.TooWide bytes says e = λ is. absurd (cc)
@@ -190,3 +172,28 @@ is_none (byte ∷ rest) h = absurd (omega (arith, h))
 pub some_left : (rest : List ℕ) → (length rest == 0) ≡ false → 0 < length rest
 some_left [] h = absurd (cc)
 some_left (byte ∷ rest) h = omega arith
+
+-- what a take answers is what the bytes say that it used
+pub says_of_result : (r : Result (Option Input) BadLine) (says : Option (Option Input)) → IfOk r (λ input. says ≡ Some input) → OnErr r (says ≡ None) → result_ok r ≡ says
+says_of_result (Ok input) says is none = sym is
+says_of_result (Err fault) says is none = sym none
+
+pub some_used : (r : Result (Option Input) BadLine) (count used : ℕ) (piece window : List ℕ) → window ≡ take (16_777_216 - count) piece → count < 16_777_216 →
+    0 < length piece → OnOk r (0 < length window → 0 < used) → OnOk r (count < count + used)
+some_used (Ok input) count used piece window is room rest some =
+    let used_some = some (rw is (omega (arith, room, rest, length-take (16_777_216 - count) piece))) in
+    omega (arith, used_some)
+some_used (Err fault) count used piece window is room rest some = tt
+
+-- the number of a line is at most one more than the number of bytes before it
+pub number_small : (r : Result (Option Input) BadLine) (last : Taken) (number number_later count used : ℕ) → number ≤ count + 1 → OnOk r (count < count + used) →
+    OnOk r (number_later ≡ number_after last number) → OnErr r (number_later ≡ number) → number_later ≤ count + used + 1
+number_small (Ok input) Taken.Line number number_later count used small some after same = omega (arith, small, some, after)
+number_small (Ok input) Taken.More number number_later count used small some after same = omega (arith, small, some, after)
+number_small (Ok input) Taken.TooWide number number_later count used small some after same = omega (arith, small, some, after)
+number_small (Err fault) last number number_later count used small some after same = omega (arith, small, same)
+
+-- a line that has a form is not too wide
+pub narrow_of_result : (r : Result (Option Input) BadLine) (last : Taken) (bytes : List ℕ) → IfOk r (λ input. said last bytes ≡ Some input) → OnOk r (last ≢ Taken.TooWide)
+narrow_of_result (Ok input) last bytes says = not_wide last bytes input says
+narrow_of_result (Err fault) last bytes says = tt

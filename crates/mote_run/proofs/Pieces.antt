@@ -32,6 +32,11 @@ pub failed_with : {T E Q P : Type 0} (r : Result T E) → OnErr r Q → (Q → P
 failed_with (Ok value) q f = tt
 failed_with (Err e) q f = f q
 
+-- a success after which this holds
+pub ok_then : {T E : Type 0} {P Q : T → Type 0} (r : Result T E) → IfOk r P → ((x : T) → P x → Q x) → IfOk r Q
+ok_then (Ok value) p f = f value p
+ok_then (Err e) p f = tt
+
 -- a `?` hands on the same error
 pub same_error : {T U E : Type 0} (r : Result T E) (e kind : E) → IsErrAnd r (λ x. x ≡ e) → IsErrOf r kind → IsErrOf {T = U} (Err e) kind
 same_error {U = U} r e kind and is = ap (λ x. Err x) (sym (subst (λ v. IsErrAnd v (λ x. x ≡ e)) is and))

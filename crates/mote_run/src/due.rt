@@ -1,20 +1,20 @@
 //! Text that is due: gathered first, and written in pieces.
 
 ghost use Rattle.std.specs.Prelude.{◌≡◌, ◌<◌, ◌≤◌, ◌+◌, ◌-◌, ◌^◌, [], ℕ, List, length, IfErr, OnErr, OnOk};
+ghost use Rattle.mote_text.specs.EntryText.{entry_line};
 ghost use Rattle.mote_run.specs.Code.Writing.{WritesOn};
 
 use crate::device::write_all;
 use crate::run::RunFault;
-use arrayvec::ArrayVec;
+use mote_text::line::{LineBuf, MOST_OF_LINE};
+use mote_text::transcript::push_entry;
 use mote_types::device::ByteSink;
-
-/// How many bytes are gathered at most.
-pub const MOST_DUE: usize = 4_096;
+use mote_types::entry::Entry;
 
 /// The text that was made and is not written yet.
 #[derive(Drop)]
 pub struct Due {
-    pub text: ArrayVec<u8, 4_096>,
+    pub text: LineBuf,
 }
 
 impl Due {
@@ -22,7 +22,7 @@ impl Due {
         ensures { result.text.items ≡ [] }
     {
         Due {
-            text: ArrayVec::new(),
+            text: LineBuf::new(),
         }
     }
 
@@ -41,9 +41,25 @@ impl Due {
         Ok(())
     }
 
+    /// Puts the line of an entry behind it. Where there may be no room for that, what is due is written first.
+    pub fn put_entry<K: ByteSink>(&mut self, sink: &mut K, entry: &Entry) -> Result<(), RunFault>
+        requires countable { K.failure_count sink.old < 2 ^ 64 - 1 }
+        ensures written { OnOk result (K.is_named → WritesOn (K.given sink.old) self.old.text.items (K.given sink.new) self.new.text.items (entry_line entry.now)) }
+        ensures cut_off { OnErr result (K.is_named → (lost : List ℕ) × WritesOn (K.given sink.old) self.old.text.items (K.given sink.new) lost (entry_line entry.now)) }
+        ensures succeeded { OnOk result (K.failure_count sink.new ≡ K.failure_count sink.old) }
+        ensures fault { IfErr result (λ fault. fault ≡ RunFault.Write) }
+        ensures failed { OnErr result (K.failure_count sink.new ≡ K.failure_count sink.old + 1) }
+    {
+        if self.text.remaining_capacity() < MOST_OF_LINE {
+            self.flush(sink)?;
+        }
+        push_entry(entry, &mut self.text);
+        Ok(())
+    }
+
     /// Puts more text behind it. Where there is no room for that, what is due is written first.
     pub fn put<K: ByteSink>(&mut self, sink: &mut K, text: &[u8]) -> Result<(), RunFault>
-        requires fits { length text.now ≤ MOST_DUE }
+        requires fits { length text.now ≤ 4_096 }
         requires countable { K.failure_count sink.old < 2 ^ 64 - 1 }
         ensures written { OnOk result (K.is_named → WritesOn (K.given sink.old) self.old.text.items (K.given sink.new) self.new.text.items text.now) }
         ensures cut_off { OnErr result (K.is_named → (lost : List ℕ) × WritesOn (K.given sink.old) self.old.text.items (K.given sink.new) lost text.now) }

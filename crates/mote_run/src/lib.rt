@@ -8,6 +8,8 @@ mod piece;
 mod reader;
 mod refill;
 pub mod run;
+mod script;
 mod settle;
+mod work;
 
 pub use mote_text::script::End;

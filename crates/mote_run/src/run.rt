@@ -1,24 +1,21 @@
 //! The run: what a mote makes of a script.
 
-ghost use Rattle.std.specs.Prelude.{◌≡◌, ◌<◌, ◌≤◌, ◌+◌, ◌-◌, ◌^◌, ◌++◌, ◌∷◌, ◌↔◌, [], ℕ, List, true, false, length, take, IfOk, OnOk, OnErr, IfErr, IsErrOf};
+ghost use Rattle.std.specs.Prelude.{◌≡◌, ◌<◌, ◌≤◌, ◌+◌, ◌-◌, ◌^◌, ◌↔◌, [], ℕ, List, false, length, IfOk, OnOk, OnErr, IfErr, IsErrOf};
 ghost use Rattle.mote_types.specs.Applications.{says_of};
 ghost use Rattle.mote_text.specs.Transcript.{final_line};
 ghost use Rattle.kernel_core.specs.declared.config.Config.{Config};
 ghost use Rattle.kernel_core.specs.Machine.{booted};
-ghost use Rattle.mote_run.specs.RunText.{HasRead, HasRun, HasRunInPart, HasRunOnWholeLines, WasBooted, script_done};
+ghost use Rattle.mote_run.specs.RunText.{HasRead, HasRun, HasRunInPart, HasRunOnWholeLines, WasBooted};
 ghost use Rattle.mote_run.specs.Shown.{Shows};
 ghost use Rattle.run_laws.specs.RunLaws.{BlocksAreOwn, EventsArriveInOrder, TimersAreKept};
 ghost use Rattle.mote_run.specs.Code.Writing.{WritesOn};
 
 use crate::due::Due;
 use crate::law::text_exists;
-use crate::piece::Piece;
-use crate::reader::Reader;
-use crate::refill::refill;
-use crate::settle::settle;
+use crate::work::take_script;
 use kernel_core::kernel::Kernel;
 use mote_text::line::LineBuf;
-use mote_text::script::{BadLine, End, SCRIPT_LIMIT};
+use mote_text::script::{End, SCRIPT_LIMIT};
 use mote_text::transcript::final_text;
 use mote_types::app::App;
 use mote_types::device::{ByteSink, ByteSource};
@@ -26,9 +23,6 @@ use run_laws::events::events_arrive_in_order;
 use run_laws::memory::blocks_are_own;
 use run_laws::timers::timers_are_kept;
 use thiserror::Error;
-
-/// How many bytes a script has at most.
-const LIMIT: usize = SCRIPT_LIMIT as usize;
 
 /// A device that failed during a run.
 #[derive(Clone, Copy, Debug, PartialEq, Eq, Drop, Error)]
@@ -56,76 +50,31 @@ fn close<K: ByteSink>(sink: &mut K, due: &mut Due, end: End) -> Result<End, RunF
     Ok(end)
 }
 
-/// The end of a run whose script has ended.
-fn end_of(kernel: &Kernel) -> End
-    ensures { result ≡ script_done kernel.now.machine }
-{
-    if kernel.halted() {
-        End::Halted
-    } else {
-        End::Finished
-    }
-}
-
-/// Reads the script in pieces, hands each line's input to the mote, and writes the text of the run.
+/// Carries out the script, and writes the text of the run.
 fn write_run<S: ByteSource, K: ByteSink>(
     source: &mut S,
     sink: &mut K,
-    kernel: Kernel,
+    kernel: &mut Kernel,
     apps: &mut [Box<dyn App>],
     quiet: bool,
 ) -> Result<End, RunFault>
-    requires booted { WasBooted kernel (length apps.old) }
+    requires booted { WasBooted kernel.old (length apps.old) }
     requires unended { S.is_ended source.old ≡ false }
     requires countable_reads { S.failure_count source.old < 2 ^ 64 - 1 }
     requires countable_writes { K.failure_count sink.old < 2 ^ 64 - 1 }
-    ensures text { IfOk result (λ end. S.is_named → K.is_named → (config : Config) → kernel.machine ≡ booted config →
+    ensures text { IfOk result (λ end. S.is_named → K.is_named → (config : Config) → kernel.old.machine ≡ booted config →
         HasRun config (says_of says apps.old) quiet (S.taken source.old) (S.taken source.new) (S.is_ended source.new) (K.given sink.old) (K.given sink.new) end) }
-    ensures front { OnErr result (S.is_named → K.is_named → (config : Config) → kernel.machine ≡ booted config →
+    ensures front { OnErr result (S.is_named → K.is_named → (config : Config) → kernel.old.machine ≡ booted config →
         HasRunInPart config (says_of says apps.old) quiet (S.taken source.old) (S.taken source.new) (S.is_ended source.new) (K.given sink.old) (K.given sink.new)) }
-    ensures after_read_fault { IsErrOf result RunFault.Read → S.is_named → K.is_named → (config : Config) → kernel.machine ≡ booted config →
+    ensures after_read_fault { IsErrOf result RunFault.Read → S.is_named → K.is_named → (config : Config) → kernel.old.machine ≡ booted config →
         HasRunOnWholeLines config (says_of says apps.old) quiet (S.taken source.old) (S.taken source.new) (K.given sink.old) (K.given sink.new) }
     ensures few { S.is_named → (count : ℕ) × (count ≤ SCRIPT_LIMIT + 1) × HasRead count (S.taken source.old) (S.taken source.new) }
     ensures read_fault { IsErrOf result RunFault.Read ↔ (S.failure_count source.old < S.failure_count source.new) }
     ensures write_fault { IsErrOf result RunFault.Write ↔ (K.failure_count sink.old < K.failure_count sink.new) }
 {
-    let mut kernel = kernel;
     let mut due = Due::new();
-    let mut piece = Piece::new();
-    let mut reader = Reader::new();
-    let mut taken = 0;
-    settle(sink, &mut due, &mut kernel, apps, quiet)?;
-    'part: loop {
-        if kernel.halted() {
-            return close(sink, &mut due, End::Halted);
-        }
-        refill(source, sink, &mut due, &mut piece, LIMIT + 1 - taken)?;
-        if piece.is_empty() {
-            match reader.end() {
-                Ok(None) => return close(sink, &mut due, End::Finished),
-                Ok(Some(input)) => {
-                    kernel.feed(input);
-                    settle(sink, &mut due, &mut kernel, apps, quiet)?;
-                    return close(sink, &mut due, end_of(&kernel));
-                }
-                Err(BadLine) => return close(sink, &mut due, End::BadLine(reader.number)),
-            }
-        }
-        if taken == LIMIT {
-            return close(sink, &mut due, End::TooLong);
-        }
-        let (used, says) = reader.take(piece.first(LIMIT - taken));
-        piece.skip(used);
-        taken += used;
-        match says {
-            Ok(None) => {}
-            Ok(Some(input)) => {
-                kernel.feed(input);
-                settle(sink, &mut due, &mut kernel, apps, quiet)?;
-            }
-            Err(BadLine) => return close(sink, &mut due, End::BadLine(reader.number)),
-        }
-    }
+    let end = take_script(source, sink, &mut due, kernel, apps, quiet)?;
+    close(sink, &mut due, end)
 }
 
 /// Runs the applications over a script: reads it in pieces of at most 4,096 bytes, hands each line's input to the mote, and
@@ -172,5 +121,6 @@ pub fn run<S: ByteSource, K: ByteSink>(
     events_arrive_in_order();
     timers_are_kept();
     text_exists();
-    write_run(source, sink, kernel, apps, quiet)
+    let mut kernel = kernel;
+    write_run(source, sink, &mut kernel, apps, quiet)
 }

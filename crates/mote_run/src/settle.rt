@@ -11,8 +11,7 @@ use crate::due::Due;
 use crate::run::RunFault;
 use kernel_core::kernel::Kernel;
 use kernel_core::step::Step;
-use mote_text::line::LineBuf;
-use mote_text::transcript::{entry_text, is_shown};
+use mote_text::transcript::is_shown;
 use mote_types::app::App;
 use mote_types::device::ByteSink;
 use mote_types::entry::Entry;
@@ -23,7 +22,6 @@ fn write_entry<K: ByteSink>(
     due: &mut Due,
     entry: &Entry,
     quiet: bool,
-    line: &mut LineBuf,
 ) -> Result<(), RunFault>
     requires countable { K.failure_count sink.old < 2 ^ 64 - 1 }
     ensures written { OnOk result (K.is_named → WritesOn (K.given sink.old) due.old.text.items (K.given sink.new) due.new.text.items (lines quiet (entry.now ∷ []))) }
@@ -35,8 +33,7 @@ fn write_entry<K: ByteSink>(
     if !is_shown(entry, quiet) {
         return Ok(());
     }
-    entry_text(entry, line);
-    due.put(sink, line.as_slice())
+    due.put_entry(sink, entry)
 }
 
 /// Works until nothing more happens without an input. The line of each entry that is shown is written, or is due then.
@@ -61,10 +58,9 @@ pub fn settle<K: ByteSink>(
     ensures fault { IfErr result (λ fault. fault ≡ RunFault.Write) }
     ensures failed { OnErr result (K.failure_count sink.new ≡ K.failure_count sink.old + 1) }
 {
-    let mut line = LineBuf::new();
     'entry: loop {
         match kernel.step(apps) {
-            Step::Entry(entry) => write_entry(sink, due, &entry, quiet, &mut line)?,
+            Step::Entry(entry) => write_entry(sink, due, &entry, quiet)?,
             Step::Rest => return Ok(()),
             Step::Halted => return Ok(()),
         }

@@ -13,7 +13,7 @@ use mote_types::reply::Chunk;
 
 /// Appends a call on one thing, named by its number.
 fn push_named(line: &mut LineBuf, word: &[u8], name: u8)
-    requires { length line.old.items + 22 + length word.now ≤ 640 }
+    requires { length line.old.items + 22 + length word.now ≤ 4096 }
     ensures text { line.new.items ≡ line.old.items ++ spaced (word.now ∷ decimal name ∷ []) }
     ensures length { length line.new.items ≤ length line.old.items + 22 + length word.now }
 {
@@ -22,7 +22,7 @@ fn push_named(line: &mut LineBuf, word: &[u8], name: u8)
 
 /// Appends a call on two things.
 fn push_pair(line: &mut LineBuf, word: &[u8], first: u8, second: u8)
-    requires { length line.old.items + 43 + length word.now ≤ 640 }
+    requires { length line.old.items + 43 + length word.now ≤ 4096 }
     ensures text { line.new.items ≡ line.old.items ++ spaced (word.now ∷ decimal first ∷ decimal second ∷ []) }
     ensures length { length line.new.items ≤ length line.old.items + 43 + length word.now }
 {
@@ -32,7 +32,7 @@ fn push_pair(line: &mut LineBuf, word: &[u8], first: u8, second: u8)
 
 /// Appends a call on three things.
 fn push_triple(line: &mut LineBuf, word: &[u8], first: u8, second: u8, third: u8)
-    requires { length line.old.items + 64 + length word.now ≤ 640 }
+    requires { length line.old.items + 64 + length word.now ≤ 4096 }
     ensures text { line.new.items ≡ line.old.items ++ spaced (word.now ∷ decimal first ∷ decimal second ∷ decimal third ∷ []) }
     ensures length { length line.new.items ≤ length line.old.items + 64 + length word.now }
 {
@@ -42,7 +42,7 @@ fn push_triple(line: &mut LineBuf, word: &[u8], first: u8, second: u8, third: u8
 
 /// Appends a call that gives a thing a length or an interval.
 fn push_sized(line: &mut LineBuf, word: &[u8], name: u8, size: u32)
-    requires { length line.old.items + 43 + length word.now ≤ 640 }
+    requires { length line.old.items + 43 + length word.now ≤ 4096 }
     ensures text { line.new.items ≡ line.old.items ++ spaced (word.now ∷ decimal name ∷ decimal size ∷ []) }
     ensures length { length line.new.items ≤ length line.old.items + 43 + length word.now }
 {
@@ -52,7 +52,7 @@ fn push_sized(line: &mut LineBuf, word: &[u8], name: u8, size: u32)
 
 /// Appends a call that reads from a thing.
 fn push_read(line: &mut LineBuf, word: &[u8], name: u8, at: u32, len: u8)
-    requires { length line.old.items + 64 + length word.now ≤ 640 }
+    requires { length line.old.items + 64 + length word.now ≤ 4096 }
     ensures text { line.new.items ≡ line.old.items ++ spaced (word.now ∷ decimal name ∷ decimal at ∷ decimal len ∷ []) }
     ensures length { length line.new.items ≤ length line.old.items + 64 + length word.now }
 {
@@ -62,7 +62,7 @@ fn push_read(line: &mut LineBuf, word: &[u8], name: u8, at: u32, len: u8)
 
 /// Appends a call that writes into a thing.
 fn push_write(line: &mut LineBuf, word: &[u8], name: u8, at: u32, chunk: &Chunk)
-    requires { length line.old.items + 173 + length word.now ≤ 640 }
+    requires { length line.old.items + 173 + length word.now ≤ 4096 }
     ensures text { line.new.items ≡ line.old.items ++ spaced (word.now ∷ decimal name ∷ decimal at ∷ hex chunk.now.items ∷ []) }
     ensures length { length line.new.items ≤ length line.old.items + 173 + length word.now }
 {
@@ -72,7 +72,7 @@ fn push_write(line: &mut LineBuf, word: &[u8], name: u8, at: u32, chunk: &Chunk)
 
 /// Appends a call that posts an event to a process.
 fn push_post(line: &mut LineBuf, word: &[u8], process: u8, code: u8, payload: &Payload)
-    requires { length line.old.items + 299 + length word.now ≤ 640 }
+    requires { length line.old.items + 299 + length word.now ≤ 4096 }
     ensures text { line.new.items ≡ line.old.items ++ spaced (word.now ∷ decimal process ∷ decimal code ∷ payload_word payload.now ∷ []) }
     ensures length { length line.new.items ≤ length line.old.items + 299 + length word.now }
 {
@@ -82,7 +82,7 @@ fn push_post(line: &mut LineBuf, word: &[u8], process: u8, code: u8, payload: &P
 
 /// Appends a call that posts an event to all processes.
 fn push_broadcast(line: &mut LineBuf, word: &[u8], code: u8, payload: &Payload)
-    requires { length line.old.items + 278 + length word.now ≤ 640 }
+    requires { length line.old.items + 278 + length word.now ≤ 4096 }
     ensures text { line.new.items ≡ line.old.items ++ spaced (word.now ∷ decimal code ∷ payload_word payload.now ∷ []) }
     ensures length { length line.new.items ≤ length line.old.items + 278 + length word.now }
 {
@@ -92,7 +92,7 @@ fn push_broadcast(line: &mut LineBuf, word: &[u8], code: u8, payload: &Payload)
 
 /// Appends a call that reads from a pool's block.
 fn push_pool_read(line: &mut LineBuf, word: &[u8], pool: u8, block: u8, at: u32, len: u8)
-    requires { length line.old.items + 85 + length word.now ≤ 640 }
+    requires { length line.old.items + 85 + length word.now ≤ 4096 }
     ensures text { line.new.items ≡ line.old.items ++ spaced (word.now ∷ decimal pool ∷ decimal block ∷ decimal at ∷ decimal len ∷ []) }
     ensures length { length line.new.items ≤ length line.old.items + 85 + length word.now }
 {
@@ -103,7 +103,7 @@ fn push_pool_read(line: &mut LineBuf, word: &[u8], pool: u8, block: u8, at: u32,
 
 /// Appends a call that writes into a pool's block.
 fn push_pool_write(line: &mut LineBuf, word: &[u8], pool: u8, block: u8, at: u32, chunk: &Chunk)
-    requires { length line.old.items + 194 + length word.now ≤ 640 }
+    requires { length line.old.items + 194 + length word.now ≤ 4096 }
     ensures text { line.new.items ≡ line.old.items ++ spaced (word.now ∷ decimal pool ∷ decimal block ∷ decimal at ∷ hex chunk.now.items ∷ []) }
     ensures length { length line.new.items ≤ length line.old.items + 194 + length word.now }
 {
@@ -114,7 +114,7 @@ fn push_pool_write(line: &mut LineBuf, word: &[u8], pool: u8, block: u8, at: u32
 
 /// Appends a call that reads from the front frame.
 fn push_packet_read(line: &mut LineBuf, word: &[u8], at: u32, len: u8)
-    requires { length line.old.items + 43 + length word.now ≤ 640 }
+    requires { length line.old.items + 43 + length word.now ≤ 4096 }
     ensures text { line.new.items ≡ line.old.items ++ spaced (word.now ∷ decimal at ∷ decimal len ∷ []) }
     ensures length { length line.new.items ≤ length line.old.items + 43 + length word.now }
 {
@@ -126,7 +126,7 @@ fn push_packet_read(line: &mut LineBuf, word: &[u8], at: u32, len: u8)
 #[tactic(auto)]
 fn push_pool_call(line: &mut LineBuf, call: &Call)
     requires kind { IsTrue (is_on_pools call.now) }
-    requires room { length line.old.items + 208 ≤ 640 }
+    requires room { length line.old.items + 208 ≤ 4096 }
     ensures text { line.new.items ≡ line.old.items ++ spaced (call_words call.now) }
     ensures length { length line.new.items ≤ length line.old.items + 208 }
 {
@@ -159,7 +159,7 @@ fn push_pool_call(line: &mut LineBuf, call: &Call)
 #[tactic(auto)]
 fn push_block_call(line: &mut LineBuf, call: &Call)
     requires kind { IsTrue (is_on_blocks call.now) }
-    requires room { length line.old.items + 208 ≤ 640 }
+    requires room { length line.old.items + 208 ≤ 4096 }
     ensures text { line.new.items ≡ line.old.items ++ spaced (call_words call.now) }
     ensures length { length line.new.items ≤ length line.old.items + 208 }
 {
@@ -187,7 +187,7 @@ fn push_block_call(line: &mut LineBuf, call: &Call)
 /// Appends what a process called, at most 309 bytes.
 #[tactic(auto)]
 pub(crate) fn push_call(line: &mut LineBuf, call: &Call)
-    requires { length line.old.items + 309 ≤ 640 }
+    requires { length line.old.items + 309 ≤ 4096 }
     ensures text { line.new.items ≡ line.old.items ++ spaced (call_words call.now) }
     ensures length { length line.new.items ≤ length line.old.items + 309 }
 {

@@ -8,15 +8,19 @@ ghost use Rattle.mote_text.specs.EntryText.{hex, spaced};
 use arrayvec::ArrayVec;
 use itoa::Buffer;
 
-/// Room for a line of a transcript with its end: no line is longer.
-pub type LineBuf = ArrayVec<u8, 640>;
+/// Room for lines of a transcript.
+pub type LineBuf = ArrayVec<u8, 4_096>;
+
+/// No line of a transcript is longer, with its end.
+pub const MOST_OF_LINE: usize = 640;
 
 /// What stands where digits will be written.
 static BLANKS: [u8; 512] = [0; 512];
 
 /// Appends these bytes.
+#[inline(always)]
 pub(crate) fn push_bytes(line: &mut LineBuf, bytes: &[u8])
-    requires { length line.old.items + length bytes.now ≤ 640 }
+    requires { length line.old.items + length bytes.now ≤ 4096 }
     ensures { line.new.items ≡ line.old.items ++ bytes.now }
 {
     let _ = line.try_extend_from_slice(bytes);
@@ -25,7 +29,7 @@ pub(crate) fn push_bytes(line: &mut LineBuf, bytes: &[u8])
 /// Appends two lower case hex digits for each byte.
 pub(crate) fn push_digits(line: &mut LineBuf, bytes: &[u8])
     requires few { length bytes.now ≤ 256 }
-    requires room { length line.old.items + 2 * length bytes.now ≤ 640 }
+    requires room { length line.old.items + 2 * length bytes.now ≤ 4096 }
     ensures text { line.new.items ≡ line.old.items ++ encode_lower bytes.now }
     ensures length { length line.new.items ≡ length line.old.items + 2 * length bytes.now }
 {
@@ -35,8 +39,9 @@ pub(crate) fn push_digits(line: &mut LineBuf, bytes: &[u8])
 }
 
 /// Appends this word.
+#[inline(always)]
 pub(crate) fn push_word(line: &mut LineBuf, word: &[u8])
-    requires { length line.old.items + 1 + length word.now ≤ 640 }
+    requires { length line.old.items + 1 + length word.now ≤ 4096 }
     ensures text { line.new.items ≡ line.old.items ++ spaced (word.now ∷ []) }
     ensures length { length line.new.items ≡ length line.old.items + 1 + length word.now }
 {
@@ -46,7 +51,7 @@ pub(crate) fn push_word(line: &mut LineBuf, word: &[u8])
 
 /// Appends this number in decimal: at most 20 digits.
 pub(crate) fn push_number(line: &mut LineBuf, n: u64)
-    requires { length line.old.items + 21 ≤ 640 }
+    requires { length line.old.items + 21 ≤ 4096 }
     ensures text { line.new.items ≡ line.old.items ++ spaced (decimal n ∷ []) }
     ensures length { length line.new.items ≤ length line.old.items + 21 }
 {
@@ -56,7 +61,7 @@ pub(crate) fn push_number(line: &mut LineBuf, n: u64)
 /// Appends these bytes in hex, or a dash where there are none.
 pub(crate) fn push_hex(line: &mut LineBuf, bytes: &[u8])
     requires few { length bytes.now ≤ 256 }
-    requires room { length line.old.items + 2 + 2 * length bytes.now ≤ 640 }
+    requires room { length line.old.items + 2 + 2 * length bytes.now ≤ 4096 }
     ensures text { line.new.items ≡ line.old.items ++ spaced (hex bytes.now ∷ []) }
     ensures length { length line.new.items ≤ length line.old.items + 2 + 2 * length bytes.now }
 {
@@ -70,7 +75,7 @@ pub(crate) fn push_hex(line: &mut LineBuf, bytes: &[u8])
 
 /// Appends this word, and a number.
 pub(crate) fn push_numbered(line: &mut LineBuf, word: &[u8], n: u64)
-    requires { length line.old.items + 22 + length word.now ≤ 640 }
+    requires { length line.old.items + 22 + length word.now ≤ 4096 }
     ensures text { line.new.items ≡ line.old.items ++ spaced (word.now ∷ decimal n ∷ []) }
     ensures length { length line.new.items ≤ length line.old.items + 22 + length word.now }
 {
@@ -81,7 +86,7 @@ pub(crate) fn push_numbered(line: &mut LineBuf, word: &[u8], n: u64)
 /// Appends this word, and bytes.
 pub(crate) fn push_shown(line: &mut LineBuf, word: &[u8], bytes: &[u8])
     requires few { length bytes.now ≤ 256 }
-    requires room { length line.old.items + 3 + length word.now + 2 * length bytes.now ≤ 640 }
+    requires room { length line.old.items + 3 + length word.now + 2 * length bytes.now ≤ 4096 }
     ensures text { line.new.items ≡ line.old.items ++ spaced (word.now ∷ hex bytes.now ∷ []) }
     ensures length { length line.new.items ≤ length line.old.items + 3 + length word.now + 2 * length bytes.now }
 {

@@ -1,11 +1,11 @@
 //! The lines of a script, and how a run ends.
 
-ghost use Rattle.std.specs.Prelude.{◌≡◌};
+ghost use Rattle.std.specs.Prelude.{◌≡◌, codes, option_and_then};
 ghost use Rattle.std.specs.Option.{option_map};
 ghost use Rattle.std.specs.Char.{is_ascii_digit};
 ghost use Rattle.std.specs.List.{list_all};
 ghost use Rattle.std.specs.Result.{result_ok};
-ghost use Rattle.mote_text.specs.Script.{is_number, read_number, read_tick, read_bytes, read_serial, read_frame, read_words, read_line};
+ghost use Rattle.mote_text.specs.Script.{argument_of, is_number, read_number, read_bytes, read_line};
 
 use arrayvec::ArrayVec;
 use mote_types::entry::Input;
@@ -58,12 +58,11 @@ fn read_number(text: &[u8]) -> Option<u32>
     str::from_utf8(text).ok()?.parse().ok()
 }
 
-/// The input of a line `tick N`.
-fn read_tick(line: &[u8]) -> Option<Input>
-    ensures { result ≡ read_tick line.now }
+/// The number of a line `tick N`.
+fn read_tick(line: &[u8]) -> Option<u32>
+    ensures { result ≡ option_and_then read_number (argument_of (codes "tick ") line.now) }
 {
-    let number = read_number(line.strip_prefix(b"tick ")?)?;
-    Some(Input::Tick(number))
+    read_number(line.strip_prefix(b"tick ")?)
 }
 
 /// From one to `N` bytes, which a text is in hex digits of either case.
@@ -81,29 +80,18 @@ fn read_bytes<const N: usize>(digits: &[u8]) -> Option<ArrayVec<u8, N>>
     Some(read)
 }
 
-/// The input of a line `serial HEX`.
-fn read_serial(line: &[u8]) -> Option<Input>
-    ensures { result ≡ read_serial line.now }
+/// The bytes of a line `serial HEX`.
+fn read_serial(line: &[u8]) -> Option<ArrayVec<u8, 256>>
+    ensures { option_map (λ bytes. bytes.items) result ≡ option_and_then (read_bytes 256) (argument_of (codes "serial ") line.now) }
 {
-    let bytes = read_bytes(line.strip_prefix(b"serial ")?)?;
-    Some(Input::Serial(bytes))
+    read_bytes(line.strip_prefix(b"serial ")?)
 }
 
-/// The input of a line `frame HEX`.
-fn read_frame(line: &[u8]) -> Option<Input>
-    ensures { result ≡ read_frame line.now }
+/// The bytes of a line `frame HEX`.
+fn read_frame(line: &[u8]) -> Option<ArrayVec<u8, 127>>
+    ensures { option_map (λ bytes. bytes.items) result ≡ option_and_then (read_bytes 127) (argument_of (codes "frame ") line.now) }
 {
-    let bytes = read_bytes(line.strip_prefix(b"frame ")?)?;
-    Some(Input::Frame(bytes))
-}
-
-/// The input of a line that is neither empty nor a comment.
-fn read_words(line: &[u8]) -> Option<Input>
-    ensures { result ≡ read_words line.now }
-{
-    read_tick(line)
-        .or_else(|| read_serial(line))
-        .or_else(|| read_frame(line))
+    read_bytes(line.strip_prefix(b"frame ")?)
 }
 
 /// What a line of a script says, without its end: an input, or nothing (an empty line, a comment).
@@ -123,8 +111,14 @@ pub fn read_input(line: &[u8]) -> Result<Option<Input>, BadLine>
     if line.is_empty() || line[0] == b'#' {
         return Ok(None);
     }
-    match read_words(line) {
-        Some(input) => Ok(Some(input)),
-        None => Err(BadLine),
+    if let Some(number) = read_tick(line) {
+        return Ok(Some(Input::Tick(number)));
     }
+    if let Some(bytes) = read_serial(line) {
+        return Ok(Some(Input::Serial(bytes)));
+    }
+    if let Some(bytes) = read_frame(line) {
+        return Ok(Some(Input::Frame(bytes)));
+    }
+    Err(BadLine)
 }

@@ -6,7 +6,7 @@ ghost use Rattle.mote_text.specs.EntryText.{entry_line, spaced, origin_word, sti
 ghost use Rattle.mote_text.specs.Transcript.{final_line, is_shown};
 
 use crate::calls::push_call;
-use crate::line::{LineBuf, push_bytes, push_number, push_word};
+use crate::line::{LineBuf, MOST_OF_LINE, push_bytes, push_number, push_word};
 use crate::script::End;
 use crate::words::{push_input, push_note, push_origin, push_stimulus};
 use itoa::Buffer;
@@ -16,9 +16,9 @@ use mote_types::event::{Origin, Pid, Stimulus};
 
 /// Appends the words of a turn.
 fn push_turn(line: &mut LineBuf, pid: Pid, origin: Origin, stimulus: &Stimulus, call: &Call)
-    requires { line.old.items ≡ [] }
-    ensures text { line.new.items ≡ decimal pid.0 ++ spaced (origin_word origin ∷ (stimulus_words stimulus.now ++ codes "->" ∷ call_words call.now)) }
-    ensures length { length line.new.items ≤ 639 }
+    requires { length line.old.items + 639 ≤ 4096 }
+    ensures text { line.new.items ≡ line.old.items ++ (decimal pid.0 ++ spaced (origin_word origin ∷ (stimulus_words stimulus.now ++ codes "->" ∷ call_words call.now))) }
+    ensures length { length line.new.items ≤ length line.old.items + 639 }
 {
     push_bytes(line, Buffer::new().format(pid.0).as_bytes());
     push_origin(line, origin);
@@ -27,14 +27,14 @@ fn push_turn(line: &mut LineBuf, pid: Pid, origin: Origin, stimulus: &Stimulus, 
     push_call(line, call);
 }
 
-/// Puts the line of an entry, with its end, in place of what is in the buffer.
+/// Appends the line of an entry, with its end.
 ///
 /// Source: the transcript format is this project's profile.
 #[tactic(auto, unfolding(crate::specs::EntryText::entry_line, crate::specs::EntryText::line_of, crate::specs::EntryText::spaced))]
-pub fn entry_text(entry: &Entry, line: &mut LineBuf)
-    ensures { line.new.items ≡ entry_line entry.now }
+pub fn push_entry(entry: &Entry, line: &mut LineBuf)
+    requires { length line.old.items + MOST_OF_LINE ≤ 4096 }
+    ensures { line.new.items ≡ line.old.items ++ entry_line entry.now }
 {
-    line.clear();
     match entry {
         Entry::Input(input) => {
             push_bytes(line, b">");
@@ -53,6 +53,14 @@ pub fn entry_text(entry: &Entry, line: &mut LineBuf)
         Entry::Halt => push_bytes(line, b"halt"),
     }
     push_bytes(line, b"\n");
+}
+
+/// Puts the line of an entry, with its end, in place of what is in the buffer.
+pub fn entry_text(entry: &Entry, line: &mut LineBuf)
+    ensures { line.new.items ≡ entry_line entry.now }
+{
+    line.clear();
+    push_entry(entry, line);
 }
 
 /// Puts the last line of a transcript, with its end, in place of what is in the buffer: nothing, where the run finished

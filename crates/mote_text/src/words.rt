@@ -11,7 +11,7 @@ use mote_types::event::{Origin, Payload, Stimulus};
 use mote_types::reply::{HeapStats, Reply};
 
 pub(crate) fn push_payload(line: &mut LineBuf, payload: &Payload)
-    requires { length line.old.items + 256 ≤ 640 }
+    requires { length line.old.items + 256 ≤ 4096 }
     ensures text { line.new.items ≡ line.old.items ++ spaced (payload_word payload.now ∷ []) }
     ensures length { length line.new.items ≤ length line.old.items + 256 }
 {
@@ -26,7 +26,7 @@ pub(crate) fn push_payload(line: &mut LineBuf, payload: &Payload)
 }
 
 pub(crate) fn push_origin(line: &mut LineBuf, origin: Origin)
-    requires { length line.old.items + 9 ≤ 640 }
+    requires { length line.old.items + 9 ≤ 4096 }
     ensures text { line.new.items ≡ line.old.items ++ spaced (origin_word origin ∷ []) }
     ensures length { length line.new.items ≤ length line.old.items + 9 }
 {
@@ -40,7 +40,7 @@ pub(crate) fn push_origin(line: &mut LineBuf, origin: Origin)
 }
 
 fn push_stats(line: &mut LineBuf, stats: &HeapStats)
-    requires { length line.old.items + 111 ≤ 640 }
+    requires { length line.old.items + 111 ≤ 4096 }
     ensures text { line.new.items ≡ line.old.items ++ spaced (stats_words stats.now) }
     ensures length { length line.new.items ≤ length line.old.items + 111 }
 {
@@ -53,7 +53,7 @@ fn push_stats(line: &mut LineBuf, stats: &HeapStats)
 }
 
 fn push_reply(line: &mut LineBuf, reply: &Reply)
-    requires { length line.old.items + 136 ≤ 640 }
+    requires { length line.old.items + 136 ≤ 4096 }
     ensures text { line.new.items ≡ line.old.items ++ spaced (reply_words reply.now) }
     ensures length { length line.new.items ≤ length line.old.items + 136 }
 {
@@ -73,7 +73,7 @@ fn push_reply(line: &mut LineBuf, reply: &Reply)
 
 /// Appends what a process was told, at most 277 bytes.
 pub(crate) fn push_stimulus(line: &mut LineBuf, stimulus: &Stimulus)
-    requires { length line.old.items + 277 ≤ 640 }
+    requires { length line.old.items + 277 ≤ 4096 }
     ensures text { line.new.items ≡ line.old.items ++ spaced (stimulus_words stimulus.now) }
     ensures length { length line.new.items ≤ length line.old.items + 277 }
 {
@@ -89,7 +89,7 @@ pub(crate) fn push_stimulus(line: &mut LineBuf, stimulus: &Stimulus)
 
 /// Appends an input, at most 521 bytes.
 pub(crate) fn push_input(line: &mut LineBuf, input: &Input)
-    requires { length line.old.items + 521 ≤ 640 }
+    requires { length line.old.items + 521 ≤ 4096 }
     ensures text { line.new.items ≡ line.old.items ++ spaced (input_words input.now) }
     ensures length { length line.new.items ≤ length line.old.items + 521 }
 {
@@ -102,7 +102,7 @@ pub(crate) fn push_input(line: &mut LineBuf, input: &Input)
 
 /// Appends a note, at most 261 bytes.
 pub(crate) fn push_note(line: &mut LineBuf, note: &Note)
-    requires { length line.old.items + 261 ≤ 640 }
+    requires { length line.old.items + 261 ≤ 4096 }
     ensures text { line.new.items ≡ line.old.items ++ spaced (note_words note.now) }
     ensures length { length line.new.items ≤ length line.old.items + 261 }
 {

@@ -1,21 +1,15 @@
 -- The live blocks of all kinds lie apart, and each is read from its own part of the arena.
 use Rattle.std.proofs.Common.{◌≡◌, ◌≢◌, ℕ, zero, suc, ◌+◌, ◌≤◌, ◌<◌, ◌⊎◌, inl, inr, Bool, true, false, List, [], ◌∷◌, length, map, get_or, refl, sym, ap, ◌∙◌, arith, subst, Option, Some, None}
-use Rattle.std.specs.Prelude.{slice_get, slice_range, slice_index_or, replicate, IfSome, if◌then◌else◌}
+use Rattle.std.specs.Prelude.{slice_get, slice_index_or, replicate, IfSome, if◌then◌else◌}
 use Rattle.std.specs.Option.{option_map}
 use Rattle.std.proofs.lemmas.Option.{slice_get-get_or, slice_get_within}
 use Rattle.mote_types.specs.Bytes.{range_of}
-use Rattle.mote_types.specs.BlockNames.{IsName}
 use Rattle.arena_core.specs.declared.span.Span.{Span}
 use Rattle.arena_core.specs.Extents.{Extent, LiesIn, AreApart}
 use Rattle.arena_core.proofs.Ranges.{length-range}
-use Rattle.mmem_core.specs.declared.place.Place.{Place}
-use Rattle.mmem_core.specs.ManagedStore as managed_store
 use Rattle.mmem_core.specs.Separation as managed
-use Rattle.mmem_core.specs.Table.{Table, store_of}
 use Rattle.mmem_core.proofs.PlaceLemmas.{len_le_room}
 use Rattle.heap_core.specs.HeapBytes.{heap_of}
-use Rattle.heap_core.specs.HeapStore as heap_store
-use Rattle.heap_core.specs.HeapStore.{Block}
 use Rattle.heap_core.specs.Separation as heap
 use Rattle.heap_core.proofs.Callers.{IsLaidOut-apart}
 use Rattle.memb_core.specs.BlockPool.{block_of}

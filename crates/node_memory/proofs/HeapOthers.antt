@@ -1,6 +1,6 @@
 -- What a change of one block of the heap leaves: the bytes of every other one.
 use Rattle.std.proofs.Common.{◌≡◌, ◌≢◌, ℕ, Bool, true, false, List, [], ◌∷◌, refl, sym, ap, ◌∙◌, arith, map, Option, Some, None}
-use Rattle.std.specs.Prelude.{not, filter, find, if◌then◌else◌, ◌==◌, nat_lt}
+use Rattle.std.specs.Prelude.{not, filter, find, if◌then◌else◌, nat_lt}
 use Rattle.std.specs.Option.{option_map, option_map_or}
 use Rattle.mote_types.specs.BlockNames.{number_of}
 use Rattle.mote_types.specs.Bytes.{zeros, overwritten, resized}

@@ -7,3 +7,4 @@ pub mod LaidOut
 pub mod Listed
 pub mod Others
 pub mod Refused
+pub mod Stays

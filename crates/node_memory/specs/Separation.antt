@@ -94,3 +94,14 @@ pub record BlocksLieApart (m : PlacedMemory) : Type 0 where
       → extent.at + extent.len ≤ length m.layout.bytes
   pub apart : (one other : BlockName) (first second : Extent) → IsBlockName one → IsBlockName other → one ≢ other
       → extent_named one m.layout ≡ Some first → extent_named other m.layout ≡ Some second → AreApart first second
+
+-- every block stays as it is and where it is; what the arena holds beside the blocks may differ
+pub record StaysInPlace (old new : PlacedMemory) : Type 0 where
+  pub contents : new.contents ≡ old.contents
+  pub extents : (name : BlockName) → extent_named name new.layout ≡ extent_named name old.layout
+
+-- What a refused call leaves: all, but that making or resizing a block of the heap may have joined what was freed there before.
+abbrev pub LeavesAll : Call → PlacedMemory → PlacedMemory → Type 0
+LeavesAll (Call.HeapAlloc b n) old new = StaysInPlace old new
+LeavesAll (Call.HeapRealloc b n) old new = StaysInPlace old new
+LeavesAll _ old new = new ≡ old

@@ -1,4 +1,4 @@
-//! The calls on heap memory, each with its refusals. A call that is refused changes nothing.
+//! The calls on heap memory, each with its refusals. A call that is refused changes no block.
 
 ghost use Rattle.std.specs.Prelude.{◌≡◌, ◌≤◌};
 ghost use Rattle.mote_types.specs.BlockNames.{IsName};
@@ -6,6 +6,7 @@ ghost use Rattle.mote_types.specs.declared.call.Call.{Call};
 ghost use Rattle.mote_types.specs.declared.reply.Reply.{Reply as Answer};
 ghost use Rattle.heap_core.specs.HeapStore as store;
 ghost use Rattle.node_memory.specs.Ask.{ask_heap, IfRefused};
+ghost use Rattle.node_memory.specs.Separation.{StaysInPlace};
 
 use crate::memory::NodeMemory;
 use crate::ranges::{LONGEST_READ, chunk_of, is_outside};
@@ -31,7 +32,7 @@ impl NodeMemory {
         requires least { 3 ≤ pid.0 }
         requires most { pid.0 ≤ 19 }
         ensures asked { ask_heap (Call.HeapAlloc block n) pid.0 self.old.contents ≡ (self.new.contents, result) }
-        ensures refused { IfRefused result (self.new ≡ self.old) }
+        ensures refused { IfRefused result (StaysInPlace self.old self.new) }
     {
         if block > LAST_HEAP_BLOCK {
             return Reply::Refused(Refusal::BadName);
@@ -53,7 +54,7 @@ impl NodeMemory {
         requires least { 3 ≤ pid.0 }
         requires most { pid.0 ≤ 19 }
         ensures asked { ask_heap (Call.HeapRealloc block n) pid.0 self.old.contents ≡ (self.new.contents, result) }
-        ensures refused { IfRefused result (self.new ≡ self.old) }
+        ensures refused { IfRefused result (StaysInPlace self.old self.new) }
     {
         if block > LAST_HEAP_BLOCK {
             return Reply::Refused(Refusal::BadName);

@@ -57,7 +57,7 @@ impl Model for NodeMemory {
 
 impl NodeMemory {
     ghost use Rattle.node_memory.specs.Memory.{fresh_memory};
-    ghost use Rattle.node_memory.specs.Separation.{BlocksLieApart, LeavesOthers, changed_block};
+    ghost use Rattle.node_memory.specs.Separation.{BlocksLieApart, LeavesAll, LeavesOthers, changed_block};
 
     /// A node's memory without a block. All memory is taken here.
     ///
@@ -90,14 +90,14 @@ impl NodeMemory {
         })
     }
 
-    /// Carries out an application's call on memory, and answers its reply. A refused call changes nothing.
+    /// Carries out an application's call on memory, and answers its reply. A refused call changes no block, and moves none.
     ///
     /// Process 3 too may ask how much managed memory is free.
     pub fn ask(&mut self, pid: Pid, call: &Call) -> Reply
         requires on_memory { is_memory_call call.now ≡ true }
         requires asker { asking.MayAsk pid.0 call.now }
         ensures asked { asking.ask call.now pid.0 self.old.contents ≡ (self.new.contents, result) }
-        ensures refused { IfRefused result (self.new ≡ self.old) }
+        ensures refused { IfRefused result (LeavesAll call.now self.old self.new) }
         ensures others { LeavesOthers (changed_block call.now pid.0 self.old.contents) self.old.contents self.new.contents }
     {
         match MemoryCall::of(call) {
@@ -137,7 +137,7 @@ impl NodeMemory {
     fn ask_heap(&mut self, pid: Pid, call: HeapCall) -> Reply
         requires asker { asking.MayAsk pid.0 (heap_call call) }
         ensures asked { asking.ask_heap (heap_call call.entry) pid.0 self.old.contents ≡ (self.new.contents, result) }
-        ensures refused { IfRefused result (self.new ≡ self.old) }
+        ensures refused { IfRefused result (LeavesAll (heap_call call.entry) self.old self.new) }
     {
         match call {
             HeapCall::Alloc(block, n) => self.heap_alloc(pid, block, n),

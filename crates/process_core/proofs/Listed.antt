@@ -1,161 +1,325 @@
 -- The process list.
-use Rattle.std.proofs.Common.{◌≡◌, ℕ, ◌+◌, ◌<◌, ◌≤◌, Bool, true, false, List, [], ◌∷◌, ◌++◌, length, refl, sym, ◌∙◌, arith, eqb, ◌==◌, lit<}
-use Rattle.std.specs.Prelude.{take, drop, if◌then◌else◌}
-use Rattle.std.proofs.Common.{set, get_or}
-use Rattle.std.proofs.lemmas.List.Edits.{map_over_more}
-use Rattle.std.proofs.lemmas.List.{get_or_default}
-use Rattle.std.specs.List.{IsDistinct, AllByRecursion}
-use Rattle.std.proofs.lemmas.List.{length-map}
+use Rattle.std.proofs.Common.{◌≡◌, ◌≢◌, ℕ, ◌<◌, ◌≤◌, Bool, true, false, ◌&&◌, List, [], ◌∷◌, zero, suc, length, refl, sym, ◌∙◌, ap, arith, eqb, ◌==◌, lit<, set, get_or}
+use Rattle.std.specs.Prelude.{if◌then◌else◌, replicate}
+use Rattle.std.specs.List.{list_any, IsDistinct, AllByRecursion}
+use Rattle.std.proofs.lemmas.List.{length-set, get_or-set_same, get_or-set_other}
 use Rattle.std.proofs.lemmas.Bool.Decides.{nat_tests}
 use Rattle.std.proofs.lemmas.Map.Steps.{length-le_from_distinct_below}
 use Rattle.std.proofs.lemmas.Map.Keys.{IsDistinct-cons, IsDistinct-head, IsDistinct-tail}
 use Rattle.process_core.specs.declared.process.Process.{Process}
 use Rattle.process_core.specs.declared.state.State.{State}
-use Rattle.process_core.specs.Processes.{state_of, with_state, with_mark, without, is_process, numbers, at_first, is_marked}
-use Rattle.process_core.specs.Code.ProcessList.{AreApart}
+use Rattle.process_core.specs.Processes.{changed, state_of, with_state, with_mark, without, numbers, is_marked, is_any_marked}
+use Rattle.process_core.specs.Code.ProcessList.{IsKept, listed, mark_at, others, state_at}
 use Rattle.process_core.specs.Code.Nesting.{is_one_of}
-use Rattle.process_core.proofs.Sound.{none_from_is_one_of, state_after, state_at, state_marked, state_without, not_true, same_number}
+use Rattle.process_core.proofs.Sound.{none_from_is_one_of, same_number}
 
--- a change of what a process does or of its mark keeps the numbers
-pub numbers_with_state : (p : ℕ) (state : State) (list : List Process) → numbers (with_state p state list) ≡ numbers list
-numbers_with_state p state [] = refl
-numbers_with_state p state (x ∷ xs) = grind (arith, nat_tests, numbers_with_state p state xs)
+-- ---- what the list stands for
 
-pub numbers_with_mark : (p : ℕ) (marked : Bool) (list : List Process) → numbers (with_mark p marked list) ≡ numbers list
-numbers_with_mark p marked [] = refl
-numbers_with_mark p marked (x ∷ xs) = grind (arith, nat_tests, numbers_with_mark p marked xs)
+pub numbers_listed : (s : List State) (m : List Bool) (ns : List ℕ) → numbers (listed s m ns) ≡ ns
+numbers_listed s m [] = refl
+numbers_listed s m (n ∷ ns) = ap (λ (l : List ℕ). n ∷ l) (numbers_listed s m ns)
 
-one_of_more : (p x : ℕ) (xs : List ℕ) → is_one_of p xs ≡ true → is_one_of p (x ∷ xs) ≡ true
-one_of_more p x xs h = grind (arith, h)
-
-pub on_list : (p : ℕ) (list : List Process) → (state_of p list ≡ State.Absent → ⊥) → is_one_of p (numbers list) ≡ true
-on_list p [] h = absurd (h refl)
-on_list p (x ∷ xs) h = split (x.number == p) refl (on_list p xs)
+pub state_listed : (p : ℕ) (s : List State) (m : List Bool) (ns : List ℕ) →
+    state_of p (listed s m ns) ≡ (if is_one_of p ns then state_at s p else State.Absent)
+state_listed p s m [] = refl
+state_listed p s m (n ∷ ns) = split (eqb p n) refl (state_listed p s m ns)
   where
-    split : (b : Bool) → (x.number == p) ≡ b → ((state_of p xs ≡ State.Absent → ⊥) → is_one_of p (numbers xs) ≡ true)
-        → is_one_of p (numbers (x ∷ xs)) ≡ true
-    split true e more = grind (arith, nat_tests, e)
-    split false e more = one_of_more p x.number (numbers xs) (more (λ a. h (rw e a)))
+    split : (b : Bool) → eqb p n ≡ b → state_of p (listed s m ns) ≡ (if is_one_of p ns then state_at s p else State.Absent)
+        → state_of p (listed s m (n ∷ ns)) ≡ (if is_one_of p (n ∷ ns) then state_at s p else State.Absent)
+    split true e rest = let same = same_number n p e in grind (arith, nat_tests, e, same)
+    split false e rest = grind (arith, nat_tests, e, rest)
 
--- a list in which some process changes its mark
-pub apart_with_mark : (p : ℕ) (marked : Bool) (list : List Process) → AreApart list → AreApart (with_mark p marked list)
-apart_with_mark p marked list a =
-    let same = numbers_with_mark p marked list in
-    record {
-      distinct = rw same a.distinct;
-      below = rw same a.below;
-      present = λ q h e. a.present q (rw same at h) (sym (state_marked p q marked list) ∙ e);
-    }
-
-pub apart_with_state : (p : ℕ) (state : State) (list : List Process) → (state ≡ State.Absent → ⊥) → AreApart list
-    → AreApart (with_state p state list)
-apart_with_state p state list there a =
-    let same = numbers_with_state p state list in
-    record {
-      distinct = rw same a.distinct;
-      below = rw same a.below;
-      present = λ q h e. split q (rw same at h) e (eqb q p) refl;
-    }
+pub marked_listed : (p : ℕ) (s : List State) (m : List Bool) (ns : List ℕ) → is_marked p (listed s m ns) ≡ (is_one_of p ns && mark_at m p)
+marked_listed p s m [] = refl
+marked_listed p s m (n ∷ ns) = split (eqb p n) refl (marked_listed p s m ns)
   where
-    split : (q : ℕ) → is_one_of q (numbers list) ≡ true → state_of q (with_state p state list) ≡ State.Absent → (b : Bool) → eqb q p ≡ b → ⊥
-    split q h e true t =
-        let same = same_number p q t in
-        let h2 : is_one_of p (numbers list) ≡ true = rw same at h in
-        let e2 : state_of p (with_state p state list) ≡ State.Absent = rw same at e in
-        there (sym (state_at p state list (a.present p h2)) ∙ e2)
-    split q h e false t = a.present q h (sym (state_after p q state list t) ∙ e)
+    split : (b : Bool) → eqb p n ≡ b → is_marked p (listed s m ns) ≡ (is_one_of p ns && mark_at m p)
+        → is_marked p (listed s m (n ∷ ns)) ≡ (is_one_of p (n ∷ ns) && mark_at m p)
+    split true e rest = let same = same_number n p e in grind (arith, nat_tests, e, same, rest)
+    split false e rest = grind (arith, nat_tests, e, rest)
 
-pub apart_added : (p : ℕ) (list : List Process) → p < 20 → state_of p list ≡ State.Absent → AreApart list
-    → AreApart (record { number = p; state = State.Running; marked = false } ∷ list)
-apart_added p list known absent a =
-    let none : is_one_of p (numbers list) ≡ false = not_true (is_one_of p (numbers list)) (λ h. a.present p h absent) in
-    record {
-      distinct = IsDistinct-cons eqb p (numbers list) (none_from_is_one_of p (numbers list) none) a.distinct;
-      below = λ q h. split_below q h (eqb q p) refl;
-      present = λ q h e. split_present q h e (eqb q p) refl;
-    }
+pub any_listed : (s : List State) (m : List Bool) (ns : List ℕ) → is_any_marked (listed s m ns) ≡ list_any (λ n. mark_at m n) ns
+any_listed s m [] = refl
+any_listed s m (n ∷ ns) = grind (arith, any_listed s m ns)
+
+pub state_kept : (p : ℕ) (s : List State) (m : List Bool) (ns : List ℕ) → IsKept s m ns → state_of p (listed s m ns) ≡ state_at s p
+state_kept p s m ns k = split (is_one_of p ns) refl
   where
-    split_below : (q : ℕ) → is_one_of q (p ∷ numbers list) ≡ true → (b : Bool) → eqb q p ≡ b → q < 20
-    split_below q h true t = rw (same_number p q t) known
-    split_below q h false t = a.below q (grind (arith, h, t))
+    split : (b : Bool) → is_one_of p ns ≡ b → state_of p (listed s m ns) ≡ state_at s p
+    split true e = let h = state_listed p s m ns in grind (arith, e, h)
+    split false e = let h = state_listed p s m ns in let a = k.absent p e in grind (arith, e, h, a)
 
-    split_present : (q : ℕ) → is_one_of q (p ∷ numbers list) ≡ true
-        → state_of q (record { number = p; state = State.Running; marked = false } ∷ list) ≡ State.Absent → (b : Bool) → eqb q p ≡ b → ⊥
-    split_present q h e true t = absurd (grind (arith, nat_tests, e, t))
-    split_present q h e false t = a.present q (grind (arith, h, t)) (grind (arith, nat_tests, e, t))
+pub marked_kept : (p : ℕ) (s : List State) (m : List Bool) (ns : List ℕ) → IsKept s m ns → is_marked p (listed s m ns) ≡ mark_at m p
+marked_kept p s m ns k = split (is_one_of p ns) refl
+  where
+    split : (b : Bool) → is_one_of p ns ≡ b → is_marked p (listed s m ns) ≡ mark_at m p
+    split true e = let h = marked_listed p s m ns in grind (arith, e, h)
+    split false e = let h = marked_listed p s m ns in let a = k.unmarked p e in grind (arith, e, h, a)
 
-kept_among : (p q : ℕ) (list : List Process) → is_one_of q (numbers (without p list)) ≡ true → is_one_of q (numbers list) ≡ true
-kept_among p q [] h = h
-kept_among p q (x ∷ xs) h = grind (arith, nat_tests, kept_among p q xs)
+-- ---- one process changes
 
-gone : (p : ℕ) (list : List Process) → is_one_of p (numbers (without p list)) ≡ false
+pub state_set : (p : ℕ) (x : State) (s : List State) (m : List Bool) (ns : List ℕ) → p < length s →
+    with_state p x (listed s m ns) ≡ listed (set s p x) m ns
+state_set p x s m [] h = refl
+state_set p x s m (n ∷ ns) h = split (eqb n p) refl (state_set p x s m ns h)
+  where
+    split : (b : Bool) → eqb n p ≡ b → with_state p x (listed s m ns) ≡ listed (set s p x) m ns
+        → with_state p x (listed s m (n ∷ ns)) ≡ listed (set s p x) m (n ∷ ns)
+    split true e rest =
+        let same = same_number p n e in
+        let at = get_or-set_same s p x State.Absent h in
+        grind (arith, nat_tests, e, same, at, rest)
+    split false e rest =
+        let far : n ≢ p = λ same. grind (arith, nat_tests, e, same) in
+        let at = get_or-set_other s p n x State.Absent far in
+        grind (arith, nat_tests, e, at, rest)
+
+pub mark_set : (p : ℕ) (x : Bool) (s : List State) (m : List Bool) (ns : List ℕ) → p < length m →
+    with_mark p x (listed s m ns) ≡ listed s (set m p x) ns
+mark_set p x s m [] h = refl
+mark_set p x s m (n ∷ ns) h = split (eqb n p) refl (mark_set p x s m ns h)
+  where
+    split : (b : Bool) → eqb n p ≡ b → with_mark p x (listed s m ns) ≡ listed s (set m p x) ns
+        → with_mark p x (listed s m (n ∷ ns)) ≡ listed s (set m p x) (n ∷ ns)
+    split true e rest =
+        let same = same_number p n e in
+        let at = get_or-set_same m p x false h in
+        grind (arith, nat_tests, e, same, at, rest)
+    split false e rest =
+        let far : n ≢ p = λ same. grind (arith, nat_tests, e, same) in
+        let at = get_or-set_other m p n x false far in
+        grind (arith, nat_tests, e, at, rest)
+
+-- a process that is not on the list changes nothing of it
+pub changed_none : (p : ℕ) (change : Process → Process) (s : List State) (m : List Bool) (ns : List ℕ) → is_one_of p ns ≡ false →
+    changed p change (listed s m ns) ≡ listed s m ns
+changed_none p change s m [] h = refl
+changed_none p change s m (n ∷ ns) h = split (eqb n p) refl (changed_none p change s m ns)
+  where
+    split : (b : Bool) → eqb n p ≡ b → (is_one_of p ns ≡ false → changed p change (listed s m ns) ≡ listed s m ns)
+        → changed p change (listed s m (n ∷ ns)) ≡ listed s m (n ∷ ns)
+    split true e rest = let same = same_number p n e in absurd (grind (arith, nat_tests, h, same))
+    split false e rest = let more = rest (grind (arith, nat_tests, h)) in grind (arith, nat_tests, e, more)
+
+pub states_elsewhere : (p : ℕ) (x : State) (s : List State) (m : List Bool) (ns : List ℕ) → is_one_of p ns ≡ false →
+    listed (set s p x) m ns ≡ listed s m ns
+states_elsewhere p x s m [] h = refl
+states_elsewhere p x s m (n ∷ ns) h =
+    let far : n ≢ p = λ same. grind (arith, nat_tests, h, same) in
+    let at = get_or-set_other s p n x State.Absent far in
+    let more = states_elsewhere p x s m ns (grind (arith, nat_tests, h)) in
+    grind (arith, at, more)
+
+pub marks_elsewhere : (p : ℕ) (x : Bool) (s : List State) (m : List Bool) (ns : List ℕ) → is_one_of p ns ≡ false →
+    listed s (set m p x) ns ≡ listed s m ns
+marks_elsewhere p x s m [] h = refl
+marks_elsewhere p x s m (n ∷ ns) h =
+    let far : n ≢ p = λ same. grind (arith, nat_tests, h, same) in
+    let at = get_or-set_other m p n x false far in
+    let more = marks_elsewhere p x s m ns (grind (arith, nat_tests, h)) in
+    grind (arith, at, more)
+
+-- ---- a process comes or goes
+
+pub without_listed : (p : ℕ) (s : List State) (m : List Bool) (ns : List ℕ) → without p (listed s m ns) ≡ listed s m (others p ns)
+without_listed p s m [] = refl
+without_listed p s m (n ∷ ns) = grind (arith, without_listed p s m ns)
+
+pub others_same : (p : ℕ) (ns : List ℕ) → is_one_of p ns ≡ false → others p ns ≡ ns
+others_same p [] h = refl
+others_same p (n ∷ ns) h =
+    let far : eqb n p ≡ false = grind (arith, nat_tests, h) in
+    let more = others_same p ns (grind (arith, nat_tests, h)) in
+    grind (arith, far, more)
+
+pub gone : (p : ℕ) (ns : List ℕ) → is_one_of p (others p ns) ≡ false
 gone p [] = refl
-gone p (x ∷ xs) = grind (arith, nat_tests, gone p xs)
+gone p (n ∷ ns) = grind (arith, nat_tests, gone p ns)
 
-all_kept : (P : ℕ → Type 0) (p : ℕ) (list : List Process) → AllByRecursion P (numbers list) → AllByRecursion P (numbers (without p list))
+pub others_stay : (p q : ℕ) (ns : List ℕ) → eqb q p ≡ false → is_one_of q (others p ns) ≡ is_one_of q ns
+others_stay p q [] h = refl
+others_stay p q (n ∷ ns) h = grind (arith, nat_tests, h, others_stay p q ns h)
+
+all_kept : (P : ℕ → Type 0) (p : ℕ) (ns : List ℕ) → AllByRecursion P ns → AllByRecursion P (others p ns)
 all_kept P p [] a = a
-all_kept P p (x ∷ xs) a = split (x.number == p) refl (all_kept P p xs a.1)
+all_kept P p (n ∷ ns) a = split (n == p) refl (all_kept P p ns a.1)
   where
-    split : (b : Bool) → (x.number == p) ≡ b → AllByRecursion P (numbers (without p xs)) → AllByRecursion P (numbers (without p (x ∷ xs)))
+    split : (b : Bool) → (n == p) ≡ b → AllByRecursion P (others p ns) → AllByRecursion P (others p (n ∷ ns))
     split true e r = rw e r
     split false e r = rw e (a.0, r)
 
-distinct_without : (p : ℕ) (list : List Process) → IsDistinct eqb (numbers list) → IsDistinct eqb (numbers (without p list))
-distinct_without p [] d = d
-distinct_without p (x ∷ xs) d = split (x.number == p) refl (distinct_without p xs (IsDistinct-tail eqb x.number (numbers xs) d))
+distinct_others : (p : ℕ) (ns : List ℕ) → IsDistinct eqb ns → IsDistinct eqb (others p ns)
+distinct_others p [] d = d
+distinct_others p (n ∷ ns) d = split (n == p) refl (distinct_others p ns (IsDistinct-tail eqb n ns d))
   where
-    split : (b : Bool) → (x.number == p) ≡ b → IsDistinct eqb (numbers (without p xs)) → IsDistinct eqb (numbers (without p (x ∷ xs)))
+    split : (b : Bool) → (n == p) ≡ b → IsDistinct eqb (others p ns) → IsDistinct eqb (others p (n ∷ ns))
     split true e r = rw e r
     split false e r =
-        rw e (IsDistinct-cons eqb x.number (numbers (without p xs))
-        (all_kept (λ y. eqb x.number y ≡ false) p xs (IsDistinct-head eqb x.number (numbers xs) d)) r)
+        rw e (IsDistinct-cons eqb n (others p ns) (all_kept (λ y. eqb n y ≡ false) p ns (IsDistinct-head eqb n ns d)) r)
 
-pub apart_without : (p : ℕ) (list : List Process) → AreApart list → AreApart (without p list)
-apart_without p list a =
+-- ---- what is always true of the list stays so
+
+pub kept_state : (p : ℕ) (x : State) (s : List State) (m : List Bool) (ns : List ℕ) → is_one_of p ns ≡ true → (x ≡ State.Absent → ⊥)
+    → IsKept s m ns → IsKept (set s p x) m ns
+kept_state p x s m ns here there k =
     record {
-      distinct = distinct_without p list a.distinct;
-      below = λ q h. a.below q (kept_among p q list h);
-      present = λ q h e. split q h e (eqb q p) refl;
+      state_places = length-set s p x ∙ k.state_places;
+      mark_places = k.mark_places;
+      distinct = k.distinct;
+      below = k.below;
+      present = λ q h e. split_present q h e (eqb q p) refl;
+      absent = λ q h. get_or-set_other s p q x State.Absent (λ same. grind (arith, h, here, same)) ∙ k.absent q h;
+      unmarked = k.unmarked;
     }
   where
-    split : (q : ℕ) → is_one_of q (numbers (without p list)) ≡ true → state_of q (without p list) ≡ State.Absent → (b : Bool) → eqb q p ≡ b → ⊥
-    split q h e true t =
+    split_present : (q : ℕ) → is_one_of q ns ≡ true → state_at (set s p x) q ≡ State.Absent → (b : Bool) → eqb q p ≡ b → ⊥
+    split_present q h e true t =
         let same = same_number p q t in
-        let h2 : is_one_of p (numbers (without p list)) ≡ true = rw same at h in
-        let g = gone p list in cc
-    split q h e false t = a.present q (kept_among p q list h) (sym (state_without p q list t) ∙ e)
+        there (sym (get_or-set_same s p x State.Absent (omega (arith, k.below p here, k.state_places))) ∙ rw same at e)
+    split_present q h e false t =
+        k.present q h (sym (get_or-set_other s p q x State.Absent (λ same. grind (arith, nat_tests, t, same))) ∙ e)
 
-apart_at_none : AreApart []
-unfolding IsDistinct
-apart_at_none = record { distinct = tt; below = λ p h. absurd (cc); present = λ p h e. cc }
+pub kept_mark : (p : ℕ) (x : Bool) (s : List State) (m : List Bool) (ns : List ℕ) → is_one_of p ns ≡ true
+    → IsKept s m ns → IsKept s (set m p x) ns
+kept_mark p x s m ns here k =
+    record {
+      state_places = k.state_places;
+      mark_places = length-set m p x ∙ k.mark_places;
+      distinct = k.distinct;
+      below = k.below;
+      present = k.present;
+      absent = k.absent;
+      unmarked = λ q h. get_or-set_other m p q x false (λ same. grind (arith, h, here, same)) ∙ k.unmarked q h;
+    }
 
-pub apart_at_first : AreApart at_first
-apart_at_first =
-    apart_added 3 _ (lit< tt) refl (apart_added 2 _ (lit< tt) refl (apart_added 1 _ (lit< tt) refl (apart_added 0 [] (lit< tt) refl apart_at_none)))
+pub kept_added : (p : ℕ) (s : List State) (m : List Bool) (ns : List ℕ) → p < 20 → is_one_of p ns ≡ false
+    → IsKept s m ns → IsKept (set s p State.Running) m (p ∷ ns)
+kept_added p s m ns known none k =
+    record {
+      state_places = length-set s p State.Running ∙ k.state_places;
+      mark_places = k.mark_places;
+      distinct = IsDistinct-cons eqb p ns (none_from_is_one_of p ns none) k.distinct;
+      below = λ q h. split_below q h (eqb q p) refl;
+      present = λ q h e. split_present q h e (eqb q p) refl;
+      absent = λ q h. get_or-set_other s p q State.Running State.Absent (λ same. grind (arith, nat_tests, h, same)) ∙ k.absent q (grind (arith, h));
+      unmarked = λ q h. k.unmarked q (grind (arith, h));
+    }
+  where
+    split_below : (q : ℕ) → is_one_of q (p ∷ ns) ≡ true → (b : Bool) → eqb q p ≡ b → q < 20
+    split_below q h true t = rw (same_number p q t) known
+    split_below q h false t = k.below q (grind (arith, h, t))
 
-pub few_from_apart : (list : List Process) → AreApart list → length list ≤ 20
-few_from_apart list a = omega (arith, length-le_from_distinct_below (numbers list) 20 a.distinct a.below, length-map list (λ (x : Process). x.number))
+    split_present : (q : ℕ) → is_one_of q (p ∷ ns) ≡ true → state_at (set s p State.Running) q ≡ State.Absent → (b : Bool) → eqb q p ≡ b → ⊥
+    split_present q h e true t =
+        let same = same_number p q t in
+        let runs = get_or-set_same s p State.Running State.Absent (omega (arith, known, k.state_places)) in
+        let gone : State.Running ≡ State.Absent = sym runs ∙ rw same at e in cc
+    split_present q h e false t =
+        k.present q (grind (arith, h, t)) (sym (get_or-set_other s p q State.Running State.Absent (λ same. grind (arith, nat_tests, t, same))) ∙ e)
+
+pub kept_others : (p : ℕ) (s : List State) (m : List Bool) (ns : List ℕ) → p < 20
+    → IsKept s m ns → IsKept (set s p State.Absent) (set m p false) (others p ns)
+kept_others p s m ns known k =
+    record {
+      state_places = length-set s p State.Absent ∙ k.state_places;
+      mark_places = length-set m p false ∙ k.mark_places;
+      distinct = distinct_others p ns k.distinct;
+      below = λ q h. split_below q h (eqb q p) refl;
+      present = λ q h e. split_present q h e (eqb q p) refl;
+      absent = λ q h. split_absent q h (eqb q p) refl;
+      unmarked = λ q h. split_unmarked q h (eqb q p) refl;
+    }
+  where
+    far : (q : ℕ) → eqb q p ≡ false → q ≢ p
+    far q t same = grind (arith, nat_tests, t, same)
+
+    split_below : (q : ℕ) → is_one_of q (others p ns) ≡ true → (b : Bool) → eqb q p ≡ b → q < 20
+    split_below q h true t = rw (same_number p q t) known
+    split_below q h false t = k.below q (sym (others_stay p q ns t) ∙ h)
+
+    split_present : (q : ℕ) → is_one_of q (others p ns) ≡ true → state_at (set s p State.Absent) q ≡ State.Absent → (b : Bool) → eqb q p ≡ b → ⊥
+    split_present q h e true t =
+        let same = same_number p q t in
+        let h2 : is_one_of p (others p ns) ≡ true = rw same at h in
+        let g = gone p ns in cc
+    split_present q h e false t =
+        k.present q (sym (others_stay p q ns t) ∙ h) (sym (get_or-set_other s p q State.Absent State.Absent (far q t)) ∙ e)
+
+    split_absent : (q : ℕ) → is_one_of q (others p ns) ≡ false → (b : Bool) → eqb q p ≡ b → state_at (set s p State.Absent) q ≡ State.Absent
+    split_absent q h true t = rw (same_number p q t) (get_or-set_same s p State.Absent State.Absent (omega (arith, known, k.state_places)))
+    split_absent q h false t = get_or-set_other s p q State.Absent State.Absent (far q t) ∙ k.absent q (sym (others_stay p q ns t) ∙ h)
+
+    split_unmarked : (q : ℕ) → is_one_of q (others p ns) ≡ false → (b : Bool) → eqb q p ≡ b → mark_at (set m p false) q ≡ false
+    split_unmarked q h true t = rw (same_number p q t) (get_or-set_same m p false false (omega (arith, known, k.mark_places)))
+    split_unmarked q h false t = get_or-set_other m p q false false (far q t) ∙ k.unmarked q (sym (others_stay p q ns t) ∙ h)
+
+-- a process is on the list exactly where it is not Absent
+pub on_list : (p : ℕ) (list : List Process) (s : List State) (m : List Bool) (ns : List ℕ) → listed s m ns ≡ list → IsKept s m ns
+    → (state_of p list ≡ State.Absent → ⊥) → is_one_of p ns ≡ true
+on_list p list s m ns same k there = split (is_one_of p ns) refl
+  where
+    split : (b : Bool) → is_one_of p ns ≡ b → is_one_of p ns ≡ true
+    split true e = e
+    split false e = absurd (there (sym (ap (state_of p) same) ∙ (state_kept p s m ns k ∙ k.absent p e)))
+
+pub off_list : (p : ℕ) (list : List Process) (s : List State) (m : List Bool) (ns : List ℕ) → listed s m ns ≡ list → IsKept s m ns
+    → state_of p list ≡ State.Absent → is_one_of p ns ≡ false
+off_list p list s m ns same k absent = split (is_one_of p ns) refl
+  where
+    split : (b : Bool) → is_one_of p ns ≡ b → is_one_of p ns ≡ false
+    split true e = absurd (k.present p e (sym (state_kept p s m ns k) ∙ (ap (state_of p) same ∙ absent)))
+    split false e = e
+
+pub few_kept : (s : List State) (m : List Bool) (ns : List ℕ) → IsKept s m ns → length ns ≤ 20
+few_kept s m ns k = length-le_from_distinct_below ns 20 k.distinct k.below
 
 -- there is a place for one more
-pub room_from_absent : (p : ℕ) (list : List Process) → p < 20 → state_of p list ≡ State.Absent → AreApart list → length list < 20
-room_from_absent p list known absent a =
-    omega (arith, few_from_apart (record { number = p; state = State.Running; marked = false } ∷ list) (apart_added p list known absent a))
+pub room_for : (p : ℕ) (s : List State) (m : List Bool) (ns : List ℕ) → p < 20 → is_one_of p ns ≡ false → IsKept s m ns → length ns < 20
+room_for p s m ns known none k = omega (arith, few_kept (set s p State.Running) m (p ∷ ns) (kept_added p s m ns known none k))
 
-pub step_state : (p : ℕ) (state : State) (xs ys zs : List Process) (i : ℕ) (d : Process) → i < length xs → i < length ys
-    → ys ≡ with_state p state (take i xs) ++ drop i xs
-    → zs ≡ set ys i (if is_process p (get_or ys i d) then record (get_or ys i d) { state = state } else (get_or ys i d))
-    → zs ≡ with_state p state (take (i + 1) xs) ++ drop (i + 1) xs
-step_state p state xs ys zs i d h within so_far e =
-    e ∙ map_over_more (λ process. if is_process p process then record process { state = state } else process) xs ys i (get_or ys i d) h so_far
-    (get_or_default ys i d (get_or ys i d) within)
+pub added_listed : (p : ℕ) (s : List State) (m : List Bool) (ns : List ℕ) → p < 20 → is_one_of p ns ≡ false → IsKept s m ns
+    → listed (set s p State.Running) m (p ∷ ns) ≡ record { number = p; state = State.Running; marked = false } ∷ listed s m ns
+added_listed p s m ns known none k =
+    let runs = get_or-set_same s p State.Running State.Absent (omega (arith, known, k.state_places)) in
+    let unmarked = k.unmarked p none in
+    let rest = states_elsewhere p State.Running s m ns none in
+    grind (arith, runs, unmarked, rest)
 
-pub step_mark : (p : ℕ) (marked : Bool) (xs ys zs : List Process) (i : ℕ) (d : Process) → i < length xs → i < length ys
-    → ys ≡ with_mark p marked (take i xs) ++ drop i xs
-    → zs ≡ set ys i (if is_process p (get_or ys i d) then record (get_or ys i d) { marked = marked } else (get_or ys i d))
-    → zs ≡ with_mark p marked (take (i + 1) xs) ++ drop (i + 1) xs
-step_mark p marked xs ys zs i d h within so_far e =
-    e ∙ map_over_more (λ process. if is_process p process then record process { marked = marked } else process) xs ys i (get_or ys i d) h so_far
-    (get_or_default ys i d (get_or ys i d) within)
+pub removed_listed : (p : ℕ) (s : List State) (m : List Bool) (ns : List ℕ) →
+    listed (set s p State.Absent) (set m p false) (others p ns) ≡ without p (listed s m ns)
+removed_listed p s m ns =
+    states_elsewhere p State.Absent s (set m p false) (others p ns) (gone p ns)
+    ∙ (marks_elsewhere p false s m (others p ns) (gone p ns) ∙ sym (without_listed p s m ns))
+
+-- ---- at first
+
+all_absent : (n p : ℕ) → get_or (replicate n State.Absent) p State.Absent ≡ State.Absent
+all_absent zero p = refl
+all_absent (suc n) zero = refl
+all_absent (suc n) (suc p) = all_absent n p
+
+all_unmarked : (n p : ℕ) → get_or (replicate n false) p false ≡ false
+all_unmarked zero p = refl
+all_unmarked (suc n) zero = refl
+all_unmarked (suc n) (suc p) = all_unmarked n p
+
+kept_at_none : IsKept (replicate 20 State.Absent) (replicate 20 false) []
+unfolding IsDistinct
+kept_at_none =
+    record {
+      state_places = refl;
+      mark_places = refl;
+      distinct = tt;
+      below = λ p h. absurd (cc);
+      present = λ p h e. cc;
+      absent = λ p h. all_absent 20 p;
+      unmarked = λ p h. all_unmarked 20 p;
+    }
+
+pub kept_at_first : IsKept (set (set (set (set (replicate 20 State.Absent) 0 State.Running) 1 State.Running) 2 State.Running) 3 State.Running)
+    (replicate 20 false) (3 ∷ 2 ∷ 1 ∷ 0 ∷ [])
+kept_at_first =
+    kept_added 3 _ _ _ (lit< tt) refl (kept_added 2 _ _ _ (lit< tt) refl (kept_added 1 _ _ _ (lit< tt) refl (kept_added 0 _ _ [] (lit< tt) refl kept_at_none)))
 
 -- a process on the list is marked once it was
 pub marked_from_present : (p : ℕ) (list : List Process) → (state_of p list ≡ State.Absent → ⊥) → is_marked p (with_mark p true list) ≡ true

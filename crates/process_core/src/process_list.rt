@@ -1,32 +1,78 @@
 //! The process list, the head first.
-ghost use Rattle.std.specs.Prelude.{◌≡◌, ◌<◌, ◌≤◌, [], ◌∷◌, map, length, true, false, eqb};
-ghost use Rattle.std.specs.List.{IsDistinct};
+ghost use Rattle.std.specs.Prelude.{◌≡◌, ◌<◌, ◌≤◌, [], ◌∷◌, map, length, true, false, eqb, slice_index_or};
+ghost use Rattle.std.specs.List.{IsDistinct, list_any};
 ghost use Rattle.process_core.specs.Processes.{state_of, is_marked, is_any_marked, with_state, with_mark, without, numbers, at_first};
+ghost use Rattle.process_core.specs.Code.ProcessList.{mark_at, others, state_at};
 ghost use Rattle.process_core.specs.declared.state.State.{State};
 
-use crate::process::Process;
 use crate::state::State;
 use crate::walk::Walk;
 use arrayvec::ArrayVec;
 use mote_types::event::Pid;
 use std::marker::Model;
 
+/// How many processes there may be.
+const PROCESSES: usize = 20;
+
 /// The processes that are there: the kernel's and the applications that were started, the latest first.
+///
+/// What a process does and whether it is marked lie at its number, so that no list is searched.
 #[derive(Drop)]
 pub struct ProcessList {
-    items: ArrayVec<Process, 20>,
+    on_list: ArrayVec<u8, PROCESSES>,
+    /// One that is not on the list is Absent.
+    states: [State; PROCESSES],
+    marks: [bool; PROCESSES],
 }
 
 impl Model for ProcessList {
     ghost use Rattle.std.specs.Prelude.{List, ℕ};
     ghost use Rattle.process_core.specs.declared.process.Process.{Process};
-    ghost use Rattle.process_core.specs.Code.ProcessList.{AreApart};
+    ghost use Rattle.process_core.specs.Code.ProcessList.{listed, IsKept};
 
     ghost Value = { List Process };
 
-    ghost view = { λ l. l.items.items };
+    ghost view = { λ l. listed l.states l.marks l.on_list.items };
 
-    ghost invariant = { λ l. AreApart l.items.items };
+    ghost invariant = { λ l. IsKept l.states l.marks l.on_list.items };
+}
+
+fn state_in(states: &[State], number: u8) -> State
+    ensures { result ≡ state_at states.now number }
+{
+    match states.get(number as usize) {
+        Some(state) => *state,
+        None => State::Absent,
+    }
+}
+
+fn mark_in(marks: &[bool], number: u8) -> bool
+    ensures { result ≡ mark_at marks.now number }
+{
+    match marks.get(number as usize) {
+        Some(mark) => *mark,
+        None => false,
+    }
+}
+
+fn any_mark_in(marks: &[bool], on_list: &[u8]) -> bool
+    ensures { result ≡ list_any (λ n. mark_at marks.now n) on_list.now }
+{
+    on_list.iter().any(|number| mark_in(marks, *number))
+}
+
+/// The numbers but for this one.
+fn others_in(on_list: &[u8], number: u8) -> ArrayVec<u8, PROCESSES>
+    requires { length on_list.now ≤ 20 }
+    ensures { result.items ≡ others number on_list.now }
+{
+    let mut kept = ArrayVec::new();
+    for other in on_list {
+        if *other != number {
+            kept.push(*other);
+        }
+    }
+    kept
 }
 
 impl ProcessList {
@@ -34,19 +80,28 @@ impl ProcessList {
     pub fn new() -> ProcessList
         ensures { result ≡ at_first }
     {
-        let mut items = ArrayVec::new();
-        items.push(Process::running(Pid(3)));
-        items.push(Process::running(Pid(2)));
-        items.push(Process::running(Pid(1)));
-        items.push(Process::running(Pid(0)));
-        ProcessList { items }
+        let mut on_list = ArrayVec::new();
+        on_list.push(3);
+        on_list.push(2);
+        on_list.push(1);
+        on_list.push(0);
+        let mut states = [State::Absent; PROCESSES];
+        states[0] = State::Running;
+        states[1] = State::Running;
+        states[2] = State::Running;
+        states[3] = State::Running;
+        ProcessList {
+            on_list,
+            states,
+            marks: [false; PROCESSES],
+        }
     }
 
     /// No process is on the list twice. Nothing is done.
     pub fn each_is_once(&self)
         ensures { IsDistinct eqb (numbers self.now) }
     {
-        let _ = &self.items;
+        let _ = &self.on_list;
     }
 
     /// What the process is doing; Absent where it is not on the list.
@@ -54,29 +109,21 @@ impl ProcessList {
         ensures value { result ≡ state_of pid.0 self.now }
         ensures known { (state_of pid.0 self.now ≡ State.Absent → ⊥) → pid.0 < 20 }
     {
-        for process in self.items.as_slice() {
-            if process.number == pid.0 {
-                return process.state;
-            }
-        }
-        State::Absent
+        state_in(&self.states, pid.0)
     }
 
     /// Whether a poll of the process is due.
     pub fn is_marked(&self, pid: Pid) -> bool
         ensures { result ≡ is_marked pid.0 self.now }
     {
-        self.items
-            .as_slice()
-            .iter()
-            .any(|process| process.number == pid.0 && process.marked)
+        mark_in(&self.marks, pid.0)
     }
 
     /// Whether any poll is due.
     pub fn is_any_marked(&self) -> bool
         ensures { result ≡ is_any_marked self.now }
     {
-        self.items.as_slice().iter().any(|process| process.marked)
+        any_mark_in(&self.marks, self.on_list.as_slice())
     }
 
     /// Puts a process of the list into another state.
@@ -84,10 +131,9 @@ impl ProcessList {
         requires { state ≡ State.Absent → ⊥ }
         ensures { self.new ≡ with_state pid.0 state self.old }
     {
-        for process in self.items.as_mut_slice().iter_mut() {
-            if process.number == pid.0 {
-                process.state = state;
-            }
+        match self.state_of(pid) {
+            State::Absent => {}
+            _ => self.states[pid.0 as usize] = state,
         }
     }
 
@@ -95,10 +141,9 @@ impl ProcessList {
     pub fn set_mark(&mut self, pid: Pid, marked: bool)
         ensures { self.new ≡ with_mark pid.0 marked self.old }
     {
-        for process in self.items.as_mut_slice().iter_mut() {
-            if process.number == pid.0 {
-                process.marked = marked;
-            }
+        match self.state_of(pid) {
+            State::Absent => {}
+            _ => self.marks[pid.0 as usize] = marked,
         }
     }
 
@@ -108,20 +153,22 @@ impl ProcessList {
         requires absent { state_of pid.0 self.old ≡ State.Absent }
         ensures { self.new ≡ record { number = pid.0; state = State.Running; marked = false } ∷ self.old }
     {
-        self.items.insert(0, Process::running(pid));
+        self.on_list.insert(0, pid.0);
+        self.states[pid.0 as usize] = State::Running;
     }
 
     /// Takes the process from the list, with its mark.
     pub fn remove(&mut self, pid: Pid)
         ensures { self.new ≡ without pid.0 self.old }
     {
-        let mut kept = ArrayVec::new();
-        for process in self.items.as_slice() {
-            if process.number != pid.0 {
-                kept.push(*process);
+        match self.state_of(pid) {
+            State::Absent => {}
+            _ => {
+                self.on_list = others_in(self.on_list.as_slice(), pid.0);
+                self.states[pid.0 as usize] = State::Absent;
+                self.marks[pid.0 as usize] = false;
             }
         }
-        self.items = kept;
     }
 
     /// A walk over the list as it stands.
@@ -130,9 +177,7 @@ impl ProcessList {
         ensures few { length result ≤ 20 }
     {
         let mut walked = ArrayVec::new();
-        for process in self.items.as_slice() {
-            walked.push(process.number);
-        }
+        let _ = walked.try_extend_from_slice(self.on_list.as_slice());
         Walk::over(walked)
     }
 
@@ -140,12 +185,6 @@ impl ProcessList {
     pub fn walk_others(&self, pid: Pid) -> Walk
         ensures { result ≡ numbers (without pid.0 self.now) }
     {
-        let mut walked = ArrayVec::new();
-        for process in self.items.as_slice() {
-            if process.number != pid.0 {
-                walked.push(process.number);
-            }
-        }
-        Walk::over(walked)
+        Walk::over(others_in(self.on_list.as_slice(), pid.0))
     }
 }

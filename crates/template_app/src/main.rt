@@ -11,12 +11,10 @@ use mote_kit::fault::MoteFault;
 use mote_kit::mote::{DEFAULT_SIZES, run_boxes};
 use mote_kit::stream::{Input, Output};
 use std::io;
-use std::io::BufReader;
 
 fn main(rt: HostRuntime) -> Result<(), MoteFault> {
     let mut boxes = boxes![rt.alloc(); Beat::new()];
-    let reader = BufReader::new(rt.alloc(), rt.reader()).map_err(|_| MoteFault::Memory)?;
-    let mut source = Input::new(reader);
+    let mut source = Input::new(rt.reader());
     let mut sink = Output::new(io::writer(&rt));
     run_boxes(
         rt.alloc(),

@@ -4,15 +4,15 @@ use std::mem;
 
 /// A line `PID ORIGIN STIMULUS -> CALL`.
 #[derive(Clone, Copy, Drop)]
-pub struct Turn<'a> {
-    pub pid: usize,
-    pub origin: &'a str,
-    pub stimulus: &'a str,
-    pub call: &'a str,
+pub(crate) struct Turn<'a> {
+    pub(crate) pid: usize,
+    pub(crate) origin: &'a str,
+    pub(crate) stimulus: &'a str,
+    pub(crate) call: &'a str,
 }
 
 /// The turn that a line tells, if it tells one.
-pub fn turn_of(line: &str) -> Option<Turn<'_>> {
+pub(crate) fn turn_of(line: &str) -> Option<Turn<'_>> {
     let (told, call) = line.split_once(" -> ")?;
     let (pid, told) = told.split_once(' ')?;
     let (origin, stimulus) = told.split_once(' ')?;
@@ -25,33 +25,33 @@ pub fn turn_of(line: &str) -> Option<Turn<'_>> {
 }
 
 /// The number that is written so.
-pub fn number(text: &str) -> Option<usize> {
+pub(crate) fn number(text: &str) -> Option<usize> {
     text.parse::<usize>().ok()
 }
 
 /// A line of an input: what stands before it is a part of the run after which the mote rests.
-pub fn is_input(line: &str) -> bool {
+pub(crate) fn is_input(line: &str) -> bool {
     line.starts_with("> ")
 }
 
 /// Whether a process ends with this turn: it exits, or is told that it was killed.
-pub fn ends(turn: &Turn<'_>) -> bool {
+pub(crate) fn ends(turn: &Turn<'_>) -> bool {
     turn.call == "exit" || turn.stimulus == "131 -"
 }
 
 /// The last call of each process.
 #[derive(Drop)]
-pub struct LastCalls<'a> {
+pub(crate) struct LastCalls<'a> {
     calls: [&'a str; 20],
 }
 
 impl<'a> LastCalls<'a> {
-    pub fn new() -> Self {
+    pub(crate) fn new() -> Self {
         LastCalls { calls: [""; 20] }
     }
 
     /// Notes the turn's call; the call whose answer the turn is told, if it is told one.
-    pub fn answered(&mut self, turn: &Turn<'a>) -> Option<&'a str> {
+    pub(crate) fn answered(&mut self, turn: &Turn<'a>) -> Option<&'a str> {
         let last = self.calls.get_mut(turn.pid)?;
         let call = mem::replace(last, turn.call);
         if turn.origin == "answer" {

@@ -13,7 +13,7 @@ use std::array;
 
 /// An application of a run.
 #[derive(Drop)]
-pub enum Application {
+pub(crate) enum Application {
     Named(Bundled),
     /// It goes through a list of calls, and waits once they are spent.
     Listed(Steps<128>),
@@ -35,7 +35,7 @@ impl App for Application {
 
 impl Application {
     /// The application of this name: one of the mote's, or `clock-watcher`.
-    pub fn named(name: &str) -> Self {
+    pub(crate) fn named(name: &str) -> Self {
         match Bundled::named(name) {
             Some(application) => Application::Named(application),
             None => Application::ClockWatcher,
@@ -44,7 +44,7 @@ impl Application {
 
     /// The application that goes through the calls of this text, 128 at most. A comma parts them, and a number in front of
     /// a call says that it is made so often.
-    pub fn listed(text: &str) -> Self {
+    pub(crate) fn listed(text: &str) -> Self {
         let mut calls = array::from_fn(|_| Call::Wait);
         let mut place = 0usize;
         for call in text.split(", ") {
@@ -68,7 +68,7 @@ fn put_call(calls: &mut [Call], place: usize, text: &str) -> usize {
 }
 
 /// A text without the number in front of it, where it has one, and that number; else 1.
-pub fn counted(text: &str) -> (u32, &str) {
+pub(crate) fn counted(text: &str) -> (u32, &str) {
     match text.split_once(' ') {
         Some((count, rest)) if number_of(count) > 0 => (number_of(count), rest),
         _ => (1, text),

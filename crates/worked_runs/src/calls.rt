@@ -73,7 +73,7 @@ fn device_call(words: &Words<'_>) -> Call {
 }
 
 /// The call of these words.
-pub fn call_of(words: &Words<'_>) -> Call {
+pub(crate) fn call_of(words: &Words<'_>) -> Call {
     match words.name() {
         "post" => Call::Post(words.small(1), words.small(2), words.payload(3)),
         "broadcast" => Call::Broadcast(words.small(1), words.payload(2)),

@@ -13,30 +13,25 @@
 
 use crate::applications::{Application, counted};
 use crate::words::number_of;
-use mote_kit::fault::MoteFault;
-use mote_kit::mote::{DEFAULT_SIZES, run_script};
-use mote_run::End;
-use mote_types::app::App;
+use mote_kit::mote::DEFAULT_SIZES;
 use node_memory::Sizes;
 use std::alloc::{AllocError, Global};
-use std::io;
-use transcript_walks::are_laws_kept;
 
 /// What is run, and what comes of it.
 #[derive(Drop)]
-pub struct Example<'a> {
-    name: &'a str,
-    sizes: Sizes,
-    applications: Vec<Application>,
-    script: String,
-    quiet: bool,
-    end: &'a str,
-    transcript: String,
+pub(crate) struct Example<'a> {
+    pub(crate) name: &'a str,
+    pub(crate) sizes: Sizes,
+    pub(crate) applications: Vec<Application>,
+    pub(crate) script: String,
+    pub(crate) quiet: bool,
+    pub(crate) end: &'a str,
+    pub(crate) transcript: String,
 }
 
 impl<'a> Example<'a> {
     /// The run that a text tells of.
-    pub fn of(alloc: Global, text: &'a str) -> Result<Self, AllocError> {
+    pub(crate) fn of(alloc: Global, text: &'a str) -> Result<Self, AllocError> {
         let mut example = Example {
             name: "",
             sizes: DEFAULT_SIZES,
@@ -98,77 +93,4 @@ fn push_lines(text: &mut String, count: u32, line: &str) -> Result<(), AllocErro
         text.push('\n')?;
     }
     Ok(())
-}
-
-/// How a run ended, in words.
-fn end_words(alloc: Global, end: End) -> Result<String, AllocError> {
-    match end {
-        End::Finished => String::from_str(alloc, "finished"),
-        End::BadLine(number) => format!(in alloc; "bad line {number}"),
-        End::Halted => String::from_str(alloc, "halted"),
-        End::TooLong => String::from_str(alloc, "too long"),
-    }
-}
-
-/// What came of a run: how it ended, and what it wrote.
-#[derive(Drop)]
-struct Outcome {
-    end: String,
-    transcript: Vec<u8>,
-}
-
-/// Carries a run out.
-fn outcome_of(
-    alloc: Global,
-    sizes: Sizes,
-    applications: Vec<Application>,
-    script: &str,
-    quiet: bool,
-) -> Result<Outcome, AllocError> {
-    let mut boxes: Vec<Box<dyn App>> = Vec::new(alloc);
-    for application in applications {
-        boxes.push(Box::new(alloc, application)?)?;
-    }
-    match run_script(alloc, sizes, boxes.as_mut_slice(), script.as_bytes(), quiet) {
-        Ok(ran) => Ok(Outcome {
-            end: end_words(alloc, ran.end)?,
-            transcript: ran.transcript,
-        }),
-        Err(MoteFault::BadSizes) => Ok(Outcome {
-            end: String::from_str(alloc, "bad sizes")?,
-            transcript: Vec::new(alloc),
-        }),
-        Err(_) => Err(AllocError),
-    }
-}
-
-/// Whether a run comes out as it is written, and shows of memory, events and timers what every run is to show. Where it does
-/// not, its name is told, and what came of it.
-pub fn holds<R: AllocGlobal + Print>(rt: &R, example: Example<'_>) -> io::Result<bool> {
-    let script = example.script;
-    let applications = example.applications.len();
-    let outcome = outcome_of(
-        rt.alloc(),
-        example.sizes,
-        example.applications,
-        script.as_str(),
-        example.quiet,
-    )?;
-    let is_same = outcome.end.as_str() == example.end
-        && outcome.transcript.as_slice() == example.transcript.as_bytes();
-    if !is_same {
-        println!(rt; "== {} ended with {} and", example.name, outcome.end)?;
-        rt.println(str::from_utf8(outcome.transcript.as_slice()).unwrap_or("no text"))?;
-        return Ok(false);
-    }
-    // a quiet transcript has no turns to walk over
-    let are_kept = example.quiet
-        || are_laws_kept(rt.alloc(), applications, example.transcript.as_str())?;
-    if !are_kept {
-        println!(rt;
-            "== {} breaks a law of memory, events or timers",
-            example.name
-        )?;
-    }
-    Ok(are_kept)
 }

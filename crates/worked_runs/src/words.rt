@@ -10,10 +10,10 @@ use mote_types::reply::Chunk;
 ///
 /// They may have any form: where a number is none, 0 stands for it. The transcript, which shows the call, tells.
 #[derive(Drop)]
-pub struct Words<'a>([&'a str; 5]);
+pub(crate) struct Words<'a>([&'a str; 5]);
 
 impl<'a> Words<'a> {
-    pub fn of(text: &'a str) -> Self {
+    pub(crate) fn of(text: &'a str) -> Self {
         let mut words = text.split(' ');
         Words([
             words.next().unwrap_or(""),
@@ -24,33 +24,33 @@ impl<'a> Words<'a> {
         ])
     }
 
-    pub fn name(&self) -> &'a str {
+    pub(crate) fn name(&self) -> &'a str {
         self.0[0]
     }
 
     /// The number that stands at a place behind the name, from 0 to 255.
-    pub fn small(&self, place: usize) -> u8
+    pub(crate) fn small(&self, place: usize) -> u8
         requires { place < 5 }
     {
         self.0[place].parse().unwrap_or(0)
     }
 
     /// The number that stands at a place behind the name.
-    pub fn number(&self, place: usize) -> u32
+    pub(crate) fn number(&self, place: usize) -> u32
         requires { place < 5 }
     {
         number_of(self.0[place])
     }
 
     /// The bytes that stand in hex at a place behind the name, a dash where there are none.
-    pub fn chunk(&self, place: usize) -> Chunk
+    pub(crate) fn chunk(&self, place: usize) -> Chunk
         requires { place < 5 }
     {
         bytes_of(self.0[place])
     }
 
     /// What an event carries: a dash, a number, or a line in hex behind an `x`.
-    pub fn payload(&self, place: usize) -> Payload
+    pub(crate) fn payload(&self, place: usize) -> Payload
         requires { place < 5 }
     {
         let word = self.0[place];
@@ -62,7 +62,7 @@ impl<'a> Words<'a> {
     }
 }
 
-pub fn number_of(word: &str) -> u32 {
+pub(crate) fn number_of(word: &str) -> u32 {
     word.parse().unwrap_or(0)
 }
 

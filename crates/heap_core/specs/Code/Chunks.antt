@@ -1,5 +1,5 @@
 -- How the headers, which lie in the region, divide what is below the top gap into chunks: live blocks and gaps.
-use Rattle.std.specs.Prelude.{◌≡◌, ◌≢◌, ℕ, zero, suc, ◌+◌, ◌-◌, ◌%◌, ◌≤◌, List, [], ◌∷◌, slice_range, Option, Some, None, if◌then◌else◌, ◌==◌, nat_lt}
+use Rattle.std.specs.Prelude.{◌≡◌, ◌≢◌, ℕ, zero, suc, ◌+◌, ◌-◌, ◌%◌, ◌≤◌, Bool, List, [], ◌∷◌, slice_range, Option, Some, None, if◌then◌else◌, ◌==◌, nat_lt}
 use Rattle.std.specs.Int.{from_le_bytes}
 use mir.Syntax.{w32}
 use Rattle.heap_core.specs.declared.chunk.Chunk.{Chunk}
@@ -8,9 +8,9 @@ use Rattle.heap_core.specs.HeapStore.{Block, header_len}
 abbrev pub word_at : List ℕ → ℕ → ℕ
 word_at bytes at = from_le_bytes w32 (slice_range bytes at (at + 4))
 
--- the name that a word tells: 0 is none, for a gap
-abbrev pub owner_in : ℕ → Option ℕ
-owner_in word = if word == 0 then None else Some (word - 1)
+-- the number that a word tells: 0 is none
+abbrev pub number_in : ℕ → Option ℕ
+number_in word = if word == 0 then None else Some (word - 1)
 
 -- the chunk at that place of a region, as its header tells it. The region begins at base of these bytes
 unfoldable pub chunk_at : List ℕ → ℕ → ℕ → Chunk
@@ -18,8 +18,9 @@ chunk_at bytes base at =
     record {
       at = at;
       len = word_at bytes (base + at);
-      owner = owner_in (word_at bytes (base + at + 4));
+      owner = number_in (word_at bytes (base + at + 4));
       size = word_at bytes (base + at + 8);
+      link = number_in (word_at bytes (base + at + 12));
     }
 
 -- the chunks from one place to another, at most n of them
@@ -60,7 +61,11 @@ with_chunk bytes base chunk (Some name) blocks =
     }
     ∷ blocks
 
--- the blocks among these chunks
+-- the blocks among these chunks, and those that were freed and are not joined yet
 abbrev pub blocks_in : List ℕ → ℕ → List Chunk → List Block
 blocks_in bytes base [] = []
 blocks_in bytes base (chunk ∷ chunks) = with_chunk bytes base chunk chunk.owner (blocks_in bytes base chunks)
+
+-- it has a name: chunks that were freed and are not joined yet have none
+abbrev pub is_named : Block → Bool
+is_named block = nat_lt block.name 272

@@ -1,11 +1,12 @@
 -- Bytes between chunks into which a live chunk may be laid, and what comes of it.
-use Rattle.std.specs.Prelude.{◌≡◌, ℕ, ◌+◌, ◌≤◌, ◌<◌, ◌⊎◌, List, [], ◌++◌, length, IsSomeAnd}
+use Rattle.std.specs.Prelude.{◌≡◌, ℕ, ◌+◌, ◌≤◌, ◌<◌, ◌⊎◌, List, [], ◌++◌, length, Option, None, IsSomeAnd}
 use Rattle.heap_core.specs.declared.chunk.Chunk.{Chunk}
 use Rattle.heap_core.specs.declared.chunk.Place.{Place}
 use Rattle.heap_core.specs.declared.region.Region.{Region}
 use Rattle.heap_core.specs.HeapStore.{header_len}
 use Rattle.heap_core.specs.Code.Chunks.{Tell, BeginsLive, IsWhole, AreJoined, with_chunk, blocks_in}
 use Rattle.heap_core.specs.Code.Layout.{chunks_of, HasChunks}
+use Rattle.heap_core.specs.Code.Links.{LinkedTo}
 use Rattle.heap_core.specs.Code.Walks.{LeavesGap, IsWholeRoom, LiveIn}
 
 -- The headers tell chunks up to one place and from another one on, and what lies between is free: whatever its bytes are.
@@ -31,9 +32,13 @@ pub record Fits (heap : Region) (live : Chunk) (end : ℕ) : Type 0 where
   pub room : 16 + live.size ≤ live.len
   pub whole : IsWhole live
   pub owner : IsSomeAnd live.owner (λ name. name < 272)
+  pub link : live.link ≡ None
 
--- that chunk was laid between the others
-pub record Laid (heap new : Region) (bytes new_bytes : List ℕ) (live : Chunk) (before behind : List Chunk) : Type 0 where
+-- That chunk was laid between the others, and what is left behind it as a gap. The gaps laid are linked from first to link.
+pub record Laid (heap new : Region) (bytes new_bytes : List ℕ) (live : Chunk) (before behind : List Chunk) (first link : Option ℕ) : Type 0 where
+  pub mid : List Chunk
+  pub is : chunks_of new new_bytes ≡ before ++ (mid ++ behind)
+  pub linked : LinkedTo first mid link
   pub chunks : HasChunks new new_bytes
   pub blocks :
       blocks_in new_bytes new.span.at (chunks_of new new_bytes)
@@ -43,6 +48,8 @@ pub record Laid (heap new : Region) (bytes new_bytes : List ℕ) (live : Chunk) 
 -- a place in a gap or in the top gap, free up to that end
 pub record Free (heap : Region) (bytes : List ℕ) (target : Place) (end : ℕ) : Type 0 where
   pub hole : Hole heap bytes target.at end
+  pub mid : List Chunk
+  pub is : chunks_of heap bytes ≡ hole.before ++ (mid ++ hole.behind)
   pub inside : target.at + (header_len + target.room) ≤ heap.span.len
   pub rest : Leaves heap (target.at + (header_len + target.room)) end
   pub whole : IsWholeRoom target.room

@@ -2,11 +2,16 @@
 use Rattle.std.specs.Prelude.{ℕ, ◌+◌, ◌≤◌, List, length}
 use Rattle.heap_core.specs.declared.chunk.Chunk.{Chunk}
 use Rattle.heap_core.specs.declared.region.Region.{Region}
-use Rattle.heap_core.specs.Code.Chunks.{chunks_from, Tell, AreJoined}
+use Rattle.heap_core.specs.HeapStore.{HeapStore}
+use Rattle.heap_core.specs.Code.Chunks.{chunks_from, Tell, AreJoined, blocks_in}
 
 -- all chunks, up to the footprint
 unfoldable pub chunks_of : Region → List ℕ → List Chunk
 chunks_of heap bytes = chunks_from heap.footprint bytes heap.span.at 0 heap.footprint
+
+-- all chunks but the gaps as blocks: the live ones, and those that were freed and are not joined yet
+abbrev pub store_of : Region → List ℕ → HeapStore
+store_of heap bytes = record { size = heap.span.len; blocks = blocks_in bytes heap.span.at (chunks_of heap bytes) }
 
 -- the headers in the heap's span tell chunks without a break, and the gaps among them are joined
 pub record HasChunks (heap : Region) (bytes : List ℕ) : Type 0 where

@@ -74,10 +74,10 @@ abbrev pub front_gap : List Chunk → ℕ
 front_gap [] = 0
 front_gap (chunk ∷ chunks) = gap_of chunk chunk.owner
 
--- a live chunk at the front of len bytes, and what is left of them as a gap
-abbrev pub laid : Chunk → ℕ → List Chunk
-laid live len =
-    live ∷ (if nat_lt live.len len then record { at = live.at + live.len; len = len - live.len; owner = None; size = 0 } ∷ [] else [])
+-- a live chunk at the front of len bytes, and what is left of them as a gap with that link
+abbrev pub laid : Chunk → ℕ → Option ℕ → List Chunk
+laid live len link =
+    live ∷ (if nat_lt live.len len then record { at = live.at + live.len; len = len - live.len; owner = None; size = 0; link = link } ∷ [] else [])
 
 abbrev pub without_place : ℕ → HeapStore → HeapStore
 without_place at heap = record heap { blocks = filter (λ (block : Block). not (block.at == at)) heap.blocks }

@@ -1,7 +1,10 @@
--- What the bytes of a script say that a take used.
-use Rattle.std.specs.Prelude.{ℕ, ◌+◌, List, Option, Some, None}
+-- What was used of a script, and what that says.
+use Rattle.std.specs.Prelude.{◌≡◌, ◌≢◌, ℕ, ◌+◌, ◌<◌, ◌≤◌, true, List, ◌∷◌, ◌++◌, length, Option, Some, None, Result, OnOk, OnErr}
+use Rattle.std.specs.Result.{result_ok}
 use Rattle.mote_types.specs.declared.entry.Input.{Input}
-use Rattle.mote_text.specs.Script.{read_line}
+use Rattle.mote_text.specs.declared.script.BadLine.{BadLine}
+use Rattle.mote_text.specs.Lines.{has_no_end, unfinished_after, with_end}
+use Rattle.mote_text.specs.Script.{line_limit, read_line, script_limit}
 use Rattle.mote_text.specs.declared.lines.Taken.{Taken}
 
 -- a line says what it is read as, bytes before a line's end say nothing, and a line that is too wide has no form
@@ -15,3 +18,34 @@ abbrev pub number_after : Taken → ℕ → ℕ
 number_after Taken.Line number = number + 1
 number_after Taken.More number = number
 number_after Taken.TooWide number = number
+
+-- what a take used of a piece, behind the bytes of the present line, and what it left
+pub record TakenPart (line piece later : List ℕ) (count count_later : ℕ) (last : Taken) (bytes : List ℕ) : Type 0 where
+  pub part : List ℕ
+  pub parts : piece ≡ part ++ later
+  pub used : line ++ part ≡ with_end last bytes
+  pub counts : count_later ≡ count + length part
+  pub within : count_later ≤ script_limit
+  pub narrow : length bytes ≤ line_limit
+  pub endless : has_no_end bytes ≡ true
+
+-- the bytes are as many as a line may have, and another one of the same line stands behind them, within what a script may have
+pub record GoesOn (ended : ℕ) (bytes later : List ℕ) : Type 0 where
+  pub full : length bytes ≡ line_limit
+  pub room : ended + length bytes < script_limit
+  pub byte : ℕ
+  pub tail : List ℕ
+  pub is : later ≡ byte ∷ tail
+  pub other : byte ≢ 10
+
+-- Bytes of a piece were used up to the end of the present line, whose number this is. That is what they say, and another line
+-- was begun
+pub record Took (line piece line_later later : List ℕ) (count count_later number number_later : ℕ) (says : Result (Option Input) BadLine) : Type 0 where
+  pub last : Taken
+  pub bytes : List ℕ
+  pub part : TakenPart line piece later count count_later last bytes
+  pub begun : line_later ≡ unfinished_after last bytes
+  pub says_so : result_ok says ≡ said last bytes
+  pub numbered : OnOk says (number_later ≡ number_after last number)
+  pub same_number : OnErr says (number_later ≡ number)
+  pub goes_on : last ≡ Taken.TooWide → (ended : ℕ) → ended + length bytes ≡ count_later → GoesOn ended bytes later

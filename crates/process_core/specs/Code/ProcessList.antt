@@ -1,12 +1,35 @@
--- What is always true of the code's process list.
-use Rattle.std.specs.Prelude.{ℕ, ◌<◌, ◌≡◌, eqb, true, List}
-use Rattle.std.specs.List.{list_any, IsDistinct}
+-- What the code's process list stands for, and what is always true of it.
+use Rattle.std.specs.Prelude.{◌≡◌, ℕ, ◌<◌, Bool, true, false, not, eqb, ◌==◌, List, map, filter, length, slice_index_or}
+use Rattle.std.specs.List.{IsDistinct}
 use Rattle.process_core.specs.declared.state.State.{State}
 use Rattle.process_core.specs.declared.process.Process.{Process}
-use Rattle.process_core.specs.Processes.{numbers, state_of}
+use Rattle.process_core.specs.Code.Nesting.{is_one_of}
 
--- no process is on the list twice, each has a number below 20, and none is Absent
-pub record AreApart (list : List Process) : Type 0 where
-  pub distinct : IsDistinct eqb (numbers list)
-  pub below : (p : ℕ) → list_any (eqb p) (numbers list) ≡ true → p < 20
-  pub present : (p : ℕ) → list_any (eqb p) (numbers list) ≡ true → state_of p list ≡ State.Absent → ⊥
+-- what the process of that number does, and whether it is marked
+abbrev pub state_at : List State → ℕ → State
+state_at states p = slice_index_or states p State.Absent
+
+abbrev pub mark_at : List Bool → ℕ → Bool
+mark_at marks p = slice_index_or marks p false
+
+abbrev pub process_at : List State → List Bool → ℕ → Process
+process_at states marks p = record { number = p; state = state_at states p; marked = mark_at marks p }
+
+-- the processes of these numbers
+abbrev pub listed : List State → List Bool → List ℕ → List Process
+listed states marks on_list = map (process_at states marks) on_list
+
+-- the numbers but for p
+abbrev pub others : ℕ → List ℕ → List ℕ
+others p on_list = filter (λ n. not (n == p)) on_list
+
+pub record IsKept (states : List State) (marks : List Bool) (on_list : List ℕ) : Type 0 where
+  pub state_places : length states ≡ 20
+  pub mark_places : length marks ≡ 20
+  -- no process is on the list twice, and each has a number below 20
+  pub distinct : IsDistinct eqb on_list
+  pub below : (p : ℕ) → is_one_of p on_list ≡ true → p < 20
+  -- exactly those that are not on the list are Absent, and no such one is marked
+  pub present : (p : ℕ) → is_one_of p on_list ≡ true → state_at states p ≡ State.Absent → ⊥
+  pub absent : (p : ℕ) → is_one_of p on_list ≡ false → state_at states p ≡ State.Absent
+  pub unmarked : (p : ℕ) → is_one_of p on_list ≡ false → mark_at marks p ≡ false

@@ -1,10 +1,13 @@
-use Rattle.std.proofs.Common.{[], ◌∷◌, ◌++◌, ◌≡◌, ◌+◌, ◌-◌, ◌≤◌, ◌⊎◌, inl, inr, None, refl, sym, ap, ◌∙◌, subst, arith}
+use Rattle.std.proofs.Common.{[], ◌∷◌, ◌++◌, ◌≡◌, ◌+◌, ◌-◌, ◌≤◌, ◌<◌, ◌⊎◌, inl, inr, None, refl, sym, ap, ◌∙◌, subst, arith}
+use Rattle.std.specs.Prelude.{IfSome}
 use Rattle.arena_core.specs.Contents.{Contents}
 use Rattle.arena_core.specs.Outside.{ChangesOnly}
 use Rattle.heap_core.specs.declared.chunk.Chunk.{Chunk}
 use Rattle.heap_core.specs.Code.Chunks.{chunk_at, Tell, BeginsLive}
 use Rattle.heap_core.specs.Code.Walks.{laid, bytes_in_chunk, LeavesGap}
+use Rattle.heap_core.specs.Code.Links.{LinkedTo}
 use Rattle.heap_core.proofs.Holes.{is_live, live_block, live_joined, laid_block, laid_begins, laid_joined, laid_between}
+use Rattle.heap_core.proofs.Lists.{link_gap, link_live}
 use Rattle.heap_core.proofs.Splice.{laid_all, laid_some, left_over}
 use Rattle.heap_core.proofs.Steps.{ended}
 use Rattle.heap_core.proofs.Told.{told_le, chunk_frame, changes_then, changes_more, owner_some}
@@ -22,6 +25,7 @@ returns-then-end-self-clause-laid c hole =
     hole.front (c.put_chunk.ensures.chunk, room, refl) (subst (Tell B b next next) (sym none) refl)
     (hole.joined (live ∷ hole.behind) (is_live B B' b live o.0 o.1) (live_joined B B' b live o.0 o.1 c.requires.fits.whole hole.behind hole.joined_behind))
     (live_block B B' b live o.0 o.1 kept)
+    c.args.link c.args.link (link_live c.args.link c.args.link o.0 live [] o.1 refl)
 
 pub put_chunk-requires-then-next-end-clause-inside : goal.put_chunk-requires-then-next-end-clause-inside
 put_chunk-requires-then-next-end-clause-inside c =
@@ -60,7 +64,7 @@ changes c =
     (changes_more (b + next) (end - next) (b + live.at) (end - live.at) B A (gap c) (omega arith) (omega (arith, c.requires.fits.room)))
     (changes_more (b + live.at) 16 (b + live.at) (end - live.at) A B' c.put_chunk-2.ensures.others (omega arith) (omega (arith, c.requires.fits.room)))
 
-told : (c : After-put_chunk-2) → Tell c.put_chunk-2.new.arena.bytes c.args.self.now.span.at c.args.live.at c.args.end (laid c.args.live (c.args.end - c.args.live.at))
+told : (c : After-put_chunk-2) → Tell c.put_chunk-2.new.arena.bytes c.args.self.now.span.at c.args.live.at c.args.end (laid c.args.live (c.args.end - c.args.live.at) c.args.link)
 told c =
     let live = c.args.live in let end = c.args.end in let len = end - live.at in let b = c.args.self.now.span.at in
     let A = c.if-next-end.arena.bytes in let B' = c.put_chunk-2.new.arena.bytes in let left = rest c in let room = c.requires.fits.room in
@@ -69,16 +73,33 @@ told c =
           let less = w.if-next-end.true in
           let some : live.len + 20 ≤ len = elim left [ inl all ↦ absurd (omega (arith, all, less)) | inr some ↦ some.0 ] in
           let same : end - (live.at + live.len) ≡ len - live.len = omega arith in
-          let gap : chunk_at B' b (live.at + live.len) ≡ left_over live len =
+          let gap : chunk_at B' b (live.at + live.len) ≡ left_over live len c.args.link =
           chunk_frame A B' b (b + live.at) 16 c.put_chunk-2.ensures.others (live.at + live.len) (inr (omega arith))
           ∙ ap (λ (a : Contents). chunk_at a.bytes b (live.at + live.len)) w.arena-is
           ∙ w.put_chunk-then-next-end.ensures.chunk
-          ∙ ap (λ k. let g : Chunk = record { at = live.at + live.len; len = k; owner = None; size = 0 } in g) same in
-          subst (Tell B' b live.at end) (sym (laid_some live len (omega arith))) (c.put_chunk-2.ensures.chunk, room, (gap, omega arith, omega arith))
+          ∙ ap (λ k. let g : Chunk = record { at = live.at + live.len; len = k; owner = None; size = 0; link = c.args.link } in g) same in
+          subst (Tell B' b live.at end) (sym (laid_some live len c.args.link (omega arith))) (c.put_chunk-2.ensures.chunk, room, (gap, omega arith, omega arith))
       | else-next-end w ↦
           let more = w.if-next-end.false in
           let same : live.len ≡ len = elim left [ inl all ↦ all | inr some ↦ absurd (omega (arith, some.0, more)) ] in
-          subst (Tell B' b live.at end) (sym (laid_all live len same)) (c.put_chunk-2.ensures.chunk, room, omega arith)
+          subst (Tell B' b live.at end) (sym (laid_all live len c.args.link same)) (c.put_chunk-2.ensures.chunk, room, omega arith)
+    ]
+
+-- the gap is linked to the next one
+linked : (c : After-put_chunk-2) → LinkedTo c.if-next-end.first (laid c.args.live (c.args.end - c.args.live.at) c.args.link) c.args.link
+linked c =
+    let live = c.args.live in let len = c.args.end - live.at in let link = c.args.link in let left = rest c in let room = c.requires.fits.room in
+    let o = owner_some live.owner c.requires.fits.owner in
+    elim c.if-next-end.branch [
+      | then-next-end w ↦
+          let less = w.if-next-end.true in
+          subst (λ l. LinkedTo c.if-next-end.first l link) (sym (laid_some live len link (omega (arith, less))))
+          (link_live c.if-next-end.first link o.0 live (left_over live len link ∷ []) o.1
+          (link_gap c.if-next-end.first link (left_over live len link) [] refl w.first-is refl))
+      | else-next-end w ↦
+          let more = w.if-next-end.false in
+          let same : live.len ≡ len = elim left [ inl all ↦ all | inr some ↦ absurd (omega (arith, some.0, more)) ] in
+          subst (λ l. LinkedTo c.if-next-end.first l link) (sym (laid_all live len link same)) (link_live c.if-next-end.first link o.0 live [] o.1 w.first-is)
     ]
 
 pub returns-clause-laid : goal.returns-clause-laid
@@ -91,9 +112,10 @@ returns-clause-laid c hole =
       | inl none ↦ absurd (c.if-end-self.false (subst (Tell B b c.args.end heap.footprint) none hole.back))
       | inr begins ↦ begins
     ] in
-    laid_between heap heap B B' live hole.before (laid live len) hole.behind c.args.end refl hole.within (changes c) hole.front (told c) hole.back
-    (hole.joined (laid live len ++ hole.behind) (laid_begins B B' b live o.0 o.1 len (rest c) hole.behind) (laid_joined B B' b live o.0 o.1 len (rest c) c.requires.fits.whole hole.behind begins hole.joined_behind))
-    (laid_block B B' b live o.0 o.1 len (rest c) kept)
+    laid_between heap heap B B' live hole.before (laid live len c.args.link) hole.behind c.args.end refl hole.within (changes c) hole.front (told c) hole.back
+    (hole.joined (laid live len c.args.link ++ hole.behind) (laid_begins B B' b live o.0 o.1 len c.args.link (rest c) hole.behind) (laid_joined B B' b live o.0 o.1 len c.args.link (rest c) c.requires.fits.whole hole.behind begins hole.joined_behind))
+    (laid_block B B' b live o.0 o.1 len c.args.link (rest c) kept)
+    c.if-next-end.first c.args.link (linked c)
 
 pub returns-clause-rest : goal.returns-clause-rest
 returns-clause-rest c =
@@ -109,3 +131,18 @@ returns-clause-rest c =
           ];
       bytes = changes_more (heap.span.at + c.args.live.at) (c.args.end - c.args.live.at) heap.span.at heap.span.len c.args.arena.now.bytes c.put_chunk-2.new.arena.bytes (changes c) (omega arith) (omega (arith, heap.inside, c.requires.fits.inside));
     }
+
+pub put_chunk-requires-clause-link : goal.put_chunk-requires-clause-link
+put_chunk-requires-clause-link c = subst (λ o. IfSome o (λ place. place < 65536)) (sym c.requires.fits.link) tt
+
+pub put_chunk-requires-2-clause-link : goal.put_chunk-requires-2-clause-link
+put_chunk-requires-2-clause-link c = subst (λ o. IfSome o (λ place. place < 65536)) (sym c.requires.fits.link) tt
+
+pub returns-clause-first : goal.returns-clause-first
+returns-clause-first c =
+    let heap = c.args.self.now in let hole = c.requires.hole in
+    let end = told_le c.args.arena.now.bytes heap.span.at c.args.end heap.footprint hole.behind hole.back in
+    elim c.if-next-end.branch [
+      | then-next-end w ↦ subst (λ o. IfSome o (λ place. place < 65536)) (sym w.first-is) (omega (arith, heap.inside, heap.small, w.if-next-end.true))
+      | else-next-end w ↦ subst (λ o. IfSome o (λ place. place < 65536)) (sym w.first-is) c.requires.link
+    ]

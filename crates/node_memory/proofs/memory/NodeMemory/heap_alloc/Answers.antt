@@ -1,15 +1,15 @@
-use Rattle.std.proofs.Common.{rules, arith, ap, sym, ◌∙◌, ◌≡◌, None}
+use Rattle.std.proofs.Common.{rules, arith, subst, ap, sym, ◌∙◌, ◌≡◌, None}
 use Rattle.heap_core.specs.HeapBytes.{heap_of}
-use Rattle.heap_core.specs.HeapStore.{place, allocated}
+use Rattle.heap_core.specs.HeapStore.{allocated}
 use Rattle.node_memory.specs.HeapCalls.{alloc_refusal}
 use Rattle.node_memory.specs.Memory.{Memory, with_heap}
-use Rattle.node_memory.specs.Placed.{PlacedMemory, contents_of}
+use Rattle.node_memory.specs.Placed.{PlacedMemory, contents_of, placed}
+use Rattle.node_memory.specs.Separation.{StaysInPlace}
+use Rattle.node_memory.proofs.Stays.{heap_stays}
 use Rattle.node_memory.proofs.HeapAsked.{alloc-accepted, asked-found, asked-no-room}
 use Rattle.node_memory.proofs.LaidOut.{layout_of, after-heap, heap-changed}
 use Rattle.node_memory.proofs.memory.NodeMemory.heap_alloc.Goals as goal
 use Rattle.node_memory.proofs.memory.NodeMemory.heap_alloc.Goals.{in-Some, in-None}
-use Rattle.arena_core.specs.Contents.{Contents}
-use Rattle.heap_core.specs.declared.region.Region.{Region}
 use Rattle.std.specs.Option.{option_map}
 use Rattle.heap_core.specs.HeapStore.{with_block, block_at}
 use Rattle.mote_types.specs.BlockNames.{number_of}
@@ -40,10 +40,22 @@ returns-clause-asked c =
           (asked-found (alloc_refusal p b c.args.n old.heap) old new accepted (allocated p b c.args.n old.heap) (heap_of c.alloc.new.self c.alloc.new.arena.bytes)
           (ap (allocated p b c.args.n) (sym same) ∙ w.in-Some.ensures.block) changed)
       | in-None w ↦
-          let unchanged = w.in-None.ensures.unchanged in
+          let still = heap-changed k.mmem k.heap c.alloc.new.self k.pools k.arena c.alloc.new.arena c.self.invariant c.alloc.ensures.rest c.alloc.ensures.laid_out
+          ∙ ap (λ h. with_heap h (contents_of (layout_of k.mmem k.heap k.pools k.arena.bytes))) w.in-None.ensures.unchanged in
           rw w.result-is
           (asked-no-room (alloc_refusal p b c.args.n old.heap) old new accepted (allocated p b c.args.n old.heap)
           (ap (allocated p b c.args.n) (sym same) ∙ ap (option_map (λ spot. with_block (block_at spot (number_of p b) (zeros c.args.n)) heap)) (w.in-None.ensures.refused.0 (search rules)))
-          (ap (λ (h : Region). contents_of (layout_of k.mmem h k.pools c.alloc.new.arena.bytes)) unchanged.0
-          ∙ ap (λ (a : Contents). contents_of (layout_of k.mmem k.heap k.pools a.bytes)) unchanged.1 ∙ view))
+          (still ∙ view))
+    ]
+
+pub returns-clause-refused : goal.returns-clause-refused
+returns-clause-refused c =
+    let k = c.self.inside in
+    elim c.match-alloc.branch [
+      | in-Some w ↦ rw w.result-is tt
+      | in-None w ↦
+          let same = heap-changed k.mmem k.heap c.alloc.new.self k.pools k.arena c.alloc.new.arena c.self.invariant c.alloc.ensures.rest c.alloc.ensures.laid_out
+          ∙ ap (λ h. with_heap h (contents_of (layout_of k.mmem k.heap k.pools k.arena.bytes))) w.in-None.ensures.unchanged in
+          let stay = heap_stays k.mmem k.heap c.alloc.new.self k.pools k.arena.bytes c.alloc.new.arena.bytes c.alloc.ensures.rest.span same in
+          rw w.result-is (subst (λ (m : PlacedMemory). StaysInPlace m (placed (layout_of k.mmem c.alloc.new.self k.pools c.alloc.new.arena.bytes))) c.self.view_is stay)
     ]

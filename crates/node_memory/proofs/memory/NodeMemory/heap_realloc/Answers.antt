@@ -1,15 +1,15 @@
-use Rattle.std.proofs.Common.{rules, arith, ap, sym, ◌∙◌, ◌≡◌, None}
+use Rattle.std.proofs.Common.{rules, arith, subst, ap, sym, ◌∙◌, ◌≡◌, None}
 use Rattle.heap_core.specs.HeapBytes.{heap_of}
 use Rattle.heap_core.specs.HeapStore.{reallocated}
 use Rattle.node_memory.specs.HeapCalls.{realloc_refusal}
 use Rattle.node_memory.specs.Memory.{Memory, with_heap}
-use Rattle.node_memory.specs.Placed.{PlacedMemory, contents_of}
+use Rattle.node_memory.specs.Placed.{PlacedMemory, contents_of, placed}
+use Rattle.node_memory.specs.Separation.{StaysInPlace}
+use Rattle.node_memory.proofs.Stays.{heap_stays}
 use Rattle.node_memory.proofs.HeapAsked.{realloc-accepted, asked-found, asked-no-room}
 use Rattle.node_memory.proofs.LaidOut.{layout_of, after-heap, heap-changed}
 use Rattle.node_memory.proofs.memory.NodeMemory.heap_realloc.Goals as goal
 use Rattle.node_memory.proofs.memory.NodeMemory.heap_realloc.Goals.{in-Some, in-None}
-use Rattle.arena_core.specs.Contents.{Contents}
-use Rattle.heap_core.specs.declared.region.Region.{Region}
 
 pub invariant_of-self : goal.invariant_of-self
 invariant_of-self c =
@@ -36,10 +36,22 @@ returns-clause-asked c =
           (asked-found (realloc_refusal p b c.args.n old.heap) old new accepted (reallocated p b c.args.n old.heap) (heap_of c.realloc.new.self c.realloc.new.arena.bytes)
           (ap (reallocated p b c.args.n) (sym same) ∙ w.in-Some.ensures.block) changed)
       | in-None w ↦
-          let unchanged = w.in-None.ensures.unchanged in
+          let still = heap-changed k.mmem k.heap c.realloc.new.self k.pools k.arena c.realloc.new.arena c.self.invariant c.realloc.ensures.rest c.realloc.ensures.laid_out
+          ∙ ap (λ h. with_heap h (contents_of (layout_of k.mmem k.heap k.pools k.arena.bytes))) w.in-None.ensures.unchanged in
           rw w.result-is
           (asked-no-room (realloc_refusal p b c.args.n old.heap) old new accepted (reallocated p b c.args.n old.heap)
           (ap (reallocated p b c.args.n) (sym same) ∙ w.in-None.ensures.refused.0 (search rules))
-          (ap (λ (h : Region). contents_of (layout_of k.mmem h k.pools c.realloc.new.arena.bytes)) unchanged.0
-          ∙ ap (λ (a : Contents). contents_of (layout_of k.mmem k.heap k.pools a.bytes)) unchanged.1 ∙ view))
+          (still ∙ view))
+    ]
+
+pub returns-clause-refused : goal.returns-clause-refused
+returns-clause-refused c =
+    let k = c.self.inside in
+    elim c.match-realloc.branch [
+      | in-Some w ↦ rw w.result-is tt
+      | in-None w ↦
+          let same = heap-changed k.mmem k.heap c.realloc.new.self k.pools k.arena c.realloc.new.arena c.self.invariant c.realloc.ensures.rest c.realloc.ensures.laid_out
+          ∙ ap (λ h. with_heap h (contents_of (layout_of k.mmem k.heap k.pools k.arena.bytes))) w.in-None.ensures.unchanged in
+          let stay = heap_stays k.mmem k.heap c.realloc.new.self k.pools k.arena.bytes c.realloc.new.arena.bytes c.realloc.ensures.rest.span same in
+          rw w.result-is (subst (λ (m : PlacedMemory). StaysInPlace m (placed (layout_of k.mmem c.realloc.new.self k.pools c.realloc.new.arena.bytes))) c.self.view_is stay)
     ]

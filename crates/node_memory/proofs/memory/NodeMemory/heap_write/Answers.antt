@@ -1,5 +1,5 @@
 use Rattle.std.specs.Prelude.{is_some}
-use Rattle.std.proofs.Common.{rules, arith, ap, ◌∙◌, ◌≡◌, None, length}
+use Rattle.std.proofs.Common.{arith, ap, ◌∙◌, ◌≡◌, None, length}
 use Rattle.heap_core.specs.HeapBytes.{heap_of}
 use Rattle.heap_core.specs.HeapStore.{HeapStore, with_bytes}
 use Rattle.node_memory.specs.HeapCalls.{write_refusal}

@@ -1,4 +1,4 @@
-use Rattle.std.proofs.Common.{rules, arith, ◌≡◌, ap, ◌∙◌, ℕ, List, [], ◌∷◌, refl}
+use Rattle.std.proofs.Common.{rules, ◌≡◌, ap, ◌∙◌, ℕ, List, [], ◌∷◌, refl}
 use Rattle.arena_core.specs.Contents.{Contents}
 use Rattle.mmem_core.specs.ManagedStore.{ManagedStore, empty_store}
 use Rattle.mmem_core.specs.Table.{store_of}

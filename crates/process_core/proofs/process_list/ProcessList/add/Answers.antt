@@ -1,13 +1,26 @@
-use Rattle.std.proofs.Common.{arith, lit<}
-use Rattle.process_core.proofs.Listed.{apart_added, room_from_absent}
+use Rattle.std.proofs.Common.{◌∷◌, ◌∙◌, ap, arith, lit<, false}
+use Rattle.std.specs.Prelude.{List}
+use Rattle.process_core.specs.declared.process.Process.{Process}
+use Rattle.process_core.specs.declared.state.State.{State}
+use Rattle.process_core.proofs.Listed.{added_listed, kept_added, off_list, room_for}
 use Rattle.process_core.proofs.process_list.ProcessList.add.Goals as goal
 
 pub insert-requires : goal.insert-requires
 insert-requires c =
-    let room = room_from_absent c.args.pid.0 c.self.inside.items.items c.requires.known (rw (← c.self.view_is) at c.requires.absent) c.self.invariant in
+    let list = c.self.inside in
+    let none = off_list c.args.pid.0 c.args.self.now list.states list.marks list.on_list.items c.self.view_is c.self.invariant c.requires.absent in
+    let room = room_for c.args.pid.0 list.states list.marks list.on_list.items c.requires.known none c.self.invariant in
     (lit< tt, (omega arith, room))
 
 pub invariant_of-self : goal.invariant_of-self
 invariant_of-self c =
-    rw (c.insert.ensures.items, c.running.ensures)
-    (apart_added c.args.pid.0 c.self.inside.items.items c.requires.known (rw (← c.self.view_is) at c.requires.absent) c.self.invariant)
+    let list = c.self.inside in
+    let none = off_list c.args.pid.0 c.args.self.now list.states list.marks list.on_list.items c.self.view_is c.self.invariant c.requires.absent in
+    rw c.insert.ensures.items (kept_added c.args.pid.0 list.states list.marks list.on_list.items c.requires.known none c.self.invariant)
+
+pub returns : goal.returns
+returns c =
+    let list = c.self.inside in
+    let none = off_list c.args.pid.0 c.args.self.now list.states list.marks list.on_list.items c.self.view_is c.self.invariant c.requires.absent in
+    rw c.insert.ensures.items (added_listed c.args.pid.0 list.states list.marks list.on_list.items c.requires.known none c.self.invariant)
+    ∙ ap (λ (l : List Process). record { number = c.args.pid.0; state = State.Running; marked = false } ∷ l) c.self.view_is

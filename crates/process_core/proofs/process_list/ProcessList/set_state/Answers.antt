@@ -1,21 +1,26 @@
-use Rattle.std.proofs.Common.{◌≡◌, length, arith, false}
-use Rattle.process_core.specs.declared.state.State.{State}
-use Rattle.std.specs.List.{refill}
-use Rattle.std.proofs.lemmas.Bool.Decides.{nat_tests}
-use Rattle.std.proofs.lemmas.Grind.{common_steps}
+use Rattle.std.proofs.Common.{sym, ◌∙◌, ap, arith}
 use Rattle.process_core.specs.Processes.{with_state}
-use Rattle.process_core.proofs.Listed.{step_state, apart_with_state}
+use Rattle.process_core.proofs.Listed.{kept_state, state_set, changed_none, off_list, on_list}
 use Rattle.process_core.proofs.process_list.ProcessList.set_state.Goals as goal
-use Rattle.process_core.proofs.process_list.ProcessList.set_state.Goals.{then-process-pid, else-process-pid}
 
 pub invariant_of-self : goal.invariant_of-self
 invariant_of-self c =
-    let e : refill (length c.self.inside.items.items) c.self.inside.items.items c.loop-process.process-items
-    ≡ with_state c.args.pid.0 c.args.state c.self.inside.items.items = grind (arith, common_steps) in
-    rw e (apart_with_state c.args.pid.0 c.args.state c.self.inside.items.items c.requires c.self.invariant)
+    let list = c.self.inside in
+    kept_state c.args.pid.0 c.args.state list.states list.marks list.on_list.items
+    (on_list c.args.pid.0 c.args.self.now list.states list.marks list.on_list.items c.self.view_is c.self.invariant
+    (λ e. c.in_default.not-Absent (c.state_of.ensures.value ∙ e)))
+    c.requires c.self.invariant
 
-pub loop-process-preserved : goal.loop-process-preserved
-loop-process-preserved c =
-    step_state c.args.pid.0 c.args.state c.as_mut_slice-process-items.result.now c.loop-process.process-items c.if-process-pid.process-items
-    c.loop-process.process-index (record { number = 0; state = State.Absent; marked = false }) (omega arith) (omega arith) c.loop-process.invariant
-    (elim c.if-process-pid.branch [ then-process-pid w ↦ grind (arith, nat_tests, w.if-process-pid.true, w.process-items-is) | else-process-pid w ↦ grind (arith, nat_tests, w.if-process-pid.false, w.process-items-is) ])
+pub returns-in-Absent : goal.returns-in-Absent
+returns-in-Absent c =
+    let list = c.self.inside in
+    let none =
+    off_list c.args.pid.0 c.args.self.now list.states list.marks list.on_list.items c.self.view_is c.self.invariant (sym c.in-Absent.ensures.value) in
+    rw (← c.self.view_is) (sym (changed_none c.args.pid.0 _ list.states list.marks list.on_list.items none))
+
+pub returns-in_default : goal.returns-in_default
+returns-in_default c =
+    let list = c.self.inside in
+    let known = c.state_of.ensures.known (λ e. c.in_default.not-Absent (c.state_of.ensures.value ∙ e)) in
+    sym (state_set c.args.pid.0 c.args.state list.states list.marks list.on_list.items (omega (arith, known, c.self.invariant.state_places)))
+    ∙ ap (with_state c.args.pid.0 c.args.state) c.self.view_is

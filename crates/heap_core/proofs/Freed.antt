@@ -1,0 +1,290 @@
+-- Chunks that were freed and are not joined yet.
+use Rattle.std.proofs.Common.{◌≡◌, ◌≢◌, ℕ, suc, ◌+◌, ◌-◌, ◌≤◌, ◌<◌, inl, inr, Bool, not, List, [], ◌∷◌, ◌++◌, length, true, false, ltb, refl, sym, ap, ◌∙◌, subst, arith}
+use Rattle.std.specs.Prelude.{Option, Some, None, IfSome, filter, map}
+use Rattle.std.proofs.lemmas.Bool.{cases_Bool, ltb-true, lt-ltb, le-ltb, false≢true}
+use Rattle.std.proofs.lemmas.List.{length-append}
+use Rattle.std.proofs.lemmas.List.Elements.{filter-append}
+use Rattle.arena_core.specs.Outside.{ChangesOnly}
+use Rattle.heap_core.specs.declared.chunk.Chunk.{Chunk}
+use Rattle.heap_core.specs.declared.region.Region.{Region}
+use Rattle.heap_core.specs.HeapStore.{Block, HeapStore, placed}
+use Rattle.heap_core.specs.HeapBytes.{heap_of}
+use Rattle.heap_core.specs.Code.Chunks.{chunk_at, AreJoined, with_chunk, blocks_in, is_named}
+use Rattle.heap_core.specs.Code.Layout.{chunks_of, store_of, HasChunks}
+use Rattle.heap_core.specs.Code.Links.{FREED, is_a_name, gaps_among, LinkedTo, NoneAt, AreFreed, unnamed, FreedLinked, KeepsFreed}
+use Rattle.heap_core.specs.Code.Walks.{Stands, LiveIn, block_in_chunk}
+use Rattle.heap_core.proofs.Blocks.{elsewhere}
+use Rattle.heap_core.proofs.Gaps.{total}
+use Rattle.heap_core.proofs.Lists.{gaps_append, live_first, linked_parted, linked_live, link_live, linked_append}
+use Rattle.heap_core.proofs.Members.{In, in_of, in_left, in_right, in_cases, stands_of, in_told}
+use Rattle.heap_core.proofs.Releases.{left_apart}
+use Rattle.heap_core.proofs.Splice.{Spliced, spliced, joined_swap, joined_behind}
+use Rattle.heap_core.proofs.Standing.{Around, around}
+use Rattle.heap_core.proofs.Told.{blocks_append, changes_more}
+
+pub filter_swap : (p q : Block → Bool) (xs : List Block) → filter p (filter q xs) ≡ filter q (filter p xs)
+filter_swap p q [] = refl
+filter_swap p q (x ∷ xs) = elim (cases_Bool (p x)) [
+  | inl is ↦ elim (cases_Bool (q x)) [
+    | inl also ↦ rw also (rw is (rw also (ap (λ l. x ∷ l) (filter_swap p q xs))))
+    | inr never ↦ rw never (rw is (rw never (filter_swap p q xs)))
+  ]
+  | inr not_so ↦ elim (cases_Bool (q x)) [
+    | inl also ↦ rw also (rw not_so (filter_swap p q xs))
+    | inr never ↦ rw never (rw not_so (filter_swap p q xs))
+  ]
+]
+
+fewer : (p : Block → Bool) (xs : List Block) → length (filter p xs) ≤ length xs
+fewer p [] = omega arith
+fewer p (x ∷ xs) = let later = fewer p xs in elim (cases_Bool (p x)) [ inl is ↦ rw is (omega arith) | inr not_so ↦ rw not_so (omega arith) ]
+
+-- with none that has no name all have one
+pub all_named : (xs : List Block) → length (unnamed xs) ≡ 0 → filter is_named xs ≡ xs
+all_named [] e = refl
+all_named (x ∷ xs) e = elim (cases_Bool (is_named x)) [
+  | inl named ↦ rw named (ap (λ l. x ∷ l) (all_named xs (rw named at e)))
+  | inr none ↦ absurd (let some : length (x ∷ unnamed xs) ≡ 0 = rw none at e in omega (arith, some))
+]
+
+pub owner_named : (o : Option ℕ) → is_a_name o ≡ true → (name : ℕ) × (o ≡ Some name) × (name < 272)
+owner_named None e = absurd (false≢true e)
+owner_named (Some name) e = (name, refl, ltb-true name 272 e)
+
+-- those that stay live stay in the list
+pub freed_moved : (all new : List Chunk) (head : Option ℕ) (list : List Chunk) (at : ℕ) → NoneAt at list → ((other : Chunk) → LiveIn other all → other.at ≢ at → LiveIn other new) → AreFreed all head list → AreFreed new head list
+freed_moved all new head [] at none kept h = h
+freed_moved all new head (c ∷ list) at none kept h = (h.0, kept c h.1 none.0, h.2, h.3, freed_moved all new c.link list at none.1 kept h.4)
+
+module _ (heap : Region) (B : List ℕ) (has : HasChunks heap B) where
+  abbrev T : List Chunk
+  T = chunks_of heap B
+
+  pub freed_small : FreedLinked heap B → heap.freed ≤ 4096
+  freed_small f =
+      let sums = total B heap.span.at 0 heap.footprint T has.told in
+      omega (arith, f.all, fewer (λ block. not (is_named block)) (store_of heap B).blocks, heap.inside, heap.small)
+
+  pub newest_small : FreedLinked heap B → IfSome heap.newest (λ place. place < 65536)
+  newest_small f = from f.list f.linked
+    where
+      from : (list : List Chunk) → AreFreed T heap.newest list → IfSome heap.newest (λ place. place < 65536)
+      from [] h = subst (λ o. IfSome o (λ place. place < 65536)) (sym h) tt
+      from (c ∷ list) h =
+          let t = in_told B heap.span.at 0 heap.footprint c T has.told (in_of c T h.1.stands) in
+          subst (λ o. IfSome o (λ place. place < 65536)) (sym h.0) (omega (arith, t.1, t.2, heap.inside, heap.small))
+
+  -- no other chunk begins where one stands
+  pub same_chunk : (c d : Chunk) → Stands c T → Stands d T → c.at ≡ d.at → c ≡ d
+  same_chunk c d s s' e = sym (around heap B c has s).here ∙ ap (chunk_at B heap.span.at) e ∙ (around heap B d has s').here
+
+  -- the one that was freed last
+  pub record Newest (chunk : Chunk) : Type 0 where
+    pub live : LiveIn chunk T
+    pub owner : chunk.owner ≡ Some FREED
+    pub rest : List Chunk
+    pub none : NoneAt chunk.at rest
+    pub later : AreFreed T chunk.link rest
+    pub count : 1 + length rest ≡ heap.freed
+
+  pub newest_is : FreedLinked heap B → (at : ℕ) (chunk : Chunk) → heap.newest ≡ Some at → chunk ≡ chunk_at B heap.span.at at → Newest chunk
+  newest_is f at chunk e is = from f.list f.linked f.count
+    where
+      from : (list : List Chunk) → AreFreed T heap.newest list → length list ≡ heap.freed → Newest chunk
+      from [] h count = absurd (let two : Some at ≡ None = sym e ∙ h in cc)
+      from (c ∷ list) h count =
+          let place : c.at ≡ at = let two : Some c.at ≡ Some at = sym h.0 ∙ e in cc in
+          let same : c ≡ chunk = sym (around heap B c has h.1.stands).here ∙ ap (chunk_at B heap.span.at) place ∙ sym is in
+          subst Newest same (record { live = h.1; owner = h.2; rest = list; none = h.3; later = h.4; count = omega (arith, count) })
+
+  pub none_newest : FreedLinked heap B → heap.newest ≡ None → heap.freed ≡ 0
+  none_newest f e = from f.list f.linked f.count
+    where
+      from : (list : List Chunk) → AreFreed T heap.newest list → length list ≡ heap.freed → heap.freed ≡ 0
+      from [] h count = omega (arith, count)
+      from (c ∷ list) h count = absurd (let two : None ≡ Some c.at = sym e ∙ h.0 in cc)
+
+  -- a chunk with or without a name, and the others
+  module _ (chunk : Chunk) (name : ℕ) (stands : Stands chunk T) (owner : chunk.owner ≡ Some name) where
+    pub at : Around B heap.span.at heap.footprint chunk T
+    at = around heap B chunk has stands
+
+    pub is_live : chunk.owner ≢ None
+    is_live none = absurd (let two : None ≡ Some name = sym none ∙ owner in cc)
+
+    abbrev xs : List Block
+    xs = blocks_in B heap.span.at at.before
+
+    abbrev ys : List Block
+    ys = blocks_in B heap.span.at at.behind
+
+    abbrev block : Block
+    block = block_in_chunk B heap.span.at name chunk
+
+    pub all_blocks : (store_of heap B).blocks ≡ xs ++ (block ∷ ys)
+    all_blocks = ap (blocks_in B heap.span.at) at.is ∙ blocks_append B heap.span.at at.before (chunk ∷ at.behind) ∙ ap (λ o. xs ++ with_chunk B heap.span.at chunk o ys) owner
+
+    pub other_blocks : filter (elsewhere chunk.at) (store_of heap B).blocks ≡ xs ++ ys
+    other_blocks = left_apart heap B has chunk at is_live
+
+    filtered : (p : Block → Bool) (middle : List Block) (k : Block) → p k ≡ false → filter p (xs ++ (k ∷ ys)) ≡ filter p (xs ++ ys)
+    filtered p middle k gone =
+        let here : filter p (k ∷ ys) ≡ filter p ys = rw gone refl in
+        filter-append p xs (k ∷ ys) ∙ ap (λ l. filter p xs ++ l) here ∙ sym (filter-append p xs ys)
+
+    counted : (p : Block → Bool) (k : Block) → p k ≡ true → length (filter p (xs ++ (k ∷ ys))) ≡ 1 + length (filter p (xs ++ ys))
+    counted p k kept =
+        let here : filter p (k ∷ ys) ≡ k ∷ filter p ys = rw kept refl in
+        omega (arith, ap length (filter-append p xs (k ∷ ys) ∙ ap (λ l. filter p xs ++ l) here), length-append (filter p xs) (k ∷ filter p ys), ap length (filter-append p xs ys), length-append (filter p xs) (filter p ys))
+
+    -- a chunk without a name is no block
+    pub named_without : 272 ≤ name → filter is_named (filter (elsewhere chunk.at) (store_of heap B).blocks) ≡ filter is_named (store_of heap B).blocks
+    named_without big =
+        let none : is_named block ≡ false = le-ltb name 272 big in
+        ap (filter is_named) other_blocks ∙ sym (ap (filter is_named) all_blocks ∙ filtered is_named [] block none)
+
+    pub unnamed_without : 272 ≤ name → length (unnamed (store_of heap B).blocks) ≡ 1 + length (unnamed (filter (elsewhere chunk.at) (store_of heap B).blocks))
+    unnamed_without big =
+        let none : is_named block ≡ false = le-ltb name 272 big in
+        let some : not (is_named block) ≡ true = ap not none in
+        ap (λ l. length (unnamed l)) all_blocks ∙ counted (λ k. not (is_named k)) block some ∙ sym (ap (λ l. 1 + length (unnamed l)) other_blocks)
+
+    pub unnamed_kept : name < 272 → length (unnamed (filter (elsewhere chunk.at) (store_of heap B).blocks)) ≡ length (unnamed (store_of heap B).blocks)
+    unnamed_kept small =
+        let named : is_named block ≡ true = lt-ltb name 272 small in
+        let gone : not (is_named block) ≡ false = ap not named in
+        ap (λ l. length (unnamed l)) other_blocks ∙ sym (ap (λ l. length (unnamed l)) all_blocks ∙ ap length (filtered (λ k. not (is_named k)) [] block gone))
+
+    -- it is set aside
+    module _ (small : name < 272) (B' : List ℕ) (told : chunk_at B' heap.span.at chunk.at ≡ (let k : Chunk = record { at = chunk.at; len = chunk.len; owner = Some FREED; size = chunk.size; link = heap.newest } in k))
+        (changes : ChangesOnly (heap.span.at + chunk.at) 16 B B') where
+      abbrev aside : Chunk
+      aside = record { at = chunk.at; len = chunk.len; owner = Some FREED; size = chunk.size; link = heap.newest }
+
+      freed_live : aside.owner ≢ None
+      freed_live none = absurd (let two : Some FREED ≡ None = none in cc)
+
+      was : AreJoined (at.before ++ (chunk ∷ at.behind))
+      was = subst AreJoined at.is has.joined
+
+      later : AreJoined (chunk ∷ at.behind)
+      later = joined_behind at.before (chunk ∷ at.behind) was
+
+      pub set : Spliced heap B B' at.before (aside ∷ []) at.behind
+      set =
+          spliced heap B B' chunk.at (chunk.at + chunk.len) at.before (aside ∷ []) at.behind has.within
+          (changes_more (heap.span.at + chunk.at) 16 (heap.span.at + chunk.at) (chunk.at + chunk.len - chunk.at) B B' changes (omega arith) (omega (arith, at.enough)))
+          at.front (told, at.enough, refl) at.back
+          (joined_swap at.before (chunk ∷ at.behind) (aside ∷ at.behind) (λ live. freed_live) was ((λ none. absurd (freed_live none)), later.1, later.2))
+
+      k : Block
+      k = block_in_chunk B' heap.span.at FREED aside
+
+      set_blocks : (store_of heap B').blocks ≡ xs ++ (k ∷ ys)
+      unfolding k
+      set_blocks = set.blocks
+
+      pub set_named : filter is_named (store_of heap B').blocks ≡ filter (elsewhere chunk.at) (filter is_named (store_of heap B).blocks)
+      unfolding k
+      set_named =
+          ap (filter is_named) set_blocks
+          ∙ filtered is_named [] k refl
+          ∙ ap (filter is_named) (sym other_blocks)
+          ∙ filter_swap is_named (elsewhere chunk.at) (store_of heap B).blocks
+
+      pub set_unnamed : length (unnamed (store_of heap B').blocks) ≡ 1 + length (unnamed (store_of heap B).blocks)
+      unfolding k
+      set_unnamed =
+          ap (λ l. length (unnamed l)) set_blocks
+          ∙ counted (λ j. not (is_named j)) k refl
+          ∙ ap (λ l. 1 + length (unnamed l)) (sym other_blocks)
+          ∙ ap (λ n. 1 + n) (unnamed_kept small)
+
+      others : (other : Chunk) → LiveIn other T → other.at ≢ chunk.at → LiveIn other (chunks_of heap B')
+      others other h far = record {
+        stands = stands_of other (chunks_of heap B') (subst (In other) (sym set.is) (
+            elim (in_cases other at.before (chunk ∷ at.behind) (subst (In other) at.is (in_of other T h.stands))) [
+              | inl early ↦ in_left other at.before (aside ∷ at.behind) early
+              | inr rest ↦ elim rest [
+                | inl same ↦ absurd (far (sym (ap (λ (j : Chunk). j.at) same)))
+                | inr last ↦ in_right other at.before (aside ∷ at.behind) (inr last)
+              ]
+            ]));
+        live = h.live;
+      }
+
+      none_there : (head : Option ℕ) (list : List Chunk) → AreFreed T head list → NoneAt chunk.at list
+      none_there head [] h = tt
+      none_there head (d ∷ list) h = (
+        (λ e. (
+            let same = same_chunk d chunk h.1.stands stands e in
+            let two : Some FREED ≡ Some name = sym h.2 ∙ ap (λ (j : Chunk). j.owner) same ∙ owner in
+            let equal : FREED ≡ name = cc in
+            absurd (omega (arith, equal, small)))),
+        none_there d.link list h.4,
+      )
+
+      pub set_freed : (f : FreedLinked heap B) → AreFreed (chunks_of heap B') (Some chunk.at) (aside ∷ f.list)
+      set_freed f =
+          let none = none_there heap.newest f.list f.linked in (
+            refl,
+            record { stands = stands_of aside (chunks_of heap B') (subst (In aside) (sym set.is) (in_right aside at.before (aside ∷ at.behind) (inl refl))); live = freed_live },
+            refl,
+            none,
+            freed_moved T (chunks_of heap B') heap.newest f.list chunk.at none others f.linked,
+          )
+
+      pub set_gaps : gaps_among (chunks_of heap B') ≡ gaps_among T
+      set_gaps =
+          ap gaps_among set.is
+          ∙ gaps_append at.before (aside ∷ at.behind)
+          ∙ ap (λ l. gaps_among at.before ++ l) (sym (live_first chunk name at.behind owner))
+          ∙ sym (ap gaps_among at.is ∙ gaps_append at.before (chunk ∷ at.behind))
+
+      pub set_linked : LinkedTo heap.lowest T None → LinkedTo heap.lowest (chunks_of heap B') None
+      set_linked linked =
+          let p = linked_parted heap.lowest None at.before (chunk ∷ at.behind) (subst (λ l. LinkedTo heap.lowest l None) at.is linked) in
+          subst (λ l. LinkedTo heap.lowest l None) (sym set.is)
+          (linked_append heap.lowest p.mid None at.before (aside ∷ at.behind) p.front
+          (link_live p.mid None FREED aside at.behind refl (linked_live p.mid None name chunk at.behind owner p.back)))
+
+-- a block with a name is put among the others
+pub placed_unnamed : (block : Block) (xs : List Block) → is_named block ≡ true → length (unnamed (placed block xs)) ≡ length (unnamed xs)
+placed_unnamed block [] named = rw named refl
+placed_unnamed block (x ∷ xs) named = elim (cases_Bool (ltb block.at x.at)) [
+  | inl near ↦ rw near (rw named refl)
+  | inr far ↦
+      let later = placed_unnamed block xs named in
+      let first : unnamed (placed block (x ∷ xs)) ≡ unnamed (x ∷ placed block xs) = rw far refl in
+      ap length first ∙ elim (cases_Bool (is_named x)) [ inl is ↦ rw is later | inr never ↦ rw never (ap suc later) ]
+]
+
+pub none_unnamed : (p : Block → Bool) (xs : List Block) → length (unnamed xs) ≡ 0 → length (unnamed (filter p xs)) ≡ 0
+none_unnamed p xs none =
+    let same = ap length (filter_swap (λ block. not (is_named block)) p xs) in
+    omega (arith, fewer p (unnamed xs))
+
+-- with no chunk set aside there is no list of them
+pub freed_none : (old new : Region) (B B' : List ℕ) → FreedLinked old B → old.freed ≡ 0 → KeepsFreed old new → length (unnamed (store_of new B').blocks) ≡ 0 → FreedLinked new B'
+freed_none old new B B' f none kept all = record {
+  list = [];
+  linked = kept.newest ∙ from f.list f.linked f.count;
+  count = sym (kept.freed ∙ none);
+  all = all ∙ sym (kept.freed ∙ none);
+}
+  where
+    from : (list : List Chunk) → AreFreed (chunks_of old B) old.newest list → length list ≡ old.freed → old.newest ≡ None
+    from [] h count = h
+    from (c ∷ list) h count = absurd (omega (arith, count, none))
+
+-- then all chunks that are no gaps are live blocks
+pub plain : (heap : Region) (B : List ℕ) → FreedLinked heap B → heap.freed ≡ 0 → heap_of heap B ≡ store_of heap B
+plain heap B f none = ap (λ blocks. let h : HeapStore = record { size = heap.span.len; blocks = blocks } in h) (all_named (store_of heap B).blocks (f.all ∙ none))
+
+-- blocks that change but stay among the named, or among those without a name
+pub filter_map : (p : Block → Bool) (f : Block → Block) → ((block : Block) → p (f block) ≡ p block) → (xs : List Block) → filter p (map f xs) ≡ map f (filter p xs)
+filter_map p f keeps [] = refl
+filter_map p f keeps (x ∷ xs) = elim (cases_Bool (p x)) [
+  | inl is ↦ let here : p (f x) ≡ true = keeps x ∙ is in rw is (rw here (ap (λ l. f x ∷ l) (filter_map p f keeps xs)))
+  | inr never ↦ let here : p (f x) ≡ false = keeps x ∙ never in rw never (rw here (filter_map p f keeps xs))
+]

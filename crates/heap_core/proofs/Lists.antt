@@ -1,0 +1,413 @@
+-- The list of the gaps: walks along it, and what stays of it where chunks are exchanged.
+use Rattle.std.proofs.Common.{◌≡◌, ◌≢◌, ℕ, zero, suc, ◌+◌, ◌*◌, ◌≤◌, ◌<◌, ◌⊎◌, inl, inr, List, [], ◌∷◌, ◌++◌, length, true, false, ltb, leb, refl, sym, ap, ◌∙◌, subst, arith}
+use Rattle.std.specs.Prelude.{Option, Some, None, IfSome, fold}
+use Rattle.std.proofs.lemmas.Bool.{lt-ltb, le-ltb, le-leb, lt-leb, cases_Bool}
+use Rattle.std.proofs.lemmas.List.{append_assoc}
+use Rattle.std.proofs.lemmas.List.Sums.{fold-append}
+use Rattle.heap_core.specs.declared.chunk.Chunk.{Chunk}
+use Rattle.heap_core.specs.HeapStore.{header_len}
+use Rattle.heap_core.specs.declared.region.Region.{Region}
+use Rattle.heap_core.specs.Code.Chunks.{chunk_at, Tell}
+use Rattle.heap_core.specs.Code.Layout.{chunks_of, HasChunks}
+use Rattle.heap_core.specs.Code.Links.{with_free, gaps_among, Meets, behind_link, LinkedTo, chunks_along, Follow, lower, higher, gap_below, gap_from, last_of, gaps_from_place, Relinked, Exchanged, KeepsFreed}
+use Rattle.heap_core.specs.Code.Walks.{free_behind, free_from, Stands}
+use Rattle.heap_core.proofs.Standing.{Around}
+use Rattle.heap_core.proofs.Steps.{ended}
+use Rattle.heap_core.proofs.Told.{Split, place_told, told_le, told_split, owner_cases}
+
+with_free_append : (c : Chunk) (o : Option ℕ) (xs ys : List Chunk) → with_free c o (xs ++ ys) ≡ with_free c o xs ++ ys
+with_free_append c None xs ys = refl
+with_free_append c (Some name) xs ys = refl
+
+pub gaps_append : (l r : List Chunk) → gaps_among (l ++ r) ≡ gaps_among l ++ gaps_among r
+gaps_append [] r = refl
+gaps_append (c ∷ l) r = ap (with_free c c.owner) (gaps_append l r) ∙ with_free_append c c.owner (gaps_among l) (gaps_among r)
+
+pub gap_first : (c : Chunk) (l : List Chunk) → c.owner ≡ None → gaps_among (c ∷ l) ≡ c ∷ gaps_among l
+gap_first c l e = ap (λ o. with_free c o (gaps_among l)) e
+
+pub live_first : (c : Chunk) (name : ℕ) (l : List Chunk) → c.owner ≡ Some name → gaps_among (c ∷ l) ≡ gaps_among l
+live_first c name l e = ap (λ o. with_free c o (gaps_among l)) e
+
+pub linked_append : (head mid end : Option ℕ) (l r : List Chunk) → LinkedTo head l mid → LinkedTo mid r end → LinkedTo head (l ++ r) end
+linked_append head mid end [] r h k = subst (λ m. LinkedTo m r end) (sym h) k
+linked_append head mid end (c ∷ l) r h k = (h.0, linked_append (behind_link head c c.owner) mid end l r h.1 k)
+
+pub record Parted (head end : Option ℕ) (l r : List Chunk) : Type 0 where
+  pub mid : Option ℕ
+  pub front : LinkedTo head l mid
+  pub back : LinkedTo mid r end
+
+pub linked_parted : (head end : Option ℕ) (l r : List Chunk) → LinkedTo head (l ++ r) end → Parted head end l r
+linked_parted head end [] r h = record { mid = head; front = refl; back = h }
+linked_parted head end (c ∷ l) r h =
+    let p = linked_parted (behind_link head c c.owner) end l r h.1 in record { mid = p.mid; front = (h.0, p.front); back = p.back }
+
+-- one chunk in front
+pub linked_gap : (head end : Option ℕ) (c : Chunk) (l : List Chunk) → c.owner ≡ None → LinkedTo head (c ∷ l) end → (head ≡ Some c.at) × LinkedTo c.link l end
+linked_gap head end c l e h = (subst (Meets head c) e h.0, subst (λ o. LinkedTo (behind_link head c o) l end) e h.1)
+
+pub linked_live : (head end : Option ℕ) (name : ℕ) (c : Chunk) (l : List Chunk) → c.owner ≡ Some name → LinkedTo head (c ∷ l) end → LinkedTo head l end
+linked_live head end name c l e h = subst (λ o. LinkedTo (behind_link head c o) l end) e h.1
+
+pub link_gap : (head end : Option ℕ) (c : Chunk) (l : List Chunk) → c.owner ≡ None → head ≡ Some c.at → LinkedTo c.link l end → LinkedTo head (c ∷ l) end
+link_gap head end c l e at h = (subst (Meets head c) (sym e) at, subst (λ o. LinkedTo (behind_link head c o) l end) (sym e) h)
+
+pub link_live : (head end : Option ℕ) (name : ℕ) (c : Chunk) (l : List Chunk) → c.owner ≡ Some name → LinkedTo head l end → LinkedTo head (c ∷ l) end
+link_live head end name c l e h = (subst (Meets head c) (sym e) tt, subst (λ o. LinkedTo (behind_link head c o) l end) (sym e) h)
+
+-- without a gap there is nothing to link
+pub linked_none : (head : Option ℕ) (l : List Chunk) → gaps_among l ≡ [] → LinkedTo head l head
+linked_none head [] e = refl
+linked_none head (c ∷ l) e = elim (owner_cases c.owner) [
+  | inl n ↦ absurd (let two : c ∷ gaps_among l ≡ [] = sym (gap_first c l n) ∙ e in cc)
+  | inr s ↦ link_live head head s.0 c l s.1 (linked_none head l (sym (live_first c s.0 l s.1) ∙ e))
+]
+
+-- walks along the links
+pub along_is : (n : ℕ) (B : List ℕ) (b end : ℕ) (head : Option ℕ) (l : List Chunk) → Follow B b end head l → length l ≤ n → chunks_along n B b head ≡ l
+along_is zero B b end head [] h few = refl
+along_is zero B b end head (c ∷ l) h few = absurd (omega (arith, few))
+along_is (suc n) B b end head [] h few = ap (chunks_along (suc n) B b) h
+along_is (suc n) B b end head (c ∷ l) h few =
+    ap (chunks_along (suc n) B b) h.0
+    ∙ ap (λ (k : Chunk). k ∷ chunks_along n B b k.link) h.1
+    ∙ ap (λ k. c ∷ k) (along_is n B b end c.link l h.3 (omega (arith, few)))
+
+pub followed : (B : List ℕ) (b x end : ℕ) (head : Option ℕ) (l : List Chunk) → Tell B b x end l → LinkedTo head l None → Follow B b end head (gaps_among l) × (x + 16 * length (gaps_among l) ≤ end)
+followed B b x end head [] t h = (h, omega (arith, t))
+followed B b x end head (c ∷ l) t h =
+    let enough : header_len + c.size ≤ c.len = t.1 in let at = place_told B b x c t.0 in let le = told_le B b (x + c.len) end l t.2 in
+    elim (owner_cases c.owner) [
+      | inl e ↦
+          let k = linked_gap head None c l e h in
+          let later = followed B b (x + c.len) end c.link l t.2 k.1 in
+          subst (λ gaps. Follow B b end head gaps × (x + 16 * length gaps ≤ end)) (sym (gap_first c l e))
+          ((k.0, ap (chunk_at B b) at ∙ t.0, omega arith, later.0), omega (arith, later.1))
+      | inr s ↦
+          let later = followed B b (x + c.len) end head l t.2 (linked_live head None s.0 c l s.1 h) in
+          subst (λ gaps. Follow B b end head gaps × (x + 16 * length gaps ≤ end)) (sym (live_first c s.0 l s.1)) (later.0, omega (arith, later.1))
+    ]
+
+-- what a hole leaves of the list
+pub record Ends (head : Option ℕ) (p q : ℕ) (all before behind : List Chunk) : Type 0 where
+  pub end : Option ℕ
+  pub front : LinkedTo head before end
+  pub last : gap_below p (gaps_among all) ≡ last_of (gaps_among before)
+  pub back : LinkedTo (gap_from q (gaps_among all)) behind None
+
+-- the gap below a place, and the one from a place on
+module _ (B : List ℕ) (b : ℕ) where
+  all_lower : (p x y : ℕ) (found : Option Chunk) (l : List Chunk) → Tell B b x y l → y ≤ p → fold (lower p) found (gaps_among l) ≡ fold (λ _ gap. Some gap) found (gaps_among l)
+  all_lower p x y found [] t le = refl
+  all_lower p x y found (c ∷ l) t le =
+      let enough : header_len + c.size ≤ c.len = t.1 in let at = place_told B b x c t.0 in let high = told_le B b (x + c.len) y l t.2 in
+      elim (owner_cases c.owner) [
+        | inl e ↦
+            let near : ltb c.at p ≡ true = lt-ltb c.at p (omega arith) in
+            let here : lower p found c ≡ Some c = rw near refl in
+            ap (fold (lower p) found) (gap_first c l e)
+            ∙ ap (λ o. fold (lower p) o (gaps_among l)) here
+            ∙ all_lower p (x + c.len) y (Some c) l t.2 le
+            ∙ sym (ap (fold (λ _ gap. Some gap) found) (gap_first c l e))
+        | inr s ↦
+            ap (fold (lower p) found) (live_first c s.0 l s.1) ∙ all_lower p (x + c.len) y found l t.2 le ∙ sym (ap (fold (λ _ gap. Some gap) found) (live_first c s.0 l s.1))
+      ]
+
+  none_lower : (p x y : ℕ) (found : Option Chunk) (l : List Chunk) → Tell B b x y l → p ≤ x → fold (lower p) found (gaps_among l) ≡ found
+  none_lower p x y found [] t le = refl
+  none_lower p x y found (c ∷ l) t le =
+      let enough : header_len + c.size ≤ c.len = t.1 in let at = place_told B b x c t.0 in
+      elim (owner_cases c.owner) [
+        | inl e ↦
+            let far : ltb c.at p ≡ false = le-ltb c.at p (omega arith) in
+            let here : lower p found c ≡ found = rw far refl in
+            ap (fold (lower p) found) (gap_first c l e) ∙ ap (λ o. fold (lower p) o (gaps_among l)) here ∙ none_lower p (x + c.len) y found l t.2 (omega arith)
+        | inr s ↦ ap (fold (lower p) found) (live_first c s.0 l s.1) ∙ none_lower p (x + c.len) y found l t.2 (omega arith)
+      ]
+
+  kept_higher : (p at : ℕ) (gaps : List Chunk) → fold (higher p) (Some at) gaps ≡ Some at
+  kept_higher p at [] = refl
+  kept_higher p at (c ∷ gaps) = kept_higher p at gaps
+
+  none_higher : (p x y : ℕ) (l : List Chunk) → Tell B b x y l → y ≤ p → fold (higher p) None (gaps_among l) ≡ None
+  none_higher p x y [] t le = refl
+  none_higher p x y (c ∷ l) t le =
+      let enough : header_len + c.size ≤ c.len = t.1 in let at = place_told B b x c t.0 in let high = told_le B b (x + c.len) y l t.2 in
+      elim (owner_cases c.owner) [
+        | inl e ↦
+            let far : leb p c.at ≡ false = lt-leb p c.at (omega arith) in
+            let here : higher p None c ≡ None = rw far refl in
+            ap (fold (higher p) None) (gap_first c l e) ∙ ap (λ o. fold (higher p) o (gaps_among l)) here ∙ none_higher p (x + c.len) y l t.2 le
+        | inr s ↦ ap (fold (higher p) None) (live_first c s.0 l s.1) ∙ none_higher p (x + c.len) y l t.2 le
+      ]
+
+  first_higher : (p x y : ℕ) (head : Option ℕ) (l : List Chunk) → Tell B b x y l → p ≤ x → LinkedTo head l None → fold (higher p) None (gaps_among l) ≡ head
+  first_higher p x y head [] t le h = sym h
+  first_higher p x y head (c ∷ l) t le h =
+      let enough : header_len + c.size ≤ c.len = t.1 in let at = place_told B b x c t.0 in
+      elim (owner_cases c.owner) [
+        | inl e ↦
+            let near : leb p c.at ≡ true = le-leb p c.at (omega arith) in
+            let here : higher p None c ≡ Some c.at = rw near refl in
+            ap (fold (higher p) None) (gap_first c l e)
+            ∙ ap (λ o. fold (higher p) o (gaps_among l)) here
+            ∙ kept_higher p c.at (gaps_among l)
+            ∙ sym (linked_gap head None c l e h).0
+        | inr s ↦ ap (fold (higher p) None) (live_first c s.0 l s.1) ∙ first_higher p (x + c.len) y head l t.2 (omega arith) (linked_live head None s.0 c l s.1 h)
+      ]
+
+  higher_small : (p x y most : ℕ) (found : Option ℕ) (l : List Chunk) → Tell B b x y l → y ≤ most → IfSome found (λ place. place < most) → IfSome (fold (higher p) found (gaps_among l)) (λ place. place < most)
+  higher_small p x y most found [] t le h = h
+  higher_small p x y most (Some place) (c ∷ l) t le h = subst (λ o. IfSome o (λ k. k < most)) (sym (kept_higher p place (gaps_among (c ∷ l)))) h
+  higher_small p x y most None (c ∷ l) t le h =
+      let enough : header_len + c.size ≤ c.len = t.1 in let at = place_told B b x c t.0 in let high = told_le B b (x + c.len) y l t.2 in
+      elim (owner_cases c.owner) [
+        | inl e ↦ elim (cases_Bool (leb p c.at)) [
+          | inl near ↦
+              let here : fold (higher p) None (gaps_among (c ∷ l)) ≡ fold (higher p) (Some c.at) (gaps_among l) =
+              ap (fold (higher p) None) (gap_first c l e) ∙ (let now : higher p None c ≡ Some c.at = rw near refl in ap (λ o. fold (higher p) o (gaps_among l)) now) in
+              subst (λ o. IfSome o (λ k. k < most)) (sym here) (higher_small p (x + c.len) y most (Some c.at) l t.2 le (omega arith))
+          | inr far ↦
+              let here : fold (higher p) None (gaps_among (c ∷ l)) ≡ fold (higher p) None (gaps_among l) =
+              ap (fold (higher p) None) (gap_first c l e) ∙ (let now : higher p None c ≡ None = rw far refl in ap (λ o. fold (higher p) o (gaps_among l)) now) in
+              subst (λ o. IfSome o (λ k. k < most)) (sym here) (higher_small p (x + c.len) y most None l t.2 le tt)
+        ]
+        | inr s ↦
+            subst (λ o. IfSome o (λ k. k < most)) (sym (ap (fold (higher p) None) (live_first c s.0 l s.1))) (higher_small p (x + c.len) y most None l t.2 le tt)
+      ]
+
+  pub gap_from_small : (p y most : ℕ) (l : List Chunk) → Tell B b 0 y l → y ≤ most → IfSome (gap_from p (gaps_among l)) (λ place. place < most)
+  gap_from_small p y most l t le = higher_small p 0 y most None l t le tt
+
+  pub list_ends : (head : Option ℕ) (p q end : ℕ) (before gone behind : List Chunk) → LinkedTo head (before ++ (gone ++ behind)) None → Tell B b 0 end (before ++ (gone ++ behind))
+      → Tell B b 0 p before → Tell B b q end behind → Ends head p q (before ++ (gone ++ behind)) before behind
+  list_ends head p q end before gone behind h told front back =
+      let all = before ++ (gone ++ behind) in
+      let s = told_split B b 0 end before (gone ++ behind) told in
+      let s' = told_split B b s.mid end gone behind s.back in
+      let first = linked_parted head None before (gone ++ behind) h in
+      let second = linked_parted first.mid None gone behind first.back in
+      let here : s.mid ≡ p = told_end 0 s.mid p before s.front front in
+      let there : s'.mid ≡ q = told_start s'.mid q end behind s'.back back in
+      let low = told_le B b s.mid s'.mid gone s'.front in
+      let none = none_higher q s.mid s'.mid gone s'.front (omega arith) in
+      record {
+        end = first.mid;
+        front = first.front;
+        last = ap (fold (lower p) None) (gaps_append before (gone ++ behind))
+            ∙ fold-append (lower p) None (gaps_among before) (gaps_among (gone ++ behind))
+            ∙ none_lower p s.mid end (fold (lower p) None (gaps_among before)) (gone ++ behind) s.back (omega arith)
+            ∙ all_lower p 0 p None before front (omega arith);
+        back = subst (λ m. LinkedTo m behind None)
+            (sym (ap (fold (higher q) None) (gaps_append before (gone ++ behind))
+            ∙ fold-append (higher q) None (gaps_among before) (gaps_among (gone ++ behind))
+            ∙ ap (λ o. fold (higher q) o (gaps_among (gone ++ behind))) (none_higher q 0 p before front (omega arith))
+            ∙ ap (fold (higher q) None) (gaps_append gone behind)
+            ∙ fold-append (higher q) None (gaps_among gone) (gaps_among behind)
+            ∙ ap (λ o. fold (higher q) o (gaps_among behind)) none
+            ∙ first_higher q q end second.mid behind back (omega arith) second.back))
+            second.back;
+      }
+    where
+      told_end : (x y z : ℕ) (l : List Chunk) → Tell B b x y l → Tell B b x z l → y ≡ z
+      told_end x y z [] t u = sym t ∙ u
+      told_end x y z (c ∷ l) t u = told_end (x + c.len) y z l t.2 u.2
+
+      told_start : (x y z : ℕ) (l : List Chunk) → Tell B b x z l → Tell B b y z l → x ≡ y
+      told_start x y z [] t u = t ∙ sym u
+      told_start x y z (c ∷ l) t u = sym (place_told B b x c t.0) ∙ place_told B b y c u.0
+
+-- the last gap of some chunks
+pub record LastGap (gap : Chunk) (l : List Chunk) : Type 0 where
+  pub before : List Chunk
+  pub behind : List Chunk
+  pub is : l ≡ before ++ (gap ∷ behind)
+  pub free : gap.owner ≡ None
+  pub none : gaps_among behind ≡ []
+
+last_found : (gap : Chunk) (found : Option Chunk) (l : List Chunk) → fold (λ _ gap. Some gap) found (gaps_among l) ≡ Some gap → ((found ≡ Some gap) × (gaps_among l ≡ [])) ⊎ LastGap gap l
+last_found gap found [] e = inl (e, refl)
+last_found gap found (c ∷ l) e = elim (owner_cases c.owner) [
+  | inl n ↦ elim (last_found gap (Some c) l (sym (ap (fold (λ _ k. Some k) found) (gap_first c l n)) ∙ e)) [
+    | inl here ↦
+        let same : c ≡ gap = let two : Some c ≡ Some gap = here.0 in cc in
+        inr (record { before = []; behind = l; is = ap (λ k. k ∷ l) same; free = sym (ap (λ (k : Chunk). k.owner) same) ∙ n; none = here.1 })
+    | inr later ↦ inr (record { before = c ∷ later.before; behind = later.behind; is = ap (λ k. c ∷ k) later.is; free = later.free; none = later.none })
+  ]
+  | inr s ↦ elim (last_found gap found l (sym (ap (fold (λ _ k. Some k) found) (live_first c s.0 l s.1)) ∙ e)) [
+    | inl here ↦ inl (here.0, live_first c s.0 l s.1 ∙ here.1)
+    | inr later ↦ inr (record { before = c ∷ later.before; behind = later.behind; is = ap (λ k. c ∷ k) later.is; free = later.free; none = later.none })
+  ]
+]
+
+pub last_gap : (gap : Chunk) (l : List Chunk) → last_of (gaps_among l) ≡ Some gap → LastGap gap l
+last_gap gap l e = elim (last_found gap None l e) [ inl none ↦ absurd (let two : None ≡ Some gap = none.0 in cc) | inr found ↦ found ]
+
+some_last : (c : Chunk) (gaps : List Chunk) → fold (λ _ gap. Some gap) (Some c) gaps ≢ None
+some_last c [] e = absurd (cc)
+some_last c (d ∷ gaps) e = some_last d gaps e
+
+pub no_last : (l : List Chunk) → last_of (gaps_among l) ≡ None → gaps_among l ≡ []
+no_last l e = none (gaps_among l) e
+  where
+    none : (gaps : List Chunk) → last_of gaps ≡ None → gaps ≡ []
+    none [] e = refl
+    none (c ∷ gaps) e = absurd (some_last c gaps e)
+
+-- the last gap is linked elsewhere
+pub linked_again : (head end first : Option ℕ) (gap new : Chunk) (before behind : List Chunk) → gap.owner ≡ None → new.owner ≡ None → new.at ≡ gap.at → new.link ≡ first → gaps_among behind ≡ []
+    → LinkedTo head (before ++ (gap ∷ behind)) end → LinkedTo head (before ++ (new ∷ behind)) first
+linked_again head end first gap new before behind free free' at link none h =
+    let p = linked_parted head end before (gap ∷ behind) h in
+    let k = linked_gap p.mid end gap behind free p.back in
+    linked_append head p.mid first before (new ∷ behind) p.front
+    (link_gap p.mid first new behind free' (k.0 ∙ ap Some (sym at)) (subst (λ m. LinkedTo m behind first) (sym link) (linked_none first behind none)))
+
+-- the next step of a walk
+pub record NextGap (heap : Region) (B : List ℕ) (head : Option ℕ) (gap : Chunk) : Type 0 where
+  pub is : gaps_from_place heap B head ≡ gap ∷ gaps_from_place heap B gap.link
+  pub few : length (gaps_from_place heap B gap.link) ≤ heap.footprint
+  pub follow : Follow B heap.span.at heap.footprint gap.link (gaps_from_place heap B gap.link)
+
+module _ (heap : Region) (B : List ℕ) where
+  abbrev Walk : Option ℕ → Type 0
+  Walk head = Follow B heap.span.at heap.footprint head (gaps_from_place heap B head)
+
+  place_is : (head : Option ℕ) (l : List Chunk) → Follow B heap.span.at heap.footprint head l → length l ≤ heap.footprint → gaps_from_place heap B head ≡ l
+  unfolding gaps_from_place
+  place_is head l follow few = along_is heap.footprint B heap.span.at heap.footprint head l follow few
+
+  pub header_fits : (head : Option ℕ) (at : ℕ) (l : List Chunk) → head ≡ Some at → Follow B heap.span.at heap.footprint head l → at + 16 ≤ heap.footprint
+  header_fits head at [] e follow = absurd (let two : Some at ≡ None = sym e ∙ follow in cc)
+  header_fits head at (c ∷ l) e follow = let same : c.at ≡ at = let two : Some c.at ≡ Some at = sym follow.0 ∙ e in cc in omega (arith, follow.2)
+
+  pub next_gap : (head : Option ℕ) (at : ℕ) (gap : Chunk) → head ≡ Some at → gap ≡ chunk_at B heap.span.at at → length (gaps_from_place heap B head) ≤ heap.footprint → Walk head → NextGap heap B head gap
+  next_gap head at gap e is few follow = from (gaps_from_place heap B head) refl few follow
+    where
+      from : (l : List Chunk) → gaps_from_place heap B head ≡ l → length l ≤ heap.footprint → Follow B heap.span.at heap.footprint head l → NextGap heap B head gap
+      from [] all less walk = absurd (let two : Some at ≡ None = sym e ∙ walk in cc)
+      from (c ∷ l) all less walk =
+          let at_same : c.at ≡ at = let two : Some c.at ≡ Some at = sym walk.0 ∙ e in cc in
+          let same : c ≡ gap = sym walk.1 ∙ ap (chunk_at B heap.span.at) at_same ∙ sym is in
+          let later : Follow B heap.span.at heap.footprint gap.link l = subst (λ (k : Chunk). Follow B heap.span.at heap.footprint k.link l) same walk.3 in
+          let there = place_is gap.link l later (omega (arith, less)) in
+          record {
+            is = all ∙ ap (λ k. k ∷ l) same ∙ ap (λ k. gap ∷ k) (sym there);
+            few = omega (arith, less, ap length there);
+            follow = subst (Follow B heap.span.at heap.footprint gap.link) (sym there) later;
+          }
+
+  pub no_gap : (head : Option ℕ) → head ≡ None → Walk head → gaps_from_place heap B head ≡ []
+  no_gap head e follow = from (gaps_from_place heap B head) refl follow
+    where
+      from : (l : List Chunk) → gaps_from_place heap B head ≡ l → Follow B heap.span.at heap.footprint head l → gaps_from_place heap B head ≡ []
+      from [] all walk = all
+      from (c ∷ l) all walk = absurd (let two : None ≡ Some c.at = sym e ∙ walk.0 in cc)
+
+  -- the first one
+  pub walk_begins : HasChunks heap B → LinkedTo heap.lowest (chunks_of heap B) None
+      → (gaps_from_place heap B heap.lowest ≡ gaps_among (chunks_of heap B)) × (length (gaps_from_place heap B heap.lowest) ≤ heap.footprint) × Walk heap.lowest
+  walk_begins has linked =
+      let f = followed B heap.span.at 0 heap.footprint heap.lowest (chunks_of heap B) has.told linked in
+      let there = place_is heap.lowest (gaps_among (chunks_of heap B)) f.0 (omega (arith, f.1)) in
+      (there, omega (arith, f.1, ap length there), subst (Follow B heap.span.at heap.footprint heap.lowest) (sym there) f.0)
+
+-- the gap below a chunk is the last one of those before it
+pub below_is : (heap : Region) (B : List ℕ) (chunk : Chunk) (a : Around B heap.span.at heap.footprint chunk (chunks_of heap B)) → gap_below chunk.at (gaps_among (chunks_of heap B)) ≡ last_of (gaps_among a.before)
+below_is heap B chunk a =
+    let b = heap.span.at in
+    ap (λ l. gap_below chunk.at (gaps_among l)) a.is
+    ∙ ap (fold (lower chunk.at) None) (gaps_append a.before (chunk ∷ a.behind))
+    ∙ fold-append (lower chunk.at) None (gaps_among a.before) (gaps_among (chunk ∷ a.behind))
+    ∙ none_lower B b chunk.at chunk.at heap.footprint (fold (lower chunk.at) None (gaps_among a.before)) (chunk ∷ a.behind) (a.here, a.enough, a.back) (omega arith)
+    ∙ all_lower B b chunk.at 0 chunk.at None a.before a.front (omega arith)
+
+-- where the free bytes begin that end at a place
+abbrev walk_free : ℕ → List Chunk → ℕ
+walk_free i l = fold (λ _ (c : Chunk). free_behind c c.owner) i l
+
+free_live : (B : List ℕ) (b x at i : ℕ) (l : List Chunk) → Tell B b x at l → gaps_among l ≡ [] → (l ≡ [] → i ≡ at) → walk_free i l ≡ at
+free_live B b x at i [] t none empty = empty refl
+free_live B b x at i (c ∷ l) t none empty = elim (owner_cases c.owner) [
+  | inl e ↦ absurd (let two : c ∷ gaps_among l ≡ [] = sym (gap_first c l e) ∙ none in cc)
+  | inr s ↦
+      let place = place_told B b x c t.0 in
+      let here : free_behind c c.owner ≡ x + c.len = ap (free_behind c) s.1 ∙ ap (λ k. k + c.len) place in
+      ap (λ i. walk_free i l) here
+      ∙ free_live B b (x + c.len) at (x + c.len) l t.2 (sym (live_first c s.0 l s.1) ∙ none) (λ e. subst (Tell B b (x + c.len) at) e t.2)
+]
+
+module _ (B : List ℕ) (b at : ℕ) (before : List Chunk) (told : Tell B b 0 at before) where
+  pub free_no_gap : last_of (gaps_among before) ≡ None → free_from before ≡ at
+  free_no_gap e = free_live B b 0 at 0 before told (no_last before e) (λ f. subst (Tell B b 0 at) f told)
+
+  module _ (gap : Chunk) (e : last_of (gaps_among before) ≡ Some gap) where
+    l : LastGap gap before
+    l = last_gap gap before e
+
+    s : Split B b 0 at l.before (gap ∷ l.behind)
+    s = told_split B b 0 at l.before (gap ∷ l.behind) (subst (Tell B b 0 at) l.is told)
+
+    place : gap.at ≡ s.mid
+    place = place_told B b s.mid gap s.back.0
+
+    later : Tell B b (gap.at + gap.len) at l.behind
+    later = subst (λ k. Tell B b (k + gap.len) at l.behind) (sym place) s.back.2
+
+    walked_on : free_from before ≡ walk_free gap.at l.behind
+    walked_on =
+        ap free_from l.is
+        ∙ fold-append (λ _ (c : Chunk). free_behind c c.owner) 0 l.before (gap ∷ l.behind)
+        ∙ ap (λ o. walk_free (free_behind gap o) l.behind) l.free
+
+    pub gap_ends_below : gap.at + gap.len ≤ at
+    gap_ends_below = told_le B b (gap.at + gap.len) at l.behind later
+
+    pub free_gap_there : gap.at + gap.len ≡ at → free_from before ≡ gap.at
+    free_gap_there ends = walked_on ∙ ap (walk_free gap.at) (ended B b (gap.at + gap.len) at l.behind later (omega (arith, ends)))
+
+    pub free_gap_below : gap.at + gap.len ≢ at → free_from before ≡ at
+    free_gap_below ends = walked_on ∙ free_live B b (gap.at + gap.len) at gap.at l.behind later l.none (λ f. absurd (ends (subst (Tell B b (gap.at + gap.len) at) f later)))
+
+pub ends_of : (heap : Region) (B : List ℕ) (p q : ℕ) (before gone behind : List Chunk) → HasChunks heap B → LinkedTo heap.lowest (chunks_of heap B) None → chunks_of heap B ≡ before ++ (gone ++ behind)
+    → Tell B heap.span.at 0 p before → Tell B heap.span.at q heap.footprint behind → Ends heap.lowest p q (chunks_of heap B) before behind
+ends_of heap B p q before gone behind has linked is front back =
+    subst (λ all. Ends heap.lowest p q all before behind) (sym is)
+    (list_ends B heap.span.at heap.lowest p q heap.footprint before gone behind (subst (λ all. LinkedTo heap.lowest all None) is linked) (subst (Tell B heap.span.at 0 heap.footprint) is has.told) front back)
+
+-- the last gap of the chunks that come first is one of all
+abbrev pub IsGapOf : List Chunk → Chunk → Type 0
+IsGapOf all gap = Stands gap all × (gap.owner ≡ None)
+
+pub last_stands : (last : Option Chunk) (before rest all : List Chunk) → last ≡ last_of (gaps_among before) → all ≡ before ++ rest → IfSome last (IsGapOf all)
+last_stands None before rest all e is = tt
+last_stands (Some gap) before rest all e is =
+    let l = last_gap gap before (sym e) in
+    (record { before = l.before; behind = l.behind ++ rest; is = is ∙ ap (λ k. k ++ rest) l.is ∙ append_assoc l.before (gap ∷ l.behind) rest }, l.free)
+
+-- chunks were exchanged, and the gap before them is linked again
+pub list_kept : (old new : Region) (B B' : List ℕ) (lowest first link : Option ℕ) (last : Option Chunk) (p q : ℕ) (all before mid behind : List Chunk) → Ends lowest p q all before behind → old.lowest ≡ lowest
+    → chunks_of old B ≡ before ++ (mid ++ behind) → last ≡ gap_below p (gaps_among all) → link ≡ gap_from q (gaps_among all) → LinkedTo first mid link → Relinked old new B B' last first → LinkedTo new.lowest (chunks_of new B') None
+list_kept old new B B' lowest first link last p q all before mid behind ends same is at_last at_link linked relinked =
+    relinked before (mid ++ behind) ends.end is (at_last ∙ ends.last) (subst (λ k. LinkedTo k before ends.end) (sym same) ends.front)
+    (linked_append first link None mid behind linked (subst (λ k. LinkedTo k behind None) (sym at_link) ends.back))
+
+pub kept_then : (a b c : Region) → KeepsFreed a b → KeepsFreed b c → KeepsFreed a c
+kept_then a b c first second = record { places = second.places ∙ first.places; newest = second.newest ∙ first.newest; freed = second.freed ∙ first.freed }
+
+pub gaps_few : (heap : Region) (B : List ℕ) → HasChunks heap B → LinkedTo heap.lowest (chunks_of heap B) None → 16 * length (gaps_among (chunks_of heap B)) ≤ heap.footprint
+gaps_few heap B has linked = let f = followed B heap.span.at 0 heap.footprint heap.lowest (chunks_of heap B) has.told linked in omega (arith, f.1)
+
+-- the list of the gaps after chunks were exchanged
+module _ (heap new : Region) (B B' : List ℕ) (p q : ℕ) (has : HasChunks heap B) (were : LinkedTo heap.lowest (chunks_of heap B) None) (last : Option Chunk) (first link : Option ℕ) (x : Exchanged heap new B B' p q first link)
+    (at_last : last ≡ gap_below p (gaps_among (chunks_of heap B))) (at_link : link ≡ gap_from q (gaps_among (chunks_of heap B))) where
+  ends : Ends heap.lowest p q (chunks_of heap B) x.before x.behind
+  ends = ends_of heap B p q x.before x.gone x.behind has were x.was x.front x.back
+
+  pub last_exchanged : IfSome last (IsGapOf (chunks_of new B'))
+  last_exchanged = last_stands last x.before (x.mid ++ x.behind) (chunks_of new B') (at_last ∙ ends.last) x.is
+
+  pub list_exchanged : (after : Region) (B3 : List ℕ) → new.lowest ≡ heap.lowest → Relinked new after B' B3 last first → LinkedTo after.lowest (chunks_of after B3) None
+  list_exchanged after B3 same relinked =
+      list_kept new after B' B3 heap.lowest first link last p q (chunks_of heap B) x.before x.mid x.behind ends same x.is at_last at_link x.linked relinked

@@ -1,0 +1,67 @@
+-- A gap that is linked to another place.
+use Rattle.std.proofs.Common.{◌≡◌, ℕ, ◌+◌, ◌-◌, List, [], ◌∷◌, ◌++◌, refl, sym, ap, ◌∙◌, subst, arith}
+use Rattle.std.specs.Prelude.{Option, Some, None}
+use Rattle.std.proofs.lemmas.List.{append_assoc}
+use Rattle.arena_core.specs.Outside.{ChangesOnly}
+use Rattle.heap_core.specs.declared.chunk.Chunk.{Chunk}
+use Rattle.heap_core.specs.declared.region.Region.{Region}
+use Rattle.heap_core.specs.HeapStore.{HeapStore}
+use Rattle.heap_core.specs.Code.Chunks.{chunk_at, Tell, AreJoined, blocks_in}
+use Rattle.heap_core.specs.Code.Layout.{chunks_of, store_of, HasChunks}
+use Rattle.heap_core.specs.Code.Links.{LinkedTo, gaps_among, last_of}
+use Rattle.heap_core.specs.Code.Walks.{Stands, LiveIn}
+use Rattle.heap_core.proofs.Gaps.{none_in_front}
+use Rattle.heap_core.proofs.Lists.{linked_append, linked_again, last_gap}
+use Rattle.heap_core.proofs.Members.{live_exchanged}
+use Rattle.heap_core.proofs.Splice.{Spliced, spliced, joined_swap, joined_behind}
+use Rattle.heap_core.proofs.Standing.{Around, around, split_at, before_is, behind_is}
+use Rattle.heap_core.proofs.Told.{told_le, blocks_append, changes_more}
+
+module _ (heap : Region) (B B' : List ℕ) (gap : Chunk) (first : Option ℕ) (has : HasChunks heap B) (stands : Stands gap (chunks_of heap B)) (free : gap.owner ≡ None) where
+  abbrev b : ℕ
+  b = heap.span.at
+
+  abbrev new : Chunk
+  new = record { at = gap.at; len = gap.len; owner = gap.owner; size = gap.size; link = first }
+
+  pub here : Around B b heap.footprint gap (chunks_of heap B)
+  here = around heap B gap has stands
+
+  module _ (told : chunk_at B' b gap.at ≡ new) (changes : ChangesOnly (b + gap.at) 16 B B') where
+    was : AreJoined (here.before ++ (gap ∷ here.behind))
+    was = subst AreJoined here.is has.joined
+
+    pub relinked : Spliced heap B B' here.before (new ∷ []) here.behind
+    relinked =
+        let a = here in
+        spliced heap B B' gap.at (gap.at + gap.len) a.before (new ∷ []) a.behind has.within
+        (changes_more (b + gap.at) 16 (b + gap.at) (gap.at + gap.len - gap.at) B B' changes (omega arith) (omega (arith, a.enough)))
+        a.front (told, a.enough, refl) a.back
+        (joined_swap a.before (gap ∷ a.behind) (new ∷ a.behind) (λ live. live) was (joined_behind a.before (gap ∷ a.behind) was))
+
+    pub relinked_store : store_of heap B' ≡ store_of heap B
+    relinked_store =
+        let a = here in
+        ap (λ blocks. let h : HeapStore = record { size = heap.span.len; blocks = blocks } in h)
+        (relinked.blocks
+        ∙ ap (λ l. blocks_in B b a.before ++ (l ++ blocks_in B b a.behind)) (none_in_front B' b new [] free)
+        ∙ sym (ap (blocks_in B b) a.is ∙ blocks_append B b a.before (gap ∷ a.behind) ∙ ap (λ l. blocks_in B b a.before ++ l) (none_in_front B b gap (blocks_in B b a.behind) free)))
+
+    pub relinked_stands : (other : Chunk) → LiveIn other (chunks_of heap B) → LiveIn other (chunks_of heap B')
+    relinked_stands other h = live_exchanged other gap here.before (new ∷ []) here.behind (chunks_of heap B) (chunks_of heap B') free here.is relinked.is h
+
+    -- the last gap among the first chunks is that one
+    pub relinked_list : (before behind : List Chunk) (end : Option ℕ) → chunks_of heap B ≡ before ++ behind → last_of (gaps_among before) ≡ Some gap → LinkedTo heap.lowest before end → LinkedTo first behind None
+        → LinkedTo heap.lowest (chunks_of heap B') None
+    relinked_list before behind end is last linked later =
+        let l = last_gap gap before last in
+        let all : chunks_of heap B ≡ l.before ++ (gap ∷ (l.behind ++ behind)) = is ∙ ap (λ k. k ++ behind) l.is ∙ append_assoc l.before (gap ∷ l.behind) behind in
+        let split = split_at B b heap.footprint gap l.before (l.behind ++ behind) (subst (Tell B b 0 heap.footprint) all has.told) in
+        let there : Around B b heap.footprint gap (chunks_of heap B) = record { before = l.before; behind = l.behind ++ behind; is = all; front = split.0; here = split.1; enough = split.2; back = split.3; fits = told_le B b (gap.at + gap.len) heap.footprint (l.behind ++ behind) split.3 } in
+        let front : here.before ≡ l.before = sym (before_is heap B gap here) ∙ before_is heap B gap there in
+        let back : here.behind ≡ l.behind ++ behind = sym (behind_is heap B gap here) ∙ behind_is heap B gap there in
+        let again : LinkedTo heap.lowest (l.before ++ (new ∷ l.behind)) first =
+        linked_again heap.lowest end first gap new l.before l.behind free free refl refl l.none (subst (λ k. LinkedTo heap.lowest k end) l.is linked) in
+        subst (λ k. LinkedTo heap.lowest k None)
+        (sym (relinked.is ∙ ap (λ k. k ++ (new ∷ here.behind)) front ∙ ap (λ k. l.before ++ (new ∷ k)) back ∙ sym (append_assoc l.before (new ∷ l.behind) behind)))
+        (linked_append heap.lowest first None (l.before ++ (new ∷ l.behind)) behind again later)

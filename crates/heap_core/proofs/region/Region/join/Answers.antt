@@ -1,0 +1,82 @@
+use Rattle.std.proofs.Common.{length, refl, sym, ap, ◌∙◌, subst, arith}
+use Rattle.std.specs.Prelude.{filter}
+use Rattle.heap_core.specs.HeapStore.{HeapStore}
+use Rattle.heap_core.specs.Code.Chunks.{is_named}
+use Rattle.heap_core.specs.Code.Layout.{chunks_of}
+use Rattle.heap_core.specs.Code.Links.{AreFreed, unnamed}
+use Rattle.heap_core.proofs.Callers.{KeepsToSpan-then}
+use Rattle.heap_core.proofs.Freed.{newest_is, none_newest, freed_moved, named_without, unnamed_without}
+use Rattle.heap_core.proofs.Places.{has_same}
+use Rattle.heap_core.proofs.Standing.{around}
+use Rattle.heap_core.proofs.Told.{place_told}
+use Rattle.heap_core.proofs.region.Region.join.Goals as goal
+
+pub chunk_at-chunk-requires-clause-inside : goal.chunk_at-chunk-requires-clause-inside
+chunk_at-chunk-requires-clause-inside c =
+    let heap = c.loop-self.self in let B = c.loop-self.arena.bytes in let i = c.loop-self.invariant in
+    let n = newest_is heap B i.chunks i.freed c.in-Some.at _ c.in-Some.is refl in
+    let a = around heap B _ i.chunks n.live.stands in
+    omega (arith, a.fits, a.enough, heap.inside, place_told B heap.span.at c.in-Some.at _ refl)
+
+pub release-requires-clause-chunks : goal.release-requires-clause-chunks
+unfolding chunks_of
+release-requires-clause-chunks c = has_same c.loop-self.self _ c.loop-self.arena.bytes refl refl c.loop-self.invariant.chunks
+
+pub release-requires-clause-stands : goal.release-requires-clause-stands
+unfolding chunks_of
+release-requires-clause-stands c =
+    let i = c.loop-self.invariant in
+    (newest_is c.loop-self.self c.loop-self.arena.bytes i.chunks i.freed c.in-Some.at c.chunk_at-chunk.result c.in-Some.is c.chunk_at-chunk.ensures).live.stands
+
+pub release-requires-clause-live : goal.release-requires-clause-live
+release-requires-clause-live c =
+    let i = c.loop-self.invariant in
+    (newest_is c.loop-self.self c.loop-self.arena.bytes i.chunks i.freed c.in-Some.at c.chunk_at-chunk.result c.in-Some.is c.chunk_at-chunk.ensures).live.live
+
+pub release-requires-clause-linked : goal.release-requires-clause-linked
+unfolding chunks_of
+release-requires-clause-linked c = c.loop-self.invariant.linked
+
+pub loop-self-preserved : goal.loop-self-preserved
+unfolding chunks_of
+loop-self-preserved c =
+    let heap = c.loop-self.self in let B = c.loop-self.arena.bytes in let i = c.loop-self.invariant in let chunk = c.chunk_at-chunk.result in
+    let new = c.release.new.self in let B' = c.release.new.arena.bytes in
+    let n = newest_is heap B i.chunks i.freed c.in-Some.at chunk c.in-Some.is c.chunk_at-chunk.ensures in
+    record {
+      chunks = c.release.ensures.chunks;
+      linked = c.release.ensures.linked;
+      freed = record {
+        list = n.rest;
+        linked = subst (λ head. AreFreed (chunks_of new B') head n.rest) (sym c.release.ensures.kept.newest)
+            (freed_moved (chunks_of heap B) (chunks_of new B') chunk.link n.rest chunk.at n.none c.release.ensures.others n.later);
+        count = omega (arith, n.count, c.release.ensures.kept.freed);
+        all = omega (arith, ap (λ (s : HeapStore). length (unnamed s.blocks)) c.release.ensures.block, unnamed_without heap B i.chunks chunk 272 n.live.stands n.owner (omega arith), i.freed.all, c.release.ensures.kept.freed);
+      };
+      blocks = ap (λ (s : HeapStore). let h : HeapStore = record { size = s.size; blocks = filter is_named s.blocks } in h) c.release.ensures.block
+          ∙ ap (λ blocks. let h : HeapStore = record { size = heap.span.len; blocks = blocks } in h) (named_without heap B i.chunks chunk 272 n.live.stands n.owner (omega arith))
+          ∙ i.blocks;
+      places = c.release.ensures.kept.places ∙ i.places;
+      rest = KeepsToSpan-then c.args.self.now heap new c.args.arena.now c.loop-self.arena c.release.new.arena i.rest
+          (record { span = c.release.ensures.rest.span; carved = c.release.ensures.rest.carved; bytes = c.release.ensures.rest.bytes });
+    }
+
+pub returns-clause-joins : goal.returns-clause-joins
+unfolding chunks_of
+returns-clause-joins c =
+    let i = c.loop-self.invariant in
+    record {
+      chunks = has_same c.loop-self.self _ c.loop-self.arena.bytes refl refl i.chunks;
+      linked = i.linked;
+      freed = record { list = i.freed.list; linked = i.freed.linked; count = i.freed.count; all = i.freed.all };
+      blocks = i.blocks;
+      places = i.places;
+      rest = record { span = i.rest.span; carved = i.rest.carved; bytes = i.rest.bytes };
+    }
+
+pub returns-clause-gaps : goal.returns-clause-gaps
+unfolding chunks_of
+returns-clause-gaps c = record { linked = c.loop-self.invariant.linked; count = c.count_gaps-self.ensures }
+
+pub returns-clause-none : goal.returns-clause-none
+returns-clause-none c = let i = c.loop-self.invariant in none_newest c.loop-self.self c.loop-self.arena.bytes i.chunks i.freed c.in_default.is

@@ -1,0 +1,11 @@
+use Rattle.std.proofs.Common.{◌≡◌, true, rules}
+use Rattle.process_core.specs.Scheduler.{has_room}
+use Rattle.kernel_core.specs.Code.View.{machine_of}
+use Rattle.kernel_core.proofs.Leftover.{posted_all}
+use Rattle.kernel_core.proofs.fields.KernelFields.post_due.Goals as goal
+
+pub returns-then-has_room-clause-machine : goal.returns-then-has_room-clause-machine
+returns-then-has_room-clause-machine c =
+    let k = c.post_while_room.new.self in
+    let room : has_room k.scheduler.state ≡ true = search rules in
+    posted_all (machine_of c.args.self.now) k c.post_while_room.ensures.machine room

@@ -1,0 +1,51 @@
+-- What a refused call leaves as it is and where it is.
+use Rattle.std.proofs.Common.{◌≡◌, ℕ, zero, suc, ◌+◌, List, [], ◌∷◌, map, drop, refl, ap, ◌∙◌}
+use Rattle.std.specs.Prelude.{Option, slice_get}
+use Rattle.std.specs.Option.{option_map}
+use Rattle.mote_types.specs.declared.call.Call.{Call}
+use Rattle.arena_core.specs.declared.span.Span.{Span}
+use Rattle.arena_core.specs.Extents.{Extent}
+use Rattle.mmem_core.specs.Table.{Table}
+use Rattle.heap_core.specs.declared.region.Region.{Region}
+use Rattle.heap_core.specs.HeapBytes.{heap_of}
+use Rattle.heap_core.specs.HeapStore.{Block, HeapStore, header_len}
+use Rattle.heap_core.specs.Separation.{live_block}
+use Rattle.memb_core.specs.BlockPool as pools
+use Rattle.memb_core.specs.Separation as places_in_pool
+use Rattle.node_memory.specs.declared.listed_pool.ListedPool.{ListedPool}
+use Rattle.node_memory.specs.ListedPools.{PoolWithLists, seen}
+use Rattle.node_memory.specs.Memory.{Memory}
+use Rattle.node_memory.specs.Placed.{PlacedMemory, contents_of, placed}
+use Rattle.node_memory.specs.Separation.{BlockName, extent_in_pool, extent_named, StaysInPlace, LeavesAll}
+use Rattle.node_memory.proofs.LaidOut.{layout_of}
+
+abbrev seen_by : List ℕ → ListedPool → PoolWithLists
+seen_by bytes l = seen l bytes
+
+pools_stay : (listed : List ListedPool) (before after : List ℕ) (b k : ℕ) → map (seen_by after) listed ≡ map (seen_by before) listed → extent_in_pool b after (slice_get listed k) ≡ extent_in_pool b before (slice_get listed k)
+pools_stay [] before after b k e = refl
+pools_stay (l ∷ later) before after b zero e =
+    let same : seen l after ≡ seen l before = cc in
+    ap (λ (s : PoolWithLists). option_map (λ _. places_in_pool.extent_of l.pool b) (pools.block_of b s.pool)) same
+pools_stay (l ∷ later) before after b (suc k) e = pools_stay later before after b k (ap (drop 1) e)
+
+abbrev extent : Span → HeapStore → ℕ → ℕ → Option Extent
+extent span heap p b = option_map (λ (block : Block). let e : Extent = record { at = span.at + block.at; len = header_len + block.room } in e) (live_block p b heap)
+
+-- the heap shows the same, in the same span
+module _ (table : Table) (old new : Region) (listed : List ListedPool) (before after : List ℕ) (span : new.span ≡ old.span) (same : contents_of (layout_of table new listed after) ≡ contents_of (layout_of table old listed before)) where
+  extents : (name : BlockName) → extent_named name (layout_of table new listed after) ≡ extent_named name (layout_of table old listed before)
+  extents (BlockName.Managed p h) = refl
+  extents (BlockName.Heap p b) = ap (λ s. extent s (heap_of new after) p b) span ∙ ap (λ (m : Memory). extent old.span m.heap p b) same
+  extents (BlockName.Pooled k b) = pools_stay listed before after b k (ap (λ (m : Memory). m.pools) same)
+
+  pub heap_stays : StaysInPlace (placed (layout_of table old listed before)) (placed (layout_of table new listed after))
+  heap_stays = record { contents = same; extents = extents }
+
+pub stays : (old new : PlacedMemory) → new ≡ old → StaysInPlace old new
+stays old new e = record { contents = ap (λ (m : PlacedMemory). m.contents) e; extents = λ name. ap (λ (m : PlacedMemory). extent_named name m.layout) e }
+
+pub leaves_all : (call : Call) (old new : PlacedMemory) → new ≡ old → LeavesAll call old new
+leaves_all (Call.HeapAlloc b n) old new e = stays old new e
+leaves_all (Call.HeapRealloc b n) old new e = stays old new e
+leaves_all _ old new e = e

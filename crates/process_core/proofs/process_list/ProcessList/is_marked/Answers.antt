@@ -1,0 +1,10 @@
+use Rattle.std.proofs.Common.{sym, ◌∙◌, ap}
+use Rattle.process_core.specs.Processes.{is_marked}
+use Rattle.process_core.proofs.Listed.{marked_kept}
+use Rattle.process_core.proofs.process_list.ProcessList.is_marked.Goals as goal
+
+pub returns : goal.returns
+returns c =
+    let list = c.self.inside in
+    c.mark_in.ensures
+    ∙ (sym (marked_kept c.args.pid.0 list.states list.marks list.on_list.items c.self.invariant) ∙ ap (is_marked c.args.pid.0) c.self.view_is)

@@ -1,0 +1,16 @@
+use Rattle.std.proofs.Common.{◌≡◌, sym, ◌∙◌, ap}
+use Rattle.process_core.specs.Processes.{numbers, without}
+use Rattle.process_core.specs.Code.ProcessList.{others}
+use Rattle.process_core.proofs.Listed.{numbers_listed, without_listed}
+use Rattle.process_core.specs.declared.process.Process.{Process}
+use Rattle.std.specs.Prelude.{List}
+use Rattle.process_core.proofs.process_list.ProcessList.walk_others.Goals as goal
+
+pub returns : goal.returns
+returns c =
+    let list = c.self.inside in
+    let p = c.args.pid.0 in
+    let same : numbers (without p c.args.self.now) ≡ others p list.on_list.items =
+    sym (ap (λ (l : List Process). numbers (without p l)) c.self.view_is)
+    ∙ (ap numbers (without_listed p list.states list.marks list.on_list.items) ∙ numbers_listed list.states list.marks (others p list.on_list.items)) in
+    c.over.ensures ∙ ((rw c.as_slice.ensures.value at c.others_in.ensures) ∙ sym same)
