@@ -13,12 +13,12 @@ use Rattle.heap_core.specs.HeapStore.{Block, HeapStore, header_len, placed, bloc
 use Rattle.heap_core.specs.Code.Chunks.{Tell, BeginsLive, IsWhole, AreJoined, with_chunk, blocks_in}
 use Rattle.heap_core.specs.Code.Holes.{Hole, Leaves, Laid, Free}
 use Rattle.heap_core.specs.Code.Layout.{chunks_of, HasChunks, store_of}
-use Rattle.heap_core.specs.Code.Links.{LinkedTo, gaps_among, gap_below, gap_from, Relinked}
+use Rattle.heap_core.specs.Code.Links.{LinkedTo, gaps_among, gap_count, gap_below, gap_from, Relinked}
 use Rattle.heap_core.specs.Code.Walks.{chunks_behind, GapAt, LiveIn, Owned, laid, front_gap, place_in_chunk, bytes_in_chunk, LeavesGap, IsWholeRoom}
 use Rattle.heap_core.proofs.Beside.{room_is, Taken, taken, front_gap_whole}
 use Rattle.heap_core.proofs.Blocks.{blocks_between, placed_behind, placed_front, elsewhere}
 use Rattle.heap_core.proofs.Gaps.{none_in_front}
-use Rattle.heap_core.proofs.Lists.{Ends, ends_of, IsGapOf, last_stands, list_kept}
+use Rattle.heap_core.proofs.Lists.{gaps_counted, count_some, count_none, gap_first, live_first, Ends, ends_of, IsGapOf, last_stands, list_kept}
 use Rattle.heap_core.proofs.Members.{In, in_of, in_left, in_right, in_cases, stands_of, in_told, in_without, live_exchanged, apart_from_gap}
 use Rattle.heap_core.proofs.Releases.{r, end_below, left_apart}
 use Rattle.heap_core.proofs.Splice.{Spliced, spliced, joined_swap, joined_behind, whole_at, laid_all, laid_some}
@@ -84,11 +84,12 @@ module _ (heap new : Region) (B B' : List ℕ) (live : Chunk) (before mid behind
     | inr later ↦ in_right other before (mid ++ behind) (in_right other mid behind later)
   ]
 
-  pub laid_between : (first link : Option ℕ) → LinkedTo first mid link → Laid heap new B B' live before behind first link
-  laid_between first link linked = record {
+  pub laid_between : (first link : Option ℕ) → LinkedTo first mid link → new.gaps ≡ heap.gaps + length (gaps_among mid) → Laid heap new B B' live before behind first link
+  laid_between first link linked count = record {
     mid = mid;
     is = there.is;
     linked = linked;
+    count = count;
     chunks = there.has;
     blocks = there.blocks
         ∙ ap (λ k. blocks_in B k before ++ (blocks_in B' k mid ++ blocks_in B k behind)) start
@@ -201,6 +202,7 @@ module _ (heap : Region) (B : List ℕ) (has : HasChunks heap B) (target : Place
     };
     mid = [];
     is = sym (append-nil all);
+    count = sym (count_none (target.at - target.at) (omega arith));
     inside = fits;
     rest = inl at;
     whole = whole;
@@ -227,6 +229,7 @@ module _ (heap : Region) (B : List ℕ) (has : HasChunks heap B) (target : Place
         };
         mid = g.gap ∷ [];
         is = a.is;
+        count = ap length (gap_first g.gap [] g.free) ∙ sym (count_some (target.at + g.gap.len - target.at) (omega (arith, a.enough)));
         inside = elim g.rest [ inl e ↦ omega (arith, g.at, a.fits, heap.inside) | inr less ↦ omega (arith, g.at, a.fits, heap.inside, less.0) ];
         rest = elim g.rest [ inl e ↦ inr (inl (omega arith)) | inr less ↦ inr (inr (omega (arith, less.0), omega (arith, less.0, less.1))) ];
         whole = whole;
@@ -260,6 +263,10 @@ module _ (heap : Region) (B : List ℕ) (has : HasChunks heap B) (chunk : Chunk)
 
   pub own_gone : List Chunk
   own_gone = (r heap B has chunk own owns).gone
+
+  pub own_count : (gap : ℕ) → gap ≡ front_gap own.behind → length (gaps_among (chunk ∷ own_gone)) ≡ gap_count gap
+  unfolding own_gone
+  own_count gap gap_is = ap length (live_first chunk name own_gone o.owner) ∙ (r heap B has chunk own owns).count ∙ ap gap_count (sym gap_is)
 
   module _ (gap : ℕ) (gap_is : gap ≡ front_gap own.behind) where
     abbrev end : ℕ
@@ -340,6 +347,11 @@ module _ (heap new : Region) (B B1 B2 : List ℕ) (live : Chunk) (at end : ℕ) 
     (at_last : last ≡ gap_below at (gaps_among (chunks_of heap B))) (at_link : link ≡ gap_from end (gaps_among (chunks_of heap B))) where
   ends : Ends heap.lowest at end (chunks_of heap B) hole.before hole.behind
   ends = ends_of heap B at end hole.before gone hole.behind has were is hole.front hole.back
+
+  -- how many gaps it has now, and how many it had in the hole
+  pub count_laid : (taken : ℕ) → heap.gaps ≡ length (gaps_among (chunks_of heap B)) → length (gaps_among gone) ≡ taken → new.gaps ≡ length (gaps_among (chunks_of new B2)) + taken
+  count_laid taken count went =
+      omega (arith, count, went, laid.count, ap (λ l. length (gaps_among l)) is, gaps_counted hole.before gone hole.behind, ap (λ l. length (gaps_among l)) laid.is, gaps_counted hole.before laid.mid hole.behind)
 
   pub last_laid : IfSome last (IsGapOf (chunks_of new B2))
   last_laid = last_stands last hole.before (laid.mid ++ hole.behind) (chunks_of new B2) (at_last ∙ ends.last) laid.is

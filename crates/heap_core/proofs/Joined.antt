@@ -21,11 +21,11 @@ linked_is heap B has list freed none =
     ∙ sym (list.count ∙ gaps_many all) in
     omega (arith, many, none)
 
-pub joined_laid : (old new : Region) (before after : Contents) → IsLaidOut old before.bytes → Joins old new before after → GapsLinked new after.bytes → IsLaidOut new after.bytes
-joined_laid old new before after laid joins list = record {
+pub joined_laid : (old new : Region) (before after : Contents) → IsLaidOut old before.bytes → Joins old new before after → IsLaidOut new after.bytes
+joined_laid old new before after laid joins = record {
   chunks = joins.chunks;
   named = λ name. subst (λ (h : HeapStore). length (filter (has_name name) h.blocks) ≤ 1) (sym joins.blocks) (laid.named name);
   places = subst (λ places. ArePlaced places (heap_of new after.bytes)) (sym joins.places) (subst (ArePlaced old.places) (sym joins.blocks) laid.places);
-  gaps = list;
+  gaps = joins.gaps;
   freed = joins.freed;
 }

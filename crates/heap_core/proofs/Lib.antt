@@ -12,6 +12,7 @@ pub mod Live
 pub mod Members
 pub mod Moves
 pub mod Names
+pub mod NextGaps
 pub mod Places
 pub mod Releases
 pub mod Relinks
@@ -22,3 +23,4 @@ pub mod Standing
 pub mod Steps
 pub mod Stored
 pub mod Told
+pub mod Walked

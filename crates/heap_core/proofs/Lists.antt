@@ -1,15 +1,15 @@
 -- The list of the gaps: walks along it, and what stays of it where chunks are exchanged.
-use Rattle.std.proofs.Common.{◌≡◌, ◌≢◌, ℕ, zero, suc, ◌+◌, ◌*◌, ◌≤◌, ◌<◌, ◌⊎◌, inl, inr, List, [], ◌∷◌, ◌++◌, length, true, false, ltb, leb, refl, sym, ap, ◌∙◌, subst, arith}
+use Rattle.std.proofs.Common.{◌≡◌, ◌≢◌, ℕ, zero, suc, ◌+◌, ◌*◌, ◌≤◌, ◌<◌, ◌⊎◌, inl, inr, List, [], ◌∷◌, ◌++◌, length, true, false, eqb, ltb, leb, refl, sym, ap, ◌∙◌, subst, arith}
 use Rattle.std.specs.Prelude.{Option, Some, None, IfSome, fold}
-use Rattle.std.proofs.lemmas.Bool.{lt-ltb, le-ltb, le-leb, lt-leb, cases_Bool}
-use Rattle.std.proofs.lemmas.List.{append_assoc}
+use Rattle.std.proofs.lemmas.Bool.{lt-ltb, le-ltb, le-leb, lt-leb, ne_eqb, cases_Bool}
+use Rattle.std.proofs.lemmas.List.{append_assoc, length-append}
 use Rattle.std.proofs.lemmas.List.Sums.{fold-append}
 use Rattle.heap_core.specs.declared.chunk.Chunk.{Chunk}
 use Rattle.heap_core.specs.HeapStore.{header_len}
 use Rattle.heap_core.specs.declared.region.Region.{Region}
 use Rattle.heap_core.specs.Code.Chunks.{chunk_at, Tell}
 use Rattle.heap_core.specs.Code.Layout.{chunks_of, HasChunks}
-use Rattle.heap_core.specs.Code.Links.{with_free, gaps_among, Meets, behind_link, LinkedTo, chunks_along, Follow, lower, higher, gap_below, gap_from, last_of, gaps_from_place, Relinked, Exchanged, KeepsFreed}
+use Rattle.heap_core.specs.Code.Links.{with_free, gaps_among, gap_count, Meets, behind_link, LinkedTo, chunks_along, Follow, lower, higher, gap_below, gap_from, last_of, gaps_from_place, Relinked, Exchanged, KeepsFreed}
 use Rattle.heap_core.specs.Code.Walks.{free_behind, free_from, Stands}
 use Rattle.heap_core.proofs.Standing.{Around}
 use Rattle.heap_core.proofs.Steps.{ended}
@@ -22,6 +22,19 @@ with_free_append c (Some name) xs ys = refl
 pub gaps_append : (l r : List Chunk) → gaps_among (l ++ r) ≡ gaps_among l ++ gaps_among r
 gaps_append [] r = refl
 gaps_append (c ∷ l) r = ap (with_free c c.owner) (gaps_append l r) ∙ with_free_append c c.owner (gaps_among l) (gaps_among r)
+
+-- how many gaps there are among chunks that come one after the other
+pub gaps_counted : (before mid behind : List Chunk) → length (gaps_among (before ++ (mid ++ behind))) ≡ length (gaps_among before) + (length (gaps_among mid) + length (gaps_among behind))
+gaps_counted before mid behind =
+    ap length (gaps_append before (mid ++ behind))
+    ∙ length-append (gaps_among before) (gaps_among (mid ++ behind))
+    ∙ ap (λ n. length (gaps_among before) + n) (ap length (gaps_append mid behind) ∙ length-append (gaps_among mid) (gaps_among behind))
+
+pub count_some : (len : ℕ) → 0 < len → gap_count len ≡ 1
+count_some len some = let far : eqb len 0 ≡ false = ne_eqb len 0 (λ none. absurd (omega (arith, none, some))) in rw far refl
+
+pub count_none : (len : ℕ) → len ≡ 0 → gap_count len ≡ 0
+count_none len none = ap gap_count none
 
 pub gap_first : (c : Chunk) (l : List Chunk) → c.owner ≡ None → gaps_among (c ∷ l) ≡ c ∷ gaps_among l
 gap_first c l e = ap (λ o. with_free c o (gaps_among l)) e

@@ -1,7 +1,7 @@
 -- A block that is taken away, and the gaps beside it.
-use Rattle.std.proofs.Common.{◌≡◌, ◌≢◌, ℕ, ◌+◌, ◌-◌, ◌%◌, ◌≤◌, ◌⊎◌, inl, inr, List, [], ◌∷◌, ◌++◌, slice_range, refl, sym, ap, ◌∙◌, subst, arith, true, eqb}
+use Rattle.std.proofs.Common.{◌≡◌, ◌≢◌, ℕ, ◌+◌, ◌-◌, ◌%◌, ◌≤◌, ◌⊎◌, inl, inr, List, [], ◌∷◌, ◌++◌, length, slice_range, refl, sym, ap, ◌∙◌, subst, arith, true, eqb}
 use Rattle.std.specs.Prelude.{All, Option, Some, None, fold, filter}
-use Rattle.std.proofs.lemmas.List.{append_assoc}
+use Rattle.std.proofs.lemmas.List.{append_assoc, length-append}
 use Rattle.std.proofs.lemmas.List.Elements.{filter-append, All-nil, All-cons}
 use Rattle.std.proofs.lemmas.Bool.{eq-eqb}
 use Rattle.arena_core.specs.Outside.{ChangesOnly}
@@ -11,9 +11,9 @@ use Rattle.heap_core.specs.declared.region.Region.{Region}
 use Rattle.heap_core.specs.HeapStore.{Block, HeapStore, header_len}
 use Rattle.heap_core.specs.Code.Chunks.{chunk_at, Tell, BeginsLive, AreJoined, with_chunk, blocks_in}
 use Rattle.heap_core.specs.Code.Layout.{chunks_of, HasChunks, store_of}
-use Rattle.heap_core.specs.Code.Links.{Exchanged}
+use Rattle.heap_core.specs.Code.Links.{gaps_among, gap_count, Exchanged}
 use Rattle.heap_core.specs.Code.Walks.{LiveIn, free_behind, free_from, gap_of, front_gap, without_place}
-use Rattle.heap_core.proofs.Lists.{link_gap}
+use Rattle.heap_core.proofs.Lists.{gaps_append, gaps_counted, count_some, count_none, gap_first, live_first, link_gap}
 use Rattle.heap_core.proofs.Members.{In, in_of, in_left, in_right, in_cases, in_without, in_skip, stands_of}
 use Rattle.heap_core.proofs.Told.{place_told, told_le, blocks_append, owner_cases, changes_more}
 use Rattle.heap_core.proofs.Gaps.{none_in_front}
@@ -23,11 +23,12 @@ use Rattle.heap_core.proofs.Standing.{Around}
 use Rattle.heap_core.proofs.Steps.{ended}
 
 -- the chunks before a place, without a gap that ends there
-pub record Front (B : List ℕ) (b x from : ℕ) (before old : List Chunk) : Type 0 where
+pub record Front (B : List ℕ) (b x at from : ℕ) (before old : List Chunk) : Type 0 where
   pub pre : List Chunk
   pub gone : List Chunk
   pub was : before ≡ pre ++ gone
   pub free : All (λ (c : Chunk). c.owner ≡ None) gone
+  pub count : length (gaps_among gone) ≡ gap_count (at - from)
   pub told : Tell B b x from pre
   pub blocks : blocks_in B b before ≡ blocks_in B b pre
   pub begins : BeginsLive (before ++ old) → before ≢ [] → (new : List Chunk) → BeginsLive (pre ++ new)
@@ -36,12 +37,16 @@ pub record Front (B : List ℕ) (b x from : ℕ) (before old : List Chunk) : Typ
 abbrev walk_free : ℕ → List Chunk → ℕ
 walk_free i l = fold (λ _ (c : Chunk). free_behind c c.owner) i l
 
-pub front_of : (B : List ℕ) (b x at i : ℕ) (before old : List Chunk) → Tell B b x at before → (before ≡ [] → i ≡ x) → Front B b x (walk_free i before) before old
+last_end : (B : List ℕ) (b x at : ℕ) (c : Chunk) → Tell B b x at (c ∷ []) → x + c.len ≡ at
+last_end B b x at c t = t.2
+
+pub front_of : (B : List ℕ) (b x at i : ℕ) (before old : List Chunk) → Tell B b x at before → (before ≡ [] → i ≡ x) → Front B b x at (walk_free i before) before old
 front_of B b x at i [] old t none = record {
   pre = [];
   gone = [];
   was = refl;
   free = All-nil (λ (c : Chunk). c.owner ≡ None);
+  count = sym (count_none (at - i) (omega (arith, t, none refl)));
   told = sym (none refl);
   blocks = refl;
   begins = λ live ne. absurd (ne refl);
@@ -53,6 +58,7 @@ front_of B b x at i (c ∷ []) old t none = elim (owner_cases c.owner) [
     gone = c ∷ [];
     was = refl;
     free = All-cons (λ (c : Chunk). c.owner ≡ None) c [] e (All-nil (λ (c : Chunk). c.owner ≡ None));
+    count = ap length (gap_first c [] e) ∙ sym (count_some (at - free_behind c c.owner) (omega (arith, ap (free_behind c) e, place_told B b x c t.0, last_end B b x at c t, t.1)));
     told = sym (place_told B b x c t.0) ∙ sym (ap (free_behind c) e);
     blocks = none_in_front B b c [] e;
     begins = λ live ne new. absurd (live e);
@@ -63,6 +69,7 @@ front_of B b x at i (c ∷ []) old t none = elim (owner_cases c.owner) [
     gone = [];
     was = refl;
     free = All-nil (λ (c : Chunk). c.owner ≡ None);
+    count = sym (count_none (at - free_behind c c.owner) (omega (arith, ap (free_behind c) s.1, place_told B b x c t.0, last_end B b x at c t)));
     told = (t.0, t.1, ap (λ k. k + c.len) (sym (place_told B b x c t.0)) ∙ sym (ap (free_behind c) s.1));
     blocks = refl;
     begins = λ live ne new. live;
@@ -76,6 +83,7 @@ front_of B b x at i (c ∷ (d ∷ l)) old t none =
       gone = f.gone;
       was = ap (λ k. c ∷ k) f.was;
       free = f.free;
+      count = f.count;
       told = (t.0, t.1, f.told);
       blocks = ap (with_chunk B b c c.owner) f.blocks;
       begins = λ live ne new. live;
@@ -88,19 +96,21 @@ pub record Rest (B : List ℕ) (b at end : ℕ) (behind : List Chunk) : Type 0 w
   pub gone : List Chunk
   pub was : behind ≡ gone ++ post
   pub free : All (λ (c : Chunk). c.owner ≡ None) gone
+  pub count : length (gaps_among gone) ≡ gap_count (front_gap behind)
   pub told : Tell B b (at + front_gap behind) end post
   pub blocks : blocks_in B b behind ≡ blocks_in B b post
   pub joined : AreJoined post
   pub begins : ((post ≡ []) × (behind ≡ [])) ⊎ BeginsLive post
 
 pub rest_of : (B : List ℕ) (b at end : ℕ) (behind : List Chunk) → Tell B b at end behind → AreJoined behind → Rest B b at end behind
-rest_of B b at end [] t joined = record { post = []; gone = []; was = refl; free = All-nil (λ (c : Chunk). c.owner ≡ None); told = omega (arith, t); blocks = refl; joined = tt; begins = inl (refl, refl) }
+rest_of B b at end [] t joined = record { post = []; gone = []; was = refl; free = All-nil (λ (c : Chunk). c.owner ≡ None); count = refl; told = omega (arith, t); blocks = refl; joined = tt; begins = inl (refl, refl) }
 rest_of B b at end (d ∷ l) t joined = elim (owner_cases d.owner) [
   | inl e ↦ record {
     post = l;
     gone = d ∷ [];
     was = refl;
     free = All-cons (λ (c : Chunk). c.owner ≡ None) d [] e (All-nil (λ (c : Chunk). c.owner ≡ None));
+    count = ap length (gap_first d [] e) ∙ sym (count_some (gap_of d d.owner) (omega (arith, ap (gap_of d) e, t.1)));
     told = subst (λ k. Tell B b (at + k) end l) (sym (ap (gap_of d) e)) t.2;
     blocks = none_in_front B b d (blocks_in B b l) e;
     joined = joined.2;
@@ -111,6 +121,7 @@ rest_of B b at end (d ∷ l) t joined = elim (owner_cases d.owner) [
     gone = [];
     was = refl;
     free = All-nil (λ (c : Chunk). c.owner ≡ None);
+    count = sym (count_none (gap_of d d.owner) (ap (gap_of d) s.1));
     told = (let none : at ≡ at + gap_of d d.owner = omega (arith, ap (gap_of d) s.1) in subst (λ k. Tell B b k end (d ∷ l)) none t);
     blocks = refl;
     joined = joined;
@@ -145,7 +156,7 @@ module _ (heap : Region) (B : List ℕ) (has : HasChunks heap B) (chunk : Chunk)
   was_joined : AreJoined (a.before ++ (chunk ∷ a.behind))
   was_joined = subst AreJoined a.is has.joined
 
-  pub f : Front B b 0 from a.before (chunk ∷ a.behind)
+  pub f : Front B b 0 chunk.at from a.before (chunk ∷ a.behind)
   f = front_of B b 0 chunk.at 0 a.before (chunk ∷ a.behind) a.front (λ e. refl)
 
   pub r : Rest B b (chunk.at + chunk.len) heap.footprint a.behind
@@ -193,6 +204,23 @@ module _ (heap : Region) (B : List ℕ) (has : HasChunks heap B) (chunk : Chunk)
       ∙ append_assoc f.pre f.gone (chunk ∷ (r.gone ++ r.post))
       ∙ ap (λ l. f.pre ++ l) (sym (append_assoc f.gone (chunk ∷ r.gone) r.post))
 
+  -- and how many gaps there are among them
+  gone_count : length (gaps_among (f.gone ++ (chunk ∷ r.gone))) ≡ gap_count (chunk.at - from) + gap_count (front_gap a.behind)
+  gone_count = elim (owner_cases chunk.owner) [
+    | inl none ↦ absurd (live none)
+    | inr s ↦
+        ap length (gaps_append f.gone (chunk ∷ r.gone) ∙ ap (λ l. gaps_among f.gone ++ l) (live_first chunk s.0 r.gone s.1))
+        ∙ length-append (gaps_among f.gone) (gaps_among r.gone)
+        ∙ ap (λ n. n + length (gaps_among r.gone)) f.count
+        ∙ ap (λ n. gap_count (chunk.at - from) + n) r.count
+  ]
+
+  were_counted : length (gaps_among (chunks_of heap B)) ≡ length (gaps_among f.pre) + (gap_count (chunk.at - from) + gap_count (front_gap a.behind) + length (gaps_among r.post))
+  were_counted =
+      ap (λ l. length (gaps_among l)) went
+      ∙ gaps_counted f.pre (f.gone ++ (chunk ∷ r.gone)) r.post
+      ∙ ap (λ n. length (gaps_among f.pre) + (n + length (gaps_among r.post))) gone_count
+
   stay : (other : Chunk) → LiveIn other (chunks_of heap B) → other.at ≢ chunk.at → In other (f.pre ++ r.post)
   stay other h far =
       in_skip other f.pre f.gone r.post h.live f.free
@@ -236,6 +264,11 @@ module _ (heap : Region) (B : List ℕ) (has : HasChunks heap B) (chunk : Chunk)
       back = subst (λ k. Tell B b k heap.footprint r.post) (sym g) r.told;
       linked = refl;
     }
+
+    pub top_counted : (p q : ℕ) → p ≡ from → q ≡ end → length (gaps_among (chunks_of heap B)) ≡ length (gaps_among (chunks_of heap' B)) + (gap_count (chunk.at - p) + gap_count (q - (chunk.at + chunk.len)))
+    top_counted p q e g =
+        let behind : q - (chunk.at + chunk.len) ≡ front_gap a.behind = omega (arith, g) in
+        omega (arith, were_counted, ap (λ l. length (gaps_among l)) top_is, gaps_counted f.pre [] r.post, ap (λ k. gap_count (chunk.at - k)) e, ap gap_count behind)
 
     pub top_released : store_of heap' B ≡ without_place chunk.at (store_of heap B)
     top_released =
@@ -281,6 +314,11 @@ module _ (heap : Region) (B : List ℕ) (has : HasChunks heap B) (chunk : Chunk)
           (elim (in_cases other f.pre r.post (stay other h far)) [ inl early ↦ in_left other f.pre (gap link ∷ r.post) early | inr later ↦ in_right other f.pre (gap link ∷ r.post) (inr later) ]));
       live = h.live;
     }
+
+    pub gap_counted : (p q : ℕ) → p ≡ from → q ≡ end → length (gaps_among (chunks_of heap B)) + 1 ≡ length (gaps_among (chunks_of heap B')) + (gap_count (chunk.at - p) + gap_count (q - (chunk.at + chunk.len)))
+    gap_counted p q e g =
+        let behind : q - (chunk.at + chunk.len) ≡ front_gap a.behind = omega (arith, g) in
+        omega (arith, were_counted, ap (λ l. length (gaps_among l)) gap_spliced.is, gaps_counted f.pre (gap link ∷ []) r.post, ap (λ k. gap_count (chunk.at - k)) e, ap gap_count behind)
 
     pub gap_exchanged : (p q : ℕ) → p ≡ from → q ≡ end → Exchanged heap heap B B' p q (Some p) link
     gap_exchanged p q e g = record {

@@ -1,5 +1,5 @@
 -- A gap that is linked to another place.
-use Rattle.std.proofs.Common.{◌≡◌, ℕ, ◌+◌, ◌-◌, List, [], ◌∷◌, ◌++◌, refl, sym, ap, ◌∙◌, subst, arith}
+use Rattle.std.proofs.Common.{◌≡◌, ℕ, ◌+◌, ◌-◌, List, [], ◌∷◌, ◌++◌, length, refl, sym, ap, ◌∙◌, subst, arith}
 use Rattle.std.specs.Prelude.{Option, Some, None}
 use Rattle.std.proofs.lemmas.List.{append_assoc}
 use Rattle.arena_core.specs.Outside.{ChangesOnly}
@@ -11,7 +11,7 @@ use Rattle.heap_core.specs.Code.Layout.{chunks_of, store_of, HasChunks}
 use Rattle.heap_core.specs.Code.Links.{LinkedTo, gaps_among, last_of}
 use Rattle.heap_core.specs.Code.Walks.{Stands, LiveIn}
 use Rattle.heap_core.proofs.Gaps.{none_in_front}
-use Rattle.heap_core.proofs.Lists.{linked_append, linked_again, last_gap}
+use Rattle.heap_core.proofs.Lists.{gaps_counted, gap_first, linked_append, linked_again, last_gap}
 use Rattle.heap_core.proofs.Members.{live_exchanged}
 use Rattle.heap_core.proofs.Splice.{Spliced, spliced, joined_swap, joined_behind}
 use Rattle.heap_core.proofs.Standing.{Around, around, split_at, before_is, behind_is}
@@ -46,6 +46,15 @@ module _ (heap : Region) (B B' : List ℕ) (gap : Chunk) (first : Option ℕ) (h
         (relinked.blocks
         ∙ ap (λ l. blocks_in B b a.before ++ (l ++ blocks_in B b a.behind)) (none_in_front B' b new [] free)
         ∙ sym (ap (blocks_in B b) a.is ∙ blocks_append B b a.before (gap ∷ a.behind) ∙ ap (λ l. blocks_in B b a.before ++ l) (none_in_front B b gap (blocks_in B b a.behind) free)))
+
+    pub relinked_count : length (gaps_among (chunks_of heap B')) ≡ length (gaps_among (chunks_of heap B))
+    relinked_count =
+        ap (λ l. length (gaps_among l)) relinked.is
+        ∙ gaps_counted here.before (new ∷ []) here.behind
+        ∙ ap (λ l. length (gaps_among here.before) + (length l + length (gaps_among here.behind))) (gap_first new [] free)
+        ∙ ap (λ l. length (gaps_among here.before) + (length l + length (gaps_among here.behind))) (sym (gap_first gap [] free))
+        ∙ sym (gaps_counted here.before (gap ∷ []) here.behind)
+        ∙ sym (ap (λ l. length (gaps_among l)) here.is)
 
     pub relinked_stands : (other : Chunk) → LiveIn other (chunks_of heap B) → LiveIn other (chunks_of heap B')
     relinked_stands other h = live_exchanged other gap here.before (new ∷ []) here.behind (chunks_of heap B) (chunks_of heap B') free here.is relinked.is h

@@ -4,7 +4,7 @@ ghost use Rattle.std.specs.Prelude.{◌≡◌, ◌≤◌, ◌<◌, IfSome, is_no
 ghost use Rattle.mote_types.specs.Rounding.{up4};
 ghost use Rattle.heap_core.specs.HeapStore.{room_taken, better};
 ghost use Rattle.heap_core.specs.Code.Chunks.{number_in};
-ghost use Rattle.heap_core.specs.Code.Links.{is_a_name};
+ghost use Rattle.heap_core.specs.Code.Links.{gap_count, is_a_name};
 
 /// The length of a header. It precedes each chunk's bytes.
 pub(crate) const HEADER: u32 = 16;
@@ -43,6 +43,14 @@ pub struct Place {
     pub room: u32,
 }
 
+/// Where free bytes end.
+#[derive(Clone, Copy, Drop)]
+pub struct FreeEnd {
+    pub at: u32,
+    /// The place of the lowest gap from there on.
+    pub link: Option<u32>,
+}
+
 /// The least multiple of 4 not below `n`.
 pub(crate) fn rounded(n: u32) -> u64
     ensures { result ≡ up4 n }
@@ -60,6 +68,13 @@ pub(crate) fn room_taken(least: u32, available: u32) -> u32
     } else {
         available
     }
+}
+
+/// How many gaps that many free bytes below the top gap are: one, or none where there are no bytes.
+pub(crate) fn gap_count(len: u32) -> u16
+    ensures { result ≡ gap_count len }
+{
+    if len == 0 { 0 } else { 1 }
 }
 
 /// The better gap for `need` bytes of one found before and this one.

@@ -1,6 +1,7 @@
 //! The gaps of a region along their links, the lowest first.
 
 ghost use Rattle.std.specs.Prelude.{◌≡◌};
+ghost use Rattle.std.specs.Option.{option_map};
 ghost use Rattle.heap_core.specs.Code.Links.{gaps_among, gap_below, gap_from};
 
 use crate::chunk::Chunk;
@@ -46,10 +47,19 @@ impl<'a> Iterator for Gaps<'a> {
     }
 }
 
+/// The gaps beside a place.
+#[derive(Clone, Copy, Drop)]
+pub struct Beside {
+    /// The highest gap below it.
+    pub below: Option<Chunk>,
+    /// Where the lowest gap from there on begins.
+    pub next: Option<u32>,
+}
+
 impl Region {
     ghost use Rattle.heap_core.specs.Code.Layout.{chunks_of, HasChunks};
     ghost use Rattle.heap_core.specs.Code.Links.{LinkedTo};
-    ghost use Rattle.std.specs.Prelude.{None, length};
+    ghost use Rattle.std.specs.Prelude.{None};
 
     /// All gaps.
     pub(crate) fn all_gaps<'a>(&'a self, arena: &'a Arena) -> Gaps<'a>
@@ -64,46 +74,57 @@ impl Region {
         }
     }
 
-    /// The highest gap below a place.
-    pub(crate) fn gap_below(&self, arena: &Arena, at: u32) -> Option<Chunk>
+    /// The gaps beside a place.
+    pub(crate) fn gaps_beside(&self, arena: &Arena, at: u32) -> Beside
         requires chunks { HasChunks self.now arena.now.bytes }
         requires linked { LinkedTo self.now.lowest (chunks_of self.now arena.now.bytes) None }
-        ensures { result ≡ gap_below at (gaps_among (chunks_of self.now arena.now.bytes)) }
+        ensures below { result.below ≡ gap_below at (gaps_among (chunks_of self.now arena.now.bytes)) }
+        ensures next { result.next ≡ gap_from at (gaps_among (chunks_of self.now arena.now.bytes)) }
     {
-        let mut found = None;
-        for gap in self.all_gaps(arena) {
-            if gap.at < at {
-                found = Some(gap);
-            }
-        }
-        found
+        let (below, next) = self.places_beside(arena, at);
+        let below = match below {
+            Some(place) => Some(self.chunk_at(arena, place)),
+            None => None,
+        };
+        Beside { below, next }
     }
 
-    /// The place of the lowest gap from a place on.
-    pub(crate) fn gap_from(&self, arena: &Arena, at: u32) -> Option<u32>
+    /// The highest gap below a place, where `known` is the highest one below the place `at`.
+    pub(crate) fn gap_below(
+        &self,
+        arena: &Arena,
+        place: u32,
+        at: u32,
+        known: Option<Chunk>,
+    ) -> Option<Chunk>
         requires chunks { HasChunks self.now arena.now.bytes }
         requires linked { LinkedTo self.now.lowest (chunks_of self.now arena.now.bytes) None }
-        ensures { result ≡ gap_from at (gaps_among (chunks_of self.now arena.now.bytes)) }
+        requires known { known ≡ gap_below at (gaps_among (chunks_of self.now arena.now.bytes)) }
+        ensures { result ≡ gap_below place (gaps_among (chunks_of self.now arena.now.bytes)) }
     {
-        let mut found = None;
-        for gap in self.all_gaps(arena) {
-            if found.is_none() && at <= gap.at {
-                found = Some(gap.at);
-            }
+        if place == at {
+            known
+        } else {
+            self.gaps_beside(arena, place).below
         }
-        found
     }
 
-    /// How many gaps there are.
-    pub(crate) fn count_gaps(&self, arena: &Arena) -> u16
+    /// Where the highest gap below a place begins, and the lowest one from there on. No gap above that one is looked at.
+    fn places_beside(&self, arena: &Arena, at: u32) -> (Option<u32>, Option<u32>)
         requires chunks { HasChunks self.now arena.now.bytes }
         requires linked { LinkedTo self.now.lowest (chunks_of self.now arena.now.bytes) None }
-        ensures { result ≡ length (gaps_among (chunks_of self.now arena.now.bytes)) }
+        ensures below { result.0 ≡ option_map (λ gap. gap.at) (gap_below at (gaps_among (chunks_of self.now arena.now.bytes))) }
+        ensures next { result.1 ≡ gap_from at (gaps_among (chunks_of self.now arena.now.bytes)) }
     {
-        let mut count = 0;
-        for _gap in self.all_gaps(arena) {
-            count += 1;
+        let mut below = None;
+        let mut next = self.lowest;
+        while let Some(place) = next {
+            if at <= place {
+                return (below, next);
+            }
+            below = next;
+            next = self.chunk_at(arena, place).link;
         }
-        count
+        (below, next)
     }
 }

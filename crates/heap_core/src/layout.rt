@@ -1,19 +1,19 @@
 //! The steps of a call that change which chunks there are.
 
-ghost use Rattle.std.specs.Prelude.{◌≡◌, ◌≢◌, ℕ, ◌+◌, ◌≤◌, ◌<◌, true, Some, None, IfSome, IfNone, OnSome};
+ghost use Rattle.std.specs.Prelude.{◌≡◌, ◌≢◌, ℕ, ◌+◌, ◌-◌, length, ◌≤◌, ◌<◌, true, Some, None, IfSome, IfNone, OnSome};
 ghost use Rattle.std.specs.Option.{option_map};
 ghost use Rattle.mote_types.specs.Bytes.{resized};
 ghost use Rattle.heap_core.specs.HeapStore.{place, with_block, block_at, room_in_place};
 ghost use Rattle.heap_core.specs.Code.Walks.{Stands, LiveIn, Owned, free_from, front_gap, chunks_before, chunks_behind, bytes_given, without_place, place_in_chunk, at_place, bytes_in_chunk};
 
-use crate::chunk::{Chunk, FREED, HEADER, Place};
+use crate::chunk::{Chunk, FREED, FreeEnd, HEADER, Place, gap_count};
 use crate::region::Region;
 use arena_core::Arena;
 
 impl Region {
     ghost use Rattle.heap_core.specs.declared.chunk.Chunk.{Chunk as OfChunks};
     ghost use Rattle.heap_core.specs.Code.Layout.{chunks_of, store_of, HasChunks};
-    ghost use Rattle.heap_core.specs.Code.Links.{LinkedTo, is_a_name, GapsLinked, FreedLinked, Relinked, Exchanged, KeepsFreed};
+    ghost use Rattle.heap_core.specs.Code.Links.{LinkedTo, is_a_name, gaps_among, gap_count, gap_from, GapsLinked, FreedLinked, Relinked, Exchanged, KeepsFreed};
     ghost use Rattle.heap_core.specs.Code.Holes.{Hole, Fits, Laid, Free};
     ghost use Rattle.heap_core.specs.HeapBytes.{heap_of, KeepsToSpan};
     ghost use Rattle.heap_core.specs.Code.Joins.{Joins};
@@ -24,6 +24,7 @@ impl Region {
         requires hole { Hole self.old arena.old.bytes live.at end }
         requires fits { Fits self.old live end }
         requires link { IfSome link (λ place. place < 65536) }
+        requires few { self.old.gaps < 65535 }
         ensures laid { (hole : Hole self.old arena.old.bytes live.at end) → Laid self.old self.new arena.old.bytes arena.new.bytes live hole.before hole.behind result link }
         ensures kept { KeepsFreed self.old self.new }
         ensures lowest { self.new.lowest ≡ self.old.lowest }
@@ -36,6 +37,7 @@ impl Region {
             self.put_chunk(arena, live);
             return link;
         }
+        self.gaps += gap_count(end - next);
         let first = if next < end {
             self.put_chunk(
                 arena,
@@ -69,6 +71,7 @@ impl Region {
         ensures block { store_of self.new arena.new.bytes ≡ store_of self.old arena.old.bytes }
         ensures stands { (other : OfChunks) → LiveIn other (chunks_of self.old arena.old.bytes) → LiveIn other (chunks_of self.new arena.new.bytes) }
         ensures linked { Relinked self.old self.new arena.old.bytes arena.new.bytes before first }
+        ensures count { (self.new.gaps ≡ self.old.gaps) × (length (gaps_among (chunks_of self.new arena.new.bytes)) ≡ length (gaps_among (chunks_of self.old arena.old.bytes))) }
         ensures kept { KeepsFreed self.old self.new }
         ensures rest { KeepsToSpan self.old self.new arena.old arena.new }
     {
@@ -78,18 +81,28 @@ impl Region {
         }
     }
 
-    /// Where the bytes end that are free from a place on that was found for a block.
-    fn free_end(&self, arena: &Arena, target: Place, n: u32) -> u32
+    /// Where the bytes end that are free from a place on that was found for a block, and which gap comes next.
+    fn free_end(&self, arena: &Arena, target: Place, n: u32) -> FreeEnd
         requires chunks { HasChunks self.now arena.now.bytes }
+        requires linked { LinkedTo self.now.lowest (chunks_of self.now arena.now.bytes) None }
         requires place { place n (store_of self.now arena.now.bytes) ≡ Some target }
         requires some { 1 ≤ n }
-        ensures free { Free self.now arena.now.bytes target result }
+        ensures free { Free self.now arena.now.bytes target result.at }
+        ensures along { target.at ≤ result.at }
+        ensures link { result.link ≡ gap_from result.at (gaps_among (chunks_of self.now arena.now.bytes)) }
         ensures room { n ≤ target.room }
     {
         if target.at == self.footprint {
-            return target.at;
+            return FreeEnd {
+                at: target.at,
+                link: None,
+            };
         }
-        target.at + self.chunk_at(arena, target.at).len
+        let gap = self.chunk_at(arena, target.at);
+        FreeEnd {
+            at: target.at + gap.len,
+            link: gap.link,
+        }
     }
 
     /// Puts a block of `n` bytes at the place that was found for it. It is given the bytes of a live chunk, if one is named, and
@@ -116,8 +129,7 @@ impl Region {
         ensures rest { KeepsToSpan self.old self.new arena.old arena.new }
     {
         let end = self.free_end(arena, target, n);
-        let before = self.gap_below(arena, target.at);
-        let link = self.gap_from(arena, end);
+        let beside = self.gaps_beside(arena, target.at);
         let live = Chunk {
             at: target.at,
             len: HEADER + target.room,
@@ -126,9 +138,9 @@ impl Region {
             link: None,
         };
         self.give_bytes(arena, live, source);
-        let first = self.lay(arena, live, end, link);
-        self.link_below(arena, before, first);
-        self.gaps = self.count_gaps(arena);
+        let first = self.lay(arena, live, end.at, end.link);
+        self.link_below(arena, beside.below, first);
+        self.gaps -= gap_count(end.at - target.at);
     }
 
     /// Makes a chunk and the gaps beside it one gap, which is linked to the next one, or a part of the top gap. Answers the place of
@@ -147,7 +159,10 @@ impl Region {
         requires from { from ≡ free_from (chunks_before self.old arena.old.bytes chunk.at) }
         requires end { end ≡ chunk.at + chunk.len + front_gap (chunks_behind self.old arena.old.bytes (chunk.at + chunk.len)) }
         requires link { IfSome link (λ place. place < 65536) }
+        requires count { self.old.gaps ≡ length (gaps_among (chunks_of self.old arena.old.bytes)) }
+        requires few { self.old.gaps < 65535 }
         ensures chunks { HasChunks self.new arena.new.bytes }
+        ensures count { self.new.gaps ≡ length (gaps_among (chunks_of self.new arena.new.bytes)) + (gap_count (chunk.at - from) + gap_count (end - (chunk.at + chunk.len))) }
         ensures block { store_of self.new arena.new.bytes ≡ without_place chunk.at (store_of self.old arena.old.bytes) }
         ensures others { (other : OfChunks) → LiveIn other (chunks_of self.old arena.old.bytes) → other.at ≢ chunk.at → LiveIn other (chunks_of self.new arena.new.bytes) }
         ensures exchanged { Exchanged self.old self.new arena.old.bytes arena.new.bytes from end result link }
@@ -170,6 +185,7 @@ impl Region {
                 link,
             },
         );
+        self.gaps += 1;
         Some(from)
     }
 
@@ -178,20 +194,23 @@ impl Region {
         requires chunks { HasChunks self.old arena.old.bytes }
         requires stands { Stands chunk (chunks_of self.old arena.old.bytes) }
         requires live { chunk.owner ≢ None }
-        requires linked { LinkedTo self.old.lowest (chunks_of self.old arena.old.bytes) None }
+        requires gaps { GapsLinked self.old arena.old.bytes }
         ensures chunks { HasChunks self.new arena.new.bytes }
         ensures block { store_of self.new arena.new.bytes ≡ without_place chunk.at (store_of self.old arena.old.bytes) }
         ensures others { (other : OfChunks) → LiveIn other (chunks_of self.old arena.old.bytes) → other.at ≢ chunk.at → LiveIn other (chunks_of self.new arena.new.bytes) }
-        ensures linked { LinkedTo self.new.lowest (chunks_of self.new arena.new.bytes) None }
+        ensures gaps { GapsLinked self.new arena.new.bytes }
         ensures kept { KeepsFreed self.old self.new }
         ensures rest { KeepsToSpan self.old self.new arena.old arena.new }
     {
-        let from = self.free_before(arena, chunk);
-        let end = chunk.at + chunk.len + self.gap_behind(arena, chunk);
-        let before = self.gap_below(arena, from);
-        let link = self.gap_from(arena, end);
+        let beside = self.gaps_beside(arena, chunk.at);
+        let from = self.free_before(arena, chunk, beside.below);
+        let gap = self.gap_behind(arena, chunk);
+        let end = chunk.at + chunk.len + gap;
+        let link = self.link_behind(arena, chunk, end, beside.next);
+        let below = self.gap_below(arena, from, chunk.at, beside.below);
         let first = self.clear_away(arena, chunk, from, end, link);
-        self.link_below(arena, before, first);
+        self.link_below(arena, below, first);
+        self.gaps -= gap_count(chunk.at - from) + gap_count(gap);
     }
 
     /// Joins the chunks that were freed with the gaps beside them, the newest first.
@@ -200,7 +219,6 @@ impl Region {
         requires gaps { GapsLinked self.old arena.old.bytes }
         requires freed { FreedLinked self.old arena.old.bytes }
         ensures joins { Joins self.old self.new arena.old arena.new }
-        ensures gaps { GapsLinked self.new arena.new.bytes }
         ensures none { self.new.freed ≡ 0 }
     {
         while let Some(at) = self.newest {
@@ -209,7 +227,6 @@ impl Region {
             self.freed -= 1;
             self.release(arena, chunk);
         }
-        self.gaps = self.count_gaps(arena);
     }
 
     /// Sets a live chunk aside as freed: it is linked to the one that was freed before it, and joined later.
@@ -255,9 +272,10 @@ impl Region {
         ensures kept { KeepsFreed self.old self.new }
         ensures rest { KeepsToSpan self.old self.new arena.old arena.new }
     {
-        let end = chunk.at + chunk.len + self.gap_behind(arena, chunk);
-        let before = self.gap_below(arena, chunk.at);
-        let link = self.gap_from(arena, end);
+        let beside = self.gaps_beside(arena, chunk.at);
+        let gap = self.gap_behind(arena, chunk);
+        let end = chunk.at + chunk.len + gap;
+        let link = self.link_behind(arena, chunk, end, beside.next);
         let live = Chunk {
             at: chunk.at,
             len: HEADER + room,
@@ -267,8 +285,8 @@ impl Region {
         };
         self.clear(arena, live, chunk.size);
         let first = self.lay(arena, live, end, link);
-        self.link_below(arena, before, first);
-        self.gaps = self.count_gaps(arena);
+        self.link_below(arena, beside.below, first);
+        self.gaps -= gap_count(gap);
     }
 
     /// Moves a live chunk's block to another place, which is answered. It gets `n` bytes there: the first ones stay, and zeros

@@ -11,7 +11,7 @@ use mote_types::reply::HeapStats;
 
 impl Region {
     ghost use Rattle.heap_core.specs.Code.Layout.{chunks_of, store_of, HasChunks};
-    ghost use Rattle.heap_core.specs.Code.Links.{LinkedTo};
+    ghost use Rattle.heap_core.specs.Code.Links.{LinkedTo, gaps_among, gap_below, gap_from};
     ghost use Rattle.heap_core.specs.HeapBytes.{heap_of, IsLaidOut};
 
     /// The chunk of a name's block.
@@ -102,14 +102,15 @@ impl Region {
         }
     }
 
-    /// Where the free bytes begin that end where a chunk begins.
-    pub(crate) fn free_before(&self, arena: &Arena, chunk: Chunk) -> u32
+    /// Where the free bytes begin that end where a chunk begins. `below` is the highest gap below it.
+    pub(crate) fn free_before(&self, arena: &Arena, chunk: Chunk, below: Option<Chunk>) -> u32
         requires chunks { HasChunks self.now arena.now.bytes }
         requires linked { LinkedTo self.now.lowest (chunks_of self.now arena.now.bytes) None }
         requires stands { Stands chunk (chunks_of self.now arena.now.bytes) }
+        requires below { below ≡ gap_below chunk.at (gaps_among (chunks_of self.now arena.now.bytes)) }
         ensures { result ≡ free_from (chunks_before self.now arena.now.bytes chunk.at) }
     {
-        match self.gap_below(arena, chunk.at) {
+        match below {
             Some(gap) if gap.at + gap.len == chunk.at => gap.at,
             _ => chunk.at,
         }
@@ -127,6 +128,30 @@ impl Region {
         }
         let behind = self.chunk_at(arena, end);
         if is_gap(behind) { behind.len } else { 0 }
+    }
+
+    /// The place of the lowest gap from the end of the free bytes behind a live chunk on. `next` is that of the lowest gap
+    /// behind the chunk.
+    pub(crate) fn link_behind(
+        &self,
+        arena: &Arena,
+        chunk: Chunk,
+        end: u32,
+        next: Option<u32>,
+    ) -> Option<u32>
+        requires chunks { HasChunks self.now arena.now.bytes }
+        requires linked { LinkedTo self.now.lowest (chunks_of self.now arena.now.bytes) None }
+        requires stands { Stands chunk (chunks_of self.now arena.now.bytes) }
+        requires live { chunk.owner ≢ None }
+        requires end { end ≡ chunk.at + chunk.len + front_gap (chunks_behind self.now arena.now.bytes (chunk.at + chunk.len)) }
+        requires next { next ≡ gap_from chunk.at (gaps_among (chunks_of self.now arena.now.bytes)) }
+        ensures { result ≡ gap_from end (gaps_among (chunks_of self.now arena.now.bytes)) }
+    {
+        let behind = chunk.at + chunk.len;
+        if behind == end {
+            return next;
+        }
+        self.chunk_at(arena, behind).link
     }
 
     /// The room that a live chunk has once it is resized to `n` bytes where it is. `None` where it can't be.

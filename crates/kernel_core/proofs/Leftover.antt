@@ -53,7 +53,7 @@ due_takes m due = at_due (first_due m.clock m.timers) refl
     at_due (Some timer) e = rw e (one_more m.scheduler.events (expiry_of timer))
     at_due None e = let none : is_some (first_due m.clock m.timers) ≡ false = ap is_some e in absurd (cc)
 
-due_stops : (m : Machine) → is_any_due m ≡ false → post_first_due m ≡ m
+pub due_stops : (m : Machine) → is_any_due m ≡ false → post_first_due m ≡ m
 due_stops m due = at_due (first_due m.clock m.timers) refl
   where
     at_due : (next : Option Timer) → first_due m.clock m.timers ≡ next → post_first_due m ≡ m

@@ -7,7 +7,7 @@ use Rattle.process_core.specs.Scheduler.{ComesTo, carrying}
 use Rattle.timer_core.specs.Armings.{Armings}
 use Rattle.kernel_core.specs.declared.fields.KernelFields.{KernelFields}
 use Rattle.kernel_core.specs.declared.unshown.Unshown.{Unshown}
-use Rattle.kernel_core.specs.Machine.{Machine}
+use Rattle.kernel_core.specs.Machine.{Machine, shown_first}
 use Rattle.kernel_core.specs.Run.{Answers, MakesEntry, GoesSilently, silent, job_done}
 use Rattle.kernel_core.specs.Code.View.{machine_of, none_unshown, unshown_items, is_struck, ComesToJob}
 use Rattle.kernel_core.proofs.Silent.{job_reached, silently_on}
@@ -62,3 +62,8 @@ job_makes reached e = record { last = reached.last; before = reached.before; mak
 pub entry_is_shown : {answers : Answers} {entry : Entry} (k : KernelFields) (left : Unshown) → k.halted ≡ false → unshown_items k.unshown ≡ Item.Show entry ∷ unshown_items left →
     MakesEntry answers (machine_of k) entry (machine_of (record k { unshown = left }))
 entry_is_shown k left running e = record { last = machine_of k; before = silently_here (machine_of k); makes = rw (running, e) refl }
+
+-- an entry that was put before all that a machine does
+pub entry_comes_first : {answers : Answers} (entry : Entry) (m new : Machine) → new ≡ m → new.is_halted ≡ false → MakesEntry answers (shown_first entry m) entry new
+entry_comes_first entry m new same running =
+    record { last = shown_first entry m; before = silently_here (shown_first entry m); makes = rw (← same, running) refl }

@@ -1,4 +1,5 @@
 -- The code's own invariants. Nobody has to read them who wants to know what a mote does.
+pub mod CallKinds
 pub mod Cost
 pub mod Draws
 pub mod TimerNames

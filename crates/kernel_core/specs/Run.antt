@@ -7,7 +7,8 @@ use Rattle.mote_types.specs.declared.event.Stimulus.{Stimulus}
 use Rattle.mote_types.specs.declared.event.Origin.{Origin}
 use Rattle.mote_types.specs.Applications.{Applications}
 use Rattle.kernel_core.specs.declared.config.Config.{Config}
-use Rattle.kernel_core.specs.declared.step.Step.{Step as Reached}
+use Rattle.kernel_core.specs.declared.step.Step.{Step}
+use Rattle.kernel_core.specs.declared.step.Reached.{Reached}
 use Rattle.process_core.specs.Agenda.{Item, Job}
 use Rattle.process_core.specs.Idle.{is_idle}
 use Rattle.process_core.specs.Scheduler.{worked, job, in_front}
@@ -92,14 +93,20 @@ pub record GoesToRest (answers : Answers) (old new : Machine) : Type 0 where
   pub at_rest : is_at_rest new ≡ true
 
 -- the machine goes on to the next entry, or to rest; once halted, it stays
-abbrev pub GoesOn : Answers → Machine → Reached → Machine → Type 0
-GoesOn answers old (Reached.Entry entry) new = MakesEntry answers old entry new
-GoesOn answers old Reached.Rest new = GoesToRest answers old new
-GoesOn answers old Reached.Halted new = (old.is_halted ≡ true) × (new ≡ old)
+abbrev pub GoesOn : Answers → Machine → Step → Machine → Type 0
+GoesOn answers old (Step.Entry entry) new = MakesEntry answers old entry new
+GoesOn answers old Step.Rest new = GoesToRest answers old new
+GoesOn answers old Step.Halted new = (old.is_halted ≡ true) × (new ≡ old)
 
-abbrev pub made : Reached → List Entry
-made (Reached.Entry entry) = entry ∷ []
+abbrev pub made : Step → List Entry
+made (Step.Entry entry) = entry ∷ []
 made _ = []
+
+-- what a step comes to, where an entry that it makes is put into a place
+abbrev pub stepped : Reached → Entry → Step
+stepped Reached.Made entry = Step.Entry entry
+stepped Reached.Rest entry = Step.Rest
+stepped Reached.Halted entry = Step.Halted
 
 -- A run.
 

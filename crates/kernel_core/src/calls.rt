@@ -1,12 +1,14 @@
 //! What the kernel does at an application's call.
 
-ghost use Rattle.std.specs.Prelude.{◌≡◌, true, None, Some};
-ghost use Rattle.node_memory.specs.Parts.{is_memory_call};
-ghost use Rattle.kernel_core.specs.Calls.{after_call, asked_of_memory};
+ghost use Rattle.std.specs.Prelude.{◌≡◌, None, Some};
+ghost use Rattle.kernel_core.specs.Calls.{after_call};
+ghost use Rattle.kernel_core.specs.Code.CallKinds.{kind_of};
 ghost use Rattle.kernel_core.specs.Code.Draws.{debt};
 ghost use Rattle.kernel_core.specs.Machine as machine;
 ghost use Rattle.kernel_core.specs.Code.View.{machine_of, none_unshown, IsAtTurn, IsCarriedOut, IsOnlyScheduled};
+ghost use Rattle.kernel_core.specs.declared.call_kind.CallKind as kinds;
 
+use crate::call_kind::CallKind;
 use crate::fields::KernelFields;
 use crate::timer_calls::has_timer;
 use mote_types::call::Call;
@@ -47,22 +49,62 @@ impl KernelFields {
         ensures machine { machine_of self.new ≡ after_call call.now pid.0 (machine_of self.old) }
         ensures kept { IsCarriedOut self.old self.new }
     {
-        if !has_timer(call) {
-            return self.refuse(pid, Refusal::BadName);
+        match CallKind::of(call) {
+            CallKind::Processes => self.ask_processes(pid, call),
+            CallKind::Events => self.ask_events(pid, call),
+            CallKind::Timers => self.ask_timers(pid, call),
+            CallKind::Devices => self.ask_devices(pid, call),
+            CallKind::Memory => self.ask_memory(pid, call),
         }
+    }
+
+    /// Carries out a call on processes.
+    fn ask_processes(&mut self, pid: Pid, call: &Call)
+        requires at_turn { IsAtTurn pid self.old }
+        requires kind { kind_of call.now ≡ kinds.CallKind.Processes }
+        ensures machine { machine_of self.new ≡ after_call call.now pid.0 (machine_of self.old) }
+        ensures kept { IsCarriedOut self.old self.new }
+    {
         match call {
             Call::Wait => self.scheduler.waited(pid),
             Call::Exit => self.scheduler.ended(pid),
+            Call::Poll(process) => self.poll(pid, *process),
+            Call::Start(process) => self.start(pid, *process),
+            Call::Kill(process) => self.kill(pid, *process),
+            Call::IsRunning(process) => self.is_running(pid, *process),
+            _ => unreachable!(),
+        }
+    }
+
+    /// Carries out a call on events.
+    fn ask_events(&mut self, pid: Pid, call: &Call)
+        requires at_turn { IsAtTurn pid self.old }
+        requires kind { kind_of call.now ≡ kinds.CallKind.Events }
+        ensures machine { machine_of self.new ≡ after_call call.now pid.0 (machine_of self.old) }
+        ensures kept { IsCarriedOut self.old self.new }
+    {
+        match call {
             Call::Post(receiver, code, payload) => self.post(pid, *receiver, *code, payload),
             Call::Broadcast(code, payload) => self.broadcast(pid, *code, payload),
             Call::PostSynch(receiver, code, payload) => {
                 self.post_synch(pid, *receiver, *code, payload)
             }
             Call::AllocEvent => self.alloc_event(pid),
-            Call::Poll(process) => self.poll(pid, *process),
-            Call::Start(process) => self.start(pid, *process),
-            Call::Kill(process) => self.kill(pid, *process),
-            Call::IsRunning(process) => self.is_running(pid, *process),
+            _ => unreachable!(),
+        }
+    }
+
+    /// Carries out a call on timers, or on the clock.
+    fn ask_timers(&mut self, pid: Pid, call: &Call)
+        requires at_turn { IsAtTurn pid self.old }
+        requires kind { kind_of call.now ≡ kinds.CallKind.Timers }
+        ensures machine { machine_of self.new ≡ after_call call.now pid.0 (machine_of self.old) }
+        ensures kept { IsCarriedOut self.old self.new }
+    {
+        if !has_timer(call) {
+            return self.refuse(pid, Refusal::BadName);
+        }
+        match call {
             Call::TimerSet(timer, interval) => self.set_timer(pid, *timer, *interval),
             Call::TimerStop(timer) => self.stop_timer(pid, *timer),
             Call::TimerReset(timer) => self.reset_timer(pid, *timer),
@@ -71,22 +113,33 @@ impl KernelFields {
             Call::CallbackSet(timer, interval) => self.set_callback(pid, *timer, *interval),
             Call::CallbackStop(timer) => self.stop_callback(pid, *timer),
             Call::Clock => self.answer(pid, Reply::Wide(self.clock)),
+            _ => unreachable!(),
+        }
+    }
+
+    /// Carries out a call on packets, or on the printed text.
+    fn ask_devices(&mut self, pid: Pid, call: &Call)
+        requires at_turn { IsAtTurn pid self.old }
+        requires kind { kind_of call.now ≡ kinds.CallKind.Devices }
+        ensures machine { machine_of self.new ≡ after_call call.now pid.0 (machine_of self.old) }
+        ensures kept { IsCarriedOut self.old self.new }
+    {
+        match call {
             Call::Print(_) => self.answer(pid, Reply::Done),
             Call::PacketOpen => self.open_packets(pid),
             Call::PacketRead(at, len) => self.read_packet(pid, *at, *len),
             Call::PacketDone => self.drop_packet(pid),
             Call::PacketCount => self.count_packets(pid),
             Call::PacketSend(handle) => self.send_packet(pid, *handle),
-            // Every other call is on memory.
-            _ => self.ask_memory(pid, call),
+            _ => unreachable!(),
         }
     }
 
     /// Carries out a call on memory.
     fn ask_memory(&mut self, pid: Pid, call: &Call)
         requires at_turn { IsAtTurn pid self.old }
-        requires on_memory { is_memory_call call.now ≡ true }
-        ensures machine { machine_of self.new ≡ asked_of_memory call.now pid.0 (machine_of self.old) }
+        requires kind { kind_of call.now ≡ kinds.CallKind.Memory }
+        ensures machine { machine_of self.new ≡ after_call call.now pid.0 (machine_of self.old) }
         ensures kept { IsCarriedOut self.old self.new }
     {
         let reply = self.memory.ask(pid, call);

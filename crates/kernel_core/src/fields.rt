@@ -4,7 +4,6 @@ ghost use Rattle.std.specs.Prelude.{◌≡◌, ◌<◌, ◌≤◌, ◌+◌, ◌-
 ghost use Rattle.std.specs.List.{list_any, IsDistinct};
 ghost use Rattle.mote_types.specs.Applications.{says_of};
 ghost use Rattle.mote_types.specs.Entries.{is_halt};
-ghost use Rattle.mote_types.specs.declared.entry.Entry.{Entry as MadeEntry};
 ghost use Rattle.mote_types.specs.declared.event.Stimulus.{Stimulus as Told};
 ghost use Rattle.kernel_core.specs.Mote.{TakesEntry};
 ghost use Rattle.kernel_core.specs.Code.View.{HoldsFrames, machine_of, mote_of, none_unshown, entries_left_in, IsInOrder};
@@ -25,6 +24,7 @@ use device_core::packet_queue::PacketQueue;
 use device_core::serial_line::SerialLine;
 use mote_types::app::App;
 use mote_types::ask::ask;
+use mote_types::call::Call;
 use mote_types::entry::{Entry, Input};
 use mote_types::event::{ETIMER, Origin, Pid, SERIAL_PROCESS, Stimulus};
 use node_memory::NodeMemory;
@@ -55,14 +55,15 @@ pub struct KernelFields {
 }
 
 impl KernelFields {
-    /// The application takes a turn, or the run is halted.
+    /// The application takes a turn, or the run is halted. The entry of that is put into `made`.
     pub fn take_turn(
         &mut self,
         apps: &mut [Box<dyn App>],
         pid: Pid,
         origin: Origin,
         stimulus: Stimulus,
-    ) -> Entry
+        made: &mut Entry,
+    )
         requires least { 4 ≤ pid.0 }
         requires few { self.old.applications ≤ 16 }
         requires present { pid.0 < 4 + length apps.old }
@@ -79,48 +80,54 @@ impl KernelFields {
         requires draws { debt self.old ≤ 1 + 8 * (10000 * self.old.inputs + self.old.work) }
         requires distinct { IsDistinct eqb (numbers self.old.scheduler.state.processes) }
         requires frames { HoldsFrames self.old.memory.contents self.old.packets.frames }
-        ensures machine { within_limit (machine_of self.old) (turn_taken pid.0 origin stimulus (says_of says apps.old pid.0 (stimulus ∷ [])) (machine_of self.old)) ≡ (machine_of self.new, Some result) }
+        ensures machine { within_limit (machine_of self.old) (turn_taken pid.0 origin stimulus (says_of says apps.old pid.0 (stimulus ∷ [])) (machine_of self.old)) ≡ (machine_of self.new, Some made.new) }
         ensures left { entries_left_in self.new < entries_left_in self.old }
-        ensures halted { self.new.halted ≡ is_halt result }
+        ensures halted { self.new.halted ≡ is_halt made.new }
         ensures clock { self.new.clock ≡ self.old.clock }
         ensures order { IsInOrder self.new }
         ensures kept { (self.new.inputs ≡ self.old.inputs) × (self.new.scheduler.state.applications ≡ self.old.scheduler.state.applications) }
         ensures law { (p : ℕ) (next : Told) (later : List Told) →
-            says_of says apps.new p (next ∷ later) ≡ says_of says apps.old p (heard p (result ∷ []) ++ (next ∷ later)) }
-        ensures others { (p : ℕ) → 4 ≤ p → heard p (result ∷ []) ≡ [] → slice_get apps.new (p - 4) ≡ slice_get apps.old (p - 4) }
+            says_of says apps.new p (next ∷ later) ≡ says_of says apps.old p (heard p (made.new ∷ []) ++ (next ∷ later)) }
+        ensures others { (p : ℕ) → 4 ≤ p → heard p (made.new ∷ []) ≡ [] → slice_get apps.new (p - 4) ≡ slice_get apps.old (p - 4) }
     {
         if self.work == WORK_LIMIT {
             self.halted = true;
-            return Entry::Halt;
+            *made = Entry::Halt;
+            return;
         }
         self.work += 1;
-        let call = ask(apps, pid, &stimulus);
-        self.carry_out(pid, &call);
-        Entry::Turn {
+        // A stimulus and a call are large: the entry's own are used.
+        *made = Entry::Turn {
             pid,
             origin,
             stimulus,
-            call,
+            call: Call::Wait,
+        };
+        if let Entry::Turn { stimulus, call, .. } = made {
+            *call = ask(apps, pid, stimulus);
+            self.carry_out(pid, call);
         }
     }
 
-    /// A round begins, or the run is halted.
-    pub fn begin_round(&mut self) -> Option<Entry>
+    /// Whether a round begins. Else the run is halted, and the entry of that is put into `made`.
+    pub fn begin_round(&mut self, made: &mut Entry) -> bool
         requires order { IsInOrder self.old }
         requires running { self.old.halted ≡ false }
         requires nothing_shown { self.old.unshown ≡ none_unshown }
-        ensures machine { within_limit (machine_of self.old) (silent (with_more_work (machine_of self.old))) ≡ (machine_of self.new, result) }
+        ensures begins { result ≡ true → within_limit (machine_of self.old) (silent (with_more_work (machine_of self.old))) ≡ silent (machine_of self.new) }
+        ensures halts { result ≡ false → within_limit (machine_of self.old) (silent (with_more_work (machine_of self.old))) ≡ (machine_of self.new, Some made.new) }
         ensures order { IsInOrder self.new }
         ensures kept { self.new ≡ record self.old { work = self.new.work; halted = self.new.halted } }
-        ensures halts { IfSome result (λ entry. (entry ≡ MadeEntry.Halt) × (self.new.halted ≡ true) × (entries_left_in self.new < entries_left_in self.old)) }
-        ensures begins { result ≡ None → (self.new.halted ≡ false) × (self.new.work ≡ self.old.work + 1) }
+        ensures more { result ≡ true → (self.new.halted ≡ false) × (self.new.work ≡ self.old.work + 1) × (made.new ≡ made.old) }
+        ensures halted { result ≡ false → (self.new.halted ≡ true) × (made.new ≡ Entry.Halt) × (entries_left_in self.new < entries_left_in self.old) }
     {
         if self.work == WORK_LIMIT {
             self.halted = true;
-            return Some(Entry::Halt);
+            *made = Entry::Halt;
+            return false;
         }
         self.work += 1;
-        None
+        true
     }
 
     /// The next thing that is to be done, which is taken from the agenda.

@@ -1,18 +1,18 @@
 //! The kernel: what a mote runs on.
 
-ghost use Rattle.std.specs.Prelude.{◌≡◌, ◌<◌, ◌≤◌, ◌+◌, ◌-◌, ◌^◌, ◌∷◌, ◌++◌, ◌↔◌, ◌||◌, ℕ, [], true, false, List, length, slice_get, IfOk, IsErrOf};
+ghost use Rattle.std.specs.Prelude.{◌≡◌, ◌≢◌, ◌<◌, ◌≤◌, ◌+◌, ◌-◌, ◌^◌, ◌∷◌, ◌++◌, ◌↔◌, ◌||◌, ℕ, [], true, false, List, length, slice_get, IfOk, IsErrOf};
 ghost use Rattle.std.specs.List.{list_any};
 ghost use Rattle.mote_types.specs.Applications.{says_of};
 ghost use Rattle.mote_types.specs.Entries.{is_halt};
 ghost use Rattle.mote_types.specs.declared.event.Stimulus.{Stimulus as Told};
 ghost use Rattle.kernel_core.specs.Machine.{is_bootable, booted};
 ghost use Rattle.kernel_core.specs.Inputs.{fed, has_bytes, ticks_of};
-ghost use Rattle.kernel_core.specs.Run.{GoesOn, heard, is_at_rest, made};
+ghost use Rattle.kernel_core.specs.Run.{Answers, GoesOn, heard, is_at_rest, made, made as made_by, stepped};
 ghost use Rattle.kernel_core.specs.Mote.{TakesEntry};
 
 use crate::config::Config;
 use crate::fields::KernelFields;
-use crate::step::Step;
+use crate::step::{Reached, Step};
 use crate::unshown::Unshown;
 use device_core::packet_queue::PacketQueue;
 use device_core::serial_line::SerialLine;
@@ -114,6 +114,26 @@ impl Kernel {
         self.fields.unshown.input = Some(input);
     }
 
+    /// Hands an input that the caller keeps to a mote at rest: as `feed`, and then the step that makes the input's entry. What
+    /// follows is done by `step`.
+    ///
+    /// A frame has at least one byte.
+    pub fn accept(&mut self, input: &Input)
+        requires rest { is_at_rest self.old.machine ≡ true }
+        requires clock { self.old.machine.clock + ticks_of input.now ≤ 2 ^ 62 }
+        requires bytes { has_bytes input.now ≡ true }
+        requires few { self.old.inputs < 2 ^ 40 }
+        ensures machine { (answers : Answers) → GoesOn answers (fed input.now self.old.machine) (Step.Entry (Entry.Input input.now)) self.new.machine }
+        ensures running { self.new.machine.is_halted ≡ false }
+        ensures clock { self.new.machine.clock ≡ self.old.machine.clock + ticks_of input.now }
+        ensures applications { self.new.machine.scheduler.applications ≡ self.old.machine.scheduler.applications }
+        ensures inputs { self.new.inputs ≡ self.old.inputs + 1 }
+    {
+        self.fields.work = 0;
+        self.fields.take_in(input);
+        self.fields.inputs += 1;
+    }
+
     /// Works until an entry is made or nothing is left to be done. It takes one turn at most, of one application.
     ///
     /// `Rest` exactly where the mote has come to rest, `Halted` exactly where it was halted before.
@@ -129,11 +149,37 @@ impl Kernel {
         ensures inputs { self.new.inputs ≡ self.old.inputs }
         ensures progress { TakesEntry result self.old self.new }
     {
-        if self.fields.halted {
-            return Step::Halted;
+        let mut made = Entry::Halt;
+        match self.step_to(apps, &mut made) {
+            Reached::Made => Step::Entry(made),
+            Reached::Rest => Step::Rest,
+            Reached::Halted => Step::Halted,
         }
-        if let Some(entry) = self.fields.unshown.take_first() {
-            return Step::Entry(entry);
+    }
+
+    /// Works as `step`, and puts the entry that is made into `made`. Where none is made, nothing is put there.
+    pub fn step_to(&mut self, apps: &mut [Box<dyn App>], made: &mut Entry) -> Reached
+        requires boxes { length apps.old ≡ self.old.machine.scheduler.applications }
+        ensures machine { GoesOn (λ p stimulus. says_of says apps.old p (stimulus ∷ [])) self.old.machine (stepped result made.new) self.new.machine }
+        ensures law { (p : ℕ) (next : Told) (later : List Told) →
+            says_of says apps.new p (next ∷ later) ≡ says_of says apps.old p (heard p (made_by (stepped result made.new)) ++ (next ∷ later)) }
+        ensures others { (p : ℕ) → 4 ≤ p → heard p (made_by (stepped result made.new)) ≡ [] → slice_get apps.new (p - 4) ≡ slice_get apps.old (p - 4) }
+        ensures halted { self.new.machine.is_halted ≡ (self.old.machine.is_halted || list_any is_halt (made_by (stepped result made.new))) }
+        ensures clock { self.new.machine.clock ≡ self.old.machine.clock }
+        ensures applications { self.new.machine.scheduler.applications ≡ self.old.machine.scheduler.applications }
+        ensures inputs { self.new.inputs ≡ self.old.inputs }
+        ensures progress { TakesEntry (stepped result made.new) self.old self.new }
+        ensures unmade { result ≢ Reached.Made → made.new ≡ made.old }
+    {
+        if self.fields.halted {
+            return Reached::Halted;
+        }
+        if !self.fields.unshown.is_empty() {
+            self.fields.unshown.take_first(made);
+            return Reached::Made;
+        }
+        if self.fields.pass_idle_round() {
+            return Reached::Rest;
         }
         'job: loop {
             match self.fields.next_job() {
@@ -141,7 +187,10 @@ impl Kernel {
                     pid,
                     origin,
                     stimulus,
-                } => return Step::Entry(self.fields.take_turn(apps, pid, origin, stimulus)),
+                } => {
+                    self.fields.take_turn(apps, pid, origin, stimulus, made);
+                    return Reached::Made;
+                }
                 Job::Serve { pid, event } => self.fields.serve(pid, event),
                 Job::Callback {
                     pid,
@@ -149,11 +198,11 @@ impl Kernel {
                     arming,
                 } => self.fields.expire(pid, number, arming),
                 Job::Round => {
-                    if let Some(halt) = self.fields.begin_round() {
-                        return Step::Entry(halt);
+                    if !self.fields.begin_round(made) {
+                        return Reached::Made;
                     }
                 }
-                Job::Rest => return Step::Rest,
+                Job::Rest => return Reached::Rest,
             }
         }
     }

@@ -1,10 +1,12 @@
 //! The kernel: one machine of processes, events and a clock, worked off step by step.
 #![tactic(auto)]
 
+mod call_kind;
 mod calls;
 pub mod config;
 mod event_calls;
 mod fields;
+mod idle_round;
 mod inputs;
 pub mod kernel;
 mod kernel_processes;

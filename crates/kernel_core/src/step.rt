@@ -12,3 +12,14 @@ pub enum Step {
     /// The run was halted before; nothing follows.
     Halted,
 }
+
+/// What a step came to, where its entry is put into a place that the caller lends.
+#[derive(Drop)]
+pub enum Reached {
+    /// An entry was made, and lies in that place.
+    Made,
+    /// Nothing is left to be done without an input.
+    Rest,
+    /// The run was halted before; nothing follows.
+    Halted,
+}

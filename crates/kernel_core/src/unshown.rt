@@ -1,6 +1,6 @@
 //! The entries that are made before anything else is done.
 
-ghost use Rattle.std.specs.Prelude.{◌≡◌, ◌∷◌, false, IfSome, None};
+ghost use Rattle.std.specs.Prelude.{◌≡◌, ◌∷◌, false};
 ghost use Rattle.mote_types.specs.Entries.{is_halt};
 ghost use Rattle.process_core.specs.Agenda.{Item};
 ghost use Rattle.process_core.specs.Idle.{is_empty};
@@ -33,20 +33,19 @@ impl Unshown {
         self.input.is_none() && self.note.is_none()
     }
 
-    /// Takes the first of them, if there is one.
-    pub fn take_first(&mut self) -> Option<Entry>
-        ensures first { IfSome result (λ entry. unshown_items self.old ≡ Item.Show entry ∷ unshown_items self.new) }
-        ensures none { result ≡ None → self.old ≡ none_unshown }
-        ensures left { result ≡ None → self.new ≡ none_unshown }
-        ensures kind { IfSome result (λ entry. is_halt entry ≡ false) }
+    /// Takes the first of them, and puts its entry into `made`.
+    pub fn take_first(&mut self, made: &mut Entry)
+        requires some { is_empty (unshown_items self.old) ≡ false }
+        ensures first { unshown_items self.old ≡ Item.Show made.new ∷ unshown_items self.new }
+        ensures kind { is_halt made.new ≡ false }
     {
         // A take copies the whole place, also where nothing is there.
         if self.input.is_some() {
-            return self.input.take().map(|input| Entry::Input(input));
+            if let Some(input) = self.input.take() {
+                *made = Entry::Input(input);
+            }
+        } else if let Some(note) = self.note.take() {
+            *made = Entry::Note(note);
         }
-        if self.note.is_none() {
-            return None;
-        }
-        self.note.take().map(|note| Entry::Note(note))
     }
 }

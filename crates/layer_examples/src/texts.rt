@@ -15,27 +15,34 @@ use std::process::Abort;
 
 /// The ticks of a line: none where it says nothing.
 fn ticks(line: &[u8]) -> Result<Option<u32>, BadLine> {
-    match read_input(line)? {
-        Some(Input::Tick(n)) => Ok(Some(n)),
-        Some(_) => Err(BadLine),
-        None => Ok(None),
+    let mut input = Input::Tick(0);
+    if !read_input(line, &mut input)? {
+        return Ok(None);
+    }
+    match input {
+        Input::Tick(n) => Ok(Some(n)),
+        _ => Err(BadLine),
     }
 }
 
-fn check_serial(rt: &impl Abort, line: &[u8], expected: &[u8]) {
-    let is_read = match read_input(line) {
-        Ok(Some(Input::Serial(read))) => read.as_slice() == expected,
+/// Reads the line into a place that holds another input.
+fn check_serial(rt: &impl Abort, input: &mut Input, line: &[u8], expected: &[u8]) {
+    let is_input = read_input(line, input) == Ok(true);
+    let is_read = match input {
+        Input::Serial(read) => read.as_slice() == expected,
         _ => false,
     };
-    assert!(rt; is_read, "{line:?}");
+    assert!(rt; is_input && is_read, "{line:?}");
 }
 
-fn check_frame(rt: &impl Abort, line: &[u8], expected: &[u8]) {
-    let is_read = match read_input(line) {
-        Ok(Some(Input::Frame(read))) => read.as_slice() == expected,
+/// Reads the line into a place that holds another input.
+fn check_frame(rt: &impl Abort, input: &mut Input, line: &[u8], expected: &[u8]) {
+    let is_input = read_input(line, input) == Ok(true);
+    let is_read = match input {
+        Input::Frame(read) => read.as_slice() == expected,
         _ => false,
     };
-    assert!(rt; is_read, "{line:?}");
+    assert!(rt; is_input && is_read, "{line:?}");
 }
 
 /// A word, and so many times the digit `f`.
@@ -49,22 +56,45 @@ fn line_of_digits(word: &[u8], digits: usize) -> ArrayVec<u8, 1_024> {
 
 #[test]
 fn lines_of_bytes(rt: HostRuntime) {
-    check_serial(&rt, b"serial 68690d0a", b"hi\r\n");
-    check_serial(&rt, b"serial 0A", b"\n");
-    check_serial(&rt, b"serial aBCdeF09", &[0xab, 0xcd, 0xef, 0x09]);
-    check_frame(&rt, b"frame 0a0b", &[0x0a, 0x0b]);
-    check_frame(&rt, b"frame 00", &[0]);
-    check_frame(&rt, b"frame Ff90", &[0xff, 0x90]);
+    let mut input = Input::Tick(7);
+    check_serial(&rt, &mut input, b"serial 68690d0a", b"hi\r\n");
+    check_serial(&rt, &mut input, b"serial 0A", b"\n");
+    check_serial(
+        &rt,
+        &mut input,
+        b"serial aBCdeF09",
+        &[0xab, 0xcd, 0xef, 0x09],
+    );
+    check_frame(&rt, &mut input, b"frame 0a0b", &[0x0a, 0x0b]);
+    check_frame(&rt, &mut input, b"frame 00", &[0]);
+    check_frame(&rt, &mut input, b"frame Ff90", &[0xff, 0x90]);
+    check_serial(&rt, &mut input, b"serial 31", b"1");
+}
+
+#[test]
+fn a_line_that_says_nothing_leaves_the_place(rt: HostRuntime) {
+    let mut input = Input::Tick(0);
+    check_frame(&rt, &mut input, b"frame 0102", &[1, 2]);
+    assert_eq!(rt; read_input(b"# frame 03", &mut input), Ok(false));
+    assert_eq!(rt; read_input(b"", &mut input), Ok(false));
+    assert!(rt; matches!(&input, Input::Frame(bytes) if bytes.as_slice() == [1, 2].as_slice()));
 }
 
 #[test]
 fn the_longest_lines_of_bytes(rt: HostRuntime) {
+    let mut input = Input::Tick(0);
     check_serial(
         &rt,
+        &mut input,
         line_of_digits(b"serial ", 512).as_slice(),
         &[0xff; 256],
     );
-    check_frame(&rt, line_of_digits(b"frame ", 254).as_slice(), &[0xff; 127]);
+    check_frame(
+        &rt,
+        &mut input,
+        line_of_digits(b"frame ", 254).as_slice(),
+        &[0xff; 127],
+    );
     for digits in [511, 513, 514] {
         let line = line_of_digits(b"serial ", digits);
         assert_eq!(rt; ticks(line.as_slice()), Err(BadLine), "{digits}");
@@ -94,10 +124,14 @@ tick 4294967296|tick 12345678901|tick 01|tick 00|tick +1|tick -1|tick 1 |tick 1\
 
 #[test]
 fn lines_of_no_form(rt: HostRuntime) {
+    let mut input = Input::Tick(0);
     for line in NO_FORM.split("|") {
-        assert!(rt; read_input(line.as_bytes()).is_err(), "{line:?}");
+        assert!(rt;
+            read_input(line.as_bytes(), &mut input).is_err(),
+            "{line:?}"
+        );
     }
-    assert!(rt; read_input(&[b'#'; 1_025]).is_err());
+    assert!(rt; read_input(&[b'#'; 1_025], &mut input).is_err());
 }
 
 /// The lines of a script whose bytes come so many at a time, a bar behind each, and then what is unfinished.
@@ -199,6 +233,26 @@ fn nothing_is_taken_of_a_line_that_is_too_wide(rt: HostRuntime) {
         (1_024, Taken::TooWide),
         widest,
     );
+}
+
+#[test]
+fn a_whole_line_is_found_in_its_piece(rt: HostRuntime) {
+    let mut lines = Lines::new();
+    let whole: &[u8] = b"tick 1";
+    let empty: &[u8] = b"";
+    assert_eq!(rt; lines.whole_line(b"tick 1\n\n"), Some(whole));
+    assert_eq!(rt; lines.whole_line(b"\ntick 1\n"), Some(empty));
+    assert_eq!(rt; lines.whole_line(b"tick 1"), None);
+    check_take(&rt, &mut lines, b"ti", (2, Taken::More), b"ti");
+    assert_eq!(rt; lines.whole_line(b"ck 1\n"), None);
+    check_take(&rt, &mut lines, b"ck 1\n", (5, Taken::Line), b"tick 1");
+    assert_eq!(rt; lines.whole_line(b"tick 1\n"), Some(whole));
+    let mut widest = [b'#'; 1_026];
+    widest[1_024] = b'\n';
+    assert_eq!(rt; lines.whole_line(&widest), Some(&widest[..1_024]));
+    widest[1_024] = b'#';
+    widest[1_025] = b'\n';
+    assert_eq!(rt; lines.whole_line(&widest), None);
 }
 
 fn bytes<const N: usize>(bytes: &[u8]) -> ArrayVec<u8, N> {

@@ -6,9 +6,8 @@ use Rattle.std.proofs.lemmas.List.{append-nil, length-append, map-append}
 use Rattle.mote_types.specs.Applications.{Applications, Says, nth_says, says_of}
 use Rattle.mote_types.specs.declared.call.Call.{Call}
 use Rattle.mote_types.specs.declared.event.Stimulus.{Stimulus}
-use Rattle.mote_text.specs.declared.script.End.{End}
 use Rattle.kernel_core.specs.declared.config.Config.{Config}
-use Rattle.mote_run.specs.RunText.{HasRunInPart, IsRunText}
+use Rattle.mote_run.specs.RunText.{HasRunInPart}
 
 abbrev itself : Says → Says
 itself says = says

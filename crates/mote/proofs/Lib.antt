@@ -1,3 +1,1 @@
 mod Boxed
-mod Matches
-mod ReadNames

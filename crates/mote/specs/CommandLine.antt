@@ -1,148 +1,42 @@
--- What the words of the command line name: what the parser makes of them, and which mote that is.
-use Rattle.std.specs.Prelude.{◌≡◌, ◌<◌, ◌≤◌, ◌⊎◌, ⊤, ℕ, Bool, pos, true, false, List, [], ◌∷◌, Option, Some, None, is_none, find, filter_map, length, codes, unwrap_or, option_and_then, Result, Ok, Err, bytes_eq, if◌then◌else◌}
-use Rattle.std.specs.Option.{option_map_or}
-use Rattle.std.specs.Str.Parse.{digits_value, without_leading_plus}
-use Rattle.clap.specs.Lexer.{usize_max}
-use Rattle.clap.specs.Words.{App, Row, Rule, Text, all_of, fault_of, kind_of, matches_of, new_app, new_rule, one_of, with_rule}
-use Rattle.clap.specs.Kinds.{IsAmong}
-use Rattle.clap.specs.Simple.{on_top}
-use Rattle.clap.specs.ValueTests.{is_unsigned_in}
-use Rattle.clap.specs.declared.builder.action.ArgAction.{ArgAction}
-use Rattle.clap.specs.declared.builder.value_parser.ValueParser.{ValueParser}
-use Rattle.clap.specs.declared.error.kind.ErrorKind.{ErrorKind}
-use Rattle.clap.specs.declared.parser.matches.ValueSource.{ValueSource}
+-- Which mote the words of the command line name, and what the program may come to on them.
+use Rattle.std.specs.Prelude.{◌≡◌, ◌⊎◌, ⊤, ℕ, true, false, List, length, Result, Ok, Err}
 use Rattle.kernel_core.specs.declared.config.Config.{Config}
 use Rattle.kernel_core.specs.Machine.{is_bootable}
 use Rattle.mote_text.specs.declared.script.End.{End}
-use Rattle.mote_apps.specs.declared.bundled.Bundled.{Bundled}
-use Rattle.mote_apps.specs.Bundled.{named}
+use Rattle.mote_words.specs.CommandLine.{AsksForText, NamesApplications, named_in}
+use Rattle.mote_words.specs.CommandLine as of_words
+use Rattle.mote_words.specs.declared.refusal.Refusal.{Refusal}
+use Rattle.mote_words.specs.declared.words.Named.{Named}
 use Rattle.mote.specs.declared.failure.Failure.{Failure}
 
--- ---- the command line, as the parser knows it
-
--- `--NAME N`, with a number that this parser takes; 4,096 where the option isn't used
-abbrev pub size_option : Text → ValueParser → Rule
-size_option name numbers =
-    record (new_rule name) {
-      long = Some name;
-      value_names = 1;
-      defaults = codes "4096" ∷ [];
-      parser = Some numbers;
-    }
-
--- the numbers from `least` to 65,536
-abbrev pub sizes_from : ℕ → ValueParser
-sizes_from least = ValueParser.Signed (pos least) (pos 65536)
-
-abbrev pub mmem_option : Rule
-mmem_option = size_option (codes "mmem") (sizes_from 4)
-
-abbrev pub heap_option : Rule
-heap_option = size_option (codes "heap") (sizes_from 20)
-
-abbrev pub quiet_flag : Rule
-quiet_flag = record (new_rule (codes "quiet")) { long = Some (codes "quiet"); action = Some ArgAction.SetTrue }
-
--- any number of names
-abbrev pub names_argument : Rule
-names_argument = record (new_rule (codes "APP")) { range = Some (record { start_inclusive = 0; end_inclusive = usize_max }) }
-
--- it has a version; the parser itself adds the options for it and for the help
-abbrev pub versioned : App
-versioned = on_top (λ shape. record shape { has_version = true }) (new_app (codes "mote"))
-
-abbrev pub program : App
-program = with_rule (with_rule (with_rule (with_rule versioned mmem_option) heap_option) quiet_flag) names_argument
-
--- what the parser finds of each argument, where it takes the words
-unfoldable pub rows_in : List Text → List Row
-rows_in words = matches_of program words
-
--- why it doesn't take them: the kind of the first mistake, or of the help or the version that they ask for; nothing where it
--- takes them
-unfoldable pub faults_in : List Text → List ErrorKind
-faults_in words = fault_of program words
-
--- ---- what the rows say that the parser finds
-
-abbrev pub names_of : List Row → List Text
-names_of rows = unwrap_or (all_of (codes "APP") rows) []
-
--- the number that a text writes; 0 where it writes none of 32 bits
-abbrev pub number_of : Text → ℕ
-number_of text = if is_unsigned_in 0 4294967295 text then digits_value 10 (without_leading_plus text) else 0
-
-abbrev pub size_of : Text → List Row → ℕ
-size_of option rows = option_map_or number_of (one_of option rows) 0
-
-abbrev pub is_in_words : Option ValueSource → Bool
-is_in_words (Some ValueSource.CommandLine) = true
-is_in_words _ = false
-
--- the flag stands among the words
-abbrev pub is_quiet : List Row → Bool
-is_quiet rows = is_in_words (option_and_then (λ row. row.source) (find (λ row. bytes_eq row.id (codes "quiet")) rows))
-
--- ---- which applications the names are
-
--- no application has this name
-abbrev pub is_unknown : Text → Bool
-is_unknown name = is_none (named name)
-
--- the applications of these names, each as it is before its first turn
-abbrev pub applications_of : List Text → List Bundled
-applications_of = filter_map named
-
-abbrev pub config_of : List Row → Config
-config_of rows =
-    record {
-      mmem = size_of (codes "mmem") rows;
-      heap = size_of (codes "heap") rows;
-      apps = length (applications_of (names_of rows));
-    }
-
--- what these names may be refused with: the first that is unknown, then their number
-abbrev pub RefusesNames : List Text → Failure → Type 0
-RefusesNames names (Failure.NoApplication name) = find is_unknown names ≡ Some name.now
-RefusesNames names Failure.TooManyApplications = (find is_unknown names ≡ None) × (16 < length names)
-RefusesNames names _ = ⊥
-
--- ---- which mote the words name
+-- a mote of the named sizes with the named applications
+abbrev pub config_of : Named → Config
+config_of named = record { mmem = named.mmem; heap = named.heap; apps = length named.applications.items }
 
 -- the parser takes the words, each name is an application's, and there is a mote of these sizes with so many applications
-pub record NamesMote (words : List Text) : Type 0 where
-  pub taken : faults_in words ≡ []
-  pub known : find is_unknown (names_of (rows_in words)) ≡ None
-  pub bootable : is_bootable (config_of (rows_in words)) ≡ true
+pub record NamesMote (words : List (List ℕ)) : Type 0 where
+  pub applications : NamesApplications words
+  pub bootable : is_bootable (config_of (named_in words)) ≡ true
 
 -- each name is an application's, and they are at most 16, but there is no mote of these sizes
-abbrev pub HasBadSizes : List Text → Type 0
-HasBadSizes words =
-    (find is_unknown (names_of (rows_in words)) ≡ None) × (length (names_of (rows_in words)) ≤ 16)
-    × (is_bootable (config_of (rows_in words)) ≡ false)
-
-abbrev pub is_request : ErrorKind → Bool
-is_request ErrorKind.DisplayHelp = true
-is_request ErrorKind.DisplayVersion = true
-is_request _ = false
+abbrev pub HasBadSizes : List (List ℕ) → Type 0
+HasBadSizes words = NamesApplications words × (is_bootable (config_of (named_in words)) ≡ false)
 
 -- what the program may answer to words in place of a mote: each failure under its own condition, of which no two hold at once;
 -- and want of memory
-abbrev pub Refuses : List Text → Failure → Type 0
-Refuses words (Failure.Request error) = IsAmong (kind_of error) (faults_in words) × (is_request (kind_of error) ≡ true)
-Refuses words (Failure.Words error) = IsAmong (kind_of error) (faults_in words) × (is_request (kind_of error) ≡ false)
-Refuses words Failure.BadSizes = (faults_in words ≡ []) × HasBadSizes words
+abbrev pub Refuses : List (List ℕ) → Failure → Type 0
+Refuses words (Failure.Request text) = of_words.Refuses words (Refusal.Request text)
+Refuses words (Failure.Words text) = of_words.Refuses words (Refusal.Words text)
+Refuses words (Failure.NoApplication name) = of_words.Refuses words (Refusal.NoApplication name)
+Refuses words Failure.TooManyApplications = of_words.Refuses words Refusal.TooManyApplications
+Refuses words Failure.BadSizes = HasBadSizes words
 Refuses words Failure.OutOfMemory = ⊤
-Refuses words failure = (faults_in words ≡ []) × RefusesNames (names_of (rows_in words)) failure
-
--- the words ask for the help or the version
-abbrev pub AsksForText : List Text → Type 0
-AsksForText words = (kind : ErrorKind) × IsAmong kind (faults_in words) × (is_request kind ≡ true)
+Refuses words failure = ⊥
 
 -- what the program may come to on words: a run, or its failure, only where they name a mote
-abbrev pub IsOutcome : List Text → Result End Failure → Type 0
+abbrev pub IsOutcome : List (List ℕ) → Result End Failure → Type 0
 IsOutcome words (Ok end) = NamesMote words ⊎ (AsksForText words × (end ≡ End.Finished))
 IsOutcome words (Err Failure.Read) = NamesMote words
 IsOutcome words (Err Failure.Write) = NamesMote words ⊎ AsksForText words
-IsOutcome words (Err (Failure.Request error)) = ⊥
+IsOutcome words (Err (Failure.Request text)) = ⊥
 IsOutcome words (Err failure) = Refuses words failure

@@ -1,11 +1,9 @@
 -- The statuses that the program exits with, and what it tells on standard error.
 use Rattle.std.specs.Prelude.{◌≡◌, ◌⊎◌, ⊤, ℕ, List, ◌++◌, codes, Option, Some, None, Result, Ok, Err}
-use Rattle.clap.specs.Words.{kind_of}
-use Rattle.clap.specs.declared.error.Error.{Error}
-use Rattle.clap.specs.declared.error.kind.ErrorKind.{ErrorKind}
 use Rattle.mote_types.specs.declared.fault.BootFault.{BootFault}
 use Rattle.mote_text.specs.declared.script.End.{End}
-use Rattle.mote_kit.specs.declared.fault.MoteFault.{MoteFault}
+use Rattle.mote_run.specs.declared.run.RunFault.{RunFault}
+use Rattle.mote_words.specs.declared.refusal.Refusal.{Refusal}
 use Rattle.mote.specs.declared.failure.Failure.{Failure}
 
 abbrev pub status_of_end : End → ℕ
@@ -58,22 +56,17 @@ failure_text Failure.TooManyApplications = Some (codes "mote: too many applicati
 failure_text Failure.BadSizes = Some (codes "mote: bad sizes")
 failure_text Failure.OutOfMemory = Some (codes "mote: out of memory")
 
--- the failure by the kind of what the parser found
-abbrev pub failure_by : ErrorKind → Error → Failure
-failure_by ErrorKind.OutOfMemory error = Failure.OutOfMemory
-failure_by ErrorKind.DisplayHelp error = Failure.Request error
-failure_by ErrorKind.DisplayVersion error = Failure.Request error
-failure_by _ error = Failure.Words error
-
-abbrev pub failure_in_words : Error → Failure
-failure_in_words error = failure_by (kind_of error) error
+abbrev pub failure_in_words : Refusal → Failure
+failure_in_words (Refusal.Request text) = Failure.Request text
+failure_in_words (Refusal.Words text) = Failure.Words text
+failure_in_words (Refusal.NoApplication name) = Failure.NoApplication name
+failure_in_words Refusal.TooManyApplications = Failure.TooManyApplications
+failure_in_words Refusal.OutOfMemory = Failure.OutOfMemory
 
 abbrev pub failure_at_boot : BootFault → Failure
 failure_at_boot BootFault.BadSizes = Failure.BadSizes
 failure_at_boot BootFault.Memory = Failure.OutOfMemory
 
-abbrev pub failure_in_run : MoteFault → Failure
-failure_in_run MoteFault.BadSizes = Failure.BadSizes
-failure_in_run MoteFault.Memory = Failure.OutOfMemory
-failure_in_run MoteFault.Read = Failure.Read
-failure_in_run MoteFault.Write = Failure.Write
+abbrev pub failure_in_run : RunFault → Failure
+failure_in_run RunFault.Read = Failure.Read
+failure_in_run RunFault.Write = Failure.Write

@@ -4,11 +4,10 @@ ghost use Rattle.std.specs.Prelude.{◌≡◌};
 ghost use Rattle.mote.specs.Statuses as statuses;
 ghost use Rattle.mote.specs.Statuses.{status_of_failure, status_of_outcome};
 
-use clap::Error;
-use clap::error::ErrorKind;
-use mote_kit::fault::MoteFault;
 use mote_run::End;
+use mote_run::run::RunFault;
 use mote_types::fault::BootFault;
+use mote_words::{ParserText, Refusal};
 use std::alloc::AllocFailed;
 use std::fmt;
 
@@ -19,9 +18,9 @@ pub enum Failure<'a> {
     /// A word is not text in UTF-8.
     NotText,
     /// The words ask for the help or the version: the text of it.
-    Request(Error),
+    Request(ParserText),
     /// The parser refuses the words: its text.
-    Words(Error),
+    Words(ParserText),
     /// No application has this name.
     NoApplication(&'a str),
     TooManyApplications,
@@ -81,16 +80,18 @@ impl<T: Drop> From<AllocFailed<T>> for Failure<'_> {
     }
 }
 
-impl From<Error> for Failure<'_> {
+impl<'a> From<Refusal<'a>> for Failure<'a> {
     ghost use Rattle.mote.specs.Statuses.{failure_in_words};
 
-    ghost from_gives = { λ error failure. failure ≡ failure_in_words error };
+    ghost from_gives = { λ refusal failure. failure ≡ failure_in_words refusal };
 
-    fn from(error: Error) -> Self {
-        match error.kind() {
-            ErrorKind::OutOfMemory => Failure::OutOfMemory,
-            ErrorKind::DisplayHelp | ErrorKind::DisplayVersion => Failure::Request(error),
-            _ => Failure::Words(error),
+    fn from(refusal: Refusal<'a>) -> Self {
+        match refusal {
+            Refusal::Request(text) => Failure::Request(text),
+            Refusal::Words(text) => Failure::Words(text),
+            Refusal::NoApplication(name) => Failure::NoApplication(name),
+            Refusal::TooManyApplications => Failure::TooManyApplications,
+            Refusal::OutOfMemory => Failure::OutOfMemory,
         }
     }
 }
@@ -108,17 +109,15 @@ impl From<BootFault> for Failure<'_> {
     }
 }
 
-impl From<MoteFault> for Failure<'_> {
+impl From<RunFault> for Failure<'_> {
     ghost use Rattle.mote.specs.Statuses.{failure_in_run};
 
     ghost from_gives = { λ fault failure. failure ≡ failure_in_run fault };
 
-    fn from(fault: MoteFault) -> Self {
+    fn from(fault: RunFault) -> Self {
         match fault {
-            MoteFault::BadSizes => Failure::BadSizes,
-            MoteFault::Memory => Failure::OutOfMemory,
-            MoteFault::Read => Failure::Read,
-            MoteFault::Write => Failure::Write,
+            RunFault::Read => Failure::Read,
+            RunFault::Write => Failure::Write,
         }
     }
 }

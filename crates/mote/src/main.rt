@@ -2,20 +2,20 @@
 #![tactic(auto)]
 
 ghost use Rattle.std.specs.Prelude.{◌≡◌, ◌≢◌, length, IfOk, IfErr};
-ghost use Rattle.clap.specs.Walk.{texts};
 ghost use Rattle.mote_run.specs.RunText.{WasBooted};
+ghost use Rattle.mote_words.specs.CommandLine.{texts};
 ghost use Rattle.mote.specs.CommandLine.{IsOutcome};
 ghost use Rattle.mote.specs.Statuses.{IsAnswerTo, IsRunFailure, IsStatus, status_of_outcome};
 ghost use Rattle.mote.specs.declared.failure.Failure.{Failure as Refused};
 
-mod command_line;
 mod failure;
 mod prepare;
 mod running;
 
 use failure::{Failure, status_of};
-use mote_kit::stream::{Input, Output};
 use mote_run::End;
+use mote_streams::{Input, Output};
+use mote_words::ParserText;
 use prepare::{Prepared, prepare};
 use running::run_prepared;
 use std::process::ExitCode;
@@ -31,12 +31,11 @@ fn run_streams<'a, R: AllocGlobal + io::Input + Print>(
 {
     let mut source = Input::new(rt.reader());
     let mut sink = Output::new(io::writer(rt));
-    let end = run_prepared(rt.alloc(), prepared, &mut source, &mut sink)?;
-    Ok(end)
+    run_prepared(rt.alloc(), prepared, &mut source, &mut sink)
 }
 
 /// Writes what the words asked for, the help or the version, to standard output.
-fn show<'a, R: Print>(rt: &R, text: &clap::Error) -> Result<End, Failure<'a>>
+fn show<'a, R: Print>(rt: &R, text: &ParserText) -> Result<End, Failure<'a>>
     ensures end { IfOk result (λ end. end ≡ End.Finished) }
     ensures failure { IfErr result (λ failure. failure ≡ Refused.Write) }
 {

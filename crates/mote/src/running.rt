@@ -1,14 +1,16 @@
 //! The run of a mote that is ready for it.
 
-ghost use Rattle.std.specs.Prelude.{◌≡◌, ◌≢◌, ◌<◌, ◌-◌, ◌^◌, ◌↔◌, false, length, IfOk, IfErr, OnErr, IsErrOf};
+ghost use Rattle.std.specs.Prelude.{◌≡◌, ◌<◌, ◌-◌, ◌^◌, ◌↔◌, false, length, IfOk, IfErr, OnErr, IsErrOf};
 ghost use Rattle.mote_types.specs.Applications.{says_of};
 ghost use Rattle.mote_apps.specs.Bundled.{bundled_says};
 ghost use Rattle.kernel_core.specs.declared.config.Config.{Config};
 ghost use Rattle.kernel_core.specs.Machine.{booted};
 ghost use Rattle.mote_run.specs.RunText.{HasRun, HasRunInPart, HasRunOnWholeLines, WasBooted};
+ghost use Rattle.mote.specs.Statuses.{IsRunFailure};
+ghost use Rattle.mote.specs.declared.failure.Failure.{Failure as Refused};
 
+use crate::failure::Failure;
 use crate::prepare::Prepared;
-use mote_kit::fault::MoteFault;
 use mote_run::End;
 use mote_run::run::run;
 use mote_types::app::App;
@@ -20,15 +22,15 @@ use std::alloc::Global;
 ///
 /// # Errors
 ///
-/// `Read` and `Write` exactly where that device failed, else `Memory`. What was written is a front part of the text then, and
+/// `Read` and `Write` exactly where that device failed, else `OutOfMemory`. What was written is a front part of the text then, and
 /// after `Read` all of the text of the whole lines that were read.
 #[tactic(auto, using(crate::proofs::Boxed::nothing_ran))]
-pub fn run_prepared<S: ByteSource, K: ByteSink>(
+pub fn run_prepared<'a, S: ByteSource, K: ByteSink>(
     alloc: Global,
     prepared: Prepared,
     source: &mut S,
     sink: &mut K,
-) -> Result<End, MoteFault>
+) -> Result<End, Failure<'a>>
     requires booted { WasBooted prepared.kernel (length prepared.applications.items) }
     requires unended { S.is_ended source.old ≡ false }
     requires countable_reads { S.failure_count source.old < 2 ^ 64 - 1 }
@@ -37,11 +39,11 @@ pub fn run_prepared<S: ByteSource, K: ByteSink>(
         HasRun config (says_of bundled_says prepared.applications.items) prepared.quiet (S.taken source.old) (S.taken source.new) (S.is_ended source.new) (K.given sink.old) (K.given sink.new) end) }
     ensures front { OnErr result (S.is_named → K.is_named → (config : Config) → prepared.kernel.machine ≡ booted config →
         HasRunInPart config (says_of bundled_says prepared.applications.items) prepared.quiet (S.taken source.old) (S.taken source.new) (S.is_ended source.new) (K.given sink.old) (K.given sink.new)) }
-    ensures after_read_fault { IsErrOf result MoteFault.Read → S.is_named → K.is_named → (config : Config) → prepared.kernel.machine ≡ booted config →
+    ensures after_read_fault { IsErrOf result Refused.Read → S.is_named → K.is_named → (config : Config) → prepared.kernel.machine ≡ booted config →
         HasRunOnWholeLines config (says_of bundled_says prepared.applications.items) prepared.quiet (S.taken source.old) (S.taken source.new) (K.given sink.old) (K.given sink.new) }
-    ensures fault { IfErr result (λ fault. fault ≢ MoteFault.BadSizes) }
-    ensures read_fault { IsErrOf result MoteFault.Read ↔ (S.failure_count source.old < S.failure_count source.new) }
-    ensures write_fault { IsErrOf result MoteFault.Write ↔ (K.failure_count sink.old < K.failure_count sink.new) }
+    ensures failure { IfErr result IsRunFailure }
+    ensures read_fault { IsErrOf result Refused.Read ↔ (S.failure_count source.old < S.failure_count source.new) }
+    ensures write_fault { IsErrOf result Refused.Write ↔ (K.failure_count sink.old < K.failure_count sink.new) }
 {
     let mut boxes: Vec<Box<dyn App>> = Vec::new(alloc);
     for application in prepared.applications {

@@ -4,9 +4,9 @@
 pub mod fault;
 pub mod mote;
 pub mod script;
-pub mod stream;
 pub mod transcript;
 
+pub use mote_streams as stream;
 pub use mote_types::app::App;
 
 /// A list of boxes with these applications, which are processes 4, 5, .. in this order. It stands in a function that

@@ -71,12 +71,11 @@ module _ {config : Config} {says now : Applications} {quiet : Bool} {machine : M
       }
 
   -- a write failed before the mote came to rest after this input
-  pub input_cut_off : (input : Input) (is_ended : Bool) (given_later : List ℕ) (handed : Machine) → machine.is_halted ≡ false →
-      handed ≡ fed input machine →
+  pub input_cut_off : (input : Input) (is_ended : Bool) (given_later : List ℕ) → machine.is_halted ≡ false →
       ((more : List ℕ) → (is_ended ≡ true → more ≡ []) → (later : List Input) × ((inputs (read i ++ more)).0 ≡ i.earlier ++ (input ∷ later))) →
-      CutOff says quiet i.entries handed given_new due given_later →
+      CutOff says quiet i.entries (fed input machine) given_new due given_later →
       HasRunInPart config says quiet taken_old taken_new is_ended given_old given_later
-  input_cut_off input is_ended given_later handed running hands gives cut =
+  input_cut_off input is_ended given_later running gives cut =
       let w : WritesOn given_old [] given_later cut.lost (lines quiet (i.entries ++ cut.entries)) = rw (lines-append quiet i.entries cut.entries) (then_written i.written cut.written) in record {
         bytes = read i;
         out = w.out;
@@ -88,7 +87,7 @@ module _ {config : Config} {says now : Applications} {quiet : Bool} {machine : M
             let at_input = i.inward (input ∷ g.0) is_text.last (rw g.1 at is_text.runs) in
             let same : at_input.0 ≡ here = still_rest says here at_input.0 i.still at_input.1 in
             let fed_runs : Runs says (with_input input here) g.0 is_text.last = rw same at (at_input.3 (rw same running)) in
-            let runs = run_from says (with_input input here) from is_text.last g.0 cut.count (rw hands at cut.walked) fed_runs in
+            let runs = run_from says (with_input input here) from is_text.last g.0 cut.count cut.walked fed_runs in
             front_of_text quiet (i.entries ++ cut.entries) given_old given_later cut.lost from is_text.last whole (final_line end) refl
             (run_extends says g.0 from is_text.last runs) is_text.is_text w;
       }

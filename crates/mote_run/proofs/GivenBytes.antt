@@ -1,14 +1,15 @@
--- A line that is read as a frame gives at least one byte.
-use Rattle.std.proofs.Common.{◌≡◌, ℕ, ◌*◌, Bool, true, false, cond, List, length, refl, ap, subst, sym, arith}
+-- A line that is read as a frame gives at least one byte, and one that is read as a tick a number below 2 ^ 32.
+use Rattle.std.proofs.Common.{◌≡◌, ℕ, ◌*◌, ◌<◌, ◌^◌, Bool, true, false, cond, List, length, refl, ap, subst, sym, arith}
 use Rattle.std.specs.Prelude.{Option, Some, None, Result, Ok, Err, option_map, option_and_then, nat_le, nat_lt, unwrap_or, codes, ◌&&◌}
 use Rattle.std.specs.Option.{option_or}
 use Rattle.std.specs.Result.{result_ok}
+use Rattle.std.specs.Str.Parse.{digits_value}
 use Rattle.std.proofs.lemmas.Bool.Decides.{nat_tests}
 use Rattle.hex.specs.Hex.{decode_of}
 use Rattle.hex.proofs.HexLemmas.{decode_of-ok}
 use Rattle.mote_types.specs.declared.entry.Input.{Input}
-use Rattle.mote_text.specs.Script.{argument_of, read_bytes, read_number, read_frame, read_line, read_serial, read_tick, read_words, line_limit, says_nothing}
-use Rattle.kernel_core.specs.Inputs.{has_bytes}
+use Rattle.mote_text.specs.Script.{argument_of, is_number, read_bytes, read_number, read_frame, read_line, read_serial, read_tick, read_words, line_limit, says_nothing}
+use Rattle.kernel_core.specs.Inputs.{has_bytes, ticks_of}
 use Rattle.mote_text.specs.declared.lines.Taken.{Taken}
 use Rattle.mote_run.specs.Code.Reading.{Took, said}
 
@@ -50,36 +51,46 @@ some_bytes most digits bytes e =
     let size : length digits ≡ 2 * length bytes = (decode_of-ok digits bytes (ok_gives (decode_of digits) bytes t.1)).2 in
     grind (arith, nat_tests, least, size)
 
-words_give : (line : List ℕ) (input : Input) → read_words line ≡ Some input → has_bytes input ≡ true
-words_give line =
-    let Has : Input → Type 0 = λ input. has_bytes input ≡ true in
-    either_gives Has (read_tick line) (option_or (read_serial line) (read_frame line))
-    (mapped_gives (λ n. Input.Tick n) Has (option_and_then read_number (argument_of (codes "tick ") line)) (λ n e. refl))
-    (either_gives Has (read_serial line) (read_frame line)
-    (mapped_gives (λ bytes. Input.Serial (record { items = bytes })) Has (option_and_then (read_bytes 256) (argument_of (codes "serial ") line)) (λ bytes e. refl))
-    (mapped_gives (λ bytes. Input.Frame (record { items = bytes })) Has (option_and_then (read_bytes 127) (argument_of (codes "frame ") line))
-    (then_gives (read_bytes 127) (λ bytes. nat_lt 0 (length bytes) ≡ true) (argument_of (codes "frame ") line)
-    (λ digits bytes e. some_bytes 127 digits bytes e))))
+small_number : (text : List ℕ) (n : ℕ) → read_number text ≡ Some n → n < 2 ^ 32
+small_number text n e =
+    let t = test_gives (is_number text && nat_lt (digits_value 10 text) (2 ^ 32)) (Some (digits_value 10 text)) n e in
+    let same : digits_value 10 text ≡ n = ap (λ o. unwrap_or o 0) t.1 in
+    grind (arith, nat_tests, t.0, same)
 
--- whatever input a line gives has a byte, if it is a frame
-pub input_has_bytes : (line : List ℕ) (input : Input) → read_line line ≡ Some (Some input) → has_bytes input ≡ true
+-- what can be handed in
+abbrev pub CanBeFed : Input → Type 0
+CanBeFed input = (has_bytes input ≡ true) × (ticks_of input < 2 ^ 32)
+
+words_give : (line : List ℕ) (input : Input) → read_words line ≡ Some input → CanBeFed input
+words_give line =
+    let Has : Input → Type 0 = λ input. CanBeFed input in
+    either_gives Has (read_tick line) (option_or (read_serial line) (read_frame line))
+    (mapped_gives (λ n. Input.Tick n) Has (option_and_then read_number (argument_of (codes "tick ") line))
+    (then_gives read_number (λ n. (true ≡ true) × (n < 2 ^ 32)) (argument_of (codes "tick ") line) (λ text n e. (refl, small_number text n e))))
+    (either_gives Has (read_serial line) (read_frame line)
+    (mapped_gives (λ bytes. Input.Serial (record { items = bytes })) Has (option_and_then (read_bytes 256) (argument_of (codes "serial ") line)) (λ bytes e. (refl, omega arith)))
+    (mapped_gives (λ bytes. Input.Frame (record { items = bytes })) Has (option_and_then (read_bytes 127) (argument_of (codes "frame ") line))
+    (then_gives (read_bytes 127) (λ bytes. (nat_lt 0 (length bytes) ≡ true) × (0 < 2 ^ 32)) (argument_of (codes "frame ") line)
+    (λ digits bytes e. (some_bytes 127 digits bytes e, omega arith)))))
+
+pub input_can_be_fed : (line : List ℕ) (input : Input) → read_line line ≡ Some (Some input) → CanBeFed input
 unfolding read_line
-input_has_bytes line input e =
+input_can_be_fed line input e =
     let none : (None ≡ Some (Some input)) → ⊥ = λ h. absurd (cc) in
     let nothing : (Some None ≡ Some (Some input)) → ⊥ = λ h. absurd (let inner : None ≡ Some input = ap (λ o. unwrap_or o None) h in cc) in
     let spoken = else_gives (says_nothing line) (Some None) (option_map (λ x. Some x) (read_words line)) (Some input) nothing
     (else_gives (nat_lt line_limit (length line)) None _ (Some input) none e) in
-    mapped_gives (λ x. Some x) (λ o. (x : Input) → o ≡ Some x → has_bytes x ≡ true) (read_words line)
+    mapped_gives (λ x. Some x) (λ o. (x : Input) → o ≡ Some x → CanBeFed x) (read_words line)
     (λ x h. λ y same. words_give line y (let g : Some x ≡ Some y = same in rw (← g) h)) (Some input) spoken input refl
 
--- and so does the input of a line that a take ended
-pub said_input_has_bytes : (last : Taken) (bytes : List ℕ) (input : Input) → said last bytes ≡ Some (Some input) → has_bytes input ≡ true
-said_input_has_bytes Taken.Line bytes input says = input_has_bytes bytes input says
-said_input_has_bytes Taken.More bytes input says = absurd (let e : None ≡ Some input = ap (λ o. unwrap_or o None) says in cc)
-said_input_has_bytes Taken.TooWide bytes input says = absurd (cc)
+-- and so can the input of a line that a take ended
+said_can_be_fed : (last : Taken) (bytes : List ℕ) (input : Input) → said last bytes ≡ Some (Some input) → CanBeFed input
+said_can_be_fed Taken.Line bytes input says = input_can_be_fed bytes input says
+said_can_be_fed Taken.More bytes input says = absurd (let e : None ≡ Some input = ap (λ o. unwrap_or o None) says in cc)
+said_can_be_fed Taken.TooWide bytes input says = absurd (cc)
 
-pub took_input_has_bytes : {line piece line_later later : List ℕ} {count count_later number number_later : ℕ} (input : Input) →
-    Took line piece line_later later count count_later number number_later (Ok (Some input)) → has_bytes input ≡ true
-took_input_has_bytes input t =
+pub took_can_be_fed : {line piece line_later later : List ℕ} {count count_later number number_later : ℕ} {input : Input} →
+    Took line piece line_later later count count_later number number_later (Ok true) input → CanBeFed input
+took_can_be_fed {input = input} t =
     let says : said t.last t.bytes ≡ Some (Some input) = sym t.says_so in
-    said_input_has_bytes t.last t.bytes input says
+    said_can_be_fed t.last t.bytes input says

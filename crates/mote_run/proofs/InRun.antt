@@ -1,10 +1,9 @@
 -- How a run goes on from one part of its script to the next, and how it ends.
 use Rattle.std.proofs.Common.{◌≡◌, ◌+◌, ◌-◌, ℕ, Bool, true, false, List, [], ◌∷◌, ◌++◌, length, refl, ap, sym, ◌∙◌, append_assoc, length-append, ◌≤◌, ◌==◌, arith}
-use Rattle.std.specs.Prelude.{Option, Some, None, Ok, Err}
+use Rattle.std.specs.Prelude.{Some, None, Ok, Err}
 use Rattle.std.proofs.lemmas.List.{append-nil}
 use Rattle.mote_types.specs.Applications.{Applications}
 use Rattle.mote_types.specs.declared.entry.Input.{Input}
-use Rattle.mote_types.specs.declared.refusal.Refusal.{Refusal}
 use Rattle.mote_text.specs.Lines.{unfinished_after, with_end}
 use Rattle.mote_text.specs.Script.{inputs, read_line, script_limit}
 use Rattle.mote_text.specs.declared.lines.Taken.{Taken}
@@ -14,15 +13,14 @@ use Rattle.mote_text.proofs.Bytewise.{read_on}
 use Rattle.mote_text.proofs.Reading.{Before, ends_with_input, ends_with_no_form, ends_with_nothing, start}
 use Rattle.kernel_core.specs.declared.config.Config.{Config}
 use Rattle.kernel_core.specs.Machine.{Machine, booted}
-use Rattle.kernel_core.specs.Inputs.{fed, frame_held, frame_refusal, held_unless_lost}
+use Rattle.kernel_core.specs.Inputs.{fed}
 use Rattle.kernel_core.specs.Run.{Running, Runs, ComesToRest, after_steps, at_start, is_still, with_input}
-use Rattle.device_core.specs.PacketQueue.{free_slot}
 use Rattle.mote_run.specs.RunText.{HasRunOnWholeLines, script_done}
 use Rattle.mote_run.specs.Code.Between.{HasEnded, InRun}
 use Rattle.mote_run.specs.Code.Reading.{GoesOn, TakenPart, Took, number_after, said}
 use Rattle.mote_run.specs.Code.Settling.{Settled, lines}
 use Rattle.mote_run.specs.Code.Writing.{WritesOn}
-use Rattle.mote_run.proofs.Settling.{lines-append, steps_after}
+use Rattle.mote_run.proofs.Settling.{fed_halts, lines-append, steps_after}
 use Rattle.mote_run.proofs.Determined.{run_from, still_rest}
 use Rattle.mote_run.proofs.NextPart.{beyond_limit, ended_by, endless_after, in_line, input_said, narrow_after, no_form_said, nothing_said, parted, sizes}
 use Rattle.mote_run.proofs.Writing.{then_flushed, then_written}
@@ -41,21 +39,6 @@ pub resting_runs : (says : Applications) (x : Running) (later : List Input) → 
     (x.machine.is_halted ≡ false → later ≡ []) → Runs says x later x
 resting_runs says x [] still h = (0, refl, still)
 resting_runs says x (input ∷ later) still h = (x, (0, refl, still), (λ s. refl), λ s. absurd (let e = h s in cc))
-
-frame_halts : (slot : Option ℕ) (bytes : List ℕ) (m : Machine) → m.is_halted ≡ (frame_held slot bytes m).is_halted
-frame_halts None bytes m = refl
-frame_halts (Some slot) bytes m = refl
-
-held_halts : (refusal : Option Refusal) (bytes : List ℕ) (m : Machine) → m.is_halted ≡ (held_unless_lost refusal bytes m).is_halted
-held_halts (Some refusal) bytes m = refl
-held_halts None bytes m = frame_halts (free_slot m.packets) bytes m
-
--- an input halts nothing
-fed_halts : (m : Machine) (input : Input) → m.is_halted ≡ (fed input m).is_halted
-fed_halts m (Input.Tick n) = refl
-fed_halts m (Input.Serial bytes) = refl
-fed_halts m (Input.Frame bytes) =
-    let woken : Machine = record m { work = 0 } in held_halts (frame_refusal (length bytes.items) woken) bytes.items woken
 
 pub in_run_start : (config : Config) (says now : Applications) (quiet : Bool) (old machine : Machine) (taken given_old given_new due_old due : List ℕ) →
     old ≡ booted config → due_old ≡ [] → Settled says quiet [] old machine now given_old due_old given_new due → is_still machine ≡ true →
@@ -163,29 +146,28 @@ module _ {config : Config} {says now : Applications} {quiet : Bool} {machine : M
     }
 
     -- they end a line with an input, which was carried out
-    pub in_run_input : (input : Input) (handed new : Machine) (now' : Applications) (given_later due_later : List ℕ) →
-        said last bytes ≡ Some (Some input) → machine.is_halted ≡ false → handed ≡ fed input machine →
-        Settled says quiet i.entries handed new now' given_new due given_later due_later → is_still new ≡ true →
+    pub in_run_input : (input : Input) (new : Machine) (now' : Applications) (given_later due_later : List ℕ) →
+        said last bytes ≡ Some (Some input) → machine.is_halted ≡ false →
+        Settled says quiet i.entries (fed input machine) new now' given_new due given_later due_later → is_still new ≡ true →
         InRun config says now' quiet new taken_old taken_new given_old given_later due_later later count_later (number_after last number) (unfinished_after last bytes)
-    in_run_input input handed new now' given_later due_later says_input running hands settles still =
-        let settled : Settled says quiet i.entries (fed input machine) new now' given_new due given_later due_later = rw hands at settles in record {
-          entries = i.entries ++ settled.entries;
-          ended = i.ended ++ ended_by last bytes;
-          earlier = i.earlier ++ input ∷ [];
-          told = settled.told;
-          taken = i.taken ∙ (ap (λ v. taken_old ++ v) (all_read ∙ parted last bytes i.ended later));
-          written = rw (lines-append quiet i.entries settled.entries) (then_written i.written settled.written);
-          size = sizes last bytes i.ended ∙ size_used;
-          before = input_said i.before last bytes input room_used t.narrow t.endless says_input;
-          narrow = narrow_after last bytes t.narrow;
-          endless = endless_after last bytes t.endless;
-          still = still;
-          halts = settled.halts (i.halts ∙ fed_halts machine input);
-          onward = λ rest_inputs w runs. rw (append_assoc i.earlier (input ∷ []) rest_inputs) (input_onward input rest_inputs new now' given_later due_later w running settled runs);
-          inward = λ rest_inputs w runs.
-              run_from says (with_input input here) (record { machine = new; entries = i.entries ++ settled.entries }) w rest_inputs settled.count settled.walked
-              (input_inward input rest_inputs w running (rw (append_assoc i.earlier (input ∷ []) rest_inputs) at runs));
-        }
+    in_run_input input new now' given_later due_later says_input running settled still = record {
+      entries = i.entries ++ settled.entries;
+      ended = i.ended ++ ended_by last bytes;
+      earlier = i.earlier ++ input ∷ [];
+      told = settled.told;
+      taken = i.taken ∙ (ap (λ v. taken_old ++ v) (all_read ∙ parted last bytes i.ended later));
+      written = rw (lines-append quiet i.entries settled.entries) (then_written i.written settled.written);
+      size = sizes last bytes i.ended ∙ size_used;
+      before = input_said i.before last bytes input room_used t.narrow t.endless says_input;
+      narrow = narrow_after last bytes t.narrow;
+      endless = endless_after last bytes t.endless;
+      still = still;
+      halts = settled.halts (i.halts ∙ fed_halts machine input);
+      onward = λ rest_inputs w runs. rw (append_assoc i.earlier (input ∷ []) rest_inputs) (input_onward input rest_inputs new now' given_later due_later w running settled runs);
+      inward = λ rest_inputs w runs.
+          run_from says (with_input input here) (record { machine = new; entries = i.entries ++ settled.entries }) w rest_inputs settled.count settled.walked
+          (input_inward input rest_inputs w running (rw (append_assoc i.earlier (input ∷ []) rest_inputs) at runs));
+    }
 
     -- the line that they end, or go on, has no form
     pub gives_no_form : (last ≡ Taken.TooWide → GoesOn (length i.ended) bytes later) → said last bytes ≡ None → (more : List ℕ) →
@@ -286,12 +268,11 @@ module _ {config : Config} {says now : Applications} {quiet : Bool} {machine : M
       }
 
   -- the script's end ended the last line, whose input was carried out
-  pub in_run_ends_with_input : (input : Input) (handed new : Machine) (now' : Applications) (given_later due_later : List ℕ) → machine.is_halted ≡ false →
-      count ≤ script_limit → rest ≡ [] → handed ≡ fed input machine → read_line line ≡ Some (Some input) →
-      Settled says quiet i.entries handed new now' given_new due given_later due_later → is_still new ≡ true →
+  pub in_run_ends_with_input : (input : Input) (new : Machine) (now' : Applications) (given_later due_later : List ℕ) → machine.is_halted ≡ false →
+      count ≤ script_limit → rest ≡ [] → read_line line ≡ Some (Some input) →
+      Settled says quiet i.entries (fed input machine) new now' given_new due given_later due_later → is_still new ≡ true →
       HasEnded config says quiet taken_old taken_new true given_old given_later due_later (script_done new)
-  in_run_ends_with_input input handed new now' given_later due_later running few none hands says_input settles still =
-      let settled : Settled says quiet i.entries (fed input machine) new now' given_new due given_later due_later = rw hands at settles in
+  in_run_ends_with_input input new now' given_later due_later running few none says_input settled still =
       let gives = ends_with_input (in_present_line few) input says_input in record {
         bytes = read;
         so_far = lines quiet (i.entries ++ settled.entries);
@@ -310,29 +291,29 @@ module _ {config : Config} {says now : Applications} {quiet : Bool} {machine : M
       }
 
   -- the same of what a take answered
-  module _ {line_later later : List ℕ} {count_later number_later : ℕ} where
-    pub in_run_took_nothing : Took line rest line_later later count count_later number number_later (Ok None) →
+  module _ {line_later later : List ℕ} {count_later number_later : ℕ} {input : Input} where
+    pub in_run_took_nothing : Took line rest line_later later count count_later number number_later (Ok false) input →
         InRun config says now quiet machine taken_old taken_new given_old given_new due later count_later number_later line_later
     in_run_took_nothing t =
         let numbered : number_later ≡ number_after t.last number = t.numbered in
         let nothing : said t.last t.bytes ≡ Some None = sym t.says_so in
         rw (numbered, t.begun) (in_run_nothing t.part nothing)
 
-    module _ (input : Input) (t : Took line rest line_later later count count_later number number_later (Ok (Some input))) where
+    module _ (t : Took line rest line_later later count count_later number number_later (Ok true) input) where
       says_input : said t.last t.bytes ≡ Some (Some input)
       says_input = sym t.says_so
 
-      pub in_run_took_input : (handed new : Machine) (now' : Applications) (given_later due_later : List ℕ) → machine.is_halted ≡ false → handed ≡ fed input machine →
-          Settled says quiet i.entries handed new now' given_new due given_later due_later → is_still new ≡ true →
+      pub in_run_took_input : (new : Machine) (now' : Applications) (given_later due_later : List ℕ) → machine.is_halted ≡ false →
+          Settled says quiet i.entries (fed input machine) new now' given_new due given_later due_later → is_still new ≡ true →
           InRun config says now' quiet new taken_old taken_new given_old given_later due_later later count_later number_later line_later
-      in_run_took_input handed new now' given_later due_later running hands settles still =
+      in_run_took_input new now' given_later due_later running settled still =
           let numbered : number_later ≡ number_after t.last number = t.numbered in
-          rw (numbered, t.begun) (in_run_input t.part input handed new now' given_later due_later says_input running hands settles still)
+          rw (numbered, t.begun) (in_run_input t.part input new now' given_later due_later says_input running settled still)
 
       pub inputs_from_took : (more : List ℕ) → (later_inputs : List Input) × ((inputs (read ++ more)).0 ≡ i.earlier ++ (input ∷ later_inputs))
       inputs_from_took more = inputs_from t.part input says_input more
 
-    pub ends_without_form : {fault : BadLine} → Took line rest line_later later count count_later number number_later (Err fault) → (is_ended : Bool) →
+    pub ends_without_form : {fault : BadLine} → Took line rest line_later later count count_later number number_later (Err fault) input → (is_ended : Bool) →
         machine.is_halted ≡ false → HasEnded config says quiet taken_old taken_new is_ended given_old given_new due (End.BadLine number_later)
     ends_without_form t is_ended running =
         let same : number_later ≡ number = t.same_number in

@@ -1,7 +1,6 @@
 -- The script as far as its bytes were used, after a take of more of them.
 use Rattle.std.proofs.Common.{◌≡◌, ◌≢◌, ◌<◌, ◌≤◌, ◌+◌, ℕ, true, false, List, [], ◌∷◌, ◌++◌, length, take, drop, ◌-◌, refl, ap, sym, ◌∙◌, arith, append_assoc, length-append, ne_eqb, not, ◌==◌}
-use Rattle.std.specs.Prelude.{Bool, IfOk, OnErr, OnOk, Option, Some, None, Result, Ok, Err, unwrap_or, ◌&&◌}
-use Rattle.std.specs.Result.{result_ok}
+use Rattle.std.specs.Prelude.{Bool, OnErr, OnOk, Some, None, Result, Ok, Err, unwrap_or, ◌&&◌}
 use Rattle.std.proofs.lemmas.List.{append-nil, length-take, length-take-le}
 use Rattle.std.proofs.lemmas.List.Folds.{list_all-append}
 use Rattle.mote_types.specs.declared.entry.Input.{Input}
@@ -70,11 +69,6 @@ goes_on line piece window later count used ended bytes front rests limit size fu
       is = rests ∙ next.1.1;
       other = at.2;
     }
-
-not_wide : (last : Taken) (bytes : List ℕ) (says : Option Input) → said last bytes ≡ Some says → last ≢ Taken.TooWide
-not_wide Taken.Line bytes says e = λ is. absurd (cc)
-not_wide Taken.More bytes says e = λ is. absurd (cc)
-not_wide Taken.TooWide bytes says e = λ is. absurd (cc)
 
 both : (a b : Bool) → (a && b) ≡ true → (a ≡ true) × (b ≡ true)
 both true b h = (refl, h)
@@ -173,27 +167,17 @@ pub some_left : (rest : List ℕ) → (length rest == 0) ≡ false → 0 < lengt
 some_left [] h = absurd (cc)
 some_left (byte ∷ rest) h = omega arith
 
--- what a take answers is what the bytes say that it used
-pub says_of_result : (r : Result (Option Input) BadLine) (says : Option (Option Input)) → IfOk r (λ input. says ≡ Some input) → OnErr r (says ≡ None) → result_ok r ≡ says
-says_of_result (Ok input) says is none = sym is
-says_of_result (Err fault) says is none = sym none
-
-pub some_used : (r : Result (Option Input) BadLine) (count used : ℕ) (piece window : List ℕ) → window ≡ take (16_777_216 - count) piece → count < 16_777_216 →
+pub some_used : (r : Result Bool BadLine) (count used : ℕ) (piece window : List ℕ) → window ≡ take (16_777_216 - count) piece → count < 16_777_216 →
     0 < length piece → OnOk r (0 < length window → 0 < used) → OnOk r (count < count + used)
-some_used (Ok input) count used piece window is room rest some =
+some_used (Ok is_input) count used piece window is room rest some =
     let used_some = some (rw is (omega (arith, room, rest, length-take (16_777_216 - count) piece))) in
     omega (arith, used_some)
 some_used (Err fault) count used piece window is room rest some = tt
 
 -- the number of a line is at most one more than the number of bytes before it
-pub number_small : (r : Result (Option Input) BadLine) (last : Taken) (number number_later count used : ℕ) → number ≤ count + 1 → OnOk r (count < count + used) →
+pub number_small : (r : Result Bool BadLine) (last : Taken) (number number_later count used : ℕ) → number ≤ count + 1 → OnOk r (count < count + used) →
     OnOk r (number_later ≡ number_after last number) → OnErr r (number_later ≡ number) → number_later ≤ count + used + 1
-number_small (Ok input) Taken.Line number number_later count used small some after same = omega (arith, small, some, after)
-number_small (Ok input) Taken.More number number_later count used small some after same = omega (arith, small, some, after)
-number_small (Ok input) Taken.TooWide number number_later count used small some after same = omega (arith, small, some, after)
+number_small (Ok is_input) Taken.Line number number_later count used small some after same = omega (arith, small, some, after)
+number_small (Ok is_input) Taken.More number number_later count used small some after same = omega (arith, small, some, after)
+number_small (Ok is_input) Taken.TooWide number number_later count used small some after same = omega (arith, small, some, after)
 number_small (Err fault) last number number_later count used small some after same = omega (arith, small, same)
-
--- a line that has a form is not too wide
-pub narrow_of_result : (r : Result (Option Input) BadLine) (last : Taken) (bytes : List ℕ) → IfOk r (λ input. said last bytes ≡ Some input) → OnOk r (last ≢ Taken.TooWide)
-narrow_of_result (Ok input) last bytes says = not_wide last bytes input says
-narrow_of_result (Err fault) last bytes says = tt

@@ -27,6 +27,11 @@ pub ended_with : {T E : Type 0} {Q : Type 0} (P : T → Type 0) (r : Result T E)
 ended_with P (Ok x) value is q f = subst P (sym is) (f q)
 ended_with P (Err e) value is q f = tt
 
+-- a success after which this holds
+pub succeeded_with : {T E Q P : Type 0} (r : Result T E) → OnOk r Q → (Q → P) → OnOk r P
+succeeded_with (Ok value) q f = f q
+succeeded_with (Err e) q f = tt
+
 -- a failure after which this holds
 pub failed_with : {T E Q P : Type 0} (r : Result T E) → OnErr r Q → (Q → P) → OnErr r P
 failed_with (Ok value) q f = tt

@@ -1,5 +1,5 @@
 -- Steps of the kernel, as steps of the run.
-use Rattle.std.proofs.Common.{◌≡◌, ℕ, zero, suc, Bool, List, [], ◌∷◌, ◌++◌, refl, ap, sym, ◌∙◌, append_assoc}
+use Rattle.std.proofs.Common.{◌≡◌, ℕ, zero, suc, Bool, false, List, [], length, Option, Some, None, ◌∷◌, ◌++◌, refl, ap, sym, ◌∙◌, append_assoc}
 use Rattle.std.specs.Prelude.{flat_map, ◌||◌}
 use Rattle.std.specs.List.{list_any}
 use Rattle.std.proofs.lemmas.List.{append-nil}
@@ -9,13 +9,17 @@ use Rattle.std.proofs.Math.Path.{fun_ext}
 use Rattle.std.proofs.lemmas.Grind.{flat_map-append}
 use Rattle.mote_types.specs.declared.event.Stimulus.{Stimulus}
 use Rattle.mote_types.specs.declared.entry.Entry.{Entry}
+use Rattle.mote_types.specs.declared.entry.Input.{Input}
+use Rattle.mote_types.specs.declared.refusal.Refusal.{Refusal}
 use Rattle.mote_types.specs.Applications.{Applications}
 use Rattle.mote_types.specs.Entries.{is_halt}
 use Rattle.mote_text.specs.EntryText.{entry_line}
 use Rattle.mote_text.specs.Transcript.{is_shown, shown}
 use Rattle.kernel_core.specs.declared.step.Step.{Step}
+use Rattle.kernel_core.specs.Inputs.{fed, frame_held, frame_refusal, held_unless_lost}
 use Rattle.kernel_core.specs.Machine.{Machine}
 use Rattle.kernel_core.specs.Run.{Silently, MakesEntry, GoesOn, Running, made, heard, stimulus_of, answers_after, after_step, after_steps}
+use Rattle.device_core.specs.PacketQueue.{free_slot}
 use Rattle.mote_run.specs.Code.Settling.{CutOff, IsTold, Settled, lines}
 use Rattle.mote_run.specs.Code.Writing.{WritesOn}
 use Rattle.mote_run.proofs.Writing.{nothing_more, then_written}
@@ -61,6 +65,22 @@ made_steps says entries old new Step.Rest goes =
     (goes.before.count, silent_steps says entries goes.before.count old new goes.before.steps ∙ rw append-nil refl)
 made_steps says entries old new Step.Halted goes = (0, rw (goes.1, append-nil) refl)
 
+-- the same, where the applications were told these entries
+made_when_told : (says now : Applications) (entries : List Entry) (old new : Machine) (step : Step) → IsTold says entries now →
+    GoesOn (λ p stimulus. now p (stimulus ∷ [])) old step new →
+    (k : ℕ) × (after_steps says k (record { machine = old; entries = entries }) ≡ record { machine = new; entries = entries ++ made step })
+made_when_told says now entries old new step told goes =
+    let same : (λ p stimulus. now p (stimulus ∷ [])) ≡ answers_after says entries = fun_ext (λ p. fun_ext (λ stimulus. told.each p stimulus [])) in
+    made_steps says entries old new step (rw same at goes)
+
+-- some steps, and then these
+steps_on : (says : Applications) (old mid : Running) (new : Machine) (entries all : List Entry) (n k : ℕ) → after_steps says n old ≡ mid →
+    after_steps says k mid ≡ record { machine = new; entries = entries } → entries ≡ all →
+    (j : ℕ) × (after_steps says j old ≡ record { machine = new; entries = all })
+steps_on says old mid new entries all n k so_far more same =
+    let j = steps_after says n k old in
+    (j.0, j.1 ∙ (ap (after_steps says k) so_far ∙ (more ∙ ap (λ v. record { machine = new; entries = v }) same)))
+
 told_more : (says now : Applications) (entries : List Entry) (p : ℕ) (told : List Stimulus) (next : Stimulus) (later : List Stimulus) →
     IsTold says entries now → now p (told ++ (next ∷ later)) ≡ says p (heard p entries ++ (told ++ (next ∷ later)))
 told_more says now entries p [] next later is_told = is_told.each p next later
@@ -101,17 +121,73 @@ pub settled_more : (says now later : Applications) (quiet : Bool) (before : List
     WritesOn given₁ due₁ given₂ due₂ (lines quiet (made step)) →
     Settled says quiet before old new later given₀ due₀ given₂ due₂
 settled_more says now later quiet before old mid new given₀ due₀ given₁ due₁ given₂ due₂ step so_far goes law halted written =
-    let same : (λ p stimulus. now p (stimulus ∷ [])) ≡ answers_after says (before ++ so_far.entries) =
-    fun_ext (λ p. fun_ext (λ stimulus. so_far.told.each p stimulus [])) in
-    let k = made_steps says (before ++ so_far.entries) mid new step (rw same at goes) in
-    let j = steps_after says so_far.count k.0 (record { machine = old; entries = before }) in
+    let all : (before ++ so_far.entries) ++ made step ≡ before ++ (so_far.entries ++ made step) = append_assoc before so_far.entries (made step) in
+    let k = made_when_told says now (before ++ so_far.entries) mid new step so_far.told goes in
+    let j = steps_on says (record { machine = old; entries = before }) (record { machine = mid; entries = before ++ so_far.entries }) new
+    ((before ++ so_far.entries) ++ made step) (before ++ (so_far.entries ++ made step)) so_far.count k.0 so_far.walked k.1 all in
     record {
       entries = so_far.entries ++ made step;
       count = j.0;
-      walked = j.1 ∙ (ap (after_steps says k.0) so_far.walked ∙ (k.1 ∙ rw (append_assoc before so_far.entries (made step)) refl));
-      told = rw (append_assoc before so_far.entries (made step)) at (told_after says now later (before ++ so_far.entries) (made step) so_far.told law);
+      walked = j.1;
+      told = rw all at (told_after says now later (before ++ so_far.entries) (made step) so_far.told law);
       written = rw (lines-append quiet so_far.entries (made step)) (then_written so_far.written written);
       halts = halts_more says before so_far.entries (made step) old.is_halted mid.is_halted new.is_halted so_far.halts halted;
+    }
+
+frame_halts : (slot : Option ℕ) (bytes : List ℕ) (m : Machine) → m.is_halted ≡ (frame_held slot bytes m).is_halted
+frame_halts None bytes m = refl
+frame_halts (Some slot) bytes m = refl
+
+held_halts : (refusal : Option Refusal) (bytes : List ℕ) (m : Machine) → m.is_halted ≡ (held_unless_lost refusal bytes m).is_halted
+held_halts (Some refusal) bytes m = refl
+held_halts None bytes m = frame_halts (free_slot m.packets) bytes m
+
+-- an input halts nothing
+pub fed_halts : (m : Machine) (input : Input) → m.is_halted ≡ (fed input m).is_halted
+fed_halts m (Input.Tick n) = refl
+fed_halts m (Input.Serial bytes) = refl
+fed_halts m (Input.Frame bytes) =
+    let woken : Machine = record m { work = 0 } in held_halts (frame_refusal (length bytes.items) woken) bytes.items woken
+
+-- an input was handed in, and its line was written or is due
+pub settled_input : (says now : Applications) (quiet : Bool) (before : List Entry) (m new : Machine) (given due given_later due_later : List ℕ) (input : Input) →
+    IsTold says before now → GoesOn (λ p stimulus. now p (stimulus ∷ [])) (fed input m) (Step.Entry (Entry.Input input)) new →
+    m.is_halted ≡ false → new.is_halted ≡ false → WritesOn given due given_later due_later (lines quiet (Entry.Input input ∷ [])) →
+    Settled says quiet before (fed input m) new now given due given_later due_later
+settled_input says now quiet before m new given due given_later due_later input told goes running runs written =
+    let handed = fed input m in
+    let still_runs : handed.is_halted ≡ false = sym (fed_halts m input) ∙ running in
+    settled_more says now now quiet before handed handed new given due given due given_later due_later (Step.Entry (Entry.Input input))
+    (nothing_settled says now quiet before handed given due told) goes (λ p next rest. refl) (rw (still_runs, runs) refl) written
+
+-- one after the other
+pub settled_then : (says now later : Applications) (quiet : Bool) (before : List Entry) (old mid new : Machine) (given₀ due₀ given₁ due₁ given₂ due₂ : List ℕ) →
+    (first : Settled says quiet before old mid now given₀ due₀ given₁ due₁) → Settled says quiet (before ++ first.entries) mid new later given₁ due₁ given₂ due₂ →
+    Settled says quiet before old new later given₀ due₀ given₂ due₂
+settled_then says now later quiet before old mid new given₀ due₀ given₁ due₁ given₂ due₂ first second =
+    let j = steps_after says first.count second.count (record { machine = old; entries = before }) in
+    let together = append_assoc before first.entries second.entries in
+    record {
+      entries = first.entries ++ second.entries;
+      count = j.0;
+      walked = j.1 ∙ (ap (after_steps says second.count) first.walked ∙ (second.walked ∙ rw together refl));
+      told = rw together at second.told;
+      written = rw (lines-append quiet first.entries second.entries) (then_written first.written second.written);
+      halts = λ h. rw together at (second.halts (first.halts h));
+    }
+
+pub cut_off_then : (says now : Applications) (quiet : Bool) (before : List Entry) (old mid : Machine) (given₀ due₀ given₁ due₁ given₂ : List ℕ) →
+    (first : Settled says quiet before old mid now given₀ due₀ given₁ due₁) → CutOff says quiet (before ++ first.entries) mid given₁ due₁ given₂ →
+    CutOff says quiet before old given₀ due₀ given₂
+cut_off_then says now quiet before old mid given₀ due₀ given₁ due₁ given₂ first second =
+    let j = steps_after says first.count second.count (record { machine = old; entries = before }) in
+    record {
+      entries = first.entries ++ second.entries;
+      count = j.0;
+      machine = second.machine;
+      walked = j.1 ∙ (ap (after_steps says second.count) first.walked ∙ (second.walked ∙ rw (append_assoc before first.entries second.entries) refl));
+      lost = second.lost;
+      written = rw (lines-append quiet first.entries second.entries) (then_written first.written second.written);
     }
 
 pub cut_off_at : (says now : Applications) (quiet : Bool) (before : List Entry) (old mid new : Machine) (given₀ due₀ given₁ due₁ given₂ lost : List ℕ) (entry : Entry) →
@@ -120,15 +196,15 @@ pub cut_off_at : (says now : Applications) (quiet : Bool) (before : List Entry) 
     WritesOn given₁ due₁ given₂ lost (lines quiet (entry ∷ [])) →
     CutOff says quiet before old given₀ due₀ given₂
 cut_off_at says now quiet before old mid new given₀ due₀ given₁ due₁ given₂ lost entry so_far makes written =
-    let same : (λ p stimulus. now p (stimulus ∷ [])) ≡ answers_after says (before ++ so_far.entries) =
-    fun_ext (λ p. fun_ext (λ stimulus. so_far.told.each p stimulus [])) in
-    let k = made_steps says (before ++ so_far.entries) mid new (Step.Entry entry) (rw same at makes) in
-    let j = steps_after says so_far.count k.0 (record { machine = old; entries = before }) in
+    let all : (before ++ so_far.entries) ++ entry ∷ [] ≡ before ++ (so_far.entries ++ entry ∷ []) = append_assoc before so_far.entries (entry ∷ []) in
+    let k = made_when_told says now (before ++ so_far.entries) mid new (Step.Entry entry) so_far.told makes in
+    let j = steps_on says (record { machine = old; entries = before }) (record { machine = mid; entries = before ++ so_far.entries }) new
+    ((before ++ so_far.entries) ++ entry ∷ []) (before ++ (so_far.entries ++ entry ∷ [])) so_far.count k.0 so_far.walked k.1 all in
     record {
       entries = so_far.entries ++ entry ∷ [];
       count = j.0;
       machine = new;
-      walked = j.1 ∙ (ap (after_steps says k.0) so_far.walked ∙ (k.1 ∙ rw (append_assoc before so_far.entries (entry ∷ [])) refl));
+      walked = j.1;
       lost = lost;
       written = rw (lines-append quiet so_far.entries (entry ∷ [])) (then_written so_far.written written);
     }

@@ -1,20 +1,33 @@
 //! What the lines of a script say, as its bytes come.
 
-ghost use Rattle.std.specs.Prelude.{◌≡◌, ◌≢◌, ◌<◌, ◌≤◌, ◌+◌, ◌-◌, ◌^◌, ◌++◌, true, length, take, Some, None, IfOk, OnErr, OnOk};
-ghost use Rattle.mote_text.specs.Lines.{GoesOnAt, has_no_end, nothing_taken, unfinished, with_end};
-ghost use Rattle.mote_text.specs.Script.{line_limit, read_line};
+ghost use Rattle.std.specs.Prelude.{◌≡◌, ◌≢◌, ◌<◌, ◌≤◌, ◌+◌, ◌-◌, ◌^◌, true, length, OnErr, OnOk};
+ghost use Rattle.mote_text.specs.Lines.{has_no_end, nothing_taken, unfinished};
+ghost use Rattle.mote_text.specs.Script.{line_said, read_line};
 ghost use Rattle.mote_text.specs.declared.lines.Taken.{Taken as Stopped};
-ghost use Rattle.mote_run.specs.Code.Reading.{number_after, said};
+ghost use Rattle.mote_run.specs.Code.Reading.{ReadPart};
 
 use mote_text::lines::{Lines, Taken};
 use mote_text::script::{BadLine, read_input};
 use mote_types::entry::Input;
 
-/// The lines of a script, and the number of the present one, which begins at 1.
+/// The lines of a script, the number of the present one, which begins at 1, and a place for the input of a line.
 #[derive(Drop)]
 pub struct Reader {
     pub lines: Lines,
     pub number: u32,
+    pub input: Input,
+}
+
+/// Reads what a line says, whose number this is, and counts it where it has a form.
+fn read_counted(line: &[u8], number: &mut u32, input: &mut Input) -> Result<bool, BadLine>
+    requires { number.old < 2 ^ 32 - 1 }
+    ensures says { line_said result input.new ≡ read_line line.now }
+    ensures number { OnOk result (number.new ≡ number.old + 1) }
+    ensures same_number { OnErr result (number.new ≡ number.old) }
+{
+    let is_input = read_input(line, input)?;
+    *number += 1;
+    Ok(is_input)
 }
 
 impl Reader {
@@ -25,57 +38,52 @@ impl Reader {
         Reader {
             lines: Lines::new(),
             number: 1,
+            input: Input::Tick(0),
         }
     }
 
-    /// What the bytes of the present line say, where the script has ended.
+    /// Reads what the bytes of the present line say, where the script has ended. Answers whether that is an input, which
+    /// lies in its place then.
     ///
     /// # Errors
     ///
     /// `BadLine` where they have no form.
-    pub fn end(&mut self) -> Result<Option<Input>, BadLine>
+    pub fn end(&mut self) -> Result<bool, BadLine>
         requires narrow { self.old.lines.last ≢ Stopped.TooWide }
         requires endless { has_no_end (unfinished self.old.lines) ≡ true }
-        ensures says { IfOk result (λ says. read_line (unfinished self.old.lines) ≡ Some says) }
-        ensures no_form { OnErr result (read_line (unfinished self.old.lines) ≡ None) }
+        ensures says { line_said result self.new.input ≡ read_line (unfinished self.old.lines) }
         ensures same_number { self.new.number ≡ self.old.number }
     {
         // Behind a line's end this begins the next line, which is empty.
         self.lines.take(&[]);
-        read_input(self.lines.line())
+        read_input(self.lines.line(), &mut self.input)
     }
 
-    /// Takes bytes of the piece up to the end of the present line. Answers how many, and what they say.
+    /// Takes bytes of the piece up to the end of the present line. Answers how many, and whether they say an input, which
+    /// lies in its place then.
     ///
     /// # Errors
     ///
     /// `BadLine` where the line has no form, as soon as it is longer than a line may be.
-    pub fn take(&mut self, piece: &[u8]) -> (usize, Result<Option<Input>, BadLine>)
+    pub fn take(&mut self, piece: &[u8]) -> (usize, Result<bool, BadLine>)
         requires narrow { self.old.lines.last ≢ Stopped.TooWide }
         requires endless { has_no_end (unfinished self.old.lines) ≡ true }
         requires countable { self.old.number < 2 ^ 32 - 1 }
         ensures used { result.0 ≤ length piece.now }
-        ensures bytes { unfinished self.old.lines ++ take result.0 piece.now ≡ with_end self.new.lines.last self.new.lines.bytes }
-        ensures narrow { length self.new.lines.bytes ≤ line_limit }
-        ensures endless { has_no_end self.new.lines.bytes ≡ true }
         ensures some { OnOk result.1 (0 < length piece.now → 0 < result.0) }
-        ensures too_wide { self.new.lines.last ≡ Stopped.TooWide → (length self.new.lines.bytes ≡ line_limit) × GoesOnAt piece.now result.0 }
-        ensures says { IfOk result.1 (λ says. said self.new.lines.last self.new.lines.bytes ≡ Some says) }
-        ensures number { OnOk result.1 (self.new.number ≡ number_after self.new.lines.last self.old.number) }
-        ensures no_form { OnErr result.1 (said self.new.lines.last self.new.lines.bytes ≡ None) }
-        ensures same_number { OnErr result.1 (self.new.number ≡ self.old.number) }
+        ensures says { ReadPart (unfinished self.old.lines) piece.now (unfinished self.new.lines) result.0 self.old.number self.new.number result.1 self.new.input }
+        ensures narrow { OnOk result.1 (self.new.lines.last ≢ Stopped.TooWide) }
     {
-        let (used, taken) = self.lines.take(piece);
-        match taken {
-            Taken::More => (used, Ok(None)),
-            Taken::TooWide => (used, Err(BadLine)),
-            Taken::Line => {
-                let says = read_input(self.lines.line());
-                if says.is_ok() {
-                    self.number += 1;
-                }
-                (used, says)
-            }
+        if let Some(line) = self.lines.whole_line(piece) {
+            let says = read_counted(line, &mut self.number, &mut self.input);
+            return (line.len() + 1, says);
         }
+        let (used, taken) = self.lines.take(piece);
+        let says = match taken {
+            Taken::More => Ok(false),
+            Taken::TooWide => Err(BadLine),
+            Taken::Line => read_counted(self.lines.line(), &mut self.number, &mut self.input),
+        };
+        (used, says)
     }
 }

@@ -8,7 +8,6 @@ ghost use Rattle.mote_run.specs.Code.Reading.{Took};
 use crate::piece::Piece;
 use crate::reader::Reader;
 use mote_text::script::{BadLine, SCRIPT_LIMIT};
-use mote_types::entry::Input;
 
 /// How many bytes a script has at most.
 pub const LIMIT: usize = SCRIPT_LIMIT as usize;
@@ -36,18 +35,19 @@ impl Script {
         }
     }
 
-    /// Uses bytes of the piece up to the end of the present line. Answers what they say.
+    /// Uses bytes of the piece up to the end of the present line. Answers whether they say an input, which lies in the
+    /// reader's place then.
     ///
     /// # Errors
     ///
     /// `BadLine` where the line has no form, as soon as it is longer than a line may be.
-    pub fn take(&mut self) -> Result<Option<Input>, BadLine>
+    pub fn take(&mut self) -> Result<bool, BadLine>
         requires narrow { self.old.reader.lines.last ≢ Stopped.TooWide }
         requires endless { has_no_end (unfinished self.old.reader.lines) ≡ true }
         requires number { self.old.reader.number ≤ self.old.taken + 1 }
         requires room { self.old.taken < LIMIT }
         requires some { 0 < length self.old.piece }
-        ensures took { Took (unfinished self.old.reader.lines) self.old.piece (unfinished self.new.reader.lines) self.new.piece self.old.taken self.new.taken self.old.reader.number self.new.reader.number result }
+        ensures took { Took (unfinished self.old.reader.lines) self.old.piece (unfinished self.new.reader.lines) self.new.piece self.old.taken self.new.taken self.old.reader.number self.new.reader.number result self.new.reader.input }
         ensures narrow { OnOk result (self.new.reader.lines.last ≢ Stopped.TooWide) }
         ensures endless { has_no_end (unfinished self.new.reader.lines) ≡ true }
         ensures number { self.new.reader.number ≤ self.new.taken + 1 }

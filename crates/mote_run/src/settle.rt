@@ -1,20 +1,21 @@
 //! Work until the mote rests, and the text of what it makes.
 
-ghost use Rattle.std.specs.Prelude.{◌≡◌, ◌<◌, ◌+◌, ◌-◌, ◌^◌, ◌∷◌, [], ℕ, List, true, length, OnOk, OnErr, IfErr};
+ghost use Rattle.std.specs.Prelude.{◌≡◌, ◌<◌, ◌≤◌, ◌+◌, ◌-◌, ◌^◌, ◌∷◌, [], ℕ, List, true, false, length, OnOk, OnErr, IfErr};
 ghost use Rattle.mote_types.specs.Applications.{Applications, says_of};
 ghost use Rattle.mote_types.specs.declared.entry.Entry.{Entry as MadeEntry};
-ghost use Rattle.kernel_core.specs.Run.{is_still};
+ghost use Rattle.kernel_core.specs.Inputs.{fed, has_bytes, ticks_of};
+ghost use Rattle.kernel_core.specs.Run.{is_at_rest, is_still};
 ghost use Rattle.mote_run.specs.Code.Settling.{CutOff, IsTold, Settled, lines};
 ghost use Rattle.mote_run.specs.Code.Writing.{WritesOn};
 
 use crate::due::Due;
 use crate::run::RunFault;
 use kernel_core::kernel::Kernel;
-use kernel_core::step::Step;
+use kernel_core::step::Reached;
 use mote_text::transcript::is_shown;
 use mote_types::app::App;
 use mote_types::device::ByteSink;
-use mote_types::entry::Entry;
+use mote_types::entry::{Entry, Input};
 
 /// Writes the line of an entry, if it is shown, or puts it to what is due.
 fn write_entry<K: ByteSink>(
@@ -34,6 +35,26 @@ fn write_entry<K: ByteSink>(
         return Ok(());
     }
     due.put_entry(sink, entry)
+}
+
+/// Writes the line of an input that was handed in, if it is shown, or puts it to what is due.
+fn write_input<K: ByteSink>(
+    sink: &mut K,
+    due: &mut Due,
+    input: &Input,
+    quiet: bool,
+) -> Result<(), RunFault>
+    requires countable { K.failure_count sink.old < 2 ^ 64 - 1 }
+    ensures written { OnOk result (K.is_named → WritesOn (K.given sink.old) due.old.text.items (K.given sink.new) due.new.text.items (lines quiet (MadeEntry.Input input.now ∷ []))) }
+    ensures cut_off { OnErr result (K.is_named → (lost : List ℕ) × WritesOn (K.given sink.old) due.old.text.items (K.given sink.new) lost (lines quiet (MadeEntry.Input input.now ∷ []))) }
+    ensures succeeded { OnOk result (K.failure_count sink.new ≡ K.failure_count sink.old) }
+    ensures fault { IfErr result (λ fault. fault ≡ RunFault.Write) }
+    ensures failed { OnErr result (K.failure_count sink.new ≡ K.failure_count sink.old + 1) }
+{
+    if quiet {
+        return Ok(());
+    }
+    due.put_input(sink, input)
 }
 
 /// Works until nothing more happens without an input. The line of each entry that is shown is written, or is due then.
@@ -58,11 +79,48 @@ pub fn settle<K: ByteSink>(
     ensures fault { IfErr result (λ fault. fault ≡ RunFault.Write) }
     ensures failed { OnErr result (K.failure_count sink.new ≡ K.failure_count sink.old + 1) }
 {
+    let mut made = Entry::Halt;
     'entry: loop {
-        match kernel.step(apps) {
-            Step::Entry(entry) => write_entry(sink, due, &entry, quiet)?,
-            Step::Rest => return Ok(()),
-            Step::Halted => return Ok(()),
+        match kernel.step_to(apps, &mut made) {
+            Reached::Made => write_entry(sink, due, &made, quiet)?,
+            Reached::Rest => return Ok(()),
+            Reached::Halted => return Ok(()),
         }
     }
+}
+
+/// Hands an input to the mote at rest, and works until nothing more happens without another. The line of each entry that is
+/// shown is written, or is due then.
+///
+/// A frame has at least one byte.
+pub fn settle_input<K: ByteSink>(
+    sink: &mut K,
+    due: &mut Due,
+    kernel: &mut Kernel,
+    apps: &mut [Box<dyn App>],
+    input: &Input,
+    quiet: bool,
+) -> Result<(), RunFault>
+    requires boxes { length apps.old ≡ kernel.old.machine.scheduler.applications }
+    requires rest { is_at_rest kernel.old.machine ≡ true }
+    requires running { kernel.old.machine.is_halted ≡ false }
+    requires clock { kernel.old.machine.clock + ticks_of input.now ≤ 2 ^ 62 }
+    requires bytes { has_bytes input.now ≡ true }
+    requires few { kernel.old.inputs < 2 ^ 40 }
+    requires countable { K.failure_count sink.old < 2 ^ 64 - 1 }
+    ensures settled { OnOk result (K.is_named → (boot_says : Applications) (before : List MadeEntry) → IsTold boot_says before (says_of says apps.old) →
+        Settled boot_says quiet before (fed input.now kernel.old.machine) kernel.new.machine (says_of says apps.new) (K.given sink.old) due.old.text.items (K.given sink.new) due.new.text.items) }
+    ensures cut_off { OnErr result (K.is_named → (boot_says : Applications) (before : List MadeEntry) → IsTold boot_says before (says_of says apps.old) →
+        CutOff boot_says quiet before (fed input.now kernel.old.machine) (K.given sink.old) due.old.text.items (K.given sink.new)) }
+    ensures still { OnOk result (is_still kernel.new.machine ≡ true) }
+    ensures applications { kernel.new.machine.scheduler.applications ≡ kernel.old.machine.scheduler.applications }
+    ensures clock { kernel.new.machine.clock ≡ kernel.old.machine.clock + ticks_of input.now }
+    ensures inputs { kernel.new.inputs ≡ kernel.old.inputs + 1 }
+    ensures succeeded { OnOk result (K.failure_count sink.new ≡ K.failure_count sink.old) }
+    ensures fault { IfErr result (λ fault. fault ≡ RunFault.Write) }
+    ensures failed { OnErr result (K.failure_count sink.new ≡ K.failure_count sink.old + 1) }
+{
+    kernel.accept(input);
+    write_input(sink, due, input, quiet)?;
+    settle(sink, due, kernel, apps, quiet)
 }

@@ -14,7 +14,7 @@ use crate::due::Due;
 use crate::refill::refill;
 use crate::run::RunFault;
 use crate::script::{LIMIT, Script};
-use crate::settle::settle;
+use crate::settle::{settle, settle_input};
 use kernel_core::kernel::Kernel;
 use mote_text::script::{BadLine, End, SCRIPT_LIMIT};
 use mote_types::app::App;
@@ -75,10 +75,9 @@ fn take_line<K: ByteSink>(
     ensures failed { OnErr result (K.failure_count sink.new ≡ K.failure_count sink.old + 1) }
 {
     match script.take() {
-        Ok(None) => Ok(None),
-        Ok(Some(input)) => {
-            kernel.feed(input);
-            settle(sink, due, kernel, apps, quiet)?;
+        Ok(false) => Ok(None),
+        Ok(true) => {
+            settle_input(sink, due, kernel, apps, &script.reader.input, quiet)?;
             Ok(None)
         }
         Err(BadLine) => Ok(Some(End::BadLine(script.reader.number))),
@@ -115,10 +114,9 @@ fn take_end<K: ByteSink>(
     ensures failed { OnErr result (K.failure_count sink.new ≡ K.failure_count sink.old + 1) }
 {
     match script.reader.end() {
-        Ok(None) => Ok(End::Finished),
-        Ok(Some(input)) => {
-            kernel.feed(input);
-            settle(sink, due, kernel, apps, quiet)?;
+        Ok(false) => Ok(End::Finished),
+        Ok(true) => {
+            settle_input(sink, due, kernel, apps, &script.reader.input, quiet)?;
             Ok(end_of(kernel))
         }
         Err(BadLine) => Ok(End::BadLine(script.reader.number)),

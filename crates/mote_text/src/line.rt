@@ -14,8 +14,8 @@ pub type LineBuf = ArrayVec<u8, 4_096>;
 /// No line of a transcript is longer, with its end.
 pub const MOST_OF_LINE: usize = 640;
 
-/// What stands where digits will be written.
-static BLANKS: [u8; 512] = [0; 512];
+/// What stands where digits, or the bytes that they are, will be written.
+pub(crate) static BLANKS: [u8; 512] = [0; 512];
 
 /// Appends these bytes.
 #[inline(always)]

@@ -1,6 +1,6 @@
 //! The lines of a script, whose bytes come in pieces.
 
-ghost use Rattle.std.specs.Prelude.{◌≡◌, ◌≢◌, ◌≤◌, ◌↔◌, ◌++◌, true, length, take};
+ghost use Rattle.std.specs.Prelude.{◌≡◌, ◌≢◌, ◌<◌, ◌≤◌, ◌+◌, ◌↔◌, ◌++◌, [], ◌∷◌, true, length, take, None, IfSome};
 ghost use Rattle.mote_text.specs.Lines.{nothing_taken, unfinished, unfinished_after, with_end, has_no_end, GoesOnAt};
 ghost use Rattle.mote_text.specs.Script.{line_limit};
 ghost use Rattle.mote_text.specs.declared.lines.Taken.{Taken as Stopped};
@@ -87,6 +87,24 @@ impl Lines {
         ensures endless { has_no_end result.now ≡ true }
     {
         self.bytes.as_slice()
+    }
+
+    /// The present line without its end, where none of its bytes were taken and its end stands in the piece: a front part of
+    /// the piece, which need not be copied. Nothing is taken: the present line is then the one that begins behind that end.
+    pub fn whole_line<'a>(&self, piece: &'a [u8]) -> Option<&'a [u8]>
+        ensures line { IfSome result (λ line. take (length line.now + 1) piece.now ≡ line.now ++ 10 ∷ []) }
+        ensures size { IfSome result (λ line. length line.now < length piece.now) }
+        ensures narrow { IfSome result (λ line. length line.now ≤ line_limit) }
+        ensures endless { IfSome result (λ line. has_no_end line.now ≡ true) }
+        ensures begins { IfSome result (λ line. unfinished self.now ≡ []) }
+        ensures none { result ≡ None → unfinished self.now ≡ [] → has_no_end (take (line_limit + 1) piece.now) ≡ true }
+    {
+        if self.last != Taken::Line && !self.bytes.is_empty() {
+            return None;
+        }
+        let near = &piece[..piece.len().min(LINE_LIMIT + 1)];
+        let end = memchr(b'\n', near)?;
+        Some(&near[..end])
     }
 
     /// Takes bytes of the piece up to the end of the present line; after `Line` a new one begins. Answers how many bytes

@@ -1,12 +1,11 @@
 //! The lines of a script, and how a run ends.
 
-ghost use Rattle.std.specs.Prelude.{◌≡◌, codes, option_and_then};
-ghost use Rattle.std.specs.Option.{option_map};
+ghost use Rattle.std.specs.Prelude.{◌≡◌, ◌≤◌, false, length, IfOk};
 ghost use Rattle.std.specs.Char.{is_ascii_digit};
 ghost use Rattle.std.specs.List.{list_all};
-ghost use Rattle.std.specs.Result.{result_ok};
-ghost use Rattle.mote_text.specs.Script.{argument_of, is_number, read_number, read_bytes, read_line};
+ghost use Rattle.mote_text.specs.Script.{is_number, line_said, read_bytes, read_frame, read_line, read_number, read_serial, read_tick, some_if};
 
+use crate::line::BLANKS;
 use arrayvec::ArrayVec;
 use mote_types::entry::Input;
 use thiserror::Error;
@@ -58,67 +57,101 @@ fn read_number(text: &[u8]) -> Option<u32>
     str::from_utf8(text).ok()?.parse().ok()
 }
 
-/// The number of a line `tick N`.
-fn read_tick(line: &[u8]) -> Option<u32>
-    ensures { result ≡ option_and_then read_number (argument_of (codes "tick ") line.now) }
+/// Puts the number of a line `tick N` into the place. Answers whether it is one.
+fn read_tick(line: &[u8], input: &mut Input) -> bool
+    ensures { some_if result input.new ≡ read_tick line.now }
 {
-    read_number(line.strip_prefix(b"tick ")?)
-}
-
-/// From one to `N` bytes, which a text is in hex digits of either case.
-fn read_bytes<const N: usize>(digits: &[u8]) -> Option<ArrayVec<u8, N>>
-    ensures { option_map (λ bytes. bytes.items) result ≡ read_bytes N digits.now }
-{
-    if digits.is_empty() || digits.len() / 2 > N {
-        return None;
+    let Some(text) = line.strip_prefix(b"tick ") else {
+        return false;
+    };
+    let Some(number) = read_number(text) else {
+        return false;
+    };
+    match input {
+        // Another kind of input is overwritten whole, with zeros behind the number.
+        Input::Tick(ticks) => *ticks = number,
+        _ => *input = Input::Tick(number),
     }
-    let mut room = [0; N];
-    let bytes = &mut room[..digits.len() / 2];
-    hex::decode_to_slice(digits, bytes).ok()?;
-    let mut read = ArrayVec::new();
-    let _ = read.try_extend_from_slice(bytes);
-    Some(read)
+    true
 }
 
-/// The bytes of a line `serial HEX`.
-fn read_serial(line: &[u8]) -> Option<ArrayVec<u8, 256>>
-    ensures { option_map (λ bytes. bytes.items) result ≡ option_and_then (read_bytes 256) (argument_of (codes "serial ") line.now) }
+/// Gives the place so many bytes, whatever they are.
+fn resize<const N: usize>(bytes: &mut ArrayVec<u8, N>, len: usize)
+    requires some { len ≤ N }
+    requires few { N ≤ 512 }
+    ensures { length bytes.new.items ≡ len }
 {
-    read_bytes(line.strip_prefix(b"serial ")?)
+    bytes.truncate(len);
+    let kept = bytes.len();
+    let _ = bytes.try_extend_from_slice(&BLANKS[kept..len]);
 }
 
-/// The bytes of a line `frame HEX`.
-fn read_frame(line: &[u8]) -> Option<ArrayVec<u8, 127>>
-    ensures { option_map (λ bytes. bytes.items) result ≡ option_and_then (read_bytes 127) (argument_of (codes "frame ") line.now) }
+/// Puts from one to `N` bytes, which a text is in hex digits of either case, into the place. Answers whether it is that.
+fn read_bytes<const N: usize>(digits: &[u8], bytes: &mut ArrayVec<u8, N>) -> bool
+    requires { N ≤ 512 }
+    ensures { some_if result bytes.new.items ≡ read_bytes N digits.now }
 {
-    read_bytes(line.strip_prefix(b"frame ")?)
+    let len = digits.len() / 2;
+    if digits.is_empty() || len > N {
+        return false;
+    }
+    resize(bytes, len);
+    hex::decode_to_slice(digits, bytes.as_mut_slice()).is_ok()
 }
 
-/// What a line of a script says, without its end: an input, or nothing (an empty line, a comment).
+/// Puts the bytes of a line `serial HEX` into the place. Answers whether it is one.
+fn read_serial(line: &[u8], input: &mut Input) -> bool
+    ensures { some_if result input.new ≡ read_serial line.now }
+{
+    let Some(digits) = line.strip_prefix(b"serial ") else {
+        return false;
+    };
+    if !matches!(input, Input::Serial(_)) {
+        *input = Input::Serial(ArrayVec::new());
+    }
+    match input {
+        Input::Serial(bytes) => read_bytes(digits, bytes),
+        _ => false,
+    }
+}
+
+/// Puts the bytes of a line `frame HEX` into the place. Answers whether it is one.
+fn read_frame(line: &[u8], input: &mut Input) -> bool
+    ensures { some_if result input.new ≡ read_frame line.now }
+{
+    let Some(digits) = line.strip_prefix(b"frame ") else {
+        return false;
+    };
+    if !matches!(input, Input::Frame(_)) {
+        *input = Input::Frame(ArrayVec::new());
+    }
+    match input {
+        Input::Frame(bytes) => read_bytes(digits, bytes),
+        _ => false,
+    }
+}
+
+/// Puts what a line of a script says, without its end, into the place. Answers whether it is an input; where it is nothing
+/// (an empty line, a comment), the place is left as it was.
 ///
 /// Source: the script format is this project's profile.
 ///
 /// # Errors
 ///
-/// `BadLine` where the line has none of these forms, or more than 1,024 bytes.
+/// `BadLine` where the line has none of these forms, or more than 1,024 bytes. The place may hold any input then.
 #[tactic(auto, unfolding(crate::specs::Script::read_line))]
-pub fn read_input(line: &[u8]) -> Result<Option<Input>, BadLine>
-    ensures { result_ok result ≡ read_line line.now }
+pub fn read_input(line: &[u8], input: &mut Input) -> Result<bool, BadLine>
+    ensures says { line_said result input.new ≡ read_line line.now }
+    ensures nothing { IfOk result (λ is_input. is_input ≡ false → input.new ≡ input.old) }
 {
     if line.len() > LINE_LIMIT {
         return Err(BadLine);
     }
     if line.is_empty() || line[0] == b'#' {
-        return Ok(None);
+        return Ok(false);
     }
-    if let Some(number) = read_tick(line) {
-        return Ok(Some(Input::Tick(number)));
-    }
-    if let Some(bytes) = read_serial(line) {
-        return Ok(Some(Input::Serial(bytes)));
-    }
-    if let Some(bytes) = read_frame(line) {
-        return Ok(Some(Input::Frame(bytes)));
+    if read_tick(line, input) || read_serial(line, input) || read_frame(line, input) {
+        return Ok(true);
     }
     Err(BadLine)
 }

@@ -2,6 +2,7 @@
 #![tactic(auto, unfolding(crate::specs::EntryText::spaced))]
 
 ghost use Rattle.std.specs.Prelude.{◌≡◌, ◌≤◌, ◌+◌, ◌++◌, [], ◌∷◌, length, codes, decimal};
+ghost use Rattle.mote_types.specs.declared.entry.Entry.{Entry as Made};
 ghost use Rattle.mote_text.specs.EntryText.{entry_line, spaced, origin_word, stimulus_words, call_words};
 ghost use Rattle.mote_text.specs.Transcript.{final_line, is_shown};
 
@@ -11,7 +12,7 @@ use crate::script::End;
 use crate::words::{push_input, push_note, push_origin, push_stimulus};
 use itoa::Buffer;
 use mote_types::call::Call;
-use mote_types::entry::{Entry, Note};
+use mote_types::entry::{Entry, Input, Note};
 use mote_types::event::{Origin, Pid, Stimulus};
 
 /// Appends the words of a turn.
@@ -27,6 +28,19 @@ fn push_turn(line: &mut LineBuf, pid: Pid, origin: Origin, stimulus: &Stimulus, 
     push_call(line, call);
 }
 
+/// Appends the line of an input that is handed in, with its end.
+///
+/// Source: the transcript format is this project's profile.
+#[tactic(auto, unfolding(crate::specs::EntryText::entry_line, crate::specs::EntryText::line_of, crate::specs::EntryText::spaced))]
+pub fn push_input_line(input: &Input, line: &mut LineBuf)
+    requires { length line.old.items + MOST_OF_LINE ≤ 4096 }
+    ensures { line.new.items ≡ line.old.items ++ entry_line (Made.Input input.now) }
+{
+    push_bytes(line, b">");
+    push_input(line, input);
+    push_bytes(line, b"\n");
+}
+
 /// Appends the line of an entry, with its end.
 ///
 /// Source: the transcript format is this project's profile.
@@ -36,10 +50,7 @@ pub fn push_entry(entry: &Entry, line: &mut LineBuf)
     ensures { line.new.items ≡ line.old.items ++ entry_line entry.now }
 {
     match entry {
-        Entry::Input(input) => {
-            push_bytes(line, b">");
-            push_input(line, input);
-        }
+        Entry::Input(input) => return push_input_line(input, line),
         Entry::Turn {
             pid,
             origin,

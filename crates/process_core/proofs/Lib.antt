@@ -6,3 +6,5 @@ pub mod Boot
 pub mod Rest
 pub mod NothingLeft
 pub mod Tops
+pub mod Counting
+pub mod LonePoll

@@ -1,16 +1,15 @@
 -- When nothing is left to be done.
-use Rattle.std.proofs.Common.{◌≡◌, ℕ, zero, suc, ◌+◌, ◌≤◌, Bool, true, false, ◌&&◌, nat_eq, List, [], ◌∷◌, ◌++◌, length, drop, refl, ap, sym, ◌∙◌, arith}
-use Rattle.std.specs.Prelude.{map, flat_map, reverse, Option, None, Some}
+use Rattle.std.proofs.Common.{◌≡◌, ℕ, zero, suc, ◌≤◌, Bool, true, false, ◌&&◌, nat_eq, List, [], ◌∷◌, ◌++◌, length, drop, refl, ap, sym, ◌∙◌, arith}
+use Rattle.std.specs.Prelude.{map, reverse}
 use mathlib.Core.List.{reverse_aux}
 use Rattle.std.specs.List.{list_all}
-use Rattle.std.proofs.lemmas.List.Folds.{list_all-append}
 use Rattle.mote_types.specs.declared.event.Pid.{Pid}
 use Rattle.mote_types.specs.declared.event.Event.{Event}
 use Rattle.mote_types.specs.declared.reply.Reply.{Reply}
 use Rattle.process_core.specs.declared.frame.First.{First}
 use Rattle.process_core.specs.declared.frame.Frame.{Frame}
 use Rattle.process_core.specs.Idle.{is_empty}
-use Rattle.process_core.specs.Code.Frames.{items_of, agenda_of, receiver_items, next_items, exit_items}
+use Rattle.process_core.specs.Code.Frames.{items_of, agenda_of, receiver_items}
 
 pub is_empty_append : {A : Type 0} (xs ys : List A) → is_empty (xs ++ ys) ≡ (is_empty xs && is_empty ys)
 is_empty_append [] ys = refl

@@ -1,5 +1,5 @@
 -- The process list: the processes that are on it, the head first, with what each of them is doing.
-use Rattle.std.specs.Prelude.{ℕ, ◌+◌, ◌<◌, ◌≡◌, eqb, [], ◌∷◌, Bool, true, false, not, ◌&&◌, List, map, filter, find, if◌then◌else◌, ◌==◌, nat_le, nat_lt}
+use Rattle.std.specs.Prelude.{ℕ, ◌+◌, ◌<◌, ◌≡◌, [], ◌∷◌, Bool, true, false, not, ◌&&◌, List, map, filter, find, if◌then◌else◌, ◌==◌, nat_le, nat_lt}
 use Rattle.std.specs.List.{list_any}
 use Rattle.std.specs.Option.{option_map_or}
 use Rattle.mote_types.specs.declared.event.TheConstants.{FIRST_APPLICATION}

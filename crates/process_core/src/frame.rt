@@ -81,6 +81,17 @@ impl Frame {
         }
     }
 
+    /// A delivery's poll round is done from now on. Answers whether it wasn't yet.
+    pub(crate) fn begin_polls(&mut self) -> bool
+        ensures value { result ≡ part.wants_polls self.old }
+        ensures left { self.new ≡ part.polled self.old }
+    {
+        match self {
+            Frame::Deliver { is_polled } => !mem::replace(is_polled, true),
+            _ => false,
+        }
+    }
+
     /// The next receiver of a broadcast has its turn, if one is left.
     pub(crate) fn begin_receiver(&mut self) -> bool
         ensures value { result ≡ part.has_receiver self.old }
@@ -123,6 +134,20 @@ impl Frame {
         }
     }
 
+    /// Whether something is done before the reply.
+    pub(crate) fn has_first(&self) -> bool
+        ensures { result ≡ part.has_first self.now }
+    {
+        match self {
+            Frame::Answer {
+                first: First::Nothing,
+                ..
+            } => false,
+            Frame::Answer { .. } => true,
+            _ => false,
+        }
+    }
+
     /// What is done before the reply, which is done once.
     pub(crate) fn take_first(&mut self) -> First
         ensures value { result ≡ part.first_of self.old }
@@ -131,17 +156,6 @@ impl Frame {
         match self {
             Frame::Answer { first, .. } => mem::replace(first, First::Nothing),
             _ => First::Nothing,
-        }
-    }
-
-    /// The reply, which is taken once.
-    pub(crate) fn take_reply(&mut self) -> Reply
-        ensures value { result ≡ part.reply_of self.old }
-        ensures left { self.new ≡ part.past_reply self.old }
-    {
-        match self {
-            Frame::Answer { reply, .. } => mem::replace(reply, Reply::Done),
-            _ => Reply::Done,
         }
     }
 }

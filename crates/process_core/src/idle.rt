@@ -36,7 +36,7 @@ fn are_over(frames: &[Frame]) -> bool
 impl Stack {
     #[tactic(auto, using(crate::proofs::NothingLeft::over_where_all_are))]
     /// Whether no open work has anything left to be done.
-    fn is_over(&self) -> bool
+    pub fn is_over(&self) -> bool
         ensures { result ≡ is_empty (agenda_of self.now) }
     {
         are_over(self.frames())

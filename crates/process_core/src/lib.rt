@@ -6,6 +6,8 @@ pub mod frame;
 mod giving;
 mod idle;
 pub mod job;
+mod lone_poll;
+mod marks;
 mod posting;
 mod process;
 mod process_list;

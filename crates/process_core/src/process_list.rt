@@ -1,18 +1,17 @@
 //! The process list, the head first.
 ghost use Rattle.std.specs.Prelude.{◌≡◌, ◌<◌, ◌≤◌, [], ◌∷◌, map, length, true, false, eqb, slice_index_or};
-ghost use Rattle.std.specs.List.{IsDistinct, list_any};
+ghost use Rattle.std.specs.List.{IsDistinct};
+ghost use Rattle.process_core.specs.LonePoll.{is_only_marked};
 ghost use Rattle.process_core.specs.Processes.{state_of, is_marked, is_any_marked, with_state, with_mark, without, numbers, at_first};
-ghost use Rattle.process_core.specs.Code.ProcessList.{mark_at, others, state_at};
+ghost use Rattle.process_core.specs.Code.ProcessList.{others, state_at};
 ghost use Rattle.process_core.specs.declared.state.State.{State};
 
+use crate::marks::{Marks, PROCESSES};
 use crate::state::State;
 use crate::walk::Walk;
 use arrayvec::ArrayVec;
 use mote_types::event::Pid;
 use std::marker::Model;
-
-/// How many processes there may be.
-const PROCESSES: usize = 20;
 
 /// The processes that are there: the kernel's and the applications that were started, the latest first.
 ///
@@ -22,7 +21,7 @@ pub struct ProcessList {
     on_list: ArrayVec<u8, PROCESSES>,
     /// One that is not on the list is Absent.
     states: [State; PROCESSES],
-    marks: [bool; PROCESSES],
+    marks: Marks,
 }
 
 impl Model for ProcessList {
@@ -44,21 +43,6 @@ fn state_in(states: &[State], number: u8) -> State
         Some(state) => *state,
         None => State::Absent,
     }
-}
-
-fn mark_in(marks: &[bool], number: u8) -> bool
-    ensures { result ≡ mark_at marks.now number }
-{
-    match marks.get(number as usize) {
-        Some(mark) => *mark,
-        None => false,
-    }
-}
-
-fn any_mark_in(marks: &[bool], on_list: &[u8]) -> bool
-    ensures { result ≡ list_any (λ n. mark_at marks.now n) on_list.now }
-{
-    on_list.iter().any(|number| mark_in(marks, *number))
 }
 
 /// The numbers but for this one.
@@ -93,7 +77,7 @@ impl ProcessList {
         ProcessList {
             on_list,
             states,
-            marks: [false; PROCESSES],
+            marks: Marks::new(),
         }
     }
 
@@ -116,14 +100,21 @@ impl ProcessList {
     pub fn is_marked(&self, pid: Pid) -> bool
         ensures { result ≡ is_marked pid.0 self.now }
     {
-        mark_in(&self.marks, pid.0)
+        self.marks.is_marked(pid.0)
     }
 
     /// Whether any poll is due.
     pub fn is_any_marked(&self) -> bool
         ensures { result ≡ is_any_marked self.now }
     {
-        any_mark_in(&self.marks, self.on_list.as_slice())
+        self.marks.count() > 0
+    }
+
+    /// Whether a poll of this process is due, and of no other one.
+    pub fn is_only_marked(&self, pid: Pid) -> bool
+        ensures { result ≡ is_only_marked pid.0 self.now }
+    {
+        self.marks.count() == 1 && self.marks.is_marked(pid.0)
     }
 
     /// Puts a process of the list into another state.
@@ -143,7 +134,7 @@ impl ProcessList {
     {
         match self.state_of(pid) {
             State::Absent => {}
-            _ => self.marks[pid.0 as usize] = marked,
+            _ => self.marks.set(pid.0, marked),
         }
     }
 
@@ -166,7 +157,7 @@ impl ProcessList {
             _ => {
                 self.on_list = others_in(self.on_list.as_slice(), pid.0);
                 self.states[pid.0 as usize] = State::Absent;
-                self.marks[pid.0 as usize] = false;
+                self.marks.set(pid.0, false);
             }
         }
     }

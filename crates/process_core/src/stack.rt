@@ -49,6 +49,16 @@ fn advance_in(frames: &mut [Frame]) -> Option<Pid>
     }
 }
 
+fn begin_polls_in(frames: &mut [Frame]) -> bool
+    ensures value { result ≡ part.on_top false part.wants_polls (reverse frames.old) }
+    ensures left { reverse frames.new ≡ part.changed_top part.polled (reverse frames.old) }
+{
+    match frames.last_mut() {
+        Some(frame) => frame.begin_polls(),
+        None => false,
+    }
+}
+
 fn begin_receiver_in(frames: &mut [Frame]) -> bool
     ensures value { result ≡ part.on_top false part.has_receiver (reverse frames.old) }
     ensures left { reverse frames.new ≡ part.changed_top part.with_receiver (reverse frames.old) }
@@ -86,16 +96,6 @@ fn take_first_in(frames: &mut [Frame]) -> First
     match frames.last_mut() {
         Some(frame) => frame.take_first(),
         None => First::Nothing,
-    }
-}
-
-fn take_reply_in(frames: &mut [Frame]) -> Reply
-    ensures value { result ≡ part.on_top Answered.Done part.reply_of (reverse frames.old) }
-    ensures left { reverse frames.new ≡ part.changed_top part.past_reply (reverse frames.old) }
-{
-    match frames.last_mut() {
-        Some(frame) => frame.take_reply(),
-        None => Reply::Done,
     }
 }
 
@@ -154,6 +154,14 @@ impl Stack {
         advance_in(self.frames.as_mut_slice())
     }
 
+    /// The poll round of the delivery on top is done from now on. Answers whether it wasn't yet.
+    pub fn begin_polls(&mut self) -> bool
+        ensures value { result ≡ part.on_top false part.wants_polls self.old }
+        ensures left { self.new ≡ part.changed_top part.polled self.old }
+    {
+        begin_polls_in(self.frames.as_mut_slice())
+    }
+
     /// The next receiver of the broadcast on top has its turn, if one is left.
     pub fn begin_receiver(&mut self) -> bool
         ensures value { result ≡ part.on_top false part.has_receiver self.old }
@@ -178,6 +186,16 @@ impl Stack {
         take_exit_in(self.frames.as_mut_slice())
     }
 
+    /// Whether something is done before the reply on top.
+    pub fn has_first(&self) -> bool
+        ensures { result ≡ part.on_top false part.has_first self.now }
+    {
+        match self.top() {
+            Some(frame) => frame.has_first(),
+            None => false,
+        }
+    }
+
     /// What is done before the reply on top, which is done once.
     pub fn take_first(&mut self) -> First
         ensures value { result ≡ part.on_top Before.Nothing part.first_of self.old }
@@ -186,12 +204,15 @@ impl Stack {
         take_first_in(self.frames.as_mut_slice())
     }
 
-    /// The reply on top, which is taken once.
-    pub fn take_reply(&mut self) -> Reply
+    /// The reply on top, which is taken with its frame.
+    pub fn pop_reply(&mut self) -> Reply
         ensures value { result ≡ part.on_top Answered.Done part.reply_of self.old }
-        ensures left { self.new ≡ part.changed_top part.past_reply self.old }
+        ensures left { self.new ≡ drop 1 self.old }
     {
-        take_reply_in(self.frames.as_mut_slice())
+        match self.frames.pop() {
+            Some(Frame::Answer { reply, .. }) => reply,
+            _ => Reply::Done,
+        }
     }
 
     /// The frames, the undermost first.

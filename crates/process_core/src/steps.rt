@@ -1,10 +1,10 @@
 //! How open work is done.
 
 ghost use Rattle.std.specs.Prelude.{◌≡◌, ◌<◌, [], ◌∷◌, None, Some, length, option_map};
-ghost use Rattle.process_core.specs.Code.Frames.{items_of, weight, IsBoot, IsPollRound, IsBroadcast, IsFarewell, IsAnswer};
+ghost use Rattle.process_core.specs.Code.Frames.{weight, IsBoot, IsDelivery, IsPollRound, IsBroadcast, IsFarewell, IsAnswer};
 ghost use Rattle.process_core.specs.SchedulerView.{job_of};
-ghost use Rattle.process_core.specs.Code.SchedulerFields.{scheduler_of, awaited_after, IsInOrder, with_frame};
-ghost use Rattle.process_core.specs.Scheduler.{in_front, Yields};
+ghost use Rattle.process_core.specs.Code.SchedulerFields.{scheduler_of, awaited_after, IsInOrder};
+ghost use Rattle.process_core.specs.Scheduler.{Yields};
 ghost use Rattle.process_core.specs.declared.awaited.Awaited.{Awaited};
 ghost use Rattle.process_core.specs.declared.frame.Frame.{Frame};
 
@@ -101,35 +101,37 @@ impl SchedulerFields {
         ensures order { IsInOrder self.new }
         ensures falls { weight self.new.stack < weight self.old.stack }
     {
+        // The reply is taken with its frame, and what is done first only where there is something: each is large.
+        if !self.stack.has_first() {
+            let reply = self.stack.pop_reply();
+            self.awaited = Awaited::Call(pid);
+            return Some(Job::Give {
+                pid,
+                origin: Origin::Answer,
+                stimulus: Stimulus::Answer(reply),
+            });
+        }
         match self.stack.take_first() {
-            First::Nothing => {
-                let reply = self.stack.take_reply();
-                self.stack.drop_top();
-                self.awaited = Awaited::Call(pid);
-                Some(Job::Give {
-                    pid,
-                    origin: Origin::Answer,
-                    stimulus: Stimulus::Answer(reply),
-                })
-            }
+            First::Nothing => None,
             First::Give(other, event) => self.give(other, Origin::Synch, Stimulus::Event(event)),
             First::Start(other) => self.start_one(other),
         }
     }
 
     // A round: the poll round, and then the delivery.
-    fn resume_deliver(&mut self, is_polled: bool) -> Option<Job>
-        requires order { IsInOrder (with_frame (Frame.Deliver is_polled) self.old) }
+    fn resume_deliver(&mut self) -> Option<Job>
+        requires top { IsDelivery self.old.stack }
+        requires order { IsInOrder self.old }
         requires idle { self.old.awaited ≡ Awaited.Nothing }
-        ensures yields { Yields (in_front (items_of (Frame.Deliver is_polled)) (scheduler_of self.old)) (option_map job_of result) (scheduler_of self.new) }
+        ensures yields { Yields (scheduler_of self.old) (option_map job_of result) (scheduler_of self.new) }
         ensures awaited { self.new.awaited ≡ awaited_after result }
         ensures order { IsInOrder self.new }
-        ensures falls { weight self.new.stack < weight (Frame.Deliver is_polled ∷ self.old.stack) }
+        ensures falls { weight self.new.stack < weight self.old.stack }
     {
-        if is_polled {
+        if !self.stack.begin_polls() {
+            self.stack.drop_top();
             return self.deliver();
         }
-        self.stack.push(Frame::Deliver { is_polled: true });
         self.poll_marked();
         None
     }
@@ -177,11 +179,7 @@ impl SchedulerFields {
                 let pid = *pid;
                 self.resume_answer(pid)
             }
-            Some(Frame::Deliver { is_polled }) => {
-                let is_polled = *is_polled;
-                self.stack.drop_top();
-                self.resume_deliver(is_polled)
-            }
+            Some(Frame::Deliver { .. }) => self.resume_deliver(),
             Some(Frame::Callback { pid, number }) => {
                 let (pid, number) = (*pid, *number);
                 self.stack.drop_top();

@@ -1,12 +1,12 @@
 -- Bytes between chunks into which a live chunk may be laid, and what comes of it.
-use Rattle.std.specs.Prelude.{◌≡◌, ℕ, ◌+◌, ◌≤◌, ◌<◌, ◌⊎◌, List, [], ◌++◌, length, Option, None, IsSomeAnd}
+use Rattle.std.specs.Prelude.{◌≡◌, ℕ, ◌+◌, ◌-◌, ◌≤◌, ◌<◌, ◌⊎◌, List, [], ◌++◌, length, Option, None, IsSomeAnd}
 use Rattle.heap_core.specs.declared.chunk.Chunk.{Chunk}
 use Rattle.heap_core.specs.declared.chunk.Place.{Place}
 use Rattle.heap_core.specs.declared.region.Region.{Region}
 use Rattle.heap_core.specs.HeapStore.{header_len}
 use Rattle.heap_core.specs.Code.Chunks.{Tell, BeginsLive, IsWhole, AreJoined, with_chunk, blocks_in}
 use Rattle.heap_core.specs.Code.Layout.{chunks_of, HasChunks}
-use Rattle.heap_core.specs.Code.Links.{LinkedTo}
+use Rattle.heap_core.specs.Code.Links.{LinkedTo, gaps_among, gap_count}
 use Rattle.heap_core.specs.Code.Walks.{LeavesGap, IsWholeRoom, LiveIn}
 
 -- The headers tell chunks up to one place and from another one on, and what lies between is free: whatever its bytes are.
@@ -39,6 +39,7 @@ pub record Laid (heap new : Region) (bytes new_bytes : List ℕ) (live : Chunk) 
   pub mid : List Chunk
   pub is : chunks_of new new_bytes ≡ before ++ (mid ++ behind)
   pub linked : LinkedTo first mid link
+  pub count : new.gaps ≡ heap.gaps + length (gaps_among mid)
   pub chunks : HasChunks new new_bytes
   pub blocks :
       blocks_in new_bytes new.span.at (chunks_of new new_bytes)
@@ -50,6 +51,7 @@ pub record Free (heap : Region) (bytes : List ℕ) (target : Place) (end : ℕ) 
   pub hole : Hole heap bytes target.at end
   pub mid : List Chunk
   pub is : chunks_of heap bytes ≡ hole.before ++ (mid ++ hole.behind)
+  pub count : length (gaps_among mid) ≡ gap_count (end - target.at)
   pub inside : target.at + (header_len + target.room) ≤ heap.span.len
   pub rest : Leaves heap (target.at + (header_len + target.room)) end
   pub whole : IsWholeRoom target.room

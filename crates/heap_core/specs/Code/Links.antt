@@ -1,5 +1,5 @@
 -- How the headers link the free chunks: the gaps, the lowest first, and the chunks that were freed and are not joined yet.
-use Rattle.std.specs.Prelude.{◌≡◌, ◌≢◌, ℕ, zero, suc, ◌+◌, ◌≤◌, Bool, false, not, List, [], ◌∷◌, ◌++◌, length, filter, fold, Option, Some, None, is_none, if◌then◌else◌, nat_lt, nat_le}
+use Rattle.std.specs.Prelude.{◌≡◌, ◌≢◌, ℕ, zero, suc, ◌+◌, ◌≤◌, Bool, false, not, List, [], ◌∷◌, ◌++◌, length, filter, fold, Option, Some, None, is_none, if◌then◌else◌, ◌==◌, nat_lt, nat_le}
 use Rattle.heap_core.specs.declared.chunk.Chunk.{Chunk}
 use Rattle.heap_core.specs.declared.region.Region.{Region}
 use Rattle.heap_core.specs.HeapStore.{Block}
@@ -24,6 +24,10 @@ with_free chunk (Some name) chunks = chunks
 abbrev pub gaps_among : List Chunk → List Chunk
 gaps_among [] = []
 gaps_among (chunk ∷ chunks) = with_free chunk chunk.owner (gaps_among chunks)
+
+-- how many gaps that many free bytes are
+abbrev pub gap_count : ℕ → ℕ
+gap_count len = if len == 0 then 0 else 1
 
 -- a list that begins there comes to this chunk next, if it is a gap
 abbrev pub Meets : Option ℕ → Chunk → Option ℕ → Type 0

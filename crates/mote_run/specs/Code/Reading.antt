@@ -1,10 +1,9 @@
 -- What was used of a script, and what that says.
-use Rattle.std.specs.Prelude.{◌≡◌, ◌≢◌, ℕ, ◌+◌, ◌<◌, ◌≤◌, true, List, ◌∷◌, ◌++◌, length, Option, Some, None, Result, OnOk, OnErr}
-use Rattle.std.specs.Result.{result_ok}
+use Rattle.std.specs.Prelude.{◌≡◌, ◌≢◌, ℕ, ◌+◌, ◌<◌, ◌≤◌, Bool, true, List, ◌∷◌, ◌++◌, length, take, Option, Some, None, Result, OnOk, OnErr}
 use Rattle.mote_types.specs.declared.entry.Input.{Input}
 use Rattle.mote_text.specs.declared.script.BadLine.{BadLine}
-use Rattle.mote_text.specs.Lines.{has_no_end, unfinished_after, with_end}
-use Rattle.mote_text.specs.Script.{line_limit, read_line, script_limit}
+use Rattle.mote_text.specs.Lines.{GoesOnAt, has_no_end, unfinished_after, with_end}
+use Rattle.mote_text.specs.Script.{line_limit, line_said, read_line, script_limit}
 use Rattle.mote_text.specs.declared.lines.Taken.{Taken}
 
 -- a line says what it is read as, bytes before a line's end say nothing, and a line that is too wide has no form
@@ -18,6 +17,19 @@ abbrev pub number_after : Taken → ℕ → ℕ
 number_after Taken.Line number = number + 1
 number_after Taken.More number = number
 number_after Taken.TooWide number = number
+
+-- so many bytes of a piece were used, up to the end of the present line, whose number this is. That is what they say
+pub record ReadPart (line piece line_later : List ℕ) (used number number_later : ℕ) (says : Result Bool BadLine) (input : Input) : Type 0 where
+  pub last : Taken
+  pub bytes : List ℕ
+  pub joined : line ++ take used piece ≡ with_end last bytes
+  pub narrow : length bytes ≤ line_limit
+  pub endless : has_no_end bytes ≡ true
+  pub begun : line_later ≡ unfinished_after last bytes
+  pub says_so : line_said says input ≡ said last bytes
+  pub numbered : OnOk says (number_later ≡ number_after last number)
+  pub same_number : OnErr says (number_later ≡ number)
+  pub too_wide : last ≡ Taken.TooWide → (length bytes ≡ line_limit) × GoesOnAt piece used
 
 -- what a take used of a piece, behind the bytes of the present line, and what it left
 pub record TakenPart (line piece later : List ℕ) (count count_later : ℕ) (last : Taken) (bytes : List ℕ) : Type 0 where
@@ -39,13 +51,13 @@ pub record GoesOn (ended : ℕ) (bytes later : List ℕ) : Type 0 where
   pub other : byte ≢ 10
 
 -- Bytes of a piece were used up to the end of the present line, whose number this is. That is what they say, and another line
--- was begun
-pub record Took (line piece line_later later : List ℕ) (count count_later number number_later : ℕ) (says : Result (Option Input) BadLine) : Type 0 where
+-- was begun. An input that they say lies in its place
+pub record Took (line piece line_later later : List ℕ) (count count_later number number_later : ℕ) (says : Result Bool BadLine) (input : Input) : Type 0 where
   pub last : Taken
   pub bytes : List ℕ
   pub part : TakenPart line piece later count count_later last bytes
   pub begun : line_later ≡ unfinished_after last bytes
-  pub says_so : result_ok says ≡ said last bytes
+  pub says_so : line_said says input ≡ said last bytes
   pub numbered : OnOk says (number_later ≡ number_after last number)
   pub same_number : OnErr says (number_later ≡ number)
   pub goes_on : last ≡ Taken.TooWide → (ended : ℕ) → ended + length bytes ≡ count_later → GoesOn ended bytes later

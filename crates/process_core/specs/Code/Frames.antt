@@ -88,6 +88,15 @@ advanced (Frame.Boot walk) = Frame.Boot (drop 1 walk)
 advanced (Frame.Leave pid walk exits) = Frame.Leave pid (drop 1 walk) exits
 advanced frame = frame
 
+-- whether a delivery's poll round is still to be done, and the delivery behind it
+abbrev pub wants_polls : Frame → Bool
+wants_polls (Frame.Deliver false) = true
+wants_polls _ = false
+
+abbrev pub polled : Frame → Frame
+polled (Frame.Deliver is_polled) = Frame.Deliver true
+polled frame = frame
+
 -- whether a receiver of a broadcast is left, and the broadcast with that one as the next
 abbrev pub has_receiver : Frame → Bool
 has_receiver (Frame.Broadcast next (p ∷ walk) event) = true
@@ -115,7 +124,15 @@ abbrev pub past_exit : Frame → Frame
 past_exit (Frame.Leave pid walk exits) = Frame.Leave pid walk false
 past_exit frame = frame
 
--- what comes before a reply, the reply, and what is left then
+-- whether something comes before a reply, what it is, the reply, and what is left then
+abbrev pub is_something : First → Bool
+is_something First.Nothing = false
+is_something _ = true
+
+abbrev pub has_first : Frame → Bool
+has_first (Frame.Answer pid first reply) = is_something first
+has_first _ = false
+
 abbrev pub first_of : Frame → First
 first_of (Frame.Answer pid first reply) = first
 first_of _ = First.Nothing
@@ -128,10 +145,6 @@ abbrev pub reply_of : Frame → Reply
 reply_of (Frame.Answer pid first reply) = reply
 reply_of _ = Reply.Done
 
-abbrev pub past_reply : Frame → Frame
-past_reply (Frame.Answer pid first reply) = Frame.Answer pid first Reply.Done
-past_reply frame = frame
-
 -- of which kind the topmost frame is
 
 abbrev pub IsBoot : List Frame → Type 0
@@ -139,6 +152,9 @@ IsBoot stack = (walk : List ℕ) × (below : List Frame) × (stack ≡ Frame.Boo
 
 abbrev pub IsPollRound : List Frame → Type 0
 IsPollRound stack = (walk : List ℕ) × (below : List Frame) × (stack ≡ Frame.Polls walk ∷ below)
+
+abbrev pub IsDelivery : List Frame → Type 0
+IsDelivery stack = (is_polled : Bool) × (below : List Frame) × (stack ≡ Frame.Deliver is_polled ∷ below)
 
 abbrev pub IsBroadcast : List Frame → Type 0
 IsBroadcast stack = (next : Option Pid) × (walk : List ℕ) × (event : Event) × (below : List Frame) × (stack ≡ Frame.Broadcast next walk event ∷ below)

@@ -1,5 +1,5 @@
 -- What the code's process list stands for, and what is always true of it.
-use Rattle.std.specs.Prelude.{◌≡◌, ℕ, ◌<◌, Bool, true, false, not, eqb, ◌==◌, List, map, filter, length, slice_index_or}
+use Rattle.std.specs.Prelude.{◌≡◌, ℕ, suc, ◌<◌, Bool, true, false, not, eqb, ◌==◌, List, [], ◌∷◌, map, filter, length, slice_index_or}
 use Rattle.std.specs.List.{IsDistinct}
 use Rattle.process_core.specs.declared.state.State.{State}
 use Rattle.process_core.specs.declared.process.Process.{Process}
@@ -14,6 +14,12 @@ mark_at marks p = slice_index_or marks p false
 
 abbrev pub process_at : List State → List Bool → ℕ → Process
 process_at states marks p = record { number = p; state = state_at states p; marked = mark_at marks p }
+
+-- how many processes are marked
+abbrev pub mark_count : List Bool → ℕ
+mark_count [] = 0
+mark_count (true ∷ marks) = suc (mark_count marks)
+mark_count (false ∷ marks) = mark_count marks
 
 -- the processes of these numbers
 abbrev pub listed : List State → List Bool → List ℕ → List Process

@@ -26,7 +26,7 @@ any-append test [] ys h = h
 any-append test (x ∷ xs) ys h = grind (arith, any-append test xs ys h)
 
 pub all-append : {A : Type 0} (test : A → Bool) (xs ys : List A) → list_all test xs ≡ true → list_all test ys ≡ true → list_all test (xs ++ ys) ≡ true
-all-append test [] ys h k = k
+all-append test [] ys h e = e
 all-append test (x ∷ xs) ys h k = grind (arith, h, all-append test xs ys)
 
 pub all-mapped : (test : Item → Bool) (f : ℕ → Item) (ns : List ℕ) → ((n : ℕ) → test (f n) ≡ true) → list_all test (map f ns) ≡ true
@@ -101,6 +101,14 @@ is_calm_call (Call.Kill q) = false
 is_calm_call (Call.Start q) = false
 is_calm_call _ = true
 
+-- such a call puts its answer in front, or that below one more item
+calm-front : (P : List Item → Bool) (call : Call) (q : ℕ) (m : Machine) → is_calm_call call ≡ true
+    → ((reply : Reply) → P (Item.Turn q Origin.Answer (Stimulus.Answer reply) ∷ m.scheduler.agenda) ≡ true)
+    → ((r : ℕ) (stimulus : Stimulus) (items : List Item) → P items ≡ true → P (Item.Give r Origin.Synch stimulus ∷ items) ≡ true)
+    → ((note : Note) (items : List Item) → P items ≡ true → P (Item.Show (Entry.Note note) ∷ items) ≡ true)
+    → P (after_call call q m).scheduler.agenda ≡ true
+calm-front P call q m h answer give note = grind (arith, answer, give, note)
+
 pub after-all : (test : Item → Bool) (call : Call) (q : ℕ) (m : Machine) → Passes test q m.scheduler → list_all test m.scheduler.agenda ≡ true
     → list_all test (after_call call q m).scheduler.agenda ≡ true
 after-all test Call.Wait q m p h = grind (arith, h)
@@ -130,4 +138,5 @@ after-all test (Call.Start r) q m p h = go (start_refusal m.scheduler r) refl
 after-all test call q m p h = calm call (grind arith)
   where
     calm : (call : Call) → is_calm_call call ≡ true → list_all test (after_call call q m).scheduler.agenda ≡ true
-    calm call k = grind (arith, k, h, p.answer, p.give, p.note)
+    calm call k =
+        calm-front (list_all test) call q m k (λ reply. rw (p.answer reply) h) (λ r stimulus items i. rw (p.give r stimulus) i) (λ note items i. rw (p.note note) i)

@@ -17,9 +17,9 @@ entry-init g c = record {
 pub entry-preserved : goal.entry-preserved
 entry-preserved g c = record {
   settled = λ named boot_says before told.
-      settled_more boot_says _ _ _ before _ _ _ _ _ _ _ _ _ (Step.Entry c.in-Entry.entry) (c.entry.invariant.settled named boot_says before told)
-      c.in-Entry.ensures.machine c.in-Entry.ensures.law c.in-Entry.ensures.halted
-      (c.in_ok-write_entry-in-Entry.ensures.written named);
+      settled_more boot_says _ _ _ before _ _ _ _ _ _ _ _ _ (Step.Entry c.step_to.new.made) (c.entry.invariant.settled named boot_says before told)
+      c.in-Made.ensures.machine c.in-Made.ensures.law c.in-Made.ensures.halted
+      (c.in_ok-write_entry-in-Made.ensures.written named);
   applications = search rules;
   clock = search rules;
   inputs = search rules;
@@ -36,8 +36,8 @@ returns-in-Halted-clause-settled g c = λ named boot_says before told.
     settled_more boot_says _ _ _ before _ _ _ _ _ _ _ _ _ Step.Halted (c.entry.invariant.settled named boot_says before told)
     c.in-Halted.ensures.machine c.in-Halted.ensures.law c.in-Halted.ensures.halted (nothing_more _ _)
 
-pub returns-in_err-write_entry-in-Entry-clause-cut_off : goal.returns-in_err-write_entry-in-Entry-clause-cut_off
-returns-in_err-write_entry-in-Entry-clause-cut_off g c = on_err c.from_residual.result (λ named boot_says before told.
-    let cut = c.in_err-write_entry-in-Entry.ensures.cut_off named in
-    cut_off_at boot_says _ _ before _ _ c.step.new.self.machine _ _ _ _ _ cut.0 c.in-Entry.entry (c.entry.invariant.settled named boot_says before told)
-    c.in-Entry.ensures.machine cut.1)
+pub returns-in_err-write_entry-in-Made-clause-cut_off : goal.returns-in_err-write_entry-in-Made-clause-cut_off
+returns-in_err-write_entry-in-Made-clause-cut_off g c = on_err c.from_residual.result (λ named boot_says before told.
+    let cut = c.in_err-write_entry-in-Made.ensures.cut_off named in
+    cut_off_at boot_says _ _ before _ _ c.step_to.new.self.machine _ _ _ _ _ cut.0 c.step_to.new.made (c.entry.invariant.settled named boot_says before told)
+    c.in-Made.ensures.machine cut.1)

@@ -29,7 +29,7 @@ returns-in_err-place-clause-refused c =
     (λ is. none, λ is. rw e (search rules))
 
 pub returns-in_err-place-clause-linked : goal.returns-in_err-place-clause-linked
-returns-in_err-place-clause-linked c = let j = c.join.ensures in linked_is c.join.new.self c.join.new.arena.bytes j.joins.chunks j.gaps j.joins.freed j.none
+returns-in_err-place-clause-linked c = let j = c.join.ensures in linked_is c.join.new.self c.join.new.arena.bytes j.joins.chunks j.joins.gaps j.joins.freed j.none
 
 pub returns-clause-refused : goal.returns-clause-refused
 returns-clause-refused c =

@@ -31,7 +31,7 @@ returns-in_default-clause-block c =
     let was = c.self.inside.region in let A = c.args.arena.now.bytes in let name = c.number_of-name.result in let chunk = c.live_chunk-chunk.result in let n = c.args.n in let p = c.args.key.0.0 in let h = c.args.key.1 in
     let j = c.join.ensures in let heap = c.join.new.self in let B = c.join.new.arena.bytes in let store = store_of heap B in
     let laid : IsLaidOut was A = subst (λ (r : Region). IsLaidOut r A) (sym c.self.view_is) c.requires.laid_out in
-    let joined = joined_laid was heap c.args.arena.now c.join.new.arena laid j.joins j.gaps in
+    let joined = joined_laid was heap c.args.arena.now c.join.new.arena laid j.joins in
     let s = stored heap B joined in let small = c.number_of-name.ensures.within in let o = c.live_chunk-chunk.ensures.owned in
     let all : heap_of heap B ≡ store = plain heap B j.joins.freed j.none in
     let same : store ≡ heap_of was A = sym all ∙ j.joins.blocks in
@@ -49,7 +49,7 @@ returns-in_default-clause-laid_out c =
     let was = c.self.inside.region in let A = c.args.arena.now.bytes in let name = c.number_of-name.result in let chunk = c.live_chunk-chunk.result in let n = c.args.n in let p = c.args.key.0.0 in let h = c.args.key.1 in
     let j = c.join.ensures in let heap = c.join.new.self in let B = c.join.new.arena.bytes in let store = store_of heap B in
     let laid : IsLaidOut was A = subst (λ (r : Region). IsLaidOut r A) (sym c.self.view_is) c.requires.laid_out in
-    let joined = joined_laid was heap c.args.arena.now c.join.new.arena laid j.joins j.gaps in
+    let joined = joined_laid was heap c.args.arena.now c.join.new.arena laid j.joins in
     let s = stored heap B joined in let small = c.number_of-name.ensures.within in let o = c.live_chunk-chunk.ensures.owned in
     let all : heap_of heap B ≡ store = plain heap B j.joins.freed j.none in
     let same : store ≡ heap_of was A = sym all ∙ j.joins.blocks in
@@ -77,7 +77,7 @@ returns-clause-block c =
     let was = c.self.inside.region in let A = c.args.arena.now.bytes in let name = c.number_of-name.result in let chunk = c.live_chunk-chunk.result in let n = c.args.n in let p = c.args.key.0.0 in let h = c.args.key.1 in
     let j = c.join.ensures in let heap = c.join.new.self in let B = c.join.new.arena.bytes in let store = store_of heap B in
     let laid : IsLaidOut was A = subst (λ (r : Region). IsLaidOut r A) (sym c.self.view_is) c.requires.laid_out in
-    let joined = joined_laid was heap c.args.arena.now c.join.new.arena laid j.joins j.gaps in
+    let joined = joined_laid was heap c.args.arena.now c.join.new.arena laid j.joins in
     let s = stored heap B joined in let small = c.number_of-name.ensures.within in let o = c.live_chunk-chunk.ensures.owned in
     let all : heap_of heap B ≡ store = plain heap B j.joins.freed j.none in
     let same : store ≡ heap_of was A = sym all ∙ j.joins.blocks in
@@ -98,7 +98,7 @@ returns-clause-laid_out c =
     let was = c.self.inside.region in let A = c.args.arena.now.bytes in let name = c.number_of-name.result in let chunk = c.live_chunk-chunk.result in let n = c.args.n in let p = c.args.key.0.0 in let h = c.args.key.1 in
     let j = c.join.ensures in let heap = c.join.new.self in let B = c.join.new.arena.bytes in let store = store_of heap B in
     let laid : IsLaidOut was A = subst (λ (r : Region). IsLaidOut r A) (sym c.self.view_is) c.requires.laid_out in
-    let joined = joined_laid was heap c.args.arena.now c.join.new.arena laid j.joins j.gaps in
+    let joined = joined_laid was heap c.args.arena.now c.join.new.arena laid j.joins in
     let s = stored heap B joined in let small = c.number_of-name.ensures.within in let o = c.live_chunk-chunk.ensures.owned in
     let all : heap_of heap B ≡ store = plain heap B j.joins.freed j.none in
     let same : store ≡ heap_of was A = sym all ∙ j.joins.blocks in
@@ -130,7 +130,7 @@ returns-in_err-at-clause-refused c =
     let was = c.self.inside.region in let A = c.args.arena.now.bytes in let name = c.number_of-name.result in let chunk = c.live_chunk-chunk.result in let n = c.args.n in let p = c.args.key.0.0 in let h = c.args.key.1 in
     let j = c.join.ensures in let heap = c.join.new.self in let B = c.join.new.arena.bytes in let store = store_of heap B in
     let laid : IsLaidOut was A = subst (λ (r : Region). IsLaidOut r A) (sym c.self.view_is) c.requires.laid_out in
-    let joined = joined_laid was heap c.args.arena.now c.join.new.arena laid j.joins j.gaps in
+    let joined = joined_laid was heap c.args.arena.now c.join.new.arena laid j.joins in
     let s = stored heap B joined in let small = c.number_of-name.ensures.within in let o = c.live_chunk-chunk.ensures.owned in
     let all : heap_of heap B ≡ store = plain heap B j.joins.freed j.none in
     let same : store ≡ heap_of was A = sym all ∙ j.joins.blocks in
@@ -150,7 +150,7 @@ returns-in_default-clause-refused c =
     let was = c.self.inside.region in let A = c.args.arena.now.bytes in let name = c.number_of-name.result in let chunk = c.live_chunk-chunk.result in let n = c.args.n in let p = c.args.key.0.0 in let h = c.args.key.1 in
     let j = c.join.ensures in let heap = c.join.new.self in let B = c.join.new.arena.bytes in let store = store_of heap B in
     let laid : IsLaidOut was A = subst (λ (r : Region). IsLaidOut r A) (sym c.self.view_is) c.requires.laid_out in
-    let joined = joined_laid was heap c.args.arena.now c.join.new.arena laid j.joins j.gaps in
+    let joined = joined_laid was heap c.args.arena.now c.join.new.arena laid j.joins in
     let s = stored heap B joined in let small = c.number_of-name.ensures.within in let o = c.live_chunk-chunk.ensures.owned in
     let all : heap_of heap B ≡ store = plain heap B j.joins.freed j.none in
     let same : store ≡ heap_of was A = sym all ∙ j.joins.blocks in
@@ -168,7 +168,7 @@ returns-clause-refused c =
     let was = c.self.inside.region in let A = c.args.arena.now.bytes in let name = c.number_of-name.result in let chunk = c.live_chunk-chunk.result in let n = c.args.n in let p = c.args.key.0.0 in let h = c.args.key.1 in
     let j = c.join.ensures in let heap = c.join.new.self in let B = c.join.new.arena.bytes in let store = store_of heap B in
     let laid : IsLaidOut was A = subst (λ (r : Region). IsLaidOut r A) (sym c.self.view_is) c.requires.laid_out in
-    let joined = joined_laid was heap c.args.arena.now c.join.new.arena laid j.joins j.gaps in
+    let joined = joined_laid was heap c.args.arena.now c.join.new.arena laid j.joins in
     let s = stored heap B joined in let small = c.number_of-name.ensures.within in let o = c.live_chunk-chunk.ensures.owned in
     let all : heap_of heap B ≡ store = plain heap B j.joins.freed j.none in
     let same : store ≡ heap_of was A = sym all ∙ j.joins.blocks in

@@ -2,8 +2,11 @@ use Rattle.std.proofs.Common.{◌≡◌, ◌+◌, inl, inr, sym, ap, ◌∙◌, 
 use Rattle.heap_core.specs.declared.chunk.Chunk.{Chunk}
 use Rattle.heap_core.specs.Code.Chunks.{chunk_at}
 use Rattle.heap_core.specs.Code.Holes.{Free}
+use Rattle.heap_core.specs.Code.Layout.{chunks_of}
+use Rattle.heap_core.specs.Code.Links.{gaps_among, gap_from}
 use Rattle.heap_core.proofs.Choices.{place_cases}
 use Rattle.heap_core.proofs.Holes.{free_top, free_gap}
+use Rattle.heap_core.proofs.NextGaps.{behind_gap, above_all}
 use Rattle.heap_core.proofs.Standing.{around}
 use Rattle.heap_core.proofs.region.Region.free_end.Goals as goal
 
@@ -19,8 +22,8 @@ pub returns-then-target-self-clause-room : goal.returns-then-target-self-clause-
 returns-then-target-self-clause-room c =
     elim (place_cases c.args.self.now c.args.arena.now.bytes c.requires.chunks c.args.n c.args.target c.requires.some c.requires.place) [ inl top ↦ top.room | inr low ↦ low.room ]
 
-pub chunk_at-requires-clause-inside : goal.chunk_at-requires-clause-inside
-chunk_at-requires-clause-inside c =
+pub chunk_at-gap-requires-clause-inside : goal.chunk_at-gap-requires-clause-inside
+chunk_at-gap-requires-clause-inside c =
     let heap = c.args.self.now in let B = c.args.arena.now.bytes in
     elim (place_cases heap B c.requires.chunks c.args.n c.args.target c.requires.some c.requires.place) [
       | inl top ↦ absurd (c.if-target-self.false top.at)
@@ -34,7 +37,7 @@ overflow_add-result c =
       | inl top ↦ absurd (c.if-target-self.false top.at)
       | inr low ↦
           let g = low.gap in let a = around heap B g.gap c.requires.chunks g.stands in
-          let is : c.chunk_at.result ≡ g.gap = c.chunk_at.ensures ∙ ap (chunk_at B heap.span.at) (sym g.at) ∙ a.here in
+          let is : c.chunk_at-gap.result ≡ g.gap = c.chunk_at-gap.ensures ∙ ap (chunk_at B heap.span.at) (sym g.at) ∙ a.here in
           omega (arith, ap (λ (k : Chunk). k.len) is, a.fits, g.at, heap.inside, heap.small)
     ]
 
@@ -45,10 +48,29 @@ returns-clause-free c =
       | inl top ↦ absurd (c.if-target-self.false top.at)
       | inr low ↦
           let g = low.gap in let a = around heap B g.gap c.requires.chunks g.stands in
-          let is : c.chunk_at.result ≡ g.gap = c.chunk_at.ensures ∙ ap (chunk_at B heap.span.at) (sym g.at) ∙ a.here in
+          let is : c.chunk_at-gap.result ≡ g.gap = c.chunk_at-gap.ensures ∙ ap (chunk_at B heap.span.at) (sym g.at) ∙ a.here in
           subst (λ (k : Chunk). Free heap B target (target.at + k.len)) (sym is) (free_gap heap B c.requires.chunks target g low.whole)
     ]
 
 pub returns-clause-room : goal.returns-clause-room
 returns-clause-room c =
     elim (place_cases c.args.self.now c.args.arena.now.bytes c.requires.chunks c.args.n c.args.target c.requires.some c.requires.place) [ inl top ↦ top.room | inr low ↦ low.room ]
+
+pub returns-then-target-self-clause-link : goal.returns-then-target-self-clause-link
+returns-then-target-self-clause-link c =
+    let heap = c.args.self.now in let B = c.args.arena.now.bytes in
+    sym (above_all heap B c.requires.chunks c.requires.linked) ∙ ap (λ at. gap_from at (gaps_among (chunks_of heap B))) (sym c.if-target-self.true)
+
+pub returns-clause-link : goal.returns-clause-link
+returns-clause-link c =
+    let heap = c.args.self.now in let B = c.args.arena.now.bytes in
+    elim (place_cases heap B c.requires.chunks c.args.n c.args.target c.requires.some c.requires.place) [
+      | inl top ↦ absurd (c.if-target-self.false top.at)
+      | inr low ↦
+          let g = low.gap in let a = around heap B g.gap c.requires.chunks g.stands in
+          let is : c.chunk_at-gap.result ≡ g.gap = c.chunk_at-gap.ensures ∙ ap (chunk_at B heap.span.at) (sym g.at) ∙ a.here in
+          ap (λ (k : Chunk). k.link) is
+          ∙ behind_gap heap B c.requires.chunks c.requires.linked g.gap a g.free
+          ∙ ap (λ at. gap_from (at + g.gap.len) (gaps_among (chunks_of heap B))) g.at
+          ∙ ap (λ (k : Chunk). gap_from (c.args.target.at + k.len) (gaps_among (chunks_of heap B))) (sym is)
+    ]

@@ -33,9 +33,9 @@ release-requires-clause-live c =
     let i = c.loop-self.invariant in
     (newest_is c.loop-self.self c.loop-self.arena.bytes i.chunks i.freed c.in-Some.at c.chunk_at-chunk.result c.in-Some.is c.chunk_at-chunk.ensures).live.live
 
-pub release-requires-clause-linked : goal.release-requires-clause-linked
+pub release-requires-clause-gaps : goal.release-requires-clause-gaps
 unfolding chunks_of
-release-requires-clause-linked c = c.loop-self.invariant.linked
+release-requires-clause-gaps c = record { linked = c.loop-self.invariant.gaps.linked; count = c.loop-self.invariant.gaps.count }
 
 pub loop-self-preserved : goal.loop-self-preserved
 unfolding chunks_of
@@ -45,7 +45,7 @@ loop-self-preserved c =
     let n = newest_is heap B i.chunks i.freed c.in-Some.at chunk c.in-Some.is c.chunk_at-chunk.ensures in
     record {
       chunks = c.release.ensures.chunks;
-      linked = c.release.ensures.linked;
+      gaps = c.release.ensures.gaps;
       freed = record {
         list = n.rest;
         linked = subst (λ head. AreFreed (chunks_of new B') head n.rest) (sym c.release.ensures.kept.newest)
@@ -67,16 +67,12 @@ returns-clause-joins c =
     let i = c.loop-self.invariant in
     record {
       chunks = has_same c.loop-self.self _ c.loop-self.arena.bytes refl refl i.chunks;
-      linked = i.linked;
+      gaps = i.gaps;
       freed = record { list = i.freed.list; linked = i.freed.linked; count = i.freed.count; all = i.freed.all };
       blocks = i.blocks;
       places = i.places;
       rest = record { span = i.rest.span; carved = i.rest.carved; bytes = i.rest.bytes };
     }
-
-pub returns-clause-gaps : goal.returns-clause-gaps
-unfolding chunks_of
-returns-clause-gaps c = record { linked = c.loop-self.invariant.linked; count = c.count_gaps-self.ensures }
 
 pub returns-clause-none : goal.returns-clause-none
 returns-clause-none c = let i = c.loop-self.invariant in none_newest c.loop-self.self c.loop-self.arena.bytes i.chunks i.freed c.in_default.is

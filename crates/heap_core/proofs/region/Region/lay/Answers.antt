@@ -1,13 +1,13 @@
-use Rattle.std.proofs.Common.{[], ◌∷◌, ◌++◌, ◌≡◌, ◌+◌, ◌-◌, ◌≤◌, ◌<◌, ◌⊎◌, inl, inr, None, refl, sym, ap, ◌∙◌, subst, arith}
+use Rattle.std.proofs.Common.{[], ◌∷◌, ◌++◌, ◌≡◌, ◌+◌, ◌-◌, ◌≤◌, ◌<◌, ◌⊎◌, inl, inr, length, None, refl, sym, ap, ◌∙◌, subst, arith}
 use Rattle.std.specs.Prelude.{IfSome}
 use Rattle.arena_core.specs.Contents.{Contents}
 use Rattle.arena_core.specs.Outside.{ChangesOnly}
 use Rattle.heap_core.specs.declared.chunk.Chunk.{Chunk}
 use Rattle.heap_core.specs.Code.Chunks.{chunk_at, Tell, BeginsLive}
 use Rattle.heap_core.specs.Code.Walks.{laid, bytes_in_chunk, LeavesGap}
-use Rattle.heap_core.specs.Code.Links.{LinkedTo}
+use Rattle.heap_core.specs.Code.Links.{gaps_among, gap_count, LinkedTo}
 use Rattle.heap_core.proofs.Holes.{is_live, live_block, live_joined, laid_block, laid_begins, laid_joined, laid_between}
-use Rattle.heap_core.proofs.Lists.{link_gap, link_live}
+use Rattle.heap_core.proofs.Lists.{count_none, count_some, live_first, link_gap, link_live}
 use Rattle.heap_core.proofs.Splice.{laid_all, laid_some, left_over}
 use Rattle.heap_core.proofs.Steps.{ended}
 use Rattle.heap_core.proofs.Told.{told_le, chunk_frame, changes_then, changes_more, owner_some}
@@ -25,7 +25,13 @@ returns-then-end-self-clause-laid c hole =
     hole.front (c.put_chunk.ensures.chunk, room, refl) (subst (Tell B b next next) (sym none) refl)
     (hole.joined (live ∷ hole.behind) (is_live B B' b live o.0 o.1) (live_joined B B' b live o.0 o.1 c.requires.fits.whole hole.behind hole.joined_behind))
     (live_block B B' b live o.0 o.1 kept)
-    c.args.link c.args.link (link_live c.args.link c.args.link o.0 live [] o.1 refl)
+    c.args.link c.args.link (link_live c.args.link c.args.link o.0 live [] o.1 refl) (omega (arith, ap length (live_first live o.0 [] o.1)))
+
+pub overflow_sub-end : goal.overflow_sub-end
+overflow_sub-end c = elim c.requires.fits.rest [
+  | inl last ↦ absurd (c.if-end-self.false last)
+  | inr f ↦ elim f [ inl all ↦ omega (arith, all) | inr less ↦ omega (arith, less.0) ]
+]
 
 pub put_chunk-requires-then-next-end-clause-inside : goal.put_chunk-requires-then-next-end-clause-inside
 put_chunk-requires-then-next-end-clause-inside c =
@@ -102,6 +108,19 @@ linked c =
           subst (λ l. LinkedTo c.if-next-end.first l link) (sym (laid_all live len link same)) (link_live c.if-next-end.first link o.0 live [] o.1 w.first-is)
     ]
 
+-- it is one more
+count : (c : After-put_chunk-2) → length (gaps_among (laid c.args.live (c.args.end - c.args.live.at) c.args.link)) ≡ gap_count (c.args.end - (c.args.live.at + c.args.live.len))
+count c =
+    let live = c.args.live in let end = c.args.end in let len = end - live.at in let link = c.args.link in
+    let o = owner_some live.owner c.requires.fits.owner in
+    elim (rest c) [
+      | inl all ↦ ap (λ l. length (gaps_among l)) (laid_all live len link all) ∙ ap length (live_first live o.0 [] o.1) ∙ sym (count_none (end - (live.at + live.len)) (omega (arith, all)))
+      | inr some ↦
+          ap (λ l. length (gaps_among l)) (laid_some live len link (omega (arith, some.0)))
+          ∙ ap length (live_first live o.0 (left_over live len link ∷ []) o.1)
+          ∙ sym (count_some (end - (live.at + live.len)) (omega (arith, some.0)))
+    ]
+
 pub returns-clause-laid : goal.returns-clause-laid
 returns-clause-laid c hole =
     let heap = c.args.self.now in let b = heap.span.at in let B = c.args.arena.now.bytes in let B' = c.put_chunk-2.new.arena.bytes in let live = c.args.live in let len = c.args.end - live.at in
@@ -112,10 +131,10 @@ returns-clause-laid c hole =
       | inl none ↦ absurd (c.if-end-self.false (subst (Tell B b c.args.end heap.footprint) none hole.back))
       | inr begins ↦ begins
     ] in
-    laid_between heap heap B B' live hole.before (laid live len c.args.link) hole.behind c.args.end refl hole.within (changes c) hole.front (told c) hole.back
+    laid_between heap _ B B' live hole.before (laid live len c.args.link) hole.behind c.args.end refl hole.within (changes c) hole.front (told c) hole.back
     (hole.joined (laid live len c.args.link ++ hole.behind) (laid_begins B B' b live o.0 o.1 len c.args.link (rest c) hole.behind) (laid_joined B B' b live o.0 o.1 len c.args.link (rest c) c.requires.fits.whole hole.behind begins hole.joined_behind))
     (laid_block B B' b live o.0 o.1 len c.args.link (rest c) kept)
-    c.if-next-end.first c.args.link (linked c)
+    c.if-next-end.first c.args.link (linked c) (omega (arith, count c, c.gap_count.ensures))
 
 pub returns-clause-rest : goal.returns-clause-rest
 returns-clause-rest c =

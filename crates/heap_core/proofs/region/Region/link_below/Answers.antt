@@ -6,7 +6,7 @@ use Rattle.heap_core.specs.Code.Links.{LinkedTo}
 use Rattle.heap_core.specs.Code.Walks.{Stands}
 use Rattle.heap_core.proofs.Lists.{linked_append, linked_none, no_last}
 use Rattle.heap_core.proofs.Places.{has_same}
-use Rattle.heap_core.proofs.Relinks.{here, relinked, relinked_store, relinked_stands, relinked_list}
+use Rattle.heap_core.proofs.Relinks.{here, relinked, relinked_store, relinked_count, relinked_stands, relinked_list}
 use Rattle.heap_core.proofs.Told.{changes_more}
 use Rattle.heap_core.proofs.region.Region.link_below.Goals as goal
 
@@ -36,6 +36,15 @@ pub returns-in-Some-clause-stands : goal.returns-in-Some-clause-stands
 returns-in-Some-clause-stands c =
     let s = gap_stands (chunks_of c.args.self.now c.args.arena.now.bytes) c.args.before c.in-Some.gap c.in-Some.is c.requires.before in
     relinked_stands c.args.self.now c.args.arena.now.bytes c.put_chunk.new.arena.bytes c.in-Some.gap c.args.first c.requires.chunks s.0 s.1 c.put_chunk.ensures.chunk c.put_chunk.ensures.others
+
+pub returns-in-Some-clause-count : goal.returns-in-Some-clause-count
+returns-in-Some-clause-count c =
+    let s = gap_stands (chunks_of c.args.self.now c.args.arena.now.bytes) c.args.before c.in-Some.gap c.in-Some.is c.requires.before in
+    (refl, relinked_count c.args.self.now c.args.arena.now.bytes c.put_chunk.new.arena.bytes c.in-Some.gap c.args.first c.requires.chunks s.0 s.1 c.put_chunk.ensures.chunk c.put_chunk.ensures.others)
+
+pub returns-in-None-clause-count : goal.returns-in-None-clause-count
+unfolding chunks_of
+returns-in-None-clause-count c = (refl, refl)
 
 pub returns-in-Some-clause-linked : goal.returns-in-Some-clause-linked
 returns-in-Some-clause-linked c before behind end is last linked later =

@@ -14,7 +14,7 @@ use Rattle.kernel_core.proofs.kernel.Kernel.boot.Goals as goal
 
 pub invariant_of-result : goal.invariant_of-result
 invariant_of-result c =
-    let memory : c.in_ok-memory.memory.contents ≡ fresh_memory (sizes_of c.args.config) = search rules in
+    let memory : c.in_ok-memory.memory.contents ≡ fresh_memory (sizes_of c.args.config) = rw c.sizes.ensures at c.in_ok-memory.ensures.fresh in
     let packets : c.new-5.result ≡ no_packets = search rules in
     let starts = draws-starts (range_with_len 4 c.args.config.apps) in
     record {
@@ -31,7 +31,7 @@ invariant_of-result c =
 
 pub returns-clause-booted : goal.returns-clause-booted
 returns-clause-booted c =
-    let memory : c.in_ok-memory.memory.contents ≡ fresh_memory (sizes_of c.args.config) = search rules in
+    let memory : c.in_ok-memory.memory.contents ≡ fresh_memory (sizes_of c.args.config) = rw c.sizes.ensures at c.in_ok-memory.ensures.fresh in
     let packets : c.new-5.result ≡ no_packets = search rules in
     let unshown : c.none.result ≡ none_unshown = search rules in
     let serial : c.in_ok-serial.serial ≡ quiet_line = search rules in

@@ -1,10 +1,11 @@
 use Rattle.std.proofs.Common.{sym, ◌∙◌, ap}
+use Rattle.std.specs.Prelude.{nat_lt}
 use Rattle.process_core.specs.Processes.{is_any_marked}
-use Rattle.process_core.proofs.Listed.{any_listed}
+use Rattle.process_core.proofs.Counting.{any_counted}
 use Rattle.process_core.proofs.process_list.ProcessList.is_any_marked.Goals as goal
 
 pub returns : goal.returns
 returns c =
     let list = c.self.inside in
-    (rw c.as_slice.ensures.value at c.any_mark_in.ensures)
-    ∙ (sym (any_listed list.states list.marks list.on_list.items) ∙ ap is_any_marked c.self.view_is)
+    ap (λ count. nat_lt 0 count) c.count.ensures
+    ∙ (sym (any_counted list.states list.marks list.on_list.items c.self.invariant) ∙ ap is_any_marked c.self.view_is)

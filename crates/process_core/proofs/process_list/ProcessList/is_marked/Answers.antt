@@ -6,5 +6,5 @@ use Rattle.process_core.proofs.process_list.ProcessList.is_marked.Goals as goal
 pub returns : goal.returns
 returns c =
     let list = c.self.inside in
-    c.mark_in.ensures
+    c.is_marked.ensures
     ∙ (sym (marked_kept c.args.pid.0 list.states list.marks list.on_list.items c.self.invariant) ∙ ap (is_marked c.args.pid.0) c.self.view_is)

@@ -6,10 +6,11 @@ use Rattle.process_core.proofs.process_list.ProcessList.set_mark.Goals as goal
 pub invariant_of-self : goal.invariant_of-self
 invariant_of-self c =
     let list = c.self.inside in
-    kept_mark c.args.pid.0 c.args.marked list.states list.marks list.on_list.items
+    rw c.set.ensures
+    (kept_mark c.args.pid.0 c.args.marked list.states list.marks list.on_list.items
     (on_list c.args.pid.0 c.args.self.now list.states list.marks list.on_list.items c.self.view_is c.self.invariant
     (λ e. c.in_default.not-Absent (c.state_of.ensures.value ∙ e)))
-    c.self.invariant
+    c.self.invariant)
 
 pub returns-in-Absent : goal.returns-in-Absent
 returns-in-Absent c =
@@ -22,5 +23,6 @@ pub returns-in_default : goal.returns-in_default
 returns-in_default c =
     let list = c.self.inside in
     let known = c.state_of.ensures.known (λ e. c.in_default.not-Absent (c.state_of.ensures.value ∙ e)) in
-    sym (mark_set c.args.pid.0 c.args.marked list.states list.marks list.on_list.items (omega (arith, known, c.self.invariant.mark_places)))
+    rw c.set.ensures
+    (sym (mark_set c.args.pid.0 c.args.marked list.states list.marks list.on_list.items (omega (arith, known, c.self.invariant.mark_places))))
     ∙ ap (with_mark c.args.pid.0 c.args.marked) c.self.view_is

@@ -13,6 +13,11 @@ resume_polls-requires-clause-top c =
     let top = c.in-Some-Polls in
     (top.field-0-0, drop 1 c.args.self.now.stack, first_and_rest c.args.self.now.stack (Frame.Polls top.field-0-0) (sym (rw top.field-0-is at top.ensures)))
 
+pub resume_deliver-requires-clause-top : goal.resume_deliver-requires-clause-top
+resume_deliver-requires-clause-top c =
+    let top = c.in-Some-Deliver in
+    (top.field-0-0, drop 1 c.args.self.now.stack, first_and_rest c.args.self.now.stack (Frame.Deliver top.field-0-0) (sym (rw top.field-0-is at top.ensures)))
+
 pub resume_broadcast-requires-clause-top : goal.resume_broadcast-requires-clause-top
 resume_broadcast-requires-clause-top c =
     let top = c.in-Some-Broadcast in

@@ -1,0 +1,10 @@
+use Rattle.std.proofs.Common.{length}
+use Rattle.heap_core.specs.Code.Links.{gaps_from_place}
+use Rattle.heap_core.proofs.Walked.{Walked}
+use Rattle.heap_core.proofs.region.Region.places_beside.Given as goal
+
+abbrev pub invariant-loop-next : goal.invariant-loop-next
+invariant-loop-next l = Walked l.self l.arena.bytes l.fn.at l.below l.next
+
+abbrev pub decreases-loop-next : goal.decreases-loop-next
+decreases-loop-next l = length (gaps_from_place l.self l.arena.bytes l.next)

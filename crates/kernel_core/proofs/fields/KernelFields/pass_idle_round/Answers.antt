@@ -1,0 +1,16 @@
+use Rattle.std.proofs.Common.{◌≡◌, false, sym, ◌∙◌, arith}
+use Rattle.std.specs.Prelude.{is_some, ◌==◌}
+use Rattle.std.proofs.lemmas.Bool.Decides.{nat_tests}
+use Rattle.timer_core.specs.Timers.{first_due}
+use Rattle.process_core.specs.LonePoll.{IsLonePoll}
+use Rattle.kernel_core.specs.Run.{work_limit}
+use Rattle.kernel_core.proofs.IdleRound.{idle_round}
+use Rattle.kernel_core.proofs.fields.KernelFields.pass_idle_round.Goals as goal
+
+pub returns-clause-passed : goal.returns-clause-passed
+returns-clause-passed c = λ done. λ answers.
+    let k = c.args.self.now in
+    let none : is_some (first_due k.clock k.timers.timers) ≡ false = sym c.any_due.ensures ∙ c.if-any_due.false in
+    let room : (k.work == work_limit) ≡ false = grind (arith, nat_tests, c.if-self-eq-WORK_LIMIT.false) in
+    let lone : IsLonePoll 0 k.scheduler.state = c.polls_alone.ensures.round c.if-not-polls_alone.false in
+    rw c.unmark.ensures (idle_round answers k c.requires.running c.requires.nothing_shown room none lone)

@@ -1,0 +1,54 @@
+//! The calls, told apart by what they are on.
+
+ghost use Rattle.std.specs.Prelude.{◌≡◌};
+ghost use Rattle.kernel_core.specs.Code.CallKinds.{kind_of};
+
+use mote_types::call::Call;
+
+/// What a call is on.
+#[derive(Clone, Copy, Drop)]
+pub enum CallKind {
+    /// On the processes, the caller among them: `Wait` and `Exit` too.
+    Processes,
+    Events,
+    /// On timers, or the clock.
+    Timers,
+    /// On packets, or the printed text.
+    Devices,
+    Memory,
+}
+
+impl CallKind {
+    /// What a call is on.
+    pub fn of(call: &Call) -> CallKind
+        ensures { result ≡ kind_of call.now }
+    {
+        match call {
+            Call::Wait
+            | Call::Exit
+            | Call::Poll(_)
+            | Call::Start(_)
+            | Call::Kill(_)
+            | Call::IsRunning(_) => CallKind::Processes,
+            Call::Post(..) | Call::Broadcast(..) | Call::PostSynch(..) | Call::AllocEvent => {
+                CallKind::Events
+            }
+            Call::TimerSet(..)
+            | Call::TimerStop(_)
+            | Call::TimerReset(_)
+            | Call::TimerRestart(_)
+            | Call::TimerExpired(_)
+            | Call::CallbackSet(..)
+            | Call::CallbackStop(_)
+            | Call::Clock => CallKind::Timers,
+            Call::Print(_)
+            | Call::PacketOpen
+            | Call::PacketRead(..)
+            | Call::PacketDone
+            | Call::PacketCount
+            | Call::PacketSend(_) => CallKind::Devices,
+            // Every other call is on memory.
+            _ => CallKind::Memory,
+        }
+    }
+}

@@ -1,5 +1,0 @@
-use Rattle.mote.proofs.ReadNames.{HasRead}
-use Rattle.mote.proofs.prepare.read_names.Given as goal
-
-abbrev pub invariant-loop-name : goal.invariant-loop-name
-invariant-loop-name l = HasRead l.names l.name-index l.applications.items

@@ -1,0 +1,17 @@
+use Rattle.std.proofs.Common.{true, ◌≡◌, ◌∙◌, ap, ap₂}
+use Rattle.std.proofs.lemmas.Result.{IfOk-weaker}
+use Rattle.clap.specs.Built.{AddsArg}
+use Rattle.clap.specs.Simple.{app_of, app_of_fields, on_top, with_rule}
+use Rattle.mote_words.specs.CommandLine.{versioned}
+use Rattle.mote_words.proofs.command_line.command.Goals as goal
+
+pub returns : goal.returns
+returns c =
+    let numbered : app_of c.version.result ≡ versioned =
+    ap app_of_fields c.version.ensures ∙ ap (on_top (λ shape. record shape { has_version = true })) c.new.ensures.app in
+    let told : app_of c.about.result ≡ versioned = ap app_of_fields c.about.ensures ∙ numbered in
+    let explained : app_of c.after_help.result ≡ versioned = ap app_of_fields c.after_help.ensures ∙ told in
+    let first = c.in_ok-arg.ensures.shape c.mmem_option.ensures.local ∙ ap₂ with_rule explained c.mmem_option.ensures.rule in
+    let second = c.in_ok-arg-2.ensures.shape c.heap_option.ensures.local ∙ ap₂ with_rule first c.heap_option.ensures.rule in
+    let third = c.in_ok-arg-3.ensures.shape c.quiet_flag.ensures.local ∙ ap₂ with_rule second c.quiet_flag.ensures.rule in
+    IfOk-weaker c.arg-4.result (AddsArg _ c.names_argument.result) _ (λ command added. added.shape c.names_argument.ensures.local ∙ ap₂ with_rule third c.names_argument.ensures.rule) c.arg-4.ensures

@@ -1,0 +1,147 @@
+//! The command line: its options, and the text that tells what the program does.
+
+ghost use Rattle.std.specs.Prelude.{◌≡◌, false, IfOk};
+ghost use Rattle.clap.specs.Kinds.{FailsBy};
+ghost use Rattle.clap.specs.Words.{app_of, found_of, rows_of, rule_of};
+ghost use Rattle.clap.specs.Walk.{texts};
+ghost use Rattle.mote_words.specs.CommandLine as spec;
+
+use clap::builder::ValueParser;
+use clap::parser::ValueSource;
+use clap::{Arg, ArgAction, ArgMatches, Command, Error, value_parser};
+use std::alloc::{AllocError, Global};
+
+/// The version of the program.
+const VERSION: &str = "0.1.0";
+
+const ABOUT: &str = "\
+Runs applications on one simulated Contiki-NG node.
+
+Reads a script from standard input, one input a line, and carries it out:
+  tick N        the clock goes on by N ticks, 0 to 4294967295
+  serial HEX    1 to 256 bytes come in on the serial line
+  frame HEX     a radio frame of 1 to 127 bytes comes in
+An empty line and one that begins with '#' do nothing.
+
+Writes a transcript to standard output: a line for each input ('> tick 5'), and
+a line for each turn of an application: its process number, what it was told,
+and the call that it makes ('4 event 136 0 -> print 6f6e0a').";
+
+const AFTER_HELP: &str = "\
+Applications, processes 4, 5, .. in the order of their names:
+  hello    prints 'hi' when it is started
+  blink    prints 'on' and 'off' by turns, every 10 ticks
+  echo     prints each line that comes in on the serial line
+  relay    sends each radio frame that comes in
+  churn    makes 18 calls on all kinds of memory when it is started
+  ping     broadcasts a count every 5 ticks, and prints it
+
+Exit status:
+  0     the script was carried out, or this text or the version was printed
+  2     the script has a line of no form: 'bad line N' ends the transcript
+  3     the mote halted: 'halt' ends the transcript
+  4     the script has more than 16777216 bytes: 'too long' ends the transcript
+  5, 6  standard input can't be read, standard output can't be written
+  64    the words name no mote
+  70    memory was refused
+
+Example, which prints 'on' at the clock's tick 10:
+  printf 'tick 10\\n' | mote blink";
+
+/// The option of this name, which takes a number of bytes.
+fn size_option<'a>(alloc: Global, name: &'a str, numbers: ValueParser<'a>, help: &'a str) -> Arg<'a>
+    ensures rule { rule_of result ≡ spec.size_option name.entry.now numbers.entry }
+    ensures local { result.global ≡ false }
+{
+    Arg::new(alloc, name)
+        .long(name)
+        .value_name("N")
+        .default_value("4096")
+        .value_parser(numbers)
+        .help(help)
+}
+
+fn mmem_option<'a>(alloc: Global) -> Arg<'a>
+    ensures rule { rule_of result ≡ spec.mmem_option }
+    ensures local { result.global ≡ false }
+{
+    let numbers = value_parser!(u32).range(4..=65_536);
+    let help = "Bytes of managed memory, a multiple of 4 from 4 to 65536";
+    size_option(alloc, "mmem", numbers, help)
+}
+
+fn heap_option<'a>(alloc: Global) -> Arg<'a>
+    ensures rule { rule_of result ≡ spec.heap_option }
+    ensures local { result.global ≡ false }
+{
+    let numbers = value_parser!(u32).range(20..=65_536);
+    let help = "Bytes of heap memory, a multiple of 4 from 20 to 65536";
+    size_option(alloc, "heap", numbers, help)
+}
+
+fn quiet_flag<'a>(alloc: Global) -> Arg<'a>
+    ensures rule { rule_of result ≡ spec.quiet_flag }
+    ensures local { result.global ≡ false }
+{
+    Arg::new(alloc, "quiet")
+        .long("quiet")
+        .action(ArgAction::SetTrue)
+        .help("Writes only turns that print or send, frames that were sent, and the last line")
+}
+
+fn names_argument<'a>(alloc: Global) -> Arg<'a>
+    ensures rule { rule_of result ≡ spec.names_argument }
+    ensures local { result.global ≡ false }
+{
+    Arg::new(alloc, "APP")
+        .num_args(0..)
+        .help("Names of applications, none to sixteen, repeats allowed")
+}
+
+/// The command line as the parser is told it.
+fn command<'a>(alloc: Global) -> Result<Command<'a>, AllocError>
+    ensures { IfOk result (λ command. app_of command ≡ spec.program) }
+{
+    Command::new(alloc, "mote")
+        .version(VERSION)
+        .about(ABOUT)
+        .after_help(AFTER_HELP)
+        .arg(mmem_option(alloc))?
+        .arg(heap_option(alloc))?
+        .arg(quiet_flag(alloc))?
+        .arg(names_argument(alloc))
+}
+
+/// What the parser makes of the words, of which the first is the program's name.
+///
+/// # Errors
+///
+/// What the parser finds in the words: a mistake, or that they ask for the help or the version. `OutOfMemory` where memory
+/// was refused.
+pub fn parse<'a>(alloc: Global, words: &'a [&'a str]) -> Result<ArgMatches<'a>, Error>
+    ensures matches { IfOk result (λ matches. rows_of (found_of matches) ≡ spec.rows_in (texts words.now)) }
+    ensures faults { FailsBy (spec.faults_in (texts words.now)) result }
+{
+    let command = command(alloc)?;
+    command.try_get_matches_from(words)
+}
+
+/// The number of an option. The parser lets no other text through; where there is none the size is 0, which no mote has.
+pub fn size_in(matches: &ArgMatches<'_>, option: &str) -> u32
+    ensures { result ≡ spec.size_of option.now (rows_of (found_of matches.now)) }
+{
+    matches.get_one::<u32>(option).unwrap_or(0)
+}
+
+fn is_in_words(source: Option<ValueSource>) -> bool
+    ensures { result ≡ spec.is_in_words source }
+{
+    matches!(source, Some(ValueSource::CommandLine))
+}
+
+/// Whether the words ask for a quiet transcript.
+pub fn is_quiet(matches: &ArgMatches<'_>) -> bool
+    ensures { result ≡ spec.is_quiet (rows_of (found_of matches.now)) }
+{
+    is_in_words(matches.value_source("quiet"))
+}

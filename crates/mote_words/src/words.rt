@@ -1,0 +1,83 @@
+//! From the words of the command line to what they name.
+
+ghost use Rattle.std.specs.Prelude.{◌≡◌, ◌≤◌, Some, None, find, filter_map, length, IfOk, IfErr, OnOk};
+ghost use Rattle.clap.specs.Walk.{rows_of, texts};
+ghost use Rattle.clap.specs.Words.{found_of};
+ghost use Rattle.mote_words.specs.CommandLine.{NamesApplications, Refuses, RefusesNames, applications_of, is_unknown, named_in, names_of};
+ghost use Rattle.mote_words.specs.Code.Names.{application_of, refusal_of};
+
+use crate::command_line::{is_quiet, parse, size_in};
+use crate::refusal::Refusal;
+use arrayvec::ArrayVec;
+use clap::ArgMatches;
+use mote_apps::bundled::Bundled;
+use std::alloc::Global;
+
+/// How many applications a mote may have.
+const MOST_APPLICATIONS: usize = 16;
+
+/// The applications of a mote, in the order of their process numbers.
+pub type Applications = ArrayVec<Bundled, MOST_APPLICATIONS>;
+
+/// What words name.
+#[derive(Drop)]
+pub struct Named {
+    pub applications: Applications,
+    /// The size of managed memory, in bytes.
+    pub mmem: u32,
+    /// The size of the heap, in bytes.
+    pub heap: u32,
+    /// Whether the transcript is a quiet one.
+    pub quiet: bool,
+}
+
+/// The applications of these names.
+fn read_names<'a>(names: &[&'a str]) -> Result<Applications, Refusal<'a>>
+    ensures applications { IfOk result (λ applications. applications.items ≡ filter_map application_of names.now) }
+    ensures known { IfOk result (λ _. refusal_of names.now ≡ None) }
+    ensures refused { IfErr result (λ refusal. refusal_of names.now ≡ Some refusal) }
+{
+    let mut applications = Applications::new();
+    for name in names {
+        let application = Bundled::named(name).ok_or(Refusal::NoApplication(*name))?;
+        let _ = applications.try_push(application);
+    }
+    if names.len() > MOST_APPLICATIONS {
+        return Err(Refusal::TooManyApplications);
+    }
+    Ok(applications)
+}
+
+/// The applications whose names the parser found.
+fn applications_in<'a>(matches: &ArgMatches<'a>) -> Result<Applications, Refusal<'a>>
+    ensures applications { IfOk result (λ applications. applications.items ≡ applications_of (names_of (rows_of (found_of matches.now)))) }
+    ensures known { IfOk result (λ _. find is_unknown (names_of (rows_of (found_of matches.now))) ≡ None) }
+    ensures few { IfOk result (λ _. length (names_of (rows_of (found_of matches.now))) ≤ 16) }
+    ensures refused { IfErr result (RefusesNames (names_of (rows_of (found_of matches.now)))) }
+{
+    match matches.get_strs("APP") {
+        Some(names) => read_names(names),
+        None => Ok(Applications::new()),
+    }
+}
+
+/// What the words name. The first word is the program's name. Where an option isn't used its size is 4,096 bytes.
+///
+/// # Errors
+///
+/// First `Request` or `Words` with what the parser finds, then `NoApplication` with the first name that no application
+/// has, then `TooManyApplications` where there are more than 16. `OutOfMemory` where memory was refused.
+pub fn read_words<'a>(alloc: Global, words: &'a [&'a str]) -> Result<Named, Refusal<'a>>
+    ensures taken { IfOk result (λ _. NamesApplications (texts words.now)) }
+    ensures named { IfOk result (λ named. named ≡ named_in (texts words.now)) }
+    ensures refused { IfErr result (Refuses (texts words.now)) }
+{
+    let matches = parse(alloc, words)?;
+    let applications = applications_in(&matches)?;
+    Ok(Named {
+        applications,
+        mmem: size_in(&matches, "mmem"),
+        heap: size_in(&matches, "heap"),
+        quiet: is_quiet(&matches),
+    })
+}

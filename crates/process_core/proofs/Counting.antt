@@ -1,0 +1,92 @@
+-- The marks, and how many of them are set.
+use Rattle.std.proofs.Common.{◌≡◌, ℕ, zero, suc, ◌+◌, ◌<◌, ◌≤◌, ◌==◌, Bool, true, false, ◌&&◌, List, [], ◌∷◌, length, refl, sym, ◌∙◌, ap, arith, eqb, set}
+use Rattle.std.specs.Prelude.{if◌then◌else◌, nat_lt}
+use Rattle.std.specs.List.{list_any}
+use Rattle.std.proofs.lemmas.Bool.Decides.{nat_tests}
+use Rattle.process_core.specs.declared.state.State.{State}
+use Rattle.process_core.specs.LonePoll.{is_only_marked}
+use Rattle.process_core.specs.Processes.{is_any_marked, with_mark}
+use Rattle.process_core.specs.Code.Nesting.{is_one_of}
+use Rattle.process_core.specs.Code.ProcessList.{IsKept, listed, mark_at, mark_count}
+use Rattle.process_core.proofs.Listed.{any_listed, marked_kept, mark_set, kept_mark}
+use Rattle.process_core.proofs.Sound.{same_number}
+
+pub mark_count-le-length : (m : List Bool) → mark_count m ≤ length m
+mark_count-le-length [] = omega arith
+mark_count-le-length (true ∷ m) = omega (arith, mark_count-le-length m)
+mark_count-le-length (false ∷ m) = omega (arith, mark_count-le-length m)
+
+-- a mark that is set or cleared is one more or one less, unless it was so before
+pub mark_count-set : (m : List Bool) (p : ℕ) (x : Bool) → p < length m →
+    mark_count (set m p x) + (if mark_at m p then 1 else 0) ≡ mark_count m + (if x then 1 else 0)
+mark_count-set [] p x h = absurd (omega arith)
+mark_count-set (true ∷ m) zero true h = omega arith
+mark_count-set (true ∷ m) zero false h = omega arith
+mark_count-set (false ∷ m) zero true h = omega arith
+mark_count-set (false ∷ m) zero false h = omega arith
+mark_count-set (true ∷ m) (suc p) x h = let rest = mark_count-set m p x (omega arith) in grind (arith, rest)
+mark_count-set (false ∷ m) (suc p) x h = let rest = mark_count-set m p x (omega arith) in grind (arith, rest)
+
+pub counted : (m : List Bool) (p : ℕ) → mark_at m p ≡ true → 0 < mark_count m
+counted [] p h = absurd (cc)
+counted (true ∷ m) p h = omega arith
+counted (false ∷ m) zero h = absurd (cc)
+counted (false ∷ m) (suc p) h = counted m p h
+
+some_marked : (m : List Bool) → 0 < mark_count m → (p : ℕ) × (mark_at m p ≡ true)
+some_marked [] h = absurd (omega arith)
+some_marked (true ∷ m) h = (0, refl)
+some_marked (false ∷ m) h = let r = some_marked m h in (suc r.0, r.1)
+
+marked_among : (m : List Bool) (ns : List ℕ) (p : ℕ) → is_one_of p ns ≡ true → mark_at m p ≡ true → list_any (λ n. mark_at m n) ns ≡ true
+marked_among m [] p h e = absurd (cc)
+marked_among m (n ∷ ns) p h e = split (eqb p n) refl (marked_among m ns p)
+  where
+    split : (b : Bool) → eqb p n ≡ b → (is_one_of p ns ≡ true → mark_at m p ≡ true → list_any (λ n. mark_at m n) ns ≡ true)
+        → list_any (λ n. mark_at m n) (n ∷ ns) ≡ true
+    split true t rest = let same = same_number n p t in grind (arith, same, e)
+    split false t rest = let more = rest (grind (arith, h, t)) e in grind (arith, more)
+
+counted_among : (m : List Bool) (ns : List ℕ) → list_any (λ n. mark_at m n) ns ≡ true → 0 < mark_count m
+counted_among m [] h = absurd (cc)
+counted_among m (n ∷ ns) h = split (mark_at m n) refl (counted_among m ns)
+  where
+    split : (b : Bool) → mark_at m n ≡ b → (list_any (λ n. mark_at m n) ns ≡ true → 0 < mark_count m) → 0 < mark_count m
+    split true e rest = counted m n e
+    split false e rest = rest (grind (arith, h, e))
+
+-- a process that is marked is on the list
+marked_on_list : (s : List State) (m : List Bool) (ns : List ℕ) (p : ℕ) → IsKept s m ns → mark_at m p ≡ true → is_one_of p ns ≡ true
+marked_on_list s m ns p k e = split (is_one_of p ns) refl
+  where
+    split : (b : Bool) → is_one_of p ns ≡ b → is_one_of p ns ≡ true
+    split true here = here
+    split false here = let none = k.unmarked p here in absurd (cc)
+
+-- whether any process of the list is marked
+pub any_counted : (s : List State) (m : List Bool) (ns : List ℕ) → IsKept s m ns → is_any_marked (listed s m ns) ≡ nat_lt 0 (mark_count m)
+any_counted s m ns k = any_listed s m ns ∙ split (list_any (λ n. mark_at m n) ns) (nat_lt 0 (mark_count m)) refl refl
+  where
+    split : (a b : Bool) → list_any (λ n. mark_at m n) ns ≡ a → nat_lt 0 (mark_count m) ≡ b → list_any (λ n. mark_at m n) ns ≡ nat_lt 0 (mark_count m)
+    split true b e f = let some = counted_among m ns e in grind (arith, nat_tests, e, some)
+    split false false e f = e ∙ sym f
+    split false true e f =
+        let r = some_marked m (grind (arith, nat_tests, f)) in
+        let among = marked_among m ns r.0 (marked_on_list s m ns r.0 k r.1) r.1 in
+        absurd (cc)
+
+-- whether p is the only one
+pub only_counted : (s : List State) (m : List Bool) (ns : List ℕ) (p : ℕ) → IsKept s m ns →
+    is_only_marked p (listed s m ns) ≡ ((mark_count m == 1) && mark_at m p)
+only_counted s m ns p k = split (mark_at m p) refl
+  where
+    split : (b : Bool) → mark_at m p ≡ b → is_only_marked p (listed s m ns) ≡ ((mark_count m == 1) && mark_at m p)
+    split false e = let none = marked_kept p s m ns k in grind (arith, none, e)
+    split true e =
+        let here = marked_on_list s m ns p k e in
+        let place : p < length m = omega (arith, k.below p here, k.mark_places) in
+        let marked = marked_kept p s m ns k in
+        let cleared : is_any_marked (with_mark p false (listed s m ns)) ≡ nat_lt 0 (mark_count (set m p false)) =
+        ap is_any_marked (mark_set p false s m ns place) ∙ any_counted s (set m p false) ns (kept_mark p false s m ns here k) in
+        let fewer = mark_count-set m p false place in
+        grind (arith, nat_tests, marked, e, cleared, fewer)

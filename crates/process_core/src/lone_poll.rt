@@ -1,0 +1,30 @@
+//! A round that does nothing but poll one process of the kernel.
+
+ghost use Rattle.std.specs.Prelude.{◌≡◌, ◌<◌, None, true};
+ghost use Rattle.process_core.specs.LonePoll.{polls_alone, unmarked, IsLonePoll};
+
+use crate::scheduler::Scheduler;
+use mote_types::event::{FIRST_APPLICATION, Pid};
+
+impl Scheduler {
+    /// Whether the next round would poll this process, one of the kernel's, and deliver nothing: no work is open, no event
+    /// waits, and no other process is marked. Where the poll changes nothing, such a round takes the mark away and ends at
+    /// rest.
+    pub fn polls_alone(&self, pid: Pid) -> bool
+        requires kernel { pid.0 < FIRST_APPLICATION }
+        requires idle { self.now.turn ≡ None }
+        ensures value { result ≡ polls_alone pid.0 self.now.state }
+        ensures round { result ≡ true → IsLonePoll pid.0 self.now.state }
+    {
+        self.fields.processes.is_only_marked(pid)
+            && self.fields.events.is_empty()
+            && self.fields.stack.is_over()
+    }
+
+    /// Takes the mark of a process away, as a poll round does that comes to it.
+    pub fn unmark(&mut self, pid: Pid)
+        ensures { self.new ≡ record self.old { state = unmarked pid.0 self.old.state } }
+    {
+        self.fields.processes.set_mark(pid, false);
+    }
+}
