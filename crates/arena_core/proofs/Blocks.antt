@@ -46,7 +46,7 @@ module _ {M : Type 1} {𝓤 : Ura M} (𝓛 : Logic 𝓤) (κ : Lft) (b o : ℕ) 
 -- a `&mut` to the block, taken apart
 module _ {M : Type 1} {𝓤 : Ura M} (𝓛 : Logic 𝓤) (h : Block) (rb ro : ℕ) (us : List Val) where
   -- all but the bytes
-  abbrev pub Keep : Fml
+  abbrev Keep : Fml
   Keep = fsep (chunk (bytes_type h.len) h.ptr) (fsep (Words.own_val (fields h) us) (cell_at full_share C.the_row.mir us rb ro))
 
   pub bytes_out : (b o : ℕ) → ent 𝓤 (sem 𝓛 (part_at (Array u8 h.len) full_share h.bytes b o)) (sem 𝓛 (cells (mem u8) h.bytes b o))
@@ -54,7 +54,7 @@ module _ {M : Type 1} {𝓤 : Ura M} (𝓛 : Logic 𝓤) (h : Block) (rb ro : �
       use1 𝓛 (‵ (fsep (feq ℕ (length h.bytes) h.len) (row u8 full_share h.bytes b o))) (Array-apart 𝓛 u8 full_share tt h.len h.bytes b o) $ fsplit ! $ drop ! $ by ! (whole_in 𝓛 u8 h.bytes b o)
 
   -- with ys for its bytes, it is the block again
-  pub made : (b o : ℕ) → h.ptr ≡ block_ptr b o → (ys : List ℕ) (e : length ys ≡ length h.bytes) → ent 𝓤 (sep 𝓤 (sem 𝓛 (cells (mem u8) ys b o)) (sem 𝓛 Keep)) (sem 𝓛 ((mem C.the_row).own_at (with_bytes h ys e) rb ro))
+  made : (b o : ℕ) → h.ptr ≡ block_ptr b o → (ys : List ℕ) (e : length ys ≡ length h.bytes) → ent 𝓤 (sep 𝓤 (sem 𝓛 (cells (mem u8) ys b o)) (sem 𝓛 Keep)) (sem 𝓛 ((mem C.the_row).own_at (with_bytes h ys e) rb ro))
   unfolding part_of
   made b o at ys e = qed 𝓛 (‵ (cells (mem u8) ys b o) ∷ ‵ Keep ∷ []) ∵
       use1 𝓛 (‵ (row u8 full_share ys b o)) (whole_out 𝓛 u8 ys b o) $ feq_i ! ℕ (length ys) h.len (e ∙ sym h.ok.0) $ fjoin ! $

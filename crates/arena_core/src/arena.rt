@@ -8,6 +8,7 @@ ghost use Rattle.arena_core.specs.Written.{written};
 ghost use mir.Syntax.{w32};
 
 use crate::block::Block;
+use crate::bytes::{fill_bytes, put_bytes, slide_bytes, word_of};
 use crate::pair::pair_mut;
 use crate::span::Span;
 use std::alloc::{AllocError, Global};
@@ -105,7 +106,7 @@ impl Arena {
         ensures bytes { self.new ≡ contents (written self.old.bytes span.at (replicate span.len byte)) self.old.carved }
         ensures size { length self.new.bytes ≡ length self.old.bytes }
     {
-        self.block.fill(span.at as usize, span.len as usize, byte);
+        fill_bytes(self.bytes_mut(span), byte);
     }
 
     /// Moves `len` bytes from `source` to `target`. The two ranges may overlap: the target then has what the source had.
@@ -115,8 +116,12 @@ impl Arena {
         ensures bytes { self.new ≡ contents (written self.old.bytes target (slice_range self.old.bytes source (source + len))) self.old.carved }
         ensures size { length self.new.bytes ≡ length self.old.bytes }
     {
-        self.block
-            .slide(source as usize, target as usize, len as usize);
+        slide_bytes(
+            self.all_mut(),
+            source as usize,
+            target as usize,
+            len as usize,
+        );
     }
 
     /// Copies `len` bytes from `source` to `target`. The two ranges do not meet.
@@ -140,7 +145,7 @@ impl Arena {
         requires { at + 4 ≤ length self.now.bytes }
         ensures { result ≡ from_le_bytes w32 (slice_range self.now.bytes at (at + 4)) }
     {
-        self.block.word(at as usize)
+        word_of(self.block.bytes(at as usize, 4))
     }
 
     /// Writes a number into the 4 bytes from `at` on, the low byte first.
@@ -149,7 +154,7 @@ impl Arena {
         ensures bytes { self.new ≡ contents (written self.old.bytes at (to_le_bytes w32 word)) self.old.carved }
         ensures size { length self.new.bytes ≡ length self.old.bytes }
     {
-        self.block.put_word(at as usize, word);
+        put_bytes(self.block.bytes_mut(at as usize, 4), word);
     }
 }
 

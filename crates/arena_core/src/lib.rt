@@ -5,6 +5,7 @@
 
 mod arena;
 mod block;
+mod bytes;
 mod pair;
 mod span;
 

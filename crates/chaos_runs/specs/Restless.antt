@@ -1,4 +1,5 @@
--- What the application says that never exits by itself.
+-- What the application says that may never exit by itself.
+use Rattle.std.specs.Prelude.{if◌then◌else◌}
 use Rattle.mote_types.specs.Applications.{Says}
 use Rattle.mote_types.specs.declared.call.Call.{Call}
 use Rattle.mote_types.specs.declared.event.Payload.{Payload}
@@ -10,6 +11,6 @@ abbrev pub stayed : Call → Call
 stayed Call.Exit = Call.Broadcast 141 Payload.Empty
 stayed call = call
 
--- what chaos says, but for its exits
+-- what chaos says; where it does not exit, but for its exits
 abbrev pub restless_says : Restless → Says
-restless_says restless stimuli = stayed (chaos_says restless.chaos stimuli)
+restless_says restless stimuli = if restless.exits then chaos_says restless.chaos stimuli else stayed (chaos_says restless.chaos stimuli)

@@ -74,11 +74,7 @@ fn run_seed(alloc: Global, seed: u32, exits: bool, script: &str) -> Result<Ran> 
         let chaos = Chaos {
             x: seed.saturating_add(number),
         };
-        if exits {
-            boxes.push(Box::new(alloc, chaos)?)?;
-        } else {
-            boxes.push(Box::new(alloc, Restless { chaos })?)?;
-        }
+        boxes.push(Box::new(alloc, Restless { chaos, exits })?)?;
     }
     Ok(run_script(alloc, SIZES, boxes.as_mut_slice(), script.as_bytes(), false)?)
 }

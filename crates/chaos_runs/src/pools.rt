@@ -4,7 +4,7 @@ use crate::reply::{BAD_NAME, NO_BLOCK, Reply};
 use arrayvec::ArrayVec;
 
 /// A block: its pool and its number there.
-#[derive(Clone, Copy, Debug, Default, PartialEq, Eq, Drop)]
+#[derive(Clone, Copy, Default, PartialEq, Eq, Drop)]
 struct Block {
     pool: u32,
     number: u32,

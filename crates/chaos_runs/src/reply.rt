@@ -1,7 +1,7 @@
 //! What calls on memory are answered.
 
 /// What a call on memory is answered. No application writes to its memory, so all bytes of a read are 0.
-#[derive(Clone, Copy, Debug, PartialEq, Eq, Drop)]
+#[derive(Clone, Copy, PartialEq, Eq, Drop)]
 pub(crate) enum Reply {
     Done,
     /// The number of the refusal, as a transcript shows it.

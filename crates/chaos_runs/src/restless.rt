@@ -1,4 +1,4 @@
-//! An application that makes calls at random, and never exits by itself.
+//! An application that makes calls at random, and may never exit by itself.
 
 ghost use Rattle.std.specs.Prelude.{◌≡◌};
 ghost use Rattle.chaos_runs.specs.Restless.{restless_says, stayed};
@@ -8,10 +8,12 @@ use mote_types::app::App;
 use mote_types::call::Call;
 use mote_types::event::{Payload, Stimulus};
 
-/// As `Chaos`, with a broadcast in place of each exit, so that more processes live on and more events are delivered.
+/// As `Chaos`; where it does not exit, with a broadcast in place of each exit, so that more processes live on and more
+/// events are delivered.
 #[derive(Drop)]
 pub(crate) struct Restless {
     pub(crate) chaos: Chaos,
+    pub(crate) exits: bool,
 }
 
 /// The call, or a broadcast in place of an exit.
@@ -28,6 +30,7 @@ impl App for Restless {
     ghost says = { restless_says };
 
     fn turn(&mut self, stimulus: &Stimulus) -> Call {
-        stay(self.chaos.turn(stimulus))
+        let call = self.chaos.turn(stimulus);
+        if self.exits { call } else { stay(call) }
     }
 }

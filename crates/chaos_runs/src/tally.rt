@@ -1,6 +1,6 @@
 //! How often each call was made, and how it was answered.
 
-use crate::turn::WORDS;
+use crate::turn::{KINDS, WORDS};
 use std::io;
 
 /// What became of the calls of one word. Calls that end a turn have no answer, and neither has one that a halt cuts off.
@@ -14,13 +14,13 @@ struct Count {
 /// The counts of all calls, in the order of their words.
 #[derive(Drop)]
 pub(crate) struct Tally {
-    counts: [Count; WORDS.len()],
+    counts: [Count; KINDS],
 }
 
 impl Tally {
     pub(crate) fn new() -> Self {
         Tally {
-            counts: [Count::default(); WORDS.len()],
+            counts: [Count::default(); KINDS],
         }
     }
 
@@ -51,7 +51,7 @@ impl Tally {
 
     /// Writes a line for each call that was made.
     pub(crate) fn print<R: Print>(&self, rt: &R) -> io::Result<()> {
-        for (word, count) in WORDS.iter().zip(&self.counts) {
+        for (word, count) in WORDS.split(' ').zip(&self.counts) {
             if count.made > 0 {
                 println!(rt;
                     "{word}: {} made, {} accepted, {} refused",

@@ -1,25 +1,12 @@
 //! The lines of a transcript.
 
-/// The words of the calls that the applications make.
-pub(crate) const WORDS: [&str; 17] = [
-    "wait",
-    "post-synch",
-    "kill",
-    "start",
-    "post",
-    "poll",
-    "timer-set",
-    "callback-set",
-    "mmem-alloc",
-    "mmem-free",
-    "mmem-read",
-    "heap-alloc",
-    "heap-realloc",
-    "heap-free",
-    "memb-alloc",
-    "exit",
-    "broadcast",
-];
+/// The words of the calls that the applications make, with a blank between two.
+pub(crate) const WORDS: &str = "\
+wait post-synch kill start post poll timer-set callback-set mmem-alloc mmem-free mmem-read heap-alloc heap-realloc \
+heap-free memb-alloc exit broadcast";
+
+/// How many words there are.
+pub(crate) const KINDS: usize = 17;
 
 /// A call: the place of its word, and its numbers, 0 where it has none.
 #[derive(Clone, Copy, Drop)]
@@ -52,7 +39,7 @@ fn number_of(word: Option<&str>) -> u32 {
 fn read_call(text: &str) -> Option<Call<'_>> {
     let mut words = text.split(' ');
     let word = words.next()?;
-    let kind = WORDS.iter().position(|known| *known == word)?;
+    let kind = WORDS.split(' ').position(|known| known == word)?;
     let first = number_of(words.next());
     let second = number_of(words.next());
     let third = number_of(words.next());

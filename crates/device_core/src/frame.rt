@@ -3,7 +3,7 @@
 ghost use Rattle.std.specs.Prelude.{◌≡◌};
 
 /// A frame that is held: where its bytes lie, and how many they are (this project's profile).
-#[derive(Clone, Copy, Debug, PartialEq, Eq, Drop)]
+#[derive(Clone, Copy, Drop)]
 pub struct Frame {
     /// From 0 to 7: the handle of the managed block of process 3 (packet) that has the bytes.
     pub slot: u8,

@@ -101,9 +101,6 @@ module _ (heap : Region) (B : List ℕ) (chunk : Chunk) (n : ℕ) (a : Around B 
       ∙ ap (choice (up4 n) room end heap.footprint (heap.span.len - heap.footprint)) (gap_at_end heap B chunk a has live)
 
 module _ (least room end top_at top gap : ℕ) where
-  pub choice_here : least ≤ room → choice least room end top_at top gap ≡ Some (room_taken least room)
-  choice_here fits = let here : leb least room ≡ true = le-leb least room fits in rw here refl
-
   pub choice_top : room < least → end ≡ top_at → least ≤ room + top → choice least room end top_at top gap ≡ Some least
   choice_top short last fits =
       let far : leb least room ≡ false = lt-leb least room short in let is : eqb end top_at ≡ true = eq-eqb end top_at last in

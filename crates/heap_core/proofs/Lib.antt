@@ -5,6 +5,7 @@ pub mod Callers
 pub mod Choices
 pub mod Freed
 pub mod Gaps
+pub mod Grown
 pub mod Holes
 pub mod Joined
 pub mod Lists
@@ -17,6 +18,7 @@ pub mod Places
 pub mod Releases
 pub mod Relinks
 pub mod Resized
+pub mod Searches
 pub mod Separation
 pub mod Splice
 pub mod Standing
@@ -24,3 +26,4 @@ pub mod Steps
 pub mod Stored
 pub mod Told
 pub mod Walked
+pub mod WrittenHeaders

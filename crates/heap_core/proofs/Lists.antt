@@ -106,6 +106,7 @@ followed B b x end head (c ∷ l) t h =
 pub record Ends (head : Option ℕ) (p q : ℕ) (all before behind : List Chunk) : Type 0 where
   pub end : Option ℕ
   pub front : LinkedTo head before end
+  pub next : gap_from p (gaps_among all) ≡ end
   pub last : gap_below p (gaps_among all) ≡ last_of (gaps_among before)
   pub back : LinkedTo (gap_from q (gaps_among all)) behind None
 
@@ -208,6 +209,10 @@ module _ (B : List ℕ) (b : ℕ) where
       record {
         end = first.mid;
         front = first.front;
+        next = ap (fold (higher p) None) (gaps_append before (gone ++ behind))
+            ∙ fold-append (higher p) None (gaps_among before) (gaps_among (gone ++ behind))
+            ∙ ap (λ o. fold (higher p) o (gaps_among (gone ++ behind))) (none_higher p 0 p before front (omega arith))
+            ∙ first_higher p s.mid end first.mid (gone ++ behind) s.back (omega arith) first.back;
         last = ap (fold (lower p) None) (gaps_append before (gone ++ behind))
             ∙ fold-append (lower p) None (gaps_among before) (gaps_among (gone ++ behind))
             ∙ none_lower p s.mid end (fold (lower p) None (gaps_among before)) (gone ++ behind) s.back (omega arith)

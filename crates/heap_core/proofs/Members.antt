@@ -58,9 +58,6 @@ pub live_exchanged : (c gap : Chunk) (before mid behind old new : List Chunk) �
 live_exchanged c gap before mid behind old new free is is' h =
     record { stands = stands_of c new (subst (In c) (sym is') (in_exchanged c gap before mid behind free h.live (subst (In c) is (in_of c old h.stands)))); live = h.live }
 
-pub live_kept : (c : Chunk) (old mid new : List Chunk) → new ≡ old ++ mid → LiveIn c old → LiveIn c new
-live_kept c old mid new is h = record { stands = stands_of c new (subst (In c) (sym is) (in_left c old mid (in_of c old h.stands))); live = h.live }
-
 pub if_some : {X : Type 0} (P Q : X → Type 0) (o : Option X) → IfSome o P → ((x : X) → P x → Q x) → IfSome o Q
 if_some P Q None h f = h
 if_some P Q (Some x) h f = f x h

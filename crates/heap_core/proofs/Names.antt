@@ -1,6 +1,6 @@
 -- The block of a name, and how many blocks a name has.
 use Rattle.std.proofs.Common.{◌≡◌, ◌≢◌, ℕ, suc, ◌+◌, ◌≤◌, inl, inr, Bool, false, true, not, List, [], ◌∷◌, ◌++◌, length, eqb, ltb, refl, sym, ap, ◌∙◌, subst, arith}
-use Rattle.std.specs.Prelude.{Option, Some, None, IsSome, IsSomeAnd, filter, find, map, if◌then◌else◌}
+use Rattle.std.specs.Prelude.{Option, Some, None, IsSome, filter, find, map, if◌then◌else◌}
 use Rattle.std.specs.Option.{option_map}
 use Rattle.std.proofs.lemmas.Bool.{cases_Bool, eqb-true, eqb-false, false≢true}
 use Rattle.std.proofs.lemmas.List.{length-append}
@@ -165,10 +165,6 @@ keeps_place name f keeps block = elim (cases_Bool (eqb block.name name)) [ inl h
 pub map_none : {X Y : Type 0} (f : X → Y) (o : Option X) → option_map f o ≡ None → o ≡ None
 map_none f None e = refl
 map_none f (Some x) e = absurd (cc)
-
-pub some_if : (o : Option (List ℕ)) (P : List ℕ → Type 0) → IsSomeAnd o P → IsSome o
-some_if None P h = absurd h
-some_if (Some x) P h = refl
 
 -- blocks without those of a name
 pub count_unnamed : (name : ℕ) (xs : List Block) → count name (filter (λ block. not (has_name name block)) xs) ≡ 0

@@ -1,6 +1,6 @@
 -- The bytes of a block that got another length.
 use Rattle.std.proofs.Common.{◌≡◌, ℕ, suc, ◌+◌, ◌-◌, ◌≤◌, inl, inr, List, [], ◌∷◌, ◌++◌, length, take, drop, slice_range, sym, ap, ◌∙◌, arith}
-use Rattle.std.proofs.lemmas.List.{append-nil, take-append-le, take-take, take-replicate, drop-replicate, drop_all, length-replicate}
+use Rattle.std.proofs.lemmas.List.{append-nil, take-append-le, take-take, take-replicate, drop-replicate}
 use Rattle.std.proofs.lemmas.Bool.{cases_lt}
 use Rattle.mote_types.specs.Bytes.{zeros, resized}
 use Rattle.arena_core.specs.Written.{written}
@@ -31,21 +31,6 @@ resized_longer xs n le = take_past xs (zeros n) n le ∙ ap (λ l. xs ++ l) (tak
 
 pub resized_none : (n : ℕ) → resized n [] ≡ zeros n
 resized_none n = take-replicate n n 0 (omega arith)
-
--- zeros written behind the first bytes
-pub zeros_behind : (xs : List ℕ) (at m n : ℕ) → m ≤ n → at + n ≤ length xs → slice_range (written xs (at + m) (zeros (n - m))) at (at + n) ≡ resized n (slice_range xs at (at + m))
-zeros_behind xs at m n le within =
-    let ws = zeros (n - m) in let R = slice_range xs at (at + n) in let S = slice_range xs at (at + m) in
-    let count : length ws ≡ n - m = length-replicate (n - m) 0 in
-    let long : length R ≡ n = length-range xs at n within in
-    let short : length S ≡ m = length-range xs at m (omega arith) in
-    written-range xs at n m ws (omega arith) within
-    ∙ written_is R m ws (omega arith)
-    ∙ ap (λ l. take m R ++ (ws ++ l)) (drop_all (m + length ws) R (omega arith))
-    ∙ ap (λ l. take m R ++ l) (append-nil ws)
-    ∙ ap (λ l. l ++ ws) (front_range xs at n m le)
-    ∙ ap (λ k. S ++ zeros (n - k)) (sym short)
-    ∙ sym (resized_longer S n (omega arith))
 
 -- bytes written over the first of n zeros
 pub copied_front : (xs : List ℕ) (at n : ℕ) (ws : List ℕ) → length ws ≤ n → at + n ≤ length xs → slice_range xs at (at + n) ≡ zeros n → slice_range (written xs at ws) at (at + n) ≡ ws ++ zeros (n - length ws)

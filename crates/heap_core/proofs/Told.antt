@@ -1,13 +1,10 @@
 -- The chunks that headers tell, and how they stay or change with the bytes.
-use Rattle.std.proofs.Common.{◌≡◌, ℕ, zero, suc, ◌+◌, ◌-◌, ◌≤◌, ◌<◌, ◌^◌, ◌⊎◌, inl, inr, List, [], ◌∷◌, ◌++◌, length, slice_range, false, true, ltb, refl, sym, ap, ◌∙◌, subst, arith}
+use Rattle.std.proofs.Common.{◌≡◌, ℕ, zero, suc, ◌+◌, ◌-◌, ◌≤◌, ◌<◌, ◌⊎◌, inl, inr, List, [], ◌∷◌, ◌++◌, slice_range, false, true, ltb, refl, sym, ap, ◌∙◌, subst, arith}
 use Rattle.std.specs.Prelude.{Option, Some, None, IsSomeAnd}
-use Rattle.std.specs.Int.{from_le_bytes, to_le_bytes}
+use Rattle.std.specs.Int.{from_le_bytes}
 use mir.Syntax.{w32}
 use Rattle.std.proofs.lemmas.Bool.{lt-ltb, le-ltb}
-use Rattle.std.proofs.lemmas.Nat.{from_le_bytes-to_le_bytes_4}
 use Rattle.arena_core.specs.Outside.{ChangesOnly}
-use Rattle.arena_core.specs.Written.{written}
-use Rattle.arena_core.proofs.Ranges.{length-written, range-written, range-written_apart, changes_only}
 use Rattle.heap_core.specs.declared.chunk.Chunk.{Chunk}
 use Rattle.heap_core.specs.HeapStore.{Block, header_len}
 use Rattle.heap_core.specs.Code.Chunks.{word_at, number_in, chunk_at, chunks_from, Tell, with_chunk, blocks_in}
@@ -143,74 +140,6 @@ changes_more s n t m A B changes low high = record {
   size = changes.size;
   others = λ from k apart. changes.others from k (elim apart [ inl l ↦ inl (omega arith) | inr h ↦ inr (omega arith) ]);
 }
-
--- a header is written
-module _ (B : List ℕ) (b at len word size next : ℕ) (inside : b + at + 16 ≤ length B) (small : len < 2 ^ 32) (small' : word < 2 ^ 32) (small'' : size < 2 ^ 32) (small_next : next < 2 ^ 32) where
-  abbrev put : List ℕ → ℕ → ℕ → List ℕ
-  put X i n = written X i (to_le_bytes w32 n)
-
-  abbrev B1 : List ℕ
-  B1 = put B (b + at) len
-
-  abbrev B2 : List ℕ
-  B2 = put B1 (b + at + 4) word
-
-  abbrev B3 : List ℕ
-  B3 = put B2 (b + at + 8) size
-
-  abbrev B4 : List ℕ
-  B4 = put B3 (b + at + 12) next
-
-  long1 : length B1 ≡ length B
-  long1 = length-written B (b + at) (to_le_bytes w32 len)
-
-  long2 : length B2 ≡ length B
-  long2 = length-written B1 (b + at + 4) (to_le_bytes w32 word) ∙ long1
-
-  long3 : length B3 ≡ length B
-  long3 = length-written B2 (b + at + 8) (to_le_bytes w32 size) ∙ long2
-
-  read : (X : List ℕ) (i n : ℕ) → i + 4 ≤ length X → n < 2 ^ 32 → word_at (put X i n) i ≡ n
-  read X i n fits less = ap (from_le_bytes w32) (range-written X i (to_le_bytes w32 n) fits) ∙ from_le_bytes-to_le_bytes_4 n less
-
-  apart : (X : List ℕ) (i n j : ℕ) → i + 4 ≤ length X → (j + 4 ≤ i) ⊎ (i + 4 ≤ j) → word_at (put X i n) j ≡ word_at X j
-  apart X i n j fits side = ap (from_le_bytes w32) (range-written_apart X i (to_le_bytes w32 n) fits j 4 side)
-
-  first : word_at B4 (b + at) ≡ len
-  first =
-      let l1 = long1 in let l2 = long2 in let l3 = long3 in
-      apart B3 (b + at + 12) next (b + at) (omega arith) (inl (omega arith))
-      ∙ apart B2 (b + at + 8) size (b + at) (omega arith) (inl (omega arith))
-      ∙ apart B1 (b + at + 4) word (b + at) (omega arith) (inl (omega arith))
-      ∙ read B (b + at) len (omega arith) small
-
-  second : word_at B4 (b + at + 4) ≡ word
-  second =
-      let l1 = long1 in let l2 = long2 in let l3 = long3 in
-      apart B3 (b + at + 12) next (b + at + 4) (omega arith) (inl (omega arith))
-      ∙ apart B2 (b + at + 8) size (b + at + 4) (omega arith) (inl (omega arith))
-      ∙ read B1 (b + at + 4) word (omega arith) small'
-
-  third : word_at B4 (b + at + 8) ≡ size
-  third =
-      let l1 = long1 in let l2 = long2 in let l3 = long3 in
-      apart B3 (b + at + 12) next (b + at + 8) (omega arith) (inl (omega arith))
-      ∙ read B2 (b + at + 8) size (omega arith) small''
-
-  fourth : word_at B4 (b + at + 12) ≡ next
-  fourth = let l3 = long3 in read B3 (b + at + 12) next (omega arith) small_next
-
-  pub header_written : (owner link : Option ℕ) → number_in word ≡ owner → number_in next ≡ link → chunk_at B4 b at ≡ chunk_of at len owner size link
-  header_written owner link e f =
-      sym (chunk_is B4 b at len owner size link (sym first) (sym e ∙ ap number_in (sym second)) (sym third) (sym f ∙ ap number_in (sym fourth)))
-
-  pub header_changes : ChangesOnly (b + at) 16 B B4
-  header_changes =
-      let l1 = long1 in let l2 = long2 in let l3 = long3 in
-      changes_then (b + at) 16 B B1 B4 (changes_only B (b + at) (to_le_bytes w32 len) (omega arith) (b + at) 16 (omega arith) (omega arith))
-      (changes_then (b + at) 16 B1 B2 B4 (changes_only B1 (b + at + 4) (to_le_bytes w32 word) (omega arith) (b + at) 16 (omega arith) (omega arith))
-      (changes_then (b + at) 16 B2 B3 B4 (changes_only B2 (b + at + 8) (to_le_bytes w32 size) (omega arith) (b + at) 16 (omega arith) (omega arith))
-      (changes_only B3 (b + at + 12) (to_le_bytes w32 next) (omega arith) (b + at) 16 (omega arith) (omega arith))))
 
 -- bytes that change behind a header
 pub told_body : (B B' : List ℕ) (b x y n : ℕ) (c : Chunk) (l : List Chunk) → ChangesOnly (b + x + 16) n B B' → 16 + n ≤ c.len → Tell B b x y (c ∷ l) → Tell B' b x y (c ∷ l)

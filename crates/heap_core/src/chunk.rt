@@ -1,8 +1,9 @@
 //! Chunks and gaps, and which gap a block takes how much of.
 
 ghost use Rattle.std.specs.Prelude.{◌≡◌, ◌≤◌, ◌<◌, IfSome, is_none};
+ghost use Rattle.std.specs.Option.{option_map_or};
 ghost use Rattle.mote_types.specs.Rounding.{up4};
-ghost use Rattle.heap_core.specs.HeapStore.{room_taken, better};
+ghost use Rattle.heap_core.specs.HeapStore.{room_taken, shorter};
 ghost use Rattle.heap_core.specs.Code.Chunks.{number_in};
 ghost use Rattle.heap_core.specs.Code.Links.{gap_count, is_a_name};
 
@@ -77,16 +78,13 @@ pub(crate) fn gap_count(len: u32) -> u16
     if len == 0 { 0 } else { 1 }
 }
 
-/// The better gap for `need` bytes of one found before and this one.
-pub(crate) fn better(need: u64, best: Option<Gap>, gap: Gap) -> Option<Gap>
-    ensures { result ≡ better need best gap }
+/// The shorter of a gap found before, if there is one, and this one. The one found before on a tie.
+pub(crate) fn shorter(best: Option<Gap>, gap: Gap) -> Gap
+    ensures { result ≡ option_map_or (λ other. shorter other gap) best gap }
 {
-    if (gap.len as u64) < need {
-        return best;
-    }
     match best {
-        Some(other) if other.len <= gap.len => Some(other),
-        _ => Some(gap),
+        Some(other) if other.len <= gap.len => other,
+        _ => gap,
     }
 }
 

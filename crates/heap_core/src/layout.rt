@@ -13,7 +13,7 @@ use arena_core::Arena;
 impl Region {
     ghost use Rattle.heap_core.specs.declared.chunk.Chunk.{Chunk as OfChunks};
     ghost use Rattle.heap_core.specs.Code.Layout.{chunks_of, store_of, HasChunks};
-    ghost use Rattle.heap_core.specs.Code.Links.{LinkedTo, is_a_name, gaps_among, gap_count, gap_from, GapsLinked, FreedLinked, Relinked, Exchanged, KeepsFreed};
+    ghost use Rattle.heap_core.specs.Code.Links.{LinkedTo, is_a_name, gaps_among, gap_count, gap_below, gap_from, GapsLinked, FreedLinked, Relinked, Exchanged, KeepsFreed};
     ghost use Rattle.heap_core.specs.Code.Holes.{Hole, Fits, Laid, Free};
     ghost use Rattle.heap_core.specs.HeapBytes.{heap_of, KeepsToSpan};
     ghost use Rattle.heap_core.specs.Code.Joins.{Joins};
@@ -169,6 +169,7 @@ impl Region {
         ensures kept { KeepsFreed self.old self.new }
         ensures lowest { self.new.lowest ≡ self.old.lowest }
         ensures first { IfSome result (λ place. place < 65536) }
+        ensures begins { end ≢ self.old.footprint → result ≡ Some from }
         ensures rest { KeepsToSpan self.old self.new arena.old arena.new }
     {
         if end == self.footprint {
@@ -189,6 +190,45 @@ impl Region {
         Some(from)
     }
 
+    /// Makes a chunk and the gaps beside it one gap, or a part of the top gap, and has the list of the gaps lead there. `below` is
+    /// the highest gap below the chunk.
+    fn merge(
+        &mut self,
+        arena: &mut Arena,
+        chunk: Chunk,
+        from: u32,
+        end: u32,
+        link: Option<u32>,
+        below: Option<Chunk>,
+    )
+        requires chunks { HasChunks self.old arena.old.bytes }
+        requires stands { Stands chunk (chunks_of self.old arena.old.bytes) }
+        requires live { chunk.owner ≢ None }
+        requires from { from ≡ free_from (chunks_before self.old arena.old.bytes chunk.at) }
+        requires end { end ≡ chunk.at + chunk.len + front_gap (chunks_behind self.old arena.old.bytes (chunk.at + chunk.len)) }
+        requires link { link ≡ gap_from end (gaps_among (chunks_of self.old arena.old.bytes)) }
+        requires below { below ≡ gap_below chunk.at (gaps_among (chunks_of self.old arena.old.bytes)) }
+        requires gaps { GapsLinked self.old arena.old.bytes }
+        requires small { IfSome link (λ place. place < 65536) }
+        requires few { self.old.gaps < 65535 }
+        ensures chunks { HasChunks self.new arena.new.bytes }
+        ensures count { self.new.gaps ≡ length (gaps_among (chunks_of self.new arena.new.bytes)) + (gap_count (chunk.at - from) + gap_count (end - (chunk.at + chunk.len))) }
+        ensures block { store_of self.new arena.new.bytes ≡ without_place chunk.at (store_of self.old arena.old.bytes) }
+        ensures others { (other : OfChunks) → LiveIn other (chunks_of self.old arena.old.bytes) → other.at ≢ chunk.at → LiveIn other (chunks_of self.new arena.new.bytes) }
+        ensures linked { LinkedTo self.new.lowest (chunks_of self.new arena.new.bytes) None }
+        ensures kept { KeepsFreed self.old self.new }
+        ensures rest { KeepsToSpan self.old self.new arena.old arena.new }
+    {
+        if from < chunk.at && end < self.footprint {
+            // The gap below the chunk grows: what is linked to it stays so.
+            let _first = self.clear_away(arena, chunk, from, end, link);
+            return;
+        }
+        let before = self.gap_below(arena, from, chunk.at, below);
+        let first = self.clear_away(arena, chunk, from, end, link);
+        self.link_below(arena, before, first);
+    }
+
     /// Makes a chunk a gap, and joins it with the gaps beside it.
     fn release(&mut self, arena: &mut Arena, chunk: Chunk)
         requires chunks { HasChunks self.old arena.old.bytes }
@@ -207,9 +247,7 @@ impl Region {
         let gap = self.gap_behind(arena, chunk);
         let end = chunk.at + chunk.len + gap;
         let link = self.link_behind(arena, chunk, end, beside.next);
-        let below = self.gap_below(arena, from, chunk.at, beside.below);
-        let first = self.clear_away(arena, chunk, from, end, link);
-        self.link_below(arena, below, first);
+        self.merge(arena, chunk, from, end, link, beside.below);
         self.gaps -= gap_count(chunk.at - from) + gap_count(gap);
     }
 

@@ -4,7 +4,7 @@ ghost use Rattle.std.specs.Prelude.{◌≡◌, ◌≢◌, ◌≤◌, ◌<◌, �
 ghost use Rattle.heap_core.specs.HeapStore.{stats_of, find_block, best_gap, gaps, place, room_in_place};
 ghost use Rattle.heap_core.specs.Code.Walks.{owned_by, Owned, block_in_chunk, chunks_before, chunks_behind, free_from, Stands, front_gap, place_in_chunk};
 
-use crate::chunk::{Chunk, Gap, HEADER, Place, better, is_gap, is_live, room_taken, rounded};
+use crate::chunk::{Chunk, Gap, HEADER, Place, is_gap, is_live, room_taken, rounded, shorter};
 use crate::region::Region;
 use arena_core::Arena;
 use mote_types::reply::HeapStats;
@@ -36,22 +36,28 @@ impl Region {
         self.find(arena, name).unwrap()
     }
 
-    /// The shortest gap below the top gap that has `need` bytes, the lowest on a tie.
+    /// The shortest gap below the top gap that has `need` bytes, the lowest on a tie. No gap above one that fits exactly is
+    /// looked at.
     pub(crate) fn best_gap(&self, arena: &Arena, need: u64) -> Option<Gap>
         requires chunks { HasChunks self.now arena.now.bytes }
         requires linked { LinkedTo self.now.lowest (chunks_of self.now arena.now.bytes) None }
         ensures { result ≡ best_gap need (gaps (store_of self.now arena.now.bytes)) }
     {
         let mut best = None;
-        for gap in self.all_gaps(arena) {
-            best = better(
-                need,
-                best,
-                Gap {
+        let mut next = self.lowest;
+        while let Some(at) = next {
+            let gap = self.chunk_at(arena, at);
+            if gap.len as u64 >= need {
+                let found = Gap {
                     at: gap.at,
                     len: gap.len,
-                },
-            );
+                };
+                best = Some(shorter(best, found));
+                if gap.len as u64 == need {
+                    return best;
+                }
+            }
+            next = gap.link;
         }
         best
     }

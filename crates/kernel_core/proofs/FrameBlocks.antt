@@ -20,7 +20,8 @@ use Rattle.mote_types.specs.declared.refusal.Refusal.{Refusal}
 use Rattle.mote_types.specs.declared.reply.Reply.{Reply}
 use Rattle.node_memory.specs.Ask.{Asked, ask, ask_part, ask_managed, ask_heap, done_or_no_room, unless_refused}
 use Rattle.node_memory.specs.Memory.{pool_in, with_managed, with_pool}
-use Rattle.node_memory.specs.Parts.{Part, part_called}
+use Rattle.node_memory.specs.declared.parts.Part.{Part}
+use Rattle.node_memory.specs.Parts.{part_called}
 use Rattle.node_memory.specs.PoolCalls.{ask_pool}
 use Rattle.kernel_core.specs.Code.View.{HoldsFrames}
 

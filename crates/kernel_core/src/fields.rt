@@ -4,10 +4,12 @@ ghost use Rattle.std.specs.Prelude.{◌≡◌, ◌<◌, ◌≤◌, ◌+◌, ◌-
 ghost use Rattle.std.specs.List.{list_any, IsDistinct};
 ghost use Rattle.mote_types.specs.Applications.{says_of};
 ghost use Rattle.mote_types.specs.Entries.{is_halt};
+ghost use Rattle.mote_types.specs.declared.event.Pid.{Pid as Process};
 ghost use Rattle.mote_types.specs.declared.event.Stimulus.{Stimulus as Told};
 ghost use Rattle.kernel_core.specs.Mote.{TakesEntry};
 ghost use Rattle.kernel_core.specs.Code.View.{HoldsFrames, machine_of, mote_of, none_unshown, entries_left_in, IsInOrder};
-ghost use Rattle.process_core.specs.declared.job.Job as ready;
+ghost use Rattle.process_core.specs.Told.{job_told};
+ghost use Rattle.process_core.specs.declared.ready.Ready as ready;
 ghost use Rattle.process_core.specs.SchedulerView.{job_of, turn_of, callback_of};
 ghost use Rattle.process_core.specs.Processes.{IsApplication, numbers};
 ghost use Rattle.process_core.specs.Scheduler.{IsWellFormed};
@@ -28,7 +30,7 @@ use mote_types::call::Call;
 use mote_types::entry::{Entry, Input};
 use mote_types::event::{ETIMER, Origin, Pid, SERIAL_PROCESS, Stimulus};
 use node_memory::NodeMemory;
-use process_core::job::Job;
+use process_core::ready::Ready;
 use process_core::scheduler::Scheduler;
 use timer_core::timers::Timers;
 
@@ -130,26 +132,28 @@ impl KernelFields {
         true
     }
 
-    /// The next thing that is to be done, which is taken from the agenda.
-    pub fn next_job(&mut self) -> Job
+    /// The next thing that is to be done, which is taken from the agenda. What a process is told then is put into `told`.
+    pub fn next_job(&mut self, told: &mut Stimulus) -> Ready
         requires order { IsInOrder self.old }
         requires running { self.old.halted ≡ false }
         requires nothing_shown { self.old.unshown ≡ none_unshown }
-        ensures reached { (answers : Answers) → ComesToJob self.old.timers.armings answers (machine_of self.old) (job_of result) (machine_of self.new) }
+        ensures reached { (answers : Answers) → ComesToJob self.old.timers.armings answers (machine_of self.old) (job_of (job_told result told.new)) (machine_of self.new) }
         ensures paid { (bound : ℕ) → present self.old.scheduler.state ≤ bound →
-            IsPaid bound (Some (job_of result)) (costs bound self.old.scheduler.state.agenda) (costs bound self.new.scheduler.state.agenda)
+            IsPaid bound (Some (job_of (job_told result told.new))) (costs bound self.old.scheduler.state.agenda) (costs bound self.new.scheduler.state.agenda)
             × (present self.new.scheduler.state ≤ present self.old.scheduler.state) }
-        ensures turn { self.new.scheduler.turn ≡ turn_of result }
+        ensures served { (pid : Process) → result ≡ ready.Ready.Serve pid → (bound : ℕ) → present self.old.scheduler.state ≤ bound →
+            costs bound self.new.scheduler.state.agenda + 1 ≤ costs bound self.old.scheduler.state.agenda }
+        ensures turn { self.new.scheduler.turn ≡ turn_of (job_told result told.new) }
         ensures active { IfSome self.new.scheduler.turn (λ p. IsApplication self.new.applications p.0) }
         ensures applications { self.new.scheduler.state.applications ≡ self.old.scheduler.state.applications }
-        ensures rest { result ≡ ready.Job.Rest → is_at_rest (machine_of self.new) ≡ true }
+        ensures rest { result ≡ ready.Ready.Rest → is_at_rest (machine_of self.new) ≡ true }
         ensures kept { self.new ≡ record self.old { scheduler = self.new.scheduler } }
-        ensures callback { self.new.scheduler.callback ≡ callback_of result }
+        ensures callback { self.new.scheduler.callback ≡ callback_of (job_told result told.new) }
         ensures standing { IsWellFormed self.new.scheduler.state }
         ensures events { HasFitEvents self.new }
-        ensures draws { debt self.new + draws_of_job (job_of result) ≤ debt self.old }
-        ensures expiry { IsFitJob self.old.timers.armings.drawn (job_of result) }
+        ensures draws { debt self.new + draws_of_job (job_of (job_told result told.new)) ≤ debt self.old }
+        ensures expiry { IsFitJob self.old.timers.armings.drawn (job_of (job_told result told.new)) }
     {
-        self.scheduler.next()
+        self.scheduler.next_to(told)
     }
 }

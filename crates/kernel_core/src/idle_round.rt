@@ -2,6 +2,7 @@
 
 ghost use Rattle.std.specs.Prelude.{◌≡◌, true, false};
 ghost use Rattle.kernel_core.specs.Code.View.{machine_of, none_unshown, IsInOrder};
+ghost use Rattle.kernel_core.specs.IdleRound.{has_idle_round};
 ghost use Rattle.kernel_core.specs.Run.{Answers, GoesToRest};
 
 use crate::fields::{KernelFields, WORK_LIMIT};
@@ -14,6 +15,7 @@ impl KernelFields {
         requires order { IsInOrder self.old }
         requires running { self.old.halted ≡ false }
         requires nothing_shown { self.old.unshown ≡ none_unshown }
+        ensures value { result ≡ has_idle_round (machine_of self.old) }
         ensures passed { result ≡ true → (answers : Answers) → GoesToRest answers (machine_of self.old) (machine_of self.new) }
         ensures order { IsInOrder self.new }
         ensures kept { self.new ≡ record self.old { work = self.new.work; scheduler = self.new.scheduler } }

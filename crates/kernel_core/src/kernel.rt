@@ -6,6 +6,7 @@ ghost use Rattle.mote_types.specs.Applications.{says_of};
 ghost use Rattle.mote_types.specs.Entries.{is_halt};
 ghost use Rattle.mote_types.specs.declared.event.Stimulus.{Stimulus as Told};
 ghost use Rattle.kernel_core.specs.Machine.{is_bootable, booted};
+ghost use Rattle.kernel_core.specs.IdleRound.{has_idle_round};
 ghost use Rattle.kernel_core.specs.Inputs.{fed, has_bytes, ticks_of};
 ghost use Rattle.kernel_core.specs.Run.{Answers, GoesOn, heard, is_at_rest, made, made as made_by, stepped};
 ghost use Rattle.kernel_core.specs.Mote.{TakesEntry};
@@ -21,7 +22,6 @@ use mote_types::entry::{Entry, Input};
 use mote_types::event::MOST_APPLICATIONS;
 use mote_types::fault::BootFault;
 use node_memory::NodeMemory;
-use process_core::job::Job;
 use process_core::scheduler::Scheduler;
 use std::alloc::Global;
 use std::marker::Model;
@@ -134,6 +134,23 @@ impl Kernel {
         self.fields.inputs += 1;
     }
 
+    /// Makes the next poll round at once, where nothing is done in it but that etimer finds no timer due: the mote rests after
+    /// it. Else nothing is done.
+    pub fn pass_idle_round(&mut self) -> bool
+        ensures value { result ≡ has_idle_round self.old.machine }
+        ensures machine { result ≡ true → (answers : Answers) → GoesOn answers self.old.machine Step.Rest self.new.machine }
+        ensures else_nothing { result ≡ false → self.new ≡ self.old }
+        ensures halted { self.new.machine.is_halted ≡ self.old.machine.is_halted }
+        ensures clock { self.new.machine.clock ≡ self.old.machine.clock }
+        ensures applications { self.new.machine.scheduler.applications ≡ self.old.machine.scheduler.applications }
+        ensures inputs { self.new.inputs ≡ self.old.inputs }
+    {
+        if self.fields.halted || !self.fields.unshown.is_empty() {
+            return false;
+        }
+        self.fields.pass_idle_round()
+    }
+
     /// Works until an entry is made or nothing is left to be done. It takes one turn at most, of one application.
     ///
     /// `Rest` exactly where the mote has come to rest, `Halted` exactly where it was halted before.
@@ -181,29 +198,6 @@ impl Kernel {
         if self.fields.pass_idle_round() {
             return Reached::Rest;
         }
-        'job: loop {
-            match self.fields.next_job() {
-                Job::Give {
-                    pid,
-                    origin,
-                    stimulus,
-                } => {
-                    self.fields.take_turn(apps, pid, origin, stimulus, made);
-                    return Reached::Made;
-                }
-                Job::Serve { pid, event } => self.fields.serve(pid, event),
-                Job::Callback {
-                    pid,
-                    number,
-                    arming,
-                } => self.fields.expire(pid, number, arming),
-                Job::Round => {
-                    if !self.fields.begin_round(made) {
-                        return Reached::Made;
-                    }
-                }
-                Job::Rest => return Reached::Rest,
-            }
-        }
+        self.fields.work_on(apps, made)
     }
 }

@@ -1,17 +1,21 @@
 //! What the kernel's own processes do with an event.
 
-ghost use Rattle.std.specs.Prelude.{◌≡◌, ◌≤◌, ◌<◌, ◌+◌, ◌^◌, IfSome};
+ghost use Rattle.std.specs.Prelude.{◌≡◌, ◌≤◌, ◌<◌, ◌+◌, ◌^◌, ℕ, Bool, IfSome, Some};
 ghost use Rattle.std.specs.Option.{option_map};
 ghost use Rattle.mote_types.specs.declared.event.Pid as pid;
-ghost use Rattle.kernel_core.specs.Code.Draws.{HasFitEvents, debt, draws_of_event};
+ghost use Rattle.process_core.specs.Agenda.{job_carrying};
+ghost use Rattle.process_core.specs.SchedulerView.{job_of};
+ghost use Rattle.process_core.specs.Told.{served_with};
+ghost use Rattle.kernel_core.specs.Code.Draws.{HasFitEvents, debt, draws_of_event, draws_of_job};
 ghost use Rattle.kernel_core.specs.Code.View.{machine_of, IsServed};
+ghost use Rattle.kernel_core.specs.Run.{Answers, job_done, silent};
 ghost use Rattle.kernel_core.specs.KernelProcesses.{serve};
 ghost use Rattle.kernel_core.specs.TimerProcesses.{exited_application};
 
 use crate::fields::KernelFields;
 use mote_types::event::{
     CONTINUE, CTIMER, ETIMER, EXITED, Event, FIRST_APPLICATION, MOST_APPLICATIONS, PACKET_PROCESS,
-    POLL, Payload, Pid, SERIAL_PROCESS,
+    POLL, Payload, Pid, SERIAL_PROCESS, Stimulus,
 };
 
 /// The last application's number.
@@ -32,13 +36,27 @@ pub fn exited_application(payload: &Payload) -> Option<Pid>
 }
 
 impl KernelFields {
-    /// A kernel process is given an event.
-    pub fn serve(&mut self, pid: Pid, event: Event)
+    /// A kernel process is given the event that it is told. Where it is told anything else, nothing is done.
+    pub fn serve_told(&mut self, pid: Pid, told: &Stimulus)
         requires few { self.old.timers.armings.drawn < 2 ^ 60 }
         requires events { HasFitEvents self.old }
-        ensures machine { machine_of self.new ≡ serve pid.0 event (machine_of self.old) }
+        ensures machine { (answers : Answers) (struck : ℕ → ℕ → ℕ → Bool) →
+            job_done answers (Some (job_carrying struck (job_of (served_with pid told.now)))) (machine_of self.old) ≡ silent (machine_of self.new) }
         ensures kept { IsServed self.old self.new }
-        ensures draws { debt self.new ≤ debt self.old + draws_of_event pid.0 event }
+        ensures draws { debt self.new ≤ debt self.old + draws_of_job (job_of (served_with pid told.now)) }
+    {
+        if let Stimulus::Event(event) = told {
+            self.serve(pid, event);
+        }
+    }
+
+    /// A kernel process is given an event.
+    pub fn serve(&mut self, pid: Pid, event: &Event)
+        requires few { self.old.timers.armings.drawn < 2 ^ 60 }
+        requires events { HasFitEvents self.old }
+        ensures machine { machine_of self.new ≡ serve pid.0 event.now (machine_of self.old) }
+        ensures kept { IsServed self.old self.new }
+        ensures draws { debt self.new ≤ debt self.old + draws_of_event pid.0 event.now }
     {
         match (pid, event.code) {
             (ETIMER, POLL) => self.post_due(),

@@ -19,5 +19,6 @@ pub mod step;
 mod timer_calls;
 mod timer_processes;
 mod unshown;
+mod work;
 
 pub use mote_types::fault::BootFault;

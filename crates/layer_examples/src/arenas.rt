@@ -22,8 +22,9 @@ fn hands_out_zeros(rt: HostRuntime) -> Result<(), Fail> {
     let mut arena = Arena::new(rt.alloc(), 12)?;
     let first = arena.carve(8);
     let rest = arena.carve(4);
-    assert_eq!(rt; first, Some(Span { at: 0, len: 8 }));
-    assert_eq!(rt; rest, Some(Span { at: 8, len: 4 }));
+    let is_one_behind_the_other = first == Some(Span { at: 0, len: 8 })
+        && rest == Some(Span { at: 8, len: 4 });
+    assert!(rt; is_one_behind_the_other);
     assert!(rt; arena.carve(1).is_none() && begins_with(&arena, &[0; 12]));
     Ok(())
 }
@@ -65,7 +66,6 @@ fn lends_two_ranges(rt: HostRuntime) -> Result<(), Fail> {
     );
     low.copy_from_slice(&[1, 2]);
     high.copy_from_slice(&[3, 4]);
-    let all = arena.carve(6).ok_or("no span")?;
-    assert_eq!(rt; arena.bytes(all), [1, 2, 0, 0, 3, 4].as_slice());
+    assert!(rt; begins_with(&arena, &[1, 2, 0, 0, 3, 4]));
     Ok(())
 }

@@ -6,9 +6,9 @@ ghost use Rattle.heap_core.specs.HeapStore.{IsHeapSize};
 use arena_core::Arena;
 use heap_core::{Heap, Key};
 use mote_types::event::Pid;
-use mote_types::refusal::Refusal;
 use std::alloc::{AllocError, Global};
 use std::marker::Model;
+use std::process::Abort;
 use std::test::Fail;
 
 #[derive(Drop)]
@@ -56,52 +56,51 @@ impl Memory {
         }))
     }
 
-    fn alloc(&mut self, number: u8, n: u32) -> Result<(), Refusal>
+    /// Takes a block. Whether there was none of that number, and room.
+    fn alloc(&mut self, number: u8, n: u32) -> bool
         requires { number ≤ 15 }
     {
         let key = key(number);
-        if self.heap.len_of(&self.arena, key).is_some() {
-            return Err(Refusal::InUse);
+        if n == 0 || self.heap.len_of(&self.arena, key).is_some() {
+            return false;
         }
-        if n == 0 {
-            return Err(Refusal::Range);
-        }
-        match self.heap.alloc(&mut self.arena, key, n) {
-            Some(()) => Ok(()),
-            None => Err(Refusal::NoRoom),
-        }
+        self.heap.alloc(&mut self.arena, key, n).is_some()
     }
 
-    fn free(&mut self, number: u8) -> Result<(), Refusal>
+    /// Gives a block back. Whether there was one.
+    fn free(&mut self, number: u8) -> bool
         requires { number ≤ 15 }
     {
         let key = key(number);
         if self.heap.len_of(&self.arena, key).is_none() {
-            return Err(Refusal::NotLive);
+            return false;
         }
         self.heap.free(&mut self.arena, key);
-        Ok(())
+        true
     }
 
-    fn realloc(&mut self, number: u8, n: u32) -> Result<(), Refusal>
+    /// Gives a block another length. Whether there was one, and room.
+    fn realloc(&mut self, number: u8, n: u32) -> bool
         requires { number ≤ 15 }
     {
         let key = key(number);
-        if self.heap.len_of(&self.arena, key).is_none() {
-            return Err(Refusal::NotLive);
+        if n == 0 || self.heap.len_of(&self.arena, key).is_none() {
+            return false;
         }
-        if n == 0 {
-            return Err(Refusal::Range);
-        }
-        match self.heap.realloc(&mut self.arena, key, n) {
-            Some(()) => Ok(()),
-            None => Err(Refusal::NoRoom),
-        }
+        self.heap.realloc(&mut self.arena, key, n).is_some()
     }
 
-    /// The free list's length.
-    fn linked(&self) -> u32 {
-        self.heap.linked()
+    /// Carries out a call: `alloc 0 20`, `realloc 0 90` or `free 0`.
+    fn carry_out(&mut self, call: &str) -> bool {
+        let (word, rest) = call.split_once(" ").unwrap_or((call, ""));
+        let (number, n) = rest.split_once(" ").unwrap_or((rest, ""));
+        let number = number.parse().unwrap_or(0).min(15);
+        let n = n.parse().unwrap_or(0);
+        match word {
+            "alloc" => self.alloc(number, n),
+            "realloc" => self.realloc(number, n),
+            _ => self.free(number),
+        }
     }
 
     /// Allocated, overhead, available, footprint and chunks.
@@ -116,32 +115,30 @@ impl Memory {
         ]
     }
 
-    fn write(&mut self, number: u8, at: u32, bytes: &[u8]) -> Result<(), Refusal>
+    /// Writes into a block from its front on. Whether it is live and as long.
+    fn write(&mut self, number: u8, bytes: &[u8]) -> bool
         requires { number ≤ 15 }
     {
         let key = key(number);
         let Some(len) = self.heap.len_of(&self.arena, key) else {
-            return Err(Refusal::NotLive);
+            return false;
         };
-        if at as usize > len as usize || bytes.len() > (len - at) as usize {
-            return Err(Refusal::Range);
+        if bytes.len() > len as usize {
+            return false;
         }
-        self.heap.write(&mut self.arena, key, at, bytes);
-        Ok(())
+        self.heap.write(&mut self.arena, key, 0, bytes);
+        true
     }
 
-    fn read(&self, number: u8, at: usize, len: usize) -> Result<&[u8], Refusal>
+    /// The bytes of a block.
+    fn bytes(&self, number: u8) -> Option<&[u8]>
         requires { number ≤ 15 }
     {
         let key = key(number);
         if self.heap.len_of(&self.arena, key).is_none() {
-            return Err(Refusal::NotLive);
+            return None;
         }
-        let bytes = self.heap.bytes(&self.arena, key);
-        if at > bytes.len() || len > bytes.len() - at {
-            return Err(Refusal::Range);
-        }
-        Ok(&bytes[at..at + len])
+        Some(self.heap.bytes(&self.arena, key))
     }
 }
 
@@ -149,46 +146,48 @@ impl Memory {
 #[test]
 fn fresh_bytes_are_zero(rt: HostRuntime) -> Result<(), Fail> {
     let mut memory = Memory::new(rt.alloc(), 100)?.ok_or("no span")?;
-    assert_eq!(rt; memory.alloc(0, 4), Ok(()));
-    assert_eq!(rt; memory.read(0, 0, 4), Ok([0, 0, 0, 0].as_slice()));
-    assert_eq!(rt; memory.write(0, 0, &[1, 2, 3, 4]), Ok(()));
-    assert_eq!(rt; memory.free(0), Ok(()));
-    assert_eq!(rt; memory.alloc(1, 4), Ok(()));
-    assert_eq!(rt; memory.read(1, 0, 4), Ok([0, 0, 0, 0].as_slice()));
-    assert_eq!(rt; memory.read(0, 0, 4), Err(Refusal::NotLive));
+    for number in [0u8, 1] {
+        let is_taken = memory.alloc(number, 4);
+        assert_eq!(rt; memory.bytes(number), Some([0, 0, 0, 0].as_slice()));
+        let is_freed = memory.write(number, &[1, 2, 3, 4]) && memory.free(number);
+        assert!(rt; is_taken && is_freed && memory.bytes(number).is_none());
+    }
     Ok(())
 }
 
-/// Frees only link their chunks; the next `alloc` joins them. The joined gap of 108 bytes fits exactly.
-#[test]
-fn alloc_joins_what_was_freed(rt: HostRuntime) -> Result<(), Fail> {
+/// A heap of 4,096 bytes after these calls, all of which are carried out.
+fn heap_after<R: Abort + AllocGlobal>(rt: &R, calls: &str) -> Result<Memory, Fail> {
     let mut memory = Memory::new(rt.alloc(), 4096)?.ok_or("no span")?;
-    assert_eq!(rt; memory.alloc(0, 20), Ok(()));
-    assert_eq!(rt; memory.alloc(1, 20), Ok(()));
-    assert_eq!(rt; memory.alloc(2, 20), Ok(()));
-    assert_eq!(rt; memory.alloc(3, 20), Ok(()));
-    assert_eq!(rt; memory.linked(), 0);
-    assert_eq!(rt; memory.free(0), Ok(()));
-    assert_eq!(rt; memory.free(2), Ok(()));
-    assert_eq!(rt; memory.free(1), Ok(()));
-    assert_eq!(rt; memory.linked(), 3);
-    assert_eq!(rt; memory.alloc(4, 90), Ok(()));
-    assert_eq!(rt; memory.linked(), 0);
-    assert_eq!(rt; memory.stats(), [112, 32, 3952, 144, 2]);
+    for call in calls.split(", ") {
+        assert!(rt; memory.carry_out(call), "{call}");
+    }
+    Ok(memory)
+}
+
+/// Frees only link their chunks; the next `alloc` joins them.
+#[test]
+fn alloc_unlinks_what_was_freed(rt: HostRuntime) -> Result<(), Fail> {
+    let cases = "\
+alloc 0 20, alloc 1 20, alloc 2 20, alloc 3 20: 0\
+|alloc 0 20, alloc 1 20, alloc 2 20, alloc 3 20, free 0, free 2, free 1: 3\
+|alloc 0 20, alloc 1 20, alloc 2 20, alloc 3 20, free 0, free 2, free 1, alloc 4 90: 0";
+    for case in cases.split("|") {
+        let (calls, linked) = case.split_once(": ").unwrap_or((case, ""));
+        let memory = heap_after(&rt, calls)?;
+        assert_eq!(rt; memory.heap.linked(), linked.parse()?, "{calls}");
+    }
     Ok(())
 }
 
-/// A block grows where it is, over a gap of 72 bytes that is joined for it.
+/// The joined gap of 108 bytes fits exactly. A block grows where it is, over a gap of 72 bytes that is joined for it.
 #[test]
-fn realloc_joins_what_was_freed(rt: HostRuntime) -> Result<(), Fail> {
-    let mut memory = Memory::new(rt.alloc(), 4096)?.ok_or("no span")?;
-    assert_eq!(rt; memory.alloc(0, 20), Ok(()));
-    assert_eq!(rt; memory.alloc(1, 20), Ok(()));
-    assert_eq!(rt; memory.alloc(2, 20), Ok(()));
-    assert_eq!(rt; memory.alloc(3, 20), Ok(()));
-    assert_eq!(rt; memory.free(2), Ok(()));
-    assert_eq!(rt; memory.free(1), Ok(()));
-    assert_eq!(rt; memory.realloc(0, 90), Ok(()));
-    assert_eq!(rt; memory.stats(), [112, 32, 3952, 144, 2]);
+fn freed_chunks_are_joined(rt: HostRuntime) -> Result<(), Fail> {
+    let cases = "\
+alloc 0 20, alloc 1 20, alloc 2 20, alloc 3 20, free 0, free 2, free 1, alloc 4 90\
+|alloc 0 20, alloc 1 20, alloc 2 20, alloc 3 20, free 2, free 1, realloc 0 90";
+    for calls in cases.split("|") {
+        let memory = heap_after(&rt, calls)?;
+        assert_eq!(rt; memory.stats(), [112, 32, 3952, 144, 2], "{calls}");
+    }
     Ok(())
 }

@@ -44,7 +44,7 @@ fn plain_digit(digit: u8) -> Option<u8> {
 }
 
 /// From one byte to so many, by two hex digits each.
-fn plain_bytes(digits: &[u8], most: usize) -> Option<ArrayVec<u8, 256>> {
+pub(crate) fn plain_bytes(digits: &[u8], most: usize) -> Option<ArrayVec<u8, 256>> {
     if digits.is_empty() {
         return None;
     }
@@ -96,7 +96,7 @@ fn is_same_input(input: &Input, said: &Said) -> bool {
 }
 
 /// How many lines said an input, and how many said nothing. All others have no form.
-#[derive(Clone, Copy, Debug, PartialEq, Eq, Drop)]
+#[derive(Drop)]
 struct Counts {
     inputs: u32,
     nothing: u32,
@@ -130,24 +130,15 @@ fn count_spoilt<const N: usize>(rt: &impl Abort, line: [u8; N]) -> Counts {
 // Itself five times, once for each byte of the word; 9 digits in front, and 10 behind. `#ick 10` is a comment.
 #[test]
 fn spoilt_ticks(rt: HostRuntime) {
-    let counts = Counts {
-        inputs: 24,
-        nothing: 1,
-    };
-    assert_eq!(rt; count_spoilt(&rt, *b"tick 10"), counts);
+    let counts = count_spoilt(&rt, *b"tick 10");
+    assert!(rt; counts.inputs == 24 && counts.nothing == 1);
 }
 
 // Itself once for each byte of the word, and 22 digits in each place.
 #[test]
 fn spoilt_bytes(rt: HostRuntime) {
-    let counts = Counts {
-        inputs: 95,
-        nothing: 1,
-    };
-    assert_eq!(rt; count_spoilt(&rt, *b"serial 0aFf"), counts);
-    let counts = Counts {
-        inputs: 50,
-        nothing: 1,
-    };
-    assert_eq!(rt; count_spoilt(&rt, *b"frame 00"), counts);
+    let counts = count_spoilt(&rt, *b"serial 0aFf");
+    assert!(rt; counts.inputs == 95 && counts.nothing == 1);
+    let counts = count_spoilt(&rt, *b"frame 00");
+    assert!(rt; counts.inputs == 50 && counts.nothing == 1);
 }

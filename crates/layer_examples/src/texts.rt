@@ -25,24 +25,18 @@ fn ticks(line: &[u8]) -> Result<Option<u32>, BadLine> {
     }
 }
 
-/// Reads the line into a place that holds another input.
-fn check_serial(rt: &impl Abort, input: &mut Input, line: &[u8], expected: &[u8]) {
-    let is_input = read_input(line, input) == Ok(true);
-    let is_read = match input {
-        Input::Serial(read) => read.as_slice() == expected,
-        _ => false,
-    };
-    assert!(rt; is_input && is_read, "{line:?}");
+/// Whether the line is read, into a place that holds another input, as these bytes of the serial line or of a frame.
+fn is_read(input: &mut Input, line: &[u8], expected: &[u8]) -> bool {
+    read_input(line, input) == Ok(true) && holds(input, line, expected)
 }
 
-/// Reads the line into a place that holds another input.
-fn check_frame(rt: &impl Abort, input: &mut Input, line: &[u8], expected: &[u8]) {
-    let is_input = read_input(line, input) == Ok(true);
-    let is_read = match input {
-        Input::Frame(read) => read.as_slice() == expected,
-        _ => false,
-    };
-    assert!(rt; is_input && is_read, "{line:?}");
+/// Whether the input is these bytes, on the device that the line names.
+fn holds(input: &Input, line: &[u8], expected: &[u8]) -> bool {
+    match input {
+        Input::Tick(_) => false,
+        Input::Serial(read) => line.starts_with(b"serial ") && read.as_slice() == expected,
+        Input::Frame(read) => line.starts_with(b"frame ") && read.as_slice() == expected,
+    }
 }
 
 /// A word, and so many times the digit `f`.
@@ -56,45 +50,38 @@ fn line_of_digits(word: &[u8], digits: usize) -> ArrayVec<u8, 1_024> {
 
 #[test]
 fn lines_of_bytes(rt: HostRuntime) {
+    let cases = "\
+serial 68690d0a: 104 105 13 10|serial 0A: 10|serial aBCdeF09: 171 205 239 9|frame 0a0b: 10 11|frame 00: 0\
+|frame Ff90: 255 144|serial 31: 49";
     let mut input = Input::Tick(7);
-    check_serial(&rt, &mut input, b"serial 68690d0a", b"hi\r\n");
-    check_serial(&rt, &mut input, b"serial 0A", b"\n");
-    check_serial(
-        &rt,
-        &mut input,
-        b"serial aBCdeF09",
-        &[0xab, 0xcd, 0xef, 0x09],
-    );
-    check_frame(&rt, &mut input, b"frame 0a0b", &[0x0a, 0x0b]);
-    check_frame(&rt, &mut input, b"frame 00", &[0]);
-    check_frame(&rt, &mut input, b"frame Ff90", &[0xff, 0x90]);
-    check_serial(&rt, &mut input, b"serial 31", b"1");
+    for case in cases.split("|") {
+        let (line, numbers) = case.split_once(": ").unwrap_or((case, ""));
+        let mut expected = LineBuf::new();
+        for number in numbers.split(" ") {
+            let _ = expected.try_push(number.parse().unwrap_or(0));
+        }
+        let is_read = is_read(&mut input, line.as_bytes(), expected.as_slice());
+        assert!(rt; is_read, "{line:?}");
+    }
 }
 
 #[test]
 fn a_line_that_says_nothing_leaves_the_place(rt: HostRuntime) {
     let mut input = Input::Tick(0);
-    check_frame(&rt, &mut input, b"frame 0102", &[1, 2]);
-    assert_eq!(rt; read_input(b"# frame 03", &mut input), Ok(false));
-    assert_eq!(rt; read_input(b"", &mut input), Ok(false));
-    assert!(rt; matches!(&input, Input::Frame(bytes) if bytes.as_slice() == [1, 2].as_slice()));
+    let line = b"frame 0102".as_slice();
+    assert!(rt; is_read(&mut input, line, &[1, 2]));
+    let say_nothing = read_input(b"# frame 03", &mut input) == Ok(false)
+        && read_input(b"", &mut input) == Ok(false);
+    assert!(rt; say_nothing && holds(&input, line, &[1, 2]));
 }
 
 #[test]
 fn the_longest_lines_of_bytes(rt: HostRuntime) {
     let mut input = Input::Tick(0);
-    check_serial(
-        &rt,
-        &mut input,
-        line_of_digits(b"serial ", 512).as_slice(),
-        &[0xff; 256],
-    );
-    check_frame(
-        &rt,
-        &mut input,
-        line_of_digits(b"frame ", 254).as_slice(),
-        &[0xff; 127],
-    );
+    let serial = line_of_digits(b"serial ", 512);
+    let frame = line_of_digits(b"frame ", 254);
+    assert!(rt; is_read(&mut input, serial.as_slice(), &[0xff; 256]));
+    assert!(rt; is_read(&mut input, frame.as_slice(), &[0xff; 127]));
     for digits in [511, 513, 514] {
         let line = line_of_digits(b"serial ", digits);
         assert_eq!(rt; ticks(line.as_slice()), Err(BadLine), "{digits}");
@@ -107,12 +94,11 @@ fn the_longest_lines_of_bytes(rt: HostRuntime) {
 
 #[test]
 fn lines_with_a_form(rt: HostRuntime) {
-    assert_eq!(rt; ticks(b"tick 0"), Ok(Some(0)));
-    assert_eq!(rt; ticks(b"tick 5"), Ok(Some(5)));
-    assert_eq!(rt; ticks(b"tick 4294967295"), Ok(Some(4_294_967_295)));
-    assert_eq!(rt; ticks(b""), Ok(None));
-    assert_eq!(rt; ticks(b"#"), Ok(None));
-    assert_eq!(rt; ticks(b"# x"), Ok(None));
+    let cases = "tick 0: 0|tick 5: 5|tick 4294967295: 4294967295|: none|#: none|# x: none";
+    for case in cases.split("|") {
+        let (line, said) = case.split_once(": ").unwrap_or((case, ""));
+        assert_eq!(rt; ticks(line.as_bytes()), Ok(said.parse().ok()), "{line:?}");
+    }
     assert_eq!(rt; ticks(&[b'#'; 1_024]), Ok(None));
 }
 
@@ -235,37 +221,50 @@ fn nothing_is_taken_of_a_line_that_is_too_wide(rt: HostRuntime) {
     );
 }
 
+/// Looks for a whole line in a piece.
+fn check_whole(rt: &impl Abort, lines: &Lines, piece: &[u8], whole: Option<&[u8]>) {
+    assert_eq!(rt; lines.whole_line(piece), whole);
+}
+
 #[test]
 fn a_whole_line_is_found_in_its_piece(rt: HostRuntime) {
     let mut lines = Lines::new();
-    let whole: &[u8] = b"tick 1";
-    let empty: &[u8] = b"";
-    assert_eq!(rt; lines.whole_line(b"tick 1\n\n"), Some(whole));
-    assert_eq!(rt; lines.whole_line(b"\ntick 1\n"), Some(empty));
-    assert_eq!(rt; lines.whole_line(b"tick 1"), None);
+    check_whole(&rt, &lines, b"tick 1\n\n", Some(b"tick 1"));
+    check_whole(&rt, &lines, b"\ntick 1\n", Some(b""));
+    check_whole(&rt, &lines, b"tick 1", None);
     check_take(&rt, &mut lines, b"ti", (2, Taken::More), b"ti");
-    assert_eq!(rt; lines.whole_line(b"ck 1\n"), None);
+    check_whole(&rt, &lines, b"ck 1\n", None);
     check_take(&rt, &mut lines, b"ck 1\n", (5, Taken::Line), b"tick 1");
-    assert_eq!(rt; lines.whole_line(b"tick 1\n"), Some(whole));
-    let mut widest = [b'#'; 1_026];
-    widest[1_024] = b'\n';
-    assert_eq!(rt; lines.whole_line(&widest), Some(&widest[..1_024]));
-    widest[1_024] = b'#';
-    widest[1_025] = b'\n';
-    assert_eq!(rt; lines.whole_line(&widest), None);
+    check_whole(&rt, &lines, b"tick 1\n", Some(b"tick 1"));
 }
 
-fn bytes<const N: usize>(bytes: &[u8]) -> ArrayVec<u8, N> {
+#[test]
+fn no_whole_line_is_wider_than_1024_bytes(rt: HostRuntime) {
+    let lines = Lines::new();
+    let mut widest = [b'#'; 1_026];
+    widest[1_024] = b'\n';
+    check_whole(&rt, &lines, &widest, Some(&[b'#'; 1_024]));
+    widest[1_024] = b'#';
+    widest[1_025] = b'\n';
+    check_whole(&rt, &lines, &widest, None);
+}
+
+pub(crate) fn bytes<const N: usize>(bytes: &[u8]) -> ArrayVec<u8, N> {
     let mut all = ArrayVec::new();
     let _ = all.try_extend_from_slice(bytes);
     all
+}
+
+/// Looks at the text of a line.
+pub(crate) fn check_text(rt: &impl Abort, line: &[u8], text: &str) {
+    assert_eq!(rt; line, text.as_bytes(), "{text:?}");
 }
 
 /// The buffer holds another line before.
 fn check(rt: &impl Abort, entry: Entry, text: &str) {
     let mut line: LineBuf = bytes(b"> tick 1\n");
     entry_text(&entry, &mut line);
-    assert_eq!(rt; line.as_slice(), text.as_bytes(), "{text:?}");
+    check_text(rt, line.as_slice(), text);
 }
 
 /// Those that runs have are in `worked_runs`.
@@ -295,7 +294,7 @@ fn lines_of_entries_that_no_run_has(rt: HostRuntime) {
 fn check_end(rt: &impl Abort, end: End, text: &str) {
     let mut line: LineBuf = bytes(b"halt\n");
     final_text(end, &mut line);
-    assert_eq!(rt; line.as_slice(), text.as_bytes(), "{text:?}");
+    check_text(rt, line.as_slice(), text);
 }
 
 #[test]

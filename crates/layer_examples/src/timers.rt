@@ -29,13 +29,12 @@ fn arming_number(due: Option<Due>) -> u64 {
 fn a_reset_past_the_latest_deadline_is_refused(rt: HostRuntime) {
     let mut timers = Timers::new();
     timers.set(LATEST - 5, FIRST, 0, 3);
-    assert!(rt; matches!(timers.reset(FIRST, 0), Err(Refusal::Range)));
-    assert!(rt;
-        !timers.expired(FIRST, 0) && !timers.any_due(LATEST - 3) && timers.any_due(LATEST - 2)
-    );
+    let is_refused = matches!(timers.reset(FIRST, 0), Err(Refusal::Range));
+    assert!(rt; is_refused && !timers.expired(FIRST, 0));
+    assert!(rt; !timers.any_due(LATEST - 3) && timers.any_due(LATEST - 2));
     timers.set(LATEST - 5, FIRST, 0, 2);
-    assert!(rt; timers.reset(FIRST, 0).is_ok());
-    assert!(rt; !timers.any_due(LATEST - 2) && timers.any_due(LATEST - 1));
+    let is_reset = timers.reset(FIRST, 0).is_ok();
+    assert!(rt; is_reset && !timers.any_due(LATEST - 2) && timers.any_due(LATEST - 1));
 }
 
 #[test]
@@ -43,13 +42,17 @@ fn an_expiry_counts_until_its_callback_timer_changes(rt: HostRuntime) {
     let mut timers = Timers::new();
     timers.set_callback(0, FIRST, 3, 1);
     let set = arming_number(timers.take_due(1));
-    assert!(rt; timers.is_present_arming(FIRST, 3, set));
+    let at_first = timers.is_present_arming(FIRST, 3, set);
     timers.set_callback(1, FIRST, 3, 1);
-    assert!(rt; !timers.is_present_arming(FIRST, 3, set));
+    let set_anew = timers.is_present_arming(FIRST, 3, set);
     let again = arming_number(timers.take_due(2));
-    assert!(rt; timers.is_present_arming(FIRST, 3, again));
+    let at_second = timers.is_present_arming(FIRST, 3, again);
     timers.stop_callback(FIRST, 3);
-    assert!(rt; !timers.is_present_arming(FIRST, 3, again));
+    let stopped = timers.is_present_arming(FIRST, 3, again);
+    assert_eq!(rt;
+        [at_first, set_anew, at_second, stopped],
+        [true, false, true, false]
+    );
     assert!(rt; timers.take_due(9).is_none());
 }
 
@@ -61,12 +64,11 @@ fn a_process_forgets_its_timers_and_callback_timers_apart(rt: HostRuntime) {
     timers.set_callback(0, FIRST, 3, 1);
     timers.set_callback(0, FIRST, 0, 1);
     timers.forget(FIRST);
-    assert!(rt; timers.expired(FIRST, 7));
-    assert!(rt; !timers.expired(LAST, 7));
+    assert!(rt; timers.expired(FIRST, 7) && !timers.expired(LAST, 7));
     let first = arming_number(timers.take_due(1));
-    assert!(rt; timers.is_present_arming(FIRST, 0, first));
+    let counts = timers.is_present_arming(FIRST, 0, first);
     timers.forget_callbacks(FIRST);
-    assert!(rt; !timers.is_present_arming(FIRST, 0, first));
+    assert!(rt; counts && !timers.is_present_arming(FIRST, 0, first));
     assert_eq!(rt; event_number(timers.take_due(1)), 7);
     assert!(rt; timers.take_due(1).is_none());
 }

@@ -1,7 +1,7 @@
 //! The names of a pool's lists.
 
 /// One of the two lists of a pool.
-#[derive(Clone, Copy, Debug, PartialEq, Eq, Drop)]
+#[derive(Clone, Copy, Drop)]
 pub enum ListName {
     First,
     Second,

@@ -1,6 +1,6 @@
 //! The two lists of a pool.
 
-ghost use Rattle.std.specs.Prelude.{◌≡◌, ◌≢◌, ℕ, List, [], ◌∷◌, ◌≤◌, length, true, false};
+ghost use Rattle.std.specs.Prelude.{◌≡◌, ◌≢◌, ℕ, List, [], ◌∷◌, ◌≤◌, length, true, false, IfNone};
 ghost use Rattle.memb_core.specs.BlockPool.{is_live};
 ghost use Rattle.memb_core.specs.BlockLists.{has_number, without, head_of, tail_of, next_of, put_behind, added, pushed, inserted, popped, chopped, holder_of};
 ghost use Rattle.memb_core.specs.declared.list_name.ListName.{ListName as Name};
@@ -105,10 +105,11 @@ impl Lists {
         Some(head)
     }
 
-    /// Takes the tail out of a list (`list_chop`). `None` exactly where the list is empty.
+    /// Takes the tail out of a list (`list_chop`). `None` exactly where the list is empty; then nothing changes.
     pub fn chop(&mut self, arena: &mut Arena, pool: &Pool, name: ListName) -> Option<u8>
         requires { AreLinked self.old pool.now arena.old.bytes }
         ensures tail { result ≡ tail_of (list_of name self.old pool.now arena.old.bytes) }
+        ensures unchanged { IfNone result ((self.new ≡ self.old) × (arena.new ≡ arena.old)) }
         ensures list { list_of name self.new pool.now arena.new.bytes ≡ chopped (list_of name self.old pool.now arena.old.bytes) }
         ensures others { LeavesOthers name pool.now self.old self.new arena.old.bytes arena.new.bytes }
         ensures rest { KeepsToSpan pool.now pool.now arena.old arena.new }

@@ -1,6 +1,6 @@
 -- What boxed applications say, by the list of what each one says.
 use Rattle.std.proofs.Common.{◌≡◌, ◌∙◌, ◌-◌, ◌+◌, ◌++◌, ℕ, Bool, zero, suc, refl, sym, ap, subst, List, [], ◌∷◌, map, length, nat_lt}
-use Rattle.std.specs.Prelude.{if◌then◌else◌}
+use Rattle.std.specs.Prelude.{Result, Ok, Err, OnErr, if◌then◌else◌}
 use Rattle.std.proofs.Math.Path.{fun_ext}
 use Rattle.std.proofs.lemmas.List.{append-nil, length-append, map-append}
 use Rattle.mote_types.specs.Applications.{Applications, Says, nth_says, says_of}
@@ -44,10 +44,11 @@ pub said_the_same : {P Q : Type 0} {G : Config → Type 0} (R : Config → Appli
     (P → Q → (config : Config) → G config → R config says) → P → Q → (config : Config) → G config → R config others
 said_the_same R says others same run p q config given = subst (R config) same (run p q config given)
 
--- a run that was not begun is the front part of each
-pub nothing_ran : (config : Config) (says : Applications) (quiet : Bool) (taken given : List ℕ) (is_ended : Bool) →
-    HasRunInPart config says quiet taken taken is_ended given given
-nothing_ran config says quiet taken given is_ended =
+-- where memory was refused for the boxes, nothing ran: that is the front part of each run
+pub nothing_ran : {T E : Type 0} (P Q : Type 0) (G : Config → Type 0) (result : Result T E) (says : Applications) (quiet : Bool) (taken given : List ℕ) (is_ended : Bool) →
+    OnErr result (P → Q → (config : Config) → G config → HasRunInPart config says quiet taken taken is_ended given given)
+nothing_ran P Q G (Ok value) says quiet taken given is_ended = tt
+nothing_ran P Q G (Err error) says quiet taken given is_ended = λ _ _ config _.
     record {
       bytes = [];
       out = [];

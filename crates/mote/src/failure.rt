@@ -13,7 +13,7 @@ use std::fmt;
 
 /// What the program tells in place of a run, or of its end: on standard error, and only what the words asked for on
 /// standard output.
-#[derive(Debug, Drop)]
+#[derive(Drop)]
 pub enum Failure<'a> {
     /// A word is not text in UTF-8.
     NotText,

@@ -24,7 +24,6 @@ use std::alloc::Global;
 ///
 /// `Read` and `Write` exactly where that device failed, else `OutOfMemory`. What was written is a front part of the text then,
 /// and after `Read` all of the text of the whole lines that were read.
-#[tactic(auto, using(crate::proofs::Boxed::nothing_ran))]
 pub fn run_prepared<'a, S: ByteSource, K: ByteSink>(
     alloc: Global,
     prepared: Prepared,

@@ -15,7 +15,7 @@ use mote_types::reply::{Chunk, Reply};
 const INTERVAL: u32 = 5;
 
 /// Which answer is awaited.
-#[derive(Clone, Copy, Debug, PartialEq, Eq, Drop)]
+#[derive(Clone, Copy, Drop)]
 pub enum Stage {
     /// None.
     Idle,

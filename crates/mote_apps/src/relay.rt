@@ -14,7 +14,7 @@ use mote_types::reply::Reply;
 const CHUNK: u8 = 64;
 
 /// Which answer is awaited.
-#[derive(Clone, Copy, Debug, PartialEq, Eq, Drop)]
+#[derive(Clone, Copy, Drop)]
 pub enum Stage {
     /// None that matters.
     Idle,

@@ -1,4 +1,4 @@
-//! Scripts: which lines have no form, and how long a line may be.
+//! Scripts: which lines have no form, and how long a line may be. More are in `worked_runs`.
 
 use mote_kit::mote::{DEFAULT_SIZES, run_script};
 use mote_run::End;
@@ -21,8 +21,8 @@ fn check_script<R: Abort + AllocGlobal>(
         script.as_bytes(),
         false,
     )?;
-    assert_eq!(rt; str::from_utf8(ran.transcript.as_slice())?, transcript);
-    assert_eq!(rt; ran.end, end);
+    let is_same = ran.end == end && ran.transcript.as_slice() == transcript.as_bytes();
+    assert!(rt; is_same, "{script:?}");
     Ok(())
 }
 
@@ -32,18 +32,7 @@ fn a_line_of_no_form_ends_the_run(rt: HostRuntime) -> Result<(), Fail> {
     for line in lines.split("|") {
         check_script(&rt, line, End::BadLine(1), "bad line 1\n")?;
     }
-    check_script(
-        &rt,
-        "tick 1\n\n# x\nframe 0",
-        End::BadLine(4),
-        "> tick 1\nbad line 4\n",
-    )?;
-    check_script(
-        &rt,
-        "tick 1\ntock\ntick 2\n",
-        End::BadLine(2),
-        "> tick 1\nbad line 2\n",
-    )
+    Ok(())
 }
 
 /// A line of so many hash signs, which would be a comment.

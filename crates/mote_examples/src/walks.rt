@@ -1,6 +1,7 @@
 //! Transcripts that break a law: the walks over a transcript (`transcript_walks`) notice each.
 
-use std::alloc::Global;
+use std::alloc::{AllocError, Global};
+use std::process::Abort;
 use std::test::Fail;
 use transcript_walks::{events, memory, timers};
 
@@ -13,6 +14,40 @@ fn spoilt(alloc: Global, transcript: &str, part: &str, instead: &str) -> Result<
     text.push_str(instead)?;
     text.push_str(behind)?;
     Ok(text)
+}
+
+/// What a walk looks at.
+#[derive(Clone, Copy, Drop)]
+enum Law {
+    Memory,
+    /// Of two applications.
+    Events,
+    /// Of one application.
+    Timers,
+}
+
+fn is_kept(alloc: Global, law: Law, transcript: &str) -> Result<bool, AllocError> {
+    match law {
+        Law::Memory => memory::is_own(alloc, transcript),
+        Law::Events => events::arrive_in_order(alloc, 2, transcript),
+        Law::Timers => timers::are_kept(alloc, 1, transcript),
+    }
+}
+
+/// The walk finds the transcript right, and each one that is spoilt wrong.
+fn check_walk<R: Abort + AllocGlobal>(
+    rt: &R,
+    law: Law,
+    transcript: &str,
+    cases: &str,
+) -> Result<(), Fail> {
+    assert!(rt; is_kept(rt.alloc(), law, transcript)?);
+    for case in cases.split("|") {
+        let (part, instead) = case.split_once("=>").unwrap_or((case, ""));
+        let text = spoilt(rt.alloc(), transcript, part, instead)?;
+        assert!(rt; !is_kept(rt.alloc(), law, text.as_str())?, "{instead}");
+    }
+    Ok(())
 }
 
 // After the slide, handle 1 shows what lay at its old place; a new block shows what lay there before; a resize keeps too much;
@@ -39,16 +74,10 @@ note sent 01020000
 4 answer done -> heap-read 0 0 3
 4 answer bytes 050600 -> wait
 ";
-    assert!(rt; memory::is_own(rt.alloc(), transcript)?);
     let cases = "\
 bytes 0102 =>bytes 0000 |bytes 00000000 =>bytes 01020000 |bytes 050600 =>bytes 050607 \
 |refused 9 =>refused 11 |refused 8 =>done |sent 01020000=>sent 01020001";
-    for case in cases.split("|") {
-        let (part, instead) = case.split_once("=>").unwrap_or((case, ""));
-        let text = spoilt(rt.alloc(), transcript, part, instead)?;
-        assert!(rt; !memory::is_own(rt.alloc(), text.as_str())?, "{instead}");
-    }
-    Ok(())
+    check_walk(&rt, Law::Memory, transcript, cases)
 }
 
 // An accepted event is dropped; one is given twice; two change places; one is not given before the mote rests.
@@ -66,22 +95,13 @@ fn a_walk_notices_an_event_that_is_lost_or_out_of_order(rt: HostRuntime) -> Resu
 4 event 142 - -> wait
 > tick 1
 ";
-    assert!(rt; events::arrive_in_order(rt.alloc(), 2, transcript)?);
     let cases = "\
 4 event 140 - -> wait\n=>\
 |4 event 140 - -> wait\n=>4 event 140 - -> wait\n4 event 140 - -> wait\n\
 |4 event 140 -=>4 event 141 7\
 |4 event 142 - -> wait\n> tick 1\n=>> tick 1\n4 event 142 - -> wait\n\
 |5 event 142 - -> wait\n=>";
-    for case in cases.split("|") {
-        let (part, instead) = case.split_once("=>").unwrap_or((case, ""));
-        let text = spoilt(rt.alloc(), transcript, part, instead)?;
-        assert!(rt;
-            !events::arrive_in_order(rt.alloc(), 2, text.as_str())?,
-            "{instead}"
-        );
-    }
-    Ok(())
+    check_walk(&rt, Law::Events, transcript, cases)
 }
 
 // A timer's event comes a tick early; twice; not before the mote rests; though the timer was stopped in time.
@@ -98,19 +118,10 @@ fn a_walk_notices_a_timer_that_is_early_or_lost(rt: HostRuntime) -> Result<(), F
 4 event 136 0 -> wait
 > tick 1
 ";
-    assert!(rt; timers::are_kept(rt.alloc(), 1, transcript)?);
     let cases = "\
 > tick 1\n4 event 136 0 =>4 event 136 0 \
 |4 event 136 0 -> wait\n=>4 event 136 0 -> wait\n4 event 136 0 -> wait\n\
 |4 event 136 0 -> wait\n=>\
 |timer-reset 0=>timer-stop 0|timer-reset 0=>timer-set 0 6";
-    for case in cases.split("|") {
-        let (part, instead) = case.split_once("=>").unwrap_or((case, ""));
-        let text = spoilt(rt.alloc(), transcript, part, instead)?;
-        assert!(rt;
-            !timers::are_kept(rt.alloc(), 1, text.as_str())?,
-            "{instead}"
-        );
-    }
-    Ok(())
+    check_walk(&rt, Law::Timers, transcript, cases)
 }

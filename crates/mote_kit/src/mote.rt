@@ -35,7 +35,6 @@ pub const DEFAULT_SIZES: Sizes = Sizes {
 /// `BadSizes` exactly where a size is out of its range or no multiple of 4 or there are more than 16 applications; `Read`
 /// and `Write` exactly where that device failed; else `Memory`. What was written is a front part of the text then, and
 /// after `Read` all of the text of the whole lines that were read.
-#[tactic(auto, using(crate::proofs::WholeScript::nothing_ran))]
 pub fn run_boxes<S: ByteSource, K: ByteSink>(
     alloc: Global,
     sizes: Sizes,

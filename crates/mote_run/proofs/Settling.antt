@@ -1,5 +1,5 @@
 -- Steps of the kernel, as steps of the run.
-use Rattle.std.proofs.Common.{◌≡◌, ℕ, zero, suc, Bool, false, List, [], length, Option, Some, None, ◌∷◌, ◌++◌, refl, ap, sym, ◌∙◌, append_assoc}
+use Rattle.std.proofs.Common.{◌≡◌, ℕ, zero, suc, Bool, true, false, List, [], length, Option, Some, None, ◌∷◌, ◌++◌, refl, ap, sym, ◌∙◌, append_assoc}
 use Rattle.std.specs.Prelude.{flat_map, ◌||◌}
 use Rattle.std.specs.List.{list_any}
 use Rattle.std.proofs.lemmas.List.{append-nil}
@@ -7,6 +7,7 @@ use Rattle.std.proofs.lemmas.List.Elements.{filter-append, filter_map-append}
 use Rattle.std.proofs.lemmas.List.Folds.{list_any-append}
 use Rattle.std.proofs.Math.Path.{fun_ext}
 use Rattle.std.proofs.lemmas.Grind.{flat_map-append}
+use Rattle.mote_types.specs.declared.call.Call.{Call}
 use Rattle.mote_types.specs.declared.event.Stimulus.{Stimulus}
 use Rattle.mote_types.specs.declared.entry.Entry.{Entry}
 use Rattle.mote_types.specs.declared.entry.Input.{Input}
@@ -18,7 +19,7 @@ use Rattle.mote_text.specs.Transcript.{is_shown, shown}
 use Rattle.kernel_core.specs.declared.step.Step.{Step}
 use Rattle.kernel_core.specs.Inputs.{fed, frame_held, frame_refusal, held_unless_lost}
 use Rattle.kernel_core.specs.Machine.{Machine}
-use Rattle.kernel_core.specs.Run.{Silently, MakesEntry, GoesOn, Running, made, heard, stimulus_of, answers_after, after_step, after_steps}
+use Rattle.kernel_core.specs.Run.{Answers, Silently, MakesEntry, GoesOn, Running, is_at_rest, is_still, made, heard, stimulus_of, answers_after, after_step, after_steps}
 use Rattle.device_core.specs.PacketQueue.{free_slot}
 use Rattle.mote_run.specs.Code.Settling.{CutOff, IsTold, Settled, lines}
 use Rattle.mote_run.specs.Code.Writing.{WritesOn}
@@ -160,8 +161,24 @@ settled_input says now quiet before m new given due given_later due_later input 
     settled_more says now now quiet before handed handed new given due given due given_later due_later (Step.Entry (Entry.Input input))
     (nothing_settled says now quiet before handed given due told) goes (λ p next rest. refl) (rw (still_runs, runs) refl) written
 
+-- and then it came to rest in silence
+pub settled_at_rest : (says now : Applications) (quiet : Bool) (before : List Entry) (old mid new : Machine) (given due given_later due_later : List ℕ) →
+    Settled says quiet before old mid now given due given_later due_later → GoesOn (λ p stimulus. now p (stimulus ∷ [])) mid Step.Rest new →
+    mid.is_halted ≡ false → new.is_halted ≡ mid.is_halted → Settled says quiet before old new now given due given_later due_later
+settled_at_rest says now quiet before old mid new given due given_later due_later so_far goes running same =
+    settled_more says now now quiet before old mid new given due given_later due_later given_later due_later Step.Rest so_far goes (λ p next rest. refl)
+    (rw (same, running) refl) (nothing_more given_later due_later)
+
+either_way : (halted rests : Bool) → rests ≡ true → (halted || rests) ≡ true
+either_way true rests e = refl
+either_way false rests e = e
+
+-- at rest nothing more happens
+pub rest_is_still : (old new : Machine) → ((answers : Answers) → GoesOn answers old Step.Rest new) → is_still new ≡ true
+rest_is_still old new goes = either_way new.is_halted (is_at_rest new) (goes (λ p stimulus. Call.Wait)).at_rest
+
 -- one after the other
-pub settled_then : (says now later : Applications) (quiet : Bool) (before : List Entry) (old mid new : Machine) (given₀ due₀ given₁ due₁ given₂ due₂ : List ℕ) →
+settled_then : (says now later : Applications) (quiet : Bool) (before : List Entry) (old mid new : Machine) (given₀ due₀ given₁ due₁ given₂ due₂ : List ℕ) →
     (first : Settled says quiet before old mid now given₀ due₀ given₁ due₁) → Settled says quiet (before ++ first.entries) mid new later given₁ due₁ given₂ due₂ →
     Settled says quiet before old new later given₀ due₀ given₂ due₂
 settled_then says now later quiet before old mid new given₀ due₀ given₁ due₁ given₂ due₂ first second =
@@ -176,7 +193,15 @@ settled_then says now later quiet before old mid new given₀ due₀ given₁ du
       halts = λ h. rw together at (second.halts (first.halts h));
     }
 
-pub cut_off_then : (says now : Applications) (quiet : Bool) (before : List Entry) (old mid : Machine) (given₀ due₀ given₁ due₁ given₂ : List ℕ) →
+-- the same, of what comes whatever entries the first made
+pub settled_on : (says now later : Applications) (quiet : Bool) (before : List Entry) (old mid new : Machine) (given₀ due₀ given₁ due₁ given₂ due₂ : List ℕ) →
+    Settled says quiet before old mid now given₀ due₀ given₁ due₁ →
+    ((entries : List Entry) → IsTold says (before ++ entries) now → Settled says quiet (before ++ entries) mid new later given₁ due₁ given₂ due₂) →
+    Settled says quiet before old new later given₀ due₀ given₂ due₂
+settled_on says now later quiet before old mid new given₀ due₀ given₁ due₁ given₂ due₂ first second =
+    settled_then says now later quiet before old mid new given₀ due₀ given₁ due₁ given₂ due₂ first (second first.entries first.told)
+
+cut_off_then : (says now : Applications) (quiet : Bool) (before : List Entry) (old mid : Machine) (given₀ due₀ given₁ due₁ given₂ : List ℕ) →
     (first : Settled says quiet before old mid now given₀ due₀ given₁ due₁) → CutOff says quiet (before ++ first.entries) mid given₁ due₁ given₂ →
     CutOff says quiet before old given₀ due₀ given₂
 cut_off_then says now quiet before old mid given₀ due₀ given₁ due₁ given₂ first second =
@@ -189,6 +214,13 @@ cut_off_then says now quiet before old mid given₀ due₀ given₁ due₁ given
       lost = second.lost;
       written = rw (lines-append quiet first.entries second.entries) (then_written first.written second.written);
     }
+
+pub cut_off_on : (says now : Applications) (quiet : Bool) (before : List Entry) (old mid : Machine) (given₀ due₀ given₁ due₁ given₂ : List ℕ) →
+    Settled says quiet before old mid now given₀ due₀ given₁ due₁ →
+    ((entries : List Entry) → IsTold says (before ++ entries) now → CutOff says quiet (before ++ entries) mid given₁ due₁ given₂) →
+    CutOff says quiet before old given₀ due₀ given₂
+cut_off_on says now quiet before old mid given₀ due₀ given₁ due₁ given₂ first second =
+    cut_off_then says now quiet before old mid given₀ due₀ given₁ due₁ given₂ first (second first.entries first.told)
 
 pub cut_off_at : (says now : Applications) (quiet : Bool) (before : List Entry) (old mid new : Machine) (given₀ due₀ given₁ due₁ given₂ lost : List ℕ) (entry : Entry) →
     Settled says quiet before old mid now given₀ due₀ given₁ due₁ →

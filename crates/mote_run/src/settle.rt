@@ -122,5 +122,8 @@ pub fn settle_input<K: ByteSink>(
 {
     kernel.accept(input);
     write_input(sink, due, input, quiet)?;
+    if kernel.pass_idle_round() {
+        return Ok(());
+    }
     settle(sink, due, kernel, apps, quiet)
 }

@@ -4,5 +4,6 @@ mod Examples
 mod LineEnds
 pub mod Reading
 mod ShownBytes
+mod Spaced
 mod Ticks
 mod WholeLines

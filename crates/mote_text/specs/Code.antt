@@ -1,1 +1,1 @@
-pub mod CallKinds
+pub mod CallWords

@@ -40,13 +40,13 @@ pub(crate) fn push_digits(line: &mut LineBuf, bytes: &[u8])
 
 /// Appends this word.
 #[inline(always)]
-pub(crate) fn push_word(line: &mut LineBuf, word: &[u8])
+pub(crate) fn push_word(line: &mut LineBuf, word: &str)
     requires { length line.old.items + 1 + length word.now ≤ 4096 }
     ensures text { line.new.items ≡ line.old.items ++ spaced (word.now ∷ []) }
     ensures length { length line.new.items ≡ length line.old.items + 1 + length word.now }
 {
     push_bytes(line, b" ");
-    push_bytes(line, word);
+    push_bytes(line, word.as_bytes());
 }
 
 /// Appends this number in decimal: at most 20 digits.
@@ -55,7 +55,7 @@ pub(crate) fn push_number(line: &mut LineBuf, n: u64)
     ensures text { line.new.items ≡ line.old.items ++ spaced (decimal n ∷ []) }
     ensures length { length line.new.items ≤ length line.old.items + 21 }
 {
-    push_word(line, Buffer::new().format(n).as_bytes());
+    push_word(line, Buffer::new().format(n));
 }
 
 /// Appends these bytes in hex, or a dash where there are none.
@@ -66,7 +66,7 @@ pub(crate) fn push_hex(line: &mut LineBuf, bytes: &[u8])
     ensures length { length line.new.items ≤ length line.old.items + 2 + 2 * length bytes.now }
 {
     if bytes.is_empty() {
-        push_word(line, b"-");
+        push_word(line, "-");
     } else {
         push_bytes(line, b" ");
         push_digits(line, bytes);
@@ -74,7 +74,7 @@ pub(crate) fn push_hex(line: &mut LineBuf, bytes: &[u8])
 }
 
 /// Appends this word, and a number.
-pub(crate) fn push_numbered(line: &mut LineBuf, word: &[u8], n: u64)
+pub(crate) fn push_numbered(line: &mut LineBuf, word: &str, n: u64)
     requires { length line.old.items + 22 + length word.now ≤ 4096 }
     ensures text { line.new.items ≡ line.old.items ++ spaced (word.now ∷ decimal n ∷ []) }
     ensures length { length line.new.items ≤ length line.old.items + 22 + length word.now }
@@ -84,7 +84,7 @@ pub(crate) fn push_numbered(line: &mut LineBuf, word: &[u8], n: u64)
 }
 
 /// Appends this word, and bytes.
-pub(crate) fn push_shown(line: &mut LineBuf, word: &[u8], bytes: &[u8])
+pub(crate) fn push_shown(line: &mut LineBuf, word: &str, bytes: &[u8])
     requires few { length bytes.now ≤ 256 }
     requires room { length line.old.items + 3 + length word.now + 2 * length bytes.now ≤ 4096 }
     ensures text { line.new.items ≡ line.old.items ++ spaced (word.now ∷ hex bytes.now ∷ []) }

@@ -1,9 +1,10 @@
 //! The lines of a script, and how a run ends.
 
-ghost use Rattle.std.specs.Prelude.{◌≡◌, ◌≤◌, false, length, IfOk};
+ghost use Rattle.std.specs.Prelude.{◌≡◌, ◌≤◌, ◌&&◌, ◌^◌, false, length, nat_lt, if◌then◌else◌, Some, None, IfOk};
 ghost use Rattle.std.specs.Char.{is_ascii_digit};
 ghost use Rattle.std.specs.List.{list_all};
-ghost use Rattle.mote_text.specs.Script.{is_number, line_said, read_bytes, read_frame, read_line, read_number, read_serial, read_tick, some_if};
+ghost use Rattle.std.specs.Str.Parse.{digits_value};
+ghost use Rattle.mote_text.specs.Script.{line_said, read_bytes, read_frame, read_line, read_number, read_serial, read_tick, some_if};
 
 use crate::line::BLANKS;
 use arrayvec::ArrayVec;
@@ -33,28 +34,32 @@ pub enum End {
 #[error("a line of no form")]
 pub struct BadLine;
 
-fn is_digits(text: &[u8]) -> bool
-    ensures { result ≡ list_all is_ascii_digit text.now }
+/// The number from 0 to 4294967295 that digits write: 0, where there are none.
+fn read_digits(digits: &[u8]) -> Option<u32>
+    ensures { result ≡ (if list_all is_ascii_digit digits.now && nat_lt (digits_value 10 digits.now) (2 ^ 32)
+        then Some (digits_value 10 digits.now) else None) }
 {
-    text.iter().all(|byte| byte.is_ascii_digit())
+    let mut number: u32 = 0;
+    for byte in digits {
+        if !byte.is_ascii_digit() {
+            return None;
+        }
+        number = number
+            .checked_mul(10)?
+            .checked_add(u32::from(*byte - b'0'))?;
+    }
+    Some(number)
 }
 
-/// Whether a text is a number in decimal, with no leading zero but that of `0` itself.
-fn is_number(text: &[u8]) -> bool
-    ensures { result ≡ is_number text.now }
-{
-    let has_leading_zero = text.len() > 1 && text[0] == b'0';
-    !text.is_empty() && is_digits(text) && !has_leading_zero
-}
-
-/// The number from 0 to 4294967295 that a text is in decimal.
+/// The number from 0 to 4294967295 that a text is in decimal, with no leading zero but that of `0` itself.
 fn read_number(text: &[u8]) -> Option<u32>
     ensures { result ≡ read_number text.now }
 {
-    if !is_number(text) {
+    let has_leading_zero = text.len() > 1 && text[0] == b'0';
+    if text.is_empty() || has_leading_zero {
         return None;
     }
-    str::from_utf8(text).ok()?.parse().ok()
+    read_digits(text)
 }
 
 /// Puts the number of a line `tick N` into the place. Answers whether it is one.

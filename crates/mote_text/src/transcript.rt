@@ -7,7 +7,7 @@ ghost use Rattle.mote_text.specs.EntryText.{entry_line, spaced, origin_word, sti
 ghost use Rattle.mote_text.specs.Transcript.{final_line, is_shown};
 
 use crate::calls::push_call;
-use crate::line::{LineBuf, MOST_OF_LINE, push_bytes, push_number, push_word};
+use crate::line::{LineBuf, MOST_OF_LINE, push_bytes, push_number};
 use crate::script::End;
 use crate::words::{push_input, push_note, push_origin, push_stimulus};
 use itoa::Buffer;
@@ -24,7 +24,6 @@ fn push_turn(line: &mut LineBuf, pid: Pid, origin: Origin, stimulus: &Stimulus, 
     push_bytes(line, Buffer::new().format(pid.0).as_bytes());
     push_origin(line, origin);
     push_stimulus(line, stimulus);
-    push_word(line, b"->");
     push_call(line, call);
 }
 
@@ -86,16 +85,11 @@ pub fn final_text(end: End, line: &mut LineBuf)
     match end {
         End::Finished | End::Halted => {}
         End::BadLine(number) => {
-            push_bytes(line, b"bad");
-            push_word(line, b"line");
+            push_bytes(line, b"bad line");
             push_number(line, u64::from(number));
             push_bytes(line, b"\n");
         }
-        End::TooLong => {
-            push_bytes(line, b"too");
-            push_word(line, b"long");
-            push_bytes(line, b"\n");
-        }
+        End::TooLong => push_bytes(line, b"too long\n"),
     }
 }
 

@@ -1,13 +1,14 @@
 //! The words of an entry: each function appends its words to a line, a space in front of each.
 #![tactic(auto, unfolding(crate::specs::EntryText::spaced))]
 
-ghost use Rattle.std.specs.Prelude.{◌≡◌, ◌≤◌, ◌+◌, ◌++◌, [], ◌∷◌, length, decimal};
+ghost use Rattle.std.specs.Prelude.{◌≡◌, ◌≤◌, ◌+◌, ◌++◌, [], ◌∷◌, length, codes, decimal};
 ghost use Rattle.mote_types.specs.Codes.{refusal_number};
-ghost use Rattle.mote_text.specs.EntryText.{spaced, hex, payload_word, origin_word, stats_words, reply_words, stimulus_words, input_words, note_words};
+ghost use Rattle.mote_text.specs.EntryText.{spaced, hex, flag_word, payload_word, origin_word, stats_words, reply_words, stimulus_words, input_words, note_words};
 
 use crate::line::{LineBuf, push_digits, push_number, push_numbered, push_shown, push_word};
 use mote_types::entry::{Input, Note};
 use mote_types::event::{Origin, Payload, Stimulus};
+use mote_types::refusal::Refusal;
 use mote_types::reply::{HeapStats, Reply};
 
 pub(crate) fn push_payload(line: &mut LineBuf, payload: &Payload)
@@ -16,10 +17,10 @@ pub(crate) fn push_payload(line: &mut LineBuf, payload: &Payload)
     ensures length { length line.new.items ≤ length line.old.items + 256 }
 {
     match payload {
-        Payload::Empty => push_word(line, b"-"),
+        Payload::Empty => push_word(line, "-"),
         Payload::Num(n) => push_number(line, u64::from(*n)),
         Payload::Line(bytes) => {
-            push_word(line, b"x");
+            push_word(line, "x");
             push_digits(line, bytes.as_slice());
         }
     }
@@ -31,12 +32,30 @@ pub(crate) fn push_origin(line: &mut LineBuf, origin: Origin)
     ensures length { length line.new.items ≤ length line.old.items + 9 }
 {
     match origin {
-        Origin::Event => push_word(line, b"event"),
-        Origin::Synch => push_word(line, b"synch"),
-        Origin::Poll => push_word(line, b"poll"),
-        Origin::Callback => push_word(line, b"callback"),
-        Origin::Answer => push_word(line, b"answer"),
+        Origin::Event => push_word(line, "event"),
+        Origin::Synch => push_word(line, "synch"),
+        Origin::Poll => push_word(line, "poll"),
+        Origin::Callback => push_word(line, "callback"),
+        Origin::Answer => push_word(line, "answer"),
     }
+}
+
+/// Appends this word, and the number of a refusal.
+fn push_refusal(line: &mut LineBuf, word: &str, refusal: Refusal)
+    requires { length line.old.items + 22 + length word.now ≤ 4096 }
+    ensures text { line.new.items ≡ line.old.items ++ spaced (word.now ∷ decimal (refusal_number refusal) ∷ []) }
+    ensures length { length line.new.items ≤ length line.old.items + 22 + length word.now }
+{
+    push_numbered(line, word, u64::from(refusal.number()));
+}
+
+fn push_flag(line: &mut LineBuf, flag: bool)
+    requires { length line.old.items + 11 ≤ 4096 }
+    ensures text { line.new.items ≡ line.old.items ++ spaced (codes "flag" ∷ flag_word flag ∷ []) }
+    ensures length { length line.new.items ≤ length line.old.items + 11 }
+{
+    push_word(line, "flag");
+    push_word(line, if flag { "true" } else { "false" });
 }
 
 fn push_stats(line: &mut LineBuf, stats: &HeapStats)
@@ -44,7 +63,7 @@ fn push_stats(line: &mut LineBuf, stats: &HeapStats)
     ensures text { line.new.items ≡ line.old.items ++ spaced (stats_words stats.now) }
     ensures length { length line.new.items ≤ length line.old.items + 111 }
 {
-    push_word(line, b"stats");
+    push_word(line, "stats");
     push_number(line, u64::from(stats.allocated));
     push_number(line, u64::from(stats.overhead));
     push_number(line, u64::from(stats.available));
@@ -58,15 +77,12 @@ fn push_reply(line: &mut LineBuf, reply: &Reply)
     ensures length { length line.new.items ≤ length line.old.items + 136 }
 {
     match reply {
-        Reply::Done => push_word(line, b"done"),
-        Reply::Refused(refusal) => push_numbered(line, b"refused", u64::from(refusal.number())),
-        Reply::Num(n) => push_numbered(line, b"num", u64::from(*n)),
-        Reply::Wide(n) => push_numbered(line, b"wide", *n),
-        Reply::Flag(flag) => {
-            push_word(line, b"flag");
-            push_word(line, if *flag { b"true" } else { b"false" });
-        }
-        Reply::Bytes(chunk) => push_shown(line, b"bytes", chunk.as_slice()),
+        Reply::Done => push_word(line, "done"),
+        Reply::Refused(refusal) => push_refusal(line, "refused", *refusal),
+        Reply::Num(n) => push_numbered(line, "num", u64::from(*n)),
+        Reply::Wide(n) => push_numbered(line, "wide", *n),
+        Reply::Flag(flag) => push_flag(line, *flag),
+        Reply::Bytes(chunk) => push_shown(line, "bytes", chunk.as_slice()),
         Reply::Stats(stats) => push_stats(line, stats),
     }
 }
@@ -94,9 +110,9 @@ pub(crate) fn push_input(line: &mut LineBuf, input: &Input)
     ensures length { length line.new.items ≤ length line.old.items + 521 }
 {
     match input {
-        Input::Tick(n) => push_numbered(line, b"tick", u64::from(*n)),
-        Input::Serial(bytes) => push_shown(line, b"serial", bytes.as_slice()),
-        Input::Frame(bytes) => push_shown(line, b"frame", bytes.as_slice()),
+        Input::Tick(n) => push_numbered(line, "tick", u64::from(*n)),
+        Input::Serial(bytes) => push_shown(line, "serial", bytes.as_slice()),
+        Input::Frame(bytes) => push_shown(line, "frame", bytes.as_slice()),
     }
 }
 
@@ -107,7 +123,7 @@ pub(crate) fn push_note(line: &mut LineBuf, note: &Note)
     ensures length { length line.new.items ≤ length line.old.items + 261 }
 {
     match note {
-        Note::Lost(refusal) => push_numbered(line, b"lost", u64::from(refusal.number())),
-        Note::Sent(bytes) => push_shown(line, b"sent", bytes.as_slice()),
+        Note::Lost(refusal) => push_refusal(line, "lost", *refusal),
+        Note::Sent(bytes) => push_shown(line, "sent", bytes.as_slice()),
     }
 }

@@ -58,7 +58,7 @@ pub enum Stimulus {
 }
 
 /// Where a stimulus comes from.
-#[derive(Clone, Copy, Debug, PartialEq, Eq, Drop)]
+#[derive(Clone, Copy, Drop)]
 pub enum Origin {
     /// The event queue.
     Event,

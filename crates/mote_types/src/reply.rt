@@ -13,7 +13,7 @@ pub type Chunk = ArrayVec<u8, 64>;
 ///
 /// `allocated + overhead + available` is the size of the heap region. Source: `heapmem_stats_t` of heapmem.h; how each
 /// is counted is this project's profile.
-#[derive(Clone, Copy, Debug, PartialEq, Eq, Drop)]
+#[derive(Clone, Copy, Drop)]
 pub struct HeapStats {
     /// What the live blocks have room for.
     pub allocated: u32,

@@ -8,7 +8,7 @@ use std::alloc::AllocFailed;
 use std::fmt;
 
 /// A text that the parser writes in place of what words name, with its line ends.
-#[derive(Debug, Drop)]
+#[derive(Drop)]
 pub struct ParserText {
     pub error: Error,
 }
@@ -20,7 +20,7 @@ impl fmt::Display for ParserText {
 }
 
 /// Why words name nothing.
-#[derive(Debug, Drop)]
+#[derive(Drop)]
 pub enum Refusal<'a> {
     /// The words ask for the help or the version: the text of it.
     Request(ParserText),

@@ -8,7 +8,8 @@ use Rattle.mmem_core.specs.ManagedStore.{free, bytes_of, allocated, freed, with_
 use Rattle.heap_core.specs.HeapStore as heap_store
 use Rattle.heap_core.specs.HeapStore.{HeapStore, reallocated, stats_of}
 use Rattle.node_memory.specs.Memory.{Memory, with_managed, with_heap, pool_in, with_pool}
-use Rattle.node_memory.specs.Parts.{Part, part_called}
+use Rattle.node_memory.specs.declared.parts.Part.{Part}
+use Rattle.node_memory.specs.Parts.{part_called}
 use Rattle.node_memory.specs.HeapCalls as heap
 use Rattle.node_memory.specs.HeapCalls.{realloc_refusal}
 use Rattle.node_memory.specs.PoolCalls.{ask_pool}

@@ -2,13 +2,7 @@
 use Rattle.std.specs.Prelude.{ℕ, ◌/◌, Bool, Option, Some, None, is_some}
 use Rattle.std.specs.Option.{option_map}
 use Rattle.mote_types.specs.declared.call.Call.{Call}
-
--- a part of memory. There are pools 0 to 3; a call may name another one
-pub data Part : Type 0 where
-  Managed : Part
-  Heap : Part
-  -- a pool with its lists
-  Pool : ℕ → Part
+use Rattle.node_memory.specs.declared.parts.Part.{Part}
 
 -- the pool that a call is on, or on one of whose lists
 abbrev pub pool_called : Call → Option ℕ

@@ -6,12 +6,12 @@ ghost use Rattle.memb_core.specs.Links.{AreLinked};
 ghost use Rattle.memb_core.specs.PoolBytes.{KeepsToSpan};
 ghost use Rattle.node_memory.specs.Ask.{IfRefused};
 ghost use Rattle.node_memory.specs.ListedPools.{seen};
+ghost use Rattle.node_memory.specs.PoolCalls as calls;
 ghost use Rattle.node_memory.specs.PoolCalls.{ask_pool};
 
 use crate::listed_pool::ListedPool;
 use crate::ranges::{LONGEST_READ, chunk_of, is_outside};
 use arena_core::Arena;
-use memb_core::ListName;
 use mote_types::refusal::Refusal;
 use mote_types::reply::{Chunk, Reply};
 
@@ -41,17 +41,28 @@ impl ListedPool {
         ensures linked { AreLinked self.new.lists self.new.pool arena.new.bytes }
         ensures rest { KeepsToSpan self.old.pool self.new.pool arena.old arena.new }
     {
-        if block > LAST_BLOCK {
-            return Reply::Refused(Refusal::BadName);
-        }
-        if !self.pool.is_live(block) {
-            return Reply::Refused(Refusal::NotLive);
-        }
-        if self.is_in(arena, ListName::First, block) || self.is_in(arena, ListName::Second, block) {
-            return Reply::Refused(Refusal::Linked);
+        if let Some(refusal) = self.free_refusal(arena, block) {
+            return Reply::Refused(refusal);
         }
         self.pool.free(arena, &self.lists, block);
         Reply::Done
+    }
+
+    /// Why a block may not be given back, if it may not.
+    fn free_refusal(&self, arena: &Arena, block: u8) -> Option<Refusal>
+        requires { AreLinked self.now.lists self.now.pool arena.now.bytes }
+        ensures { result ≡ calls.free_refusal block (seen self.now arena.now.bytes) }
+    {
+        if block > LAST_BLOCK {
+            return Some(Refusal::BadName);
+        }
+        if !self.pool.is_live(block) {
+            return Some(Refusal::NotLive);
+        }
+        if self.lists.list_of(arena, &self.pool, block).is_some() {
+            return Some(Refusal::Linked);
+        }
+        None
     }
 
     /// Writes over the usable bytes of a block, from the place `at` of them on.

@@ -11,10 +11,10 @@ mod list_calls;
 mod listed_pool;
 mod managed;
 mod memory;
-mod memory_call;
+mod parts;
 mod ranges;
 mod sizes;
 
 pub use memory::NodeMemory;
-pub use memory_call::is_memory_call;
+pub use parts::is_memory_call;
 pub use sizes::Sizes;

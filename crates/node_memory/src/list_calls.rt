@@ -113,11 +113,10 @@ impl ListedPool {
         ensures rest { KeepsToSpan self.old.pool self.new.pool arena.old arena.new }
     {
         let list = list_named(list);
-        if self.lists.head(list).is_none() {
-            return Reply::Refused(Refusal::Empty);
+        match self.lists.chop(arena, &self.pool, list) {
+            Some(tail) => Reply::Num(u32::from(tail)),
+            None => Reply::Refused(Refusal::Empty),
         }
-        let tail = self.lists.chop(arena, &self.pool, list).unwrap();
-        Reply::Num(u32::from(tail))
     }
 
     /// Takes a block out of a list.

@@ -1,9 +1,10 @@
 //! The calls on managed memory, each with its refusals.
 
-ghost use Rattle.std.specs.Prelude.{◌≡◌, ◌≤◌, ◌+◌, None, Some, length, IfOk, IfErr};
-ghost use Rattle.mote_types.specs.Bytes.{range_of};
+ghost use Rattle.std.specs.Prelude.{◌≡◌, ◌≤◌, None, Some, length, IfOk, IfErr};
 ghost use Rattle.mmem_core.specs.ManagedStore as store;
 ghost use Rattle.mote_types.specs.BlockNames.{IsName};
+ghost use Rattle.mote_types.specs.declared.call.Call.{Call};
+ghost use Rattle.node_memory.specs.Ask.{ask_managed};
 ghost use Rattle.node_memory.specs.ManagedCalls as calls;
 ghost use Rattle.node_memory.specs.Memory.{with_managed};
 
@@ -12,7 +13,7 @@ use crate::ranges::{LONGEST_READ, chunk_of, is_outside};
 use mote_types::block_name::Key;
 use mote_types::event::Pid;
 use mote_types::refusal::Refusal;
-use mote_types::reply::Chunk;
+use mote_types::reply::Reply;
 
 /// The last handle of each process.
 pub(crate) const LAST_HANDLE: u8 = 15;
@@ -96,25 +97,23 @@ impl NodeMemory {
         Ok(())
     }
 
-    /// The `len` bytes of a handle's block from the place `at` of it on.
-    pub(crate) fn mmem_read(&self, pid: Pid, handle: u8, at: u32, len: u8) -> Result<Chunk, Refusal>
+    /// Reads `len` bytes of a handle's block, from the place `at` of it on.
+    pub(crate) fn mmem_read(&self, pid: Pid, handle: u8, at: u32, len: u8) -> Reply
         requires least { 3 ≤ pid.0 }
         requires most { pid.0 ≤ 19 }
-        ensures accepted { IfOk result (λ chunk. (calls.read_refusal pid.0 handle at len self.now.contents.managed ≡ None)
-            × (chunk.items ≡ range_of at len (store.bytes_of pid.0 handle self.now.contents.managed))) }
-        ensures refused { IfErr result (λ r. calls.read_refusal pid.0 handle at len self.now.contents.managed ≡ Some r) }
+        ensures { ask_managed (Call.MmemRead handle at len) pid.0 self.now.contents ≡ (self.now.contents, result) }
     {
         if handle > LAST_HANDLE {
-            return Err(Refusal::BadName);
+            return Reply::Refused(Refusal::BadName);
         }
         let Some(block) = self.len_of((pid, handle)) else {
-            return Err(Refusal::NotLive);
+            return Reply::Refused(Refusal::NotLive);
         };
         if len > LONGEST_READ || is_outside(at, len as usize, block as usize) {
-            return Err(Refusal::Range);
+            return Reply::Refused(Refusal::Range);
         }
         let bytes = self.mmem.bytes(&self.arena, (pid, handle));
-        Ok(chunk_of(bytes, at, len))
+        Reply::Bytes(chunk_of(bytes, at, len))
     }
 
     /// Copies all bytes of one handle's block to the front of another one's.
@@ -125,21 +124,28 @@ impl NodeMemory {
             × (self.new.contents ≡ with_managed (store.copied pid.0 source pid.0 target self.old.contents.managed) self.old.contents)) }
         ensures refused { IfErr result (λ r. (calls.copy_refusal pid.0 source target self.old.contents.managed ≡ Some r) × (self.new ≡ self.old)) }
     {
-        if source > LAST_HANDLE || target > LAST_HANDLE {
-            return Err(Refusal::BadName);
-        }
-        let Some(from) = self.len_of((pid, source)) else {
-            return Err(Refusal::NotLive);
-        };
-        let Some(to) = self.len_of((pid, target)) else {
-            return Err(Refusal::NotLive);
-        };
-        if from > to {
-            return Err(Refusal::Range);
+        if let Some(refusal) = self.copy_refusal(pid, source, target) {
+            return Err(refusal);
         }
         self.mmem
             .copy(&mut self.arena, (pid, source), (pid, target));
         Ok(())
+    }
+
+    /// Why one handle's block may not be copied to another one's, if it may not.
+    fn copy_refusal(&self, pid: Pid, source: u8, target: u8) -> Option<Refusal>
+        requires least { 3 ≤ pid.0 }
+        requires most { pid.0 ≤ 19 }
+        ensures { result ≡ calls.copy_refusal pid.0 source target self.now.contents.managed }
+    {
+        if source > LAST_HANDLE || target > LAST_HANDLE {
+            return Some(Refusal::BadName);
+        }
+        match (self.len_of((pid, source)), self.len_of((pid, target))) {
+            (Some(from), Some(to)) if from <= to => None,
+            (Some(_), Some(_)) => Some(Refusal::Range),
+            _ => Some(Refusal::NotLive),
+        }
     }
 
     /// How many bytes of managed memory are free.

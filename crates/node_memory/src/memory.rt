@@ -1,15 +1,18 @@
 //! The arena with all that lies in it, and the calls on it.
 
-ghost use Rattle.std.specs.Prelude.{◌≡◌, ◌↔◌, ◌+◌, ◌*◌, true, false, sum_by, IfOk, IsErrOf};
+ghost use Rattle.std.specs.Prelude.{◌≡◌, ◌↔◌, ◌≤◌, ◌+◌, ◌*◌, true, false, length, map, sum_by, Some, IfOk, IsErrOf};
 ghost use Rattle.node_memory.specs.Memory.{usable_sizes};
+ghost use Rattle.node_memory.specs.ListedPools.{seen, unused_pool_of};
+ghost use Rattle.node_memory.specs.Code.Layout.{LieBehind};
 ghost use Rattle.node_memory.specs.Sizes.{are_sizes};
 ghost use Rattle.node_memory.specs.Ask as asking;
 ghost use Rattle.node_memory.specs.Ask.{IfRefused};
 ghost use Rattle.node_memory.specs.Parts.{is_memory_call};
-ghost use Rattle.node_memory.specs.Code.MemoryCalls.{heap_call, managed_call, pool_call};
+ghost use Rattle.node_memory.specs.Parts as parts;
+ghost use Rattle.node_memory.specs.declared.parts.Part as part;
 
 use crate::listed_pool::{ListedPool, pool_size};
-use crate::memory_call::{HeapCall, ManagedCall, MemoryCall, PoolCall};
+use crate::parts::{Part, part_called};
 use crate::sizes::Sizes;
 use arena_core::Arena;
 use heap_core::Heap;
@@ -33,6 +36,22 @@ fn pools_size() -> u32
     ensures { result ≡ sum_by (λ usable. 16 * (usable + 4)) usable_sizes }
 {
     pool_size(USABLE[0]) + pool_size(USABLE[1]) + pool_size(USABLE[2]) + pool_size(USABLE[3])
+}
+
+/// All pools, one behind the other over the next parts of the arena.
+fn pools_over(arena: &mut Arena) -> [ListedPool; POOLS]
+    requires { arena.old.carved + sum_by (λ usable. 16 * (usable + 4)) usable_sizes ≤ length arena.old.bytes }
+    ensures bytes { arena.new.bytes ≡ arena.old.bytes }
+    ensures count { length result ≡ 4 }
+    ensures places { LieBehind arena.old.carved result arena.new.bytes }
+    ensures unused { map (λ listed. seen listed arena.new.bytes) result ≡ map unused_pool_of usable_sizes }
+{
+    [
+        ListedPool::new(arena, USABLE[0]),
+        ListedPool::new(arena, USABLE[1]),
+        ListedPool::new(arena, USABLE[2]),
+        ListedPool::new(arena, USABLE[3]),
+    ]
 }
 
 /// The memory of a node, in one arena.
@@ -76,12 +95,7 @@ impl NodeMemory {
         )?;
         let mmem = Mmem::new(arena.carve(sizes.mmem).unwrap());
         let heap = Heap::new(arena.carve(sizes.heap).unwrap());
-        let pools = [
-            ListedPool::new(&mut arena, USABLE[0]),
-            ListedPool::new(&mut arena, USABLE[1]),
-            ListedPool::new(&mut arena, USABLE[2]),
-            ListedPool::new(&mut arena, USABLE[3]),
-        ];
+        let pools = pools_over(&mut arena);
         Ok(NodeMemory {
             arena,
             mmem,
@@ -100,58 +114,60 @@ impl NodeMemory {
         ensures refused { IfRefused result (LeavesAll call.now self.old self.new) }
         ensures others { LeavesOthers (changed_block call.now pid.0 self.old.contents) self.old.contents self.new.contents }
     {
-        match MemoryCall::of(call) {
-            Some(MemoryCall::Managed(call)) => self.ask_managed(pid, call),
-            Some(MemoryCall::Heap(call)) => self.ask_heap(pid, call),
-            Some(MemoryCall::Pool(pool, call)) => self.ask_pool(pool, call),
+        match part_called(call) {
+            Some(Part::Managed) => self.ask_managed(pid, call),
+            Some(Part::Heap) => self.ask_heap(pid, call),
+            Some(Part::Pool(pool)) => self.ask_pool(pool, call),
             None => unreachable!(),
         }
     }
 
     /// Carries out a call on managed memory.
-    fn ask_managed(&mut self, pid: Pid, call: ManagedCall) -> Reply
-        requires asker { asking.MayAsk pid.0 (managed_call call) }
-        ensures asked { asking.ask_managed (managed_call call.entry) pid.0 self.old.contents ≡ (self.new.contents, result) }
+    fn ask_managed(&mut self, pid: Pid, call: &Call) -> Reply
+        requires asker { asking.MayAsk pid.0 call.now }
+        requires part { parts.part_called call.now ≡ Some part.Part.Managed }
+        ensures asked { asking.ask_managed call.now pid.0 self.old.contents ≡ (self.new.contents, result) }
         ensures refused { IfRefused result (self.new ≡ self.old) }
     {
         match call {
-            ManagedCall::Alloc(handle, n) => Reply::done_or_refused(self.mmem_alloc(
-                pid, handle, n,
-            )),
-            ManagedCall::Free(handle) => Reply::done_or_refused(self.mmem_free(pid, handle)),
-            ManagedCall::Write(handle, at, chunk) => {
-                Reply::done_or_refused(self.mmem_write(pid, handle, at, chunk.as_slice()))
+            Call::MmemAlloc(handle, n) => {
+                Reply::done_or_refused(self.mmem_alloc(pid, *handle, *n))
             }
-            ManagedCall::Read(handle, at, len) => match self.mmem_read(pid, handle, at, len) {
-                Ok(chunk) => Reply::Bytes(chunk),
-                Err(refusal) => Reply::Refused(refusal),
-            },
-            ManagedCall::Copy(source, target) => {
-                Reply::done_or_refused(self.mmem_copy(pid, source, target))
+            Call::MmemFree(handle) => Reply::done_or_refused(self.mmem_free(pid, *handle)),
+            Call::MmemWrite(handle, at, chunk) => {
+                Reply::done_or_refused(self.mmem_write(pid, *handle, *at, chunk.as_slice()))
             }
-            ManagedCall::Avail => Reply::Num(self.mmem_avail()),
+            Call::MmemRead(handle, at, len) => self.mmem_read(pid, *handle, *at, *len),
+            Call::MmemCopy(source, target) => {
+                Reply::done_or_refused(self.mmem_copy(pid, *source, *target))
+            }
+            Call::MmemAvail => Reply::Num(self.mmem_avail()),
+            _ => unreachable!(),
         }
     }
 
     /// Carries out a call on heap memory.
-    fn ask_heap(&mut self, pid: Pid, call: HeapCall) -> Reply
-        requires asker { asking.MayAsk pid.0 (heap_call call) }
-        ensures asked { asking.ask_heap (heap_call call.entry) pid.0 self.old.contents ≡ (self.new.contents, result) }
-        ensures refused { IfRefused result (LeavesAll (heap_call call.entry) self.old self.new) }
+    fn ask_heap(&mut self, pid: Pid, call: &Call) -> Reply
+        requires asker { asking.MayAsk pid.0 call.now }
+        requires part { parts.part_called call.now ≡ Some part.Part.Heap }
+        ensures asked { asking.ask_heap call.now pid.0 self.old.contents ≡ (self.new.contents, result) }
+        ensures refused { IfRefused result (LeavesAll call.now self.old self.new) }
     {
         match call {
-            HeapCall::Alloc(block, n) => self.heap_alloc(pid, block, n),
-            HeapCall::Realloc(block, n) => self.heap_realloc(pid, block, n),
-            HeapCall::Free(block) => self.heap_free(pid, block),
-            HeapCall::Write(block, at, chunk) => self.heap_write(pid, block, at, chunk),
-            HeapCall::Read(block, at, len) => self.heap_read(pid, block, at, len),
-            HeapCall::Stats => self.heap_stats(),
+            Call::HeapAlloc(block, n) => self.heap_alloc(pid, *block, *n),
+            Call::HeapRealloc(block, n) => self.heap_realloc(pid, *block, *n),
+            Call::HeapFree(block) => self.heap_free(pid, *block),
+            Call::HeapWrite(block, at, chunk) => self.heap_write(pid, *block, *at, chunk),
+            Call::HeapRead(block, at, len) => self.heap_read(pid, *block, *at, *len),
+            Call::HeapStats => self.heap_stats(),
+            _ => unreachable!(),
         }
     }
 
     /// Carries out a call on a pool or on one of its lists.
-    fn ask_pool(&mut self, pool: u8, call: PoolCall) -> Reply
-        ensures asked { asking.ask_pool_of pool (pool_call pool call.entry) self.old.contents ≡ (self.new.contents, result) }
+    fn ask_pool(&mut self, pool: u8, call: &Call) -> Reply
+        requires part { parts.part_called call.now ≡ Some (part.Part.Pool pool) }
+        ensures asked { asking.ask_pool_of pool call.now self.old.contents ≡ (self.new.contents, result) }
         ensures refused { IfRefused result (self.new ≡ self.old) }
     {
         if pool as usize >= POOLS {

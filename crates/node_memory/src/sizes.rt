@@ -4,7 +4,7 @@ ghost use Rattle.std.specs.Prelude.{◌≡◌};
 ghost use Rattle.node_memory.specs.Sizes as specs;
 
 /// The sizes of the regions, in bytes (this project's profile).
-#[derive(Clone, Copy, Debug, PartialEq, Eq, Drop)]
+#[derive(Clone, Copy, Drop)]
 pub struct Sizes {
     /// Managed memory: 4 to 65,536, a multiple of 4.
     pub mmem: u32,

@@ -1,5 +1,6 @@
 pub mod Sound
 pub mod Yields
+pub mod Unpolled
 pub mod Order
 pub mod Listed
 pub mod Boot

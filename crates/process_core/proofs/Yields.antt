@@ -15,7 +15,7 @@ use Rattle.mote_types.specs.declared.event.Origin.{Origin}
 use Rattle.mote_types.specs.declared.event.TheConstants.{INIT, POLL}
 use Rattle.mote_types.specs.Codes.{plain_event}
 use Rattle.process_core.specs.declared.state.State.{State}
-use Rattle.process_core.specs.Processes.{is_marked, with_mark, is_running, is_kernel_process}
+use Rattle.process_core.specs.Processes.{is_any_marked, is_marked, with_mark, is_running, is_kernel_process}
 use Rattle.process_core.specs.Agenda.{Queued, Item, Job}
 use Rattle.process_core.specs.Scheduler.{Scheduler, worked, job, settled, Yields, in_front, of_event, first_event, state_in, job_of_give}
 
@@ -32,6 +32,11 @@ module _ {X : Type 0} where
       → job s ≡ None → Yields (worked s) next after → Yields s next after
   yields_next s None after e y = (suc y.0, rw e y.1)
   yields_next s (Some next) after e y = (suc y.0, rw e y.1, rw e y.2)
+
+  -- where no process is marked, nothing is done for a poll round
+  pub unpolled_yields : (s : Scheduler X) (next : Option (Job X)) (after : Scheduler X) → is_any_marked s.processes ≡ false
+      → Yields s next after → Yields (in_front (Item.Polls ∷ []) s) next after
+  unpolled_yields s next after e y = yields_next (in_front (Item.Polls ∷ []) s) next after refl (rw e y)
 
   stays : (m : ℕ) (s : Scheduler X) → is_some (job s) ≡ true → settled m s ≡ s
   stays zero s e = refl

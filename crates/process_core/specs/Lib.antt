@@ -6,5 +6,6 @@ pub mod Processes
 pub mod Requests
 pub mod Scheduler
 pub mod SchedulerView
+pub mod Told
 -- what is always true of the code's own parts
 pub mod Code

@@ -3,11 +3,12 @@
 ghost use Rattle.std.specs.Prelude.{◌≡◌, option_map};
 ghost use Rattle.mote_types.specs.declared.event.Pid.{Pid as At};
 ghost use Rattle.process_core.specs.Code.Frames as part;
+ghost use Rattle.process_core.specs.Scheduler.{of_event};
 
 use crate::process_list::ProcessList;
 use crate::walk::Walk;
 use arrayvec::ArrayVec;
-use mote_types::event::{Event, Pid};
+use mote_types::event::{Event, Payload, Pid, Stimulus};
 use mote_types::reply::Reply;
 use std::mem;
 
@@ -57,6 +58,30 @@ pub enum Frame {
     },
 }
 
+/// Tells an event that others are told, too, without taking memory. The bytes of a line are put where they are to lie.
+fn tell(told: &mut Stimulus, event: &Event)
+    ensures { told.new ≡ of_event event.now }
+{
+    match &event.payload {
+        Payload::Line(line) => {
+            *told = Stimulus::Event(Event {
+                code: event.code,
+                payload: Payload::Line(ArrayVec::new()),
+            });
+            if let Stimulus::Event(
+                Event {
+                    payload: Payload::Line(copy),
+                    ..
+                },
+            ) = told
+            {
+                let _ = copy.try_extend_from_slice(line.as_slice());
+            }
+        }
+        _ => *told = Stimulus::Event(event.copied()),
+    }
+}
+
 impl Frame {
     /// The next process of a poll round that is marked. The round goes on behind it.
     pub(crate) fn next_marked(&mut self, processes: &ProcessList) -> Option<Pid>
@@ -92,32 +117,39 @@ impl Frame {
         }
     }
 
-    /// The next receiver of a broadcast has its turn, if one is left.
+    /// The next receiver of a broadcast has its turn behind a poll round, unless one has it. Answers whether it is so.
     pub(crate) fn begin_receiver(&mut self) -> bool
         ensures value { result ≡ part.has_receiver self.old }
         ensures left { self.new ≡ part.with_receiver self.old }
     {
         match self {
-            Frame::Broadcast { next, walk, .. } => match walk.advance() {
-                Some(pid) => {
-                    *next = Some(pid);
-                    true
+            Frame::Broadcast { next, walk, .. } => {
+                if next.is_some() {
+                    return false;
                 }
-                None => false,
-            },
+                *next = walk.advance();
+                next.is_some()
+            }
             _ => false,
         }
     }
 
-    /// What the receiver is given whose turn it is.
-    pub(crate) fn take_given(&mut self) -> Option<(Pid, Event)>
-        ensures value { result ≡ part.given_of self.old }
+    /// The receiver that is given the event next, which it is told.
+    pub(crate) fn pass_receiver(&mut self, told: &mut Stimulus) -> Option<Pid>
+        ensures value { option_map (λ (p : At). p.0) result ≡ part.receiver_of self.old }
+        ensures told { told.new ≡ part.told_by told.old self.old }
         ensures left { self.new ≡ part.past_receiver self.old }
     {
         match self {
-            Frame::Broadcast { next, event, .. } => {
-                let pid = next.take()?;
-                Some((pid, event.copied()))
+            Frame::Broadcast { next, walk, event } => {
+                let receiver = match next.take() {
+                    Some(pid) => Some(pid),
+                    None => walk.advance(),
+                };
+                if receiver.is_some() {
+                    tell(told, event);
+                }
+                receiver
             }
             _ => None,
         }

@@ -5,14 +5,15 @@ ghost use Rattle.mote_types.specs.Codes as codes;
 ghost use Rattle.process_core.specs.Agenda.{Item};
 ghost use Rattle.process_core.specs.Code.Frames.{weight};
 ghost use Rattle.process_core.specs.SchedulerView.{job_of};
-ghost use Rattle.process_core.specs.Code.SchedulerFields.{scheduler_of, awaited_after, IsInOrder};
+ghost use Rattle.process_core.specs.Told.{job_told};
+ghost use Rattle.process_core.specs.Code.SchedulerFields.{scheduler_of, awaited_after, HoldsEvent, IsInOrder};
 ghost use Rattle.process_core.specs.Scheduler.{in_front, Yields};
 ghost use Rattle.process_core.specs.declared.awaited.Awaited.{Awaited};
 
 use crate::awaited::Awaited;
 use crate::frame::Frame;
-use crate::job::Job;
 use crate::queued::Queued;
+use crate::ready::Ready;
 use crate::scheduler_fields::SchedulerFields;
 use crate::state::State;
 use mote_types::event::{self, Event, FIRST_APPLICATION, Origin, Payload, Pid, Stimulus};
@@ -28,18 +29,20 @@ pub fn plain_event(code: u8) -> Event
 }
 
 impl SchedulerFields {
-    /// Gives the stimulus to the process.
-    pub fn give(&mut self, pid: Pid, origin: Origin, stimulus: Stimulus) -> Option<Job>
+    /// Gives the process the stimulus that it is to be told.
+    pub fn give(&mut self, pid: Pid, origin: Origin, told: &Stimulus) -> Option<Ready>
         requires order { IsInOrder self.old }
         requires idle { self.old.awaited ≡ Awaited.Nothing }
-        ensures yields { Yields (in_front (Item.Give pid.0 origin stimulus ∷ []) (scheduler_of self.old)) (option_map job_of result) (scheduler_of self.new) }
+        ensures yields { Yields (in_front (Item.Give pid.0 origin told.now ∷ []) (scheduler_of self.old))
+            (option_map (λ r. job_of (job_told r told.now)) result) (scheduler_of self.new) }
+        ensures told { HoldsEvent result told.now }
         ensures awaited { self.new.awaited ≡ awaited_after result }
         ensures order { IsInOrder self.new }
         ensures same { self.new.stack ≡ self.old.stack }
     {
         if pid.0 < FIRST_APPLICATION {
-            return match stimulus {
-                Stimulus::Event(event) => Some(Job::Serve { pid, event }),
+            return match told {
+                Stimulus::Event(_) => Some(Ready::Serve(pid)),
                 _ => None,
             };
         }
@@ -47,22 +50,20 @@ impl SchedulerFields {
             State::Running => {
                 self.processes.set_state(pid, State::Called);
                 self.awaited = Awaited::Call(pid);
-                Some(Job::Give {
-                    pid,
-                    origin,
-                    stimulus,
-                })
+                Some(Ready::Give { pid, origin })
             }
             _ => None,
         }
     }
 
     /// Starts the process, unless it's on the list.
-    pub fn start_one(&mut self, pid: Pid) -> Option<Job>
+    pub fn start_one(&mut self, pid: Pid, told: &mut Stimulus) -> Option<Ready>
         requires known { pid.0 < FIRST_APPLICATION + self.old.applications }
         requires order { IsInOrder self.old }
         requires idle { self.old.awaited ≡ Awaited.Nothing }
-        ensures yields { Yields (in_front (Item.Start pid.0 ∷ []) (scheduler_of self.old)) (option_map job_of result) (scheduler_of self.new) }
+        ensures yields { Yields (in_front (Item.Start pid.0 ∷ []) (scheduler_of self.old))
+            (option_map (λ r. job_of (job_told r told.new)) result) (scheduler_of self.new) }
+        ensures told { HoldsEvent result told.new }
         ensures awaited { self.new.awaited ≡ awaited_after result }
         ensures order { IsInOrder self.new }
         ensures same { self.new.stack ≡ self.old.stack }
@@ -70,21 +71,20 @@ impl SchedulerFields {
         match self.processes.state_of(pid) {
             State::Absent => {
                 self.processes.add(pid);
-                self.give(
-                    pid,
-                    Origin::Synch,
-                    Stimulus::Event(plain_event(event::INIT)),
-                )
+                *told = Stimulus::Event(plain_event(event::INIT));
+                self.give(pid, Origin::Synch, told)
             }
             _ => None,
         }
     }
 
     /// A poll round comes to this process.
-    pub fn poll_one(&mut self, pid: Pid) -> Option<Job>
+    pub fn poll_one(&mut self, pid: Pid, told: &mut Stimulus) -> Option<Ready>
         requires order { IsInOrder self.old }
         requires idle { self.old.awaited ≡ Awaited.Nothing }
-        ensures yields { Yields (in_front (Item.PollOne pid.0 ∷ []) (scheduler_of self.old)) (option_map job_of result) (scheduler_of self.new) }
+        ensures yields { Yields (in_front (Item.PollOne pid.0 ∷ []) (scheduler_of self.old))
+            (option_map (λ r. job_of (job_told r told.new)) result) (scheduler_of self.new) }
+        ensures told { HoldsEvent result told.new }
         ensures awaited { self.new.awaited ≡ awaited_after result }
         ensures order { IsInOrder self.new }
         ensures same { self.new.stack ≡ self.old.stack }
@@ -93,7 +93,8 @@ impl SchedulerFields {
             return None;
         }
         self.processes.set_mark(pid, false);
-        self.give(pid, Origin::Poll, Stimulus::Event(plain_event(event::POLL)))
+        *told = Stimulus::Event(plain_event(event::POLL));
+        self.give(pid, Origin::Poll, told)
     }
 
     /// Begins a poll round, if any process is marked.
@@ -113,18 +114,23 @@ impl SchedulerFields {
     }
 
     /// Delivers the first event.
-    pub fn deliver(&mut self) -> Option<Job>
+    pub fn deliver(&mut self, told: &mut Stimulus) -> Option<Ready>
         requires order { IsInOrder self.old }
         requires idle { self.old.awaited ≡ Awaited.Nothing }
         requires bare { self.old.stack ≡ [] }
-        ensures yields { Yields (in_front (Item.Deliver ∷ []) (scheduler_of self.old)) (option_map job_of result) (scheduler_of self.new) }
+        ensures yields { Yields (in_front (Item.Deliver ∷ []) (scheduler_of self.old))
+            (option_map (λ r. job_of (job_told r told.new)) result) (scheduler_of self.new) }
+        ensures told { HoldsEvent result told.new }
         ensures awaited { self.new.awaited ≡ awaited_after result }
         ensures order { IsInOrder self.new }
         ensures grows { weight self.new.stack ≤ weight self.old.stack + 1281 }
     {
         match self.events.pop_front() {
             None => None,
-            Some(Queued::To(pid, event)) => self.give(pid, Origin::Event, Stimulus::Event(event)),
+            Some(Queued::To(pid, event)) => {
+                *told = Stimulus::Event(event);
+                self.give(pid, Origin::Event, told)
+            }
             Some(
                 Queued::Expiry {
                     pid,
@@ -133,7 +139,7 @@ impl SchedulerFields {
                 },
             ) => {
                 self.awaited = Awaited::Callback { pid, number };
-                Some(Job::Callback {
+                Some(Ready::Callback {
                     pid,
                     number,
                     arming,

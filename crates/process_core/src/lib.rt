@@ -12,6 +12,7 @@ mod posting;
 mod process;
 mod process_list;
 mod queued;
+pub mod ready;
 mod requests;
 pub mod scheduler;
 mod scheduler_fields;

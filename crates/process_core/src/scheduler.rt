@@ -3,24 +3,28 @@
 ghost use Rattle.std.specs.Prelude.{◌≡◌, ◌≤◌, ◌<◌, ◌+◌, ◌*◌, None, IfOk, IfSome, [], true, false, length, reverse};
 ghost use Rattle.mote_types.specs.declared.event.Event.{Event};
 ghost use Rattle.mote_types.specs.declared.event.Pid.{Pid};
+ghost use Rattle.mote_types.specs.declared.event.Stimulus.{Stimulus as Told};
 ghost use Rattle.mote_types.specs.declared.event.TheConstants.{MOST_APPLICATIONS};
 ghost use Rattle.process_core.specs.Code.Frames.{agenda_of};
 ghost use Rattle.process_core.specs.SchedulerView.{awaiting_nothing, job_of, turn_of, callback_of};
 ghost use Rattle.process_core.specs.Processes.{IsApplication};
 ghost use Rattle.process_core.specs.Requests.{is_in_activation};
 ghost use Rattle.process_core.specs.Scheduler.{ComesTo, at_boot, state_in, wants_round, IsWellFormed};
+ghost use Rattle.process_core.specs.Told.{job_told};
 ghost use Rattle.process_core.specs.declared.job.Job as ready;
+ghost use Rattle.process_core.specs.declared.ready.Ready.{Ready as Answer};
 
 use crate::awaited::Awaited;
 use crate::frame::Frame;
 use crate::job::Job;
 use crate::process_list::ProcessList;
+use crate::ready::{Ready, job_told};
 use crate::scheduler_fields::SchedulerFields;
 use crate::stack::Stack;
 use crate::walk::Walk;
 use arrayvec::ArrayVec;
 use circular_buffer::HeapCircularBuffer;
-use mote_types::event::{FIRST_APPLICATION, FIRST_FREE};
+use mote_types::event::{FIRST_APPLICATION, FIRST_FREE, Stimulus};
 use std::alloc::{AllocError, Global};
 use std::marker::Model;
 
@@ -92,18 +96,40 @@ impl Scheduler {
         ensures applications { self.new.state.applications ≡ self.old.state.applications }
         ensures standing { IsWellFormed self.new.state }
     {
+        let mut told = Stimulus::Callback(0);
+        let ready = self.next_to(&mut told);
+        job_told(ready, told)
+    }
+
+    /// As `next`, but what a process is told lies in the place `told` then: for Give the stimulus, for Serve the event.
+    /// Where another answer is given, the place may hold what was to be told to a process that did not take it.
+    pub fn next_to(&mut self, told: &mut Stimulus) -> Ready
+        requires { self.old.turn ≡ None }
+        ensures job { ComesTo self.old.state (job_of (job_told result told.new)) self.new.state }
+        ensures turn { self.new.turn ≡ turn_of (job_told result told.new) }
+        ensures callback { self.new.callback ≡ callback_of (job_told result told.new) }
+
+        // what the layer above can rely on
+        ensures active { IfSome self.new.turn (λ p. IsApplication self.new.state.applications p.0
+            × (is_in_activation (state_in self.new.state p.0) ≡ true)) }
+        ensures served { (p : Pid) → result ≡ Answer.Serve p → (p.0 < FIRST_APPLICATION)
+            × (event : Event) × (told.new ≡ Told.Event event) }
+        ensures rest { result ≡ Answer.Rest → (self.new.state.agenda ≡ []) × (wants_round self.new.state ≡ false) }
+        ensures applications { self.new.state.applications ≡ self.old.state.applications }
+        ensures standing { IsWellFormed self.new.state }
+    {
         self.fields.awaited = Awaited::Nothing;
-        let job = 'open: loop {
+        let ready = 'open: loop {
             if self.fields.stack.is_empty() {
                 break 'open self.fields.begin_round();
             }
-            if let Some(job) = self.fields.resume() {
-                break 'open job;
+            if let Some(ready) = self.fields.resume(told) {
+                break 'open ready;
             }
         };
         // Nothing is done: the call tells the proof what is always true of a process list, for the clause `standing`.
         self.fields.processes.each_is_once();
-        job
+        ready
     }
 
     /// The open work: the frames that the agenda is kept in, the undermost first. There are at most two for each

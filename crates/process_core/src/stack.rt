@@ -1,6 +1,7 @@
 //! The stack of open work.
 ghost use Rattle.std.specs.Prelude.{◌≡◌, ◌<◌, ◌==◌, [], ◌∷◌, true, false, length, drop, reverse, slice_get, option_copied, option_map};
 ghost use Rattle.mote_types.specs.declared.event.Pid.{Pid as At};
+ghost use Rattle.mote_types.specs.declared.event.Stimulus.{Stimulus as Told};
 ghost use Rattle.mote_types.specs.declared.reply.Reply.{Reply as Answered};
 ghost use Rattle.process_core.specs.Code.Frames as part;
 ghost use Rattle.process_core.specs.declared.frame.First.{First as Before};
@@ -8,7 +9,7 @@ ghost use Rattle.process_core.specs.declared.frame.First.{First as Before};
 use crate::frame::{First, Frame};
 use crate::process_list::ProcessList;
 use arrayvec::ArrayVec;
-use mote_types::event::{Event, Pid};
+use mote_types::event::{Pid, Stimulus};
 use mote_types::reply::Reply;
 use std::marker::Model;
 
@@ -69,12 +70,13 @@ fn begin_receiver_in(frames: &mut [Frame]) -> bool
     }
 }
 
-fn take_given_in(frames: &mut [Frame]) -> Option<(Pid, Event)>
-    ensures value { result ≡ part.on_top None part.given_of (reverse frames.old) }
+fn pass_receiver_in(frames: &mut [Frame], told: &mut Stimulus) -> Option<Pid>
+    ensures value { option_map (λ (p : At). p.0) result ≡ part.on_top None part.receiver_of (reverse frames.old) }
+    ensures told { told.new ≡ part.on_top told.old (part.told_by told.old) (reverse frames.old) }
     ensures left { reverse frames.new ≡ part.changed_top part.past_receiver (reverse frames.old) }
 {
     match frames.last_mut() {
-        Some(frame) => frame.take_given(),
+        Some(frame) => frame.pass_receiver(told),
         None => None,
     }
 }
@@ -162,7 +164,7 @@ impl Stack {
         begin_polls_in(self.frames.as_mut_slice())
     }
 
-    /// The next receiver of the broadcast on top has its turn, if one is left.
+    /// The next receiver of the broadcast on top has its turn behind a poll round, unless one has it.
     pub fn begin_receiver(&mut self) -> bool
         ensures value { result ≡ part.on_top false part.has_receiver self.old }
         ensures left { self.new ≡ part.changed_top part.with_receiver self.old }
@@ -170,12 +172,13 @@ impl Stack {
         begin_receiver_in(self.frames.as_mut_slice())
     }
 
-    /// What the receiver is given whose turn it is, of the broadcast on top.
-    pub fn take_given(&mut self) -> Option<(Pid, Event)>
-        ensures value { result ≡ part.on_top None part.given_of self.old }
+    /// The receiver of the broadcast on top that is given the event next, which it is told.
+    pub fn pass_receiver(&mut self, told: &mut Stimulus) -> Option<Pid>
+        ensures value { option_map (λ (p : At). p.0) result ≡ part.on_top None part.receiver_of self.old }
+        ensures told { told.new ≡ part.on_top told.old (part.told_by told.old) self.old }
         ensures left { self.new ≡ part.changed_top part.past_receiver self.old }
     {
-        take_given_in(self.frames.as_mut_slice())
+        pass_receiver_in(self.frames.as_mut_slice(), told)
     }
 
     /// Whether the process that leaves, on top, is given EXIT, which it is once.
@@ -204,14 +207,15 @@ impl Stack {
         take_first_in(self.frames.as_mut_slice())
     }
 
-    /// The reply on top, which is taken with its frame.
-    pub fn pop_reply(&mut self) -> Reply
-        ensures value { result ≡ part.on_top Answered.Done part.reply_of self.old }
+    /// The reply on top is put into the place, and its frame is dropped.
+    pub fn tell_reply(&mut self, told: &mut Stimulus)
+        ensures value { told.new ≡ Told.Answer (part.on_top Answered.Done part.reply_of self.old) }
         ensures left { self.new ≡ drop 1 self.old }
     {
+        // Each arm fills the place by itself, so that a reply is moved once.
         match self.frames.pop() {
-            Some(Frame::Answer { reply, .. }) => reply,
-            _ => Reply::Done,
+            Some(Frame::Answer { reply, .. }) => *told = Stimulus::Answer(reply),
+            _ => *told = Stimulus::Answer(Reply::Done),
         }
     }
 

@@ -15,7 +15,8 @@ use Rattle.mmem_core.specs.ManagedStore as managed
 use Rattle.node_memory.specs.Memory.{Memory, with_managed, with_heap, with_pool, pool_in}
 use Rattle.node_memory.specs.HeapCalls.{is_heap_block, alloc_refusal, realloc_refusal, free_refusal, write_refusal, read_refusal, bytes_of}
 use Rattle.node_memory.specs.ManagedCalls as managed_calls
-use Rattle.node_memory.specs.Parts.{Part, part_called}
+use Rattle.node_memory.specs.declared.parts.Part.{Part}
+use Rattle.node_memory.specs.Parts.{part_called}
 use Rattle.node_memory.specs.PoolCalls.{ask_pool}
 use Rattle.node_memory.specs.Ask.{Asked, ask, ask_part, ask_managed, ask_heap, ask_pool_of, unless_refused, done, done_or_no_room, bytes_read}
 use Rattle.process_core.specs.Processes.{is_kernel_process}

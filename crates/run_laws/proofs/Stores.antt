@@ -17,7 +17,8 @@ use Rattle.heap_core.specs.HeapStore as heap_store
 use Rattle.heap_core.specs.HeapStore.{HeapStore, reallocated}
 use Rattle.node_memory.specs.HeapCalls as heap
 use Rattle.node_memory.specs.HeapCalls.{realloc_refusal}
-use Rattle.node_memory.specs.Parts.{Part, part_called}
+use Rattle.node_memory.specs.declared.parts.Part.{Part}
+use Rattle.node_memory.specs.Parts.{part_called}
 use Rattle.node_memory.specs.PoolCalls.{ask_pool}
 use Rattle.node_memory.specs.Ask.{Asked, ask, ask_part, ask_managed, ask_heap, ask_pool_of, unless_refused, done, done_or_no_room, bytes_read}
 use Rattle.process_core.specs.Processes.{is_kernel_process}

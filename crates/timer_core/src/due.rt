@@ -3,7 +3,7 @@
 use mote_types::event::Pid;
 
 /// A timer whose deadline has come.
-#[derive(Clone, Copy, Debug, PartialEq, Eq, Drop)]
+#[derive(Drop)]
 pub enum Due {
     /// An event timer.
     Timer { pid: Pid, number: u8 },

@@ -7,7 +7,7 @@ ghost use Rattle.timer_core.specs.Names.{IsNamed, is_timer};
 use mote_types::event::Pid;
 
 /// The name of a timer: whose it is, and its number.
-#[derive(Clone, Copy, Debug, PartialEq, Eq, Drop)]
+#[derive(Clone, Copy, Drop)]
 pub enum Timer {
     /// An event timer (`etimer` of Contiki-NG), numbered from 0 to 7 (this project's profile).
     Event(Pid, u8),
@@ -16,7 +16,7 @@ pub enum Timer {
 }
 
 /// The cell of a timer, all in ticks: `timer.h` of Contiki-NG keeps the same two.
-#[derive(Clone, Copy, Debug, PartialEq, Eq, Drop)]
+#[derive(Clone, Copy, Drop)]
 pub struct Cell {
     /// When the interval began, since boot.
     pub start: u64,

@@ -97,22 +97,29 @@ abbrev pub polled : Frame → Frame
 polled (Frame.Deliver is_polled) = Frame.Deliver true
 polled frame = frame
 
--- whether a receiver of a broadcast is left, and the broadcast with that one as the next
+-- whether a receiver is left of a broadcast none of whose receivers has its turn, and the broadcast with that one as the next
 abbrev pub has_receiver : Frame → Bool
-has_receiver (Frame.Broadcast next (p ∷ walk) event) = true
+has_receiver (Frame.Broadcast None (p ∷ walk) event) = true
 has_receiver _ = false
 
 abbrev pub with_receiver : Frame → Frame
-with_receiver (Frame.Broadcast next (p ∷ walk) event) = Frame.Broadcast (Some (record { 0 = p })) walk event
+with_receiver (Frame.Broadcast None (p ∷ walk) event) = Frame.Broadcast (Some (record { 0 = p })) walk event
 with_receiver frame = frame
 
--- what the next receiver is given, and the broadcast behind it
-abbrev pub given_of : Frame → Option (Pid × Event)
-given_of (Frame.Broadcast (Some p) walk event) = Some (p, event)
-given_of _ = None
+-- the receiver that is given the event next, what it is told, and the broadcast behind it
+abbrev pub receiver_of : Frame → Option ℕ
+receiver_of (Frame.Broadcast (Some p) walk event) = Some p.0
+receiver_of (Frame.Broadcast None walk event) = slice_get walk 0
+receiver_of _ = None
+
+abbrev pub told_by : Stimulus → Frame → Stimulus
+told_by told (Frame.Broadcast (Some p) walk event) = of_event event
+told_by told (Frame.Broadcast None (p ∷ walk) event) = of_event event
+told_by told _ = told
 
 abbrev pub past_receiver : Frame → Frame
-past_receiver (Frame.Broadcast next walk event) = Frame.Broadcast None walk event
+past_receiver (Frame.Broadcast (Some p) walk event) = Frame.Broadcast None walk event
+past_receiver (Frame.Broadcast None walk event) = Frame.Broadcast None (drop 1 walk) event
 past_receiver frame = frame
 
 -- whether a process that leaves is given EXIT, and what is left then

@@ -7,7 +7,9 @@ use Rattle.process_core.specs.declared.awaited.Awaited.{Awaited}
 use Rattle.process_core.specs.declared.scheduler_fields.SchedulerFields.{SchedulerFields}
 use Rattle.process_core.specs.declared.frame.Frame.{Frame}
 use Rattle.process_core.specs.declared.queued.Queued as code
-use Rattle.process_core.specs.declared.job.Job as answer
+use Rattle.mote_types.specs.declared.event.Event.{Event}
+use Rattle.mote_types.specs.declared.event.Stimulus.{Stimulus}
+use Rattle.process_core.specs.declared.ready.Ready.{Ready}
 use Rattle.process_core.specs.Agenda.{Queued}
 use Rattle.process_core.specs.Scheduler.{Scheduler}
 use Rattle.process_core.specs.SchedulerView.{SchedulerView}
@@ -30,10 +32,15 @@ callback_in (Awaited.Callback pid number) = Some (pid, number)
 callback_in _ = None
 
 -- what is awaited after a job, if there is one
-abbrev pub awaited_after : Option answer.Job → Awaited
-awaited_after (Some (answer.Job.Give pid origin stimulus)) = Awaited.Call pid
-awaited_after (Some (answer.Job.Callback pid number arming)) = Awaited.Callback pid number
+abbrev pub awaited_after : Option Ready → Awaited
+awaited_after (Some (Ready.Give pid origin)) = Awaited.Call pid
+awaited_after (Some (Ready.Callback pid number arming)) = Awaited.Callback pid number
 awaited_after _ = Awaited.Nothing
+
+-- where a kernel process is to be served, the place that was lent holds an event
+abbrev pub HoldsEvent : Option Ready → Stimulus → Type 0
+HoldsEvent (Some (Ready.Serve pid)) told = (event : Event) × (told ≡ Stimulus.Event event)
+HoldsEvent _ told = Unit {0}
 
 abbrev pub scheduler_of : SchedulerFields → Scheduler ℕ
 scheduler_of d =

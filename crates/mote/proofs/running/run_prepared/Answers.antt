@@ -4,8 +4,9 @@ use Rattle.std.proofs.lemmas.List.{append-nil, append_assoc}
 use denote.Param.Object.{read_made}
 use Rattle.mote_types.specs.Applications.{Says}
 use Rattle.mote_apps.specs.Bundled.{bundled_says}
+use Rattle.kernel_core.specs.Machine.{booted}
 use Rattle.mote_run.specs.RunText.{HasRun, HasRunInPart, HasRunOnWholeLines}
-use Rattle.mote.proofs.Boxed.{as_many_more, one_more, said_the_same, same_applications}
+use Rattle.mote.proofs.Boxed.{as_many_more, nothing_ran, one_more, said_the_same, same_applications}
 use Rattle.mote.proofs.running.run_prepared.OwnLists.{own-1}
 use Rattle.mote.proofs.running.run_prepared.Goals as goal
 
@@ -26,6 +27,14 @@ loop-application-preserved g c =
       append_assoc c.loop-application.yielded (application ∷ []) c.next.new.self ∙ (ap (λ rest. c.loop-application.yielded ++ rest) (sym c.in-Some.ensures.steps) ∙ before.1),
       one_more _ bundled_says _ _ boxed _ application c.in_ok-push.ensures.items told before.2,
     )
+
+pub returns-in_err-new-clause-front : goal.returns-in_err-new-clause-front
+returns-in_err-new-clause-front g c =
+    nothing_ran g.S.ByteSource.is_named g.K.ByteSink.is_named (λ config. c.args.prepared.kernel.machine ≡ booted config) _ _ _ _ _ _
+
+pub returns-in_err-push-clause-front : goal.returns-in_err-push-clause-front
+returns-in_err-push-clause-front g c =
+    nothing_ran g.S.ByteSource.is_named g.K.ByteSink.is_named (λ config. c.args.prepared.kernel.machine ≡ booted config) _ _ _ _ _ _
 
 pub run-requires-clause-booted : goal.run-requires-clause-booted
 run-requires-clause-booted g c =

@@ -3,6 +3,7 @@ use Rattle.std.specs.Prelude.{Result, Ok, Err, OnErr}
 use Rattle.kernel_core.specs.declared.config.Config.{Config}
 use Rattle.kernel_core.specs.Machine.{booted, is_bootable}
 use Rattle.mote_kit.specs.Runs.{config_of}
+use Rattle.mote_kit.proofs.WholeScript.{nothing_ran}
 use Rattle.mote_kit.proofs.mote.run_boxes.Goals as goal
 
 abbrev is_ok : {T E : Type 0} → Result T E → Bool
@@ -21,8 +22,19 @@ on_err : {T E P : Type 0} (r : Result T E) → P → OnErr r P
 on_err (Ok value) p = tt
 on_err (Err error) p = p
 
+on_err_of_named : {T E R : Type 0} (P Q : Type 0) (r : Result T E) → R → OnErr r (P → Q → R)
+on_err_of_named P Q (Ok value) held = tt
+on_err_of_named P Q (Err error) held = λ _ _. held
+
 at_config : {A B X : Type 0} {Q R : X → Type 0} → (A → B → (x : X) → Q x → R x) → (x : X) → Q x → A → B → R x
 at_config f x q a b = f a b x q
+
+-- where no mote was booted, nothing ran
+pub returns-in_default-clause-front : goal.returns-in_default-clause-front
+returns-in_default-clause-front g c = λ _ _. nothing_ran _ _ _ _ _ _
+
+pub returns-in_err-kernel-clause-front : goal.returns-in_err-kernel-clause-front
+returns-in_err-kernel-clause-front g c = on_err_of_named g.S.ByteSource.is_named g.K.ByteSink.is_named c.from_residual.result (nothing_ran _ _ _ _ _ _)
 
 pub run-requires-clause-booted : goal.run-requires-clause-booted
 run-requires-clause-booted g c =

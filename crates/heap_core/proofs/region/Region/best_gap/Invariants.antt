@@ -1,9 +1,10 @@
-use Rattle.std.proofs.Common.{◌≡◌}
-use Rattle.std.specs.Prelude.{fold, None}
-use Rattle.heap_core.specs.Code.Layout.{chunks_of}
-use Rattle.heap_core.specs.Code.Links.{gaps_among}
-use Rattle.heap_core.proofs.Gaps.{better_chunk}
+use Rattle.std.proofs.Common.{length}
+use Rattle.heap_core.specs.Code.Links.{gaps_from_place}
+use Rattle.heap_core.proofs.Searches.{Searched}
 use Rattle.heap_core.proofs.region.Region.best_gap.Given as goal
 
-abbrev pub invariant-loop-gap : goal.invariant-loop-gap
-invariant-loop-gap l = fold (better_chunk l.need) l.best l.gap-iterator ≡ fold (better_chunk l.need) None (gaps_among (chunks_of l.self l.arena.bytes))
+abbrev pub invariant-loop-next : goal.invariant-loop-next
+invariant-loop-next l = Searched l.self l.arena.bytes l.fn.need l.best l.next
+
+abbrev pub decreases-loop-next : goal.decreases-loop-next
+decreases-loop-next l = length (gaps_from_place l.self l.arena.bytes l.next)

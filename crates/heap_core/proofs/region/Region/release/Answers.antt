@@ -3,8 +3,7 @@ use Rattle.std.specs.Prelude.{IfSome}
 use Rattle.heap_core.specs.Code.Layout.{chunks_of}
 use Rattle.heap_core.specs.Code.Links.{gaps_among, gap_count}
 use Rattle.heap_core.specs.Code.Walks.{free_from, front_gap}
-use Rattle.heap_core.proofs.Callers.{KeepsToSpan-then}
-use Rattle.heap_core.proofs.Lists.{gap_from_small, gaps_few, kept_then, last_exchanged, list_exchanged}
+use Rattle.heap_core.proofs.Lists.{gap_from_small, gaps_few}
 use Rattle.heap_core.proofs.Places.{has_same}
 use Rattle.heap_core.proofs.Releases.{from_below, end_below}
 use Rattle.heap_core.proofs.Standing.{around, before_is, behind_is}
@@ -25,19 +24,14 @@ overflow_add-end-2 c =
     let high = end_below heap B c.requires.chunks chunk a c.requires.live in
     omega (arith, heap.inside, heap.small)
 
-pub clear_away-first-requires-clause-end : goal.clear_away-first-requires-clause-end
-clear_away-first-requires-clause-end c = ap (λ k. c.args.chunk.at + c.args.chunk.len + k) c.gap_behind-gap.ensures
+pub merge-requires-clause-end : goal.merge-requires-clause-end
+merge-requires-clause-end c = ap (λ k. c.args.chunk.at + c.args.chunk.len + k) c.gap_behind-gap.ensures
 
-pub clear_away-first-requires-clause-link : goal.clear_away-first-requires-clause-link
-clear_away-first-requires-clause-link c =
+pub merge-requires-clause-small : goal.merge-requires-clause-small
+merge-requires-clause-small c =
     let heap = c.args.self.now in
     subst (λ o. IfSome o (λ place. place < 65536)) (sym c.link_behind-link.ensures)
     (gap_from_small c.args.arena.now.bytes heap.span.at (c.args.chunk.at + c.args.chunk.len + c.gap_behind-gap.result) heap.footprint 65536 (chunks_of heap c.args.arena.now.bytes) c.requires.chunks.told (omega (arith, heap.inside, heap.small)))
-
-pub link_below-requires-clause-before : goal.link_below-requires-clause-before
-link_below-requires-clause-before c =
-    last_exchanged c.args.self.now c.clear_away-first.new.self c.args.arena.now.bytes c.clear_away-first.new.arena.bytes c.free_before-from.result (c.args.chunk.at + c.args.chunk.len + c.gap_behind-gap.result) c.requires.chunks c.requires.gaps.linked
-    c.gap_below-below.result c.clear_away-first.result c.link_behind-link.result c.clear_away-first.ensures.exchanged c.gap_below-below.ensures c.link_behind-link.ensures
 
 pub overflow_sub-chunk : goal.overflow_sub-chunk
 overflow_sub-chunk c =
@@ -46,46 +40,32 @@ overflow_sub-chunk c =
     omega (arith, c.free_before-from.ensures ∙ ap free_from (before_is heap B chunk a), from_below heap B c.requires.chunks chunk a c.requires.live)
 
 -- how many gaps there are, and those that are one with the chunk now
-counted : (c : After-gap_count-2) → c.link_below.new.self.gaps ≡ length (gaps_among (chunks_of c.link_below.new.self c.link_below.new.arena.bytes)) + (gap_count (c.args.chunk.at - c.free_before-from.result) + gap_count c.gap_behind-gap.result)
+counted : (c : After-gap_count-2) → c.merge.new.self.gaps ≡ length (gaps_among (chunks_of c.merge.new.self c.merge.new.arena.bytes)) + (gap_count (c.args.chunk.at - c.free_before-from.result) + gap_count c.gap_behind-gap.result)
 counted c =
     let next = c.args.chunk.at + c.args.chunk.len in
     let behind : next + c.gap_behind-gap.result - next ≡ c.gap_behind-gap.result = omega arith in
-    omega (arith, c.clear_away-first.ensures.count, c.link_below.ensures.count.0, c.link_below.ensures.count.1, ap gap_count behind)
+    omega (arith, c.merge.ensures.count, ap gap_count behind)
 
 pub overflow_sub-self : goal.overflow_sub-self
 overflow_sub-self c = omega (arith, counted c, c.gap_count.ensures, c.gap_count-2.ensures)
 
 pub returns-clause-chunks : goal.returns-clause-chunks
 unfolding chunks_of
-returns-clause-chunks c = has_same c.link_below.new.self _ c.link_below.new.arena.bytes refl refl c.link_below.ensures.chunks
+returns-clause-chunks c = has_same c.merge.new.self _ c.merge.new.arena.bytes refl refl c.merge.ensures.chunks
 
 pub returns-clause-gaps : goal.returns-clause-gaps
 unfolding chunks_of
-returns-clause-gaps c =
-    let linked = list_exchanged c.args.self.now c.clear_away-first.new.self c.args.arena.now.bytes c.clear_away-first.new.arena.bytes c.free_before-from.result (c.args.chunk.at + c.args.chunk.len + c.gap_behind-gap.result) c.requires.chunks c.requires.gaps.linked
-    c.gap_below-below.result c.clear_away-first.result c.link_behind-link.result c.clear_away-first.ensures.exchanged c.gap_below-below.ensures c.link_behind-link.ensures
-    c.link_below.new.self c.link_below.new.arena.bytes c.clear_away-first.ensures.lowest c.link_below.ensures.linked in
-    record { linked = linked; count = omega (arith, counted c.before, c.gap_count.ensures, c.gap_count-2.ensures) }
+returns-clause-gaps c = record { linked = c.merge.ensures.linked; count = omega (arith, counted c.before, c.gap_count.ensures, c.gap_count-2.ensures) }
 
 pub returns-clause-block : goal.returns-clause-block
 unfolding chunks_of
-returns-clause-block c = c.link_below.ensures.block ∙ c.clear_away-first.ensures.block
+returns-clause-block c = c.merge.ensures.block
 
 pub returns-clause-others : goal.returns-clause-others
 unfolding chunks_of
-returns-clause-others c other h far = c.link_below.ensures.stands other (c.clear_away-first.ensures.others other h far)
+returns-clause-others c other h far = c.merge.ensures.others other h far
 
-pub returns-clause-kept : goal.returns-clause-kept
-returns-clause-kept c =
-    let k = kept_then c.args.self.now c.clear_away-first.new.self c.link_below.new.self c.clear_away-first.ensures.kept c.link_below.ensures.kept in
-    record { places = k.places; newest = k.newest; freed = k.freed }
-
-pub returns-clause-rest : goal.returns-clause-rest
-returns-clause-rest c =
-    let k = KeepsToSpan-then c.args.self.now c.clear_away-first.new.self c.link_below.new.self c.args.arena.now c.clear_away-first.new.arena c.link_below.new.arena c.clear_away-first.ensures.rest c.link_below.ensures.rest in
-    record { span = k.span; carved = k.carved; bytes = k.bytes }
-
-pub clear_away-first-requires-clause-few : goal.clear_away-first-requires-clause-few
-clear_away-first-requires-clause-few c =
+pub merge-requires-clause-few : goal.merge-requires-clause-few
+merge-requires-clause-few c =
     let heap = c.args.self.now in
     omega (arith, gaps_few heap c.args.arena.now.bytes c.requires.chunks c.requires.gaps.linked, c.requires.gaps.count, heap.inside, heap.small)

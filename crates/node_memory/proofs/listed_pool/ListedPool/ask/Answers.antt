@@ -1,13 +1,13 @@
 use Rattle.node_memory.proofs.listed_pool.ListedPool.ask.Goals as goal
 
-pub returns-in-Alloc-clause-asked : goal.returns-in-Alloc-clause-asked
-returns-in-Alloc-clause-asked c = rw c.in-Alloc.is c.alloc.ensures.asked
+pub returns-in-MembAlloc-clause-asked : goal.returns-in-MembAlloc-clause-asked
+returns-in-MembAlloc-clause-asked c = rw c.in-MembAlloc.is (c.alloc.ensures.asked c.in-MembAlloc.field-0)
 
-pub returns-in-Free-clause-asked : goal.returns-in-Free-clause-asked
-returns-in-Free-clause-asked c = rw c.in-Free.is c.free.ensures.asked
+pub returns-in-MembFree-clause-asked : goal.returns-in-MembFree-clause-asked
+returns-in-MembFree-clause-asked c = rw c.in-MembFree.is (c.free.ensures.asked c.in-MembFree.field-0)
 
-pub returns-in-Write-clause-asked : goal.returns-in-Write-clause-asked
-returns-in-Write-clause-asked c = rw c.in-Write.is c.write.ensures.asked
+pub returns-in-MembWrite-clause-asked : goal.returns-in-MembWrite-clause-asked
+returns-in-MembWrite-clause-asked c = rw c.in-MembWrite.is (c.write.ensures.asked c.in-MembWrite.field-0)
 
-pub returns-in-Read-clause-asked : goal.returns-in-Read-clause-asked
-returns-in-Read-clause-asked c = rw c.in-Read.is c.read.ensures
+pub returns-in-MembRead-clause-asked : goal.returns-in-MembRead-clause-asked
+returns-in-MembRead-clause-asked c = rw c.in-MembRead.is (c.read.ensures c.in-MembRead.field-0)

@@ -1,14 +1,13 @@
 use Rattle.std.proofs.Common.{arith, ap, sym, ◌∙◌, ◌<◌, length}
 use Rattle.node_memory.specs.Ask.{ask_pool_of}
 use Rattle.node_memory.specs.Code.Layout.{end_of}
-use Rattle.node_memory.specs.Code.MemoryCalls.{pool_call}
 use Rattle.node_memory.specs.Placed.{PlacedMemory}
 use Rattle.node_memory.proofs.LaidOut.{linked-at, after-pool, asked-pool, refused-pool}
 use Rattle.node_memory.proofs.Refused.{refused-then}
 use Rattle.node_memory.proofs.memory.NodeMemory.ask_pool.Goals as goal
 
-pub ask-requires : goal.ask-requires
-ask-requires c =
+pub ask-requires-clause-linked : goal.ask-requires-clause-linked
+ask-requires-clause-linked c =
     let k = c.self.inside in
     let below : c.args.pool < length k.pools = omega (arith, c.self.invariant.count, c.if-pool-ge-POOLS.false) in
     linked-at c.args.pool (end_of k.heap.span) k.pools c.index-self-pool.result k.arena.bytes below c.self.invariant.pools
@@ -23,8 +22,8 @@ pub returns-clause-asked : goal.returns-clause-asked
 returns-clause-asked c =
     let k = c.self.inside in
     let below : c.args.pool < length k.pools = omega (arith, c.self.invariant.count, c.if-pool-ge-POOLS.false) in
-    ap (λ (v : PlacedMemory). ask_pool_of c.args.pool (pool_call c.args.pool c.args.call) v.contents) (sym c.self.view_is)
-    ∙ asked-pool k.mmem k.heap c.args.pool k.pools c.index-self-pool.result c.ask.new.self k.arena c.ask.new.arena (pool_call c.args.pool c.args.call) c.ask.result below (grind arith) c.self.invariant c.ask.ensures.rest c.ask.ensures.linked (c.ask.ensures.asked c.args.pool)
+    ap (λ (v : PlacedMemory). ask_pool_of c.args.pool c.args.call.now v.contents) (sym c.self.view_is)
+    ∙ asked-pool k.mmem k.heap c.args.pool k.pools c.index-self-pool.result c.ask.new.self k.arena c.ask.new.arena c.args.call.now c.ask.result below (grind arith) c.self.invariant c.ask.ensures.rest c.ask.ensures.linked c.ask.ensures.asked
 
 pub returns-clause-refused : goal.returns-clause-refused
 returns-clause-refused c =

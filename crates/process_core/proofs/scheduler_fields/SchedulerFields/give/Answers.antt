@@ -24,8 +24,9 @@ pub returns-in_default-state_of : goal.returns-in_default-state_of
 returns-in_default-state_of c =
     record {
       yields =
-          give_yields_nothing (scheduler_of c.args.self.now) c.args.pid.0 c.args.origin c.args.stimulus c.if-pid-lt-FIRST_APPLICATION.false
+          give_yields_nothing (scheduler_of c.args.self.now) c.args.pid.0 c.args.origin c.args.told.now c.if-pid-lt-FIRST_APPLICATION.false
           (λ e. c.in_default-state_of.not-Running (c.state_of.ensures.value ∙ e));
+      told = tt;
       awaited = c.requires.idle;
       order = c.requires.order;
       same = refl;

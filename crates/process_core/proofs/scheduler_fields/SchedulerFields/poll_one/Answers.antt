@@ -10,5 +10,6 @@ give-requires-clause-order c =
 
 pub returns-clause-yields : goal.returns-clause-yields
 returns-clause-yields c =
-    poll_one_yields (scheduler_of c.args.self.now) c.args.pid.0 _ _ (sym c.if-not-is_marked.ensures)
-    (rw (c.set_mark.ensures, c.plain_event.ensures) at c.give.ensures.yields)
+    rw c.plain_event.ensures
+    (poll_one_yields (scheduler_of c.args.self.now) c.args.pid.0 _ _ (sym c.if-not-is_marked.ensures)
+    (rw (c.set_mark.ensures, c.plain_event.ensures) at c.give.ensures.yields))

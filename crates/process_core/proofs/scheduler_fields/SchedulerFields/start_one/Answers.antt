@@ -10,5 +10,6 @@ give-requires-clause-order c =
 
 pub returns-in-Absent-clause-yields : goal.returns-in-Absent-clause-yields
 returns-in-Absent-clause-yields c =
-    start_yields (scheduler_of c.args.self.now) c.args.pid.0 _ _ (sym c.in-Absent.ensures.value)
-    (rw (c.add.ensures, c.plain_event.ensures) at c.give.ensures.yields)
+    rw c.plain_event.ensures
+    (start_yields (scheduler_of c.args.self.now) c.args.pid.0 _ _ (sym c.in-Absent.ensures.value)
+    (rw (c.add.ensures, c.plain_event.ensures) at c.give.ensures.yields))

@@ -1,0 +1,104 @@
+-- The search along the links for the shortest gap that is long enough.
+use Rattle.std.proofs.Common.{◌≡◌, ℕ, ◌≤◌, ◌<◌, inl, inr, List, [], ◌∷◌, length, true, false, leb, ltb, refl, sym, ap, ◌∙◌, arith}
+use Rattle.std.specs.Prelude.{Option, Some, None, fold}
+use Rattle.std.specs.Option.{option_map_or}
+use Rattle.std.proofs.lemmas.Bool.{cases_Bool, le-leb, lt-leb, le-ltb, leb-true, ltb-false}
+use Rattle.heap_core.specs.declared.chunk.Chunk.{Chunk}
+use Rattle.heap_core.specs.declared.chunk.Gap.{Gap}
+use Rattle.heap_core.specs.declared.region.Region.{Region}
+use Rattle.heap_core.specs.HeapStore.{shorter, best_gap, gaps}
+use Rattle.heap_core.specs.Code.Chunks.{chunk_at}
+use Rattle.heap_core.specs.Code.Layout.{chunks_of, HasChunks, store_of}
+use Rattle.heap_core.specs.Code.Links.{LinkedTo, Follow, gaps_from_place}
+use Rattle.heap_core.proofs.Gaps.{better_chunk, better_same, gaps_are}
+use Rattle.heap_core.proofs.Lists.{NextGap, walk_begins, next_gap, no_gap}
+
+-- the shorter one of the best gap yet, if there is one, and this one
+abbrev shorter_of : Option Gap → Chunk → Gap
+shorter_of best gap = let this : Gap = record { at = gap.at; len = gap.len } in option_map_or (λ (other : Gap). shorter other this) best this
+
+-- a gap that is too short leaves the best one
+short_leaves_best : (need : ℕ) (best : Option Gap) (gap : Chunk) → gap.len < need → best ≡ better_chunk need best gap
+short_leaves_best need best gap less = let short : leb need gap.len ≡ false = lt-leb need gap.len less in rw short refl
+
+-- one that is long enough takes its place where it is shorter
+long_is_compared : (need : ℕ) (best : Option Gap) (gap : Chunk) → need ≤ gap.len → Some (shorter_of best gap) ≡ better_chunk need best gap
+long_is_compared need best gap enough = let long : leb need gap.len ≡ true = le-leb need gap.len enough in rw long refl
+
+-- a gap that has no byte too many stays the best one
+exact_kept : (need : ℕ) (found : Gap) (gaps : List Chunk) → found.len ≤ need → fold (better_chunk need) (Some found) gaps ≡ Some found
+exact_kept need found [] exact = refl
+exact_kept need found (gap ∷ gaps) exact =
+    let here : better_chunk need (Some found) gap ≡ Some found = elim (cases_Bool (leb need gap.len)) [
+      | inl long ↦ (let no : ltb gap.len found.len ≡ false = le-ltb gap.len found.len (omega (arith, leb-true need gap.len long)) in rw long (rw no refl))
+      | inr short ↦ rw short refl
+    ] in
+    ap (λ o. fold (better_chunk need) o gaps) here ∙ exact_kept need found gaps exact
+
+-- so the search may stop at it
+pub exact_is_best : (need : ℕ) (best : Option Gap) (gap : Chunk) (later : List Chunk) → gap.len ≡ need
+    → fold (better_chunk need) (better_chunk need best gap) later ≡ better_chunk need best gap
+exact_is_best need None gap later exact =
+    let long : leb need gap.len ≡ true = le-leb need gap.len (omega (arith, exact)) in
+    let this : Gap = record { at = gap.at; len = gap.len } in
+    let now : better_chunk need None gap ≡ Some this = rw long refl in
+    ap (λ o. fold (better_chunk need) o later) now ∙ exact_kept need this later (omega (arith, exact)) ∙ sym now
+exact_is_best need (Some other) gap later exact =
+    let long : leb need gap.len ≡ true = le-leb need gap.len (omega (arith, exact)) in
+    let this : Gap = record { at = gap.at; len = gap.len } in
+    elim (cases_Bool (ltb gap.len other.len)) [
+      | inl less ↦
+          let now : better_chunk need (Some other) gap ≡ Some this = rw long (rw less refl) in
+          ap (λ o. fold (better_chunk need) o later) now ∙ exact_kept need this later (omega (arith, exact)) ∙ sym now
+      | inr more ↦
+          let now : better_chunk need (Some other) gap ≡ Some other = rw long (rw more refl) in
+          ap (λ o. fold (better_chunk need) o later) now ∙ exact_kept need other later (omega (arith, exact, ltb-false gap.len other.len more)) ∙ sym now
+    ]
+
+-- where the search stands: the gap found and those still to come decide what is the best one
+pub record Searched (heap : Region) (B : List ℕ) (need : ℕ) (best : Option Gap) (next : Option ℕ) : Type 0 where
+  pub few : length (gaps_from_place heap B next) ≤ heap.footprint
+  pub follow : Follow B heap.span.at heap.footprint next (gaps_from_place heap B next)
+  pub is : fold (better_chunk need) best (gaps_from_place heap B next) ≡ best_gap need (gaps (store_of heap B))
+
+module _ (heap : Region) (B : List ℕ) (need : ℕ) where
+  pub search_begun : HasChunks heap B → LinkedTo heap.lowest (chunks_of heap B) None → Searched heap B need None heap.lowest
+  search_begun has linked =
+      let w = walk_begins heap B has linked in
+      record {
+        few = w.1;
+        follow = w.2;
+        is = ap (fold (better_chunk need) None) w.0
+            ∙ better_same need None (chunks_of heap B)
+            ∙ sym (ap (best_gap need) (gaps_are B heap.span.at 0 heap.footprint (chunks_of heap B) has.told has.joined));
+      }
+
+  pub search_ended : (best : Option Gap) (next : Option ℕ) → next ≡ None → Searched heap B need best next → best ≡ best_gap need (gaps (store_of heap B))
+  search_ended best next none s = sym (ap (fold (better_chunk need) best) (no_gap heap B next none s.follow)) ∙ s.is
+
+  module _ (best : Option Gap) (next : Option ℕ) (at : ℕ) (gap : Chunk) (is : next ≡ Some at) (read : gap ≡ chunk_at B heap.span.at at) (s : Searched heap B need best next) where
+    pub met : NextGap heap B next gap
+    met = next_gap heap B next at gap is read s.few s.follow
+
+    more : (new : Option Gap) → new ≡ better_chunk need best gap → Searched heap B need new gap.link
+    more new e =
+        record {
+          few = met.few;
+          follow = met.follow;
+          is = ap (λ o. fold (better_chunk need) o (gaps_from_place heap B gap.link)) e ∙ sym (ap (fold (better_chunk need) best) met.is) ∙ s.is;
+        }
+
+    pub search_past_short : gap.len < need → Searched heap B need best gap.link
+    search_past_short less = more best (short_leaves_best need best gap less)
+
+    module _ (found : Gap) (compared : found ≡ shorter_of best gap) (enough : need ≤ gap.len) where
+      found_is : Some found ≡ better_chunk need best gap
+      found_is = ap (λ (g : Gap). Some g) compared ∙ long_is_compared need best gap enough
+
+      pub search_past_long : Searched heap B need (Some found) gap.link
+      search_past_long = more (Some found) found_is
+
+      pub search_exact : gap.len ≡ need → Some found ≡ best_gap need (gaps (store_of heap B))
+      search_exact exact =
+          let later = gaps_from_place heap B gap.link in
+          found_is ∙ sym (exact_is_best need best gap later exact) ∙ (more (better_chunk need best gap) refl).is

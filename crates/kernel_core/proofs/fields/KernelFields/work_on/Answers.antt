@@ -1,0 +1,106 @@
+use Rattle.std.proofs.Common.{◌≡◌, Bool, true, false, rules, refl, arith, ap}
+use Rattle.kernel_core.proofs.Reaching.{then_job, job_makes, job_silently}
+use Rattle.kernel_core.proofs.Costs.{costs-cons}
+use Rattle.kernel_core.specs.Code.Cost.{present}
+use Rattle.kernel_core.specs.Code.View.{is_struck}
+use Rattle.kernel_core.specs.declared.fields.KernelFields.{KernelFields}
+use Rattle.process_core.specs.Agenda.{Item}
+use Rattle.mote_types.specs.declared.event.Origin.{Origin}
+use Rattle.mote_types.specs.declared.event.Stimulus.{Stimulus}
+use Rattle.kernel_core.proofs.fields.KernelFields.work_on.Goals as goal
+
+pub returns-in-Give-clause-machine : goal.returns-in-Give-clause-machine
+returns-in-Give-clause-machine g c =
+    job_makes (then_job (c.job.invariant.so_far _) (c.in-Give.ensures.reached _)) (rw c.job.invariant.apps at c.take_turn.ensures.machine)
+
+pub job-preserved-in-Serve : goal.job-preserved-in-Serve
+job-preserved-in-Serve g c = record {
+  order = search rules;
+  running = search rules;
+  nothing_shown = search rules;
+  inputs = search rules;
+  applications = search rules;
+  clock = search rules;
+  apps = search rules;
+  made = search rules;
+  left = search rules;
+  so_far = λ answers. job_silently (then_job (c.job.invariant.so_far answers) (c.in-Serve.ensures.reached answers)) (c.serve_told.ensures.machine answers _);
+  present =
+      let paid = c.in-Serve.ensures.paid _ c.job.invariant.present in
+      omega (arith, paid.1, c.serve_told.ensures.kept.present, c.job.invariant.present);
+}
+
+-- an expiry was struck out or not
+either : {X : Type 0} (b : Bool) → (b ≡ true → X) → (b ≡ false → X) → X
+either true if_true if_false = if_true refl
+either false if_true if_false = if_false refl
+
+pub job-preserved-in-Callback : goal.job-preserved-in-Callback
+job-preserved-in-Callback g c =
+    either (is_struck c.next_job.new.self.timers.armings c.in-Callback.pid.0 c.in-Callback.number c.in-Callback.arming)
+    (λ struck. rw (c.expire.ensures.struck_out struck) record {
+      order = search rules;
+      running = search rules;
+      nothing_shown = search rules;
+      inputs = search rules;
+      applications = search rules;
+      clock = search rules;
+      apps = search rules;
+      made = search rules;
+      left = search rules;
+      so_far = λ answers. job_silently (then_job (c.job.invariant.so_far answers) (c.in-Callback.ensures.reached answers)) (search (struck, rules));
+      present = search rules;
+    })
+    (λ counts. rw (c.expire.ensures.given counts) record {
+      order = search rules;
+      running = search rules;
+      nothing_shown = search rules;
+      inputs = search rules;
+      applications = search rules;
+      clock = search rules;
+      apps = search rules;
+      made = search rules;
+      left = search rules;
+      so_far = λ answers. job_silently (then_job (c.job.invariant.so_far answers) (c.in-Callback.ensures.reached answers)) (search (counts, rules));
+      present = search rules;
+    })
+
+pub returns-in-Rest-clause-machine : goal.returns-in-Rest-clause-machine
+returns-in-Rest-clause-machine g c =
+    record {
+      before = job_silently (then_job (c.job.invariant.so_far _) (c.in-Rest.ensures.reached _)) refl;
+      at_rest = search rules;
+    }
+
+pub returns-then-not-begin_round-clause-machine : goal.returns-then-not-begin_round-clause-machine
+returns-then-not-begin_round-clause-machine g c =
+    job_makes (then_job (c.job.invariant.so_far _) (c.in-Round.ensures.reached _)) (c.begin_round.ensures.halts (search rules))
+
+pub job-preserved : goal.job-preserved
+job-preserved g c = record {
+  order = search rules;
+  running = search rules;
+  nothing_shown = search rules;
+  inputs = search rules;
+  applications = search rules;
+  clock = search rules;
+  apps = search rules;
+  made = search rules;
+  left = search rules;
+  so_far = λ answers. job_silently (then_job (c.job.invariant.so_far answers) (c.in-Round.ensures.reached answers)) (c.begin_round.ensures.begins (search rules));
+  present =
+      let paid = c.in-Round.ensures.paid _ c.job.invariant.present in
+      let same : present c.begin_round.new.self.scheduler.state ≡ present c.next_job.new.self.scheduler.state =
+      ap (λ (k : KernelFields). present k.scheduler.state) c.begin_round.ensures.kept in
+      omega (arith, same, paid.1, c.job.invariant.present);
+}
+
+pub job-smaller-in-Callback : goal.job-smaller-in-Callback
+job-smaller-in-Callback g c =
+    let bound = present c.args.self.now.scheduler.state in
+    let paid = c.in-Callback.ensures.paid bound c.job.invariant.present in
+    let cons = costs-cons bound (Item.Give c.in-Callback.pid.0 Origin.Callback (Stimulus.Callback c.in-Callback.number)) c.next_job.new.self.scheduler.state.agenda in
+    let same : c.next_job.new.self.work ≡ c.job.self.work = search rules in
+    either (is_struck c.next_job.new.self.timers.armings c.in-Callback.pid.0 c.in-Callback.number c.in-Callback.arming)
+    (λ struck. rw (c.expire.ensures.struck_out struck, same) (omega (arith, paid.0)))
+    (λ counts. rw (c.expire.ensures.given counts, cons, same) (omega (arith, paid.0)))

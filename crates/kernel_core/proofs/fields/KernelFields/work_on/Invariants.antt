@@ -1,0 +1,25 @@
+use Rattle.std.proofs.Common.{◌≡◌, ◌≤◌, ◌*◌, ◌-◌, ◌+◌, false}
+use Rattle.kernel_core.specs.Code.View.{machine_of, none_unshown, entries_left_in, IsInOrder}
+use Rattle.kernel_core.specs.Run.{Answers, GoesSilently, work_limit}
+use Rattle.kernel_core.specs.Code.Cost.{present, costs, round_cost}
+use Rattle.kernel_core.proofs.fields.KernelFields.work_on.Given as goal
+
+abbrev pub invariant-job : goal.invariant-job
+invariant-job g l = record {
+  order : IsInOrder l.self;
+  running : l.self.halted ≡ false;
+  nothing_shown : l.self.unshown ≡ none_unshown;
+  inputs : l.self.inputs ≡ l.fn.self.inputs;
+  applications : l.self.scheduler.state.applications ≡ l.fn.self.scheduler.state.applications;
+  clock : l.self.clock ≡ l.fn.self.clock;
+  apps : l.apps ≡ l.fn.apps;
+  made : l.made ≡ l.fn.made;
+  left : entries_left_in l.self ≤ entries_left_in l.fn.self;
+  so_far : (answers : Answers) → GoesSilently answers (machine_of l.fn.self) (machine_of l.self);
+  present : present l.self.scheduler.state ≤ present l.initial.self.scheduler.state;
+}
+
+abbrev pub decreases-job : goal.decreases-job
+decreases-job g l =
+    let bound = present l.initial.self.scheduler.state in
+    (work_limit - l.self.work) * (round_cost bound + 1) + costs bound l.self.scheduler.state.agenda

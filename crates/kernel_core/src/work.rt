@@ -1,0 +1,60 @@
+//! Work until an entry is made or nothing is left to be done.
+
+ghost use Rattle.std.specs.Prelude.{◌≡◌, ◌≢◌, ◌≤◌, ◌-◌, ◌∷◌, ◌++◌, ℕ, [], false, List, length, slice_get};
+ghost use Rattle.std.specs.List.{list_any};
+ghost use Rattle.mote_types.specs.Applications.{says_of};
+ghost use Rattle.mote_types.specs.Entries.{is_halt};
+ghost use Rattle.mote_types.specs.declared.event.Stimulus.{Stimulus as Told};
+ghost use Rattle.kernel_core.specs.Code.View.{machine_of, mote_of, none_unshown, IsInOrder};
+ghost use Rattle.kernel_core.specs.Mote.{TakesEntry};
+ghost use Rattle.kernel_core.specs.Run.{GoesOn, heard, made as made_by, stepped};
+
+use crate::fields::KernelFields;
+use crate::step::Reached;
+use mote_types::app::App;
+use mote_types::entry::Entry;
+use mote_types::event::Stimulus;
+use process_core::ready::Ready;
+
+impl KernelFields {
+    /// Does one job after the other, until one makes an entry, which is put into `made`, or there is rest.
+    pub fn work_on(&mut self, apps: &mut [Box<dyn App>], made: &mut Entry) -> Reached
+        requires boxes { length apps.old ≡ self.old.scheduler.state.applications }
+        requires order { IsInOrder self.old }
+        requires running { self.old.halted ≡ false }
+        requires nothing_shown { self.old.unshown ≡ none_unshown }
+        ensures machine { GoesOn (λ p stimulus. says_of says apps.old p (stimulus ∷ [])) (machine_of self.old) (stepped result made.new) (machine_of self.new) }
+        ensures law { (p : ℕ) (next : Told) (later : List Told) →
+            says_of says apps.new p (next ∷ later) ≡ says_of says apps.old p (heard p (made_by (stepped result made.new)) ++ (next ∷ later)) }
+        ensures others { (p : ℕ) → 4 ≤ p → heard p (made_by (stepped result made.new)) ≡ [] → slice_get apps.new (p - 4) ≡ slice_get apps.old (p - 4) }
+        ensures halted { self.new.halted ≡ list_any is_halt (made_by (stepped result made.new)) }
+        ensures clock { self.new.clock ≡ self.old.clock }
+        ensures applications { self.new.scheduler.state.applications ≡ self.old.scheduler.state.applications }
+        ensures inputs { self.new.inputs ≡ self.old.inputs }
+        ensures progress { TakesEntry (stepped result made.new) (mote_of self.old) (mote_of self.new) }
+        ensures order { IsInOrder self.new }
+        ensures unmade { result ≢ Reached.Made → made.new ≡ made.old }
+    {
+        let mut told = Stimulus::Callback(0);
+        'job: loop {
+            match self.next_job(&mut told) {
+                Ready::Give { pid, origin } => {
+                    self.take_turn(apps, pid, origin, told, made);
+                    return Reached::Made;
+                }
+                Ready::Serve(pid) => self.serve_told(pid, &told),
+                Ready::Callback {
+                    pid,
+                    number,
+                    arming,
+                } => self.expire(pid, number, arming),
+                Ready::Round => {
+                    if !self.begin_round(made) {
+                        return Reached::Made;
+                    }
+                }
+                Ready::Rest => return Reached::Rest,
+            }
+        }
+    }
+}

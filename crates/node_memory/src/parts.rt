@@ -1,0 +1,66 @@
+//! The part of memory that a call is on.
+
+ghost use Rattle.std.specs.Prelude.{◌≡◌};
+ghost use Rattle.node_memory.specs.Parts as specs;
+
+use mote_types::call::Call;
+
+/// A part of memory.
+#[derive(Drop)]
+pub enum Part {
+    Managed,
+    Heap,
+    /// This pool with its lists. There are pools 0 to 3; a call may name another one.
+    Pool(u8),
+}
+
+/// The pool that a call is on, or on one of whose lists. Lists 2 k and 2 k + 1 are of pool k.
+fn pool_called(call: &Call) -> Option<u8>
+    ensures { result ≡ specs.pool_called call.now }
+{
+    match call {
+        Call::MembAlloc(pool)
+        | Call::MembFree(pool, _)
+        | Call::MembWrite(pool, ..)
+        | Call::MembRead(pool, ..)
+        | Call::MembNumFree(pool) => Some(*pool),
+        Call::ListAdd(list, _)
+        | Call::ListPush(list, _)
+        | Call::ListInsert(list, ..)
+        | Call::ListPop(list)
+        | Call::ListChop(list)
+        | Call::ListRemove(list, _)
+        | Call::ListHead(list)
+        | Call::ListNext(list, _)
+        | Call::ListLength(list) => Some(*list / 2),
+        _ => None,
+    }
+}
+
+/// The part that a call is on, if it is on memory.
+pub fn part_called(call: &Call) -> Option<Part>
+    ensures { result ≡ specs.part_called call.now }
+{
+    match call {
+        Call::MmemAlloc(..)
+        | Call::MmemFree(_)
+        | Call::MmemWrite(..)
+        | Call::MmemRead(..)
+        | Call::MmemCopy(..)
+        | Call::MmemAvail => Some(Part::Managed),
+        Call::HeapAlloc(..)
+        | Call::HeapRealloc(..)
+        | Call::HeapFree(_)
+        | Call::HeapWrite(..)
+        | Call::HeapRead(..)
+        | Call::HeapStats => Some(Part::Heap),
+        _ => pool_called(call).map(Part::Pool),
+    }
+}
+
+/// Whether a call is on memory, so that `NodeMemory::ask` answers it.
+pub fn is_memory_call(call: &Call) -> bool
+    ensures { result ≡ specs.is_memory_call call.now }
+{
+    part_called(call).is_some()
+}
