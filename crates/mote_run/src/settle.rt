@@ -122,6 +122,7 @@ pub fn settle_input<K: ByteSink>(
 {
     kernel.accept(input);
     write_input(sink, due, input, quiet)?;
+    // For a tick with nothing due: the loop over entries costs more to enter than the round that it would find.
     if kernel.pass_idle_round() {
         return Ok(());
     }
