@@ -9,6 +9,7 @@ use Rattle.mote_types.specs.Applications.{Applications}
 use Rattle.kernel_core.specs.declared.config.Config.{Config}
 use Rattle.kernel_core.specs.declared.step.Step.{Step}
 use Rattle.kernel_core.specs.declared.step.Reached.{Reached}
+use Rattle.kernel_core.specs.declared.turn.Turn.{Turn}
 use Rattle.process_core.specs.Agenda.{Item, Job}
 use Rattle.process_core.specs.Idle.{is_idle}
 use Rattle.process_core.specs.Scheduler.{worked, job, in_front}
@@ -102,11 +103,16 @@ abbrev pub made : Step → List Entry
 made (Step.Entry entry) = entry ∷ []
 made _ = []
 
--- what a step comes to, where an entry that it makes is put into a place
-abbrev pub stepped : Reached → Entry → Step
-stepped Reached.Made entry = Step.Entry entry
-stepped Reached.Rest entry = Step.Rest
-stepped Reached.Halted entry = Step.Halted
+-- the entry of a turn
+abbrev pub entry_of : Turn → Entry
+entry_of turn = Entry.Turn turn.pid turn.origin turn.stimulus turn.call
+
+-- what a step comes to, where an entry that it makes is put into a place: a turn into one, any other entry into another
+abbrev pub stepped : Reached → Turn → Entry → Step
+stepped Reached.Turn turn other = Step.Entry (entry_of turn)
+stepped Reached.Other turn other = Step.Entry other
+stepped Reached.Rest turn other = Step.Rest
+stepped Reached.Halted turn other = Step.Halted
 
 -- A run.
 

@@ -1,6 +1,6 @@
 //! The fields of a kernel, and how they change.
 
-ghost use Rattle.std.specs.Prelude.{◌≡◌, ◌<◌, ◌≤◌, ◌+◌, ◌-◌, ◌*◌, ◌^◌, ◌∷◌, ℕ, Bool, true, false, ◌||◌, None, Some, List, [], ◌++◌, length, slice_get, IfSome, eqb};
+ghost use Rattle.std.specs.Prelude.{◌≡◌, ◌<◌, ◌≤◌, ◌+◌, ◌-◌, ◌*◌, ◌^◌, ◌∷◌, ℕ, Bool, true, false, not, ◌||◌, None, Some, List, [], ◌++◌, length, slice_get, IfSome, eqb};
 ghost use Rattle.std.specs.List.{list_any, IsDistinct};
 ghost use Rattle.mote_types.specs.Applications.{says_of};
 ghost use Rattle.mote_types.specs.Entries.{is_halt};
@@ -17,10 +17,11 @@ ghost use Rattle.kernel_core.specs.Code.Draws.{HasFitEvents, IsFitJob, debt, dra
 ghost use Rattle.kernel_core.specs.Code.Cost.{IsPaid, costs, present};
 ghost use Rattle.kernel_core.specs.Code.View.{ComesToJob};
 ghost use Rattle.kernel_core.specs.Inputs.{fed, has_bytes, ticks_of};
-ghost use Rattle.kernel_core.specs.Run.{Answers, silent, is_at_rest, GoesOn, heard, made, job_done, within_limit, turn_taken, with_more_work};
+ghost use Rattle.kernel_core.specs.Run.{Answers, silent, is_at_rest, entry_of, GoesOn, heard, made, job_done, within_limit, turn_taken, with_more_work};
 ghost use Rattle.kernel_core.specs.Machine.{Machine};
 
 use crate::step::Step;
+use crate::turn::Turn;
 use crate::unshown::Unshown;
 use device_core::packet_queue::PacketQueue;
 use device_core::serial_line::SerialLine;
@@ -57,15 +58,16 @@ pub struct KernelFields {
 }
 
 impl KernelFields {
-    /// The application takes a turn, or the run is halted. The entry of that is put into `made`.
+    /// Whether the application takes a turn, in which it is told the stimulus that lies in the place. Else the run is
+    /// halted, and the entry of that is put into `other`.
     pub fn take_turn(
         &mut self,
         apps: &mut [Box<dyn App>],
         pid: Pid,
         origin: Origin,
-        stimulus: Stimulus,
-        made: &mut Entry,
-    )
+        turn: &mut Turn,
+        other: &mut Entry,
+    ) -> bool
         requires least { 4 ≤ pid.0 }
         requires few { self.old.applications ≤ 16 }
         requires present { pid.0 < 4 + length apps.old }
@@ -82,50 +84,47 @@ impl KernelFields {
         requires draws { debt self.old ≤ 1 + 8 * (10000 * self.old.inputs + self.old.work) }
         requires distinct { IsDistinct eqb (numbers self.old.scheduler.state.processes) }
         requires frames { HoldsFrames self.old.memory.contents self.old.packets.frames }
-        ensures machine { within_limit (machine_of self.old) (turn_taken pid.0 origin stimulus (says_of says apps.old pid.0 (stimulus ∷ [])) (machine_of self.old)) ≡ (machine_of self.new, Some made.new) }
+        ensures taken { result ≡ true → within_limit (machine_of self.old) (turn_taken pid.0 origin turn.old.stimulus (says_of says apps.old pid.0 (turn.old.stimulus ∷ [])) (machine_of self.old)) ≡ (machine_of self.new, Some (entry_of turn.new)) }
+        ensures halts { result ≡ false → within_limit (machine_of self.old) (turn_taken pid.0 origin turn.old.stimulus (says_of says apps.old pid.0 (turn.old.stimulus ∷ [])) (machine_of self.old)) ≡ (machine_of self.new, Some other.new) }
         ensures left { entries_left_in self.new < entries_left_in self.old }
-        ensures halted { self.new.halted ≡ is_halt made.new }
+        ensures halted { self.new.halted ≡ not result }
         ensures clock { self.new.clock ≡ self.old.clock }
         ensures order { IsInOrder self.new }
         ensures kept { (self.new.inputs ≡ self.old.inputs) × (self.new.scheduler.state.applications ≡ self.old.scheduler.state.applications) }
-        ensures law { (p : ℕ) (next : Told) (later : List Told) →
-            says_of says apps.new p (next ∷ later) ≡ says_of says apps.old p (heard p (made.new ∷ []) ++ (next ∷ later)) }
-        ensures others { (p : ℕ) → 4 ≤ p → heard p (made.new ∷ []) ≡ [] → slice_get apps.new (p - 4) ≡ slice_get apps.old (p - 4) }
+        ensures law { result ≡ true → (p : ℕ) (next : Told) (later : List Told) →
+            says_of says apps.new p (next ∷ later) ≡ says_of says apps.old p (heard p (entry_of turn.new ∷ []) ++ (next ∷ later)) }
+        ensures others { result ≡ true → (p : ℕ) → 4 ≤ p → heard p (entry_of turn.new ∷ []) ≡ [] → slice_get apps.new (p - 4) ≡ slice_get apps.old (p - 4) }
+        ensures unasked { result ≡ false → (apps.new ≡ apps.old) × (other.new ≡ Entry.Halt) }
+        ensures unmade { result ≡ true → other.new ≡ other.old }
     {
         if self.work == WORK_LIMIT {
             self.halted = true;
-            *made = Entry::Halt;
-            return;
+            *other = Entry::Halt;
+            return false;
         }
         self.work += 1;
-        // A stimulus and a call are large: the entry's own are used.
-        *made = Entry::Turn {
-            pid,
-            origin,
-            stimulus,
-            call: Call::Wait,
-        };
-        if let Entry::Turn { stimulus, call, .. } = made {
-            *call = ask(apps, pid, stimulus);
-            self.carry_out(pid, call);
-        }
+        turn.pid = pid;
+        turn.origin = origin;
+        turn.call = ask(apps, pid, &turn.stimulus);
+        self.carry_out(pid, &turn.call);
+        true
     }
 
-    /// Whether a round begins. Else the run is halted, and the entry of that is put into `made`.
-    pub fn begin_round(&mut self, made: &mut Entry) -> bool
+    /// Whether a round begins. Else the run is halted, and the entry of that is put into `other`.
+    pub fn begin_round(&mut self, other: &mut Entry) -> bool
         requires order { IsInOrder self.old }
         requires running { self.old.halted ≡ false }
         requires nothing_shown { self.old.unshown ≡ none_unshown }
         ensures begins { result ≡ true → within_limit (machine_of self.old) (silent (with_more_work (machine_of self.old))) ≡ silent (machine_of self.new) }
-        ensures halts { result ≡ false → within_limit (machine_of self.old) (silent (with_more_work (machine_of self.old))) ≡ (machine_of self.new, Some made.new) }
+        ensures halts { result ≡ false → within_limit (machine_of self.old) (silent (with_more_work (machine_of self.old))) ≡ (machine_of self.new, Some other.new) }
         ensures order { IsInOrder self.new }
         ensures kept { self.new ≡ record self.old { work = self.new.work; halted = self.new.halted } }
-        ensures more { result ≡ true → (self.new.halted ≡ false) × (self.new.work ≡ self.old.work + 1) × (made.new ≡ made.old) }
-        ensures halted { result ≡ false → (self.new.halted ≡ true) × (made.new ≡ Entry.Halt) × (entries_left_in self.new < entries_left_in self.old) }
+        ensures more { result ≡ true → (self.new.halted ≡ false) × (self.new.work ≡ self.old.work + 1) × (other.new ≡ other.old) }
+        ensures halted { result ≡ false → (self.new.halted ≡ true) × (other.new ≡ Entry.Halt) × (entries_left_in self.new < entries_left_in self.old) }
     {
         if self.work == WORK_LIMIT {
             self.halted = true;
-            *made = Entry::Halt;
+            *other = Entry::Halt;
             return false;
         }
         self.work += 1;

@@ -11,6 +11,7 @@ use mote_types::event::ETIMER;
 impl KernelFields {
     /// Makes such a round in one go, where the next one is such a round: it begins, etimer is polled, and there is rest.
     /// Else nothing is done.
+    #[inline]
     pub fn pass_idle_round(&mut self) -> bool
         requires order { IsInOrder self.old }
         requires running { self.old.halted ≡ false }

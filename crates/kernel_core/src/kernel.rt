@@ -14,6 +14,7 @@ ghost use Rattle.kernel_core.specs.Mote.{TakesEntry};
 use crate::config::Config;
 use crate::fields::KernelFields;
 use crate::step::{Reached, Step};
+use crate::turn::Turn;
 use crate::unshown::Unshown;
 use device_core::packet_queue::PacketQueue;
 use device_core::serial_line::SerialLine;
@@ -166,38 +167,46 @@ impl Kernel {
         ensures inputs { self.new.inputs ≡ self.old.inputs }
         ensures progress { TakesEntry result self.old self.new }
     {
-        let mut made = Entry::Halt;
-        match self.step_to(apps, &mut made) {
-            Reached::Made => Step::Entry(made),
+        let mut turn = Turn::none_yet();
+        let mut other = Entry::Halt;
+        match self.step_to(apps, &mut turn, &mut other) {
+            Reached::Turn => Step::Entry(turn.into_entry()),
+            Reached::Other => Step::Entry(other),
             Reached::Rest => Step::Rest,
             Reached::Halted => Step::Halted,
         }
     }
 
-    /// Works as `step`, and puts the entry that is made into `made`. Where none is made, nothing is put there.
-    pub fn step_to(&mut self, apps: &mut [Box<dyn App>], made: &mut Entry) -> Reached
+    /// Works as `step`, and puts the entry that is made into a place: a turn into `turn`, any other entry into `other`.
+    /// Where no turn is taken, `turn` may hold what was told to a process of the kernel.
+    pub fn step_to(
+        &mut self,
+        apps: &mut [Box<dyn App>],
+        turn: &mut Turn,
+        other: &mut Entry,
+    ) -> Reached
         requires boxes { length apps.old ≡ self.old.machine.scheduler.applications }
-        ensures machine { GoesOn (λ p stimulus. says_of says apps.old p (stimulus ∷ [])) self.old.machine (stepped result made.new) self.new.machine }
+        ensures machine { GoesOn (λ p stimulus. says_of says apps.old p (stimulus ∷ [])) self.old.machine (stepped result turn.new other.new) self.new.machine }
         ensures law { (p : ℕ) (next : Told) (later : List Told) →
-            says_of says apps.new p (next ∷ later) ≡ says_of says apps.old p (heard p (made_by (stepped result made.new)) ++ (next ∷ later)) }
-        ensures others { (p : ℕ) → 4 ≤ p → heard p (made_by (stepped result made.new)) ≡ [] → slice_get apps.new (p - 4) ≡ slice_get apps.old (p - 4) }
-        ensures halted { self.new.machine.is_halted ≡ (self.old.machine.is_halted || list_any is_halt (made_by (stepped result made.new))) }
+            says_of says apps.new p (next ∷ later) ≡ says_of says apps.old p (heard p (made_by (stepped result turn.new other.new)) ++ (next ∷ later)) }
+        ensures others { (p : ℕ) → 4 ≤ p → heard p (made_by (stepped result turn.new other.new)) ≡ [] → slice_get apps.new (p - 4) ≡ slice_get apps.old (p - 4) }
+        ensures halted { self.new.machine.is_halted ≡ (self.old.machine.is_halted || list_any is_halt (made_by (stepped result turn.new other.new))) }
         ensures clock { self.new.machine.clock ≡ self.old.machine.clock }
         ensures applications { self.new.machine.scheduler.applications ≡ self.old.machine.scheduler.applications }
         ensures inputs { self.new.inputs ≡ self.old.inputs }
-        ensures progress { TakesEntry (stepped result made.new) self.old self.new }
-        ensures unmade { result ≢ Reached.Made → made.new ≡ made.old }
+        ensures progress { TakesEntry (stepped result turn.new other.new) self.old self.new }
+        ensures unmade { result ≢ Reached.Other → other.new ≡ other.old }
     {
         if self.fields.halted {
             return Reached::Halted;
         }
         if !self.fields.unshown.is_empty() {
-            self.fields.unshown.take_first(made);
-            return Reached::Made;
+            self.fields.unshown.take_first(other);
+            return Reached::Other;
         }
         if self.fields.pass_idle_round() {
             return Reached::Rest;
         }
-        self.fields.work_on(apps, made)
+        self.fields.work_on(apps, turn, other)
     }
 }

@@ -18,6 +18,7 @@ mod serial_process;
 pub mod step;
 mod timer_calls;
 mod timer_processes;
+pub mod turn;
 mod unshown;
 mod work;
 

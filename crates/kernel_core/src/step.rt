@@ -13,11 +13,13 @@ pub enum Step {
     Halted,
 }
 
-/// What a step came to, where its entry is put into a place that the caller lends.
+/// What a step came to, where its entry is put into one of two places that the caller lends.
 #[derive(Drop)]
 pub enum Reached {
-    /// An entry was made, and lies in that place.
-    Made,
+    /// An application took a turn, which lies in the place for turns.
+    Turn,
+    /// Another entry was made, and lies in the place for those.
+    Other,
     /// Nothing is left to be done without an input.
     Rest,
     /// The run was halted before; nothing follows.

@@ -11,46 +11,52 @@ ghost use Rattle.kernel_core.specs.Run.{GoesOn, heard, made as made_by, stepped}
 
 use crate::fields::KernelFields;
 use crate::step::Reached;
+use crate::turn::Turn;
 use mote_types::app::App;
 use mote_types::entry::Entry;
-use mote_types::event::Stimulus;
 use process_core::ready::Ready;
 
 impl KernelFields {
-    /// Does one job after the other, until one makes an entry, which is put into `made`, or there is rest.
-    pub fn work_on(&mut self, apps: &mut [Box<dyn App>], made: &mut Entry) -> Reached
+    /// Does one job after the other, until one makes an entry, which is put into one of the places, or there is rest.
+    pub fn work_on(
+        &mut self,
+        apps: &mut [Box<dyn App>],
+        turn: &mut Turn,
+        other: &mut Entry,
+    ) -> Reached
         requires boxes { length apps.old ≡ self.old.scheduler.state.applications }
         requires order { IsInOrder self.old }
         requires running { self.old.halted ≡ false }
         requires nothing_shown { self.old.unshown ≡ none_unshown }
-        ensures machine { GoesOn (λ p stimulus. says_of says apps.old p (stimulus ∷ [])) (machine_of self.old) (stepped result made.new) (machine_of self.new) }
+        ensures machine { GoesOn (λ p stimulus. says_of says apps.old p (stimulus ∷ [])) (machine_of self.old) (stepped result turn.new other.new) (machine_of self.new) }
         ensures law { (p : ℕ) (next : Told) (later : List Told) →
-            says_of says apps.new p (next ∷ later) ≡ says_of says apps.old p (heard p (made_by (stepped result made.new)) ++ (next ∷ later)) }
-        ensures others { (p : ℕ) → 4 ≤ p → heard p (made_by (stepped result made.new)) ≡ [] → slice_get apps.new (p - 4) ≡ slice_get apps.old (p - 4) }
-        ensures halted { self.new.halted ≡ list_any is_halt (made_by (stepped result made.new)) }
+            says_of says apps.new p (next ∷ later) ≡ says_of says apps.old p (heard p (made_by (stepped result turn.new other.new)) ++ (next ∷ later)) }
+        ensures others { (p : ℕ) → 4 ≤ p → heard p (made_by (stepped result turn.new other.new)) ≡ [] → slice_get apps.new (p - 4) ≡ slice_get apps.old (p - 4) }
+        ensures halted { self.new.halted ≡ list_any is_halt (made_by (stepped result turn.new other.new)) }
         ensures clock { self.new.clock ≡ self.old.clock }
         ensures applications { self.new.scheduler.state.applications ≡ self.old.scheduler.state.applications }
         ensures inputs { self.new.inputs ≡ self.old.inputs }
-        ensures progress { TakesEntry (stepped result made.new) (mote_of self.old) (mote_of self.new) }
+        ensures progress { TakesEntry (stepped result turn.new other.new) (mote_of self.old) (mote_of self.new) }
         ensures order { IsInOrder self.new }
-        ensures unmade { result ≢ Reached.Made → made.new ≡ made.old }
+        ensures unmade { result ≢ Reached.Other → other.new ≡ other.old }
     {
-        let mut told = Stimulus::Callback(0);
         'job: loop {
-            match self.next_job(&mut told) {
+            match self.next_job(&mut turn.stimulus) {
                 Ready::Give { pid, origin } => {
-                    self.take_turn(apps, pid, origin, told, made);
-                    return Reached::Made;
+                    if self.take_turn(apps, pid, origin, turn, other) {
+                        return Reached::Turn;
+                    }
+                    return Reached::Other;
                 }
-                Ready::Serve(pid) => self.serve_told(pid, &told),
+                Ready::Serve(pid) => self.serve_told(pid, &turn.stimulus),
                 Ready::Callback {
                     pid,
                     number,
                     arming,
                 } => self.expire(pid, number, arming),
                 Ready::Round => {
-                    if !self.begin_round(made) {
-                        return Reached::Made;
+                    if !self.begin_round(other) {
+                        return Reached::Other;
                     }
                 }
                 Ready::Rest => return Reached::Rest,

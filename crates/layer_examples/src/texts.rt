@@ -56,7 +56,7 @@ serial 68690d0a: 104 105 13 10|serial 0A: 10|serial aBCdeF09: 171 205 239 9|fram
     let mut input = Input::Tick(7);
     for case in cases.split("|") {
         let (line, numbers) = case.split_once(": ").unwrap_or((case, ""));
-        let mut expected = LineBuf::new();
+        let mut expected = ArrayVec::<u8, 256>::new();
         for number in numbers.split(" ") {
             let _ = expected.try_push(number.parse().unwrap_or(0));
         }
@@ -262,7 +262,8 @@ pub(crate) fn check_text(rt: &impl Abort, line: &[u8], text: &str) {
 
 /// The buffer holds another line before.
 fn check(rt: &impl Abort, entry: Entry, text: &str) {
-    let mut line: LineBuf = bytes(b"> tick 1\n");
+    let mut line = LineBuf::new();
+    line.push(b"> tick 1\n");
     entry_text(&entry, &mut line);
     check_text(rt, line.as_slice(), text);
 }
@@ -292,7 +293,8 @@ fn lines_of_entries_that_no_run_has(rt: HostRuntime) {
 }
 
 fn check_end(rt: &impl Abort, end: End, text: &str) {
-    let mut line: LineBuf = bytes(b"halt\n");
+    let mut line = LineBuf::new();
+    line.push(b"halt\n");
     final_text(end, &mut line);
     check_text(rt, line.as_slice(), text);
 }

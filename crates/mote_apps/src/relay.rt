@@ -56,34 +56,44 @@ impl Relay {
         }
     }
 
-    /// The next stage, and the call, after an answer.
-    fn step(&self, reply: &Reply) -> (Stage, Call)
-        ensures stage { result.0 ≡ (step_at self.now.stage self.now.len reply.now).0 }
-        ensures call { result.1 ≡ (step_at self.now.stage self.now.len reply.now).1 }
+    /// Goes on to the next stage after an answer, by the call that leads to it.
+    fn step(&mut self, reply: &Reply) -> Call
+        ensures call { result ≡ (step_at self.old.stage self.old.len reply.now).1 }
+        ensures state { self.new ≡ record self.old { stage = (step_at self.old.stage self.old.len reply.now).0 } }
     {
         match (self.stage, reply) {
-            (Stage::Allocating, Reply::Done) => (
-                Stage::ReadingFront,
-                Call::PacketRead(0, self.len.min(CHUNK)),
-            ),
-            (Stage::ReadingFront, Reply::Bytes(bytes)) => (
-                Stage::WritingFront,
-                Call::MmemWrite(0, 0, chunk_of(bytes.as_slice())),
-            ),
-            (Stage::WritingFront, Reply::Done) if self.len > CHUNK => (
-                Stage::ReadingRest,
-                Call::PacketRead(u32::from(CHUNK), self.len - CHUNK),
-            ),
-            (Stage::ReadingRest, Reply::Bytes(bytes)) => (
-                Stage::WritingRest,
-                Call::MmemWrite(0, u32::from(CHUNK), chunk_of(bytes.as_slice())),
-            ),
-            (Stage::WritingFront | Stage::WritingRest, Reply::Done) => {
-                (Stage::Sending, Call::PacketSend(0))
+            (Stage::Allocating, Reply::Done) => {
+                self.stage = Stage::ReadingFront;
+                Call::PacketRead(0, self.len.min(CHUNK))
             }
-            (Stage::Allocating | Stage::Freeing, _) => (Stage::Finishing, Call::PacketDone),
-            (Stage::Finishing | Stage::Idle, _) => (Stage::Idle, Call::Wait),
-            _ => (Stage::Freeing, Call::MmemFree(0)),
+            (Stage::ReadingFront, Reply::Bytes(bytes)) => {
+                self.stage = Stage::WritingFront;
+                Call::MmemWrite(0, 0, chunk_of(bytes.as_slice()))
+            }
+            (Stage::WritingFront, Reply::Done) if self.len > CHUNK => {
+                self.stage = Stage::ReadingRest;
+                Call::PacketRead(u32::from(CHUNK), self.len - CHUNK)
+            }
+            (Stage::ReadingRest, Reply::Bytes(bytes)) => {
+                self.stage = Stage::WritingRest;
+                Call::MmemWrite(0, u32::from(CHUNK), chunk_of(bytes.as_slice()))
+            }
+            (Stage::WritingFront | Stage::WritingRest, Reply::Done) => {
+                self.stage = Stage::Sending;
+                Call::PacketSend(0)
+            }
+            (Stage::Allocating | Stage::Freeing, _) => {
+                self.stage = Stage::Finishing;
+                Call::PacketDone
+            }
+            (Stage::Finishing | Stage::Idle, _) => {
+                self.stage = Stage::Idle;
+                Call::Wait
+            }
+            _ => {
+                self.stage = Stage::Freeing;
+                Call::MmemFree(0)
+            }
         }
     }
 }
@@ -107,11 +117,7 @@ impl App for Relay {
                 self.stage = Stage::Allocating;
                 Call::MmemAlloc(0, *n)
             }
-            Stimulus::Answer(reply) => {
-                let (stage, call) = self.step(reply);
-                self.stage = stage;
-                call
-            }
+            Stimulus::Answer(reply) => self.step(reply),
             _ => Call::Wait,
         }
     }

@@ -8,9 +8,11 @@ ghost use Rattle.mote_run.specs.Code.Writing.{WritesOn};
 use crate::device::write_all;
 use crate::run::RunFault;
 use mote_text::line::{LineBuf, MOST_OF_LINE};
-use mote_text::transcript::{push_entry, push_input_line};
+use mote_text::transcript::{push_entry, push_input_line, push_turn_line};
+use mote_types::call::Call;
 use mote_types::device::ByteSink;
 use mote_types::entry::{Entry, Input};
+use mote_types::event::{Origin, Pid, Stimulus};
 
 /// The text that was made and is not written yet.
 #[derive(Drop)]
@@ -72,6 +74,27 @@ impl Due {
         Ok(())
     }
 
+    /// Puts the line of a turn behind it, as `put_entry` does.
+    pub fn put_turn<K: ByteSink>(
+        &mut self,
+        sink: &mut K,
+        pid: Pid,
+        origin: Origin,
+        stimulus: &Stimulus,
+        call: &Call,
+    ) -> Result<(), RunFault>
+        requires countable { K.failure_count sink.old < 2 ^ 64 - 1 }
+        ensures written { OnOk result (K.is_named → WritesOn (K.given sink.old) self.old.text.items (K.given sink.new) self.new.text.items (entry_line (MadeEntry.Turn pid origin stimulus.now call.now))) }
+        ensures cut_off { OnErr result (K.is_named → (lost : List ℕ) × WritesOn (K.given sink.old) self.old.text.items (K.given sink.new) lost (entry_line (MadeEntry.Turn pid origin stimulus.now call.now))) }
+        ensures succeeded { OnOk result (K.failure_count sink.new ≡ K.failure_count sink.old) }
+        ensures fault { IfErr result (λ fault. fault ≡ RunFault.Write) }
+        ensures failed { OnErr result (K.failure_count sink.new ≡ K.failure_count sink.old + 1) }
+    {
+        self.make_room(sink)?;
+        push_turn_line(pid, origin, stimulus, call, &mut self.text);
+        Ok(())
+    }
+
     /// Puts the line of an input that is handed in behind it, as `put_entry` does.
     pub fn put_input<K: ByteSink>(&mut self, sink: &mut K, input: &Input) -> Result<(), RunFault>
         requires countable { K.failure_count sink.old < 2 ^ 64 - 1 }
@@ -99,7 +122,7 @@ impl Due {
         if self.text.remaining_capacity() < text.len() {
             self.flush(sink)?;
         }
-        let _ = self.text.try_extend_from_slice(text);
+        self.text.push(text);
         Ok(())
     }
 }

@@ -4,7 +4,7 @@ ghost use Rattle.std.specs.Prelude.{◌≡◌, ◌<◌, ◌≤◌, ◌+◌, ◌-
 ghost use Rattle.mote_types.specs.Applications.{Applications, says_of};
 ghost use Rattle.mote_types.specs.declared.entry.Entry.{Entry as MadeEntry};
 ghost use Rattle.kernel_core.specs.Inputs.{fed, has_bytes, ticks_of};
-ghost use Rattle.kernel_core.specs.Run.{is_at_rest, is_still};
+ghost use Rattle.kernel_core.specs.Run.{entry_of, is_at_rest, is_still};
 ghost use Rattle.mote_run.specs.Code.Settling.{CutOff, IsTold, Settled, lines};
 ghost use Rattle.mote_run.specs.Code.Writing.{WritesOn};
 
@@ -12,7 +12,8 @@ use crate::due::Due;
 use crate::run::RunFault;
 use kernel_core::kernel::Kernel;
 use kernel_core::step::Reached;
-use mote_text::transcript::is_shown;
+use kernel_core::turn::Turn;
+use mote_text::transcript::{is_shown, is_turn_shown};
 use mote_types::app::App;
 use mote_types::device::ByteSink;
 use mote_types::entry::{Entry, Input};
@@ -35,6 +36,26 @@ fn write_entry<K: ByteSink>(
         return Ok(());
     }
     due.put_entry(sink, entry)
+}
+
+/// Writes the line of a turn, if it is shown, or puts it to what is due.
+fn write_turn<K: ByteSink>(
+    sink: &mut K,
+    due: &mut Due,
+    turn: &Turn,
+    quiet: bool,
+) -> Result<(), RunFault>
+    requires countable { K.failure_count sink.old < 2 ^ 64 - 1 }
+    ensures written { OnOk result (K.is_named → WritesOn (K.given sink.old) due.old.text.items (K.given sink.new) due.new.text.items (lines quiet (entry_of turn.now ∷ []))) }
+    ensures cut_off { OnErr result (K.is_named → (lost : List ℕ) × WritesOn (K.given sink.old) due.old.text.items (K.given sink.new) lost (lines quiet (entry_of turn.now ∷ []))) }
+    ensures succeeded { OnOk result (K.failure_count sink.new ≡ K.failure_count sink.old) }
+    ensures fault { IfErr result (λ fault. fault ≡ RunFault.Write) }
+    ensures failed { OnErr result (K.failure_count sink.new ≡ K.failure_count sink.old + 1) }
+{
+    if !is_turn_shown(&turn.call, quiet) {
+        return Ok(());
+    }
+    due.put_turn(sink, turn.pid, turn.origin, &turn.stimulus, &turn.call)
 }
 
 /// Writes the line of an input that was handed in, if it is shown, or puts it to what is due.
@@ -79,10 +100,12 @@ pub fn settle<K: ByteSink>(
     ensures fault { IfErr result (λ fault. fault ≡ RunFault.Write) }
     ensures failed { OnErr result (K.failure_count sink.new ≡ K.failure_count sink.old + 1) }
 {
-    let mut made = Entry::Halt;
+    let mut turn = Turn::none_yet();
+    let mut other = Entry::Halt;
     'entry: loop {
-        match kernel.step_to(apps, &mut made) {
-            Reached::Made => write_entry(sink, due, &made, quiet)?,
+        match kernel.step_to(apps, &mut turn, &mut other) {
+            Reached::Turn => write_turn(sink, due, &turn, quiet)?,
+            Reached::Other => write_entry(sink, due, &other, quiet)?,
             Reached::Rest => return Ok(()),
             Reached::Halted => return Ok(()),
         }

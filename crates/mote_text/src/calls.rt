@@ -5,7 +5,7 @@ ghost use Rattle.std.specs.Prelude.{◌≡◌, ◌≤◌, ◌+◌, ◌++◌, [],
 ghost use Rattle.mote_text.specs.EntryText.{spaced, hex, payload_word, call_words};
 ghost use Rattle.mote_text.specs.Code.CallWords.{argument_words};
 
-use crate::line::{LineBuf, push_bytes, push_hex, push_number};
+use crate::line::{LineBuf, push_hex, push_number};
 use crate::words::push_payload;
 use mote_types::call::Call;
 use mote_types::event::Payload;
@@ -265,7 +265,7 @@ pub(crate) fn push_call(line: &mut LineBuf, call: &Call)
     ensures text { line.new.items ≡ line.old.items ++ spaced (codes "->" ∷ call_words call.now) }
     ensures length { length line.new.items ≤ length line.old.items + 315 }
 {
-    push_bytes(line, b" -> ");
-    push_bytes(line, word_of(call).as_bytes());
+    line.push(b" -> ");
+    line.push(word_of(call).as_bytes());
     push_arguments(line, call);
 }

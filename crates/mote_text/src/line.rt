@@ -5,37 +5,90 @@ ghost use Rattle.std.specs.Prelude.{◌≡◌, ◌≤◌, ◌<◌, ◌+◌, ◌*
 ghost use Rattle.hex.specs.Hex.{encode_lower};
 ghost use Rattle.mote_text.specs.EntryText.{hex, spaced};
 
-use arrayvec::ArrayVec;
 use itoa::Buffer;
+use std::marker::Model;
 
-/// Room for lines of a transcript.
-pub type LineBuf = ArrayVec<u8, 4_096>;
+/// How many bytes a `LineBuf` holds.
+const CAPACITY: usize = 4_096;
 
 /// No line of a transcript is longer, with its end.
 pub const MOST_OF_LINE: usize = 640;
 
-/// What stands where digits, or the bytes that they are, will be written.
-pub(crate) static BLANKS: [u8; 512] = [0; 512];
-
-/// Appends these bytes.
-#[inline(always)]
-pub(crate) fn push_bytes(line: &mut LineBuf, bytes: &[u8])
-    requires { length line.old.items + length bytes.now ≤ 4096 }
-    ensures { line.new.items ≡ line.old.items ++ bytes.now }
-{
-    let _ = line.try_extend_from_slice(bytes);
+/// Room for lines of a transcript.
+///
+/// No `ArrayVec`: that writes blanks over all that it clears, and lends no place for digits before blanks stand there.
+#[derive(Drop)]
+pub struct LineBuf {
+    bytes: [u8; CAPACITY],
+    len: usize,
 }
 
-/// Appends two lower case hex digits for each byte.
-pub(crate) fn push_digits(line: &mut LineBuf, bytes: &[u8])
-    requires few { length bytes.now ≤ 256 }
-    requires room { length line.old.items + 2 * length bytes.now ≤ 4096 }
-    ensures text { line.new.items ≡ line.old.items ++ encode_lower bytes.now }
-    ensures length { length line.new.items ≡ length line.old.items + 2 * length bytes.now }
-{
-    let start = line.len();
-    push_bytes(line, &BLANKS[..2 * bytes.len()]);
-    let _ = hex::encode_to_slice(bytes, &mut line.as_mut_slice()[start..]);
+impl Model for LineBuf {
+    ghost use Rattle.std.specs.Prelude.{◌≤◌, ℕ, take};
+    ghost use Rattle.arrayvec.specs.ArrayVec.{ArrayVec as Items};
+
+    ghost Value = { Items ℕ };
+
+    ghost view = { λ line. record { items = take line.len line.bytes } };
+
+    ghost invariant = { λ line. line.len ≤ 4096 };
+}
+
+impl LineBuf {
+    pub fn new() -> Self
+        ensures { result.items ≡ [] }
+    {
+        LineBuf {
+            bytes: [0; CAPACITY],
+            len: 0,
+        }
+    }
+
+    /// How many more bytes fit.
+    #[inline]
+    pub fn remaining_capacity(&self) -> usize
+        ensures { result + length self.now.items ≡ 4096 }
+    {
+        CAPACITY - self.len
+    }
+
+    #[inline]
+    pub fn as_slice(&self) -> &[u8]
+        ensures value { result.now ≡ self.now.items }
+        ensures fits { length result.now ≤ 4096 }
+    {
+        &self.bytes[..self.len]
+    }
+
+    #[inline]
+    pub fn clear(&mut self)
+        ensures { self.new.items ≡ [] }
+    {
+        self.len = 0;
+    }
+
+    /// Appends these bytes.
+    #[inline(always)]
+    pub fn push(&mut self, bytes: &[u8])
+        requires { length self.old.items + length bytes.now ≤ 4096 }
+        ensures { self.new.items ≡ self.old.items ++ bytes.now }
+    {
+        let end = self.len + bytes.len();
+        self.bytes[self.len..end].copy_from_slice(bytes);
+        self.len = end;
+    }
+
+    /// Appends two lower case hex digits for each byte.
+    #[inline]
+    pub(crate) fn push_digits(&mut self, bytes: &[u8])
+        requires { length self.old.items + 2 * length bytes.now ≤ 4096 }
+        ensures text { self.new.items ≡ self.old.items ++ encode_lower bytes.now }
+        ensures length { length self.new.items ≡ length self.old.items + 2 * length bytes.now }
+    {
+        let end = self.len + 2 * bytes.len();
+        let _ = hex::encode_to_slice(bytes, &mut self.bytes[self.len..end]);
+        self.len = end;
+    }
 }
 
 /// Appends this word.
@@ -45,8 +98,8 @@ pub(crate) fn push_word(line: &mut LineBuf, word: &str)
     ensures text { line.new.items ≡ line.old.items ++ spaced (word.now ∷ []) }
     ensures length { length line.new.items ≡ length line.old.items + 1 + length word.now }
 {
-    push_bytes(line, b" ");
-    push_bytes(line, word.as_bytes());
+    line.push(b" ");
+    line.push(word.as_bytes());
 }
 
 /// Appends this number in decimal: at most 20 digits.
@@ -68,8 +121,8 @@ pub(crate) fn push_hex(line: &mut LineBuf, bytes: &[u8])
     if bytes.is_empty() {
         push_word(line, "-");
     } else {
-        push_bytes(line, b" ");
-        push_digits(line, bytes);
+        line.push(b" ");
+        line.push_digits(bytes);
     }
 }
 

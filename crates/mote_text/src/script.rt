@@ -6,7 +6,6 @@ ghost use Rattle.std.specs.List.{list_all};
 ghost use Rattle.std.specs.Str.Parse.{digits_value};
 ghost use Rattle.mote_text.specs.Script.{line_said, read_bytes, read_frame, read_line, read_number, read_serial, read_tick, some_if};
 
-use crate::line::BLANKS;
 use arrayvec::ArrayVec;
 use mote_types::entry::Input;
 use thiserror::Error;
@@ -80,6 +79,9 @@ fn read_tick(line: &[u8], input: &mut Input) -> bool
     true
 }
 
+/// What stands in a place until the bytes that digits write are put there.
+static BLANKS: [u8; 512] = [0; 512];
+
 /// Gives the place so many bytes, whatever they are.
 fn resize<const N: usize>(bytes: &mut ArrayVec<u8, N>, len: usize)
     requires some { len ≤ N }
@@ -105,6 +107,8 @@ fn read_bytes<const N: usize>(digits: &[u8], bytes: &mut ArrayVec<u8, N>) -> boo
 }
 
 /// Puts the bytes of a line `serial HEX` into the place. Answers whether it is one.
+// Out of the way of ticks, which most lines are.
+#[inline(never)]
 fn read_serial(line: &[u8], input: &mut Input) -> bool
     ensures { some_if result input.new ≡ read_serial line.now }
 {
@@ -121,6 +125,8 @@ fn read_serial(line: &[u8], input: &mut Input) -> bool
 }
 
 /// Puts the bytes of a line `frame HEX` into the place. Answers whether it is one.
+// As `read_serial`.
+#[inline(never)]
 fn read_frame(line: &[u8], input: &mut Input) -> bool
     ensures { some_if result input.new ≡ read_frame line.now }
 {

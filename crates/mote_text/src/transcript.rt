@@ -1,31 +1,19 @@
 //! The lines of a transcript.
 #![tactic(auto, unfolding(crate::specs::EntryText::spaced))]
 
-ghost use Rattle.std.specs.Prelude.{◌≡◌, ◌≤◌, ◌+◌, ◌++◌, [], ◌∷◌, length, codes, decimal};
+ghost use Rattle.std.specs.Prelude.{◌≡◌, ◌≤◌, ◌+◌, ◌++◌, ◌||◌, not, length};
 ghost use Rattle.mote_types.specs.declared.entry.Entry.{Entry as Made};
-ghost use Rattle.mote_text.specs.EntryText.{entry_line, spaced, origin_word, stimulus_words, call_words};
-ghost use Rattle.mote_text.specs.Transcript.{final_line, is_shown};
+ghost use Rattle.mote_text.specs.EntryText.{entry_line, spaced};
+ghost use Rattle.mote_text.specs.Transcript.{final_line, is_shown, prints_or_sends};
 
 use crate::calls::push_call;
-use crate::line::{LineBuf, MOST_OF_LINE, push_bytes, push_number};
+use crate::line::{LineBuf, MOST_OF_LINE, push_number};
 use crate::script::End;
 use crate::words::{push_input, push_note, push_origin, push_stimulus};
 use itoa::Buffer;
 use mote_types::call::Call;
 use mote_types::entry::{Entry, Input, Note};
 use mote_types::event::{Origin, Pid, Stimulus};
-
-/// Appends the words of a turn.
-fn push_turn(line: &mut LineBuf, pid: Pid, origin: Origin, stimulus: &Stimulus, call: &Call)
-    requires { length line.old.items + 639 ≤ 4096 }
-    ensures text { line.new.items ≡ line.old.items ++ (decimal pid.0 ++ spaced (origin_word origin ∷ (stimulus_words stimulus.now ++ codes "->" ∷ call_words call.now))) }
-    ensures length { length line.new.items ≤ length line.old.items + 639 }
-{
-    push_bytes(line, Buffer::new().format(pid.0).as_bytes());
-    push_origin(line, origin);
-    push_stimulus(line, stimulus);
-    push_call(line, call);
-}
 
 /// Appends the line of an input that is handed in, with its end.
 ///
@@ -35,9 +23,30 @@ pub fn push_input_line(input: &Input, line: &mut LineBuf)
     requires { length line.old.items + MOST_OF_LINE ≤ 4096 }
     ensures { line.new.items ≡ line.old.items ++ entry_line (Made.Input input.now) }
 {
-    push_bytes(line, b">");
+    line.push(b">");
     push_input(line, input);
-    push_bytes(line, b"\n");
+    line.push(b"\n");
+}
+
+/// Appends the line of a turn, with its end.
+///
+/// Source: the transcript format is this project's profile.
+#[tactic(auto, unfolding(crate::specs::EntryText::entry_line, crate::specs::EntryText::line_of, crate::specs::EntryText::spaced))]
+pub fn push_turn_line(
+    pid: Pid,
+    origin: Origin,
+    stimulus: &Stimulus,
+    call: &Call,
+    line: &mut LineBuf,
+)
+    requires { length line.old.items + MOST_OF_LINE ≤ 4096 }
+    ensures { line.new.items ≡ line.old.items ++ entry_line (Made.Turn pid origin stimulus.now call.now) }
+{
+    line.push(Buffer::new().format(pid.0).as_bytes());
+    push_origin(line, origin);
+    push_stimulus(line, stimulus);
+    push_call(line, call);
+    line.push(b"\n");
 }
 
 /// Appends the line of an entry, with its end.
@@ -55,14 +64,14 @@ pub fn push_entry(entry: &Entry, line: &mut LineBuf)
             origin,
             stimulus,
             call,
-        } => push_turn(line, *pid, *origin, stimulus, call),
+        } => return push_turn_line(*pid, *origin, stimulus, call, line),
         Entry::Note(note) => {
-            push_bytes(line, b"note");
+            line.push(b"note");
             push_note(line, note);
         }
-        Entry::Halt => push_bytes(line, b"halt"),
+        Entry::Halt => line.push(b"halt"),
     }
-    push_bytes(line, b"\n");
+    line.push(b"\n");
 }
 
 /// Puts the line of an entry, with its end, in place of what is in the buffer.
@@ -85,12 +94,21 @@ pub fn final_text(end: End, line: &mut LineBuf)
     match end {
         End::Finished | End::Halted => {}
         End::BadLine(number) => {
-            push_bytes(line, b"bad line");
+            line.push(b"bad line");
             push_number(line, u64::from(number));
-            push_bytes(line, b"\n");
+            line.push(b"\n");
         }
-        End::TooLong => push_bytes(line, b"too long\n"),
+        End::TooLong => line.push(b"too long\n"),
     }
+}
+
+/// Whether a transcript shows a turn with this call. A quiet one shows those whose call is `Print` or `PacketSend`.
+///
+/// Source: the transcript format is this project's profile.
+pub fn is_turn_shown(call: &Call, quiet: bool) -> bool
+    ensures { result ≡ (not quiet || prints_or_sends call.now) }
+{
+    !quiet || matches!(call, Call::Print(_) | Call::PacketSend(_))
 }
 
 /// Whether a transcript shows this entry. A quiet one shows the turns whose call is `Print` or `PacketSend`, the frames
@@ -100,13 +118,9 @@ pub fn final_text(end: End, line: &mut LineBuf)
 pub fn is_shown(entry: &Entry, quiet: bool) -> bool
     ensures { result ≡ is_shown entry.now quiet }
 {
-    let is_kept = matches!(
-        entry,
-        Entry::Turn {
-            call: Call::Print(_) | Call::PacketSend(_),
-            ..
-        } | Entry::Note(Note::Sent(_))
-            | Entry::Halt
-    );
-    !quiet || is_kept
+    match entry {
+        Entry::Turn { call, .. } => is_turn_shown(call, quiet),
+        Entry::Note(Note::Sent(_)) | Entry::Halt => true,
+        Entry::Input(_) | Entry::Note(Note::Lost(_)) => !quiet,
+    }
 }

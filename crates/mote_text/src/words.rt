@@ -5,7 +5,7 @@ ghost use Rattle.std.specs.Prelude.{◌≡◌, ◌≤◌, ◌+◌, ◌++◌, [],
 ghost use Rattle.mote_types.specs.Codes.{refusal_number};
 ghost use Rattle.mote_text.specs.EntryText.{spaced, hex, flag_word, payload_word, origin_word, stats_words, reply_words, stimulus_words, input_words, note_words};
 
-use crate::line::{LineBuf, push_digits, push_number, push_numbered, push_shown, push_word};
+use crate::line::{LineBuf, push_number, push_numbered, push_shown, push_word};
 use mote_types::entry::{Input, Note};
 use mote_types::event::{Origin, Payload, Stimulus};
 use mote_types::refusal::Refusal;
@@ -21,7 +21,7 @@ pub(crate) fn push_payload(line: &mut LineBuf, payload: &Payload)
         Payload::Num(n) => push_number(line, u64::from(*n)),
         Payload::Line(bytes) => {
             push_word(line, "x");
-            push_digits(line, bytes.as_slice());
+            line.push_digits(bytes.as_slice());
         }
     }
 }

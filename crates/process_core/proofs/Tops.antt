@@ -63,3 +63,13 @@ changed_last change frames f g some last e =
     subst
     (λ l. 0 < length l → f ≡ slice_index_or l (length l - 1) f → reverse (slice_set l (length l - 1) g) ≡ changed_top change (reverse l))
     (reverse-reverse frames) (changed_below change (reverse frames) f g e) some last
+
+below_changed : (change : Frame → Frame) (stack : List Frame) → drop 1 (changed_top change stack) ≡ drop 1 stack
+below_changed change [] = refl
+below_changed change (frame ∷ below) = refl
+
+-- the frames below the last one stay
+pub below_last : (frames : List Frame) (f g : Frame) → 0 < length frames → f ≡ slice_index_or frames (length frames - 1) f
+    → drop 1 (reverse (slice_set frames (length frames - 1) g)) ≡ drop 1 (reverse frames)
+below_last frames f g some last =
+    ap (drop 1) (changed_last (λ _. g) frames f g some last refl) ∙ below_changed (λ _. g) (reverse frames)

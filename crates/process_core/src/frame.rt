@@ -190,6 +190,16 @@ impl Frame {
             _ => First::Nothing,
         }
     }
+
+    /// The reply is put into the place.
+    pub(crate) fn take_reply(&mut self, place: &mut Reply)
+        ensures { place.new ≡ part.reply_of self.old }
+    {
+        match self {
+            Frame::Answer { reply, .. } => *place = mem::replace(reply, Reply::Done),
+            _ => *place = Reply::Done,
+        }
+    }
 }
 
 // The places of the stack that hold no frame.

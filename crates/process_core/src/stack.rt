@@ -101,6 +101,16 @@ fn take_first_in(frames: &mut [Frame]) -> First
     }
 }
 
+fn take_reply_in(frames: &mut [Frame], place: &mut Reply)
+    ensures value { place.new ≡ part.on_top Answered.Done part.reply_of (reverse frames.old) }
+    ensures left { drop 1 (reverse frames.new) ≡ drop 1 (reverse frames.old) }
+{
+    match frames.last_mut() {
+        Some(frame) => frame.take_reply(place),
+        None => *place = Reply::Done,
+    }
+}
+
 impl Stack {
     /// No open work.
     pub fn new() -> Stack
@@ -212,11 +222,14 @@ impl Stack {
         ensures value { told.new ≡ Told.Answer (part.on_top Answered.Done part.reply_of self.old) }
         ensures left { self.new ≡ drop 1 self.old }
     {
-        // Each arm fills the place by itself, so that a reply is moved once.
-        match self.frames.pop() {
-            Some(Frame::Answer { reply, .. }) => *told = Stimulus::Answer(reply),
-            _ => *told = Stimulus::Answer(Reply::Done),
+        // A stimulus that is an answer keeps its place, so that the reply alone is moved.
+        if !matches!(told, Stimulus::Answer(_)) {
+            *told = Stimulus::Answer(Reply::Done);
         }
+        if let Stimulus::Answer(place) = told {
+            take_reply_in(self.frames.as_mut_slice(), place);
+        }
+        self.drop_top();
     }
 
     /// The frames, the undermost first.

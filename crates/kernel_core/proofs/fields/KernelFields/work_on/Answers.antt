@@ -9,9 +9,13 @@ use Rattle.mote_types.specs.declared.event.Origin.{Origin}
 use Rattle.mote_types.specs.declared.event.Stimulus.{Stimulus}
 use Rattle.kernel_core.proofs.fields.KernelFields.work_on.Goals as goal
 
+pub returns-then-take_turn-clause-machine : goal.returns-then-take_turn-clause-machine
+returns-then-take_turn-clause-machine g c =
+    job_makes (then_job (c.job.invariant.so_far _) (c.in-Give.ensures.reached _)) (rw c.job.invariant.apps at c.take_turn.ensures.taken (search rules))
+
 pub returns-in-Give-clause-machine : goal.returns-in-Give-clause-machine
 returns-in-Give-clause-machine g c =
-    job_makes (then_job (c.job.invariant.so_far _) (c.in-Give.ensures.reached _)) (rw c.job.invariant.apps at c.take_turn.ensures.machine)
+    job_makes (then_job (c.job.invariant.so_far _) (c.in-Give.ensures.reached _)) (rw c.job.invariant.apps at c.take_turn.ensures.halts (search rules))
 
 pub job-preserved-in-Serve : goal.job-preserved-in-Serve
 job-preserved-in-Serve g c = record {
@@ -22,7 +26,7 @@ job-preserved-in-Serve g c = record {
   applications = search rules;
   clock = search rules;
   apps = search rules;
-  made = search rules;
+  other = search rules;
   left = search rules;
   so_far = λ answers. job_silently (then_job (c.job.invariant.so_far answers) (c.in-Serve.ensures.reached answers)) (c.serve_told.ensures.machine answers _);
   present =
@@ -46,7 +50,7 @@ job-preserved-in-Callback g c =
       applications = search rules;
       clock = search rules;
       apps = search rules;
-      made = search rules;
+      other = search rules;
       left = search rules;
       so_far = λ answers. job_silently (then_job (c.job.invariant.so_far answers) (c.in-Callback.ensures.reached answers)) (search (struck, rules));
       present = search rules;
@@ -59,7 +63,7 @@ job-preserved-in-Callback g c =
       applications = search rules;
       clock = search rules;
       apps = search rules;
-      made = search rules;
+      other = search rules;
       left = search rules;
       so_far = λ answers. job_silently (then_job (c.job.invariant.so_far answers) (c.in-Callback.ensures.reached answers)) (search (counts, rules));
       present = search rules;
@@ -85,7 +89,7 @@ job-preserved g c = record {
   applications = search rules;
   clock = search rules;
   apps = search rules;
-  made = search rules;
+  other = search rules;
   left = search rules;
   so_far = λ answers. job_silently (then_job (c.job.invariant.so_far answers) (c.in-Round.ensures.reached answers)) (c.begin_round.ensures.begins (search rules));
   present =

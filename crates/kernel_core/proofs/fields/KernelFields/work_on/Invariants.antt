@@ -13,7 +13,7 @@ invariant-job g l = record {
   applications : l.self.scheduler.state.applications ≡ l.fn.self.scheduler.state.applications;
   clock : l.self.clock ≡ l.fn.self.clock;
   apps : l.apps ≡ l.fn.apps;
-  made : l.made ≡ l.fn.made;
+  other : l.other ≡ l.fn.other;
   left : entries_left_in l.self ≤ entries_left_in l.fn.self;
   so_far : (answers : Answers) → GoesSilently answers (machine_of l.fn.self) (machine_of l.self);
   present : present l.self.scheduler.state ≤ present l.initial.self.scheduler.state;

@@ -1,0 +1,42 @@
+//! A turn in parts.
+
+ghost use Rattle.std.specs.Prelude.{◌≡◌};
+ghost use Rattle.kernel_core.specs.Run.{entry_of};
+
+use mote_types::call::Call;
+use mote_types::entry::Entry;
+use mote_types::event::{Origin, Pid, Stimulus};
+
+/// A turn of an application. Each part has a place of its own, so that a stimulus and a call, which are large, are put
+/// where they are to lie.
+#[derive(Drop)]
+pub struct Turn {
+    pub pid: Pid,
+    pub origin: Origin,
+    pub stimulus: Stimulus,
+    pub call: Call,
+}
+
+impl Turn {
+    /// A place for turns, in which none was taken.
+    pub fn none_yet() -> Turn {
+        Turn {
+            pid: Pid(0),
+            origin: Origin::Event,
+            stimulus: Stimulus::Callback(0),
+            call: Call::Wait,
+        }
+    }
+
+    /// The entry of this turn.
+    pub fn into_entry(self) -> Entry
+        ensures { result ≡ entry_of self }
+    {
+        Entry::Turn {
+            pid: self.pid,
+            origin: self.origin,
+            stimulus: self.stimulus,
+            call: self.call,
+        }
+    }
+}
