@@ -178,7 +178,7 @@ impl Kernel {
     }
 
     /// Works as `step`, and puts the entry that is made into a place: a turn into `turn`, any other entry into `other`.
-    /// Where no turn is taken, `turn` may hold what was told to a process of the kernel.
+    /// Where no turn is taken, nothing is promised of `turn`.
     pub fn step_to(
         &mut self,
         apps: &mut [Box<dyn App>],

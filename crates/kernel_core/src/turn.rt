@@ -19,7 +19,9 @@ pub struct Turn {
 
 impl Turn {
     /// A place for turns, in which none was taken.
-    pub fn none_yet() -> Turn {
+    pub fn none_yet() -> Turn
+        ensures { entry_of result ≡ Entry.Turn (record { 0 = 0 }) Origin.Event (Stimulus.Callback 0) Call.Wait }
+    {
         Turn {
             pid: Pid(0),
             origin: Origin::Event,
