@@ -2,7 +2,8 @@
 
 ghost use Rattle.std.specs.Prelude.{◌≡◌, ◌<◌, length, IfOk, OnSome};
 ghost use Rattle.std.specs.Option.{option_map};
-ghost use Rattle.device_core.specs.SerialLine.{quiet_line, after_byte, after_bytes, line_of, next_line, after_line};
+ghost use Rattle.device_core.specs.SerialLine.{quiet_line, takes_all, after_byte, after_bytes};
+ghost use Rattle.device_core.specs.SerialLine.{line_of, next_line, after_line};
 
 use arrayvec::ArrayVec;
 use circular_buffer::HeapCircularBuffer;
@@ -61,6 +62,25 @@ impl SerialLine {
     /// Byte 13 is ignored. A byte that finds the ring full is lost, and from then on every byte is, until a line end (10)
     /// that fits.
     pub fn input(&mut self, bytes: &[u8])
+        ensures { self.new ≡ after_bytes self.old bytes.now }
+    {
+        if self.takes_all(bytes) {
+            let _ = self.ring.fill_from_slice(bytes);
+        } else {
+            self.take_each(bytes);
+        }
+    }
+
+    /// Whether none of these bytes is ignored or lost: then they go into the ring together.
+    fn takes_all(&self, bytes: &[u8]) -> bool
+        ensures { result ≡ takes_all self.now bytes.now }
+    {
+        !self.overflow
+            && bytes.len() <= RING_PLACES - self.ring.len()
+            && !bytes.contains(&CARRIAGE_RETURN)
+    }
+
+    fn take_each(&mut self, bytes: &[u8])
         ensures { self.new ≡ after_bytes self.old bytes.now }
     {
         for byte in bytes {

@@ -6,6 +6,7 @@ pub mod Reaching
 pub mod Fitness
 pub mod FrameBlocks
 pub mod FreePlaces
+pub mod IdleReceivers
 pub mod IdleRound
 pub mod Leftover
 pub mod Lines

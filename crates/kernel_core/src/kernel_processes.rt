@@ -1,18 +1,21 @@
 //! What the kernel's own processes do with an event.
 
-ghost use Rattle.std.specs.Prelude.{◌≡◌, ◌≤◌, ◌<◌, ◌+◌, ◌^◌, ℕ, Bool, IfSome, Some};
+ghost use Rattle.std.specs.Prelude.{◌≡◌, ◌≤◌, ◌<◌, ◌+◌, ◌^◌, ℕ, Bool, false, IfSome, Some};
 ghost use Rattle.std.specs.Option.{option_map};
 ghost use Rattle.mote_types.specs.declared.event.Pid as pid;
 ghost use Rattle.process_core.specs.Agenda.{job_carrying};
 ghost use Rattle.process_core.specs.SchedulerView.{job_of};
 ghost use Rattle.process_core.specs.Told.{served_with};
+ghost use Rattle.kernel_core.specs.Code.Cost.{present};
 ghost use Rattle.kernel_core.specs.Code.Draws.{HasFitEvents, debt, draws_of_event, draws_of_job};
-ghost use Rattle.kernel_core.specs.Code.View.{machine_of, IsServed};
-ghost use Rattle.kernel_core.specs.Run.{Answers, job_done, silent};
+ghost use Rattle.kernel_core.specs.Code.View.{entries_left_in, machine_of, none_unshown, IsInOrder, IsServed};
+ghost use Rattle.kernel_core.specs.IdleReceivers.{idle_receivers_passed, is_wait};
+ghost use Rattle.kernel_core.specs.Run.{Answers, GoesSilently, job_done, silent};
 ghost use Rattle.kernel_core.specs.KernelProcesses.{serve};
 ghost use Rattle.kernel_core.specs.TimerProcesses.{exited_application};
 
 use crate::fields::KernelFields;
+use mote_types::call::Call;
 use mote_types::event::{
     CONTINUE, CTIMER, ETIMER, EXITED, Event, FIRST_APPLICATION, MOST_APPLICATIONS, PACKET_PROCESS,
     POLL, Payload, Pid, SERIAL_PROCESS, Stimulus,
@@ -35,6 +38,16 @@ pub fn exited_application(payload: &Payload) -> Option<Pid>
     }
 }
 
+/// The codes of the events with which one of the kernel's processes does something.
+const KERNEL_EVENTS: [u8; 3] = [POLL, CONTINUE, EXITED];
+
+/// Whether it ends an activation.
+fn is_wait(call: &Call) -> bool
+    ensures { result ≡ is_wait call.now }
+{
+    matches!(call, Call::Wait)
+}
+
 impl KernelFields {
     /// A kernel process is given the event that it is told. Where it is told anything else, nothing is done.
     pub fn serve_told(&mut self, pid: Pid, told: &Stimulus)
@@ -47,6 +60,26 @@ impl KernelFields {
     {
         if let Stimulus::Event(event) = told {
             self.serve(pid, event);
+        }
+    }
+
+    /// After a wait, those of the kernel's processes that are to be given a broadcast next are passed at once, where none of
+    /// them does anything with it. They are the last receivers, so they seldom come next after another call.
+    pub fn pass_idle_receivers(&mut self, last: &Call)
+        requires order { IsInOrder self.old }
+        requires running { self.old.halted ≡ false }
+        requires nothing_shown { self.old.unshown ≡ none_unshown }
+        ensures value { self.new ≡ record self.old {
+          scheduler = record self.old.scheduler { state = idle_receivers_passed last.now self.old.scheduler.state };
+        } }
+        ensures passed { (answers : Answers) → GoesSilently answers (machine_of self.old) (machine_of self.new) }
+        ensures order { IsInOrder self.new }
+        ensures applications { self.new.scheduler.state.applications ≡ self.old.scheduler.state.applications }
+        ensures present { present self.new.scheduler.state ≡ present self.old.scheduler.state }
+        ensures left { entries_left_in self.new ≡ entries_left_in self.old }
+    {
+        if is_wait(last) {
+            self.scheduler.pass_kernel_receivers(&KERNEL_EVENTS);
         }
     }
 

@@ -40,6 +40,7 @@ impl KernelFields {
         ensures order { IsInOrder self.new }
         ensures unmade { result ≢ Reached.Other → other.new ≡ other.old }
     {
+        self.pass_idle_receivers(&turn.call);
         'job: loop {
             match self.next_job(&mut turn.stimulus) {
                 Ready::Give { pid, origin } => {

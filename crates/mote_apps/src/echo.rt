@@ -21,17 +21,6 @@ pub struct Echo {
     pub rest: Chunk,
 }
 
-/// The first 64 bytes of a line, and what stands behind them.
-#[tactic(auto, using(std::proofs::lemmas::List::take_min, crate::proofs::Fronts::drop_min))]
-fn split_line(line: &[u8]) -> (Chunk, Chunk)
-    requires { length line.now ≤ 127 }
-    ensures front { result.0.items ≡ take 64 line.now }
-    ensures rest { result.1.items ≡ drop 64 line.now }
-{
-    let (front, rest) = line.split_at(CHUNK.min(line.len()));
-    (chunk_of(front), chunk_of(rest))
-}
-
 impl Echo {
     /// Nothing is to be printed.
     pub fn new() -> Self
@@ -41,14 +30,17 @@ impl Echo {
     }
 
     /// A line has come in.
+    #[tactic(auto, using(std::proofs::lemmas::List::take_min, crate::proofs::Fronts::drop_min))]
     fn begin(&mut self, line: &[u8]) -> Call
         requires { length line.now ≤ 127 }
         ensures call { result ≡ Call.Print (record { items = take 64 line.now }) }
         ensures state { self.new ≡ record { rest = record { items = drop 64 line.now } } }
     {
-        let (front, rest) = split_line(line);
-        self.rest = rest;
-        Call::Print(front)
+        let (front, rest) = line.split_at(CHUNK.min(line.len()));
+        // In place: a chunk of its own would be moved here whole, even where nothing is left.
+        self.rest.clear();
+        let _ = self.rest.try_extend_from_slice(rest);
+        Call::Print(chunk_of(front))
     }
 
     /// Prints the rest of the line.

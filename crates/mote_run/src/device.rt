@@ -6,6 +6,8 @@ use crate::run::RunFault;
 use mote_types::device::ByteSink;
 
 /// Writes all bytes. Where a write fails, a front part of them was written.
+// Out of the way of lines, many of which are written at once.
+#[inline(never)]
 pub fn write_all<K: ByteSink>(sink: &mut K, bytes: &[u8]) -> Result<(), RunFault>
     requires countable { K.failure_count sink.old < 2 ^ 64 - 1 }
     ensures given { OnOk result (K.is_named → K.given sink.new ≡ K.given sink.old ++ bytes.now) }

@@ -45,6 +45,8 @@ impl Due {
     }
 
     /// Writes all of it, where there may be no room for another line behind it.
+    // Each line asks for it.
+    #[inline(always)]
     fn make_room<K: ByteSink>(&mut self, sink: &mut K) -> Result<(), RunFault>
         requires countable { K.failure_count sink.old < 2 ^ 64 - 1 }
         ensures written { OnOk result (K.is_named → WritesOn (K.given sink.old) self.old.text.items (K.given sink.new) self.new.text.items []) }

@@ -1,9 +1,9 @@
 //! A script as far as it was read and used.
 
-ghost use Rattle.std.specs.Prelude.{◌≡◌, ◌≢◌, ◌<◌, ◌≤◌, ◌+◌, [], true, length, OnOk};
+ghost use Rattle.std.specs.Prelude.{◌≡◌, ◌≢◌, ◌<◌, ◌≤◌, ◌+◌, [], true, length, IfOk, OnOk};
 ghost use Rattle.mote_text.specs.Lines.{has_no_end, nothing_taken, unfinished};
 ghost use Rattle.mote_text.specs.declared.lines.Taken.{Taken as Stopped};
-ghost use Rattle.mote_run.specs.Code.Reading.{Took};
+ghost use Rattle.mote_run.specs.Code.Reading.{HasFrameLine, Took};
 
 use crate::piece::Piece;
 use crate::reader::Reader;
@@ -47,7 +47,8 @@ impl Script {
         requires number { self.old.reader.number ≤ self.old.taken + 1 }
         requires room { self.old.taken < LIMIT }
         requires some { 0 < length self.old.piece }
-        ensures took { Took (unfinished self.old.reader.lines) self.old.piece (unfinished self.new.reader.lines) self.new.piece self.old.taken self.new.taken self.old.reader.number self.new.reader.number result self.new.reader.input }
+        ensures took { Took (unfinished self.old.reader.lines) self.old.piece (unfinished self.new.reader.lines) self.new.piece self.old.taken self.new.taken self.old.reader.number self.new.reader.number result self.new.reader.place.input }
+        ensures frame { IfOk result (λ is_input. is_input ≡ true → HasFrameLine self.new.reader.place) }
         ensures narrow { OnOk result (self.new.reader.lines.last ≢ Stopped.TooWide) }
         ensures endless { has_no_end (unfinished self.new.reader.lines) ≡ true }
         ensures number { self.new.reader.number ≤ self.new.taken + 1 }

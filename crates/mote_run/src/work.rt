@@ -19,6 +19,7 @@ use kernel_core::kernel::Kernel;
 use mote_text::script::{BadLine, End, SCRIPT_LIMIT};
 use mote_types::app::App;
 use mote_types::device::{ByteSink, ByteSource};
+use mote_types::entry::Entry;
 
 /// The end of a run whose script has ended.
 fn end_of(kernel: &Kernel) -> End
@@ -37,6 +38,7 @@ fn take_line<K: ByteSink>(
     due: &mut Due,
     kernel: &mut Kernel,
     apps: &mut [Box<dyn App>],
+    other: &mut Entry,
     script: &mut Script,
     quiet: bool,
 ) -> Result<Option<End>, RunFault>
@@ -77,7 +79,7 @@ fn take_line<K: ByteSink>(
     match script.take() {
         Ok(false) => Ok(None),
         Ok(true) => {
-            settle_input(sink, due, kernel, apps, &script.reader.input, quiet)?;
+            settle_input(sink, due, kernel, apps, other, &script.reader.place, quiet)?;
             Ok(None)
         }
         Err(BadLine) => Ok(Some(End::BadLine(script.reader.number))),
@@ -90,6 +92,7 @@ fn take_end<K: ByteSink>(
     due: &mut Due,
     kernel: &mut Kernel,
     apps: &mut [Box<dyn App>],
+    other: &mut Entry,
     script: &mut Script,
     quiet: bool,
 ) -> Result<End, RunFault>
@@ -116,7 +119,7 @@ fn take_end<K: ByteSink>(
     match script.reader.end() {
         Ok(false) => Ok(End::Finished),
         Ok(true) => {
-            settle_input(sink, due, kernel, apps, &script.reader.input, quiet)?;
+            settle_input(sink, due, kernel, apps, other, &script.reader.place, quiet)?;
             Ok(end_of(kernel))
         }
         Err(BadLine) => Ok(End::BadLine(script.reader.number)),
@@ -150,7 +153,8 @@ pub fn take_script<S: ByteSource, K: ByteSink>(
     ensures read_fault { IsErrOf result RunFault.Read ↔ (S.failure_count source.old < S.failure_count source.new) }
     ensures write_fault { IsErrOf result RunFault.Write ↔ (K.failure_count sink.old < K.failure_count sink.new) }
 {
-    settle(sink, due, kernel, apps, quiet)?;
+    let mut other = Entry::Halt;
+    settle(sink, due, kernel, apps, &mut other, quiet)?;
     let mut script = Script::new();
     'part: loop {
         if kernel.halted() {
@@ -164,12 +168,12 @@ pub fn take_script<S: ByteSource, K: ByteSink>(
             LIMIT + 1 - script.taken,
         )?;
         if script.piece.is_empty() {
-            return take_end(sink, due, kernel, apps, &mut script, quiet);
+            return take_end(sink, due, kernel, apps, &mut other, &mut script, quiet);
         }
         if script.taken == LIMIT {
             return Ok(End::TooLong);
         }
-        match take_line(sink, due, kernel, apps, &mut script, quiet)? {
+        match take_line(sink, due, kernel, apps, &mut other, &mut script, quiet)? {
             None => {}
             Some(end) => return Ok(end),
         }

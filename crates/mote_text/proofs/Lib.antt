@@ -2,6 +2,7 @@ pub mod Bytewise
 mod Digits
 mod Examples
 mod LineEnds
+mod Lowered
 pub mod Reading
 mod ShownBytes
 mod Spaced

@@ -48,7 +48,7 @@ decimal_of_read text n reads = read_from text n (is_number text && nat_lt (digit
 
 -- a line that begins with a word
 
-behind_word : (word line text : List ℕ) (begins : Bool) → bytes_eq (take (length word) line) word ≡ begins → argument_of word line ≡ Some text → line ≡ word ++ text
+pub behind_word : (word line text : List ℕ) (begins : Bool) → bytes_eq (take (length word) line) word ≡ begins → argument_of word line ≡ Some text → line ≡ word ++ text
 behind_word word line text false test e =
     let none : None ≡ Some text = rw test at e in
     cc

@@ -1,7 +1,8 @@
 //! A line of a transcript, and how it is put together. A word, a number or bytes have a space in front.
 #![tactic(auto, unfolding(crate::specs::EntryText::spaced))]
 
-ghost use Rattle.std.specs.Prelude.{◌≡◌, ◌≤◌, ◌<◌, ◌+◌, ◌*◌, ◌++◌, [], ◌∷◌, length, decimal};
+ghost use Rattle.std.specs.Prelude.{◌≡◌, ◌≤◌, ◌<◌, ◌+◌, ◌*◌, ◌++◌, [], ◌∷◌, length, decimal, map};
+ghost use Rattle.std.specs.Char.{to_ascii_lowercase};
 ghost use Rattle.hex.specs.Hex.{encode_lower};
 ghost use Rattle.mote_text.specs.EntryText.{hex, spaced};
 
@@ -78,6 +79,19 @@ impl LineBuf {
         self.len = end;
     }
 
+    /// Appends these bytes, each letter in lower case.
+    #[inline]
+    pub(crate) fn push_in_lower_case(&mut self, bytes: &[u8])
+        requires { length self.old.items + length bytes.now ≤ 4096 }
+        ensures { self.new.items ≡ self.old.items ++ map to_ascii_lowercase bytes.now }
+    {
+        let end = self.len + bytes.len();
+        let place = &mut self.bytes[self.len..end];
+        place.copy_from_slice(bytes);
+        place.make_ascii_lowercase();
+        self.len = end;
+    }
+
     /// Appends two lower case hex digits for each byte.
     #[inline]
     pub(crate) fn push_digits(&mut self, bytes: &[u8])
@@ -102,13 +116,41 @@ pub(crate) fn push_word(line: &mut LineBuf, word: &str)
     line.push(word.as_bytes());
 }
 
+/// Appends this number in decimal, with no space in front.
+#[inline(always)]
+#[tactic(auto, using(std::proofs::lemmas::Fmt::decimal_digit))]
+pub(crate) fn push_decimal(line: &mut LineBuf, n: u64)
+    requires { length line.old.items + 20 ≤ 4096 }
+    ensures text { line.new.items ≡ line.old.items ++ decimal n }
+    ensures length { length line.new.items ≤ length line.old.items + 20 }
+{
+    // Most numbers of a transcript have one digit, and need no buffer.
+    if n < 10 {
+        line.push(&[b'0' + n as u8]);
+    } else {
+        push_long_decimal(line, n);
+    }
+}
+
+/// Appends this number in decimal, however many digits it has.
+#[inline(never)]
+fn push_long_decimal(line: &mut LineBuf, n: u64)
+    requires { length line.old.items + 20 ≤ 4096 }
+    ensures text { line.new.items ≡ line.old.items ++ decimal n }
+    ensures length { length line.new.items ≤ length line.old.items + 20 }
+{
+    line.push(Buffer::new().format(n).as_bytes());
+}
+
 /// Appends this number in decimal: at most 20 digits.
+#[inline]
 pub(crate) fn push_number(line: &mut LineBuf, n: u64)
     requires { length line.old.items + 21 ≤ 4096 }
     ensures text { line.new.items ≡ line.old.items ++ spaced (decimal n ∷ []) }
     ensures length { length line.new.items ≤ length line.old.items + 21 }
 {
-    push_word(line, Buffer::new().format(n));
+    line.push(b" ");
+    push_decimal(line, n);
 }
 
 /// Appends these bytes in hex, or a dash where there are none.

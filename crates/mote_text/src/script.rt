@@ -90,7 +90,10 @@ fn resize<const N: usize>(bytes: &mut ArrayVec<u8, N>, len: usize)
 {
     bytes.truncate(len);
     let kept = bytes.len();
-    let _ = bytes.try_extend_from_slice(&BLANKS[kept..len]);
+    // Most often the line before was as long, and an extension by nothing would still call `memcpy`.
+    if kept < len {
+        let _ = bytes.try_extend_from_slice(&BLANKS[kept..len]);
+    }
 }
 
 /// Puts from one to `N` bytes, which a text is in hex digits of either case, into the place. Answers whether it is that.

@@ -1,16 +1,17 @@
 //! The lines of a transcript.
 #![tactic(auto, unfolding(crate::specs::EntryText::spaced))]
 
-ghost use Rattle.std.specs.Prelude.{◌≡◌, ◌≤◌, ◌+◌, ◌++◌, ◌||◌, not, length};
+ghost use Rattle.std.specs.Prelude.{◌≡◌, ◌≤◌, ◌+◌, ◌++◌, ◌||◌, not, length, Some};
 ghost use Rattle.mote_types.specs.declared.entry.Entry.{Entry as Made};
+ghost use Rattle.mote_types.specs.declared.entry.Input.{Input as Handed};
 ghost use Rattle.mote_text.specs.EntryText.{entry_line, spaced};
+ghost use Rattle.mote_text.specs.Script.{read_line};
 ghost use Rattle.mote_text.specs.Transcript.{final_line, is_shown, prints_or_sends};
 
 use crate::calls::push_call;
-use crate::line::{LineBuf, MOST_OF_LINE, push_number};
+use crate::line::{LineBuf, MOST_OF_LINE, push_decimal, push_number};
 use crate::script::End;
 use crate::words::{push_input, push_note, push_origin, push_stimulus};
-use itoa::Buffer;
 use mote_types::call::Call;
 use mote_types::entry::{Entry, Input, Note};
 use mote_types::event::{Origin, Pid, Stimulus};
@@ -18,6 +19,8 @@ use mote_types::event::{Origin, Pid, Stimulus};
 /// Appends the line of an input that is handed in, with its end.
 ///
 /// Source: the transcript format is this project's profile.
+// As `push_input`.
+#[inline(always)]
 #[tactic(auto, unfolding(crate::specs::EntryText::entry_line, crate::specs::EntryText::line_of, crate::specs::EntryText::spaced))]
 pub fn push_input_line(input: &Input, line: &mut LineBuf)
     requires { length line.old.items + MOST_OF_LINE ≤ 4096 }
@@ -42,7 +45,7 @@ pub fn push_turn_line(
     requires { length line.old.items + MOST_OF_LINE ≤ 4096 }
     ensures { line.new.items ≡ line.old.items ++ entry_line (Made.Turn pid origin stimulus.now call.now) }
 {
-    line.push(Buffer::new().format(pid.0).as_bytes());
+    push_decimal(line, u64::from(pid.0));
     push_origin(line, origin);
     push_stimulus(line, stimulus);
     push_call(line, call);
@@ -80,6 +83,20 @@ pub fn entry_text(entry: &Entry, line: &mut LineBuf)
 {
     line.clear();
     push_entry(entry, line);
+}
+
+/// Puts the line of the input that a script's line says, with its end, in place of what is in the buffer: it is the
+/// script's line in lower case.
+// Out of the way of ticks, which most lines are.
+#[inline(never)]
+pub fn said_text(script_line: &[u8], line: &mut LineBuf)
+    requires { length script_line.now ≤ 1024 }
+    ensures { (input : Handed) → read_line script_line.now ≡ Some (Some input) → line.new.items ≡ entry_line (Made.Input input) }
+{
+    line.clear();
+    line.push(b"> ");
+    line.push_in_lower_case(script_line);
+    line.push(b"\n");
 }
 
 /// Puts the last line of a transcript, with its end, in place of what is in the buffer: nothing, where the run finished

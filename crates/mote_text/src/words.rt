@@ -104,6 +104,8 @@ pub(crate) fn push_stimulus(line: &mut LineBuf, stimulus: &Stimulus)
 }
 
 /// Appends an input, at most 521 bytes.
+// Most inputs are ticks, whose words are soon written: a call would cost half as much again.
+#[inline(always)]
 pub(crate) fn push_input(line: &mut LineBuf, input: &Input)
     requires { length line.old.items + 521 ≤ 4096 }
     ensures text { line.new.items ≡ line.old.items ++ spaced (input_words input.now) }

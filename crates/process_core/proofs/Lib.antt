@@ -9,3 +9,4 @@ pub mod NothingLeft
 pub mod Tops
 pub mod Counting
 pub mod LonePoll
+pub mod KernelReceivers

@@ -21,7 +21,7 @@ short : (n : ℕ) (stack : List Frame) → IsNested n stack → length stack ≤
 short n [] h = omega arith
 short n (Frame.Answer pid first reply ∷ below) h = omega (arith, short n below h.1)
 short n (Frame.Leave pid walk exits ∷ below) h = omega (arith, short n below h.1)
-short n (Frame.Polls walk ∷ below) h = omega (arith, h.0)
+short n (Frame.Polls walk ∷ below) h = omega (arith, h.0.0)
 short n (Frame.Boot walk ∷ below) h = omega (arith, ap length h.0.0)
 short n (Frame.Deliver is_polled ∷ below) h = omega (arith, ap length h.0)
 short n (Frame.Callback pid number ∷ below) h = omega (arith, ap length h.0)

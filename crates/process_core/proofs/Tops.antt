@@ -1,7 +1,8 @@
 -- The frame on top of the stack.
-use Rattle.std.proofs.Common.{◌≡◌, ◌<◌, ◌≤◌, ◌-◌, ℕ, Bool, true, false, List, [], ◌∷◌, ◌++◌, length, drop, slice_set, slice_index_or, refl, sym, ap, subst, ◌∙◌, arith, Some, None}
+use Rattle.std.proofs.Common.{◌≡◌, ◌<◌, ◌≤◌, ◌-◌, ℕ, zero, suc, Bool, true, false, List, [], ◌∷◌, ◌++◌, length, take, drop, slice_set, slice_index_or, get_or, refl, sym, ap, subst, ◌∙◌, arith, Some, None}
 use Rattle.std.specs.Prelude.{slice_get, reverse}
 use Rattle.std.proofs.lemmas.List.{reverse-append, reverse-reverse, length-reverse, set_at}
+use Rattle.std.proofs.Math.Seq.{take-suc}
 use Rattle.std.proofs.lemmas.Grind.{common_steps}
 use Rattle.std.proofs.lemmas.Bool.Decides.{nat_tests}
 use Rattle.process_core.specs.declared.process.Process.{Process}
@@ -64,12 +65,12 @@ changed_last change frames f g some last e =
     (λ l. 0 < length l → f ≡ slice_index_or l (length l - 1) f → reverse (slice_set l (length l - 1) g) ≡ changed_top change (reverse l))
     (reverse-reverse frames) (changed_below change (reverse frames) f g e) some last
 
-below_changed : (change : Frame → Frame) (stack : List Frame) → drop 1 (changed_top change stack) ≡ drop 1 stack
-below_changed change [] = refl
-below_changed change (frame ∷ below) = refl
-
--- the frames below the last one stay
-pub below_last : (frames : List Frame) (f g : Frame) → 0 < length frames → f ≡ slice_index_or frames (length frames - 1) f
-    → drop 1 (reverse (slice_set frames (length frames - 1) g)) ≡ drop 1 (reverse frames)
-below_last frames f g some last =
-    ap (drop 1) (changed_last (λ _. g) frames f g some last refl) ∙ below_changed (λ _. g) (reverse frames)
+-- the stack with one frame less
+pub dropped_last : (frames : List Frame) (len : ℕ) → len ≤ length frames → reverse (take (len - 1) frames) ≡ drop 1 (reverse (take len frames))
+dropped_last frames zero fits = refl
+dropped_last [] (suc len) fits = absurd (omega arith)
+dropped_last (frame ∷ frames) (suc len) fits =
+    let all = frame ∷ frames in
+    let less : suc len - 1 ≡ len = omega arith in
+    let one_more : take (suc len) all ≡ take len all ++ get_or all len frame ∷ [] = take-suc all len frame (omega (arith, fits)) in
+    rw less (sym (ap (drop 1) (ap reverse one_more ∙ reverse-append (take len all) (get_or all len frame ∷ []))))

@@ -1,6 +1,7 @@
 -- what a reader must believe
 pub mod Agenda
 pub mod Idle
+pub mod KernelReceivers
 pub mod LonePoll
 pub mod Processes
 pub mod Requests

@@ -2,6 +2,7 @@
 
 ghost use Rattle.std.specs.Prelude.{◌≡◌, option_map};
 ghost use Rattle.mote_types.specs.declared.event.Pid.{Pid as At};
+ghost use Rattle.mote_types.specs.declared.reply.Reply.{Reply as Answered};
 ghost use Rattle.process_core.specs.Code.Frames as part;
 ghost use Rattle.process_core.specs.Scheduler.{of_event};
 
@@ -9,7 +10,7 @@ use crate::process_list::ProcessList;
 use crate::walk::Walk;
 use arrayvec::ArrayVec;
 use mote_types::event::{Event, Payload, Pid, Stimulus};
-use mote_types::reply::Reply;
+use mote_types::reply::{Chunk, Reply};
 use std::mem;
 
 /// What a call does before it is answered.
@@ -58,8 +59,8 @@ pub enum Frame {
     },
 }
 
-/// Tells an event that others are told, too, without taking memory. The bytes of a line are put where they are to lie.
-fn tell(told: &mut Stimulus, event: &Event)
+/// Tells an event, which stays where it lies, without taking memory. The bytes of a line are put where they are to lie.
+pub(crate) fn tell(told: &mut Stimulus, event: &Event)
     ensures { told.new ≡ of_event event.now }
 {
     match &event.payload {
@@ -79,6 +80,41 @@ fn tell(told: &mut Stimulus, event: &Event)
             }
         }
         _ => *told = Stimulus::Event(event.copied()),
+    }
+}
+
+// A function of its own, since it has room for bytes, which is cleared at its entry.
+fn put_bytes(place: &mut Reply, bytes: &Chunk)
+    ensures { place.new ≡ Answered.Bytes bytes.now }
+{
+    *place = Reply::Bytes(ArrayVec::new());
+    if let Reply::Bytes(copy) = place {
+        let _ = copy.try_extend_from_slice(bytes.as_slice());
+    }
+}
+
+// Likewise.
+fn put_telling_reply(place: &mut Reply, reply: &Reply)
+    ensures { place.new ≡ reply.now }
+{
+    match reply {
+        Reply::Done => *place = Reply::Done,
+        Reply::Refused(refusal) => *place = Reply::Refused(*refusal),
+        Reply::Num(n) => *place = Reply::Num(*n),
+        Reply::Wide(n) => *place = Reply::Wide(*n),
+        Reply::Flag(flag) => *place = Reply::Flag(*flag),
+        Reply::Bytes(bytes) => put_bytes(place, bytes),
+        Reply::Stats(stats) => *place = Reply::Stats(*stats),
+    }
+}
+
+/// Puts a reply into the place. Most say Done, and all but bytes take fewer moves than the room of a reply would.
+fn put_reply(place: &mut Reply, reply: &Reply)
+    ensures { place.new ≡ reply.now }
+{
+    match reply {
+        Reply::Done => *place = Reply::Done,
+        _ => put_telling_reply(place, reply),
     }
 }
 
@@ -192,11 +228,11 @@ impl Frame {
     }
 
     /// The reply is put into the place.
-    pub(crate) fn take_reply(&mut self, place: &mut Reply)
-        ensures { place.new ≡ part.reply_of self.old }
+    pub(crate) fn tell_reply(&self, place: &mut Reply)
+        ensures { place.new ≡ part.reply_of self.now }
     {
         match self {
-            Frame::Answer { reply, .. } => *place = mem::replace(reply, Reply::Done),
+            Frame::Answer { reply, .. } => put_reply(place, reply),
             _ => *place = Reply::Done,
         }
     }

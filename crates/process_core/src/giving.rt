@@ -1,9 +1,9 @@
 //! How a stimulus comes to a process.
 
-ghost use Rattle.std.specs.Prelude.{◌≡◌, ◌≤◌, ◌<◌, ◌+◌, ◌∷◌, [], None, option_map, length};
+ghost use Rattle.std.specs.Prelude.{◌≡◌, ◌≤◌, ◌<◌, ◌+◌, ◌∷◌, [], None, false, option_map, length};
 ghost use Rattle.mote_types.specs.Codes as codes;
 ghost use Rattle.process_core.specs.Agenda.{Item};
-ghost use Rattle.process_core.specs.Code.Frames.{weight};
+ghost use Rattle.process_core.specs.Code.Frames.{has_receiver, on_top, weight};
 ghost use Rattle.process_core.specs.SchedulerView.{job_of};
 ghost use Rattle.process_core.specs.Told.{job_told};
 ghost use Rattle.process_core.specs.Code.SchedulerFields.{scheduler_of, awaited_after, HoldsEvent, IsInOrder};
@@ -11,7 +11,7 @@ ghost use Rattle.process_core.specs.Scheduler.{in_front, Yields};
 ghost use Rattle.process_core.specs.declared.awaited.Awaited.{Awaited};
 
 use crate::awaited::Awaited;
-use crate::frame::Frame;
+use crate::frame::{Frame, tell};
 use crate::queued::Queued;
 use crate::ready::Ready;
 use crate::scheduler_fields::SchedulerFields;
@@ -102,6 +102,7 @@ impl SchedulerFields {
         requires order { IsInOrder self.old }
         requires idle { self.old.awaited ≡ Awaited.Nothing }
         requires low { length self.old.stack ≤ 1 }
+        requires begun { on_top false has_receiver self.old.stack ≡ false }
         ensures yields { Yields (in_front (Item.Polls ∷ []) (scheduler_of self.old)) None (scheduler_of self.new) }
         ensures awaited { self.new.awaited ≡ Awaited.Nothing }
         ensures order { IsInOrder self.new }
@@ -125,12 +126,14 @@ impl SchedulerFields {
         ensures order { IsInOrder self.new }
         ensures grows { weight self.new.stack ≤ weight self.old.stack + 1281 }
     {
+        // An event for one process is told where it lies, with fewer moves than a place of the queue has room for.
+        if let Some(Queued::To(pid, event)) = self.events.front() {
+            let pid = *pid;
+            tell(told, event);
+            let _ = self.events.pop_front();
+            return self.give(pid, Origin::Event, told);
+        }
         match self.events.pop_front() {
-            None => None,
-            Some(Queued::To(pid, event)) => {
-                *told = Stimulus::Event(event);
-                self.give(pid, Origin::Event, told)
-            }
             Some(
                 Queued::Expiry {
                     pid,
@@ -154,6 +157,7 @@ impl SchedulerFields {
                 });
                 None
             }
+            _ => None,
         }
     }
 }

@@ -7,9 +7,9 @@ ghost use Rattle.process_core.specs.Code.ProcessList.{others, state_at};
 ghost use Rattle.process_core.specs.declared.state.State.{State};
 
 use crate::marks::{Marks, PROCESSES};
+use crate::numbers::Numbers;
 use crate::state::State;
 use crate::walk::Walk;
-use arrayvec::ArrayVec;
 use mote_types::event::Pid;
 use std::marker::Model;
 
@@ -18,7 +18,7 @@ use std::marker::Model;
 /// What a process does and whether it is marked lie at its number, so that no list is searched.
 #[derive(Drop)]
 pub struct ProcessList {
-    on_list: ArrayVec<u8, PROCESSES>,
+    on_list: Numbers,
     /// One that is not on the list is Absent.
     states: [State; PROCESSES],
     marks: Marks,
@@ -46,11 +46,11 @@ fn state_in(states: &[State], number: u8) -> State
 }
 
 /// The numbers but for this one.
-fn others_in(on_list: &[u8], number: u8) -> ArrayVec<u8, PROCESSES>
+fn others_in(on_list: &[u8], number: u8) -> Numbers
     requires { length on_list.now ≤ 20 }
     ensures { result.items ≡ others number on_list.now }
 {
-    let mut kept = ArrayVec::new();
+    let mut kept = Numbers::new();
     for other in on_list {
         if *other != number {
             kept.push(*other);
@@ -64,7 +64,7 @@ impl ProcessList {
     pub fn new() -> ProcessList
         ensures { result ≡ at_first }
     {
-        let mut on_list = ArrayVec::new();
+        let mut on_list = Numbers::new();
         on_list.push(3);
         on_list.push(2);
         on_list.push(1);
@@ -144,7 +144,7 @@ impl ProcessList {
         requires absent { state_of pid.0 self.old ≡ State.Absent }
         ensures { self.new ≡ record { number = pid.0; state = State.Running; marked = false } ∷ self.old }
     {
-        self.on_list.insert(0, pid.0);
+        self.on_list = Numbers::behind(pid.0, self.on_list.as_slice());
         self.states[pid.0 as usize] = State::Running;
     }
 
@@ -167,9 +167,7 @@ impl ProcessList {
         ensures all { result ≡ numbers self.now }
         ensures few { length result ≤ 20 }
     {
-        let mut walked = ArrayVec::new();
-        let _ = walked.try_extend_from_slice(self.on_list.as_slice());
-        Walk::over(walked)
+        Walk::over(self.on_list.copied())
     }
 
     /// A walk over the list as it stands, without this process.

@@ -17,12 +17,12 @@ ghost use Rattle.process_core.specs.declared.ready.Ready.{Ready as Answer};
 use crate::awaited::Awaited;
 use crate::frame::Frame;
 use crate::job::Job;
+use crate::numbers::Numbers;
 use crate::process_list::ProcessList;
 use crate::ready::{Ready, job_told};
 use crate::scheduler_fields::SchedulerFields;
 use crate::stack::Stack;
 use crate::walk::Walk;
-use arrayvec::ArrayVec;
 use circular_buffer::HeapCircularBuffer;
 use mote_types::event::{FIRST_APPLICATION, FIRST_FREE, Stimulus};
 use std::alloc::{AllocError, Global};
@@ -63,7 +63,7 @@ impl Scheduler {
         ensures { IfOk result (λ s. s ≡ awaiting_nothing (at_boot applications)) }
     {
         let events = HeapCircularBuffer::with_capacity(alloc, QUEUE_PLACES)?;
-        let mut starts = ArrayVec::new();
+        let mut starts = Numbers::new();
         for number in FIRST_APPLICATION..FIRST_APPLICATION + applications {
             starts.push(number);
         }

@@ -8,24 +8,32 @@ ghost use Rattle.process_core.specs.declared.frame.First.{First as Before};
 
 use crate::frame::{First, Frame};
 use crate::process_list::ProcessList;
-use arrayvec::ArrayVec;
 use mote_types::event::{Pid, Stimulus};
 use mote_types::reply::Reply;
+use std::array;
 use std::marker::Model;
 
+/// How many frames a `Stack` holds.
+const PLACES: usize = 48;
+
 /// The frames of open work. That a push finds room is proved at each push (`specs/Code/Nesting.antt`).
+///
+/// No `ArrayVec`: that writes a blank frame over each one that it drops.
 #[derive(Drop)]
 pub struct Stack {
-    frames: ArrayVec<Frame, 48>,
+    frames: [Frame; PLACES],
+    len: usize,
 }
 
 impl Model for Stack {
-    ghost use Rattle.std.specs.Prelude.{List, reverse};
+    ghost use Rattle.std.specs.Prelude.{◌≡◌, ◌≤◌, List, length, reverse, take};
     ghost use Rattle.process_core.specs.declared.frame.Frame.{Frame};
 
     ghost Value = { List Frame };
 
-    ghost view = { λ s. reverse s.frames.items };
+    ghost view = { λ s. reverse (take s.len s.frames) };
+
+    ghost invariant = { λ s. (s.len ≤ 48) × (length s.frames ≡ 48) };
 }
 
 // The work on the topmost frame, which is the last of these.
@@ -81,6 +89,14 @@ fn pass_receiver_in(frames: &mut [Frame], told: &mut Stimulus) -> Option<Pid>
     }
 }
 
+fn pass_kernel_receivers_in(frames: &mut [Frame], codes: &[u8])
+    ensures { reverse frames.new ≡ part.changed_top (part.past_kernel_receivers codes.now) (reverse frames.old) }
+{
+    if let Some(frame) = frames.last_mut() {
+        frame.pass_kernel_receivers(codes);
+    }
+}
+
 fn take_exit_in(frames: &mut [Frame]) -> bool
     ensures value { result ≡ part.on_top false part.exits_of (reverse frames.old) }
     ensures left { reverse frames.new ≡ part.changed_top part.past_exit (reverse frames.old) }
@@ -101,14 +117,12 @@ fn take_first_in(frames: &mut [Frame]) -> First
     }
 }
 
-fn take_reply_in(frames: &mut [Frame], place: &mut Reply)
-    ensures value { place.new ≡ part.on_top Answered.Done part.reply_of (reverse frames.old) }
-    ensures left { drop 1 (reverse frames.new) ≡ drop 1 (reverse frames.old) }
+// Makes the place one for an answer. A function of its own, since it has room for what it puts there, which is cleared
+// at its entry.
+fn begin_answer(told: &mut Stimulus)
+    ensures { told.new ≡ Told.Answer Answered.Done }
 {
-    match frames.last_mut() {
-        Some(frame) => frame.take_reply(place),
-        None => *place = Reply::Done,
-    }
+    *told = Stimulus::Answer(Reply::Done);
 }
 
 impl Stack {
@@ -117,7 +131,8 @@ impl Stack {
         ensures { result ≡ [] }
     {
         Stack {
-            frames: ArrayVec::new(),
+            frames: array::from_fn(|_| Frame::default()),
+            len: 0,
         }
     }
 
@@ -126,28 +141,29 @@ impl Stack {
         requires { length self.old < 48 }
         ensures { self.new ≡ frame ∷ self.old }
     {
-        self.frames.push(frame);
+        self.frames[self.len] = frame;
+        self.len += 1;
     }
 
     /// The topmost frame.
     pub fn top(&self) -> Option<&Frame>
         ensures { option_copied result ≡ slice_get self.now 0 }
     {
-        self.frames.as_slice().last()
+        self.frames().last()
     }
 
     /// Drops the topmost frame, if there is one.
     pub fn drop_top(&mut self)
         ensures { self.new ≡ drop 1 self.old }
     {
-        let _ = self.frames.pop();
+        self.len = self.len.saturating_sub(1);
     }
 
     /// Whether there is no open work.
     pub fn is_empty(&self) -> bool
         ensures { result ≡ (length self.now == 0) }
     {
-        self.frames.is_empty()
+        self.len == 0
     }
 
     /// The poll round on top goes on behind the next process that is marked, which is answered.
@@ -155,7 +171,7 @@ impl Stack {
         ensures value { option_map (λ (p : At). p.0) result ≡ part.on_top None (part.marked_of processes.now) self.old }
         ensures left { self.new ≡ part.changed_top (part.past_marked processes.now) self.old }
     {
-        next_marked_in(self.frames.as_mut_slice(), processes)
+        next_marked_in(&mut self.frames[..self.len], processes)
     }
 
     /// The walk on top goes on behind its next process, which is answered.
@@ -163,7 +179,7 @@ impl Stack {
         ensures value { option_map (λ (p : At). p.0) result ≡ part.on_top None part.next_of self.old }
         ensures left { self.new ≡ part.changed_top part.advanced self.old }
     {
-        advance_in(self.frames.as_mut_slice())
+        advance_in(&mut self.frames[..self.len])
     }
 
     /// The poll round of the delivery on top is done from now on. Answers whether it wasn't yet.
@@ -171,7 +187,7 @@ impl Stack {
         ensures value { result ≡ part.on_top false part.wants_polls self.old }
         ensures left { self.new ≡ part.changed_top part.polled self.old }
     {
-        begin_polls_in(self.frames.as_mut_slice())
+        begin_polls_in(&mut self.frames[..self.len])
     }
 
     /// The next receiver of the broadcast on top has its turn behind a poll round, unless one has it.
@@ -179,7 +195,7 @@ impl Stack {
         ensures value { result ≡ part.on_top false part.has_receiver self.old }
         ensures left { self.new ≡ part.changed_top part.with_receiver self.old }
     {
-        begin_receiver_in(self.frames.as_mut_slice())
+        begin_receiver_in(&mut self.frames[..self.len])
     }
 
     /// The receiver of the broadcast on top that is given the event next, which it is told.
@@ -188,7 +204,15 @@ impl Stack {
         ensures told { told.new ≡ part.on_top told.old (part.told_by told.old) self.old }
         ensures left { self.new ≡ part.changed_top part.past_receiver self.old }
     {
-        pass_receiver_in(self.frames.as_mut_slice(), told)
+        pass_receiver_in(&mut self.frames[..self.len], told)
+    }
+
+    /// The broadcast on top, if it is of an event with another code than these, goes on past the kernel's processes that
+    /// come next.
+    pub fn pass_kernel_receivers(&mut self, codes: &[u8])
+        ensures { self.new ≡ part.changed_top (part.past_kernel_receivers codes.now) self.old }
+    {
+        pass_kernel_receivers_in(&mut self.frames[..self.len], codes)
     }
 
     /// Whether the process that leaves, on top, is given EXIT, which it is once.
@@ -196,7 +220,7 @@ impl Stack {
         ensures value { result ≡ part.on_top false part.exits_of self.old }
         ensures left { self.new ≡ part.changed_top part.past_exit self.old }
     {
-        take_exit_in(self.frames.as_mut_slice())
+        take_exit_in(&mut self.frames[..self.len])
     }
 
     /// Whether something is done before the reply on top.
@@ -214,7 +238,7 @@ impl Stack {
         ensures value { result ≡ part.on_top Before.Nothing part.first_of self.old }
         ensures left { self.new ≡ part.changed_top part.past_first self.old }
     {
-        take_first_in(self.frames.as_mut_slice())
+        take_first_in(&mut self.frames[..self.len])
     }
 
     /// The reply on top is put into the place, and its frame is dropped.
@@ -224,10 +248,13 @@ impl Stack {
     {
         // A stimulus that is an answer keeps its place, so that the reply alone is moved.
         if !matches!(told, Stimulus::Answer(_)) {
-            *told = Stimulus::Answer(Reply::Done);
+            begin_answer(told);
         }
         if let Stimulus::Answer(place) = told {
-            take_reply_in(self.frames.as_mut_slice(), place);
+            match self.top() {
+                Some(frame) => frame.tell_reply(place),
+                None => *place = Reply::Done,
+            }
         }
         self.drop_top();
     }
@@ -236,6 +263,6 @@ impl Stack {
     pub fn frames(&self) -> &[Frame]
         ensures { reverse result.now ≡ self.now }
     {
-        self.frames.as_slice()
+        &self.frames[..self.len]
     }
 }

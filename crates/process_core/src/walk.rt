@@ -1,18 +1,18 @@
 //! A walk over the process list as it stood when the walk began.
 ghost use Rattle.std.specs.Prelude.{◌≡◌, [], ◌∷◌, ◌≤◌, ◌<◌, length, drop, slice_get, option_map, MatchOption};
 ghost use Rattle.mote_types.specs.declared.event.Pid.{Pid as At};
-ghost use Rattle.process_core.specs.Code.Frames.{from_marked};
+ghost use Rattle.process_core.specs.Code.Frames.{from_marked, from_application};
 ghost use Rattle.process_core.specs.Idle.{is_empty};
 
+use crate::numbers::Numbers;
 use crate::process_list::ProcessList;
-use arrayvec::ArrayVec;
-use mote_types::event::Pid;
+use mote_types::event::{FIRST_APPLICATION, Pid};
 use std::marker::Model;
 
 /// The numbers of the processes that are left, in list order: a copy of the list's numbers, and a cursor.
 #[derive(Drop)]
 pub struct Walk {
-    numbers: ArrayVec<u8, 20>,
+    numbers: Numbers,
     at: usize,
 }
 
@@ -28,7 +28,7 @@ impl Model for Walk {
 
 impl Walk {
     /// A walk over these.
-    pub fn over(numbers: ArrayVec<u8, 20>) -> Walk
+    pub fn over(numbers: Numbers) -> Walk
         ensures { result ≡ numbers.items }
     {
         Walk { numbers, at: 0 }
@@ -41,7 +41,7 @@ impl Walk {
         if self.at == self.numbers.len() {
             return None;
         }
-        let number = self.numbers[self.at];
+        let number = self.numbers.as_slice()[self.at];
         self.at += 1;
         Some(Pid(number))
     }
@@ -57,6 +57,15 @@ impl Walk {
             }
         }
         None
+    }
+
+    /// The walk leaves the kernel's processes that come next behind.
+    pub fn pass_kernel_processes(&mut self)
+        ensures { self.new ≡ from_application self.old }
+    {
+        while self.at < self.numbers.len() && self.numbers.as_slice()[self.at] < FIRST_APPLICATION {
+            self.at += 1;
+        }
     }
 
     #[tactic(auto, using(crate::proofs::NothingLeft::is_empty_drop))]

@@ -1,5 +1,5 @@
 -- What the changes of the table make of the cells and the timer list.
-use Rattle.std.proofs.Common.{◌≡◌, ℕ, ◌<◌, ◌≤◌, true, false, List, [], length, refl, sym, ◌∙◌, ap, arith, set, get_or}
+use Rattle.std.proofs.Common.{◌≡◌, ℕ, ◌<◌, ◌≤◌, true, false, List, [], length, refl, ◌∙◌, ap, arith, set, get_or}
 use Rattle.std.specs.Prelude.{Some, None, replicate, All, ◌^◌}
 use Rattle.std.specs.List.{list_any}
 use Rattle.std.proofs.lemmas.List.{length-set}

@@ -5,3 +5,4 @@ pub mod LinkLemmas
 pub mod NameLemmas
 pub mod Unlinking
 pub mod Forgetting
+pub mod NoneDue

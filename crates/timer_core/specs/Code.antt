@@ -1,3 +1,4 @@
 -- What the code keeps true of its own parts.
 pub mod Links
 pub mod Places
+pub mod Watched

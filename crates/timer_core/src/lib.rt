@@ -8,3 +8,4 @@ mod numbers;
 mod table;
 pub mod timer;
 pub mod timers;
+mod watched;

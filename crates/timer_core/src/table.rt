@@ -1,6 +1,7 @@
 //! All cells in one table. Those of the armed timers are linked, which makes the timer list.
 
 ghost use Rattle.std.specs.Prelude.{◌≡◌, ◌≤◌, ◌^◌, IfSome};
+ghost use Rattle.timer_core.specs.Code.Watched.{NoneDueBefore};
 ghost use Rattle.timer_core.specs.Names.{IsNamed};
 ghost use Rattle.timer_core.specs.Timers.{no_timers, cell_of, is_armed, armed_with, stop_timer, first_due, without_event_timers, without_callback_timers};
 
@@ -135,6 +136,19 @@ impl TimerTable {
             link = self.cells[timer.place()].next;
         }
         None
+    }
+
+    /// The earliest deadline on the list. Where the list is empty, the latest number there is.
+    pub(crate) fn earliest_deadline(&self) -> u64
+        ensures { NoneDueBefore result self.now }
+    {
+        let mut earliest = u64::MAX;
+        let mut link = self.first;
+        while let Some(timer) = link {
+            earliest = earliest.min(self.cell(timer).deadline());
+            link = self.cells[timer.place()].next;
+        }
+        earliest
     }
 
     /// The event timers of `pid` are off the list.

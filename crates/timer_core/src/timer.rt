@@ -1,8 +1,9 @@
 //! The names of the timers, and what is kept of each.
 
-ghost use Rattle.std.specs.Prelude.{◌≡◌, ◌<◌};
+ghost use Rattle.std.specs.Prelude.{◌≡◌, ◌<◌, ◌≤◌, ◌^◌};
 ghost use Rattle.timer_core.specs.Code.Places.{place_of};
 ghost use Rattle.timer_core.specs.Names.{IsNamed, is_timer};
+ghost use Rattle.timer_core.specs.Timers.{deadline};
 
 use mote_types::event::Pid;
 
@@ -22,6 +23,16 @@ pub struct Cell {
     pub start: u64,
     /// How long it is. The deadline is `start + interval`.
     pub interval: u32,
+}
+
+impl Cell {
+    /// When it runs out, in ticks since boot.
+    pub(crate) fn deadline(self) -> u64
+        requires { self.start ≤ 2 ^ 63 }
+        ensures { result ≡ deadline self }
+    {
+        self.start + self.interval as u64
+    }
 }
 
 impl Timer {

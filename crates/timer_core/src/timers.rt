@@ -11,8 +11,8 @@ ghost use Rattle.timer_core.specs.Timers.{is_armed, set_timer, restart_timer, re
 
 use crate::due::Due;
 use crate::numbers::ArmingNumbers;
-use crate::table::TimerTable;
 use crate::timer::{Cell, Timer};
+use crate::watched::WatchedTable;
 use mote_types::event::Pid;
 use mote_types::refusal::Refusal;
 use std::marker::Model;
@@ -27,7 +27,7 @@ pub const LATEST: u64 = 1 << 63;
 /// and stopping a callback timer takes its earlier expiries back are this project's profile.
 #[derive(Drop)]
 pub struct Timers {
-    table: TimerTable,
+    table: WatchedTable,
     numbers: ArmingNumbers,
 }
 
@@ -45,7 +45,7 @@ impl Timers {
         ensures { result ≡ at_boot }
     {
         Timers {
-            table: TimerTable::new(),
+            table: WatchedTable::new(),
             numbers: ArmingNumbers::new(),
         }
     }
@@ -183,10 +183,11 @@ impl Timers {
     }
 
     /// Whether a timer on the list is due.
+    #[inline]
     pub fn any_due(&self, clock: u64) -> bool
         ensures { result ≡ is_some (first_due clock self.now.timers) }
     {
-        self.table.first_due(clock).is_some()
+        self.table.any_due(clock)
     }
 
     /// Whether that is the number that callback timer `number` of `pid` has now, so that an expiry with it counts.

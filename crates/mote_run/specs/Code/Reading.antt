@@ -1,10 +1,13 @@
 -- What was used of a script, and what that says.
-use Rattle.std.specs.Prelude.{◌≡◌, ◌≢◌, ℕ, ◌+◌, ◌<◌, ◌≤◌, Bool, true, List, ◌∷◌, ◌++◌, length, take, Option, Some, None, Result, OnOk, OnErr}
+use Rattle.std.specs.Prelude.{◌≡◌, ◌≢◌, ℕ, ◌+◌, ◌<◌, ◌≤◌, Bool, true, false, List, ◌∷◌, ◌++◌, length, take, Option, Some, None, Result, OnOk, OnErr}
+use Rattle.mote_types.specs.declared.entry.Entry.{Entry}
 use Rattle.mote_types.specs.declared.entry.Input.{Input}
 use Rattle.mote_text.specs.declared.script.BadLine.{BadLine}
+use Rattle.mote_text.specs.EntryText.{entry_line}
 use Rattle.mote_text.specs.Lines.{GoesOnAt, has_no_end, unfinished_after, with_end}
 use Rattle.mote_text.specs.Script.{line_limit, line_said, read_line, script_limit}
 use Rattle.mote_text.specs.declared.lines.Taken.{Taken}
+use Rattle.mote_run.specs.declared.reader.LineInput.{LineInput}
 
 -- a line says what it is read as, bytes before a line's end say nothing, and a line that is too wide has no form
 abbrev pub said : Taken → List ℕ → Option (Option Input)
@@ -17,6 +20,15 @@ abbrev pub number_after : Taken → ℕ → ℕ
 number_after Taken.Line number = number + 1
 number_after Taken.More number = number
 number_after Taken.TooWide number = number
+
+abbrev pub is_frame : Input → Bool
+is_frame (Input.Tick n) = false
+is_frame (Input.Serial bytes) = false
+is_frame (Input.Frame bytes) = true
+
+-- where the input is a frame, its line of the transcript lies beside it
+abbrev pub HasFrameLine : LineInput → Type 0
+HasFrameLine place = is_frame place.input ≡ true → place.frame_line.items ≡ entry_line (Entry.Input place.input)
 
 -- so many bytes of a piece were used, up to the end of the present line, whose number this is. That is what they say
 pub record ReadPart (line piece line_later : List ℕ) (used number number_later : ℕ) (says : Result Bool BadLine) (input : Input) : Type 0 where

@@ -11,7 +11,8 @@ use Rattle.process_core.specs.declared.frame.First.{First}
 use Rattle.process_core.specs.declared.process.Process.{Process}
 use Rattle.process_core.specs.declared.frame.Frame.{Frame}
 use Rattle.process_core.specs.Agenda.{Item}
-use Rattle.process_core.specs.Processes.{is_marked}
+use Rattle.process_core.specs.KernelReceivers.{is_other_than}
+use Rattle.process_core.specs.Processes.{is_kernel_process, is_marked}
 use Rattle.process_core.specs.Scheduler.{of_event}
 
 -- what comes before a reply
@@ -121,6 +122,17 @@ abbrev pub past_receiver : Frame → Frame
 past_receiver (Frame.Broadcast (Some p) walk event) = Frame.Broadcast None walk event
 past_receiver (Frame.Broadcast None walk event) = Frame.Broadcast None (drop 1 walk) event
 past_receiver frame = frame
+
+-- the rest of a walk from the first application on
+abbrev pub from_application : List ℕ → List ℕ
+from_application [] = []
+from_application (p ∷ walk) = if is_kernel_process p then from_application walk else p ∷ walk
+
+-- a broadcast of an event with another code than these, behind the kernel's processes that come next
+abbrev pub past_kernel_receivers : List ℕ → Frame → Frame
+past_kernel_receivers codes (Frame.Broadcast None walk event) =
+    Frame.Broadcast None (if is_other_than codes event.code then from_application walk else walk) event
+past_kernel_receivers codes frame = frame
 
 -- whether a process that leaves is given EXIT, and what is left then
 abbrev pub exits_of : Frame → Bool

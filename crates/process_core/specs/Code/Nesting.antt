@@ -14,6 +14,7 @@ use Rattle.process_core.specs.declared.frame.First.{First}
 use Rattle.process_core.specs.declared.frame.Frame.{Frame}
 use Rattle.process_core.specs.Processes.{state_of, IsOfMote}
 use Rattle.process_core.specs.Requests.{is_in_activation}
+use Rattle.process_core.specs.Code.Frames.{on_top, has_receiver}
 
 abbrev pub is_one_of : ℕ → List ℕ → Bool
 is_one_of p ps = list_any (eqb p) ps
@@ -45,7 +46,8 @@ abbrev pub LiesOn : ℕ → Frame → List Frame → Type 0
 LiesOn applications (Frame.Answer pid first reply) below = (is_one_of pid.0 (answering below) ≡ false) × IsKnown applications first
 -- it begins to leave when its activation is over, and leaves once
 LiesOn applications (Frame.Leave pid walk exits) below = (is_one_of pid.0 (answering below) ≡ false) × (is_one_of pid.0 (leaving below) ≡ false)
-LiesOn applications (Frame.Polls walk) below = length below ≤ 1
+-- where it lies on a broadcast, a receiver's turn was begun with it, or no receiver is left
+LiesOn applications (Frame.Polls walk) below = (length below ≤ 1) × (on_top false has_receiver below ≡ false)
 LiesOn applications (Frame.Boot walk) below = (below ≡ []) × ((p : ℕ) → is_one_of p walk ≡ true → p < FIRST_APPLICATION + applications)
 LiesOn applications (Frame.Deliver is_polled) below = below ≡ []
 LiesOn applications (Frame.Callback pid number) below = below ≡ []

@@ -7,15 +7,15 @@ use Rattle.mote_run.proofs.settle.settle_input.Goals as goal
 
 pub returns-in_err-write_input-clause-cut_off : goal.returns-in_err-write_input-clause-cut_off
 returns-in_err-write_input-clause-cut_off g c = on_err c.from_residual.result (λ named boot_says before told.
-    let handed = fed c.args.input.now c.args.kernel.now.machine in
+    let handed = fed c.args.line_input.now.input c.args.kernel.now.machine in
     let cut = c.in_err-write_input.ensures.cut_off named in
-    cut_off_at boot_says _ _ before handed handed c.accept.new.self.machine _ _ _ _ _ cut.0 (Entry.Input c.args.input.now)
+    cut_off_at boot_says _ _ before handed handed c.accept.new.self.machine _ _ _ _ _ cut.0 (Entry.Input c.args.line_input.now.input)
     (nothing_settled boot_says _ _ before handed _ _ told) (c.accept.ensures.machine _) cut.1)
 
 pub returns-then-pass_idle_round-clause-settled : goal.returns-then-pass_idle_round-clause-settled
 returns-then-pass_idle_round-clause-settled g c = λ named boot_says before told.
     settled_at_rest boot_says _ _ before _ _ _ _ _ _ _
-    (settled_input boot_says _ c.args.quiet before c.args.kernel.now.machine c.accept.new.self.machine _ _ _ _ c.args.input.now told
+    (settled_input boot_says _ c.args.quiet before c.args.kernel.now.machine c.accept.new.self.machine _ _ _ _ c.args.line_input.now.input told
     (c.accept.ensures.machine _) c.requires.running c.accept.ensures.running (c.in_ok-write_input.ensures.written named))
     (c.pass_idle_round.ensures.machine c.if-pass_idle_round.true _)
     c.accept.ensures.running c.pass_idle_round.ensures.halted
@@ -26,13 +26,13 @@ returns-then-pass_idle_round-clause-still g c = rest_is_still _ _ (c.pass_idle_r
 pub returns-clause-settled : goal.returns-clause-settled
 returns-clause-settled g c = succeeded_with c.settle.result (rw (c.pass_idle_round.ensures.else_nothing c.if-pass_idle_round.false) at c.settle.ensures.settled) (λ settles named boot_says before told.
     settled_on boot_says _ _ _ before _ _ _ _ _ _ _ _ _
-    (settled_input boot_says _ c.args.quiet before c.args.kernel.now.machine c.accept.new.self.machine _ _ _ _ c.args.input.now told
+    (settled_input boot_says _ c.args.quiet before c.args.kernel.now.machine c.accept.new.self.machine _ _ _ _ c.args.line_input.now.input told
     (c.accept.ensures.machine _) c.requires.running c.accept.ensures.running (c.in_ok-write_input.ensures.written named))
     (λ entries first. settles named boot_says (before ++ entries) first))
 
 pub returns-clause-cut_off : goal.returns-clause-cut_off
 returns-clause-cut_off g c = failed_with c.settle.result (rw (c.pass_idle_round.ensures.else_nothing c.if-pass_idle_round.false) at c.settle.ensures.cut_off) (λ cuts named boot_says before told.
     cut_off_on boot_says _ _ before _ _ _ _ _ _ _
-    (settled_input boot_says _ c.args.quiet before c.args.kernel.now.machine c.accept.new.self.machine _ _ _ _ c.args.input.now told
+    (settled_input boot_says _ c.args.quiet before c.args.kernel.now.machine c.accept.new.self.machine _ _ _ _ c.args.line_input.now.input told
     (c.accept.ensures.machine _) c.requires.running c.accept.ensures.running (c.in_ok-write_input.ensures.written named))
     (λ entries first. cuts named boot_says (before ++ entries) first))

@@ -16,10 +16,10 @@ invariant-job g l = record {
   other : l.other ≡ l.fn.other;
   left : entries_left_in l.self ≤ entries_left_in l.fn.self;
   so_far : (answers : Answers) → GoesSilently answers (machine_of l.fn.self) (machine_of l.self);
-  present : present l.self.scheduler.state ≤ present l.initial.self.scheduler.state;
+  present : present l.self.scheduler.state ≤ present l.fn.self.scheduler.state;
 }
 
 abbrev pub decreases-job : goal.decreases-job
 decreases-job g l =
-    let bound = present l.initial.self.scheduler.state in
+    let bound = present l.fn.self.scheduler.state in
     (work_limit - l.self.work) * (round_cost bound + 1) + costs bound l.self.scheduler.state.agenda

@@ -1,4 +1,4 @@
-use Rattle.std.proofs.Common.{◌-◌, length, refl, ◌∙◌, ap, arith, lit<}
+use Rattle.std.proofs.Common.{◌-◌, length, refl, ◌∙◌, ap, arith}
 use Rattle.std.specs.List.{range_with_len}
 use Rattle.std.proofs.lemmas.List.FromFn.{length-range_with_len}
 use Rattle.process_core.proofs.Boot.{range_more, order_at_boot}
@@ -6,11 +6,11 @@ use Rattle.process_core.proofs.scheduler.Scheduler.new.Goals as goal
 
 pub push-requires : goal.push-requires
 push-requires c =
-    (lit< tt, omega (arith, ap length c.loop-number.invariant.so_far, length-range_with_len 4 (c.loop-number.number - 4)))
+    omega (arith, ap length c.loop-number.invariant.so_far, length-range_with_len 4 (c.loop-number.number - 4))
 
 pub loop-number-preserved : goal.loop-number-preserved
 loop-number-preserved c =
-    record { so_far = grind (arith, range_more 4 (c.loop-number.number - 4), c.loop-number.invariant.so_far, c.push.ensures.items); from = omega arith }
+    record { so_far = grind (arith, range_more 4 (c.loop-number.number - 4), c.loop-number.invariant.so_far, c.push.ensures); from = omega arith }
 
 pub invariant_of-result : goal.invariant_of-result
 invariant_of-result c =

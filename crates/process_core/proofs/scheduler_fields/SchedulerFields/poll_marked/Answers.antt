@@ -4,4 +4,5 @@ use Rattle.process_core.proofs.scheduler_fields.SchedulerFields.poll_marked.Goal
 
 pub returns-then-is_any_marked-clause-order : goal.returns-then-is_any_marked-clause-order
 returns-then-is_any_marked-clause-order c =
-    order_base c.args.self.now _ _ c.requires.low refl refl c.requires.idle c.push.ensures c.requires.order
+    order_base c.args.self.now _ _ (c.requires.low, c.requires.begun) refl refl c.requires.idle c.push.ensures
+    c.requires.order

@@ -1,0 +1,115 @@
+-- The kernel's processes that do nothing with an event are passed by steps that make no entry.
+use Rattle.std.proofs.Common.{◌≡◌, ℕ, suc, ◌≤◌, ◌==◌, Bool, true, false, ◌&&◌, List, ◌∷◌, refl, ap, arith}
+use Rattle.std.specs.Prelude.{if◌then◌else◌}
+use Rattle.std.proofs.lemmas.Bool.Decides.{nat_tests}
+use Rattle.mote_types.specs.declared.event.Event.{Event}
+use Rattle.mote_types.specs.declared.event.Origin.{Origin}
+use Rattle.mote_types.specs.declared.event.Stimulus.{Stimulus}
+use Rattle.mote_types.specs.declared.event.TheConstants.{POLL, CONTINUE, EXITED}
+use Rattle.process_core.specs.Agenda.{Item}
+use Rattle.process_core.specs.KernelReceivers.{behind_kernel_receivers, is_other_than, kernel_receivers_passed}
+use Rattle.process_core.specs.Processes.{is_any_marked, is_kernel_process}
+use Rattle.process_core.specs.Scheduler.{Scheduler}
+use Rattle.kernel_core.specs.declared.fields.KernelFields.{KernelFields}
+use Rattle.kernel_core.specs.Code.Cost.{starts, present}
+use Rattle.kernel_core.specs.Code.Draws.{draws}
+use Rattle.kernel_core.specs.Code.View.{machine_of, none_unshown, IsInOrder}
+use Rattle.kernel_core.specs.IdleReceivers.{kernel_events}
+use Rattle.kernel_core.specs.KernelProcesses.{serve}
+use Rattle.kernel_core.specs.Machine.{Machine, scheduled}
+use Rattle.kernel_core.specs.Run.{Answers, GoesSilently, silent, one_step}
+use Rattle.kernel_core.proofs.Reaching.{silently_here}
+
+-- what the kernel's processes do with other events
+serve_idle : (p : ℕ) (event : Event) (m : Machine) → is_other_than kernel_events event.code ≡ true → serve p event m ≡ m
+serve_idle p event m h =
+    let polled : (event.code == POLL) ≡ false = grind (arith, nat_tests, h) in
+    let continued : (event.code == CONTINUE) ≡ false = grind (arith, nat_tests, h) in
+    let exited : (event.code == EXITED) ≡ false = grind (arith, nat_tests, h) in
+    grind (arith, polled, continued, exited)
+
+abbrev with_agenda : List Item → Machine → Machine
+with_agenda items = scheduled (λ s. record s { agenda = items })
+
+-- these items, behind a receiver of the event
+abbrev receiver_first : ℕ → Origin → Event → List Item → List Item
+receiver_first p origin event items = Item.Polls ∷ Item.Give p origin (Stimulus.Event event) ∷ items
+
+-- nothing comes of the poll round before a receiver, and nothing of the event
+module _ (answers : Answers) (m : Machine) (running : m.is_halted ≡ false)
+    (unmarked : is_any_marked m.scheduler.processes ≡ false) where
+  abbrev IsPassed : List Item → Type 0
+  IsPassed items = GoesSilently answers (with_agenda items m) (with_agenda (behind_kernel_receivers kernel_events items) m)
+
+  passed_silently : (items : List Item) → IsPassed items
+  passed_silently (Item.Polls ∷ Item.Give p origin (Stimulus.Event event) ∷ items) =
+      split (is_kernel_process p) refl (is_other_than kernel_events event.code) refl (passed_silently items)
+    where
+      split : (kernel : Bool) → is_kernel_process p ≡ kernel → (b : Bool) → is_other_than kernel_events event.code ≡ b
+          → IsPassed items → IsPassed (receiver_first p origin event items)
+      split true k true e rest =
+          let given = with_agenda (Item.Give p origin (Stimulus.Event event) ∷ items) m in
+          let served = with_agenda items m in
+          let nothing = serve_idle p event (record served { is_halted = false }) e in
+          let polls : one_step answers (with_agenda (receiver_first p origin event items) m) ≡ silent given =
+          rw (running, unmarked) refl in
+          let serves : one_step answers given ≡ silent served = rw (running, k) (ap silent nothing) in
+          rw (k, e) record { count = suc (suc rest.count); steps = (given, polls, (served, serves, rest.steps)) }
+      split true k false e rest = rw (k, e) (silently_here _)
+      split false k b e rest = rw k (silently_here _)
+  passed_silently _ = silently_here _
+
+abbrev passed : KernelFields → KernelFields
+passed k = record k { scheduler = record k.scheduler { state = kernel_receivers_passed kernel_events k.scheduler.state } }
+
+pub receivers_passed : (answers : Answers) (k : KernelFields) → k.halted ≡ false → k.unshown ≡ none_unshown
+    → GoesSilently answers (machine_of k) (machine_of (passed k))
+receivers_passed answers k running shown = split (is_any_marked k.scheduler.state.processes) refl
+  where
+    split : (b : Bool) → is_any_marked k.scheduler.state.processes ≡ b
+        → GoesSilently answers (machine_of k) (machine_of (passed k))
+    split true e = rw e (silently_here (machine_of k))
+    split false e =
+        let bare : KernelFields = record k { unshown = none_unshown } in
+        rw (e, shown) (passed_silently answers (machine_of bare) running e k.scheduler.state.agenda)
+
+-- no process is started, and no more is drawn than without
+
+starts_behind : (codes : List ℕ) (items : List Item) → starts (behind_kernel_receivers codes items) ≡ starts items
+starts_behind codes (Item.Polls ∷ Item.Give p origin (Stimulus.Event event) ∷ items) =
+    grind (arith, starts_behind codes items)
+starts_behind codes _ = refl
+
+draws_behind : (codes : List ℕ) (items : List Item) → draws (behind_kernel_receivers codes items) ≤ draws items
+draws_behind codes (Item.Polls ∷ Item.Give p origin (Stimulus.Event event) ∷ items) =
+    split (is_kernel_process p && is_other_than codes event.code) (draws_behind codes items)
+  where
+    whole : List Item
+    whole = receiver_first p origin event items
+
+    split : (b : Bool) → draws (behind_kernel_receivers codes items) ≤ draws items
+        → draws (if b then behind_kernel_receivers codes items else whole) ≤ draws whole
+    split true rest = omega (arith, rest)
+    split false rest = omega arith
+draws_behind codes _ = omega arith
+
+pub present_passed : (s : Scheduler ℕ) → present (kernel_receivers_passed kernel_events s) ≡ present s
+present_passed s = grind (arith, starts_behind kernel_events s.agenda)
+
+pub order_passed : (k : KernelFields) → IsInOrder k → IsInOrder (passed k)
+order_passed k order = split (is_any_marked k.scheduler.state.processes) refl
+  where
+    split : (b : Bool) → is_any_marked k.scheduler.state.processes ≡ b → IsInOrder (passed k)
+    split true e = rw e order
+    split false e =
+        rw e record {
+          work = order.work;
+          applications = order.applications;
+          few = order.few;
+          idle = order.idle;
+          clock = order.clock;
+          inputs = order.inputs;
+          events = order.events;
+          frames = order.frames;
+          draws = omega (arith, draws_behind kernel_events k.scheduler.state.agenda, order.draws);
+        }

@@ -1,0 +1,85 @@
+//! The numbers of processes, in list order.
+
+ghost use Rattle.std.specs.Prelude.{◌≡◌, ◌≤◌, ◌<◌, ◌++◌, [], ◌∷◌, length};
+
+use crate::marks::PROCESSES;
+use std::marker::Model;
+
+/// Room for the numbers of all processes.
+///
+/// No `ArrayVec`: a walk is a copy of these, and to copy an `ArrayVec` is a call of memcpy for as much as it holds.
+#[derive(Drop)]
+pub struct Numbers {
+    places: [u8; PROCESSES],
+    len: usize,
+}
+
+impl Model for Numbers {
+    ghost use Rattle.std.specs.Prelude.{◌≡◌, ◌≤◌, ℕ, length, take};
+    ghost use Rattle.arrayvec.specs.ArrayVec.{ArrayVec as Items};
+
+    ghost Value = { Items ℕ };
+
+    ghost view = { λ n. record { items = take n.len n.places } };
+
+    ghost invariant = { λ n. (n.len ≤ 20) × (length n.places ≡ 20) };
+}
+
+impl Numbers {
+    /// No number.
+    pub fn new() -> Self
+        ensures { result.items ≡ [] }
+    {
+        Numbers {
+            places: [0; PROCESSES],
+            len: 0,
+        }
+    }
+
+    /// This number, and behind it these.
+    pub fn behind(first: u8, rest: &[u8]) -> Self
+        requires { length rest.now < 20 }
+        ensures { result.items ≡ first ∷ rest.now }
+    {
+        let mut places = [0; PROCESSES];
+        let len = 1 + rest.len();
+        places[0] = first;
+        places[1..len].copy_from_slice(rest);
+        Numbers { places, len }
+    }
+
+    /// The same numbers once more.
+    pub fn copied(&self) -> Self
+        ensures value { result ≡ self.now }
+        ensures few { length result.items ≤ 20 }
+    {
+        Numbers {
+            places: self.places,
+            len: self.len,
+        }
+    }
+
+    /// How many there are.
+    pub fn len(&self) -> usize
+        ensures value { result ≡ length self.now.items }
+        ensures few { result ≤ 20 }
+    {
+        self.as_slice().len()
+    }
+
+    pub fn as_slice(&self) -> &[u8]
+        ensures value { result.now ≡ self.now.items }
+        ensures few { length result.now ≤ 20 }
+    {
+        &self.places[..self.len]
+    }
+
+    /// Appends this number.
+    pub fn push(&mut self, number: u8)
+        requires { length self.old.items < 20 }
+        ensures { self.new.items ≡ self.old.items ++ number ∷ [] }
+    {
+        self.places[self.len] = number;
+        self.len += 1;
+    }
+}
