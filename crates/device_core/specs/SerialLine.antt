@@ -34,7 +34,7 @@ after_byte serial byte =
 abbrev pub after_bytes : SerialLine → List ℕ → SerialLine
 after_bytes serial bytes = fold after_byte serial bytes
 
--- none of the bytes is ignored or lost
+-- outside the overflow state none of the bytes is ignored or lost
 abbrev pub takes_all : SerialLine → List ℕ → Bool
 takes_all serial bytes =
     not serial.overflow && nat_le (length serial.ring + length bytes) 127 && not (list_any (λ byte. byte == 13) bytes)

@@ -71,7 +71,7 @@ impl SerialLine {
         }
     }
 
-    /// Whether none of these bytes is ignored or lost: then they go into the ring together.
+    /// Whether, outside the overflow state, none of these bytes is ignored or lost: then they go into the ring together.
     fn takes_all(&self, bytes: &[u8]) -> bool
         ensures { result ≡ takes_all self.now bytes.now }
     {

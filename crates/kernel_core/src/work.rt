@@ -40,6 +40,7 @@ impl KernelFields {
         ensures order { IsInOrder self.new }
         ensures unmade { result ≢ Reached.Other → other.new ≡ other.old }
     {
+        // The place mostly has the last turn's call still. Whatever it has, no entry comes of this.
         self.pass_idle_receivers(&turn.call);
         'job: loop {
             match self.next_job(&mut turn.stimulus) {
