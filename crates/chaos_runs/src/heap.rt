@@ -3,9 +3,6 @@
 use crate::reply::{BAD_NAME, BAD_RANGE, IN_USE, NO_ROOM, NOT_LIVE, Reply, rounded_up};
 use arrayvec::ArrayVec;
 
-/// The bytes of a header.
-const HEADER: u64 = 16;
-
 /// A rest of more bytes than these stays a gap.
 const LARGEST_SPLINTER: u64 = 16;
 
@@ -14,13 +11,6 @@ const LARGEST_SPLINTER: u64 = 16;
 struct Place {
     at: u64,
     room: u64,
-}
-
-impl Place {
-    /// Where the block's extent ends.
-    fn end(self) -> u64 {
-        self.at.saturating_add(HEADER).saturating_add(self.room)
-    }
 }
 
 /// A block: whose it is, its number, and where it lies.
@@ -42,22 +32,25 @@ struct Gap {
 #[derive(Drop)]
 pub(crate) struct HeapMemory {
     size: u64,
+    /// The bytes of a header.
+    header: u64,
     blocks: ArrayVec<Block, 256>,
 }
 
-/// The room of a block of this rounded length in a gap below the top gap, where it leaves this rest.
-fn room_with(rounded: u64, rest: u64) -> u64 {
+/// The room of a block that needs so much in a gap below the top gap, where it leaves this rest.
+fn room_with(least: u64, rest: u64) -> u64 {
     if rest > LARGEST_SPLINTER {
-        rounded
+        least
     } else {
-        rounded.saturating_add(rest)
+        least.saturating_add(rest)
     }
 }
 
 impl HeapMemory {
-    pub(crate) fn new(size: u64) -> Self {
+    pub(crate) fn new(size: u64, header: u64) -> Self {
         HeapMemory {
             size,
+            header,
             blocks: ArrayVec::new(),
         }
     }
@@ -66,6 +59,20 @@ impl HeapMemory {
         self.blocks
             .iter()
             .position(|block| block.pid == pid && block.number == number)
+    }
+
+    /// Where the extent of a block ends.
+    fn end_of(&self, place: Place) -> u64 {
+        place
+            .at
+            .saturating_add(self.header)
+            .saturating_add(place.room)
+    }
+
+    /// The least room of a block of so many bytes.
+    fn least_room(&self, len: u32) -> u64 {
+        let least = if self.header == 8 { 8 } else { 4 };
+        rounded_up(len).max(least)
     }
 
     /// The gaps below the top gap, from the lowest on.
@@ -80,7 +87,7 @@ impl HeapMemory {
                     len: at - end,
                 });
             }
-            end = block.place.end();
+            end = self.end_of(block.place);
         }
         gaps
     }
@@ -89,7 +96,7 @@ impl HeapMemory {
     fn top_gap(&self) -> Gap {
         let mut at = 0;
         for block in &self.blocks {
-            at = block.place.end();
+            at = self.end_of(block.place);
         }
         Gap {
             at,
@@ -110,17 +117,17 @@ impl HeapMemory {
 
     /// Where a block of so many bytes goes.
     fn place_of(&self, len: u32) -> Option<Place> {
-        let rounded = rounded_up(len);
-        let need = HEADER.saturating_add(rounded);
+        let least = self.least_room(len);
+        let need = self.header.saturating_add(least);
         let Some(gap) = self.best_gap(need) else {
             let top = self.top_gap();
             let place = Place {
                 at: top.at,
-                room: rounded,
+                room: least,
             };
             return (top.len >= need).then_some(place);
         };
-        let room = room_with(rounded, gap.len.saturating_sub(need));
+        let room = room_with(least, gap.len.saturating_sub(need));
         Some(Place { at: gap.at, room })
     }
 
@@ -164,22 +171,19 @@ impl HeapMemory {
 
     /// The room that a block gets where it lies: as it is, or with the gap behind it.
     fn room_in_place(&self, place: Place, len: u32) -> Option<u64> {
-        let rounded = rounded_up(len);
-        if rounded <= place.room {
-            return Some(if place.room - rounded > LARGEST_SPLINTER {
-                rounded
-            } else {
-                place.room
-            });
+        let least = self.least_room(len);
+        if least <= place.room {
+            return Some(room_with(least, place.room - least));
         }
+        let end = self.end_of(place);
         let top = self.top_gap();
-        if top.at == place.end() {
-            return (place.room.saturating_add(top.len) >= rounded).then_some(rounded);
+        if top.at == end {
+            return (place.room.saturating_add(top.len) >= least).then_some(least);
         }
         let gaps = self.lower_gaps();
-        let gap = gaps.iter().find(|gap| gap.at == place.end())?;
+        let gap = gaps.iter().find(|gap| gap.at == end)?;
         let most = place.room.saturating_add(gap.len);
-        (most >= rounded).then_some(room_with(rounded, most.saturating_sub(rounded)))
+        (most >= least).then_some(room_with(least, most.saturating_sub(least)))
     }
 
     pub(crate) fn realloc(&mut self, pid: u32, number: u32, len: u32) -> Reply {

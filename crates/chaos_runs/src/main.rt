@@ -1,6 +1,7 @@
-//! A hundred runs of applications that make calls at random. A plain replay goes over each transcript and finds every answer
-//! to a call on memory by lists of its own. Each transcript is also walked through for what every run is to show of memory,
-//! events and timers (`transcript_walks`).
+//! Two hundred runs of applications that make calls at random: a hundred on a plain mote, fifty under a quota of managed
+//! memory, and fifty with short headers in the heap. A plain replay goes over each transcript and finds every answer to a call
+//! on memory by lists of its own. Each transcript is also walked through for what every run is to show of memory, events and
+//! timers (`transcript_walks`).
 #![tactic(auto)]
 
 mod heap;
@@ -12,6 +13,8 @@ mod restless;
 mod tally;
 mod turn;
 
+use crate::heap::HeapMemory;
+use crate::managed::ManagedMemory;
 use crate::replay::Replay;
 use crate::restless::Restless;
 use crate::tally::Tally;
@@ -24,18 +27,27 @@ use node_memory::Sizes;
 use std::alloc::Global;
 use transcript_walks::are_laws_kept;
 
-/// The sizes of the motes: small, so that memory runs short.
-const SIZES: Sizes = Sizes {
+/// The sizes of the plain motes: small, so that memory runs short.
+const PLAIN: Sizes = Sizes {
     mmem: 256,
     heap: 512,
+    header: 16,
+    quota: None,
 };
 
-/// The seeds of the runs. A run has eight applications, whose numbers begin at its seed and the seven behind it.
+/// The seeds of the runs, from this one on. A run has eight applications, whose numbers begin at its seed and the seven behind
+/// it.
 const FIRST_SEED: u32 = 1;
 
-const LAST_SEED: u32 = 50;
-
 const APPLICATIONS: u32 = 8;
+
+/// Motes of one kind.
+#[derive(Clone, Copy, Drop)]
+struct Motes {
+    title: &'static str,
+    sizes: Sizes,
+    last_seed: u32,
+}
 
 /// What many runs came to.
 #[derive(Drop)]
@@ -68,7 +80,7 @@ fn make_script(alloc: Global) -> Result<String> {
 }
 
 /// The run of a seed, with applications that exit, or with some that don't.
-fn run_seed(alloc: Global, seed: u32, exits: bool, script: &str) -> Result<Ran> {
+fn run_seed(alloc: Global, sizes: Sizes, seed: u32, exits: bool, script: &str) -> Result<Ran> {
     let mut boxes: Vec<Box<dyn App>> = Vec::new(alloc);
     for number in 0..APPLICATIONS {
         let chaos = Chaos {
@@ -76,12 +88,21 @@ fn run_seed(alloc: Global, seed: u32, exits: bool, script: &str) -> Result<Ran> 
         };
         boxes.push(Box::new(alloc, Restless { chaos, exits })?)?;
     }
-    Ok(run_script(alloc, SIZES, boxes.as_mut_slice(), script.as_bytes(), false)?)
+    Ok(run_script(alloc, sizes, boxes.as_mut_slice(), script.as_bytes(), false)?)
 }
 
 /// Replays a transcript, and tells a line that is not allowed.
-fn is_right<R: Print>(rt: &R, seed: u32, text: &str, tally: &mut Tally) -> Result<bool> {
-    let mut replay = Replay::new(SIZES.mmem as u64, SIZES.heap as u64);
+fn is_right<R: Print>(
+    rt: &R,
+    sizes: Sizes,
+    seed: u32,
+    text: &str,
+    tally: &mut Tally,
+) -> Result<bool> {
+    let quota = sizes.quota.map(|quota| quota as u64);
+    let managed = ManagedMemory::new(sizes.mmem as u64, quota);
+    let heap = HeapMemory::new(sizes.heap as u64, sizes.header as u64);
+    let mut replay = Replay::new(managed, heap);
     for line in text.lines() {
         if !replay.allows(line, tally) {
             println!(rt; "seed {seed}: {line}")?;
@@ -92,17 +113,17 @@ fn is_right<R: Print>(rt: &R, seed: u32, text: &str, tally: &mut Tally) -> Resul
 }
 
 /// Makes the runs of all seeds, and prints what they came to.
-fn run_all<R: AllocGlobal + Print>(rt: &R, exits: bool, script: &str) -> Result<()> {
+fn run_all<R: AllocGlobal + Print>(rt: &R, motes: Motes, exits: bool, script: &str) -> Result<()> {
     let mut outcome = Outcome {
         finished: 0,
         halted: 0,
         wrong: 0,
         tally: Tally::new(),
     };
-    for seed in FIRST_SEED..=LAST_SEED {
-        let ran = run_seed(rt.alloc(), seed, exits, script)?;
+    for seed in FIRST_SEED..=motes.last_seed {
+        let ran = run_seed(rt.alloc(), motes.sizes, seed, exits, script)?;
         let text = str::from_utf8(ran.transcript.as_slice())?;
-        let is_right = is_right(rt, seed, text, &mut outcome.tally)?;
+        let is_right = is_right(rt, motes.sizes, seed, text, &mut outcome.tally)?;
         let are_kept = are_laws_kept(rt.alloc(), APPLICATIONS as usize, text)?;
         outcome.count_run(ran.end, is_right && are_kept);
     }
@@ -115,10 +136,40 @@ fn run_all<R: AllocGlobal + Print>(rt: &R, exits: bool, script: &str) -> Result<
     Ok(())
 }
 
+/// Makes the runs of motes of one kind, with applications that exit and with some that don't.
+fn run_motes<R: AllocGlobal + Print>(rt: &R, motes: Motes, script: &str) -> Result<()> {
+    println!(rt; "{}", motes.title)?;
+    println!(rt; "Applications that exit:")?;
+    run_all(rt, motes, true, script)?;
+    println!(rt; "Applications that broadcast in place of an exit:")?;
+    run_all(rt, motes, false, script)
+}
+
 fn main(rt: HostRuntime) -> Result<()> {
     let script = make_script(rt.alloc())?;
-    println!(rt; "Applications that exit:")?;
-    run_all(&rt, true, script.as_str())?;
-    println!(rt; "Applications that broadcast in place of an exit:")?;
-    run_all(&rt, false, script.as_str())
+    let kinds = [
+        Motes {
+            title: "No quota, headers of 16 bytes",
+            sizes: PLAIN,
+            last_seed: 50,
+        },
+        Motes {
+            title: "A quota of 28 bytes",
+            // the largest that there is room for nine times: for eight applications, and for frames
+            sizes: Sizes {
+                quota: Some(28),
+                ..PLAIN
+            },
+            last_seed: 25,
+        },
+        Motes {
+            title: "Headers of 8 bytes",
+            sizes: Sizes { header: 8, ..PLAIN },
+            last_seed: 25,
+        },
+    ];
+    for motes in kinds {
+        run_motes(&rt, motes, script.as_str())?;
+    }
+    Ok(())
 }

@@ -1,6 +1,6 @@
 //! Managed memory as a list of blocks, which have no place.
 
-use crate::reply::{BAD_NAME, BAD_RANGE, IN_USE, NO_ROOM, NOT_LIVE, Reply, rounded_up};
+use crate::reply::{BAD_NAME, BAD_RANGE, IN_USE, NO_ROOM, NOT_LIVE, OVER_QUOTA, Reply, rounded_up};
 use arrayvec::ArrayVec;
 
 /// A block: whose it is, its handle, and its length.
@@ -15,13 +15,16 @@ struct Block {
 #[derive(Drop)]
 pub(crate) struct ManagedMemory {
     size: u64,
+    /// What each process may hold, where that is limited.
+    quota: Option<u64>,
     blocks: ArrayVec<Block, 256>,
 }
 
 impl ManagedMemory {
-    pub(crate) fn new(size: u64) -> Self {
+    pub(crate) fn new(size: u64, quota: Option<u64>) -> Self {
         ManagedMemory {
             size,
+            quota,
             blocks: ArrayVec::new(),
         }
     }
@@ -32,13 +35,23 @@ impl ManagedMemory {
             .position(|block| block.pid == pid && block.handle == handle)
     }
 
-    /// The size less the rounded lengths of all live blocks.
-    fn free(&self) -> u64 {
-        let mut free = self.size;
+    /// The quota less the rounded lengths of the process's own live blocks; where there is none, the size less those of all.
+    fn free(&self, pid: u32) -> u64 {
+        let mut free = self.quota.unwrap_or(self.size);
         for block in &self.blocks {
-            free = free.saturating_sub(rounded_up(block.len));
+            if self.quota.is_none() || block.pid == pid {
+                free = free.saturating_sub(rounded_up(block.len));
+            }
         }
         free
+    }
+
+    /// What a block that takes more than is free is refused with.
+    fn shortage(&self) -> Reply {
+        match self.quota {
+            Some(_) => OVER_QUOTA,
+            None => NO_ROOM,
+        }
     }
 
     pub(crate) fn alloc(&mut self, pid: u32, handle: u32, len: u32) -> Reply {
@@ -51,8 +64,8 @@ impl ManagedMemory {
         if len == 0 {
             return BAD_RANGE;
         }
-        if rounded_up(len) > self.free() {
-            return NO_ROOM;
+        if rounded_up(len) > self.free(pid) {
+            return self.shortage();
         }
         let _ = self.blocks.try_push(Block { pid, handle, len });
         Reply::Done

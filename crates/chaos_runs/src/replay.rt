@@ -27,11 +27,11 @@ pub(crate) struct Replay {
 }
 
 impl Replay {
-    /// A mote of these sizes at boot.
-    pub(crate) fn new(managed: u64, heap: u64) -> Self {
+    /// A mote with this memory at boot.
+    pub(crate) fn new(managed: ManagedMemory, heap: HeapMemory) -> Self {
         Replay {
-            managed: ManagedMemory::new(managed),
-            heap: HeapMemory::new(heap),
+            managed,
+            heap,
             pools: Pools::new(),
             awaited: ArrayVec::new(),
         }

@@ -25,6 +25,8 @@ pub(crate) const NO_ROOM: Reply = Reply::Refused(12);
 
 pub(crate) const NO_BLOCK: Reply = Reply::Refused(13);
 
+pub(crate) const OVER_QUOTA: Reply = Reply::Refused(18);
+
 /// How many zeros these digits are, two for each.
 fn read_zeros(digits: &str) -> Option<usize> {
     if digits == "-" {

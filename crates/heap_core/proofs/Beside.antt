@@ -4,12 +4,11 @@ use Rattle.std.specs.Prelude.{Option, Some, None, find, if◌then◌else◌}
 use Rattle.std.specs.Option.{option_map_or, option_or}
 use Rattle.std.proofs.lemmas.Bool.{ne_eqb, eq-eqb, le-leb, lt-leb, leb-true, leb-false, ltb-true, cases_Bool, cases_eq}
 use Rattle.std.proofs.lemmas.List.Folds.{find-append}
-use Rattle.mote_types.specs.Rounding.{up4}
 use Rattle.heap_core.specs.declared.chunk.Chunk.{Chunk}
 use Rattle.heap_core.specs.declared.chunk.Gap.{Gap}
 use Rattle.heap_core.specs.declared.region.Region.{Region}
-use Rattle.heap_core.specs.HeapStore.{header_len, gaps, gap_at, footprint, room_taken, room_in_place}
-use Rattle.heap_core.specs.Code.Chunks.{Tell, AreJoined}
+use Rattle.heap_core.specs.HeapStore.{gaps, gap_at, footprint, least_room, room_taken, room_in_place}
+use Rattle.heap_core.specs.Code.Chunks.{shortest, least_len, Tell, AreJoined}
 use Rattle.heap_core.specs.Code.Layout.{chunks_of, HasChunks, store_of}
 use Rattle.heap_core.specs.Code.Walks.{gap_of, front_gap, place_in_chunk, LeavesGap, IsWholeRoom}
 use Rattle.heap_core.proofs.Told.{place_told, told_le, owner_cases}
@@ -30,11 +29,11 @@ gaps_append : (l r : List Chunk) → gaps_in (l ++ r) ≡ gaps_in l ++ gaps_in r
 gaps_append [] r = refl
 gaps_append (c ∷ l) r = ap (with_gap c c.owner) (gaps_append l r) ∙ with_gap_append c c.owner (gaps_in l) (gaps_in r)
 
-no_gap : (B : List ℕ) (b p x y : ℕ) (l : List Chunk) → Tell B b x y l → (p < x) ⊎ (y ≤ p) → find (begins p) (gaps_in l) ≡ None
-no_gap B b p x y [] t side = refl
-no_gap B b p x y (c ∷ l) t side =
-    let enough : header_len + c.size ≤ c.len = t.1 in let at = place_told B b x c t.0 in let le = told_le B b (x + c.len) y l t.2 in
-    let later : find (begins p) (gaps_in l) ≡ None = no_gap B b p (x + c.len) y l t.2 (elim side [ inl low ↦ inl (omega arith) | inr high ↦ inr (omega arith) ]) in
+no_gap : (header : ℕ) (B : List ℕ) (b p x y : ℕ) (l : List Chunk) → Tell header B b x y l → (p < x) ⊎ (y ≤ p) → find (begins p) (gaps_in l) ≡ None
+no_gap header B b p x y [] t side = refl
+no_gap header B b p x y (c ∷ l) t side =
+    let enough : least_len header c ≤ c.len = t.1 in let at = place_told B b x c t.0 in let le = told_le header B b (x + c.len) y l t.2 in
+    let later : find (begins p) (gaps_in l) ≡ None = no_gap header B b p (x + c.len) y l t.2 (elim side [ inl low ↦ inl (omega arith) | inr high ↦ inr (omega arith) ]) in
     elim (owner_cases c.owner) [
       | inl e ↦
           let far : eqb c.at p ≡ false = ne_eqb c.at p (λ f. elim side [ inl low ↦ absurd (omega arith) | inr high ↦ absurd (omega arith) ]) in
@@ -43,10 +42,10 @@ no_gap B b p x y (c ∷ l) t side =
       | inr s ↦ ap (λ o. find (begins p) (with_gap c o (gaps_in l))) s.1 ∙ later
     ]
 
-front_found : (B : List ℕ) (b at z : ℕ) (l : List Chunk) → Tell B b at z l → len_or_none (find (begins at) (gaps_in l)) ≡ front_gap l
-front_found B b at z [] t = refl
-front_found B b at z (d ∷ l) t =
-    let enough : header_len + d.size ≤ d.len = t.1 in let here = place_told B b at d t.0 in
+front_found : (header : ℕ) (B : List ℕ) (b at z : ℕ) (l : List Chunk) → Tell header B b at z l → len_or_none (find (begins at) (gaps_in l)) ≡ front_gap l
+front_found header B b at z [] t = refl
+front_found header B b at z (d ∷ l) t =
+    let enough : least_len header d ≤ d.len = t.1 in let here = place_told B b at d t.0 in
     elim (owner_cases d.owner) [
       | inl e ↦
           let near : eqb d.at at ≡ true = eq-eqb d.at at here in
@@ -54,11 +53,11 @@ front_found B b at z (d ∷ l) t =
           ap (λ o. len_or_none (find (begins at) (with_gap d o (gaps_in l)))) e ∙ first ∙ sym (ap (gap_of d) e)
       | inr s ↦
           ap (λ o. len_or_none (find (begins at) (with_gap d o (gaps_in l)))) s.1
-          ∙ ap len_or_none (no_gap B b at (at + d.len) z l t.2 (inl (omega arith)))
+          ∙ ap len_or_none (no_gap header B b at (at + d.len) z l t.2 (inl (omega arith)))
           ∙ sym (ap (gap_of d) s.1)
     ]
 
-pub gap_at_end : (heap : Region) (B : List ℕ) (chunk : Chunk) (a : Around B heap.span.at heap.footprint chunk (chunks_of heap B)) → HasChunks heap B → chunk.owner ≢ None
+pub gap_at_end : (heap : Region) (B : List ℕ) (chunk : Chunk) (a : Around heap.header B heap.span.at heap.footprint chunk (chunks_of heap B)) → HasChunks heap B → chunk.owner ≢ None
     → gap_at (chunk.at + chunk.len) (store_of heap B) ≡ front_gap a.behind
 gap_at_end heap B chunk a has live =
     let b = heap.span.at in let end = chunk.at + chunk.len in
@@ -66,14 +65,14 @@ gap_at_end heap B chunk a has live =
       | inl e ↦ absurd (live e)
       | inr s ↦
           let all : gaps (store_of heap B) ≡ gaps_in a.before ++ gaps_in a.behind =
-          gaps_are B b 0 heap.footprint (chunks_of heap B) has.told has.joined
+          gaps_are heap.header B b 0 heap.footprint (chunks_of heap B) has.told has.joined
           ∙ ap gaps_in a.is
           ∙ gaps_append a.before (chunk ∷ a.behind)
           ∙ ap (λ o. gaps_in a.before ++ with_gap chunk o (gaps_in a.behind)) s.1 in
           ap (λ l. len_or_none (find (begins end) l)) all
           ∙ ap len_or_none (find-append (begins end) (gaps_in a.before) (gaps_in a.behind))
-          ∙ ap (λ o. len_or_none (option_or o (find (begins end) (gaps_in a.behind)))) (no_gap B b end 0 chunk.at a.before a.front (inr (omega arith)))
-          ∙ front_found B b end heap.footprint a.behind a.back
+          ∙ ap (λ o. len_or_none (option_or o (find (begins end) (gaps_in a.behind)))) (no_gap heap.header B b end 0 chunk.at a.before a.front (inr (omega arith)))
+          ∙ front_found heap.header B b end heap.footprint a.behind a.back
     ]
 
 -- which room there is where a block is
@@ -84,21 +83,24 @@ choice least room end top_at top gap =
     else if leb least (room + gap) then Some (room_taken least (room + gap))
     else None
 
-module _ (heap : Region) (B : List ℕ) (chunk : Chunk) (n : ℕ) (a : Around B heap.span.at heap.footprint chunk (chunks_of heap B)) (has : HasChunks heap B) (live : chunk.owner ≢ None) where
+module _ (heap : Region) (B : List ℕ) (chunk : Chunk) (n : ℕ) (a : Around heap.header B heap.span.at heap.footprint chunk (chunks_of heap B)) (has : HasChunks heap B) (live : chunk.owner ≢ None) where
   abbrev room : ℕ
-  room = chunk.len - header_len
+  room = chunk.len - heap.header
+
+  abbrev least : ℕ
+  least = least_room heap.header n
 
   abbrev end : ℕ
   end = chunk.at + chunk.len
 
-  pub room_is : room_in_place (place_in_chunk chunk) n (store_of heap B) ≡ choice (up4 n) room end heap.footprint (heap.span.len - heap.footprint) (front_gap a.behind)
+  pub room_is : room_in_place (place_in_chunk heap.header chunk) n (store_of heap B) ≡ choice least room end heap.footprint (heap.span.len - heap.footprint) (front_gap a.behind)
   room_is =
       let store = store_of heap B in
-      let top : footprint store ≡ heap.footprint = end_is B heap.span.at 0 heap.footprint (chunks_of heap B) has.told has.joined in
-      let same : chunk.at + (header_len + room) ≡ end = omega (arith, a.enough) in
-      ap (λ k. choice (up4 n) room k (footprint store) (heap.span.len - footprint store) (gap_at k store)) same
-      ∙ ap (λ k. choice (up4 n) room end k (heap.span.len - k) (gap_at end store)) top
-      ∙ ap (choice (up4 n) room end heap.footprint (heap.span.len - heap.footprint)) (gap_at_end heap B chunk a has live)
+      let top : footprint store ≡ heap.footprint = end_is heap.header B heap.span.at 0 heap.footprint (chunks_of heap B) has.told has.joined in
+      let same : chunk.at + (heap.header + room) ≡ end = omega (arith, a.enough) in
+      ap (λ k. choice least room k (footprint store) (heap.span.len - footprint store) (gap_at k store)) same
+      ∙ ap (λ k. choice least room end k (heap.span.len - k) (gap_at end store)) top
+      ∙ ap (choice least room end heap.footprint (heap.span.len - heap.footprint)) (gap_at_end heap B chunk a has live)
 
 module _ (least room end top_at top gap : ℕ) where
   pub choice_top : room < least → end ≡ top_at → least ≤ room + top → choice least room end top_at top gap ≡ Some least
@@ -126,11 +128,11 @@ module _ (least room end top_at top gap : ℕ) where
       rw far (rw is (rw here refl))
 
 -- what is known of the room that was chosen
-pub record Taken (least room end top_at top gap chosen : ℕ) : Type 0 where
+pub record Taken (header least room end top_at top gap chosen : ℕ) : Type 0 where
   pub enough : least ≤ chosen
   pub on_top : end ≡ top_at → chosen ≤ room + top
-  pub below : end ≢ top_at → (chosen ≡ room + gap) ⊎ LeavesGap chosen (room + gap)
-  pub whole : IsWholeRoom chosen
+  pub below : end ≢ top_at → (chosen ≡ room + gap) ⊎ LeavesGap header chosen (room + gap)
+  pub whole : IsWholeRoom header chosen
 
 taken_is : (least available : ℕ) → least ≤ available → (room_taken least available ≡ available) ⊎ ((room_taken least available ≡ least) × (least + 16 < available))
 taken_is least available fits = elim (cases_Bool (ltb 16 (available - least))) [
@@ -138,27 +140,27 @@ taken_is least available fits = elim (cases_Bool (ltb 16 (available - least))) [
   | inr short ↦ inl (rw short refl)
 ]
 
-abbrev pub IsWholeGap : ℕ → Type 0
-IsWholeGap gap = (gap ≡ 0) ⊎ ((20 ≤ gap) × (gap % 4 ≡ 0))
+abbrev pub IsWholeGap : ℕ → ℕ → Type 0
+IsWholeGap header gap = (gap ≡ 0) ⊎ ((shortest header ≤ gap) × (gap % 4 ≡ 0))
 
-pub front_gap_whole : (l : List Chunk) → AreJoined l → IsWholeGap (front_gap l)
-front_gap_whole [] joined = inl refl
-front_gap_whole (d ∷ l) joined =
+pub front_gap_whole : (header : ℕ) (l : List Chunk) → AreJoined header l → IsWholeGap header (front_gap l)
+front_gap_whole header [] joined = inl refl
+front_gap_whole header (d ∷ l) joined =
     let whole = joined.1 in
     elim (owner_cases d.owner) [ inl e ↦ inr (omega (arith, ap (gap_of d) e, whole.0), omega (arith, ap (gap_of d) e, whole.1)) | inr s ↦ inl (ap (gap_of d) s.1) ]
 
-module _ (least room end top_at top gap chosen : ℕ) (whole_least : IsWholeRoom least) (whole_room : room % 4 ≡ 0) (long : IsWholeGap gap) where
+module _ (header least room end top_at top gap chosen : ℕ) (most : shortest header ≤ 20) (whole_least : IsWholeRoom header least) (whole_room : room % 4 ≡ 0) (long : IsWholeGap header gap) where
   same_room : (k : ℕ) → Some k ≡ Some chosen → k ≡ chosen
   same_room k e = cc
 
   -- what is left over exceeds 16, and all are multiples of 4
-  gap_left_of : {taken : ℕ} → taken ≡ least → least + 16 < room + gap → taken ≡ chosen → LeavesGap chosen (room + gap)
+  gap_left_of : {taken : ℕ} → taken ≡ least → least + 16 < room + gap → taken ≡ chosen → LeavesGap header chosen (room + gap)
   gap_left_of is less same = (
-    elim long [ inl none ↦ omega (arith, whole_least.1, whole_room) | inr some ↦ omega (arith, whole_least.1, whole_room, some.1) ],
+    elim long [ inl none ↦ omega (arith, most, whole_least.1, whole_room) | inr some ↦ omega (arith, most, whole_least.1, whole_room, some.1) ],
     elim long [ inl none ↦ omega (arith, whole_least.1, whole_room) | inr some ↦ omega (arith, whole_least.1, whole_room, some.1) ],
   )
 
-  pub taken : choice least room end top_at top gap ≡ Some chosen → Taken least room end top_at top gap chosen
+  pub taken : choice least room end top_at top gap ≡ Some chosen → Taken header least room end top_at top gap chosen
   taken e = elim (cases_Bool (leb least room)) [
     | inl here ↦
         let fits = leb-true least room here in

@@ -3,8 +3,8 @@ use Rattle.std.proofs.Common.{◌≡◌, ℕ, suc, ◌+◌, ◌≤◌, ◌<◌, 
 use Rattle.std.specs.Prelude.{filter, map, if◌then◌else◌}
 use Rattle.std.proofs.lemmas.Bool.{lt-ltb, le-ltb, ltb-true, ne_eqb, cases_Bool}
 use Rattle.heap_core.specs.declared.chunk.Chunk.{Chunk}
-use Rattle.heap_core.specs.HeapStore.{Block, header_len, placed, has_name}
-use Rattle.heap_core.specs.Code.Chunks.{Tell, with_chunk, blocks_in}
+use Rattle.heap_core.specs.HeapStore.{Block, placed, has_name}
+use Rattle.heap_core.specs.Code.Chunks.{least_len, Tell, with_chunk, blocks_in}
 use Rattle.heap_core.proofs.Told.{place_told, told_le, owner_cases}
 
 -- the blocks begin between two places
@@ -16,14 +16,14 @@ between_more : (x x' y : ℕ) (xs : List Block) → x' ≤ x → Between x y xs 
 between_more x x' y [] le h = tt
 between_more x x' y (block ∷ xs) le h = (omega (arith, h.0), h.1, between_more x x' y xs le h.2)
 
-pub blocks_between : (B : List ℕ) (b x y : ℕ) (l : List Chunk) → Tell B b x y l → Between x y (blocks_in B b l)
-blocks_between B b x y [] t = tt
-blocks_between B b x y (c ∷ l) t =
-    let enough : header_len + c.size ≤ c.len = t.1 in let at = place_told B b x c t.0 in let le = told_le B b (x + c.len) y l t.2 in
-    let later : Between x y (blocks_in B b l) = between_more (x + c.len) x y (blocks_in B b l) (omega arith) (blocks_between B b (x + c.len) y l t.2) in
+pub blocks_between : (header : ℕ) (B : List ℕ) (b x y : ℕ) (l : List Chunk) → Tell header B b x y l → Between x y (blocks_in header B b l)
+blocks_between header B b x y [] t = tt
+blocks_between header B b x y (c ∷ l) t =
+    let enough : least_len header c ≤ c.len = t.1 in let at = place_told B b x c t.0 in let le = told_le header B b (x + c.len) y l t.2 in
+    let later : Between x y (blocks_in header B b l) = between_more (x + c.len) x y (blocks_in header B b l) (omega arith) (blocks_between header B b (x + c.len) y l t.2) in
     elim (owner_cases c.owner) [
-      | inl e ↦ subst (λ o. Between x y (with_chunk B b c o (blocks_in B b l))) (sym e) later
-      | inr s ↦ subst (λ o. Between x y (with_chunk B b c o (blocks_in B b l))) (sym s.1) (omega arith, omega arith, later)
+      | inl e ↦ subst (λ o. Between x y (with_chunk header B b c o (blocks_in header B b l))) (sym e) later
+      | inr s ↦ subst (λ o. Between x y (with_chunk header B b c o (blocks_in header B b l))) (sym s.1) (omega arith, omega arith, later)
     ]
 
 pub placed_behind : (x y : ℕ) (block : Block) (xs ys : List Block) → Between x y xs → y ≤ block.at → placed block (xs ++ ys) ≡ xs ++ placed block ys
@@ -63,15 +63,15 @@ abbrev pub Ascending : ℕ → List Block → Type 0
 Ascending top [] = Unit {0}
 Ascending top (block ∷ blocks) = Between (suc block.at) top blocks × (block.at < top) × Ascending top blocks
 
-pub blocks_ascending : (B : List ℕ) (b x y : ℕ) (l : List Chunk) → Tell B b x y l → Ascending y (blocks_in B b l)
-blocks_ascending B b x y [] t = tt
-blocks_ascending B b x y (c ∷ l) t =
-    let enough : header_len + c.size ≤ c.len = t.1 in let at = place_told B b x c t.0 in let le = told_le B b (x + c.len) y l t.2 in
-    let later = blocks_ascending B b (x + c.len) y l t.2 in
-    let above : Between (suc c.at) y (blocks_in B b l) = between_more (x + c.len) (suc c.at) y (blocks_in B b l) (omega arith) (blocks_between B b (x + c.len) y l t.2) in
+pub blocks_ascending : (header : ℕ) (B : List ℕ) (b x y : ℕ) (l : List Chunk) → Tell header B b x y l → Ascending y (blocks_in header B b l)
+blocks_ascending header B b x y [] t = tt
+blocks_ascending header B b x y (c ∷ l) t =
+    let enough : least_len header c ≤ c.len = t.1 in let at = place_told B b x c t.0 in let le = told_le header B b (x + c.len) y l t.2 in
+    let later = blocks_ascending header B b (x + c.len) y l t.2 in
+    let above : Between (suc c.at) y (blocks_in header B b l) = between_more (x + c.len) (suc c.at) y (blocks_in header B b l) (omega arith) (blocks_between header B b (x + c.len) y l t.2) in
     elim (owner_cases c.owner) [
-      | inl e ↦ subst (λ o. Ascending y (with_chunk B b c o (blocks_in B b l))) (sym e) later
-      | inr s ↦ subst (λ o. Ascending y (with_chunk B b c o (blocks_in B b l))) (sym s.1) (above, omega arith, later)
+      | inl e ↦ subst (λ o. Ascending y (with_chunk header B b c o (blocks_in header B b l))) (sym e) later
+      | inr s ↦ subst (λ o. Ascending y (with_chunk header B b c o (blocks_in header B b l))) (sym s.1) (above, omega arith, later)
     ]
 
 pub filter_between : (p : Block → Bool) (x y : ℕ) (xs : List Block) → Between x y xs → Between x y (filter p xs)

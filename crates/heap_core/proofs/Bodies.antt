@@ -4,7 +4,7 @@ use Rattle.std.specs.Prelude.{Option, Some, None, IsSomeAnd, filter, map, if◌t
 use Rattle.std.specs.Option.{option_map}
 use Rattle.std.proofs.lemmas.List.{append_assoc, map-append, length-map}
 use Rattle.std.proofs.lemmas.List.Elements.{filter-append}
-use Rattle.std.proofs.lemmas.Bool.{eq-eqb}
+use Rattle.std.proofs.lemmas.Bool.{eq-eqb, lt-ltb}
 use Rattle.mote_types.specs.BlockNames.{number_of}
 use Rattle.mote_types.specs.Bytes.{overwritten}
 use Rattle.arena_core.specs.Outside.{ChangesOnly}
@@ -13,8 +13,8 @@ use Rattle.arena_core.proofs.Ranges.{length-range, written-range, changes_only}
 use Rattle.arena_core.proofs.Rows.{written_is}
 use Rattle.heap_core.specs.declared.chunk.Chunk.{Chunk}
 use Rattle.heap_core.specs.declared.region.Region.{Region}
-use Rattle.heap_core.specs.HeapStore.{Block, HeapStore, header_len, has_name, block_of, find_block, without_block}
-use Rattle.heap_core.specs.Code.Chunks.{AreJoined, with_chunk, blocks_in, is_named}
+use Rattle.heap_core.specs.HeapStore.{Block, HeapStore, has_name, block_of, find_block, without_block}
+use Rattle.heap_core.specs.Code.Chunks.{is_a_name, AreJoined, with_chunk, blocks_in, is_named}
 use Rattle.heap_core.specs.HeapBytes.{heap_of}
 use Rattle.heap_core.specs.Code.Layout.{chunks_of, store_of}
 use Rattle.heap_core.proofs.Stored.{IsStored}
@@ -32,20 +32,20 @@ module _ (heap : Region) (B : List ℕ) (laid : IsStored heap B) (chunk : Chunk)
   abbrev b : ℕ
   b = heap.span.at
 
-  pub a : Around B b heap.footprint chunk (chunks_of heap B)
+  pub a : Around heap.header B b heap.footprint chunk (chunks_of heap B)
   a = around heap B chunk laid.chunks o.stands
 
   abbrev block : Block
-  block = block_in_chunk B b name chunk
+  block = block_in_chunk heap.header B b name chunk
 
   abbrev xs : List Block
-  xs = blocks_in B b a.before
+  xs = blocks_in heap.header B b a.before
 
   abbrev ys : List Block
-  ys = blocks_in B b a.behind
+  ys = blocks_in heap.header B b a.behind
 
-  pub all_are : blocks_in B b (chunks_of heap B) ≡ xs ++ (block ∷ ys)
-  all_are = ap (blocks_in B b) a.is ∙ blocks_append B b a.before (chunk ∷ a.behind) ∙ ap (λ o. xs ++ with_chunk B b chunk o ys) o.owner
+  pub all_are : blocks_in heap.header B b (chunks_of heap B) ≡ xs ++ (block ∷ ys)
+  all_are = ap (blocks_in heap.header B b) a.is ∙ blocks_append heap.header B b a.before (chunk ∷ a.behind) ∙ ap (λ o. xs ++ with_chunk heap.header B b chunk o ys) o.owner
 
   counts : count name xs + (1 + count name ys) ≤ 1
   counts =
@@ -55,8 +55,8 @@ module _ (heap : Region) (B : List ℕ) (laid : IsStored heap B) (chunk : Chunk)
   pub few : (count name xs ≡ 0) × (count name ys ≡ 0)
   few = let most = counts in (omega arith, omega arith)
 
-  pub block_bytes : length (slice_range B (b + chunk.at + header_len) (b + chunk.at + header_len + chunk.size)) ≡ chunk.size
-  block_bytes = length-range B (b + chunk.at + header_len) chunk.size (omega (arith, laid.chunks.within, a.fits, a.enough, heap.inside))
+  pub block_bytes : length (slice_range B (b + chunk.at + heap.header) (b + chunk.at + heap.header + chunk.size)) ≡ chunk.size
+  block_bytes = length-range B (b + chunk.at + heap.header) chunk.size (omega (arith, laid.chunks.within, a.fits, a.enough, heap.inside))
 
   -- a range of the name's bytes lies in its chunk
   pub range_fits : (store : HeapStore) (p h at len : ℕ) → name ≡ number_of p h → find_block name store ≡ Some block → IsSomeAnd (block_of p h store) (λ bytes. at + len ≤ length bytes) → at + len ≤ chunk.size
@@ -66,7 +66,7 @@ module _ (heap : Region) (B : List ℕ) (laid : IsStored heap B) (chunk : Chunk)
       omega (arith, block_bytes, subst (λ (k : Option (List ℕ)). IsSomeAnd k (λ bytes. at + len ≤ length bytes)) is range)
 
   -- it is taken away by its place, or by its name
-  by_name : filter (elsewhere chunk.at) (blocks_in B b (chunks_of heap B)) ≡ filter (λ (other : Block). not (has_name name other)) (blocks_in B b (chunks_of heap B))
+  by_name : filter (elsewhere chunk.at) (blocks_in heap.header B b (chunks_of heap B)) ≡ filter (λ (other : Block). not (has_name name other)) (blocks_in heap.header B b (chunks_of heap B))
   by_name =
       let unnamed = λ (other : Block). not (has_name name other) in
       let gone : eqb name name ≡ true = eq-eqb name name refl in
@@ -79,54 +79,57 @@ module _ (heap : Region) (B : List ℕ) (laid : IsStored heap B) (chunk : Chunk)
       ∙ ap (λ l. xs ++ l) (filter_unnamed name ys few.1))
 
   pub without_place_is : without_place chunk.at (store_of heap B) ≡ without_block name (store_of heap B)
-  without_place_is = ap (λ blocks. let h : HeapStore = record { size = heap.span.len; blocks = blocks } in h) by_name
+  without_place_is = ap (λ blocks. let h : HeapStore = record { size = heap.span.len; header = heap.header; blocks = blocks } in h) by_name
 
   -- among the live blocks too
   pub live_without_place : without_place chunk.at (heap_of heap B) ≡ without_block name (heap_of heap B)
   live_without_place =
       let unnamed = λ (other : Block). not (has_name name other) in
-      ap (λ blocks. let h : HeapStore = record { size = heap.span.len; blocks = blocks } in h)
-      (filter_swap (elsewhere chunk.at) is_named (blocks_in B b (chunks_of heap B))
+      ap (λ blocks. let h : HeapStore = record { size = heap.span.len; header = heap.header; blocks = blocks } in h)
+      (filter_swap (elsewhere chunk.at) is_named (blocks_in heap.header B b (chunks_of heap B))
       ∙ ap (filter is_named) by_name
-      ∙ filter_swap is_named unnamed (blocks_in B b (chunks_of heap B)))
+      ∙ filter_swap is_named unnamed (blocks_in heap.header B b (chunks_of heap B)))
 
   module _ (at : ℕ) (ws : List ℕ) (room : at + length ws ≤ chunk.size) where
     abbrev B' : List ℕ
-    B' = written B (b + chunk.at + header_len + at) ws
+    B' = written B (b + chunk.at + heap.header + at) ws
 
-    fits : b + chunk.at + header_len + at + length ws ≤ length B
+    fits : b + chunk.at + heap.header + at + length ws ≤ length B
     fits = omega (arith, laid.chunks.within, a.fits, a.enough, heap.inside)
 
-    changes : ChangesOnly (b + chunk.at + 16) (chunk.len - 16) B B'
-    changes = changes_only B (b + chunk.at + header_len + at) ws fits (b + chunk.at + 16) (chunk.len - 16) (omega arith) (omega (arith, a.enough))
+    changes : ChangesOnly (b + chunk.at + heap.header) (chunk.len - heap.header) B B'
+    changes = changes_only B (b + chunk.at + heap.header + at) ws fits (b + chunk.at + heap.header) (chunk.len - heap.header) (omega arith) (omega (arith, a.enough))
 
-    read : slice_range B' (b + chunk.at + header_len) (b + chunk.at + header_len + chunk.size) ≡ overwritten at ws (slice_range B (b + chunk.at + header_len) (b + chunk.at + header_len + chunk.size))
+    read : slice_range B' (b + chunk.at + heap.header) (b + chunk.at + heap.header + chunk.size) ≡ overwritten at ws (slice_range B (b + chunk.at + heap.header) (b + chunk.at + heap.header + chunk.size))
     read =
-        let R = slice_range B (b + chunk.at + header_len) (b + chunk.at + header_len + chunk.size) in
-        written-range B (b + chunk.at + header_len) chunk.size at ws room (omega (arith, laid.chunks.within, a.fits, a.enough, heap.inside))
+        let R = slice_range B (b + chunk.at + heap.header) (b + chunk.at + heap.header + chunk.size) in
+        written-range B (b + chunk.at + heap.header) chunk.size at ws room (omega (arith, laid.chunks.within, a.fits, a.enough, heap.inside))
         ∙ written_is R at ws (omega (arith, block_bytes))
         ∙ sym (append_assoc (take at R) ws (drop (at + length ws) R))
+
+    is_named_owner : is_a_name chunk.owner ≡ true
+    is_named_owner = ap is_a_name o.owner ∙ lt-ltb name 272 small
 
     pub body_spliced : Spliced heap B B' a.before (chunk ∷ []) a.behind
     body_spliced =
         let len : chunk.at + chunk.len - chunk.at ≡ chunk.len = omega arith in
-        let all : ChangesOnly (b + chunk.at) chunk.len B B' = changes_more (b + chunk.at + 16) (chunk.len - 16) (b + chunk.at) chunk.len B B' changes (omega arith) (omega (arith, a.enough)) in
+        let all : ChangesOnly (b + chunk.at) chunk.len B B' = changes_more (b + chunk.at + heap.header) (chunk.len - heap.header) (b + chunk.at) chunk.len B B' changes (omega arith) (omega (arith, a.enough)) in
         spliced heap B B' chunk.at (chunk.at + chunk.len) a.before (chunk ∷ []) a.behind laid.chunks.within
         (subst (λ k. ChangesOnly (b + chunk.at) k B B') (sym len) all) a.front
-        (told_body B B' b chunk.at (chunk.at + chunk.len) (chunk.len - 16) chunk [] changes (omega (arith, a.enough)) (a.here, a.enough, refl))
-        a.back (subst AreJoined a.is laid.chunks.joined)
+        (told_body heap.header B B' b chunk.at (chunk.at + chunk.len) (chunk.len - heap.header) chunk [] heap.header_least is_named_owner changes (omega (arith, a.enough)) (a.here, a.enough, refl))
+        a.back (subst (AreJoined heap.header) a.is laid.chunks.joined)
 
     abbrev over : Block → Block
     over = λ other. let new : Block = record other { bytes = overwritten at ws other.bytes } in new
 
-    pub body_blocks : blocks_in B' b (chunks_of heap B') ≡ map (λ other. if has_name name other then over other else other) (blocks_in B b (chunks_of heap B))
+    pub body_blocks : blocks_in heap.header B' b (chunks_of heap B') ≡ map (λ other. if has_name name other then over other else other) (blocks_in heap.header B b (chunks_of heap B))
     body_blocks =
         let change = λ (other : Block). if has_name name other then over other else other in
         let here : eqb name name ≡ true = eq-eqb name name refl in
         let mine : change block ≡ over block = rw here refl in
-        let new : blocks_in B' b (chunk ∷ []) ≡ over block ∷ [] =
-        ap (λ o. with_chunk B' b chunk o []) o.owner
-        ∙ ap (λ bytes. (let k : Block = record { name = name; at = chunk.at; room = chunk.len - header_len; bytes = bytes } in k) ∷ []) read in
+        let new : blocks_in heap.header B' b (chunk ∷ []) ≡ over block ∷ [] =
+        ap (λ o. with_chunk heap.header B' b chunk o []) o.owner
+        ∙ ap (λ bytes. (let k : Block = record { name = name; at = chunk.at; room = chunk.len - heap.header; bytes = bytes } in k) ∷ []) read in
         body_spliced.blocks
         ∙ ap (λ l. xs ++ (l ++ ys)) new
         ∙ sym (ap (map change) all_are
@@ -138,16 +141,16 @@ module _ (heap : Region) (B : List ℕ) (laid : IsStored heap B) (chunk : Chunk)
     abbrev change : Block → Block
     change = λ other. if has_name name other then over other else other
 
-    pub live_blocks : filter is_named (blocks_in B' b (chunks_of heap B')) ≡ map change (filter is_named (blocks_in B b (chunks_of heap B)))
+    pub live_blocks : filter is_named (blocks_in heap.header B' b (chunks_of heap B')) ≡ map change (filter is_named (blocks_in heap.header B b (chunks_of heap B)))
     live_blocks =
         ap (filter is_named) body_blocks
-        ∙ filter_map is_named change (λ other. ap (λ k. nat_lt k 272) (keeps_name name over (λ k. refl) other)) (blocks_in B b (chunks_of heap B))
+        ∙ filter_map is_named change (λ other. ap (λ k. nat_lt k 272) (keeps_name name over (λ k. refl) other)) (blocks_in heap.header B b (chunks_of heap B))
 
     pub same_chunks : chunks_of heap B' ≡ chunks_of heap B
     same_chunks = body_spliced.is ∙ sym a.is
 
-    pub same_unnamed : length (unnamed (blocks_in B' b (chunks_of heap B'))) ≡ length (unnamed (blocks_in B b (chunks_of heap B)))
+    pub same_unnamed : length (unnamed (blocks_in heap.header B' b (chunks_of heap B'))) ≡ length (unnamed (blocks_in heap.header B b (chunks_of heap B)))
     same_unnamed =
         ap (λ l. length (unnamed l)) body_blocks
-        ∙ ap length (filter_map (λ k. not (is_named k)) change (λ other. ap (λ k. not (nat_lt k 272)) (keeps_name name over (λ k. refl) other)) (blocks_in B b (chunks_of heap B)))
-        ∙ length-map (unnamed (blocks_in B b (chunks_of heap B))) change
+        ∙ ap length (filter_map (λ k. not (is_named k)) change (λ other. ap (λ k. not (nat_lt k 272)) (keeps_name name over (λ k. refl) other)) (blocks_in heap.header B b (chunks_of heap B)))
+        ∙ length-map (unnamed (blocks_in heap.header B b (chunks_of heap B))) change

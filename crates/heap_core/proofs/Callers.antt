@@ -28,6 +28,7 @@ KeepsToSpan-then a b c x y z first second =
     let there : ChangesOnly a.span.at a.span.len y.bytes z.bytes = subst (λ (s : Span). ChangesOnly s.at s.len y.bytes z.bytes) first.span second.bytes in
     record {
       span = second.span ∙ first.span;
+      header = second.header ∙ first.header;
       carved = second.carved ∙ first.carved;
       bytes = record { size = there.size ∙ first.bytes.size; others = λ from n apart. there.others from n apart ∙ first.bytes.others from n apart };
     }
@@ -40,27 +41,27 @@ module _ (heap : Region) (at len : ℕ) (old new : List ℕ) (changes : ChangesO
   side : (heap.span.at + heap.footprint ≤ at) ⊎ (at + len ≤ heap.span.at + 0)
   side = elim apart [ inl low ↦ inl (omega (arith, heap.inside)) | inr high ↦ inr (omega arith) ]
 
-  told : Tell new heap.span.at 0 heap.footprint (chunks_of heap old)
-  told = told_frame old new heap.span.at at len changes 0 heap.footprint (chunks_of heap old) side laid.chunks.told
+  told : Tell heap.header new heap.span.at 0 heap.footprint (chunks_of heap old)
+  told = told_frame heap.header old new heap.span.at at len changes 0 heap.footprint (chunks_of heap old) side laid.chunks.told
 
   same : chunks_of heap new ≡ chunks_of heap old
   unfolding chunks_of
-  same = walked heap.footprint new heap.span.at 0 heap.footprint (chunks_of heap old) told (omega arith)
+  same = walked heap.header heap.footprint new heap.span.at 0 heap.footprint (chunks_of heap old) told (omega arith)
 
   store_same : store_of heap new ≡ store_of heap old
   store_same =
-      ap (λ blocks. let h : HeapStore = record { size = heap.span.len; blocks = blocks } in h)
-      (ap (blocks_in new heap.span.at) same ∙ blocks_frame old new heap.span.at at len changes 0 heap.footprint (chunks_of heap old) side laid.chunks.told)
+      ap (λ blocks. let h : HeapStore = record { size = heap.span.len; header = heap.header; blocks = blocks } in h)
+      (ap (blocks_in heap.header new heap.span.at) same ∙ blocks_frame heap.header old new heap.span.at at len changes 0 heap.footprint (chunks_of heap old) side laid.chunks.told)
 
   pub heap_of-elsewhere : heap_of heap new ≡ heap_of heap old
-  heap_of-elsewhere = ap (λ (s : HeapStore). let h : HeapStore = record { size = heap.span.len; blocks = filter is_named s.blocks } in h) store_same
+  heap_of-elsewhere = ap (λ (s : HeapStore). let h : HeapStore = record { size = heap.span.len; header = heap.header; blocks = filter is_named s.blocks } in h) store_same
 
   pub IsLaidOut-elsewhere : IsLaidOut heap new
   IsLaidOut-elsewhere = record {
     chunks = record {
       within = omega (arith, changes.size, laid.chunks.within);
-      told = subst (Tell new heap.span.at 0 heap.footprint) (sym same) told;
-      joined = subst AreJoined (sym same) laid.chunks.joined;
+      told = subst (Tell heap.header new heap.span.at 0 heap.footprint) (sym same) told;
+      joined = subst (AreJoined heap.header) (sym same) laid.chunks.joined;
     };
     named = λ name. subst (λ (h : HeapStore). length (filter (has_name name) h.blocks) ≤ 1) (sym heap_of-elsewhere) (laid.named name);
     places = subst (ArePlaced heap.places) (sym heap_of-elsewhere) laid.places;

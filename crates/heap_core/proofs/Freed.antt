@@ -9,12 +9,12 @@ use Rattle.heap_core.specs.declared.chunk.Chunk.{Chunk}
 use Rattle.heap_core.specs.declared.region.Region.{Region}
 use Rattle.heap_core.specs.HeapStore.{Block, HeapStore, placed}
 use Rattle.heap_core.specs.HeapBytes.{heap_of}
-use Rattle.heap_core.specs.Code.Chunks.{chunk_at, AreJoined, with_chunk, blocks_in, is_named}
+use Rattle.heap_core.specs.Code.Chunks.{FREED, is_a_name, chunk_at, AreJoined, with_chunk, blocks_in, is_named}
 use Rattle.heap_core.specs.Code.Layout.{chunks_of, store_of, HasChunks}
-use Rattle.heap_core.specs.Code.Links.{FREED, is_a_name, gaps_among, LinkedTo, NoneAt, AreFreed, unnamed, FreedLinked, KeepsFreed}
+use Rattle.heap_core.specs.Code.Links.{gaps_among, LinkedTo, NoneAt, AreFreed, unnamed, FreedLinked, KeepsFreed}
 use Rattle.heap_core.specs.Code.Walks.{Stands, LiveIn, block_in_chunk}
 use Rattle.heap_core.proofs.Blocks.{elsewhere}
-use Rattle.heap_core.proofs.Gaps.{total}
+use Rattle.heap_core.proofs.Gaps.{many}
 use Rattle.heap_core.proofs.Lists.{gaps_append, live_first, linked_parted, linked_live, link_live, linked_append}
 use Rattle.heap_core.proofs.Members.{In, in_of, in_left, in_right, in_cases, stands_of, in_told}
 use Rattle.heap_core.proofs.Releases.{left_apart}
@@ -60,9 +60,9 @@ module _ (heap : Region) (B : List ℕ) (has : HasChunks heap B) where
   abbrev T : List Chunk
   T = chunks_of heap B
 
-  pub freed_small : FreedLinked heap B → heap.freed ≤ 4096
+  pub freed_small : FreedLinked heap B → heap.freed ≤ 8192
   freed_small f =
-      let sums = total B heap.span.at 0 heap.footprint T has.told in
+      let all = many heap.header B heap.span.at 0 heap.footprint T has.told in
       omega (arith, f.all, fewer (λ block. not (is_named block)) (store_of heap B).blocks, heap.inside, heap.small)
 
   pub newest_small : FreedLinked heap B → IfSome heap.newest (λ place. place < 65536)
@@ -71,7 +71,7 @@ module _ (heap : Region) (B : List ℕ) (has : HasChunks heap B) where
       from : (list : List Chunk) → AreFreed T heap.newest list → IfSome heap.newest (λ place. place < 65536)
       from [] h = subst (λ o. IfSome o (λ place. place < 65536)) (sym h) tt
       from (c ∷ list) h =
-          let t = in_told B heap.span.at 0 heap.footprint c T has.told (in_of c T h.1.stands) in
+          let t = in_told heap.header B heap.span.at 0 heap.footprint c T has.told (in_of c T h.1.stands) in
           subst (λ o. IfSome o (λ place. place < 65536)) (sym h.0) (omega (arith, t.1, t.2, heap.inside, heap.small))
 
   -- no other chunk begins where one stands
@@ -106,23 +106,23 @@ module _ (heap : Region) (B : List ℕ) (has : HasChunks heap B) where
 
   -- a chunk with or without a name, and the others
   module _ (chunk : Chunk) (name : ℕ) (stands : Stands chunk T) (owner : chunk.owner ≡ Some name) where
-    pub at : Around B heap.span.at heap.footprint chunk T
+    pub at : Around heap.header B heap.span.at heap.footprint chunk T
     at = around heap B chunk has stands
 
     pub is_live : chunk.owner ≢ None
     is_live none = absurd (let two : None ≡ Some name = sym none ∙ owner in cc)
 
     abbrev xs : List Block
-    xs = blocks_in B heap.span.at at.before
+    xs = blocks_in heap.header B heap.span.at at.before
 
     abbrev ys : List Block
-    ys = blocks_in B heap.span.at at.behind
+    ys = blocks_in heap.header B heap.span.at at.behind
 
     abbrev block : Block
-    block = block_in_chunk B heap.span.at name chunk
+    block = block_in_chunk heap.header B heap.span.at name chunk
 
     pub all_blocks : (store_of heap B).blocks ≡ xs ++ (block ∷ ys)
-    all_blocks = ap (blocks_in B heap.span.at) at.is ∙ blocks_append B heap.span.at at.before (chunk ∷ at.behind) ∙ ap (λ o. xs ++ with_chunk B heap.span.at chunk o ys) owner
+    all_blocks = ap (blocks_in heap.header B heap.span.at) at.is ∙ blocks_append heap.header B heap.span.at at.before (chunk ∷ at.behind) ∙ ap (λ o. xs ++ with_chunk heap.header B heap.span.at chunk o ys) owner
 
     pub other_blocks : filter (elsewhere chunk.at) (store_of heap B).blocks ≡ xs ++ ys
     other_blocks = left_apart heap B has chunk at is_live
@@ -157,28 +157,28 @@ module _ (heap : Region) (B : List ℕ) (has : HasChunks heap B) where
 
     -- it is set aside
     module _ (small : name < 272) (B' : List ℕ) (told : chunk_at B' heap.span.at chunk.at ≡ (let k : Chunk = record { at = chunk.at; len = chunk.len; owner = Some FREED; size = chunk.size; link = heap.newest } in k))
-        (changes : ChangesOnly (heap.span.at + chunk.at) 16 B B') where
+        (changes : ChangesOnly (heap.span.at + chunk.at) 12 B B') where
       abbrev aside : Chunk
       aside = record { at = chunk.at; len = chunk.len; owner = Some FREED; size = chunk.size; link = heap.newest }
 
       freed_live : aside.owner ≢ None
       freed_live none = absurd (let two : Some FREED ≡ None = none in cc)
 
-      was : AreJoined (at.before ++ (chunk ∷ at.behind))
-      was = subst AreJoined at.is has.joined
+      was : AreJoined heap.header (at.before ++ (chunk ∷ at.behind))
+      was = subst (AreJoined heap.header) at.is has.joined
 
-      later : AreJoined (chunk ∷ at.behind)
-      later = joined_behind at.before (chunk ∷ at.behind) was
+      later : AreJoined heap.header (chunk ∷ at.behind)
+      later = joined_behind heap.header at.before (chunk ∷ at.behind) was
 
       pub set : Spliced heap B B' at.before (aside ∷ []) at.behind
       set =
           spliced heap B B' chunk.at (chunk.at + chunk.len) at.before (aside ∷ []) at.behind has.within
-          (changes_more (heap.span.at + chunk.at) 16 (heap.span.at + chunk.at) (chunk.at + chunk.len - chunk.at) B B' changes (omega arith) (omega (arith, at.enough)))
+          (changes_more (heap.span.at + chunk.at) 12 (heap.span.at + chunk.at) (chunk.at + chunk.len - chunk.at) B B' changes (omega arith) (omega (arith, at.enough)))
           at.front (told, at.enough, refl) at.back
-          (joined_swap at.before (chunk ∷ at.behind) (aside ∷ at.behind) (λ live. freed_live) was ((λ none. absurd (freed_live none)), later.1, later.2))
+          (joined_swap heap.header at.before (chunk ∷ at.behind) (aside ∷ at.behind) (λ live. freed_live) was ((λ none. absurd (freed_live none)), later.1, later.2))
 
       k : Block
-      k = block_in_chunk B' heap.span.at FREED aside
+      k = block_in_chunk heap.header B' heap.span.at FREED aside
 
       set_blocks : (store_of heap B').blocks ≡ xs ++ (k ∷ ys)
       unfolding k
@@ -279,7 +279,7 @@ freed_none old new B B' f none kept all = record {
 
 -- then all chunks that are no gaps are live blocks
 pub plain : (heap : Region) (B : List ℕ) → FreedLinked heap B → heap.freed ≡ 0 → heap_of heap B ≡ store_of heap B
-plain heap B f none = ap (λ blocks. let h : HeapStore = record { size = heap.span.len; blocks = blocks } in h) (all_named (store_of heap B).blocks (f.all ∙ none))
+plain heap B f none = ap (λ blocks. let h : HeapStore = record { size = heap.span.len; header = heap.header; blocks = blocks } in h) (all_named (store_of heap B).blocks (f.all ∙ none))
 
 -- blocks that change but stay among the named, or among those without a name
 pub filter_map : (p : Block → Bool) (f : Block → Block) → ((block : Block) → p (f block) ≡ p block) → (xs : List Block) → filter p (map f xs) ≡ map f (filter p xs)

@@ -1,12 +1,11 @@
 -- The gaps that the blocks leave are the gaps among the chunks; and what follows from it for the places of a heap.
-use Rattle.std.proofs.Common.{◌≡◌, ℕ, ◌+◌, ◌-◌, ◌*◌, ◌≤◌, ◌<◌, ◌⊎◌, inl, inr, List, [], ◌∷◌, ◌++◌, length, slice_range, suc, false, true, ltb, leb, sum_by, refl, sym, ap, ◌∙◌, arith}
+use Rattle.std.proofs.Common.{◌≡◌, ℕ, ◌+◌, ◌-◌, ◌*◌, ◌≤◌, ◌<◌, ◌⊎◌, inl, inr, List, [], ◌∷◌, ◌++◌, length, suc, false, true, ltb, leb, refl, sym, ap, ◌∙◌, arith}
 use Rattle.std.specs.Prelude.{Option, Some, None, is_none, fold}
 use Rattle.std.proofs.lemmas.Bool.{lt-ltb, le-ltb, cases_Bool, leb-true, false≢true}
-use Rattle.std.proofs.lemmas.List.Sums.{sum_by-cons}
 use Rattle.heap_core.specs.declared.chunk.Chunk.{Chunk}
 use Rattle.heap_core.specs.declared.chunk.Gap.{Gap}
-use Rattle.heap_core.specs.HeapStore.{Block, header_len, end_of, gap_between, gaps_from, better, best_gap}
-use Rattle.heap_core.specs.Code.Chunks.{Tell, BeginsLive, AreJoined, with_chunk, blocks_in}
+use Rattle.heap_core.specs.HeapStore.{Block, end_of, gap_between, gaps_from, better, best_gap}
+use Rattle.heap_core.specs.Code.Chunks.{least_len, Tell, BeginsLive, AreJoined, with_chunk, blocks_in}
 use Rattle.heap_core.specs.Code.Links.{with_free, gaps_among}
 use Rattle.heap_core.proofs.Told.{place_told, owner_cases}
 
@@ -19,8 +18,8 @@ abbrev pub gaps_in : List Chunk → List Gap
 gaps_in [] = []
 gaps_in (c ∷ l) = with_gap c c.owner (gaps_in l)
 
-abbrev pub last_end : ℕ → List Block → ℕ
-last_end from blocks = fold (λ _ block. end_of block) from blocks
+abbrev pub last_end : ℕ → ℕ → List Block → ℕ
+last_end header from blocks = fold (λ _ block. end_of header block) from blocks
 
 gap_none : (x : ℕ) (gaps : List Gap) → gap_between x x gaps ≡ gaps
 gap_none x gaps = let none : ltb x x ≡ false = le-ltb x x (omega arith) in rw none refl
@@ -28,40 +27,40 @@ gap_none x gaps = let none : ltb x x ≡ false = le-ltb x x (omega arith) in rw 
 gap_some : (x y : ℕ) (gaps : List Gap) → x < y → gap_between x y gaps ≡ (let gap : Gap = record { at = x; len = y - x } in gap) ∷ gaps
 gap_some x y gaps h = let some : ltb x y ≡ true = lt-ltb x y h in rw some refl
 
-module _ (B : List ℕ) (b : ℕ) where
-  pub none_in_front : (c : Chunk) (xs : List Block) → c.owner ≡ None → with_chunk B b c c.owner xs ≡ xs
-  none_in_front c xs e = ap (λ o. with_chunk B b c o xs) e
+module _ (header : ℕ) (B : List ℕ) (b : ℕ) where
+  pub none_in_front : (c : Chunk) (xs : List Block) → c.owner ≡ None → with_chunk header B b c c.owner xs ≡ xs
+  none_in_front c xs e = ap (λ o. with_chunk header B b c o xs) e
 
-  live_gaps : (c : Chunk) (name from x : ℕ) (xs : List Block) → c.owner ≡ Some name → c.at ≡ x → 16 ≤ c.len → gaps_from from (with_chunk B b c c.owner xs) ≡ gap_between from x (gaps_from (x + c.len) xs)
+  live_gaps : (c : Chunk) (name from x : ℕ) (xs : List Block) → c.owner ≡ Some name → c.at ≡ x → header ≤ c.len → gaps_from header from (with_chunk header B b c c.owner xs) ≡ gap_between from x (gaps_from header (x + c.len) xs)
   live_gaps c name from x xs e at enough =
-      let end : x + (16 + (c.len - 16)) ≡ x + c.len = omega arith in
-      ap (λ o. gaps_from from (with_chunk B b c o xs)) e
-      ∙ ap (λ k. gap_between from k (gaps_from (k + (16 + (c.len - 16))) xs)) at
-      ∙ ap (λ k. gap_between from x (gaps_from k xs)) end
+      let end : x + (header + (c.len - header)) ≡ x + c.len = omega arith in
+      ap (λ o. gaps_from header from (with_chunk header B b c o xs)) e
+      ∙ ap (λ k. gap_between from k (gaps_from header (k + (header + (c.len - header))) xs)) at
+      ∙ ap (λ k. gap_between from x (gaps_from header k xs)) end
 
-  live_end : (c : Chunk) (name from x : ℕ) (xs : List Block) → c.owner ≡ Some name → c.at ≡ x → 16 ≤ c.len → last_end from (with_chunk B b c c.owner xs) ≡ last_end (x + c.len) xs
+  live_end : (c : Chunk) (name from x : ℕ) (xs : List Block) → c.owner ≡ Some name → c.at ≡ x → header ≤ c.len → last_end header from (with_chunk header B b c c.owner xs) ≡ last_end header (x + c.len) xs
   live_end c name from x xs e at enough =
-      let end : x + (16 + (c.len - 16)) ≡ x + c.len = omega arith in
-      ap (λ o. last_end from (with_chunk B b c o xs)) e
-      ∙ ap (λ k. last_end (k + (16 + (c.len - 16))) xs) at
-      ∙ ap (λ k. last_end k xs) end
+      let end : x + (header + (c.len - header)) ≡ x + c.len = omega arith in
+      ap (λ o. last_end header from (with_chunk header B b c o xs)) e
+      ∙ ap (λ k. last_end header (k + (header + (c.len - header))) xs) at
+      ∙ ap (λ k. last_end header k xs) end
 
   abbrev gap_from : ℕ → ℕ → Gap
   gap_from from to = record { at = from; len = to - from }
 
   -- from where the chunks begin, and from further below where they begin with a live one
-  gaps_both : (x z : ℕ) (l : List Chunk) → Tell B b x z l → AreJoined l
-      → (gaps_from x (blocks_in B b l) ≡ gaps_in l) × ((from : ℕ) → from < x → BeginsLive l → gaps_from from (blocks_in B b l) ≡ gap_from from x ∷ gaps_in l)
+  gaps_both : (x z : ℕ) (l : List Chunk) → Tell header B b x z l → AreJoined header l
+      → (gaps_from header x (blocks_in header B b l) ≡ gaps_in l) × ((from : ℕ) → from < x → BeginsLive l → gaps_from header from (blocks_in header B b l) ≡ gap_from from x ∷ gaps_in l)
   gaps_both x z [] t j = (refl, λ from less live. absurd live)
   gaps_both x z (c ∷ l) t j =
-      let enough : header_len + c.size ≤ c.len = t.1 in
+      let enough : least_len header c ≤ c.len = t.1 in
       let at = place_told B b x c t.0 in
-      let xs = blocks_in B b l in
+      let xs = blocks_in header B b l in
       let later = gaps_both (x + c.len) z l t.2 j.2 in
       elim (owner_cases c.owner) [
         | inl e ↦
             let len : x + c.len - x ≡ c.len = omega arith in (
-              ap (gaps_from x) (none_in_front c xs e)
+              ap (gaps_from header x) (none_in_front c xs e)
                   ∙ later.1 x (omega arith) (j.0 e)
                   ∙ ap (λ k. (let gap : Gap = record { at = x; len = k } in gap) ∷ gaps_in l) len
                   ∙ ap (λ k. (let gap : Gap = record { at = k; len = c.len } in gap) ∷ gaps_in l) (sym at)
@@ -70,55 +69,40 @@ module _ (B : List ℕ) (b : ℕ) where
             )
         | inr s ↦
             let none = ap (λ o. with_gap c o (gaps_in l)) s.1 in (
-              live_gaps c s.0 x x xs s.1 at (omega arith) ∙ gap_none x (gaps_from (x + c.len) xs) ∙ later.0 ∙ sym none,
+              live_gaps c s.0 x x xs s.1 at (omega arith) ∙ gap_none x (gaps_from header (x + c.len) xs) ∙ later.0 ∙ sym none,
               λ from less live.
-                  live_gaps c s.0 from x xs s.1 at (omega arith) ∙ gap_some from x (gaps_from (x + c.len) xs) less
+                  live_gaps c s.0 from x xs s.1 at (omega arith) ∙ gap_some from x (gaps_from header (x + c.len) xs) less
                   ∙ ap (λ k. gap_from from x ∷ k) (later.0 ∙ sym none),
             )
       ]
 
-  pub gaps_are : (x z : ℕ) (l : List Chunk) → Tell B b x z l → AreJoined l → gaps_from x (blocks_in B b l) ≡ gaps_in l
+  pub gaps_are : (x z : ℕ) (l : List Chunk) → Tell header B b x z l → AreJoined header l → gaps_from header x (blocks_in header B b l) ≡ gaps_in l
   gaps_are x z l t j = (gaps_both x z l t j).0
 
-  end_both : (x z : ℕ) (l : List Chunk) → Tell B b x z l → AreJoined l → (last_end x (blocks_in B b l) ≡ z) × ((from : ℕ) → BeginsLive l → last_end from (blocks_in B b l) ≡ z)
+  end_both : (x z : ℕ) (l : List Chunk) → Tell header B b x z l → AreJoined header l → (last_end header x (blocks_in header B b l) ≡ z) × ((from : ℕ) → BeginsLive l → last_end header from (blocks_in header B b l) ≡ z)
   end_both x z [] t j = (t, λ from live. absurd live)
   end_both x z (c ∷ l) t j =
-      let enough : header_len + c.size ≤ c.len = t.1 in
+      let enough : least_len header c ≤ c.len = t.1 in
       let at = place_told B b x c t.0 in
-      let xs = blocks_in B b l in
+      let xs = blocks_in header B b l in
       let later = end_both (x + c.len) z l t.2 j.2 in
       elim (owner_cases c.owner) [
-        | inl e ↦ (ap (last_end x) (none_in_front c xs e) ∙ later.1 x (j.0 e), λ from live. absurd (live e))
+        | inl e ↦ (ap (last_end header x) (none_in_front c xs e) ∙ later.1 x (j.0 e), λ from live. absurd (live e))
         | inr s ↦ (live_end c s.0 x x xs s.1 at (omega arith) ∙ later.0, λ from live. live_end c s.0 from x xs s.1 at (omega arith) ∙ later.0)
       ]
 
-  pub end_is : (x z : ℕ) (l : List Chunk) → Tell B b x z l → AreJoined l → last_end x (blocks_in B b l) ≡ z
+  pub end_is : (x z : ℕ) (l : List Chunk) → Tell header B b x z l → AreJoined header l → last_end header x (blocks_in header B b l) ≡ z
   end_is x z l t j = (end_both x z l t j).0
 
-  -- the chunks take all bytes
-  abbrev room_sum : List Block → ℕ
-  room_sum blocks = sum_by (λ (block : Block). block.room) blocks
-
-  abbrev gap_sum : List Gap → ℕ
-  gap_sum gaps = sum_by (λ (gap : Gap). gap.len) gaps
-
-  pub total : (x z : ℕ) (l : List Chunk) → Tell B b x z l → x + (gap_sum (gaps_in l) + (room_sum (blocks_in B b l) + 16 * length (blocks_in B b l))) ≡ z
-  total x z [] t = omega (arith, t)
-  total x z (c ∷ l) t =
-      let enough : header_len + c.size ≤ c.len = t.1 in
-      let later = total (x + c.len) z l t.2 in
-      let gs = gaps_in l in let xs = blocks_in B b l in
+  -- each block has room for the words that tell a chunk
+  pub many : (x z : ℕ) (l : List Chunk) → Tell header B b x z l → x + 12 * length (blocks_in header B b l) ≤ z
+  many x z [] t = omega (arith, t)
+  many x z (c ∷ l) t =
+      let enough : least_len header c ≤ c.len = t.1 in
+      let later = many (x + c.len) z l t.2 in
       elim (owner_cases c.owner) [
-        | inl e ↦
-            let gaps : gap_sum (with_gap c c.owner gs) ≡ c.len + gap_sum gs =
-            ap (λ o. gap_sum (with_gap c o gs)) e ∙ sum_by-cons (λ (gap : Gap). gap.len) (record { at = c.at; len = c.len }) gs in
-            let blocks = none_in_front c xs e in
-            omega (arith, ap room_sum blocks, ap length blocks)
-        | inr s ↦
-            let block : Block = record { name = s.0; at = c.at; room = c.len - 16; bytes = slice_range B (b + c.at + 16) (b + c.at + 16 + c.size) } in
-            let gaps : gap_sum (with_gap c c.owner gs) ≡ gap_sum gs = ap (λ o. gap_sum (with_gap c o gs)) s.1 in
-            let blocks : with_chunk B b c c.owner xs ≡ block ∷ xs = ap (λ o. with_chunk B b c o xs) s.1 in
-            omega (arith, ap room_sum blocks, ap length blocks, sum_by-cons (λ (block : Block). block.room) block xs)
+        | inl e ↦ omega (arith, ap length (none_in_front c (blocks_in header B b l) e))
+        | inr s ↦ omega (arith, ap (λ o. length (with_chunk header B b c o (blocks_in header B b l))) s.1)
       ]
 
 -- the best gap is one of the gaps
@@ -220,8 +204,8 @@ pub is_live_some : (o : Option ℕ) → is_none o ≡ false → (name : ℕ) × 
 is_live_some None e = absurd (false≢true (sym e))
 is_live_some (Some name) e = (name, refl)
 
-pub best_fits : (B : List ℕ) (b z need : ℕ) (gap : Gap) (l : List Chunk) → Tell B b 0 z l → AreJoined l → Some gap ≡ best_gap need (gaps_from 0 (blocks_in B b l)) → Found need gap l
-best_fits B b z need gap l told joined e = elim (found need None gap l (sym (ap (best_gap need) (gaps_are B b 0 z l told joined)) ∙ sym e)) [
+pub best_fits : (header : ℕ) (B : List ℕ) (b z need : ℕ) (gap : Gap) (l : List Chunk) → Tell header B b 0 z l → AreJoined header l → Some gap ≡ best_gap need (gaps_from header 0 (blocks_in header B b l)) → Found need gap l
+best_fits header B b z need gap l told joined e = elim (found need None gap l (sym (ap (best_gap need) (gaps_are header B b 0 z l told joined)) ∙ sym e)) [
   | inl none ↦ absurd (let e : None ≡ Some gap = none in cc)
   | inr f ↦ f
 ]

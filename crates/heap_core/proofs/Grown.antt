@@ -14,20 +14,20 @@ module _ (heap : Region) (B : List ℕ) (has : HasChunks heap B) (linked : Linke
   abbrev from_place : ℕ → Option ℕ
   from_place at = gap_from at (gaps_among (chunks_of heap B))
 
-  leads_to_gap : (gap : Chunk) → Around B heap.span.at heap.footprint gap (chunks_of heap B) → gap.owner ≡ None → from_place gap.at ≡ Some gap.at
+  leads_to_gap : (gap : Chunk) → Around heap.header B heap.span.at heap.footprint gap (chunks_of heap B) → gap.owner ≡ None → from_place gap.at ≡ Some gap.at
   leads_to_gap gap a free =
       let e = ends_of heap B gap.at gap.at a.before [] (gap ∷ a.behind) has linked a.is a.front (a.here, a.enough, a.back) in
       (linked_gap (from_place gap.at) None gap a.behind free e.back).0
 
-  module _ (chunk : Chunk) (a : Around B heap.span.at heap.footprint chunk (chunks_of heap B)) (more : free_from a.before ≢ chunk.at) where
+  module _ (chunk : Chunk) (a : Around heap.header B heap.span.at heap.footprint chunk (chunks_of heap B)) (more : free_from a.before ≢ chunk.at) where
     leads : (last : Option Chunk) → last_of (gaps_among a.before) ≡ last → from_place (free_from a.before) ≡ Some (free_from a.before)
-    leads None e = absurd (more (free_no_gap B heap.span.at chunk.at a.before a.front e))
+    leads None e = absurd (more (free_no_gap heap.header B heap.span.at chunk.at a.before a.front e))
     leads (Some gap) e = elim (cases_eq (gap.at + gap.len) chunk.at) [
       | inl ends ↦
           let s = last_stands (Some gap) a.before (chunk ∷ a.behind) (chunks_of heap B) (sym e) a.is in
-          let there : free_from a.before ≡ gap.at = free_gap_there B heap.span.at chunk.at a.before a.front gap e ends in
+          let there : free_from a.before ≡ gap.at = free_gap_there heap.header B heap.span.at chunk.at a.before a.front gap e ends in
           subst (λ k. from_place k ≡ Some k) (sym there) (leads_to_gap gap (around heap B gap has s.0) s.1)
-      | inr short ↦ absurd (more (free_gap_below B heap.span.at chunk.at a.before a.front gap e short))
+      | inr short ↦ absurd (more (free_gap_below heap.header B heap.span.at chunk.at a.before a.front gap e short))
     ]
 
     pub leads_there : from_place (free_from a.before) ≡ Some (free_from a.before)

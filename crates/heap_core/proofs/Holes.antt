@@ -3,21 +3,21 @@ use Rattle.std.proofs.Common.{◌≡◌, ◌≢◌, ℕ, ◌+◌, ◌-◌, ◌�
 use Rattle.std.specs.Prelude.{Option, IfSome, filter}
 use Rattle.std.proofs.lemmas.Bool.{cases_eq}
 use Rattle.std.proofs.lemmas.List.{append-nil}
-use Rattle.mote_types.specs.Rounding.{up4}
 use Rattle.arena_core.specs.Outside.{ChangesOnly}
 use Rattle.arena_core.specs.declared.span.Span.{Span}
 use Rattle.heap_core.specs.declared.chunk.Chunk.{Chunk}
 use Rattle.heap_core.specs.declared.chunk.Place.{Place}
 use Rattle.heap_core.specs.declared.region.Region.{Region}
-use Rattle.heap_core.specs.HeapStore.{Block, HeapStore, header_len, placed, block_at, with_block, room_in_place}
-use Rattle.heap_core.specs.Code.Chunks.{Tell, BeginsLive, IsWhole, AreJoined, with_chunk, blocks_in}
-use Rattle.heap_core.specs.Code.Holes.{Hole, Leaves, Laid, Free}
+use Rattle.heap_core.specs.HeapStore.{Block, HeapStore, placed, block_at, with_block, least_room, room_in_place}
+use Rattle.heap_core.specs.Code.Chunks.{shortest, least_len, Tell, BeginsLive, IsWhole, AreJoined, with_chunk, blocks_in}
+use Rattle.heap_core.specs.Code.Holes.{Hole, Fits, Leaves, Laid, Free}
 use Rattle.heap_core.specs.Code.Layout.{chunks_of, HasChunks, store_of}
 use Rattle.heap_core.specs.Code.Links.{LinkedTo, gaps_among, gap_count, gap_below, gap_from, Relinked}
 use Rattle.heap_core.specs.Code.Walks.{chunks_behind, GapAt, LiveIn, Owned, laid, front_gap, place_in_chunk, bytes_in_chunk, LeavesGap, IsWholeRoom}
 use Rattle.heap_core.proofs.Beside.{room_is, Taken, taken, front_gap_whole}
 use Rattle.heap_core.proofs.Blocks.{blocks_between, placed_behind, placed_front, elsewhere}
 use Rattle.heap_core.proofs.Gaps.{none_in_front}
+use Rattle.heap_core.proofs.Lengths.{lengths, needed}
 use Rattle.heap_core.proofs.Lists.{gaps_counted, count_some, count_none, gap_first, live_first, Ends, ends_of, IsGapOf, last_stands, list_kept}
 use Rattle.heap_core.proofs.Members.{In, in_of, in_left, in_right, in_cases, stands_of, in_told, in_without, live_exchanged, apart_from_gap}
 use Rattle.heap_core.proofs.Releases.{r, end_below, left_apart}
@@ -27,56 +27,57 @@ use Rattle.heap_core.proofs.Steps.{ended}
 use Rattle.heap_core.proofs.Told.{told_frame, blocks_frame, blocks_append}
 
 -- the chunks that are laid: the live one, and what it leaves
-module _ (B B' : List ℕ) (b : ℕ) (live : Chunk) (name : ℕ) (owner : live.owner ≡ Some name) where
+module _ (header : ℕ) (B B' : List ℕ) (b : ℕ) (live : Chunk) (name : ℕ) (owner : live.owner ≡ Some name) where
   pub is_live : live.owner ≢ None
   is_live none = absurd (let two : None ≡ Some name = sym none ∙ owner in cc)
 
-  pub live_block : bytes_in_chunk B' b live ≡ bytes_in_chunk B b live → (ys : List Block) → blocks_in B' b (live ∷ []) ++ ys ≡ with_chunk B b live live.owner ys
+  pub live_block : bytes_in_chunk header B' b live ≡ bytes_in_chunk header B b live → (ys : List Block) → blocks_in header B' b (live ∷ []) ++ ys ≡ with_chunk header B b live live.owner ys
   live_block same ys =
-      ap (λ o. with_chunk B' b live o [] ++ ys) owner
-      ∙ ap (λ bytes. (let k : Block = record { name = name; at = live.at; room = live.len - header_len; bytes = bytes } in k) ∷ ys) same
-      ∙ sym (ap (λ o. with_chunk B b live o ys) owner)
+      ap (λ o. with_chunk header B' b live o [] ++ ys) owner
+      ∙ ap (λ bytes. (let k : Block = record { name = name; at = live.at; room = live.len - header; bytes = bytes } in k) ∷ ys) same
+      ∙ sym (ap (λ o. with_chunk header B b live o ys) owner)
 
-  pub live_joined : IsWhole live → (behind : List Chunk) → AreJoined behind → AreJoined (live ∷ behind)
+  pub live_joined : IsWhole header live → (behind : List Chunk) → AreJoined header behind → AreJoined header (live ∷ behind)
   live_joined whole behind joined = ((λ none. absurd (is_live none)), whole, joined)
 
-  module _ (len : ℕ) (link : Option ℕ) (rest : (live.len ≡ len) ⊎ LeavesGap live.len len) where
-    pub laid_block : bytes_in_chunk B' b live ≡ bytes_in_chunk B b live → (ys : List Block) → blocks_in B' b (laid live len link) ++ ys ≡ with_chunk B b live live.owner ys
+  module _ (len : ℕ) (link : Option ℕ) (least : 16 ≤ shortest header) (rest : (live.len ≡ len) ⊎ LeavesGap header live.len len) where
+    pub laid_block : bytes_in_chunk header B' b live ≡ bytes_in_chunk header B b live → (ys : List Block) → blocks_in header B' b (laid live len link) ++ ys ≡ with_chunk header B b live live.owner ys
     laid_block same ys = elim rest [
-      | inl e ↦ ap (λ l. blocks_in B' b l ++ ys) (laid_all live len link e) ∙ live_block same ys
-      | inr less ↦ ap (λ l. blocks_in B' b l ++ ys) (laid_some live len link (omega (arith, less.0))) ∙ live_block same ys
+      | inl e ↦ ap (λ l. blocks_in header B' b l ++ ys) (laid_all live len link e) ∙ live_block same ys
+      | inr less ↦ ap (λ l. blocks_in header B' b l ++ ys) (laid_some live len link (omega (arith, least, less.0))) ∙ live_block same ys
     ]
 
     pub laid_begins : (behind : List Chunk) → BeginsLive (laid live len link ++ behind)
     laid_begins behind = is_live
 
-    pub laid_joined : IsWhole live → (behind : List Chunk) → BeginsLive behind → AreJoined behind → AreJoined (laid live len link ++ behind)
+    pub laid_joined : IsWhole header live → (behind : List Chunk) → BeginsLive behind → AreJoined header behind → AreJoined header (laid live len link ++ behind)
     laid_joined whole behind begins joined = elim rest [
-      | inl e ↦ subst (λ l. AreJoined (l ++ behind)) (sym (laid_all live len link e)) (live_joined whole behind joined)
+      | inl e ↦ subst (λ l. AreJoined header (l ++ behind)) (sym (laid_all live len link e)) (live_joined whole behind joined)
       | inr less ↦
-          subst (λ l. AreJoined (l ++ behind)) (sym (laid_some live len link (omega (arith, less.0))))
+          subst (λ l. AreJoined header (l ++ behind)) (sym (laid_some live len link (omega (arith, least, less.0))))
           ((λ none. absurd (is_live none)), whole, ((λ none. begins), (omega (arith, less.0), less.1), joined))
     ]
 
-module _ (heap new : Region) (B B' : List ℕ) (live : Chunk) (before mid behind : List Chunk) (y : ℕ) (same : new.span ≡ heap.span) (within : heap.span.at + heap.span.len ≤ length B)
-    (changes : ChangesOnly (heap.span.at + live.at) (y - live.at) B B') (front : Tell B heap.span.at 0 live.at before)
-    (told : Tell B' heap.span.at live.at y mid) (back : Tell B heap.span.at y new.footprint behind) (joined : AreJoined (before ++ (mid ++ behind)))
-    (blocks : (ys : List Block) → blocks_in B' heap.span.at mid ++ ys ≡ with_chunk B heap.span.at live live.owner ys) where
+module _ (heap new : Region) (B B' : List ℕ) (live : Chunk) (before mid behind : List Chunk) (y : ℕ) (same : new.span ≡ heap.span) (same_header : new.header ≡ heap.header) (within : heap.span.at + heap.span.len ≤ length B)
+    (changes : ChangesOnly (heap.span.at + live.at) (y - live.at) B B') (front : Tell heap.header B heap.span.at 0 live.at before)
+    (told : Tell heap.header B' heap.span.at live.at y mid) (back : Tell heap.header B heap.span.at y new.footprint behind) (joined : AreJoined heap.header (before ++ (mid ++ behind)))
+    (blocks : (ys : List Block) → blocks_in heap.header B' heap.span.at mid ++ ys ≡ with_chunk heap.header B heap.span.at live live.owner ys) where
   abbrev b : ℕ
   b = heap.span.at
 
   start : new.span.at ≡ b
   start = ap (λ (s : Span). s.at) same
 
+  to_new : (C : List ℕ) (p q : ℕ) (l : List Chunk) → Tell heap.header C b p q l → Tell new.header C new.span.at p q l
+  to_new C p q l told = subst (λ k. Tell k C new.span.at p q l) (sym same_header) (subst (λ k. Tell heap.header C k p q l) (sym start) told)
+
   there : Spliced new B B' before mid behind
   there =
       let len = ap (λ (s : Span). s.len) same in let start' = start in
       spliced new B B' live.at y before mid behind (omega (arith, within))
       (subst (λ k. ChangesOnly (k + live.at) (y - live.at) B B') (sym start) changes)
-      (subst (λ k. Tell B k 0 live.at before) (sym start) front)
-      (subst (λ k. Tell B' k live.at y mid) (sym start) told)
-      (subst (λ k. Tell B k y new.footprint behind) (sym start) back)
-      joined
+      (to_new B 0 live.at before front) (to_new B' live.at y mid told) (to_new B y new.footprint behind back)
+      (subst (λ k. AreJoined k (before ++ (mid ++ behind))) (sym same_header) joined)
 
   stays : (other : Chunk) → LiveIn other (before ++ behind) → In other (before ++ (mid ++ behind))
   stays other h = elim (in_cases other before behind (in_of other (before ++ behind) h.stands)) [
@@ -92,23 +93,24 @@ module _ (heap new : Region) (B B' : List ℕ) (live : Chunk) (before mid behind
     count = count;
     chunks = there.has;
     blocks = there.blocks
-        ∙ ap (λ k. blocks_in B k before ++ (blocks_in B' k mid ++ blocks_in B k behind)) start
-        ∙ ap (λ l. blocks_in B b before ++ l) (blocks (blocks_in B b behind));
+        ∙ ap (λ k. blocks_in k B new.span.at before ++ (blocks_in k B' new.span.at mid ++ blocks_in k B new.span.at behind)) same_header
+        ∙ ap (λ k. blocks_in heap.header B k before ++ (blocks_in heap.header B' k mid ++ blocks_in heap.header B k behind)) start
+        ∙ ap (λ l. blocks_in heap.header B b before ++ l) (blocks (blocks_in heap.header B b behind));
     kept = λ other h. record { stands = stands_of other (chunks_of new B') (subst (In other) (sym there.is) (stays other h)); live = h.live };
   }
 
 -- bytes are written into a hole, behind a header
-module _ (heap : Region) (B B' : List ℕ) (at end n : ℕ) (hole : Hole heap B at end) (changes : ChangesOnly (heap.span.at + at + 16) n B B') (side : (end ≡ heap.footprint) ⊎ (at + 16 + n ≤ end)) where
+module _ (heap : Region) (B B' : List ℕ) (at end n : ℕ) (hole : Hole heap B at end) (changes : ChangesOnly (heap.span.at + at + heap.header) n B B') (side : (end ≡ heap.footprint) ⊎ (at + heap.header + n ≤ end)) where
   abbrev h : ℕ
   h = heap.span.at
 
-  above : (hole.behind ≡ []) ⊎ (at + 16 + n ≤ end)
-  above = elim side [ inl e ↦ inl (ended B h end heap.footprint hole.behind hole.back (omega (arith, e))) | inr f ↦ inr f ]
+  above : (hole.behind ≡ []) ⊎ (at + heap.header + n ≤ end)
+  above = elim side [ inl e ↦ inl (ended heap.header B h end heap.footprint hole.behind hole.back (omega (arith, e))) | inr f ↦ inr f ]
 
-  pub back : Tell B' h end heap.footprint hole.behind
+  pub back : Tell heap.header B' h end heap.footprint hole.behind
   back = elim above [
-    | inl none ↦ subst (Tell B' h end heap.footprint) (sym none) (subst (Tell B h end heap.footprint) none hole.back)
-    | inr f ↦ told_frame B B' h (h + at + 16) n changes end heap.footprint hole.behind (inr (omega arith)) hole.back
+    | inl none ↦ subst (Tell heap.header B' h end heap.footprint) (sym none) (subst (Tell heap.header B h end heap.footprint) none hole.back)
+    | inr f ↦ told_frame heap.header B B' h (h + at + heap.header) n changes end heap.footprint hole.behind (inr (omega arith)) hole.back
   ]
 
   unfoldable pub hole_after : Hole heap B' at end
@@ -116,66 +118,71 @@ module _ (heap : Region) (B B' : List ℕ) (at end n : ℕ) (hole : Hole heap B 
     before = hole.before;
     behind = hole.behind;
     within = omega (arith, changes.size, hole.within);
-    front = told_frame B B' h (h + at + 16) n changes 0 at hole.before (inl (omega arith)) hole.front;
+    front = told_frame heap.header B B' h (h + at + heap.header) n changes 0 at hole.before (inl (omega arith)) hole.front;
     back = back;
     joined = hole.joined;
     joined_behind = hole.joined_behind;
     begins = hole.begins;
   }
 
-  pub before_after : blocks_in B' h hole.before ≡ blocks_in B h hole.before
-  before_after = blocks_frame B B' h (h + at + 16) n changes 0 at hole.before (inl (omega arith)) hole.front
+  pub before_after : blocks_in heap.header B' h hole.before ≡ blocks_in heap.header B h hole.before
+  before_after = blocks_frame heap.header B B' h (h + at + heap.header) n changes 0 at hole.before (inl (omega arith)) hole.front
 
-  pub behind_after : blocks_in B' h hole.behind ≡ blocks_in B h hole.behind
+  pub behind_after : blocks_in heap.header B' h hole.behind ≡ blocks_in heap.header B h hole.behind
   behind_after = elim above [
-    | inl none ↦ ap (blocks_in B' h) none ∙ sym (ap (blocks_in B h) none)
-    | inr f ↦ blocks_frame B B' h (h + at + 16) n changes end heap.footprint hole.behind (inr (omega arith)) hole.back
+    | inl none ↦ ap (blocks_in heap.header B' h) none ∙ sym (ap (blocks_in heap.header B h) none)
+    | inr f ↦ blocks_frame heap.header B B' h (h + at + heap.header) n changes end heap.footprint hole.behind (inr (omega arith)) hole.back
   ]
 
+-- a chunk that fits is as long as it needs
+pub fits_least : (heap : Region) (live : Chunk) (end : ℕ) → Fits heap live end → least_len heap.header live ≤ live.len
+fits_least heap live end fits = omega (arith, fits.room, fits.whole.0, (lengths heap).least)
+
 -- a block's bytes end where the hole does, or before that
-pub below : (heap : Region) (at room n end : ℕ) → Leaves heap (at + (header_len + room)) end → n ≤ room → (end ≡ heap.footprint) ⊎ (at + 16 + n ≤ end)
+pub below : (heap : Region) (at room n end : ℕ) → Leaves heap (at + (heap.header + room)) end → n ≤ room → (end ≡ heap.footprint) ⊎ (at + heap.header + n ≤ end)
 below heap at room n end rest fits = elim rest [ inl e ↦ inl e | inr f ↦ elim f [ inl all ↦ inr (omega (arith, fits)) | inr some ↦ inr (omega (arith, fits, some.0)) ] ]
 
 -- a block that is laid into a hole is one more
 module _ (heap new : Region) (B B1 B2 : List ℕ) (target : Place) (name n end : ℕ) (hole : Hole heap B target.at end)
-    (changes : ChangesOnly (heap.span.at + target.at + 16) n B B1) (rest : Leaves heap (target.at + (header_len + target.room)) end) (room : n ≤ target.room)
-    (first link : Option ℕ) (laid : Laid heap new B1 B2 (record { at = target.at; len = header_len + target.room; owner = Some name; size = n; link = None }) hole.before hole.behind first link) where
+    (changes : ChangesOnly (heap.span.at + target.at + heap.header) n B B1) (rest : Leaves heap (target.at + (heap.header + target.room)) end) (room : n ≤ target.room)
+    (first link : Option ℕ) (laid : Laid heap new B1 B2 (record { at = target.at; len = heap.header + target.room; owner = Some name; size = n; link = None }) hole.before hole.behind first link) where
   abbrev s : ℕ
   s = heap.span.at
 
   abbrev live : Chunk
-  live = record { at = target.at; len = header_len + target.room; owner = Some name; size = n; link = None }
+  live = record { at = target.at; len = heap.header + target.room; owner = Some name; size = n; link = None }
 
   abbrev xs : List Block
-  xs = blocks_in B s hole.before
+  xs = blocks_in heap.header B s hole.before
 
   abbrev ys : List Block
-  ys = blocks_in B s hole.behind
+  ys = blocks_in heap.header B s hole.behind
 
-  abbrev under : (end ≡ heap.footprint) ⊎ (target.at + 16 + n ≤ end)
+  abbrev under : (end ≡ heap.footprint) ⊎ (target.at + heap.header + n ≤ end)
   under = below heap target.at target.room n end rest room
 
   in_front : (block : Block) → block.at ≡ target.at → placed block ys ≡ block ∷ ys
   in_front block at = elim under [
     | inl e ↦
-        let none = ended B s end heap.footprint hole.behind hole.back (omega (arith, e)) in
-        subst (λ l. placed block (blocks_in B s l) ≡ block ∷ blocks_in B s l) (sym none) refl
-    | inr f ↦ placed_front end heap.footprint block ys (blocks_between B s end heap.footprint hole.behind hole.back) (omega (arith, at))
+        let none = ended heap.header B s end heap.footprint hole.behind hole.back (omega (arith, e)) in
+        subst (λ l. placed block (blocks_in heap.header B s l) ≡ block ∷ blocks_in heap.header B s l) (sym none) refl
+    | inr f ↦ placed_front end heap.footprint block ys (blocks_between heap.header B s end heap.footprint hole.behind hole.back) (omega (arith, at))
   ]
 
-  pub put_block : (ws : List ℕ) (olds : List Block) → bytes_in_chunk B1 s live ≡ ws → olds ≡ xs ++ ys → new.span ≡ heap.span
-      → store_of new B2 ≡ with_block (block_at target name ws) (record { size = heap.span.len; blocks = olds })
-  put_block ws olds fresh are span =
+  pub put_block : (ws : List ℕ) (olds : List Block) → bytes_in_chunk heap.header B1 s live ≡ ws → olds ≡ xs ++ ys → new.span ≡ heap.span → new.header ≡ heap.header
+      → store_of new B2 ≡ with_block (block_at target name ws) (record { size = heap.span.len; header = heap.header; blocks = olds })
+  put_block ws olds fresh are span header =
       let block = block_at target name ws in
-      let same : header_len + target.room - header_len ≡ target.room = omega arith in
+      let same : heap.header + target.room - heap.header ≡ target.room = omega arith in
       let put : placed block (xs ++ ys) ≡ xs ++ (block ∷ ys) =
-      placed_behind 0 target.at block xs ys (blocks_between B s 0 target.at hole.before hole.front) (omega arith) ∙ ap (λ l. xs ++ l) (in_front block refl) in
-      ap (λ size. let h : HeapStore = record { size = size; blocks = blocks_in B2 new.span.at (chunks_of new B2) } in h) (ap (λ (k : Span). k.len) span)
-      ∙ ap (λ blocks. let h : HeapStore = record { size = heap.span.len; blocks = blocks } in h)
+      placed_behind 0 target.at block xs ys (blocks_between heap.header B s 0 target.at hole.before hole.front) (omega arith) ∙ ap (λ l. xs ++ l) (in_front block refl) in
+      ap (λ size. let h : HeapStore = record { size = size; header = new.header; blocks = blocks_in new.header B2 new.span.at (chunks_of new B2) } in h) (ap (λ (k : Span). k.len) span)
+      ∙ ap (λ header. let h : HeapStore = record { size = heap.span.len; header = header; blocks = blocks_in new.header B2 new.span.at (chunks_of new B2) } in h) header
+      ∙ ap (λ blocks. let h : HeapStore = record { size = heap.span.len; header = heap.header; blocks = blocks } in h)
       (laid.blocks
-      ∙ ap (λ l. l ++ with_chunk B1 s live (Some name) (blocks_in B1 s hole.behind)) (before_after heap B B1 target.at end n hole changes under)
-      ∙ ap (λ l. xs ++ with_chunk B1 s live (Some name) l) (behind_after heap B B1 target.at end n hole changes under)
-      ∙ ap (λ bytes. xs ++ ((let k : Block = record { name = name; at = target.at; room = header_len + target.room - header_len; bytes = bytes } in k) ∷ ys)) fresh
+      ∙ ap (λ l. l ++ with_chunk heap.header B1 s live (Some name) (blocks_in heap.header B1 s hole.behind)) (before_after heap B B1 target.at end n hole changes under)
+      ∙ ap (λ l. xs ++ with_chunk heap.header B1 s live (Some name) l) (behind_after heap B B1 target.at end n hole changes under)
+      ∙ ap (λ bytes. xs ++ ((let k : Block = record { name = name; at = target.at; room = heap.header + target.room - heap.header; bytes = bytes } in k) ∷ ys)) fresh
       ∙ ap (λ m. xs ++ ((let k : Block = record { name = name; at = target.at; room = m; bytes = ws } in k) ∷ ys)) same
       ∙ sym put
       ∙ sym (ap (placed block) are))
@@ -188,15 +195,15 @@ module _ (heap : Region) (B : List ℕ) (has : HasChunks heap B) (target : Place
   abbrev all : List Chunk
   all = chunks_of heap B
 
-  pub free_top : target.at ≡ heap.footprint → target.at + (header_len + target.room) ≤ heap.span.len → IsWholeRoom target.room → Free heap B target target.at
+  pub free_top : target.at ≡ heap.footprint → target.at + (heap.header + target.room) ≤ heap.span.len → IsWholeRoom heap.header target.room → Free heap B target target.at
   free_top at fits whole = record {
     hole = record {
       before = all;
       behind = [];
       within = has.within;
-      front = subst (λ k. Tell B t 0 k all) (sym at) has.told;
+      front = subst (λ k. Tell heap.header B t 0 k all) (sym at) has.told;
       back = at;
-      joined = λ chunks begins joined. joined_swap all [] chunks (λ _. begins) (subst AreJoined (sym (append-nil all)) has.joined) joined;
+      joined = λ chunks begins joined. joined_swap heap.header all [] chunks (λ _. begins) (subst (AreJoined heap.header) (sym (append-nil all)) has.joined) joined;
       joined_behind = tt;
       begins = inl refl;
     };
@@ -206,24 +213,24 @@ module _ (heap : Region) (B : List ℕ) (has : HasChunks heap B) (target : Place
     inside = fits;
     rest = inl at;
     whole = whole;
-    apart = λ other live. (let in_all = in_told B t 0 heap.footprint other all has.told (in_of other all live.stands) in inl (omega (arith, at, in_all.1, in_all.2)));
-    blocks = sym (append-nil (blocks_in B t all));
+    apart = λ other live. (let in_all = in_told heap.header B t 0 heap.footprint other all has.told (in_of other all live.stands) in inl (omega (arith, at, in_all.1, in_all.2)));
+    blocks = sym (append-nil (blocks_in heap.header B t all));
     kept = λ other live. subst (LiveIn other) (sym (append-nil all)) live;
   }
 
-  pub free_gap : (g : GapAt target.at (header_len + target.room) all) → IsWholeRoom target.room → Free heap B target (target.at + g.gap.len)
+  pub free_gap : (g : GapAt heap.header target.at (heap.header + target.room) all) → IsWholeRoom heap.header target.room → Free heap B target (target.at + g.gap.len)
   free_gap g whole =
       let a = around heap B g.gap has g.stands in
-      let was : AreJoined (a.before ++ (g.gap ∷ a.behind)) = subst AreJoined a.is has.joined in
-      let later = joined_behind a.before (g.gap ∷ a.behind) was in
+      let was : AreJoined heap.header (a.before ++ (g.gap ∷ a.behind)) = subst (AreJoined heap.header) a.is has.joined in
+      let later = joined_behind heap.header a.before (g.gap ∷ a.behind) was in
       record {
         hole = record {
           before = a.before;
           behind = a.behind;
           within = has.within;
-          front = subst (λ k. Tell B t 0 k a.before) g.at a.front;
-          back = subst (λ k. Tell B t (k + g.gap.len) heap.footprint a.behind) g.at a.back;
-          joined = λ chunks begins joined. joined_swap a.before (g.gap ∷ a.behind) chunks (λ _. begins) was joined;
+          front = subst (λ k. Tell heap.header B t 0 k a.before) g.at a.front;
+          back = subst (λ k. Tell heap.header B t (k + g.gap.len) heap.footprint a.behind) g.at a.back;
+          joined = λ chunks begins joined. joined_swap heap.header a.before (g.gap ∷ a.behind) chunks (λ _. begins) was joined;
           joined_behind = later.2;
           begins = inr (later.0 g.free);
         };
@@ -233,30 +240,30 @@ module _ (heap : Region) (B : List ℕ) (has : HasChunks heap B) (target : Place
         inside = elim g.rest [ inl e ↦ omega (arith, g.at, a.fits, heap.inside) | inr less ↦ omega (arith, g.at, a.fits, heap.inside, less.0) ];
         rest = elim g.rest [ inl e ↦ inr (inl (omega arith)) | inr less ↦ inr (inr (omega (arith, less.0), omega (arith, less.0, less.1))) ];
         whole = whole;
-        apart = λ other live. elim (apart_from_gap B t heap.footprint other g.gap a.before a.behind all a.is a.front a.back g.free live) [
+        apart = λ other live. elim (apart_from_gap heap.header B t heap.footprint other g.gap a.before a.behind all a.is a.front a.back g.free live) [
           | inl low ↦ inl (omega (arith, g.at))
           | inr high ↦ inr (elim g.rest [ inl e ↦ omega (arith, g.at) | inr less ↦ omega (arith, g.at, less.0) ])
         ];
-        blocks = ap (blocks_in B t) a.is ∙ blocks_append B t a.before (g.gap ∷ a.behind) ∙ ap (λ l. blocks_in B t a.before ++ l) (none_in_front B t g.gap (blocks_in B t a.behind) g.free);
+        blocks = ap (blocks_in heap.header B t) a.is ∙ blocks_append heap.header B t a.before (g.gap ∷ a.behind) ∙ ap (λ l. blocks_in heap.header B t a.before ++ l) (none_in_front heap.header B t g.gap (blocks_in heap.header B t a.behind) g.free);
         kept = λ other live. live_exchanged other g.gap a.before [] a.behind all (a.before ++ a.behind) g.free a.is refl live;
       }
 
 -- the bytes of a block that is resized where it is, and of the gap behind it
 module _ (heap : Region) (B : List ℕ) (has : HasChunks heap B) (chunk : Chunk) (name : ℕ) (o : Owned name chunk (chunks_of heap B)) where
-  pub own : Around B heap.span.at heap.footprint chunk (chunks_of heap B)
+  pub own : Around heap.header B heap.span.at heap.footprint chunk (chunks_of heap B)
   own = around heap B chunk has o.stands
 
   pub owns : chunk.owner ≢ None
   owns none = absurd (let two : None ≡ Some name = sym none ∙ o.owner in cc)
 
-  own_joined : AreJoined (own.before ++ (chunk ∷ own.behind))
-  own_joined = subst AreJoined own.is has.joined
+  own_joined : AreJoined heap.header (own.before ++ (chunk ∷ own.behind))
+  own_joined = subst (AreJoined heap.header) own.is has.joined
 
-  own_whole : IsWhole chunk
-  own_whole = whole_at own.before own.behind chunk own_joined
+  own_whole : IsWhole heap.header chunk
+  own_whole = whole_at heap.header own.before own.behind chunk own_joined
 
-  own_behind : AreJoined own.behind
-  own_behind = (joined_behind own.before (chunk ∷ own.behind) own_joined).2
+  own_behind : AreJoined heap.header own.behind
+  own_behind = (joined_behind heap.header own.before (chunk ∷ own.behind) own_joined).2
 
   pub gap_same : (gap : ℕ) → gap ≡ front_gap (chunks_behind heap B (chunk.at + chunk.len)) → gap ≡ front_gap own.behind
   gap_same gap is = is ∙ ap front_gap (behind_is heap B chunk own)
@@ -278,14 +285,14 @@ module _ (heap : Region) (B : List ℕ) (has : HasChunks heap B) (chunk : Chunk)
     unfoldable pub own_hole : Hole heap B chunk.at end
     own_hole =
         let rest = r heap B has chunk own owns in
-        let was : AreJoined (own.before ++ (chunk ∷ own.behind)) = subst AreJoined own.is has.joined in
+        let was : AreJoined heap.header (own.before ++ (chunk ∷ own.behind)) = subst (AreJoined heap.header) own.is has.joined in
         record {
           before = own.before;
           behind = rest.post;
           within = has.within;
           front = own.front;
-          back = subst (λ k. Tell B heap.span.at (chunk.at + chunk.len + k) heap.footprint rest.post) (sym gap_is) rest.told;
-          joined = λ chunks begins joined. joined_swap own.before (chunk ∷ own.behind) chunks (λ _. begins) was joined;
+          back = subst (λ k. Tell heap.header B heap.span.at (chunk.at + chunk.len + k) heap.footprint rest.post) (sym gap_is) rest.told;
+          joined = λ chunks begins joined. joined_swap heap.header own.before (chunk ∷ own.behind) chunks (λ _. begins) was joined;
           joined_behind = rest.joined;
           begins = elim rest.begins [ inl none ↦ inl none.0 | inr first ↦ inr first ];
         }
@@ -306,21 +313,25 @@ module _ (heap : Region) (B : List ℕ) (has : HasChunks heap B) (chunk : Chunk)
           live = h.live;
         }
 
-    pub own_blocks : filter (elsewhere chunk.at) (blocks_in B heap.span.at (chunks_of heap B)) ≡ blocks_in B heap.span.at own_hole.before ++ blocks_in B heap.span.at own_hole.behind
+    pub own_blocks : filter (elsewhere chunk.at) (blocks_in heap.header B heap.span.at (chunks_of heap B)) ≡ blocks_in heap.header B heap.span.at own_hole.before ++ blocks_in heap.header B heap.span.at own_hole.behind
     unfolding own_hole
-    own_blocks = left_apart heap B has chunk own owns ∙ ap (λ l. blocks_in B heap.span.at own.before ++ l) (r heap B has chunk own owns).blocks
+    own_blocks = left_apart heap B has chunk own owns ∙ ap (λ l. blocks_in heap.header B heap.span.at own.before ++ l) (r heap B has chunk own owns).blocks
 
-    module _ (n room : ℕ) (some : 1 ≤ n) (chosen : room_in_place (place_in_chunk chunk) n (store_of heap B) ≡ Some room) where
-      known : Taken (up4 n) (chunk.len - 16) (chunk.at + chunk.len) heap.footprint (heap.span.len - heap.footprint) (front_gap own.behind) room
+    module _ (n room : ℕ) (some : 1 ≤ n) (chosen : room_in_place (place_in_chunk heap.header chunk) n (store_of heap B) ≡ Some room) where
+      abbrev least : ℕ
+      least = least_room heap.header n
+
+      known : Taken heap.header least (chunk.len - heap.header) (chunk.at + chunk.len) heap.footprint (heap.span.len - heap.footprint) (front_gap own.behind) room
       known =
-          taken (up4 n) (chunk.len - 16) (chunk.at + chunk.len) heap.footprint (heap.span.len - heap.footprint) (front_gap own.behind) room
-          (omega arith, omega arith) (omega (arith, own_whole.0, own_whole.1)) (front_gap_whole own.behind own_behind)
+          let k = lengths heap in
+          taken heap.header least (chunk.len - heap.header) (chunk.at + chunk.len) heap.footprint (heap.span.len - heap.footprint) (front_gap own.behind) room
+          k.most (needed heap n some).whole (omega (arith, own_whole.0, own_whole.1, k.whole, k.room)) (front_gap_whole heap.header own.behind own_behind)
           (sym (room_is heap B chunk n own has owns) ∙ chosen)
 
       pub own_room : n ≤ room
-      own_room = omega (arith, known.enough)
+      own_room = omega (arith, known.enough, (needed heap n some).enough)
 
-      pub own_rest : Leaves heap (chunk.at + (16 + room)) end
+      pub own_rest : Leaves heap (chunk.at + (heap.header + room)) end
       own_rest = elim (cases_eq (chunk.at + chunk.len) heap.footprint) [
         | inl last ↦ inl (omega (arith, last, own_end))
         | inr more ↦ inr (elim (known.below more) [
@@ -329,10 +340,10 @@ module _ (heap : Region) (B : List ℕ) (has : HasChunks heap B) (chunk : Chunk)
         ])
       ]
 
-      pub own_live : IsWhole (record { at = chunk.at; len = 16 + room; owner = Some name; size = n; link = None })
-      own_live = (omega (arith, known.whole.0), omega (arith, known.whole.1))
+      pub own_live : IsWhole heap.header (record { at = chunk.at; len = heap.header + room; owner = Some name; size = n; link = None })
+      own_live = (omega (arith, known.whole.0), omega (arith, known.whole.1, (lengths heap).whole))
 
-      pub own_inside : chunk.at + (16 + room) ≤ heap.span.len
+      pub own_inside : chunk.at + (heap.header + room) ≤ heap.span.len
       own_inside = elim (cases_eq (chunk.at + chunk.len) heap.footprint) [
         | inl last ↦ omega (arith, known.on_top last, own.enough, last, heap.inside)
         | inr more ↦ elim own_rest [

@@ -17,7 +17,7 @@ linked_is heap B has list freed none =
     let all = chunks_of heap B in
     let many : length (gaps (heap_of heap B)) ≡ heap.gaps =
     ap (λ (s : HeapStore). length (gaps s)) (plain heap B freed none)
-    ∙ ap length (gaps_are B heap.span.at 0 heap.footprint all has.told has.joined)
+    ∙ ap length (gaps_are heap.header B heap.span.at 0 heap.footprint all has.told has.joined)
     ∙ sym (list.count ∙ gaps_many all) in
     omega (arith, many, none)
 

@@ -3,11 +3,13 @@ pub mod Blocks
 pub mod Bodies
 pub mod Callers
 pub mod Choices
+pub mod Cleared
 pub mod Freed
 pub mod Gaps
 pub mod Grown
 pub mod Holes
 pub mod Joined
+pub mod Lengths
 pub mod Lists
 pub mod Live
 pub mod Members
@@ -24,6 +26,7 @@ pub mod Splice
 pub mod Standing
 pub mod Steps
 pub mod Stored
+pub mod Sums
 pub mod Told
 pub mod Walked
 pub mod WrittenHeaders

@@ -5,9 +5,8 @@ use Rattle.std.proofs.lemmas.Bool.{lt-ltb, le-ltb, le-leb, lt-leb, ne_eqb, cases
 use Rattle.std.proofs.lemmas.List.{append_assoc, length-append}
 use Rattle.std.proofs.lemmas.List.Sums.{fold-append}
 use Rattle.heap_core.specs.declared.chunk.Chunk.{Chunk}
-use Rattle.heap_core.specs.HeapStore.{header_len}
 use Rattle.heap_core.specs.declared.region.Region.{Region}
-use Rattle.heap_core.specs.Code.Chunks.{chunk_at, Tell}
+use Rattle.heap_core.specs.Code.Chunks.{least_len, chunk_at, Tell}
 use Rattle.heap_core.specs.Code.Layout.{chunks_of, HasChunks}
 use Rattle.heap_core.specs.Code.Links.{with_free, gaps_among, gap_count, Meets, behind_link, LinkedTo, chunks_along, Follow, lower, higher, gap_below, gap_from, last_of, gaps_from_place, Relinked, Exchanged, KeepsFreed}
 use Rattle.heap_core.specs.Code.Walks.{free_behind, free_from, Stands}
@@ -85,21 +84,21 @@ along_is (suc n) B b end head [] h few = ap (chunks_along (suc n) B b) h
 along_is (suc n) B b end head (c ∷ l) h few =
     ap (chunks_along (suc n) B b) h.0
     ∙ ap (λ (k : Chunk). k ∷ chunks_along n B b k.link) h.1
-    ∙ ap (λ k. c ∷ k) (along_is n B b end c.link l h.3 (omega (arith, few)))
+    ∙ ap (λ k. c ∷ k) (along_is n B b end c.link l h.4 (omega (arith, few)))
 
-pub followed : (B : List ℕ) (b x end : ℕ) (head : Option ℕ) (l : List Chunk) → Tell B b x end l → LinkedTo head l None → Follow B b end head (gaps_among l) × (x + 16 * length (gaps_among l) ≤ end)
-followed B b x end head [] t h = (h, omega (arith, t))
-followed B b x end head (c ∷ l) t h =
-    let enough : header_len + c.size ≤ c.len = t.1 in let at = place_told B b x c t.0 in let le = told_le B b (x + c.len) end l t.2 in
+pub followed : (header : ℕ) (B : List ℕ) (b x end : ℕ) (head : Option ℕ) (l : List Chunk) → Tell header B b x end l → LinkedTo head l None → Follow B b end head (gaps_among l) × (x + 12 * length (gaps_among l) ≤ end)
+followed header B b x end head [] t h = (h, omega (arith, t))
+followed header B b x end head (c ∷ l) t h =
+    let enough : least_len header c ≤ c.len = t.1 in let at = place_told B b x c t.0 in let le = told_le header B b (x + c.len) end l t.2 in
     elim (owner_cases c.owner) [
       | inl e ↦
           let k = linked_gap head None c l e h in
-          let later = followed B b (x + c.len) end c.link l t.2 k.1 in
-          subst (λ gaps. Follow B b end head gaps × (x + 16 * length gaps ≤ end)) (sym (gap_first c l e))
-          ((k.0, ap (chunk_at B b) at ∙ t.0, omega arith, later.0), omega (arith, later.1))
+          let later = followed header B b (x + c.len) end c.link l t.2 k.1 in
+          subst (λ gaps. Follow B b end head gaps × (x + 12 * length gaps ≤ end)) (sym (gap_first c l e))
+          ((k.0, ap (chunk_at B b) at ∙ t.0, e, omega arith, later.0), omega (arith, later.1))
       | inr s ↦
-          let later = followed B b (x + c.len) end head l t.2 (linked_live head None s.0 c l s.1 h) in
-          subst (λ gaps. Follow B b end head gaps × (x + 16 * length gaps ≤ end)) (sym (live_first c s.0 l s.1)) (later.0, omega (arith, later.1))
+          let later = followed header B b (x + c.len) end head l t.2 (linked_live head None s.0 c l s.1 h) in
+          subst (λ gaps. Follow B b end head gaps × (x + 12 * length gaps ≤ end)) (sym (live_first c s.0 l s.1)) (later.0, omega (arith, later.1))
     ]
 
 -- what a hole leaves of the list
@@ -111,11 +110,11 @@ pub record Ends (head : Option ℕ) (p q : ℕ) (all before behind : List Chunk)
   pub back : LinkedTo (gap_from q (gaps_among all)) behind None
 
 -- the gap below a place, and the one from a place on
-module _ (B : List ℕ) (b : ℕ) where
-  all_lower : (p x y : ℕ) (found : Option Chunk) (l : List Chunk) → Tell B b x y l → y ≤ p → fold (lower p) found (gaps_among l) ≡ fold (λ _ gap. Some gap) found (gaps_among l)
+module _ (header : ℕ) (B : List ℕ) (b : ℕ) where
+  all_lower : (p x y : ℕ) (found : Option Chunk) (l : List Chunk) → Tell header B b x y l → y ≤ p → fold (lower p) found (gaps_among l) ≡ fold (λ _ gap. Some gap) found (gaps_among l)
   all_lower p x y found [] t le = refl
   all_lower p x y found (c ∷ l) t le =
-      let enough : header_len + c.size ≤ c.len = t.1 in let at = place_told B b x c t.0 in let high = told_le B b (x + c.len) y l t.2 in
+      let enough : least_len header c ≤ c.len = t.1 in let at = place_told B b x c t.0 in let high = told_le header B b (x + c.len) y l t.2 in
       elim (owner_cases c.owner) [
         | inl e ↦
             let near : ltb c.at p ≡ true = lt-ltb c.at p (omega arith) in
@@ -128,10 +127,10 @@ module _ (B : List ℕ) (b : ℕ) where
             ap (fold (lower p) found) (live_first c s.0 l s.1) ∙ all_lower p (x + c.len) y found l t.2 le ∙ sym (ap (fold (λ _ gap. Some gap) found) (live_first c s.0 l s.1))
       ]
 
-  none_lower : (p x y : ℕ) (found : Option Chunk) (l : List Chunk) → Tell B b x y l → p ≤ x → fold (lower p) found (gaps_among l) ≡ found
+  none_lower : (p x y : ℕ) (found : Option Chunk) (l : List Chunk) → Tell header B b x y l → p ≤ x → fold (lower p) found (gaps_among l) ≡ found
   none_lower p x y found [] t le = refl
   none_lower p x y found (c ∷ l) t le =
-      let enough : header_len + c.size ≤ c.len = t.1 in let at = place_told B b x c t.0 in
+      let enough : least_len header c ≤ c.len = t.1 in let at = place_told B b x c t.0 in
       elim (owner_cases c.owner) [
         | inl e ↦
             let far : ltb c.at p ≡ false = le-ltb c.at p (omega arith) in
@@ -144,10 +143,10 @@ module _ (B : List ℕ) (b : ℕ) where
   kept_higher p at [] = refl
   kept_higher p at (c ∷ gaps) = kept_higher p at gaps
 
-  none_higher : (p x y : ℕ) (l : List Chunk) → Tell B b x y l → y ≤ p → fold (higher p) None (gaps_among l) ≡ None
+  none_higher : (p x y : ℕ) (l : List Chunk) → Tell header B b x y l → y ≤ p → fold (higher p) None (gaps_among l) ≡ None
   none_higher p x y [] t le = refl
   none_higher p x y (c ∷ l) t le =
-      let enough : header_len + c.size ≤ c.len = t.1 in let at = place_told B b x c t.0 in let high = told_le B b (x + c.len) y l t.2 in
+      let enough : least_len header c ≤ c.len = t.1 in let at = place_told B b x c t.0 in let high = told_le header B b (x + c.len) y l t.2 in
       elim (owner_cases c.owner) [
         | inl e ↦
             let far : leb p c.at ≡ false = lt-leb p c.at (omega arith) in
@@ -156,10 +155,10 @@ module _ (B : List ℕ) (b : ℕ) where
         | inr s ↦ ap (fold (higher p) None) (live_first c s.0 l s.1) ∙ none_higher p (x + c.len) y l t.2 le
       ]
 
-  first_higher : (p x y : ℕ) (head : Option ℕ) (l : List Chunk) → Tell B b x y l → p ≤ x → LinkedTo head l None → fold (higher p) None (gaps_among l) ≡ head
+  first_higher : (p x y : ℕ) (head : Option ℕ) (l : List Chunk) → Tell header B b x y l → p ≤ x → LinkedTo head l None → fold (higher p) None (gaps_among l) ≡ head
   first_higher p x y head [] t le h = sym h
   first_higher p x y head (c ∷ l) t le h =
-      let enough : header_len + c.size ≤ c.len = t.1 in let at = place_told B b x c t.0 in
+      let enough : least_len header c ≤ c.len = t.1 in let at = place_told B b x c t.0 in
       elim (owner_cases c.owner) [
         | inl e ↦
             let near : leb p c.at ≡ true = le-leb p c.at (omega arith) in
@@ -171,11 +170,11 @@ module _ (B : List ℕ) (b : ℕ) where
         | inr s ↦ ap (fold (higher p) None) (live_first c s.0 l s.1) ∙ first_higher p (x + c.len) y head l t.2 (omega arith) (linked_live head None s.0 c l s.1 h)
       ]
 
-  higher_small : (p x y most : ℕ) (found : Option ℕ) (l : List Chunk) → Tell B b x y l → y ≤ most → IfSome found (λ place. place < most) → IfSome (fold (higher p) found (gaps_among l)) (λ place. place < most)
+  higher_small : (p x y most : ℕ) (found : Option ℕ) (l : List Chunk) → Tell header B b x y l → y ≤ most → IfSome found (λ place. place < most) → IfSome (fold (higher p) found (gaps_among l)) (λ place. place < most)
   higher_small p x y most found [] t le h = h
   higher_small p x y most (Some place) (c ∷ l) t le h = subst (λ o. IfSome o (λ k. k < most)) (sym (kept_higher p place (gaps_among (c ∷ l)))) h
   higher_small p x y most None (c ∷ l) t le h =
-      let enough : header_len + c.size ≤ c.len = t.1 in let at = place_told B b x c t.0 in let high = told_le B b (x + c.len) y l t.2 in
+      let enough : least_len header c ≤ c.len = t.1 in let at = place_told B b x c t.0 in let high = told_le header B b (x + c.len) y l t.2 in
       elim (owner_cases c.owner) [
         | inl e ↦ elim (cases_Bool (leb p c.at)) [
           | inl near ↦
@@ -191,20 +190,20 @@ module _ (B : List ℕ) (b : ℕ) where
             subst (λ o. IfSome o (λ k. k < most)) (sym (ap (fold (higher p) None) (live_first c s.0 l s.1))) (higher_small p (x + c.len) y most None l t.2 le tt)
       ]
 
-  pub gap_from_small : (p y most : ℕ) (l : List Chunk) → Tell B b 0 y l → y ≤ most → IfSome (gap_from p (gaps_among l)) (λ place. place < most)
+  pub gap_from_small : (p y most : ℕ) (l : List Chunk) → Tell header B b 0 y l → y ≤ most → IfSome (gap_from p (gaps_among l)) (λ place. place < most)
   gap_from_small p y most l t le = higher_small p 0 y most None l t le tt
 
-  pub list_ends : (head : Option ℕ) (p q end : ℕ) (before gone behind : List Chunk) → LinkedTo head (before ++ (gone ++ behind)) None → Tell B b 0 end (before ++ (gone ++ behind))
-      → Tell B b 0 p before → Tell B b q end behind → Ends head p q (before ++ (gone ++ behind)) before behind
+  pub list_ends : (head : Option ℕ) (p q end : ℕ) (before gone behind : List Chunk) → LinkedTo head (before ++ (gone ++ behind)) None → Tell header B b 0 end (before ++ (gone ++ behind))
+      → Tell header B b 0 p before → Tell header B b q end behind → Ends head p q (before ++ (gone ++ behind)) before behind
   list_ends head p q end before gone behind h told front back =
       let all = before ++ (gone ++ behind) in
-      let s = told_split B b 0 end before (gone ++ behind) told in
-      let s' = told_split B b s.mid end gone behind s.back in
+      let s = told_split header B b 0 end before (gone ++ behind) told in
+      let s' = told_split header B b s.mid end gone behind s.back in
       let first = linked_parted head None before (gone ++ behind) h in
       let second = linked_parted first.mid None gone behind first.back in
       let here : s.mid ≡ p = told_end 0 s.mid p before s.front front in
       let there : s'.mid ≡ q = told_start s'.mid q end behind s'.back back in
-      let low = told_le B b s.mid s'.mid gone s'.front in
+      let low = told_le header B b s.mid s'.mid gone s'.front in
       let none = none_higher q s.mid s'.mid gone s'.front (omega arith) in
       record {
         end = first.mid;
@@ -228,11 +227,11 @@ module _ (B : List ℕ) (b : ℕ) where
             second.back;
       }
     where
-      told_end : (x y z : ℕ) (l : List Chunk) → Tell B b x y l → Tell B b x z l → y ≡ z
+      told_end : (x y z : ℕ) (l : List Chunk) → Tell header B b x y l → Tell header B b x z l → y ≡ z
       told_end x y z [] t u = sym t ∙ u
       told_end x y z (c ∷ l) t u = told_end (x + c.len) y z l t.2 u.2
 
-      told_start : (x y z : ℕ) (l : List Chunk) → Tell B b x z l → Tell B b y z l → x ≡ y
+      told_start : (x y z : ℕ) (l : List Chunk) → Tell header B b x z l → Tell header B b y z l → x ≡ y
       told_start x y z [] t u = t ∙ sym u
       told_start x y z (c ∷ l) t u = sym (place_told B b x c t.0) ∙ place_told B b y c u.0
 
@@ -285,6 +284,7 @@ linked_again head end first gap new before behind free free' at link none h =
 -- the next step of a walk
 pub record NextGap (heap : Region) (B : List ℕ) (head : Option ℕ) (gap : Chunk) : Type 0 where
   pub is : gaps_from_place heap B head ≡ gap ∷ gaps_from_place heap B gap.link
+  pub free : gap.owner ≡ None
   pub few : length (gaps_from_place heap B gap.link) ≤ heap.footprint
   pub follow : Follow B heap.span.at heap.footprint gap.link (gaps_from_place heap B gap.link)
 
@@ -296,9 +296,9 @@ module _ (heap : Region) (B : List ℕ) where
   unfolding gaps_from_place
   place_is head l follow few = along_is heap.footprint B heap.span.at heap.footprint head l follow few
 
-  pub header_fits : (head : Option ℕ) (at : ℕ) (l : List Chunk) → head ≡ Some at → Follow B heap.span.at heap.footprint head l → at + 16 ≤ heap.footprint
+  pub header_fits : (head : Option ℕ) (at : ℕ) (l : List Chunk) → head ≡ Some at → Follow B heap.span.at heap.footprint head l → at + 12 ≤ heap.footprint
   header_fits head at [] e follow = absurd (let two : Some at ≡ None = sym e ∙ follow in cc)
-  header_fits head at (c ∷ l) e follow = let same : c.at ≡ at = let two : Some c.at ≡ Some at = sym follow.0 ∙ e in cc in omega (arith, follow.2)
+  header_fits head at (c ∷ l) e follow = let same : c.at ≡ at = let two : Some c.at ≡ Some at = sym follow.0 ∙ e in cc in omega (arith, follow.3)
 
   pub next_gap : (head : Option ℕ) (at : ℕ) (gap : Chunk) → head ≡ Some at → gap ≡ chunk_at B heap.span.at at → length (gaps_from_place heap B head) ≤ heap.footprint → Walk head → NextGap heap B head gap
   next_gap head at gap e is few follow = from (gaps_from_place heap B head) refl few follow
@@ -308,10 +308,11 @@ module _ (heap : Region) (B : List ℕ) where
       from (c ∷ l) all less walk =
           let at_same : c.at ≡ at = let two : Some c.at ≡ Some at = sym walk.0 ∙ e in cc in
           let same : c ≡ gap = sym walk.1 ∙ ap (chunk_at B heap.span.at) at_same ∙ sym is in
-          let later : Follow B heap.span.at heap.footprint gap.link l = subst (λ (k : Chunk). Follow B heap.span.at heap.footprint k.link l) same walk.3 in
+          let later : Follow B heap.span.at heap.footprint gap.link l = subst (λ (k : Chunk). Follow B heap.span.at heap.footprint k.link l) same walk.4 in
           let there = place_is gap.link l later (omega (arith, less)) in
           record {
             is = all ∙ ap (λ k. k ∷ l) same ∙ ap (λ k. gap ∷ k) (sym there);
+            free = sym (ap (λ (k : Chunk). k.owner) same) ∙ walk.2;
             few = omega (arith, less, ap length there);
             follow = subst (Follow B heap.span.at heap.footprint gap.link) (sym there) later;
           }
@@ -327,51 +328,51 @@ module _ (heap : Region) (B : List ℕ) where
   pub walk_begins : HasChunks heap B → LinkedTo heap.lowest (chunks_of heap B) None
       → (gaps_from_place heap B heap.lowest ≡ gaps_among (chunks_of heap B)) × (length (gaps_from_place heap B heap.lowest) ≤ heap.footprint) × Walk heap.lowest
   walk_begins has linked =
-      let f = followed B heap.span.at 0 heap.footprint heap.lowest (chunks_of heap B) has.told linked in
+      let f = followed heap.header B heap.span.at 0 heap.footprint heap.lowest (chunks_of heap B) has.told linked in
       let there = place_is heap.lowest (gaps_among (chunks_of heap B)) f.0 (omega (arith, f.1)) in
       (there, omega (arith, f.1, ap length there), subst (Follow B heap.span.at heap.footprint heap.lowest) (sym there) f.0)
 
 -- the gap below a chunk is the last one of those before it
-pub below_is : (heap : Region) (B : List ℕ) (chunk : Chunk) (a : Around B heap.span.at heap.footprint chunk (chunks_of heap B)) → gap_below chunk.at (gaps_among (chunks_of heap B)) ≡ last_of (gaps_among a.before)
+pub below_is : (heap : Region) (B : List ℕ) (chunk : Chunk) (a : Around heap.header B heap.span.at heap.footprint chunk (chunks_of heap B)) → gap_below chunk.at (gaps_among (chunks_of heap B)) ≡ last_of (gaps_among a.before)
 below_is heap B chunk a =
     let b = heap.span.at in
     ap (λ l. gap_below chunk.at (gaps_among l)) a.is
     ∙ ap (fold (lower chunk.at) None) (gaps_append a.before (chunk ∷ a.behind))
     ∙ fold-append (lower chunk.at) None (gaps_among a.before) (gaps_among (chunk ∷ a.behind))
-    ∙ none_lower B b chunk.at chunk.at heap.footprint (fold (lower chunk.at) None (gaps_among a.before)) (chunk ∷ a.behind) (a.here, a.enough, a.back) (omega arith)
-    ∙ all_lower B b chunk.at 0 chunk.at None a.before a.front (omega arith)
+    ∙ none_lower heap.header B b chunk.at chunk.at heap.footprint (fold (lower chunk.at) None (gaps_among a.before)) (chunk ∷ a.behind) (a.here, a.enough, a.back) (omega arith)
+    ∙ all_lower heap.header B b chunk.at 0 chunk.at None a.before a.front (omega arith)
 
 -- where the free bytes begin that end at a place
 abbrev walk_free : ℕ → List Chunk → ℕ
 walk_free i l = fold (λ _ (c : Chunk). free_behind c c.owner) i l
 
-free_live : (B : List ℕ) (b x at i : ℕ) (l : List Chunk) → Tell B b x at l → gaps_among l ≡ [] → (l ≡ [] → i ≡ at) → walk_free i l ≡ at
-free_live B b x at i [] t none empty = empty refl
-free_live B b x at i (c ∷ l) t none empty = elim (owner_cases c.owner) [
+free_live : (header : ℕ) (B : List ℕ) (b x at i : ℕ) (l : List Chunk) → Tell header B b x at l → gaps_among l ≡ [] → (l ≡ [] → i ≡ at) → walk_free i l ≡ at
+free_live header B b x at i [] t none empty = empty refl
+free_live header B b x at i (c ∷ l) t none empty = elim (owner_cases c.owner) [
   | inl e ↦ absurd (let two : c ∷ gaps_among l ≡ [] = sym (gap_first c l e) ∙ none in cc)
   | inr s ↦
       let place = place_told B b x c t.0 in
       let here : free_behind c c.owner ≡ x + c.len = ap (free_behind c) s.1 ∙ ap (λ k. k + c.len) place in
       ap (λ i. walk_free i l) here
-      ∙ free_live B b (x + c.len) at (x + c.len) l t.2 (sym (live_first c s.0 l s.1) ∙ none) (λ e. subst (Tell B b (x + c.len) at) e t.2)
+      ∙ free_live header B b (x + c.len) at (x + c.len) l t.2 (sym (live_first c s.0 l s.1) ∙ none) (λ e. subst (Tell header B b (x + c.len) at) e t.2)
 ]
 
-module _ (B : List ℕ) (b at : ℕ) (before : List Chunk) (told : Tell B b 0 at before) where
+module _ (header : ℕ) (B : List ℕ) (b at : ℕ) (before : List Chunk) (told : Tell header B b 0 at before) where
   pub free_no_gap : last_of (gaps_among before) ≡ None → free_from before ≡ at
-  free_no_gap e = free_live B b 0 at 0 before told (no_last before e) (λ f. subst (Tell B b 0 at) f told)
+  free_no_gap e = free_live header B b 0 at 0 before told (no_last before e) (λ f. subst (Tell header B b 0 at) f told)
 
   module _ (gap : Chunk) (e : last_of (gaps_among before) ≡ Some gap) where
     l : LastGap gap before
     l = last_gap gap before e
 
-    s : Split B b 0 at l.before (gap ∷ l.behind)
-    s = told_split B b 0 at l.before (gap ∷ l.behind) (subst (Tell B b 0 at) l.is told)
+    s : Split header B b 0 at l.before (gap ∷ l.behind)
+    s = told_split header B b 0 at l.before (gap ∷ l.behind) (subst (Tell header B b 0 at) l.is told)
 
     place : gap.at ≡ s.mid
     place = place_told B b s.mid gap s.back.0
 
-    later : Tell B b (gap.at + gap.len) at l.behind
-    later = subst (λ k. Tell B b (k + gap.len) at l.behind) (sym place) s.back.2
+    later : Tell header B b (gap.at + gap.len) at l.behind
+    later = subst (λ k. Tell header B b (k + gap.len) at l.behind) (sym place) s.back.2
 
     walked_on : free_from before ≡ walk_free gap.at l.behind
     walked_on =
@@ -380,19 +381,19 @@ module _ (B : List ℕ) (b at : ℕ) (before : List Chunk) (told : Tell B b 0 at
         ∙ ap (λ o. walk_free (free_behind gap o) l.behind) l.free
 
     pub gap_ends_below : gap.at + gap.len ≤ at
-    gap_ends_below = told_le B b (gap.at + gap.len) at l.behind later
+    gap_ends_below = told_le header B b (gap.at + gap.len) at l.behind later
 
     pub free_gap_there : gap.at + gap.len ≡ at → free_from before ≡ gap.at
-    free_gap_there ends = walked_on ∙ ap (walk_free gap.at) (ended B b (gap.at + gap.len) at l.behind later (omega (arith, ends)))
+    free_gap_there ends = walked_on ∙ ap (walk_free gap.at) (ended header B b (gap.at + gap.len) at l.behind later (omega (arith, ends)))
 
     pub free_gap_below : gap.at + gap.len ≢ at → free_from before ≡ at
-    free_gap_below ends = walked_on ∙ free_live B b (gap.at + gap.len) at gap.at l.behind later l.none (λ f. absurd (ends (subst (Tell B b (gap.at + gap.len) at) f later)))
+    free_gap_below ends = walked_on ∙ free_live header B b (gap.at + gap.len) at gap.at l.behind later l.none (λ f. absurd (ends (subst (Tell header B b (gap.at + gap.len) at) f later)))
 
 pub ends_of : (heap : Region) (B : List ℕ) (p q : ℕ) (before gone behind : List Chunk) → HasChunks heap B → LinkedTo heap.lowest (chunks_of heap B) None → chunks_of heap B ≡ before ++ (gone ++ behind)
-    → Tell B heap.span.at 0 p before → Tell B heap.span.at q heap.footprint behind → Ends heap.lowest p q (chunks_of heap B) before behind
+    → Tell heap.header B heap.span.at 0 p before → Tell heap.header B heap.span.at q heap.footprint behind → Ends heap.lowest p q (chunks_of heap B) before behind
 ends_of heap B p q before gone behind has linked is front back =
     subst (λ all. Ends heap.lowest p q all before behind) (sym is)
-    (list_ends B heap.span.at heap.lowest p q heap.footprint before gone behind (subst (λ all. LinkedTo heap.lowest all None) is linked) (subst (Tell B heap.span.at 0 heap.footprint) is has.told) front back)
+    (list_ends heap.header B heap.span.at heap.lowest p q heap.footprint before gone behind (subst (λ all. LinkedTo heap.lowest all None) is linked) (subst (Tell heap.header B heap.span.at 0 heap.footprint) is has.told) front back)
 
 -- the last gap of the chunks that come first is one of all
 abbrev pub IsGapOf : List Chunk → Chunk → Type 0
@@ -414,8 +415,8 @@ list_kept old new B B' lowest first link last p q all before mid behind ends sam
 pub kept_then : (a b c : Region) → KeepsFreed a b → KeepsFreed b c → KeepsFreed a c
 kept_then a b c first second = record { places = second.places ∙ first.places; newest = second.newest ∙ first.newest; freed = second.freed ∙ first.freed }
 
-pub gaps_few : (heap : Region) (B : List ℕ) → HasChunks heap B → LinkedTo heap.lowest (chunks_of heap B) None → 16 * length (gaps_among (chunks_of heap B)) ≤ heap.footprint
-gaps_few heap B has linked = let f = followed B heap.span.at 0 heap.footprint heap.lowest (chunks_of heap B) has.told linked in omega (arith, f.1)
+pub gaps_few : (heap : Region) (B : List ℕ) → HasChunks heap B → LinkedTo heap.lowest (chunks_of heap B) None → 12 * length (gaps_among (chunks_of heap B)) ≤ heap.footprint
+gaps_few heap B has linked = let f = followed heap.header B heap.span.at 0 heap.footprint heap.lowest (chunks_of heap B) has.told linked in omega (arith, f.1)
 
 -- the list of the gaps after chunks were exchanged
 module _ (heap new : Region) (B B' : List ℕ) (p q : ℕ) (has : HasChunks heap B) (were : LinkedTo heap.lowest (chunks_of heap B) None) (last : Option Chunk) (first link : Option ℕ) (x : Exchanged heap new B B' p q first link)

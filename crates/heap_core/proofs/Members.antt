@@ -3,8 +3,7 @@ use Rattle.std.proofs.Common.{◌≡◌, ◌≢◌, ℕ, ◌+◌, ◌≤◌, ◌
 use Rattle.std.specs.Prelude.{All, Option, Some, None, IfSome}
 use Rattle.std.proofs.lemmas.List.Elements.{All-head, All-tail}
 use Rattle.heap_core.specs.declared.chunk.Chunk.{Chunk}
-use Rattle.heap_core.specs.HeapStore.{header_len}
-use Rattle.heap_core.specs.Code.Chunks.{Tell}
+use Rattle.heap_core.specs.Code.Chunks.{least_len, Tell}
 use Rattle.heap_core.specs.Code.Walks.{Stands, LiveIn}
 use Rattle.heap_core.proofs.Told.{place_told, told_le}
 
@@ -36,13 +35,13 @@ stands_of c (d ∷ l) (inr h) =
     let s = stands_of c l h in record { before = d ∷ s.before; behind = s.behind; is = ap (λ k. d ∷ k) s.is }
 
 -- where one lies
-pub in_told : (B : List ℕ) (b x y : ℕ) (c : Chunk) (l : List Chunk) → Tell B b x y l → In c l → (x ≤ c.at) × (c.at + c.len ≤ y) × (16 + c.size ≤ c.len)
-in_told B b x y c [] t h = absurd h
-in_told B b x y c (d ∷ l) t (inl e) =
-    let at = place_told B b x d t.0 in let le = told_le B b (x + d.len) y l t.2 in let enough : header_len + d.size ≤ d.len = t.1 in
-    subst (λ (k : Chunk). (x ≤ k.at) × (k.at + k.len ≤ y) × (16 + k.size ≤ k.len)) e (omega arith, omega arith, omega arith)
-in_told B b x y c (d ∷ l) t (inr h) =
-    let later = in_told B b (x + d.len) y c l t.2 h in (omega (arith, later.0), later.1, later.2)
+pub in_told : (header : ℕ) (B : List ℕ) (b x y : ℕ) (c : Chunk) (l : List Chunk) → Tell header B b x y l → In c l → (x ≤ c.at) × (c.at + c.len ≤ y) × (least_len header c ≤ c.len)
+in_told header B b x y c [] t h = absurd h
+in_told header B b x y c (d ∷ l) t (inl e) =
+    let at = place_told B b x d t.0 in let le = told_le header B b (x + d.len) y l t.2 in let enough : least_len header d ≤ d.len = t.1 in
+    subst (λ (k : Chunk). (x ≤ k.at) × (k.at + k.len ≤ y) × (least_len header k ≤ k.len)) e (omega arith, omega arith, omega arith)
+in_told header B b x y c (d ∷ l) t (inr h) =
+    let later = in_told header B b (x + d.len) y c l t.2 h in (omega (arith, later.0), later.1, later.2)
 
 -- a gap between others makes room for chunks
 pub in_exchanged : (c gap : Chunk) (before mid behind : List Chunk) → gap.owner ≡ None → c.owner ≢ None → In c (before ++ (gap ∷ behind)) → In c (before ++ (mid ++ behind))
@@ -63,19 +62,19 @@ if_some P Q None h f = h
 if_some P Q (Some x) h f = f x h
 
 -- a live one lies before or behind a gap
-pub apart_from_gap : (B : List ℕ) (b end : ℕ) (c gap : Chunk) (before behind l : List Chunk) → l ≡ before ++ (gap ∷ behind) → Tell B b 0 gap.at before → Tell B b (gap.at + gap.len) end behind → gap.owner ≡ None → LiveIn c l
-    → (c.at + 16 + c.size ≤ gap.at) ⊎ (gap.at + gap.len ≤ c.at)
-apart_from_gap B b end c gap before behind l is front back free h =
+pub apart_from_gap : (header : ℕ) (B : List ℕ) (b end : ℕ) (c gap : Chunk) (before behind l : List Chunk) → l ≡ before ++ (gap ∷ behind) → Tell header B b 0 gap.at before → Tell header B b (gap.at + gap.len) end behind → gap.owner ≡ None → LiveIn c l
+    → (c.at + header + c.size ≤ gap.at) ⊎ (gap.at + gap.len ≤ c.at)
+apart_from_gap header B b end c gap before behind l is front back free h =
     elim (in_cases c before (gap ∷ behind) (subst (In c) is (in_of c l h.stands))) [
-      | inl early ↦ let t = in_told B b 0 gap.at c before front early in inl (omega (arith, t.1, t.2))
+      | inl early ↦ let t = in_told header B b 0 gap.at c before front early in inl (omega (arith, t.1, t.2))
       | inr later ↦ elim later [
         | inl same ↦ absurd (h.live (sym (ap (λ (k : Chunk). k.owner) same) ∙ free))
-        | inr after ↦ inr (in_told B b (gap.at + gap.len) end c behind back after).0
+        | inr after ↦ inr (in_told header B b (gap.at + gap.len) end c behind back after).0
       ]
     ]
 
-pub inside : (B : List ℕ) (b end : ℕ) (c : Chunk) (l : List Chunk) → Tell B b 0 end l → LiveIn c l → c.at + 16 + c.size ≤ end
-inside B b end c l told h = let t = in_told B b 0 end c l told (in_of c l h.stands) in omega (arith, t.1, t.2)
+pub inside : (header : ℕ) (B : List ℕ) (b end : ℕ) (c : Chunk) (l : List Chunk) → Tell header B b 0 end l → LiveIn c l → c.at + header + c.size ≤ end
+inside header B b end c l told h = let t = in_told header B b 0 end c l told (in_of c l h.stands) in omega (arith, t.1, t.2)
 
 -- none of the gaps is live
 free_in : (c : Chunk) (free : List Chunk) → All (λ (k : Chunk). k.owner ≡ None) free → In c free → c.owner ≡ None

@@ -30,32 +30,32 @@ named_moved store block n named (Some place) new e other =
     ]
 
 module _ (heap : Region) (B : List ℕ) (store : HeapStore) (chunk : Chunk) (p h name n : ℕ) (left_is : without_place chunk.at store ≡ without_block name store)
-    (same : name ≡ number_of p h) (found : find_block name store ≡ Some (block_in_chunk B heap.span.at name chunk)) where
+    (same : name ≡ number_of p h) (found : find_block name store ≡ Some (block_in_chunk heap.header B heap.span.at name chunk)) where
   abbrev block : Block
-  block = block_in_chunk B heap.span.at name chunk
+  block = block_in_chunk heap.header B heap.span.at name chunk
 
   abbrev at_new : Place → HeapStore → HeapStore
-  at_new target left = with_block (block_at target name (resized n (bytes_in_chunk B heap.span.at chunk))) left
+  at_new target left = with_block (block_at target name (resized n (bytes_in_chunk heap.header B heap.span.at chunk))) left
 
   reallocated_is : reallocated p h n store ≡ resized_block block n store
   reallocated_is = ap (λ k. option_map_or (λ (b : Block). resized_block b n store) (find_block k store) None) (sym same) ∙ ap (λ k. option_map_or (λ (b : Block). resized_block b n store) k None) found
 
-  pub in_place : (room : ℕ) (new : HeapStore) → room_in_place (place_in_chunk chunk) n store ≡ Some room → new ≡ at_new (at_place chunk.at room) (without_place chunk.at store) → reallocated p h n store ≡ Some new
+  pub in_place : (room : ℕ) (new : HeapStore) → room_in_place (place_in_chunk heap.header chunk) n store ≡ Some room → new ≡ at_new (at_place chunk.at room) (without_place chunk.at store) → reallocated p h n store ≡ Some new
   in_place room new e f =
       reallocated_is
       ∙ ap (λ o. option_map (λ target. moved target block n store) (option_or (option_map (λ k. let new : Place = record { at = chunk.at; room = k } in new) o) (place n store))) e
       ∙ ap Some (sym (f ∙ ap (at_new (at_place chunk.at room)) left_is))
 
-  elsewhere_is : room_in_place (place_in_chunk chunk) n store ≡ None → reallocated p h n store ≡ option_map (λ target. at_new target (without_place chunk.at store)) (place n store)
+  elsewhere_is : room_in_place (place_in_chunk heap.header chunk) n store ≡ None → reallocated p h n store ≡ option_map (λ target. at_new target (without_place chunk.at store)) (place n store)
   elsewhere_is e =
       reallocated_is
       ∙ ap (λ o. option_map (λ target. moved target block n store) (option_or (option_map (λ k. let new : Place = record { at = chunk.at; room = k } in new) o) (place n store))) e
       ∙ ap (λ left. option_map (λ target. at_new target left) (place n store)) (sym left_is)
 
-  pub elsewhere : (new : HeapStore) → room_in_place (place_in_chunk chunk) n store ≡ None → option_map (λ target. at_new target (without_place chunk.at store)) (place n store) ≡ Some new → reallocated p h n store ≡ Some new
+  pub elsewhere : (new : HeapStore) → room_in_place (place_in_chunk heap.header chunk) n store ≡ None → option_map (λ target. at_new target (without_place chunk.at store)) (place n store) ≡ Some new → reallocated p h n store ≡ Some new
   elsewhere new e f = elsewhere_is e ∙ f
 
-  pub nowhere : room_in_place (place_in_chunk chunk) n store ≡ None → place n store ≡ None → reallocated p h n store ≡ None
+  pub nowhere : room_in_place (place_in_chunk heap.header chunk) n store ≡ None → place n store ≡ None → reallocated p h n store ≡ None
   nowhere e f = elsewhere_is e ∙ ap (option_map (λ target. at_new target (without_place chunk.at store))) f
 
   pub named_after : ((other : ℕ) → count other store.blocks ≤ 1) → (new : HeapStore) → reallocated p h n store ≡ Some new → (other : ℕ) → count other new.blocks ≤ 1

@@ -12,29 +12,29 @@ use Rattle.heap_core.specs.Code.Walks.{is_owner, owned_by, Owned, block_in_chunk
 use Rattle.heap_core.proofs.Told.{owner_cases}
 use Rattle.heap_core.proofs.Blocks.{count}
 
-pub find_is : (B : List ℕ) (b name : ℕ) (l : List Chunk) → find (has_name name) (blocks_in B b l) ≡ option_map (block_in_chunk B b name) (find (owned_by name) l)
-find_is B b name [] = refl
-find_is B b name (c ∷ l) = elim (owner_cases c.owner) [
+pub find_is : (header : ℕ) (B : List ℕ) (b name : ℕ) (l : List Chunk) → find (has_name name) (blocks_in header B b l) ≡ option_map (block_in_chunk header B b name) (find (owned_by name) l)
+find_is header B b name [] = refl
+find_is header B b name (c ∷ l) = elim (owner_cases c.owner) [
   | inl e ↦
       let skip : owned_by name c ≡ false = ap (is_owner name) e in
-      ap (λ o. find (has_name name) (with_chunk B b c o (blocks_in B b l))) e
-      ∙ find_is B b name l
+      ap (λ o. find (has_name name) (with_chunk header B b c o (blocks_in header B b l))) e
+      ∙ find_is header B b name l
       ∙ rw skip refl
   | inr s ↦ elim (cases_Bool (eqb s.0 name)) [
     | inl hit ↦
         let here : owned_by name c ≡ true = ap (is_owner name) s.1 ∙ hit in
         let same : s.0 ≡ name = eqb-true s.0 name hit in
-        let first : find (has_name name) (block_in_chunk B b s.0 c ∷ blocks_in B b l) ≡ Some (block_in_chunk B b s.0 c) = rw hit refl in
-        ap (λ o. find (has_name name) (with_chunk B b c o (blocks_in B b l))) s.1
+        let first : find (has_name name) (block_in_chunk header B b s.0 c ∷ blocks_in header B b l) ≡ Some (block_in_chunk header B b s.0 c) = rw hit refl in
+        ap (λ o. find (has_name name) (with_chunk header B b c o (blocks_in header B b l))) s.1
         ∙ first
-        ∙ ap (λ k. Some (block_in_chunk B b k c)) same
+        ∙ ap (λ k. Some (block_in_chunk header B b k c)) same
         ∙ rw here refl
     | inr miss ↦
         let skip : owned_by name c ≡ false = ap (is_owner name) s.1 ∙ miss in
-        let first : find (has_name name) (block_in_chunk B b s.0 c ∷ blocks_in B b l) ≡ find (has_name name) (blocks_in B b l) = rw miss refl in
-        ap (λ o. find (has_name name) (with_chunk B b c o (blocks_in B b l))) s.1
+        let first : find (has_name name) (block_in_chunk header B b s.0 c ∷ blocks_in header B b l) ≡ find (has_name name) (blocks_in header B b l) = rw miss refl in
+        ap (λ o. find (has_name name) (with_chunk header B b c o (blocks_in header B b l))) s.1
         ∙ first
-        ∙ find_is B b name l
+        ∙ find_is header B b name l
         ∙ rw skip refl
   ]
 ]
@@ -62,10 +62,10 @@ owned name chunk (c ∷ l) e = elim (cases_Bool (owned_by name c)) [
 ]
 
 -- a name that has a block has a chunk
-pub some_owned : (B : List ℕ) (b name : ℕ) (l : List Chunk) (o : Option Chunk) → o ≡ find (owned_by name) l → IsSome (find (has_name name) (blocks_in B b l)) → IsSome o
-some_owned B b name l None e live =
-    absurd (false≢true (subst (λ (p : Option Block). IsSome p) (find_is B b name l ∙ ap (option_map (block_in_chunk B b name)) (sym e)) live))
-some_owned B b name l (Some c) e live = refl
+pub some_owned : (header : ℕ) (B : List ℕ) (b name : ℕ) (l : List Chunk) (o : Option Chunk) → o ≡ find (owned_by name) l → IsSome (find (has_name name) (blocks_in header B b l)) → IsSome o
+some_owned header B b name l None e live =
+    absurd (false≢true (subst (λ (p : Option Block). IsSome p) (find_is header B b name l ∙ ap (option_map (block_in_chunk header B b name)) (sym e)) live))
+some_owned header B b name l (Some c) e live = refl
 
 -- how many blocks a name has
 pub count_append : (name : ℕ) (xs ys : List Block) → count name (xs ++ ys) ≡ count name xs + count name ys

@@ -40,7 +40,7 @@ module _ (heap : Region) (B : List ℕ) (has : HasChunks heap B) (linked : Linke
   from_place at = gap_from at (gaps_among (chunks_of heap B))
 
   -- behind a gap comes the one that it is linked to
-  pub behind_gap : (gap : Chunk) → Around B heap.span.at heap.footprint gap (chunks_of heap B) → gap.owner ≡ None → gap.link ≡ from_place (gap.at + gap.len)
+  pub behind_gap : (gap : Chunk) → Around heap.header B heap.span.at heap.footprint gap (chunks_of heap B) → gap.owner ≡ None → gap.link ≡ from_place (gap.at + gap.len)
   behind_gap gap a free =
       let e = ends_of heap B gap.at (gap.at + gap.len) a.before (gap ∷ []) a.behind has linked a.is a.front a.back in
       let p = linked_parted heap.lowest None a.before (gap ∷ a.behind) (subst (λ l. LinkedTo heap.lowest l None) a.is linked) in
@@ -50,7 +50,7 @@ module _ (heap : Region) (B : List ℕ) (has : HasChunks heap B) (linked : Linke
   pub above_all : from_place heap.footprint ≡ None
   above_all = (ends_of heap B heap.footprint heap.footprint (chunks_of heap B) [] [] has linked (sym (append-nil (chunks_of heap B))) has.told refl).back
 
-  module _ (chunk : Chunk) (a : Around B heap.span.at heap.footprint chunk (chunks_of heap B)) (live : chunk.owner ≢ None) where
+  module _ (chunk : Chunk) (a : Around heap.header B heap.span.at heap.footprint chunk (chunks_of heap B)) (live : chunk.owner ≢ None) where
     -- a live chunk is none of them
     pub over_live : from_place chunk.at ≡ from_place (chunk.at + chunk.len)
     over_live = elim (owner_cases chunk.owner) [
@@ -65,13 +65,13 @@ module _ (heap : Region) (B : List ℕ) (has : HasChunks heap B) (linked : Linke
       first : BeginsFree a.behind
       first = begins_free a.behind some
 
-      gap_told : Tell B heap.span.at (chunk.at + chunk.len) heap.footprint (first.gap ∷ first.later)
-      gap_told = subst (Tell B heap.span.at (chunk.at + chunk.len) heap.footprint) first.is a.back
+      gap_told : Tell heap.header B heap.span.at (chunk.at + chunk.len) heap.footprint (first.gap ∷ first.later)
+      gap_told = subst (Tell heap.header B heap.span.at (chunk.at + chunk.len) heap.footprint) first.is a.back
 
       gap_place : first.gap.at ≡ chunk.at + chunk.len
       gap_place = place_told B heap.span.at (chunk.at + chunk.len) first.gap gap_told.0
 
-      gap_around : Around B heap.span.at heap.footprint first.gap (chunks_of heap B)
+      gap_around : Around heap.header B heap.span.at heap.footprint first.gap (chunks_of heap B)
       gap_around = around heap B first.gap has (record {
         before = a.before ++ (chunk ∷ []);
         behind = first.later;
@@ -84,5 +84,5 @@ module _ (heap : Region) (B : List ℕ) (has : HasChunks heap B) (linked : Linke
           ∙ behind_gap first.gap gap_around first.free
           ∙ ap from_place (ap (λ k. k + first.gap.len) gap_place ∙ ap (λ k. chunk.at + chunk.len + k) (sym first.len))
 
-      pub gap_fits : chunk.at + chunk.len + 16 ≤ heap.footprint
+      pub gap_fits : chunk.at + chunk.len + 12 ≤ heap.footprint
       gap_fits = omega (arith, gap_place, gap_around.fits, gap_around.enough)

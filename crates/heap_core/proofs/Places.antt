@@ -150,14 +150,20 @@ placed_moved places store new (Some target) at name bytes small there is were =
     subst (λ k. ArePlaced (slice_set places name (Some k)) new) same (placed_again places store new target name bytes small (sym made) were)
 
 -- the table is no part of what the headers tell
-pub has_same : (heap new : Region) (B : List ℕ) → new.span ≡ heap.span → new.footprint ≡ heap.footprint → HasChunks heap B → HasChunks new B
+pub has_same : (heap new : Region) (B : List ℕ) → new.span ≡ heap.span → new.header ≡ heap.header → new.footprint ≡ heap.footprint → HasChunks heap B → HasChunks new B
 unfolding chunks_of
-has_same heap new B span footprint has =
+has_same heap new B span header footprint has =
     let chunks = λ (s : Span) (end : ℕ). chunks_from end B s.at 0 end in
     record {
       within = subst (λ (s : Span). s.at + s.len ≤ length B) (sym span) has.within;
-      told = subst (λ (s : Span). Tell B s.at 0 new.footprint (chunks s new.footprint)) (sym span) (subst (λ end. Tell B heap.span.at 0 end (chunks heap.span end)) (sym footprint) has.told);
-      joined = subst (λ (s : Span). AreJoined (chunks s new.footprint)) (sym span) (subst (λ end. AreJoined (chunks heap.span end)) (sym footprint) has.joined);
+      told =
+          subst (λ (s : Span). Tell new.header B s.at 0 new.footprint (chunks s new.footprint)) (sym span)
+          (subst (λ k. Tell k B heap.span.at 0 new.footprint (chunks heap.span new.footprint)) (sym header)
+          (subst (λ end. Tell heap.header B heap.span.at 0 end (chunks heap.span end)) (sym footprint) has.told));
+      joined =
+          subst (λ (s : Span). AreJoined new.header (chunks s new.footprint)) (sym span)
+          (subst (λ k. AreJoined k (chunks heap.span new.footprint)) (sym header)
+          (subst (λ end. AreJoined heap.header (chunks heap.span end)) (sym footprint) has.joined));
     }
 
 -- the chunk that the table tells
@@ -168,10 +174,10 @@ module _ (heap : Region) (B : List ℕ) (laid : IsStored heap B) (name : ℕ) (s
   entry_is : get_or heap.places name None ≡ option_map (λ (c : Chunk). c.at) found
   entry_is =
       laid.places.told name small
-      ∙ ap (option_map (λ (block : Block). block.at)) (find_is B heap.span.at name (chunks_of heap B))
+      ∙ ap (option_map (λ (block : Block). block.at)) (find_is heap.header B heap.span.at name (chunks_of heap B))
       ∙ mapped found
     where
-      mapped : (o : Option Chunk) → option_map (λ (block : Block). block.at) (option_map (block_in_chunk B heap.span.at name) o) ≡ option_map (λ (c : Chunk). c.at) o
+      mapped : (o : Option Chunk) → option_map (λ (block : Block). block.at) (option_map (block_in_chunk heap.header B heap.span.at name) o) ≡ option_map (λ (c : Chunk). c.at) o
       mapped None = refl
       mapped (Some c) = refl
 
@@ -182,10 +188,10 @@ module _ (heap : Region) (B : List ℕ) (laid : IsStored heap B) (name : ℕ) (s
       from None e = refl
       from (Some c) e = absurd (cc)
 
-  pub some_found : (at : ℕ) → get_or heap.places name None ≡ Some at → (found ≡ Some (chunk_at B heap.span.at at)) × (at + 16 ≤ heap.footprint)
+  pub some_found : (at : ℕ) → get_or heap.places name None ≡ Some at → (found ≡ Some (chunk_at B heap.span.at at)) × (at + 12 ≤ heap.footprint)
   some_found at some = from found refl (sym entry_is ∙ some)
     where
-      from : (o : Option Chunk) → found ≡ o → option_map (λ (c : Chunk). c.at) o ≡ Some at → (found ≡ Some (chunk_at B heap.span.at at)) × (at + 16 ≤ heap.footprint)
+      from : (o : Option Chunk) → found ≡ o → option_map (λ (c : Chunk). c.at) o ≡ Some at → (found ≡ Some (chunk_at B heap.span.at at)) × (at + 12 ≤ heap.footprint)
       from None is e = absurd (cc)
       from (Some c) is e =
           let there : c.at ≡ at = cc in

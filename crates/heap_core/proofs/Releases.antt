@@ -8,8 +8,8 @@ use Rattle.arena_core.specs.Outside.{ChangesOnly}
 use Rattle.arena_core.specs.declared.span.Span.{Span}
 use Rattle.heap_core.specs.declared.chunk.Chunk.{Chunk}
 use Rattle.heap_core.specs.declared.region.Region.{Region}
-use Rattle.heap_core.specs.HeapStore.{Block, HeapStore, header_len}
-use Rattle.heap_core.specs.Code.Chunks.{chunk_at, Tell, BeginsLive, AreJoined, with_chunk, blocks_in}
+use Rattle.heap_core.specs.HeapStore.{Block, HeapStore}
+use Rattle.heap_core.specs.Code.Chunks.{shortest, chunk_at, Tell, BeginsLive, AreJoined, with_chunk, blocks_in}
 use Rattle.heap_core.specs.Code.Layout.{chunks_of, HasChunks, store_of}
 use Rattle.heap_core.specs.Code.Links.{gaps_among, gap_count, Exchanged}
 use Rattle.heap_core.specs.Code.Walks.{LiveIn, free_behind, free_from, gap_of, front_gap, without_place}
@@ -23,25 +23,25 @@ use Rattle.heap_core.proofs.Standing.{Around}
 use Rattle.heap_core.proofs.Steps.{ended}
 
 -- the chunks before a place, without a gap that ends there
-pub record Front (B : List ℕ) (b x at from : ℕ) (before old : List Chunk) : Type 0 where
+pub record Front (header : ℕ) (B : List ℕ) (b x at from : ℕ) (before old : List Chunk) : Type 0 where
   pub pre : List Chunk
   pub gone : List Chunk
   pub was : before ≡ pre ++ gone
   pub free : All (λ (c : Chunk). c.owner ≡ None) gone
   pub count : length (gaps_among gone) ≡ gap_count (at - from)
-  pub told : Tell B b x from pre
-  pub blocks : blocks_in B b before ≡ blocks_in B b pre
+  pub told : Tell header B b x from pre
+  pub blocks : blocks_in header B b before ≡ blocks_in header B b pre
   pub begins : BeginsLive (before ++ old) → before ≢ [] → (new : List Chunk) → BeginsLive (pre ++ new)
-  pub joined : AreJoined (before ++ old) → (new : List Chunk) → AreJoined new → AreJoined (pre ++ new)
+  pub joined : AreJoined header (before ++ old) → (new : List Chunk) → AreJoined header new → AreJoined header (pre ++ new)
 
 abbrev walk_free : ℕ → List Chunk → ℕ
 walk_free i l = fold (λ _ (c : Chunk). free_behind c c.owner) i l
 
-last_end : (B : List ℕ) (b x at : ℕ) (c : Chunk) → Tell B b x at (c ∷ []) → x + c.len ≡ at
-last_end B b x at c t = t.2
+last_end : (header : ℕ) (B : List ℕ) (b x at : ℕ) (c : Chunk) → Tell header B b x at (c ∷ []) → x + c.len ≡ at
+last_end header B b x at c t = t.2
 
-pub front_of : (B : List ℕ) (b x at i : ℕ) (before old : List Chunk) → Tell B b x at before → (before ≡ [] → i ≡ x) → Front B b x at (walk_free i before) before old
-front_of B b x at i [] old t none = record {
+pub front_of : (header : ℕ) (B : List ℕ) (b x at i : ℕ) (before old : List Chunk) → Tell header B b x at before → (before ≡ [] → i ≡ x) → Front header B b x at (walk_free i before) before old
+front_of header B b x at i [] old t none = record {
   pre = [];
   gone = [];
   was = refl;
@@ -52,15 +52,15 @@ front_of B b x at i [] old t none = record {
   begins = λ live ne. absurd (ne refl);
   joined = λ was new joined. joined;
 }
-front_of B b x at i (c ∷ []) old t none = elim (owner_cases c.owner) [
+front_of header B b x at i (c ∷ []) old t none = elim (owner_cases c.owner) [
   | inl e ↦ record {
     pre = [];
     gone = c ∷ [];
     was = refl;
     free = All-cons (λ (c : Chunk). c.owner ≡ None) c [] e (All-nil (λ (c : Chunk). c.owner ≡ None));
-    count = ap length (gap_first c [] e) ∙ sym (count_some (at - free_behind c c.owner) (omega (arith, ap (free_behind c) e, place_told B b x c t.0, last_end B b x at c t, t.1)));
+    count = ap length (gap_first c [] e) ∙ sym (count_some (at - free_behind c c.owner) (omega (arith, ap (free_behind c) e, place_told B b x c t.0, last_end header B b x at c t, t.1)));
     told = sym (place_told B b x c t.0) ∙ sym (ap (free_behind c) e);
-    blocks = none_in_front B b c [] e;
+    blocks = none_in_front header B b c [] e;
     begins = λ live ne new. absurd (live e);
     joined = λ was new joined. joined;
   }
@@ -69,15 +69,15 @@ front_of B b x at i (c ∷ []) old t none = elim (owner_cases c.owner) [
     gone = [];
     was = refl;
     free = All-nil (λ (c : Chunk). c.owner ≡ None);
-    count = sym (count_none (at - free_behind c c.owner) (omega (arith, ap (free_behind c) s.1, place_told B b x c t.0, last_end B b x at c t)));
+    count = sym (count_none (at - free_behind c c.owner) (omega (arith, ap (free_behind c) s.1, place_told B b x c t.0, last_end header B b x at c t)));
     told = (t.0, t.1, ap (λ k. k + c.len) (sym (place_told B b x c t.0)) ∙ sym (ap (free_behind c) s.1));
     blocks = refl;
     begins = λ live ne new. live;
     joined = λ was new joined. ((λ e. absurd (let two : None ≡ Some s.0 = sym e ∙ s.1 in cc)), was.1, joined);
   }
 ]
-front_of B b x at i (c ∷ (d ∷ l)) old t none =
-    let f = front_of B b (x + c.len) at (free_behind c c.owner) (d ∷ l) old t.2 (λ e. absurd (cc)) in
+front_of header B b x at i (c ∷ (d ∷ l)) old t none =
+    let f = front_of header B b (x + c.len) at (free_behind c c.owner) (d ∷ l) old t.2 (λ e. absurd (cc)) in
     record {
       pre = c ∷ f.pre;
       gone = f.gone;
@@ -85,34 +85,34 @@ front_of B b x at i (c ∷ (d ∷ l)) old t none =
       free = f.free;
       count = f.count;
       told = (t.0, t.1, f.told);
-      blocks = ap (with_chunk B b c c.owner) f.blocks;
+      blocks = ap (with_chunk header B b c c.owner) f.blocks;
       begins = λ live ne new. live;
       joined = λ was new joined. ((λ e. f.begins (was.0 e) (λ none. absurd (cc)) new), was.1, f.joined was.2 new joined);
     }
 
 -- the chunks from a place on, without a gap that begins there
-pub record Rest (B : List ℕ) (b at end : ℕ) (behind : List Chunk) : Type 0 where
+pub record Rest (header : ℕ) (B : List ℕ) (b at end : ℕ) (behind : List Chunk) : Type 0 where
   pub post : List Chunk
   pub gone : List Chunk
   pub was : behind ≡ gone ++ post
   pub free : All (λ (c : Chunk). c.owner ≡ None) gone
   pub count : length (gaps_among gone) ≡ gap_count (front_gap behind)
-  pub told : Tell B b (at + front_gap behind) end post
-  pub blocks : blocks_in B b behind ≡ blocks_in B b post
-  pub joined : AreJoined post
+  pub told : Tell header B b (at + front_gap behind) end post
+  pub blocks : blocks_in header B b behind ≡ blocks_in header B b post
+  pub joined : AreJoined header post
   pub begins : ((post ≡ []) × (behind ≡ [])) ⊎ BeginsLive post
 
-pub rest_of : (B : List ℕ) (b at end : ℕ) (behind : List Chunk) → Tell B b at end behind → AreJoined behind → Rest B b at end behind
-rest_of B b at end [] t joined = record { post = []; gone = []; was = refl; free = All-nil (λ (c : Chunk). c.owner ≡ None); count = refl; told = omega (arith, t); blocks = refl; joined = tt; begins = inl (refl, refl) }
-rest_of B b at end (d ∷ l) t joined = elim (owner_cases d.owner) [
+pub rest_of : (header : ℕ) (B : List ℕ) (b at end : ℕ) (behind : List Chunk) → Tell header B b at end behind → AreJoined header behind → Rest header B b at end behind
+rest_of header B b at end [] t joined = record { post = []; gone = []; was = refl; free = All-nil (λ (c : Chunk). c.owner ≡ None); count = refl; told = omega (arith, t); blocks = refl; joined = tt; begins = inl (refl, refl) }
+rest_of header B b at end (d ∷ l) t joined = elim (owner_cases d.owner) [
   | inl e ↦ record {
     post = l;
     gone = d ∷ [];
     was = refl;
     free = All-cons (λ (c : Chunk). c.owner ≡ None) d [] e (All-nil (λ (c : Chunk). c.owner ≡ None));
     count = ap length (gap_first d [] e) ∙ sym (count_some (gap_of d d.owner) (omega (arith, ap (gap_of d) e, t.1)));
-    told = subst (λ k. Tell B b (at + k) end l) (sym (ap (gap_of d) e)) t.2;
-    blocks = none_in_front B b d (blocks_in B b l) e;
+    told = subst (λ k. Tell header B b (at + k) end l) (sym (ap (gap_of d) e)) t.2;
+    blocks = none_in_front header B b d (blocks_in header B b l) e;
     joined = joined.2;
     begins = inr (joined.0 e);
   }
@@ -122,7 +122,7 @@ rest_of B b at end (d ∷ l) t joined = elim (owner_cases d.owner) [
     was = refl;
     free = All-nil (λ (c : Chunk). c.owner ≡ None);
     count = sym (count_none (gap_of d d.owner) (ap (gap_of d) s.1));
-    told = (let none : at ≡ at + gap_of d d.owner = omega (arith, ap (gap_of d) s.1) in subst (λ k. Tell B b k end (d ∷ l)) none t);
+    told = (let none : at ≡ at + gap_of d d.owner = omega (arith, ap (gap_of d) s.1) in subst (λ k. Tell header B b k end (d ∷ l)) none t);
     blocks = refl;
     joined = joined;
     begins = inr (λ e. absurd (let two : None ≡ Some s.0 = sym e ∙ s.1 in cc));
@@ -130,20 +130,20 @@ rest_of B b at end (d ∷ l) t joined = elim (owner_cases d.owner) [
 ]
 
 -- how far they begin before that place, and how long the gap is, are multiples of 4
-front_whole : (B : List ℕ) (b x at i : ℕ) (before old : List Chunk) → Tell B b x at before → (before ≡ [] → i ≡ x) → AreJoined (before ++ old) → (at - walk_free i before) % 4 ≡ 0
-front_whole B b x at i [] old t none joined = omega (arith, t, none refl)
-front_whole B b x at i (c ∷ []) old t none joined =
+front_whole : (header : ℕ) (B : List ℕ) (b x at i : ℕ) (before old : List Chunk) → Tell header B b x at before → (before ≡ [] → i ≡ x) → AreJoined header (before ++ old) → (at - walk_free i before) % 4 ≡ 0
+front_whole header B b x at i [] old t none joined = omega (arith, t, none refl)
+front_whole header B b x at i (c ∷ []) old t none joined =
     let place = place_told B b x c t.0 in let last : x + c.len ≡ at = t.2 in let whole = joined.1 in
     elim (owner_cases c.owner) [ inl e ↦ omega (arith, ap (free_behind c) e, whole.1) | inr s ↦ omega (arith, ap (free_behind c) s.1) ]
-front_whole B b x at i (c ∷ (d ∷ l)) old t none joined = front_whole B b (x + c.len) at (free_behind c c.owner) (d ∷ l) old t.2 (λ e. absurd (cc)) joined.2
+front_whole header B b x at i (c ∷ (d ∷ l)) old t none joined = front_whole header B b (x + c.len) at (free_behind c c.owner) (d ∷ l) old t.2 (λ e. absurd (cc)) joined.2
 
-pub gap_len_whole : (l : List Chunk) → AreJoined l → front_gap l % 4 ≡ 0
-gap_len_whole [] joined = refl
-gap_len_whole (d ∷ l) joined =
+pub gap_len_whole : (header : ℕ) (l : List Chunk) → AreJoined header l → front_gap l % 4 ≡ 0
+gap_len_whole header [] joined = refl
+gap_len_whole header (d ∷ l) joined =
     let whole = joined.1 in
     elim (owner_cases d.owner) [ inl e ↦ omega (arith, ap (gap_of d) e, whole.1) | inr s ↦ omega (arith, ap (gap_of d) s.1) ]
 
-module _ (heap : Region) (B : List ℕ) (has : HasChunks heap B) (chunk : Chunk) (a : Around B heap.span.at heap.footprint chunk (chunks_of heap B)) (live : chunk.owner ≢ None) where
+module _ (heap : Region) (B : List ℕ) (has : HasChunks heap B) (chunk : Chunk) (a : Around heap.header B heap.span.at heap.footprint chunk (chunks_of heap B)) (live : chunk.owner ≢ None) where
   abbrev b : ℕ
   b = heap.span.at
 
@@ -153,47 +153,47 @@ module _ (heap : Region) (B : List ℕ) (has : HasChunks heap B) (chunk : Chunk)
   abbrev end : ℕ
   end = chunk.at + chunk.len + front_gap a.behind
 
-  was_joined : AreJoined (a.before ++ (chunk ∷ a.behind))
-  was_joined = subst AreJoined a.is has.joined
+  was_joined : AreJoined heap.header (a.before ++ (chunk ∷ a.behind))
+  was_joined = subst (AreJoined heap.header) a.is has.joined
 
-  pub f : Front B b 0 chunk.at from a.before (chunk ∷ a.behind)
-  f = front_of B b 0 chunk.at 0 a.before (chunk ∷ a.behind) a.front (λ e. refl)
+  pub f : Front heap.header B b 0 chunk.at from a.before (chunk ∷ a.behind)
+  f = front_of heap.header B b 0 chunk.at 0 a.before (chunk ∷ a.behind) a.front (λ e. refl)
 
-  pub r : Rest B b (chunk.at + chunk.len) heap.footprint a.behind
-  r = rest_of B b (chunk.at + chunk.len) heap.footprint a.behind a.back (joined_behind a.before (chunk ∷ a.behind) was_joined).2
+  pub r : Rest heap.header B b (chunk.at + chunk.len) heap.footprint a.behind
+  r = rest_of heap.header B b (chunk.at + chunk.len) heap.footprint a.behind a.back (joined_behind heap.header a.before (chunk ∷ a.behind) was_joined).2
 
   pub from_below : from ≤ chunk.at
-  from_below = free_below B b 0 chunk.at 0 a.before a.front (λ e. refl)
+  from_below = free_below 0 chunk.at 0 a.before a.front (λ e. refl)
     where
-      free_below : (B : List ℕ) (b x at i : ℕ) (l : List Chunk) → Tell B b x at l → (l ≡ [] → i ≡ x) → walk_free i l ≤ at
-      free_below B b x at i [] t none = omega (arith, t, none refl)
-      free_below B b x at i (c ∷ []) t none =
+      free_below : (x at i : ℕ) (l : List Chunk) → Tell heap.header B b x at l → (l ≡ [] → i ≡ x) → walk_free i l ≤ at
+      free_below x at i [] t none = omega (arith, t, none refl)
+      free_below x at i (c ∷ []) t none =
           let place = place_told B b x c t.0 in let last : x + c.len ≡ at = t.2 in
           elim (owner_cases c.owner) [ inl e ↦ omega (arith, ap (free_behind c) e) | inr s ↦ omega (arith, ap (free_behind c) s.1) ]
-      free_below B b x at i (c ∷ (d ∷ l)) t none = free_below B b (x + c.len) at (free_behind c c.owner) (d ∷ l) t.2 (λ e. absurd (cc))
+      free_below x at i (c ∷ (d ∷ l)) t none = free_below (x + c.len) at (free_behind c c.owner) (d ∷ l) t.2 (λ e. absurd (cc))
 
   pub end_below : end ≤ heap.footprint
-  end_below = told_le B b end heap.footprint r.post r.told
+  end_below = told_le heap.header B b end heap.footprint r.post r.told
 
-  pub left_apart : filter (elsewhere chunk.at) (blocks_in B b (chunks_of heap B)) ≡ blocks_in B b a.before ++ blocks_in B b a.behind
+  pub left_apart : filter (elsewhere chunk.at) (blocks_in heap.header B b (chunks_of heap B)) ≡ blocks_in heap.header B b a.before ++ blocks_in heap.header B b a.behind
   left_apart = elim (owner_cases chunk.owner) [
     | inl none ↦ absurd (live none)
     | inr s ↦
-        let xs = blocks_in B b a.before in let ys = blocks_in B b a.behind in
-        let block : Block = record { name = s.0; at = chunk.at; room = chunk.len - header_len; bytes = slice_range B (b + chunk.at + header_len) (b + chunk.at + header_len + chunk.size) } in
+        let xs = blocks_in heap.header B b a.before in let ys = blocks_in heap.header B b a.behind in
+        let block : Block = record { name = s.0; at = chunk.at; room = chunk.len - heap.header; bytes = slice_range B (b + chunk.at + heap.header) (b + chunk.at + heap.header + chunk.size) } in
         let gone : eqb chunk.at chunk.at ≡ true = eq-eqb chunk.at chunk.at refl in
-        let all : blocks_in B b (chunks_of heap B) ≡ xs ++ (block ∷ ys) =
-        ap (blocks_in B b) a.is ∙ blocks_append B b a.before (chunk ∷ a.behind) ∙ ap (λ o. xs ++ with_chunk B b chunk o ys) s.1 in
+        let all : blocks_in heap.header B b (chunks_of heap B) ≡ xs ++ (block ∷ ys) =
+        ap (blocks_in heap.header B b) a.is ∙ blocks_append heap.header B b a.before (chunk ∷ a.behind) ∙ ap (λ o. xs ++ with_chunk heap.header B b chunk o ys) s.1 in
         let mine : filter (elsewhere chunk.at) (block ∷ ys) ≡ filter (elsewhere chunk.at) ys = rw gone refl in
         ap (filter (elsewhere chunk.at)) all
         ∙ filter-append (elsewhere chunk.at) xs (block ∷ ys)
         ∙ ap (λ l. filter (elsewhere chunk.at) xs ++ l) mine
-        ∙ ap (λ l. l ++ filter (elsewhere chunk.at) ys) (filter_elsewhere 0 chunk.at chunk.at xs (blocks_between B b 0 chunk.at a.before a.front) (inr (omega arith)))
-        ∙ ap (λ l. xs ++ l) (filter_elsewhere (chunk.at + chunk.len) heap.footprint chunk.at ys (blocks_between B b (chunk.at + chunk.len) heap.footprint a.behind a.back) (inl (omega (arith, a.enough))))
+        ∙ ap (λ l. l ++ filter (elsewhere chunk.at) ys) (filter_elsewhere 0 chunk.at chunk.at xs (blocks_between heap.header B b 0 chunk.at a.before a.front) (inr (omega arith)))
+        ∙ ap (λ l. xs ++ l) (filter_elsewhere (chunk.at + chunk.len) heap.footprint chunk.at ys (blocks_between heap.header B b (chunk.at + chunk.len) heap.footprint a.behind a.back) (inl (omega (arith, a.enough))))
   ]
 
-  left : filter (elsewhere chunk.at) (blocks_in B b (chunks_of heap B)) ≡ blocks_in B b f.pre ++ blocks_in B b r.post
-  left = left_apart ∙ ap (λ l. l ++ blocks_in B b a.behind) f.blocks ∙ ap (λ l. blocks_in B b f.pre ++ l) r.blocks
+  left : filter (elsewhere chunk.at) (blocks_in heap.header B b (chunks_of heap B)) ≡ blocks_in heap.header B b f.pre ++ blocks_in heap.header B b r.post
+  left = left_apart ∙ ap (λ l. l ++ blocks_in heap.header B b a.behind) f.blocks ∙ ap (λ l. blocks_in heap.header B b f.pre ++ l) r.blocks
 
   -- which chunks go
   went : chunks_of heap B ≡ f.pre ++ ((f.gone ++ (chunk ∷ r.gone)) ++ r.post)
@@ -229,14 +229,14 @@ module _ (heap : Region) (B : List ℕ) (has : HasChunks heap B) (chunk : Chunk)
       (subst (In other) (a.is ∙ ap (λ l. l ++ (chunk ∷ a.behind)) f.was ∙ ap (λ l. (f.pre ++ f.gone) ++ (chunk ∷ l)) r.was) (in_of other (chunks_of heap B) h.stands))))
 
   -- nothing lies behind it: the top gap takes it
-  module _ (heap' : Region) (same : heap'.span ≡ heap.span) (new_end : heap'.footprint ≡ from) (last : end ≡ heap.footprint) where
+  module _ (heap' : Region) (same : heap'.span ≡ heap.span) (same_header : heap'.header ≡ heap.header) (new_end : heap'.footprint ≡ from) (last : end ≡ heap.footprint) where
     start : heap'.span.at ≡ b
     start = ap (λ (s : Span). s.at) same
 
     none_behind : r.post ≡ []
     none_behind = elim r.begins [
       | inl e ↦ e.0
-      | inr begins ↦ ended B b end heap.footprint r.post r.told (omega (arith, last))
+      | inr begins ↦ ended heap.header B b end heap.footprint r.post r.told (omega (arith, last))
     ]
 
     pub top_spliced : Spliced heap' B B f.pre [] []
@@ -244,7 +244,8 @@ module _ (heap : Region) (B : List ℕ) (has : HasChunks heap B) (chunk : Chunk)
         let span_len = ap (λ (s : Span). s.len) same in
         spliced heap' B B from from f.pre [] [] (omega (arith, has.within, start, span_len))
         (record { size = refl; others = λ i n apart. refl })
-        (subst (λ k. Tell B k 0 from f.pre) (sym start) f.told) refl (sym new_end) (f.joined was_joined [] tt)
+        (subst (λ k. Tell k B heap'.span.at 0 from f.pre) (sym same_header) (subst (λ k. Tell heap.header B k 0 from f.pre) (sym start) f.told)) refl (sym new_end)
+        (subst (λ k. AreJoined k (f.pre ++ [])) (sym same_header) (f.joined was_joined [] tt))
 
     top_is : chunks_of heap' B ≡ f.pre ++ ([] ++ r.post)
     top_is = top_spliced.is ∙ ap (λ l. f.pre ++ l) (sym none_behind)
@@ -260,8 +261,8 @@ module _ (heap : Region) (B : List ℕ) (has : HasChunks heap B) (chunk : Chunk)
       behind = r.post;
       was = went;
       is = top_is;
-      front = subst (λ k. Tell B b 0 k f.pre) (sym e) f.told;
-      back = subst (λ k. Tell B b k heap.footprint r.post) (sym g) r.told;
+      front = subst (λ k. Tell heap.header B b 0 k f.pre) (sym e) f.told;
+      back = subst (λ k. Tell heap.header B b k heap.footprint r.post) (sym g) r.told;
       linked = refl;
     }
 
@@ -272,41 +273,43 @@ module _ (heap : Region) (B : List ℕ) (has : HasChunks heap B) (chunk : Chunk)
 
     pub top_released : store_of heap' B ≡ without_place chunk.at (store_of heap B)
     top_released =
-        ap (λ size. let h : HeapStore = record { size = size; blocks = blocks_in B heap'.span.at (chunks_of heap' B) } in h) (ap (λ (s : Span). s.len) same)
-        ∙ ap (λ blocks. let h : HeapStore = record { size = heap.span.len; blocks = blocks } in h)
+        ap (λ size. let h : HeapStore = record { size = size; header = heap'.header; blocks = blocks_in heap'.header B heap'.span.at (chunks_of heap' B) } in h) (ap (λ (s : Span). s.len) same)
+        ∙ ap (λ header. let h : HeapStore = record { size = heap.span.len; header = header; blocks = blocks_in heap'.header B heap'.span.at (chunks_of heap' B) } in h) same_header
+        ∙ ap (λ blocks. let h : HeapStore = record { size = heap.span.len; header = heap.header; blocks = blocks } in h)
         (top_spliced.blocks
-        ∙ ap (λ k. blocks_in B k f.pre ++ []) start
-        ∙ ap (λ l. blocks_in B b f.pre ++ blocks_in B b l) (sym none_behind)
+        ∙ ap (λ k. blocks_in k B heap'.span.at f.pre ++ []) same_header
+        ∙ ap (λ k. blocks_in heap.header B k f.pre ++ []) start
+        ∙ ap (λ l. blocks_in heap.header B b f.pre ++ blocks_in heap.header B b l) (sym none_behind)
         ∙ sym left)
 
   -- else it becomes a gap, which is whole
-  gap_whole : (20 ≤ end - from) × ((end - from) % 4 ≡ 0)
+  gap_whole : (shortest heap.header ≤ end - from) × ((end - from) % 4 ≡ 0)
   gap_whole =
-      let whole = whole_at a.before a.behind chunk was_joined in
-      let front = front_whole B b 0 chunk.at 0 a.before (chunk ∷ a.behind) a.front (λ e. refl) was_joined in
-      let back = gap_len_whole a.behind (joined_behind a.before (chunk ∷ a.behind) was_joined).2 in
+      let whole = whole_at heap.header a.before a.behind chunk was_joined in
+      let front = front_whole heap.header B b 0 chunk.at 0 a.before (chunk ∷ a.behind) a.front (λ e. refl) was_joined in
+      let back = gap_len_whole heap.header a.behind (joined_behind heap.header a.before (chunk ∷ a.behind) was_joined).2 in
       let low = from_below in
       (omega (arith, whole.0), omega (arith, whole.1, front, back))
 
   abbrev gap : Option ℕ → Chunk
   gap link = record { at = from; len = end - from; owner = None; size = 0; link = link }
 
-  module _ (link : Option ℕ) (B' : List ℕ) (told : chunk_at B' b from ≡ gap link) (changes : ChangesOnly (b + from) 16 B B') (more : end ≢ heap.footprint) where
+  module _ (link : Option ℕ) (B' : List ℕ) (told : chunk_at B' b from ≡ gap link) (changes : ChangesOnly (b + from) 12 B B') (more : end ≢ heap.footprint) where
     pub gap_spliced : Spliced heap B B' f.pre (gap link ∷ []) r.post
     gap_spliced =
         let below = from_below in
         let begins : BeginsLive r.post = elim r.begins [
-          | inl e ↦ absurd (more (subst (Tell B b end heap.footprint) e.0 r.told))
+          | inl e ↦ absurd (more (subst (Tell heap.header B b end heap.footprint) e.0 r.told))
           | inr begins ↦ begins
         ] in
         spliced heap B B' from end f.pre (gap link ∷ []) r.post has.within
-        (changes_more (b + from) 16 (b + from) (end - from) B B' changes (omega arith) (omega (arith, a.enough)))
+        (changes_more (b + from) 12 (b + from) (end - from) B B' changes (omega arith) (omega (arith, a.enough)))
         f.told (told, omega (arith, a.enough), omega arith) r.told
         (f.joined was_joined (gap link ∷ r.post) ((λ none. begins), (omega (arith, gap_whole), omega (arith, gap_whole)), r.joined))
 
     pub gap_released : store_of heap B' ≡ without_place chunk.at (store_of heap B)
     gap_released =
-        ap (λ blocks. let h : HeapStore = record { size = heap.span.len; blocks = blocks } in h) (gap_spliced.blocks ∙ sym left)
+        ap (λ blocks. let h : HeapStore = record { size = heap.span.len; header = heap.header; blocks = blocks } in h) (gap_spliced.blocks ∙ sym left)
 
     pub gap_stays : (other : Chunk) → LiveIn other (chunks_of heap B) → other.at ≢ chunk.at → LiveIn other (chunks_of heap B')
     gap_stays other h far = record {
@@ -328,7 +331,7 @@ module _ (heap : Region) (B : List ℕ) (has : HasChunks heap B) (chunk : Chunk)
       behind = r.post;
       was = went;
       is = gap_spliced.is;
-      front = subst (λ k. Tell B b 0 k f.pre) (sym e) f.told;
-      back = subst (λ k. Tell B b k heap.footprint r.post) (sym g) r.told;
+      front = subst (λ k. Tell heap.header B b 0 k f.pre) (sym e) f.told;
+      back = subst (λ k. Tell heap.header B b k heap.footprint r.post) (sym g) r.told;
       linked = link_gap (Some p) link (gap link) [] refl (ap Some e) refl;
     }

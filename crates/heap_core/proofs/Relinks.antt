@@ -24,28 +24,28 @@ module _ (heap : Region) (B B' : List ℕ) (gap : Chunk) (first : Option ℕ) (h
   abbrev new : Chunk
   new = record { at = gap.at; len = gap.len; owner = gap.owner; size = gap.size; link = first }
 
-  pub here : Around B b heap.footprint gap (chunks_of heap B)
+  pub here : Around heap.header B b heap.footprint gap (chunks_of heap B)
   here = around heap B gap has stands
 
-  module _ (told : chunk_at B' b gap.at ≡ new) (changes : ChangesOnly (b + gap.at) 16 B B') where
-    was : AreJoined (here.before ++ (gap ∷ here.behind))
-    was = subst AreJoined here.is has.joined
+  module _ (told : chunk_at B' b gap.at ≡ new) (changes : ChangesOnly (b + gap.at) 12 B B') where
+    was : AreJoined heap.header (here.before ++ (gap ∷ here.behind))
+    was = subst (AreJoined heap.header) here.is has.joined
 
     pub relinked : Spliced heap B B' here.before (new ∷ []) here.behind
     relinked =
         let a = here in
         spliced heap B B' gap.at (gap.at + gap.len) a.before (new ∷ []) a.behind has.within
-        (changes_more (b + gap.at) 16 (b + gap.at) (gap.at + gap.len - gap.at) B B' changes (omega arith) (omega (arith, a.enough)))
+        (changes_more (b + gap.at) 12 (b + gap.at) (gap.at + gap.len - gap.at) B B' changes (omega arith) (omega (arith, a.enough)))
         a.front (told, a.enough, refl) a.back
-        (joined_swap a.before (gap ∷ a.behind) (new ∷ a.behind) (λ live. live) was (joined_behind a.before (gap ∷ a.behind) was))
+        (joined_swap heap.header a.before (gap ∷ a.behind) (new ∷ a.behind) (λ live. live) was (joined_behind heap.header a.before (gap ∷ a.behind) was))
 
     pub relinked_store : store_of heap B' ≡ store_of heap B
     relinked_store =
         let a = here in
-        ap (λ blocks. let h : HeapStore = record { size = heap.span.len; blocks = blocks } in h)
+        ap (λ blocks. let h : HeapStore = record { size = heap.span.len; header = heap.header; blocks = blocks } in h)
         (relinked.blocks
-        ∙ ap (λ l. blocks_in B b a.before ++ (l ++ blocks_in B b a.behind)) (none_in_front B' b new [] free)
-        ∙ sym (ap (blocks_in B b) a.is ∙ blocks_append B b a.before (gap ∷ a.behind) ∙ ap (λ l. blocks_in B b a.before ++ l) (none_in_front B b gap (blocks_in B b a.behind) free)))
+        ∙ ap (λ l. blocks_in heap.header B b a.before ++ (l ++ blocks_in heap.header B b a.behind)) (none_in_front heap.header B' b new [] free)
+        ∙ sym (ap (blocks_in heap.header B b) a.is ∙ blocks_append heap.header B b a.before (gap ∷ a.behind) ∙ ap (λ l. blocks_in heap.header B b a.before ++ l) (none_in_front heap.header B b gap (blocks_in heap.header B b a.behind) free)))
 
     pub relinked_count : length (gaps_among (chunks_of heap B')) ≡ length (gaps_among (chunks_of heap B))
     relinked_count =
@@ -65,8 +65,8 @@ module _ (heap : Region) (B B' : List ℕ) (gap : Chunk) (first : Option ℕ) (h
     relinked_list before behind end is last linked later =
         let l = last_gap gap before last in
         let all : chunks_of heap B ≡ l.before ++ (gap ∷ (l.behind ++ behind)) = is ∙ ap (λ k. k ++ behind) l.is ∙ append_assoc l.before (gap ∷ l.behind) behind in
-        let split = split_at B b heap.footprint gap l.before (l.behind ++ behind) (subst (Tell B b 0 heap.footprint) all has.told) in
-        let there : Around B b heap.footprint gap (chunks_of heap B) = record { before = l.before; behind = l.behind ++ behind; is = all; front = split.0; here = split.1; enough = split.2; back = split.3; fits = told_le B b (gap.at + gap.len) heap.footprint (l.behind ++ behind) split.3 } in
+        let split = split_at heap.header B b heap.footprint gap l.before (l.behind ++ behind) (subst (Tell heap.header B b 0 heap.footprint) all has.told) in
+        let there : Around heap.header B b heap.footprint gap (chunks_of heap B) = record { before = l.before; behind = l.behind ++ behind; is = all; front = split.0; here = split.1; enough = split.2; back = split.3; fits = told_le heap.header B b (gap.at + gap.len) heap.footprint (l.behind ++ behind) split.3 } in
         let front : here.before ≡ l.before = sym (before_is heap B gap here) ∙ before_is heap B gap there in
         let back : here.behind ≡ l.behind ++ behind = sym (behind_is heap B gap here) ∙ behind_is heap B gap there in
         let again : LinkedTo heap.lowest (l.before ++ (new ∷ l.behind)) first =

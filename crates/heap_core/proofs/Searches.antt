@@ -1,5 +1,5 @@
 -- The search along the links for the shortest gap that is long enough.
-use Rattle.std.proofs.Common.{◌≡◌, ℕ, ◌≤◌, ◌<◌, inl, inr, List, [], ◌∷◌, length, true, false, leb, ltb, refl, sym, ap, ◌∙◌, arith}
+use Rattle.std.proofs.Common.{◌≡◌, ℕ, ◌≤◌, ◌<◌, inl, inr, List, [], ◌∷◌, length, true, false, leb, ltb, refl, sym, ap, ◌∙◌, subst, arith}
 use Rattle.std.specs.Prelude.{Option, Some, None, fold}
 use Rattle.std.specs.Option.{option_map_or}
 use Rattle.std.proofs.lemmas.Bool.{cases_Bool, le-leb, lt-leb, le-ltb, leb-true, ltb-false}
@@ -12,6 +12,7 @@ use Rattle.heap_core.specs.Code.Layout.{chunks_of, HasChunks, store_of}
 use Rattle.heap_core.specs.Code.Links.{LinkedTo, Follow, gaps_from_place}
 use Rattle.heap_core.proofs.Gaps.{better_chunk, better_same, gaps_are}
 use Rattle.heap_core.proofs.Lists.{NextGap, walk_begins, next_gap, no_gap}
+use Rattle.heap_core.proofs.Told.{place_told}
 
 -- the shorter one of the best gap yet, if there is one, and this one
 abbrev shorter_of : Option Gap → Chunk → Gap
@@ -70,35 +71,50 @@ module _ (heap : Region) (B : List ℕ) (need : ℕ) where
         follow = w.2;
         is = ap (fold (better_chunk need) None) w.0
             ∙ better_same need None (chunks_of heap B)
-            ∙ sym (ap (best_gap need) (gaps_are B heap.span.at 0 heap.footprint (chunks_of heap B) has.told has.joined));
+            ∙ sym (ap (best_gap need) (gaps_are heap.header B heap.span.at 0 heap.footprint (chunks_of heap B) has.told has.joined));
       }
 
   pub search_ended : (best : Option Gap) (next : Option ℕ) → next ≡ None → Searched heap B need best next → best ≡ best_gap need (gaps (store_of heap B))
   search_ended best next none s = sym (ap (fold (better_chunk need) best) (no_gap heap B next none s.follow)) ∙ s.is
 
-  module _ (best : Option Gap) (next : Option ℕ) (at : ℕ) (gap : Chunk) (is : next ≡ Some at) (read : gap ≡ chunk_at B heap.span.at at) (s : Searched heap B need best next) where
-    pub met : NextGap heap B next gap
-    met = next_gap heap B next at gap is read s.few s.follow
+  module _ (best : Option Gap) (next : Option ℕ) (at len : ℕ) (link : Option ℕ) (is : next ≡ Some at) (s : Searched heap B need best next) (len_is : len ≡ (chunk_at B heap.span.at at).len) where
+    abbrev gap : Chunk
+    gap = chunk_at B heap.span.at at
 
-    more : (new : Option Gap) → new ≡ better_chunk need best gap → Searched heap B need new gap.link
-    more new e =
-        record {
+    abbrev this : Gap
+    this = record { at = at; len = len }
+
+    pub met : NextGap heap B next gap
+    met = next_gap heap B next at gap is refl s.few s.follow
+
+    -- the gap, as the words that are read tell it
+    this_is : this ≡ (let found : Gap = record { at = gap.at; len = gap.len } in found)
+    this_is =
+        ap (λ k. let found : Gap = record { at = k; len = len } in found) (sym (place_told B heap.span.at at gap refl))
+        ∙ ap (λ k. let found : Gap = record { at = gap.at; len = k } in found) len_is
+
+    more : (new : Option Gap) → new ≡ better_chunk need best gap → link ≡ gap.link → Searched heap B need new link
+    more new e link_is =
+        subst (Searched heap B need new) (sym link_is) (record {
           few = met.few;
           follow = met.follow;
           is = ap (λ o. fold (better_chunk need) o (gaps_from_place heap B gap.link)) e ∙ sym (ap (fold (better_chunk need) best) met.is) ∙ s.is;
-        }
+        })
 
-    pub search_past_short : gap.len < need → Searched heap B need best gap.link
-    search_past_short less = more best (short_leaves_best need best gap less)
+    pub search_past_short : len < need → link ≡ gap.link → Searched heap B need best link
+    search_past_short less = more best (short_leaves_best need best gap (omega (arith, len_is)))
 
-    module _ (found : Gap) (compared : found ≡ shorter_of best gap) (enough : need ≤ gap.len) where
+    module _ (found : Gap) (compared : found ≡ option_map_or (λ other. shorter other this) best this) (enough : need ≤ len) where
       found_is : Some found ≡ better_chunk need best gap
-      found_is = ap (λ (g : Gap). Some g) compared ∙ long_is_compared need best gap enough
+      found_is = ap (λ (g : Gap). Some g) (compared ∙ ap (λ (g : Gap). option_map_or (λ other. shorter other g) best g) this_is) ∙ long_is_compared need best gap (omega (arith, len_is))
 
-      pub search_past_long : Searched heap B need (Some found) gap.link
+      pub search_past_long : link ≡ gap.link → Searched heap B need (Some found) link
       search_past_long = more (Some found) found_is
 
-      pub search_exact : gap.len ≡ need → Some found ≡ best_gap need (gaps (store_of heap B))
-      search_exact exact =
+      pub search_exact : link ≡ gap.link → len ≡ need → Some found ≡ best_gap need (gaps (store_of heap B))
+      search_exact link_is exact =
           let later = gaps_from_place heap B gap.link in
-          found_is ∙ sym (exact_is_best need best gap later exact) ∙ (more (better_chunk need best gap) refl).is
+          found_is
+          ∙ sym (exact_is_best need best gap later (omega (arith, len_is, exact)))
+          ∙ sym (ap (λ k. fold (better_chunk need) (better_chunk need best gap) (gaps_from_place heap B k)) link_is)
+          ∙ (more (better_chunk need best gap) refl link_is).is

@@ -15,18 +15,18 @@ begins_swap : (pre old new : List Chunk) → (BeginsLive old → BeginsLive new)
 begins_swap [] old new keep begins = keep begins
 begins_swap (c ∷ pre) old new keep begins = begins
 
-pub joined_swap : (pre old new : List Chunk) → (BeginsLive old → BeginsLive new) → AreJoined (pre ++ old) → AreJoined new → AreJoined (pre ++ new)
-joined_swap [] old new keep was joined = joined
-joined_swap (c ∷ pre) old new keep was joined =
-    (λ free. begins_swap pre old new keep (was.0 free), was.1, joined_swap pre old new keep was.2 joined)
+pub joined_swap : (header : ℕ) (pre old new : List Chunk) → (BeginsLive old → BeginsLive new) → AreJoined header (pre ++ old) → AreJoined header new → AreJoined header (pre ++ new)
+joined_swap header [] old new keep was joined = joined
+joined_swap header (c ∷ pre) old new keep was joined =
+    (λ free. begins_swap pre old new keep (was.0 free), was.1, joined_swap header pre old new keep was.2 joined)
 
-pub joined_behind : (pre new : List Chunk) → AreJoined (pre ++ new) → AreJoined new
-joined_behind [] new joined = joined
-joined_behind (c ∷ pre) new joined = joined_behind pre new joined.2
+pub joined_behind : (header : ℕ) (pre new : List Chunk) → AreJoined header (pre ++ new) → AreJoined header new
+joined_behind header [] new joined = joined
+joined_behind header (c ∷ pre) new joined = joined_behind header pre new joined.2
 
 -- each of them is whole
-pub whole_at : (pre behind : List Chunk) (c : Chunk) → AreJoined (pre ++ (c ∷ behind)) → IsWhole c
-whole_at pre behind c joined = (joined_behind pre (c ∷ behind) joined).1
+pub whole_at : (header : ℕ) (pre behind : List Chunk) (c : Chunk) → AreJoined header (pre ++ (c ∷ behind)) → IsWhole header c
+whole_at header pre behind c joined = (joined_behind header pre (c ∷ behind) joined).1
 
 pub laid_all : (live : Chunk) (len : ℕ) (link : Option ℕ) → live.len ≡ len → laid live len link ≡ live ∷ []
 laid_all live len link e = let none : ltb live.len len ≡ false = le-ltb live.len len (omega arith) in rw none refl
@@ -41,31 +41,31 @@ laid_some live len link h = let some : ltb live.len len ≡ true = lt-ltb live.l
 pub record Spliced (heap : Region) (B B' : List ℕ) (before mid behind : List Chunk) : Type 0 where
   pub has : HasChunks heap B'
   pub is : chunks_of heap B' ≡ before ++ (mid ++ behind)
-  pub blocks : blocks_in B' heap.span.at (chunks_of heap B') ≡ blocks_in B heap.span.at before ++ (blocks_in B' heap.span.at mid ++ blocks_in B heap.span.at behind)
+  pub blocks : blocks_in heap.header B' heap.span.at (chunks_of heap B') ≡ blocks_in heap.header B heap.span.at before ++ (blocks_in heap.header B' heap.span.at mid ++ blocks_in heap.header B heap.span.at behind)
 
 pub spliced : (heap : Region) (B B' : List ℕ) (x y : ℕ) (before mid behind : List Chunk) → heap.span.at + heap.span.len ≤ length B
-    → ChangesOnly (heap.span.at + x) (y - x) B B' → Tell B heap.span.at 0 x before → Tell B' heap.span.at x y mid → Tell B heap.span.at y heap.footprint behind
-    → AreJoined (before ++ (mid ++ behind)) → Spliced heap B B' before mid behind
+    → ChangesOnly (heap.span.at + x) (y - x) B B' → Tell heap.header B heap.span.at 0 x before → Tell heap.header B' heap.span.at x y mid → Tell heap.header B heap.span.at y heap.footprint behind
+    → AreJoined heap.header (before ++ (mid ++ behind)) → Spliced heap B B' before mid behind
 unfolding chunks_of
 spliced heap B B' x y before mid behind within changes front told back joined =
-    let b = heap.span.at in
-    let le = told_le B' b x y mid told in
-    let front' : Tell B' b 0 x before = told_frame B B' b (b + x) (y - x) changes 0 x before (inl (omega arith)) front in
-    let back' : Tell B' b y heap.footprint behind = told_frame B B' b (b + x) (y - x) changes y heap.footprint behind (inr (omega arith)) back in
-    let all : Tell B' b 0 heap.footprint (before ++ (mid ++ behind)) =
-    told_append B' b 0 x heap.footprint before (mid ++ behind) front' (told_append B' b x y heap.footprint mid behind told back') in
+    let b = heap.span.at in let header = heap.header in
+    let le = told_le header B' b x y mid told in
+    let front' : Tell header B' b 0 x before = told_frame header B B' b (b + x) (y - x) changes 0 x before (inl (omega arith)) front in
+    let back' : Tell header B' b y heap.footprint behind = told_frame header B B' b (b + x) (y - x) changes y heap.footprint behind (inr (omega arith)) back in
+    let all : Tell header B' b 0 heap.footprint (before ++ (mid ++ behind)) =
+    told_append header B' b 0 x heap.footprint before (mid ++ behind) front' (told_append header B' b x y heap.footprint mid behind told back') in
     let is : chunks_from heap.footprint B' b 0 heap.footprint ≡ before ++ (mid ++ behind) =
-    walked heap.footprint B' b 0 heap.footprint (before ++ (mid ++ behind)) all (omega arith) in
+    walked header heap.footprint B' b 0 heap.footprint (before ++ (mid ++ behind)) all (omega arith) in
     record {
       has = record {
         within = omega (arith, changes.size, within);
-        told = subst (Tell B' b 0 heap.footprint) (sym is) all;
-        joined = subst AreJoined (sym is) joined;
+        told = subst (Tell header B' b 0 heap.footprint) (sym is) all;
+        joined = subst (AreJoined header) (sym is) joined;
       };
       is = is;
-      blocks = ap (blocks_in B' b) is
-          ∙ blocks_append B' b before (mid ++ behind)
-          ∙ ap (λ l. blocks_in B' b before ++ l) (blocks_append B' b mid behind)
-          ∙ ap (λ l. l ++ (blocks_in B' b mid ++ blocks_in B' b behind)) (blocks_frame B B' b (b + x) (y - x) changes 0 x before (inl (omega arith)) front)
-          ∙ ap (λ l. blocks_in B b before ++ (blocks_in B' b mid ++ l)) (blocks_frame B B' b (b + x) (y - x) changes y heap.footprint behind (inr (omega arith)) back);
+      blocks = ap (blocks_in header B' b) is
+          ∙ blocks_append header B' b before (mid ++ behind)
+          ∙ ap (λ l. blocks_in header B' b before ++ l) (blocks_append header B' b mid behind)
+          ∙ ap (λ l. l ++ (blocks_in header B' b mid ++ blocks_in header B' b behind)) (blocks_frame header B B' b (b + x) (y - x) changes 0 x before (inl (omega arith)) front)
+          ∙ ap (λ l. blocks_in header B b before ++ (blocks_in header B' b mid ++ l)) (blocks_frame header B B' b (b + x) (y - x) changes y heap.footprint behind (inr (omega arith)) back);
     }

@@ -5,8 +5,7 @@ use Rattle.std.specs.Option.{option_map}
 use Rattle.std.proofs.lemmas.Bool.{lt-ltb, le-ltb, le-leb, lt-leb, cases_Bool}
 use Rattle.heap_core.specs.declared.chunk.Chunk.{Chunk}
 use Rattle.heap_core.specs.declared.region.Region.{Region}
-use Rattle.heap_core.specs.HeapStore.{header_len}
-use Rattle.heap_core.specs.Code.Chunks.{chunk_at, Tell}
+use Rattle.heap_core.specs.Code.Chunks.{least_len, chunk_at, Tell}
 use Rattle.heap_core.specs.Code.Layout.{chunks_of, HasChunks}
 use Rattle.heap_core.specs.Code.Links.{gaps_among, LinkedTo, Follow, lower, higher, gap_below, gap_from, gaps_from_place}
 use Rattle.heap_core.proofs.Lists.{gap_first, live_first, walk_begins, next_gap, no_gap, followed, NextGap}
@@ -21,11 +20,11 @@ pub ascend_from : (from least : ℕ) (gaps : List Chunk) → least ≤ from → 
 ascend_from from least [] le up = tt
 ascend_from from least (gap ∷ gaps) le up = (omega (arith, up.0), up.1)
 
-pub gaps_ascend : (B : List ℕ) (b x y : ℕ) (l : List Chunk) → Tell B b x y l → Ascend x (gaps_among l)
-gaps_ascend B b x y [] t = tt
-gaps_ascend B b x y (c ∷ l) t =
-    let enough : header_len + c.size ≤ c.len = t.1 in let at = place_told B b x c t.0 in
-    let later = gaps_ascend B b (x + c.len) y l t.2 in
+pub gaps_ascend : (header : ℕ) (B : List ℕ) (b x y : ℕ) (l : List Chunk) → Tell header B b x y l → Ascend x (gaps_among l)
+gaps_ascend header B b x y [] t = tt
+gaps_ascend header B b x y (c ∷ l) t =
+    let enough : least_len header c ≤ c.len = t.1 in let at = place_told B b x c t.0 in
+    let later = gaps_ascend header B b (x + c.len) y l t.2 in
     elim (owner_cases c.owner) [
       | inl e ↦ subst (Ascend x) (sym (gap_first c l e)) (omega (arith, at), ascend_from (x + c.len) (c.at + 1) (gaps_among l) (omega (arith, at, enough)) later)
       | inr s ↦ subst (Ascend x) (sym (live_first c s.0 l s.1)) (ascend_from (x + c.len) x (gaps_among l) (omega arith) later)
@@ -62,7 +61,7 @@ module _ (heap : Region) (B : List ℕ) (p : ℕ) where
         few = w.1;
         follow = w.2;
         from = 0;
-        up = subst (Ascend 0) (sym w.0) (gaps_ascend B heap.span.at 0 heap.footprint (chunks_of heap B) has.told);
+        up = subst (Ascend 0) (sym w.0) (gaps_ascend heap.header B heap.span.at 0 heap.footprint (chunks_of heap B) has.told);
         found = None;
         place = refl;
         lowered = ap (fold (lower p) None) w.0;
@@ -126,22 +125,22 @@ module _ (heap : Region) (B : List ℕ) (p : ℕ) where
 
 -- the gap found has its header where it says
 abbrev pub HasHeader : List ℕ → ℕ → ℕ → Chunk → Type 0
-HasHeader B b end gap = (chunk_at B b gap.at ≡ gap) × (gap.at + 16 ≤ end)
+HasHeader B b end gap = (chunk_at B b gap.at ≡ gap) × (gap.at + 12 ≤ end)
 
 lower_told : (B : List ℕ) (b end p : ℕ) (head : Option ℕ) (found : Option Chunk) (gaps : List Chunk) → Follow B b end head gaps → IfSome found (HasHeader B b end) → IfSome (fold (lower p) found gaps) (HasHeader B b end)
 lower_told B b end p head found [] follow h = h
 lower_told B b end p head found (gap ∷ gaps) follow h =
-    lower_told B b end p gap.link (lower p found gap) gaps follow.3 (elim (cases_Bool (ltb gap.at p)) [
-      | inl near ↦ (let now : lower p found gap ≡ Some gap = rw near refl in subst (λ o. IfSome o (HasHeader B b end)) (sym now) (follow.1, follow.2))
+    lower_told B b end p gap.link (lower p found gap) gaps follow.4 (elim (cases_Bool (ltb gap.at p)) [
+      | inl near ↦ (let now : lower p found gap ≡ Some gap = rw near refl in subst (λ o. IfSome o (HasHeader B b end)) (sym now) (follow.1, follow.3))
       | inr far ↦ (let same : lower p found gap ≡ found = rw far refl in subst (λ o. IfSome o (HasHeader B b end)) (sym same) h)
     ])
 
 pub below_told : (heap : Region) (B : List ℕ) (p : ℕ) → HasChunks heap B → LinkedTo heap.lowest (chunks_of heap B) None → IfSome (gap_below p (gaps_among (chunks_of heap B))) (HasHeader B heap.span.at heap.footprint)
 below_told heap B p has linked =
-    lower_told B heap.span.at heap.footprint p heap.lowest None (gaps_among (chunks_of heap B)) (followed B heap.span.at 0 heap.footprint heap.lowest (chunks_of heap B) has.told linked).0 tt
+    lower_told B heap.span.at heap.footprint p heap.lowest None (gaps_among (chunks_of heap B)) (followed heap.header B heap.span.at 0 heap.footprint heap.lowest (chunks_of heap B) has.told linked).0 tt
 
 -- the gap that begins at the place kept
-pub gap_kept : (B : List ℕ) (b end place : ℕ) (found : Option Chunk) → Some place ≡ option_map (λ (gap : Chunk). gap.at) found → IfSome found (HasHeader B b end) → (found ≡ Some (chunk_at B b place)) × (place + 16 ≤ end)
+pub gap_kept : (B : List ℕ) (b end place : ℕ) (found : Option Chunk) → Some place ≡ option_map (λ (gap : Chunk). gap.at) found → IfSome found (HasHeader B b end) → (found ≡ Some (chunk_at B b place)) × (place + 12 ≤ end)
 gap_kept B b end place None is h = absurd (let two : Some place ≡ None = is in cc)
 gap_kept B b end place (Some gap) is h =
     let same : gap.at ≡ place = let two : Some place ≡ Some gap.at = is in cc in

@@ -1,40 +1,65 @@
 -- A header that is written: what it tells then, and that no other byte changed.
-use Rattle.std.proofs.Common.{◌≡◌, ℕ, ◌+◌, ◌≤◌, ◌<◌, ◌^◌, ◌⊎◌, inl, List, length, sym, ap, ◌∙◌, arith}
-use Rattle.std.specs.Prelude.{Option}
+use Rattle.std.proofs.Common.{◌≡◌, ℕ, ◌+◌, ◌≤◌, ◌<◌, ◌^◌, ◌⊎◌, inl, List, length, true, false, sym, ap, ◌∙◌, subst, arith}
+use Rattle.std.specs.Prelude.{Option, None}
 use Rattle.std.specs.Int.{from_le_bytes, to_le_bytes}
 use mir.Syntax.{w32}
 use Rattle.std.proofs.lemmas.Nat.{from_le_bytes-to_le_bytes_4}
+use Rattle.arena_core.specs.Contents.{Contents, contents}
 use Rattle.arena_core.specs.Outside.{ChangesOnly}
 use Rattle.arena_core.specs.Written.{written}
 use Rattle.arena_core.proofs.Ranges.{range-written, range-written_apart, changes_only}
-use Rattle.heap_core.specs.Code.Chunks.{word_at, number_in, chunk_at}
-use Rattle.heap_core.proofs.Told.{chunk_of, chunk_is, changes_then, changes_more}
+use Rattle.heap_core.specs.Code.Chunks.{word_at, number_in, is_a_name, owner_in, size_in, chunk_at}
+use Rattle.heap_core.proofs.Told.{chunk_of, chunk_is, link_named, link_free, changes_then, changes_more}
 
 -- in Y that word stands at i, and all else is as in X
-pub record WordPut (X Y : List ℕ) (i word : ℕ) : Type 0 where
-  pub here : word_at Y i ≡ word
-  pub apart : (j : ℕ) → (j + 4 ≤ i) ⊎ (i + 4 ≤ j) → word_at Y j ≡ word_at X j
-  pub changes : ChangesOnly i 4 X Y
+record WordPut (X Y : List ℕ) (i word : ℕ) : Type 0 where
+  here : word_at Y i ≡ word
+  apart : (j : ℕ) → (j + 4 ≤ i) ⊎ (i + 4 ≤ j) → word_at Y j ≡ word_at X j
+  changes : ChangesOnly i 4 X Y
 
-pub word_put : (X : List ℕ) (i word : ℕ) → i + 4 ≤ length X → word < 2 ^ 32 → WordPut X (written X i (to_le_bytes w32 word)) i word
+word_put : (X : List ℕ) (i word : ℕ) → i + 4 ≤ length X → word < 2 ^ 32 → WordPut X (written X i (to_le_bytes w32 word)) i word
 word_put X i word fits small = record {
   here = ap (from_le_bytes w32) (range-written X i (to_le_bytes w32 word) fits) ∙ from_le_bytes-to_le_bytes_4 word small;
   apart = λ j side. ap (from_le_bytes w32) (range-written_apart X i (to_le_bytes w32 word) fits j 4 side);
   changes = changes_only X i (to_le_bytes w32 word) fits i 4 (omega arith) (omega arith);
 }
 
-module _ (B X Y Z B' : List ℕ) (b at len word size next : ℕ) (one : WordPut B X (b + at) len) (two : WordPut X Y (b + at + 4) word) (three : WordPut Y Z (b + at + 8) size) (four : WordPut Z B' (b + at + 12) next) where
-  pub header_written : (owner link : Option ℕ) → number_in word ≡ owner → number_in next ≡ link → chunk_at B' b at ≡ chunk_of at len owner size link
-  header_written owner link e f =
-      let first : word_at B' (b + at) ≡ len = four.apart (b + at) (inl (omega arith)) ∙ three.apart (b + at) (inl (omega arith)) ∙ two.apart (b + at) (inl (omega arith)) ∙ one.here in
-      let second : word_at B' (b + at + 4) ≡ word = four.apart (b + at + 4) (inl (omega arith)) ∙ three.apart (b + at + 4) (inl (omega arith)) ∙ two.here in
-      let third : word_at B' (b + at + 8) ≡ size = four.apart (b + at + 8) (inl (omega arith)) ∙ three.here in
-      sym (chunk_is B' b at len owner size link (sym first) (sym e ∙ ap number_in (sym second)) (sym third) (sym f ∙ ap number_in (sym four.here)))
+-- the same of an arena's contents
+put_in : (old new : Contents) (i word : ℕ) → new ≡ contents (written old.bytes i (to_le_bytes w32 word)) old.carved → i + 4 ≤ length old.bytes → word < 2 ^ 32 → WordPut old.bytes new.bytes i word
+put_in old new i word e fits small = subst (λ (a : Contents). WordPut old.bytes a.bytes i word) (sym e) (word_put old.bytes i word fits small)
 
-  pub header_changes : ChangesOnly (b + at) 16 B B'
-  header_changes =
-      let part = λ (i : ℕ) (V W : List ℕ) (c : ChangesOnly i 4 V W). changes_more i 4 (b + at) 16 V W c in
-      changes_then (b + at) 16 B X B' (part (b + at) B X one.changes (omega arith) (omega arith))
-      (changes_then (b + at) 16 X Y B' (part (b + at + 4) X Y two.changes (omega arith) (omega arith))
-      (changes_then (b + at) 16 Y Z B' (part (b + at + 8) Y Z three.changes (omega arith) (omega arith))
-      (part (b + at + 12) Z B' four.changes (omega arith) (omega arith))))
+-- the first two words, which are all that is written of a live chunk
+module _ (old one two : Contents) (b at len word : ℕ) (first : one ≡ contents (written old.bytes (b + at) (to_le_bytes w32 len)) old.carved) (second : two ≡ contents (written one.bytes (b + at + 4) (to_le_bytes w32 word)) one.carved)
+    (within : b + at + 12 ≤ length old.bytes) (len_small : len < 2 ^ 32) (word_small : word < 2 ^ 32) where
+  one_put : WordPut old.bytes one.bytes (b + at) len
+  one_put = put_in old one (b + at) len first (omega arith) len_small
+
+  two_put : WordPut one.bytes two.bytes (b + at + 4) word
+  two_put = put_in one two (b + at + 4) word second (omega (arith, one_put.changes.size)) word_small
+
+  pub live_written : (owner : Option ℕ) (size : ℕ) (link : Option ℕ) → owner_in word ≡ owner → size_in word ≡ size → is_a_name owner ≡ true → link ≡ None → chunk_at two.bytes b at ≡ chunk_of at len owner size link
+  live_written owner size link e f named none =
+      let len_told : word_at two.bytes (b + at) ≡ len = two_put.apart (b + at) (inl (omega arith)) ∙ one_put.here in
+      sym (chunk_is two.bytes b at len owner size link (sym len_told) (sym e ∙ ap owner_in (sym two_put.here)) (sym f ∙ ap size_in (sym two_put.here)) (none ∙ sym (link_named owner (word_at two.bytes (b + at + 8)) named)))
+
+  pub live_changes : ChangesOnly (b + at) 8 old.bytes two.bytes
+  live_changes =
+      changes_then (b + at) 8 old.bytes one.bytes two.bytes (changes_more (b + at) 4 (b + at) 8 old.bytes one.bytes one_put.changes (omega arith) (omega arith))
+      (changes_more (b + at + 4) 4 (b + at) 8 one.bytes two.bytes two_put.changes (omega arith) (omega arith))
+
+  -- and the link of a free one behind them
+  module _ (new : Contents) (next : ℕ) (third : new ≡ contents (written two.bytes (b + at + 8) (to_le_bytes w32 next)) two.carved) (next_small : next < 2 ^ 32) where
+    three_put : WordPut two.bytes new.bytes (b + at + 8) next
+    three_put = put_in two new (b + at + 8) next third (omega (arith, one_put.changes.size, two_put.changes.size)) next_small
+
+    pub free_written : (owner : Option ℕ) (size : ℕ) (link : Option ℕ) → owner_in word ≡ owner → size_in word ≡ size → is_a_name owner ≡ false → number_in next ≡ link → chunk_at new.bytes b at ≡ chunk_of at len owner size link
+    free_written owner size link e f free g =
+        let len_told : word_at new.bytes (b + at) ≡ len = three_put.apart (b + at) (inl (omega arith)) ∙ two_put.apart (b + at) (inl (omega arith)) ∙ one_put.here in
+        let word_told : word_at new.bytes (b + at + 4) ≡ word = three_put.apart (b + at + 4) (inl (omega arith)) ∙ two_put.here in
+        sym (chunk_is new.bytes b at len owner size link (sym len_told) (sym e ∙ ap owner_in (sym word_told)) (sym f ∙ ap size_in (sym word_told))
+        (sym g ∙ ap number_in (sym three_put.here) ∙ sym (link_free owner (word_at new.bytes (b + at + 8)) free)))
+
+    pub free_changes : ChangesOnly (b + at) 12 old.bytes new.bytes
+    free_changes =
+        changes_then (b + at) 12 old.bytes two.bytes new.bytes (changes_more (b + at) 8 (b + at) 12 old.bytes two.bytes live_changes (omega arith) (omega arith))
+        (changes_more (b + at + 8) 4 (b + at) 12 two.bytes new.bytes three_put.changes (omega arith) (omega arith))

@@ -11,7 +11,7 @@ use Rattle.heap_core.specs.Code.Places.{ArePlaced}
 
 -- The live blocks and where they lie; a chunk that was freed is none of them. Of the arena's bytes it reads the span's alone.
 abbrev pub heap_of : Heap → List ℕ → HeapStore
-heap_of heap bytes = record { size = heap.span.len; blocks = filter is_named (store_of heap bytes).blocks }
+heap_of heap bytes = record { size = heap.span.len; header = heap.header; blocks = filter is_named (store_of heap bytes).blocks }
 
 -- the heap's span lies in these bytes
 abbrev pub IsWithin : Heap → List ℕ → Type 0
@@ -30,8 +30,9 @@ pub record IsLaidOut (heap : Heap) (bytes : List ℕ) : Type 0 where
 abbrev pub linked_of : Heap → ℕ
 linked_of heap = heap.freed + heap.gaps
 
--- the heap keeps its span, and of the arena only bytes of that span changed
+-- the heap keeps its span and its header's length, and of the arena only bytes of that span changed
 pub record KeepsToSpan (old new : Heap) (old_arena new_arena : Contents) : Type 0 where
   pub span : new.span ≡ old.span
+  pub header : new.header ≡ old.header
   pub carved : new_arena.carved ≡ old_arena.carved
   pub bytes : ChangesOnly old.span.at old.span.len old_arena.bytes new_arena.bytes

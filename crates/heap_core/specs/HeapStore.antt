@@ -1,5 +1,5 @@
 -- Heap memory as its users see it: blocks that have a place in the region, and the gaps between them.
-use Rattle.std.specs.Prelude.{◌≡◌, ℕ, ◌+◌, ◌-◌, ◌*◌, ◌%◌, ◌≤◌, Bool, not, List, [], ◌∷◌, length, map, filter, find, fold, sum_by, Option, Some, None, if◌then◌else◌, ◌==◌, nat_lt, nat_le}
+use Rattle.std.specs.Prelude.{◌≡◌, ℕ, ◌+◌, ◌-◌, ◌*◌, ◌%◌, ◌≤◌, ◌⊎◌, max, Bool, not, List, [], ◌∷◌, length, map, filter, find, fold, sum_by, Option, Some, None, if◌then◌else◌, ◌==◌, nat_lt, nat_le}
 use Rattle.std.specs.Option.{option_map, option_map_or, option_or}
 use Rattle.mote_types.specs.declared.reply.HeapStats.{HeapStats}
 use Rattle.mote_types.specs.Rounding.{up4}
@@ -19,15 +19,13 @@ pub record Block : Type 0 where
 pub record HeapStore : Type 0 where
   -- the length of the region
   pub size : ℕ
+  -- the length of a header, 16 or 8
+  pub header : ℕ
   -- the lowest first
   pub blocks : List Block
 
--- the length of a header
-abbrev pub header_len : ℕ
-header_len = 16
-
-abbrev pub empty_heap : ℕ → HeapStore
-empty_heap size = record { size = size; blocks = [] }
+abbrev pub empty_heap : ℕ → ℕ → HeapStore
+empty_heap size header = record { size = size; header = header; blocks = [] }
 
 abbrev pub has_name : ℕ → Block → Bool
 has_name name block = block.name == name
@@ -44,12 +42,12 @@ abbrev pub length_of : ℕ → ℕ → HeapStore → Option ℕ
 length_of p h heap = option_map length (block_of p h heap)
 
 -- where the block's extent ends
-abbrev pub end_of : Block → ℕ
-end_of block = block.at + (header_len + block.room)
+abbrev pub end_of : ℕ → Block → ℕ
+end_of header block = block.at + (header + block.room)
 
 -- the end of the highest extent
 abbrev pub footprint : HeapStore → ℕ
-footprint heap = fold (λ _ block. end_of block) 0 heap.blocks
+footprint heap = fold (λ _ block. end_of heap.header block) 0 heap.blocks
 
 -- the length of the top gap, which lies above it
 abbrev pub top_gap : HeapStore → ℕ
@@ -60,13 +58,18 @@ abbrev pub gap_between : ℕ → ℕ → List Gap → List Gap
 gap_between from to gaps = if nat_lt from to then record { at = from; len = to - from } ∷ gaps else gaps
 
 -- the gaps below these blocks, from that place on
-abbrev pub gaps_from : ℕ → List Block → List Gap
-gaps_from from [] = []
-gaps_from from (block ∷ blocks) = gap_between from block.at (gaps_from (end_of block) blocks)
+abbrev pub gaps_from : ℕ → ℕ → List Block → List Gap
+gaps_from header from [] = []
+gaps_from header from (block ∷ blocks) = gap_between from block.at (gaps_from header (end_of header block) blocks)
 
 -- the gaps below the top gap: the maximal runs of the region that no extent covers
 abbrev pub gaps : HeapStore → List Gap
-gaps heap = gaps_from 0 heap.blocks
+gaps heap = gaps_from heap.header 0 heap.blocks
+
+-- the room that a block of n bytes needs: n rounded up to a multiple of 4, and behind a header of 8 no less than 8, since the link
+-- of a free chunk lies there
+abbrev pub least_room : ℕ → ℕ → ℕ
+least_room header n = max (up4 n) (if header == 16 then 4 else 8)
 
 -- the room that a block takes of that much: what is left over stays a gap only where it exceeds 16
 abbrev pub room_taken : ℕ → ℕ → ℕ
@@ -85,18 +88,19 @@ abbrev pub best_gap : ℕ → List Gap → Option Gap
 best_gap need gaps = fold (better need) None gaps
 
 -- a block of so much room at the front of a gap
-abbrev pub place_in : ℕ → Gap → Place
-place_in room gap = record { at = gap.at; room = room_taken room (gap.len - header_len) }
+abbrev pub place_in : ℕ → ℕ → Gap → Place
+place_in header room gap = record { at = gap.at; room = room_taken room (gap.len - header) }
 
 -- the place at the front of the top gap, if it is long enough
 abbrev pub top_place : ℕ → HeapStore → Option Place
 top_place room heap =
-    if nat_le (header_len + room) (top_gap heap) then Some (record { at = footprint heap; room = room }) else None
+    if nat_le (heap.header + room) (top_gap heap) then Some (record { at = footprint heap; room = room }) else None
 
 -- where a block of n bytes is placed
 abbrev pub place : ℕ → HeapStore → Option Place
 place n heap =
-    option_or (option_map (place_in (up4 n)) (best_gap (header_len + up4 n) (gaps heap))) (top_place (up4 n) heap)
+    let room = least_room heap.header n in
+    option_or (option_map (place_in heap.header room) (best_gap (heap.header + room) (gaps heap))) (top_place room heap)
 
 -- the blocks with one more, in the order of their places
 abbrev pub placed : Block → List Block → List Block
@@ -132,12 +136,13 @@ place_of block = record { at = block.at; room = block.room }
 -- that begins where it ends
 abbrev pub room_in_place : Place → ℕ → HeapStore → Option ℕ
 room_in_place place n heap =
-    let end = place.at + (header_len + place.room) in
+    let least = least_room heap.header n in
+    let end = place.at + (heap.header + place.room) in
     let on_top = place.room + top_gap heap in
     let with_gap = place.room + gap_at end heap in
-    if nat_le (up4 n) place.room then Some (room_taken (up4 n) place.room)
-    else if end == footprint heap then (if nat_le (up4 n) on_top then Some (up4 n) else None)
-    else if nat_le (up4 n) with_gap then Some (room_taken (up4 n) with_gap)
+    if nat_le least place.room then Some (room_taken least place.room)
+    else if end == footprint heap then (if nat_le least on_top then Some least else None)
+    else if nat_le least with_gap then Some (room_taken least with_gap)
     else None
 
 -- where a live block is after it was resized to n bytes, if there is a place for it
@@ -169,20 +174,25 @@ abbrev pub stats_of : HeapStore → HeapStats
 stats_of heap =
     record {
       allocated = sum_by (λ (block : Block). block.room) heap.blocks;
-      overhead = header_len * length heap.blocks;
+      overhead = heap.header * length heap.blocks;
       available = sum_by (λ (gap : Gap). gap.len) (gaps heap) + top_gap heap;
       footprint = footprint heap;
       chunks = length heap.blocks;
     }
 
 -- each of these blocks begins where the one before ends, or behind that, and its bytes fit its room; the last ends within size
-abbrev pub LieInOrder : ℕ → List Block → ℕ → Type 0
-LieInOrder from [] size = from ≤ size
-LieInOrder from (block ∷ blocks) size = (from ≤ block.at) × (length block.bytes ≤ block.room) × LieInOrder (end_of block) blocks size
+abbrev pub LieInOrder : ℕ → ℕ → List Block → ℕ → Type 0
+LieInOrder header from [] size = from ≤ size
+LieInOrder header from (block ∷ blocks) size =
+    (from ≤ block.at) × (length block.bytes ≤ block.room) × LieInOrder header (end_of header block) blocks size
 
 -- the blocks lie in the region, and no two of them share a byte
 abbrev pub LieApart : HeapStore → Type 0
-LieApart heap = LieInOrder 0 heap.blocks heap.size
+LieApart heap = LieInOrder heap.header 0 heap.blocks heap.size
+
+-- the lengths that a header may have
+abbrev pub IsHeaderLength : ℕ → Type 0
+IsHeaderLength header = (header ≡ 16) ⊎ (header ≡ 8)
 
 -- the sizes that a heap region may have
 abbrev pub IsHeapSize : ℕ → Type 0

@@ -5,7 +5,7 @@ use Rattle.mote_types.specs.BlockNames.{IsName, number_of}
 use Rattle.mote_types.specs.Bytes.{range_of}
 use Rattle.arena_core.specs.Extents.{Extent, LiesIn, AreApart}
 use Rattle.heap_core.specs.declared.heap.Heap.{Heap}
-use Rattle.heap_core.specs.HeapStore.{Block, HeapStore, header_len, find_block, block_of}
+use Rattle.heap_core.specs.HeapStore.{Block, HeapStore, find_block, block_of}
 use Rattle.heap_core.specs.HeapBytes.{heap_of}
 
 -- p's block, if it is live
@@ -14,11 +14,11 @@ live_block p h heap = find_block (number_of p h) heap
 
 -- the part of the arena that a block takes, with its header
 abbrev pub extent_of : Heap → Block → Extent
-extent_of heap block = record { at = heap.span.at + block.at; len = header_len + block.room }
+extent_of heap block = record { at = heap.span.at + block.at; len = heap.header + block.room }
 
 -- the bytes that stand behind a block's header in the arena, as many as the block has
 abbrev pub bytes_behind_header : Heap → List ℕ → Block → List ℕ
-bytes_behind_header heap bytes block = range_of (heap.span.at + block.at + header_len) (length block.bytes) bytes
+bytes_behind_header heap bytes block = range_of (heap.span.at + block.at + heap.header) (length block.bytes) bytes
 
 -- Each live block takes a part of the heap's span, and its bytes are those behind its header there; the parts of two blocks of
 -- different names share no byte.

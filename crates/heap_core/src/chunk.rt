@@ -3,18 +3,18 @@
 ghost use Rattle.std.specs.Prelude.{◌≡◌, ◌≤◌, ◌<◌, IfSome, is_none};
 ghost use Rattle.std.specs.Option.{option_map_or};
 ghost use Rattle.mote_types.specs.Rounding.{up4};
-ghost use Rattle.heap_core.specs.HeapStore.{room_taken, shorter};
-ghost use Rattle.heap_core.specs.Code.Chunks.{number_in};
-ghost use Rattle.heap_core.specs.Code.Links.{gap_count, is_a_name};
-
-/// The length of a header. It precedes each chunk's bytes.
-pub(crate) const HEADER: u32 = 16;
+ghost use Rattle.heap_core.specs.HeapStore.{least_room, room_taken, shorter};
+ghost use Rattle.heap_core.specs.Code.Chunks.{number_in, owner_in, size_in, is_a_name};
+ghost use Rattle.heap_core.specs.Code.Links.{gap_count};
 
 /// The owner of a chunk that was freed and is not joined yet. No name has that number.
 pub(crate) const FREED: u32 = 272;
 
 /// The longest rest of a gap that a block takes along.
 const LONGEST_REST: u32 = 16;
+
+/// One more than half a word can tell.
+const HALF: u32 = 65536;
 
 /// What a header tells: a live block or a gap, from `at` on, as places in the region.
 #[derive(Clone, Copy, Drop)]
@@ -26,7 +26,8 @@ pub struct Chunk {
     pub owner: Option<u32>,
     /// How many bytes the block was asked for, 0 for a gap.
     pub size: u32,
-    /// The place of the next chunk in the list that a free chunk is in. A live block has none.
+    /// The place of the next chunk in the list that a free chunk is in. A live block has none: its bytes may stand where a free
+    /// chunk's link does.
     pub link: Option<u32>,
 }
 
@@ -57,6 +58,13 @@ pub(crate) fn rounded(n: u32) -> u64
     ensures { result ≡ up4 n }
 {
     (n as u64 + 3) / 4 * 4
+}
+
+/// The room that a block of `n` bytes needs behind a header of that length.
+pub(crate) fn least_room(header: u32, n: u32) -> u64
+    ensures { result ≡ least_room header n }
+{
+    rounded(n).max(if header == 16 { 4 } else { 8 })
 }
 
 /// The room that a block takes of that much: what is left over stays a gap only where it exceeds 16.
@@ -95,20 +103,28 @@ pub(crate) fn is_gap(chunk: Chunk) -> bool
     chunk.owner.is_none()
 }
 
-/// Whether a chunk is a live block.
-pub(crate) fn is_live(chunk: Chunk) -> bool
-    ensures { result ≡ is_a_name chunk.owner }
+/// Whether an owner is a name.
+pub(crate) fn is_a_name(owner: Option<u32>) -> bool
+    ensures { result ≡ is_a_name owner }
 {
-    match chunk.owner {
+    match owner {
         Some(name) => name < FREED,
         None => false,
     }
 }
 
+/// Whether a chunk is a live block.
+pub(crate) fn is_live(chunk: Chunk) -> bool
+    ensures { result ≡ is_a_name chunk.owner }
+{
+    is_a_name(chunk.owner)
+}
+
 /// The word for an owner or a link.
 pub(crate) fn word_of(number: Option<u32>) -> u32
     requires { IfSome number (λ n. n < 65536) }
-    ensures { number_in result ≡ number }
+    ensures number { number_in result ≡ number }
+    ensures half { IfSome number (λ n. n < 65535) → result < 65536 }
 {
     match number {
         Some(n) => n + 1,
@@ -121,4 +137,28 @@ pub(crate) fn number_in(word: u32) -> Option<u32>
     ensures { result ≡ number_in word }
 {
     if word == 0 { None } else { Some(word - 1) }
+}
+
+/// The word for an owner and a size: the owner in its low half, and the size in the high one.
+pub(crate) fn owned_word(owner: Option<u32>, size: u32) -> u32
+    requires owner { IfSome owner (λ n. n < 65535) }
+    requires size { size < 65536 }
+    ensures owner { owner_in result ≡ owner }
+    ensures size { size_in result ≡ size }
+{
+    size * HALF + word_of(owner)
+}
+
+/// The owner that such a word tells.
+pub(crate) fn owner_in(word: u32) -> Option<u32>
+    ensures { result ≡ owner_in word }
+{
+    number_in(word % HALF)
+}
+
+/// The size that such a word tells.
+pub(crate) fn size_in(word: u32) -> u32
+    ensures { result ≡ size_in word }
+{
+    word / HALF
 }

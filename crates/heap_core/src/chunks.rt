@@ -28,7 +28,7 @@ impl<'a> Model for Chunks<'a> {
 
     ghost view = { λ w. chunks_between w.region.now w.arena.now.bytes w.at w.end };
 
-    ghost invariant = { λ w. (w.end ≤ w.region.now.footprint) × (w.region.now.span.at + w.region.now.span.len ≤ length w.arena.now.bytes) × Tell w.arena.now.bytes w.region.now.span.at w.at w.end (chunks_between w.region.now w.arena.now.bytes w.at w.end) };
+    ghost invariant = { λ w. (w.end ≤ w.region.now.footprint) × (w.region.now.span.at + w.region.now.span.len ≤ length w.arena.now.bytes) × Tell w.region.now.header w.arena.now.bytes w.region.now.span.at w.at w.end (chunks_between w.region.now w.arena.now.bytes w.at w.end) };
 }
 
 impl<'a> Iterator for Chunks<'a> {

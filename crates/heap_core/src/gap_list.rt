@@ -71,7 +71,7 @@ impl Region {
                 return (below, next);
             }
             below = next;
-            next = self.chunk_at(arena, place).link;
+            next = self.link_at(arena, place);
         }
         (below, next)
     }

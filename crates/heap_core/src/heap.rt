@@ -2,7 +2,7 @@
 
 ghost use Rattle.std.specs.Prelude.{◌≡◌, ℕ, List, ◌+◌, ◌≤◌, ◌<◌, ◌↔◌, length, All, IsNone, IfNone, OnSome, IsSome, IsSomeAnd, Some, None};
 ghost use Rattle.mote_types.specs.BlockNames.{IsName};
-ghost use Rattle.heap_core.specs.HeapStore.{IsHeapSize, empty_heap, block_of, length_of, place, allocated, freed, reallocated, with_bytes, stats_of, gaps, LieApart};
+ghost use Rattle.heap_core.specs.HeapStore.{IsHeapSize, IsHeaderLength, empty_heap, least_room, block_of, length_of, place, allocated, freed, reallocated, with_bytes, stats_of, gaps, LieApart};
 
 use crate::region::Region;
 use arena_core::{Arena, Span};
@@ -30,16 +30,20 @@ impl Heap {
     ghost use Rattle.heap_core.specs.HeapBytes.{heap_of, IsWithin, IsLaidOut, linked_of, KeepsToSpan};
     ghost use Rattle.heap_core.specs.Separation.{BlocksLieApart};
 
-    /// A heap without a block, over a span of 20 to 65,536 bytes, a multiple of 4. These bytes may be anything.
-    pub fn new(span: Span) -> Heap
-        requires { IsHeapSize span.len }
+    /// A heap without a block, over a span of 20 to 65,536 bytes, a multiple of 4, with headers of 16 or of 8 bytes. The span's
+    /// bytes may be anything.
+    pub fn new(span: Span, header: u32) -> Heap
+        requires span { IsHeapSize span.len }
+        requires header { IsHeaderLength header }
         ensures span { result.span ≡ span }
+        ensures header { result.header ≡ header }
         ensures laid_out { (bytes : List ℕ) → IsWithin result bytes → IsLaidOut result bytes }
-        ensures empty { (bytes : List ℕ) → heap_of result bytes ≡ empty_heap span.len }
+        ensures empty { (bytes : List ℕ) → heap_of result bytes ≡ empty_heap span.len header }
     {
         Heap {
             region: Region {
                 span,
+                header,
                 footprint: 0,
                 places: [None; NAMES],
                 newest: None,
@@ -170,11 +174,11 @@ impl Heap {
     }
 
     /// The blocks lie in the span with their headers, one behind the other, and no two of them share a byte. Each block's bytes
-    /// are those behind its header. Each gap below the top gap has 20 bytes at least, so a header fits into it.
+    /// are those behind its header. Each gap below the top gap takes the shortest block there is, with its header.
     pub fn blocks_lie_apart(&self, arena: &Arena)
         requires { IsLaidOut self.now arena.now.bytes }
         ensures order { LieApart (heap_of self.now arena.now.bytes) }
-        ensures gaps { All (λ gap. 20 ≤ gap.len) (gaps (heap_of self.now arena.now.bytes)) }
+        ensures gaps { All (λ gap. self.now.header + least_room self.now.header 1 ≤ gap.len) (gaps (heap_of self.now arena.now.bytes)) }
         ensures apart { BlocksLieApart self.now arena.now.bytes }
     {
         // Nothing is done: the clauses tell what holds of the heap whatever was called before.

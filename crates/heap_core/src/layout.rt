@@ -4,16 +4,17 @@ ghost use Rattle.std.specs.Prelude.{◌≡◌, ◌≢◌, ℕ, ◌+◌, ◌-◌,
 ghost use Rattle.std.specs.Option.{option_map};
 ghost use Rattle.mote_types.specs.Bytes.{resized};
 ghost use Rattle.heap_core.specs.HeapStore.{place, with_block, block_at, room_in_place};
+ghost use Rattle.heap_core.specs.Code.Chunks.{is_a_name};
 ghost use Rattle.heap_core.specs.Code.Walks.{Stands, LiveIn, Owned, free_from, front_gap, chunks_before, chunks_behind, bytes_given, without_place, place_in_chunk, at_place, bytes_in_chunk};
 
-use crate::chunk::{Chunk, FREED, FreeEnd, HEADER, Place, gap_count};
+use crate::chunk::{Chunk, FREED, FreeEnd, Place, gap_count};
 use crate::region::Region;
 use arena_core::Arena;
 
 impl Region {
     ghost use Rattle.heap_core.specs.declared.chunk.Chunk.{Chunk as OfChunks};
     ghost use Rattle.heap_core.specs.Code.Layout.{chunks_of, store_of, HasChunks};
-    ghost use Rattle.heap_core.specs.Code.Links.{LinkedTo, is_a_name, gaps_among, gap_count, gap_below, gap_from, GapsLinked, FreedLinked, Relinked, Exchanged, KeepsFreed};
+    ghost use Rattle.heap_core.specs.Code.Links.{LinkedTo, gaps_among, gap_count, gap_below, gap_from, GapsLinked, FreedLinked, Relinked, Exchanged, KeepsFreed};
     ghost use Rattle.heap_core.specs.Code.Holes.{Hole, Fits, Laid, Free};
     ghost use Rattle.heap_core.specs.HeapBytes.{heap_of, KeepsToSpan};
     ghost use Rattle.heap_core.specs.Code.Joins.{Joins};
@@ -123,7 +124,7 @@ impl Region {
         requires gaps { GapsLinked self.old arena.old.bytes }
         ensures gaps { GapsLinked self.new arena.new.bytes }
         ensures chunks { HasChunks self.new arena.new.bytes }
-        ensures block { store_of self.new arena.new.bytes ≡ with_block (block_at target name (resized n (bytes_given arena.old.bytes self.old.span.at source))) (store_of self.old arena.old.bytes) }
+        ensures block { store_of self.new arena.new.bytes ≡ with_block (block_at target name (resized n (bytes_given self.old.header arena.old.bytes self.old.span.at source))) (store_of self.old arena.old.bytes) }
         ensures stands { (other : OfChunks) → LiveIn other (chunks_of self.old arena.old.bytes) → LiveIn other (chunks_of self.new arena.new.bytes) }
         ensures kept { KeepsFreed self.old self.new }
         ensures rest { KeepsToSpan self.old self.new arena.old arena.new }
@@ -132,7 +133,7 @@ impl Region {
         let beside = self.gaps_beside(arena, target.at);
         let live = Chunk {
             at: target.at,
-            len: HEADER + target.room,
+            len: self.header + target.room,
             owner: Some(name),
             size: n,
             link: None,
@@ -301,12 +302,12 @@ impl Region {
         requires owned { Owned name chunk (chunks_of self.old arena.old.bytes) }
         requires name { name < 272 }
         requires some { 1 ≤ n }
-        requires room { room_in_place (place_in_chunk chunk) n (store_of self.old arena.old.bytes) ≡ Some room }
+        requires room { room_in_place (place_in_chunk self.old.header chunk) n (store_of self.old arena.old.bytes) ≡ Some room }
         requires gaps { GapsLinked self.old arena.old.bytes }
         ensures gaps { GapsLinked self.new arena.new.bytes }
         ensures others { (other : OfChunks) → LiveIn other (chunks_of self.old arena.old.bytes) → other.at ≢ chunk.at → LiveIn other (chunks_of self.new arena.new.bytes) }
         ensures chunks { HasChunks self.new arena.new.bytes }
-        ensures block { store_of self.new arena.new.bytes ≡ with_block (block_at (at_place chunk.at room) name (resized n (bytes_in_chunk arena.old.bytes self.old.span.at chunk))) (without_place chunk.at (store_of self.old arena.old.bytes)) }
+        ensures block { store_of self.new arena.new.bytes ≡ with_block (block_at (at_place chunk.at room) name (resized n (bytes_in_chunk self.old.header arena.old.bytes self.old.span.at chunk))) (without_place chunk.at (store_of self.old arena.old.bytes)) }
         ensures kept { KeepsFreed self.old self.new }
         ensures rest { KeepsToSpan self.old self.new arena.old arena.new }
     {
@@ -316,7 +317,7 @@ impl Region {
         let link = self.link_behind(arena, chunk, end, beside.next);
         let live = Chunk {
             at: chunk.at,
-            len: HEADER + room,
+            len: self.header + room,
             owner: Some(name),
             size: n,
             link: None,
@@ -346,7 +347,7 @@ impl Region {
         ensures at { result ≡ option_map (λ target. target.at) (place n (store_of self.old arena.old.bytes)) }
         ensures refused { IfNone result (place n (store_of self.old arena.old.bytes) ≡ None) }
         ensures unchanged { IfNone result ((self.new ≡ self.old) × (arena.new ≡ arena.old)) }
-        ensures block { OnSome result (option_map (λ target. with_block (block_at target name (resized n (bytes_in_chunk arena.old.bytes self.old.span.at chunk))) (without_place chunk.at (store_of self.old arena.old.bytes))) (place n (store_of self.old arena.old.bytes)) ≡ Some (heap_of self.new arena.new.bytes)) }
+        ensures block { OnSome result (option_map (λ target. with_block (block_at target name (resized n (bytes_in_chunk self.old.header arena.old.bytes self.old.span.at chunk))) (without_place chunk.at (store_of self.old arena.old.bytes))) (place n (store_of self.old arena.old.bytes)) ≡ Some (heap_of self.new arena.new.bytes)) }
         ensures chunks { OnSome result (HasChunks self.new arena.new.bytes) }
         ensures gaps { OnSome result (GapsLinked self.new arena.new.bytes) }
         ensures freed { OnSome result (FreedLinked self.new arena.new.bytes) }

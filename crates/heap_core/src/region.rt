@@ -1,15 +1,17 @@
 //! Where a heap's chunks lie.
 
-ghost use Rattle.std.specs.Prelude.{◌≤◌};
+ghost use Rattle.std.specs.Prelude.{◌≡◌, ◌≤◌, ◌%◌};
 
 use arena_core::Span;
 use mote_types::block_name::NAMES;
 
-/// The span of a heap, how much of it is divided into chunks, and where the chunk of each name's block begins. All else stands in
-/// the headers.
+/// The span of a heap, how long its headers are, how much of it is divided into chunks, and where the chunk of each name's block
+/// begins. All else stands in the headers.
 #[derive(Drop)]
 pub struct Region {
     pub span: Span,
+    /// The length of a header, 16 or 8. It precedes each chunk's bytes.
+    pub header: u32,
     /// The end of the highest chunk. What lies above it is the top gap.
     pub footprint: u32,
     /// For each name that is live the place of its chunk, by the name's number.
@@ -22,6 +24,9 @@ pub struct Region {
     pub lowest: Option<u32>,
     /// How many gaps there are.
     pub gaps: u16,
+    pub ghost header_least: { 8 ≤ header },
+    pub ghost header_most: { header ≤ 16 },
+    pub ghost header_whole: { header % 8 ≡ 0 },
     pub ghost small: { span.len ≤ 65536 },
     pub ghost inside: { footprint ≤ span.len },
 }

@@ -4,7 +4,7 @@ ghost use Rattle.std.specs.Prelude.{◌≡◌, ◌≢◌, ◌≤◌, ◌<◌, �
 ghost use Rattle.heap_core.specs.HeapStore.{stats_of, find_block, best_gap, gaps, place, room_in_place};
 ghost use Rattle.heap_core.specs.Code.Walks.{owned_by, Owned, block_in_chunk, chunks_before, chunks_behind, free_from, Stands, front_gap, place_in_chunk};
 
-use crate::chunk::{Chunk, Gap, HEADER, Place, is_gap, is_live, room_taken, rounded, shorter};
+use crate::chunk::{Chunk, Gap, Place, is_gap, is_live, least_room, room_taken, shorter};
 use crate::region::Region;
 use arena_core::Arena;
 use mote_types::reply::HeapStats;
@@ -30,8 +30,8 @@ impl Region {
         requires name { name < 272 }
         requires live { IsSome (find_block name (heap_of self.now arena.now.bytes)) }
         ensures owned { Owned name result (chunks_of self.now arena.now.bytes) }
-        ensures inside { result.at + 16 + result.size ≤ self.now.span.len }
-        ensures block { find_block name (heap_of self.now arena.now.bytes) ≡ Some (block_in_chunk arena.now.bytes self.now.span.at name result) }
+        ensures inside { result.at + self.now.header + result.size ≤ self.now.span.len }
+        ensures block { find_block name (heap_of self.now arena.now.bytes) ≡ Some (block_in_chunk self.now.header arena.now.bytes self.now.span.at name result) }
     {
         self.find(arena, name).unwrap()
     }
@@ -46,18 +46,14 @@ impl Region {
         let mut best = None;
         let mut next = self.lowest;
         while let Some(at) = next {
-            let gap = self.chunk_at(arena, at);
-            if gap.len as u64 >= need {
-                let found = Gap {
-                    at: gap.at,
-                    len: gap.len,
-                };
-                best = Some(shorter(best, found));
-                if gap.len as u64 == need {
+            let len = self.len_at(arena, at);
+            if len as u64 >= need {
+                best = Some(shorter(best, Gap { at, len }));
+                if len as u64 == need {
                     return best;
                 }
             }
-            next = gap.link;
+            next = self.link_at(arena, at);
         }
         best
     }
@@ -72,12 +68,12 @@ impl Region {
         let mut footprint = 0;
         for chunk in self.chunks(arena) {
             if is_live(chunk) {
-                allocated += chunk.len - HEADER;
+                allocated += chunk.len - self.header;
                 chunks += 1;
                 footprint = chunk.at + chunk.len;
             }
         }
-        let overhead = HEADER * chunks;
+        let overhead = self.header * chunks;
         HeapStats {
             allocated,
             overhead,
@@ -93,12 +89,12 @@ impl Region {
         requires linked { LinkedTo self.now.lowest (chunks_of self.now arena.now.bytes) None }
         ensures { result ≡ place n (store_of self.now arena.now.bytes) }
     {
-        let room = rounded(n);
-        let need = HEADER as u64 + room;
+        let room = least_room(self.header, n);
+        let need = self.header as u64 + room;
         match self.best_gap(arena, need) {
             Some(gap) => Some(Place {
                 at: gap.at,
-                room: room_taken(room as u32, gap.len - HEADER),
+                room: room_taken(room as u32, gap.len - self.header),
             }),
             None if need <= (self.span.len - self.footprint) as u64 => Some(Place {
                 at: self.footprint,
@@ -165,10 +161,10 @@ impl Region {
         requires chunks { HasChunks self.now arena.now.bytes }
         requires stands { Stands chunk (chunks_of self.now arena.now.bytes) }
         requires live { chunk.owner ≢ None }
-        ensures { result ≡ room_in_place (place_in_chunk chunk) n (store_of self.now arena.now.bytes) }
+        ensures { result ≡ room_in_place (place_in_chunk self.now.header chunk) n (store_of self.now arena.now.bytes) }
     {
-        let least = rounded(n);
-        let room = chunk.len - HEADER;
+        let least = least_room(self.header, n);
+        let room = chunk.len - self.header;
         if least <= room as u64 {
             return Some(room_taken(least as u32, room));
         }

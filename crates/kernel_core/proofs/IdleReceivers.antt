@@ -111,5 +111,6 @@ order_passed k order = split (is_any_marked k.scheduler.state.processes) refl
           inputs = order.inputs;
           events = order.events;
           frames = order.frames;
+          owners = order.owners;
           draws = omega (arith, draws_behind kernel_events k.scheduler.state.agenda, order.draws);
         }

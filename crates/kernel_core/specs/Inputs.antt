@@ -6,7 +6,7 @@ use Rattle.mote_types.specs.declared.entry.Note.{Note}
 use Rattle.mote_types.specs.declared.refusal.Refusal.{Refusal}
 use Rattle.device_core.specs.PacketQueue.{is_full, free_slot, with_frame}
 use Rattle.device_core.specs.SerialLine.{after_bytes}
-use Rattle.mmem_core.specs.ManagedStore.{fits}
+use Rattle.mmem_core.specs.ManagedStore.{fits, shortage}
 use Rattle.node_memory.specs.Frames.{frame_taken}
 use Rattle.kernel_core.specs.Machine.{Machine, with_memory, with_packets, with_serial, mark, shown_first}
 
@@ -18,11 +18,11 @@ ticked n m = mark 0 (record m { clock = m.clock + n })
 abbrev pub serial_arrived : List ℕ → Machine → Machine
 serial_arrived bytes m = mark 2 (with_serial (after_bytes m.serial bytes) m)
 
--- a frame of so many bytes is lost where 8 are held, or else where managed memory has no room for it
+-- a frame of so many bytes is lost where 8 are held, or else where managed memory has no room for it, or process 3's quota
 abbrev pub frame_refusal : ℕ → Machine → Option Refusal
 frame_refusal len m =
     if is_full m.packets then Some Refusal.Full
-    else if not (fits len m.memory.managed) then Some Refusal.NoRoom
+    else if not (fits 3 len m.memory.managed) then Some (shortage m.memory.managed)
     else None
 
 -- the frame is held under this slot, its bytes lie in a block of process 3, and process 3 will tell the receiver

@@ -31,11 +31,11 @@ pub record Machine : Type 0 where
   pub packets : PacketQueue
 
 abbrev pub sizes_of : Config → Sizes
-sizes_of c = record { mmem = c.mmem; heap = c.heap }
+sizes_of c = record { mmem = c.mmem; heap = c.heap; header = c.header; quota = c.quota }
 
 -- the configurations that a mote boots with
 abbrev pub is_bootable : Config → Bool
-is_bootable c = are_sizes (sizes_of c) && nat_le c.apps 16
+is_bootable c = are_sizes (sizes_of c) c.apps && nat_le c.apps 16
 
 abbrev pub booted : Config → Machine
 booted c =

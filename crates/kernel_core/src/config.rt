@@ -14,6 +14,11 @@ pub struct Config {
     pub heap: u32,
     /// How many applications there are: 0 to 16.
     pub apps: u8,
+    /// The bytes of managed memory that process 3 and each application may hold, where that is limited: 4 to 65,536, a
+    /// multiple of 4. Managed memory has room for all of these together.
+    pub quota: Option<u32>,
+    /// The bytes of a header in the heap: 16 or 8.
+    pub header: u32,
 }
 
 impl Config {
@@ -24,6 +29,8 @@ impl Config {
         Sizes {
             mmem: self.mmem,
             heap: self.heap,
+            header: self.header,
+            quota: self.quota,
         }
     }
 }

@@ -7,6 +7,7 @@ ghost use Rattle.mote_types.specs.Entries.{is_halt};
 ghost use Rattle.mote_types.specs.declared.event.Pid.{Pid as Process};
 ghost use Rattle.mote_types.specs.declared.event.Stimulus.{Stimulus as Told};
 ghost use Rattle.kernel_core.specs.Mote.{TakesEntry};
+ghost use Rattle.node_memory.specs.Placed.{last_owner};
 ghost use Rattle.kernel_core.specs.Code.View.{HoldsFrames, machine_of, mote_of, none_unshown, entries_left_in, IsInOrder};
 ghost use Rattle.process_core.specs.Told.{job_told};
 ghost use Rattle.process_core.specs.declared.ready.Ready as ready;
@@ -84,6 +85,7 @@ impl KernelFields {
         requires draws { debt self.old ≤ 1 + 8 * (10000 * self.old.inputs + self.old.work) }
         requires distinct { IsDistinct eqb (numbers self.old.scheduler.state.processes) }
         requires frames { HoldsFrames self.old.memory.contents self.old.packets.frames }
+        requires owners { 3 + self.old.applications ≤ last_owner self.old.memory }
         ensures taken { result ≡ true → within_limit (machine_of self.old) (turn_taken pid.0 origin turn.old.stimulus (says_of says apps.old pid.0 (turn.old.stimulus ∷ [])) (machine_of self.old)) ≡ (machine_of self.new, Some (entry_of turn.new)) }
         ensures halts { result ≡ false → within_limit (machine_of self.old) (turn_taken pid.0 origin turn.old.stimulus (says_of says apps.old pid.0 (turn.old.stimulus ∷ [])) (machine_of self.old)) ≡ (machine_of self.new, Some other.new) }
         ensures left { entries_left_in self.new < entries_left_in self.old }

@@ -5,6 +5,7 @@ ghost use Rattle.mmem_core.specs.ManagedStore.{free};
 ghost use Rattle.kernel_core.specs.Inputs.{effect, frame_arrived, frame_held, frame_refusal, has_bytes, ticks_of};
 ghost use Rattle.kernel_core.specs.Code.View.{machine_of, none_unshown, HoldsFrames, IsTakenIn};
 ghost use Rattle.device_core.specs.PacketQueue.{free_slot};
+ghost use Rattle.node_memory.specs.Placed.{last_owner};
 
 use crate::fields::KernelFields;
 use device_core::packet_queue::MOST_FRAMES;
@@ -15,11 +16,13 @@ use mote_types::refusal::Refusal;
 use mote_types::reply::Reply;
 
 impl KernelFields {
-    /// How many bytes of managed memory are free.
+    /// How many bytes of managed memory are free for frames.
     fn free_bytes(&mut self) -> u32
-        ensures free { result ≡ free self.old.memory.contents.managed }
+        requires { 3 ≤ last_owner self.old.memory }
+        ensures free { result ≡ free 3 self.old.memory.contents.managed }
         ensures machine { machine_of self.new ≡ machine_of self.old }
         ensures same { self.new ≡ record self.old { memory = self.new.memory } }
+        ensures owners { last_owner self.new.memory ≡ last_owner self.old.memory }
     {
         match self.memory.ask(PACKET_PROCESS, &Call::MmemAvail) {
             Reply::Num(free) => free,
@@ -27,11 +30,12 @@ impl KernelFields {
         }
     }
 
-    /// Holds a frame, unless 8 are held or managed memory has no room for it.
+    /// Holds a frame, unless 8 are held or managed memory has no room for it, or process 3's quota.
     fn hold_frame(&mut self, bytes: &[u8]) -> Result<(), Refusal>
         requires least { 1 ≤ length bytes.now }
         requires most { length bytes.now ≤ 127 }
         requires frames { HoldsFrames self.old.memory.contents self.old.packets.frames }
+        requires holder { 3 ≤ last_owner self.old.memory }
         ensures held { IfOk result (λ _. (frame_refusal (length bytes.now) (machine_of self.old) ≡ None)
             × (machine_of self.new ≡ frame_held (free_slot self.old.packets) bytes.now (machine_of self.old))) }
         ensures lost { IfErr result (λ refusal. (frame_refusal (length bytes.now) (machine_of self.old) ≡ Some refusal)
@@ -45,7 +49,7 @@ impl KernelFields {
         }
         let size = (bytes.len() as u32 + 3) / 4 * 4;
         if self.free_bytes() < size {
-            return Err(Refusal::NoRoom);
+            return Err(self.memory.shortage());
         }
         let Some(slot) = self.packets.arrive(bytes.len() as u8) else {
             return Err(Refusal::Full);
@@ -60,6 +64,7 @@ impl KernelFields {
         requires least { 1 ≤ length bytes.now }
         requires most { length bytes.now ≤ 127 }
         requires frames { HoldsFrames self.old.memory.contents self.old.packets.frames }
+        requires holder { 3 ≤ last_owner self.old.memory }
         requires shown { self.old.unshown ≡ none_unshown }
         ensures machine { machine_of self.new ≡ frame_arrived bytes.now (machine_of self.old) }
         ensures kept { IsTakenIn self.old self.new }
@@ -76,6 +81,7 @@ impl KernelFields {
         requires clock { self.old.clock + ticks_of input.now ≤ 2 ^ 62 }
         requires bytes { has_bytes input.now ≡ true }
         requires frames { HoldsFrames self.old.memory.contents self.old.packets.frames }
+        requires holder { 3 ≤ last_owner self.old.memory }
         requires shown { self.old.unshown ≡ none_unshown }
         ensures machine { machine_of self.new ≡ effect input.now (machine_of self.old) }
         ensures kept { IsTakenIn self.old self.new }

@@ -48,8 +48,9 @@ impl Model for Kernel {
 impl Kernel {
     /// A kernel at boot, before its applications are started. All memory that the mote will use is taken here.
     ///
-    /// `BadSizes` exactly where a size is out of its range or no multiple of 4, or there are more than 16 applications,
-    /// however little memory there is; else `Memory` where memory is refused.
+    /// `BadSizes` exactly where a size or the quota is out of its range or no multiple of 4, where managed memory has no room
+    /// for all quotas, where a header has neither 16 nor 8 bytes, or where there are more than 16 applications, however little
+    /// memory there is; else `Memory` where memory is refused.
     pub fn boot(alloc: Global, config: Config) -> Result<Kernel, BootFault>
         ensures booted { IfOk result (λ kernel. (kernel.machine ≡ booted config) × (kernel.inputs ≡ 0)) }
         ensures bad_sizes { IsErrOf result BootFault.BadSizes ↔ (is_bootable config ≡ false) }
@@ -57,7 +58,7 @@ impl Kernel {
         if config.apps > MOST_APPLICATIONS {
             return Err(BootFault::BadSizes);
         }
-        let memory = NodeMemory::new(alloc, config.sizes())?;
+        let memory = NodeMemory::new(alloc, config.sizes(), config.apps)?;
         let scheduler = Scheduler::new(alloc, config.apps).map_err(|_| BootFault::Memory)?;
         let serial = SerialLine::new(alloc).map_err(|_| BootFault::Memory)?;
         let fields = KernelFields {

@@ -1,7 +1,7 @@
 //! The heap with its arena, where the conditions of each call are tested as the kernel tests them.
 
 ghost use Rattle.std.specs.Prelude.{◌≡◌, ◌≤◌, ◌%◌};
-ghost use Rattle.heap_core.specs.HeapStore.{IsHeapSize};
+ghost use Rattle.heap_core.specs.HeapStore.{IsHeapSize, IsHeaderLength};
 
 use arena_core::Arena;
 use heap_core::{Heap, Key};
@@ -38,8 +38,9 @@ fn key(number: u8) -> Key
 
 impl Memory {
     /// A heap in an arena, behind 8 bytes of another use. Its bytes are not 0 at first.
-    fn new(alloc: Global, size: u32) -> Result<Option<Memory>, AllocError>
-        requires { IsHeapSize size }
+    fn new(alloc: Global, size: u32, header: u32) -> Result<Option<Memory>, AllocError>
+        requires size { IsHeapSize size }
+        requires header { IsHeaderLength header }
     {
         let mut arena = Arena::new(alloc, size + 8)?;
         let Some(other) = arena.carve(8) else {
@@ -51,7 +52,7 @@ impl Memory {
         };
         arena.fill(span, 0xff);
         Ok(Some(Memory {
-            heap: Heap::new(span),
+            heap: Heap::new(span, header),
             arena,
         }))
     }
@@ -145,19 +146,29 @@ impl Memory {
 /// A new block does not show what lay there, be it of a block or of the span's first use.
 #[test]
 fn fresh_bytes_are_zero(rt: HostRuntime) -> Result<(), Fail> {
-    let mut memory = Memory::new(rt.alloc(), 100)?.ok_or("no span")?;
-    for number in [0u8, 1] {
-        let is_taken = memory.alloc(number, 4);
-        assert_eq!(rt; memory.bytes(number), Some([0, 0, 0, 0].as_slice()));
-        let is_freed = memory.write(number, &[1, 2, 3, 4]) && memory.free(number);
-        assert!(rt; is_taken && is_freed && memory.bytes(number).is_none());
+    for header in [16u32, 8] {
+        let mut memory = Memory::new(rt.alloc(), 100, header)?.ok_or("no span")?;
+        for number in [0u8, 1] {
+            let is_taken = memory.alloc(number, 4);
+            assert_eq!(rt; memory.bytes(number), Some([0, 0, 0, 0].as_slice()));
+            let is_freed = memory.write(number, &[1, 2, 3, 4]) && memory.free(number);
+            assert!(rt; is_taken && is_freed && memory.bytes(number).is_none());
+        }
     }
     Ok(())
 }
 
-/// A heap of 4,096 bytes after these calls, all of which are carried out.
-fn heap_after<R: Abort + AllocGlobal>(rt: &R, calls: &str) -> Result<Memory, Fail> {
-    let mut memory = Memory::new(rt.alloc(), 4096)?.ok_or("no span")?;
+/// A heap after these calls, all of which are carried out.
+fn heap_after<R: Abort + AllocGlobal>(
+    rt: &R,
+    size: u32,
+    header: u32,
+    calls: &str,
+) -> Result<Memory, Fail>
+    requires size { IsHeapSize size }
+    requires header { IsHeaderLength header }
+{
+    let mut memory = Memory::new(rt.alloc(), size, header)?.ok_or("no span")?;
     for call in calls.split(", ") {
         assert!(rt; memory.carry_out(call), "{call}");
     }
@@ -173,7 +184,7 @@ alloc 0 20, alloc 1 20, alloc 2 20, alloc 3 20: 0\
 |alloc 0 20, alloc 1 20, alloc 2 20, alloc 3 20, free 0, free 2, free 1, alloc 4 90: 0";
     for case in cases.split("|") {
         let (calls, linked) = case.split_once(": ").unwrap_or((case, ""));
-        let memory = heap_after(&rt, calls)?;
+        let memory = heap_after(&rt, 4096, 16, calls)?;
         assert_eq!(rt; memory.heap.linked(), linked.parse()?, "{calls}");
     }
     Ok(())
@@ -186,8 +197,29 @@ fn freed_chunks_are_joined(rt: HostRuntime) -> Result<(), Fail> {
 alloc 0 20, alloc 1 20, alloc 2 20, alloc 3 20, free 0, free 2, free 1, alloc 4 90\
 |alloc 0 20, alloc 1 20, alloc 2 20, alloc 3 20, free 2, free 1, realloc 0 90";
     for calls in cases.split("|") {
-        let memory = heap_after(&rt, calls)?;
+        let memory = heap_after(&rt, 4096, 16, calls)?;
         assert_eq!(rt; memory.stats(), [112, 32, 3952, 144, 2], "{calls}");
+    }
+    Ok(())
+}
+
+/// With headers of 8 bytes a block of 4 takes 16. A rest of 20 bytes stays a gap, and one of 16 goes to the block.
+#[test]
+fn short_headers(rt: HostRuntime) -> Result<(), Fail> {
+    let cases = [
+        ("alloc 0 20, alloc 1 4", [28u32, 16, 56, 44, 2]),
+        (
+            "alloc 0 28, alloc 1 20, free 0, alloc 0 4",
+            [28, 16, 56, 64, 2],
+        ),
+        (
+            "alloc 0 24, alloc 1 20, free 0, alloc 0 4",
+            [44, 16, 40, 60, 2],
+        ),
+    ];
+    for (calls, stats) in cases {
+        let memory = heap_after(&rt, 100, 8, calls)?;
+        assert_eq!(rt; memory.stats(), stats, "{calls}");
     }
     Ok(())
 }

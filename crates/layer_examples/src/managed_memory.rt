@@ -18,13 +18,14 @@ struct Memory {
 
 impl Model for Memory {
     ghost use Rattle.mmem_core.specs.ManagedStore.{ManagedStore};
+    ghost use Rattle.std.specs.Prelude.{◌≤◌};
     ghost use Rattle.mmem_core.specs.Table.{store_of, IsWithin};
 
     ghost Value = { ManagedStore };
 
     ghost view = { λ m. store_of m.mmem m.arena.bytes };
 
-    ghost invariant = { λ m. IsWithin m.mmem m.arena.bytes };
+    ghost invariant = { λ m. IsWithin m.mmem m.arena.bytes × (2 ≤ m.mmem.quotas.owners) };
 }
 
 /// A handle of process 4.
@@ -44,11 +45,21 @@ impl Memory {
         let mut arena = Arena::new(alloc, size)?;
         match arena.carve(size) {
             Some(span) => Ok(Some(Memory {
-                mmem: Mmem::new(span),
+                mmem: Mmem::new(span, None, 17),
                 arena,
             })),
             None => Ok(None),
         }
+    }
+
+    /// 48 bytes, of which processes 3, 4 and 5 may hold 16 each.
+    fn with_quotas(alloc: Global) -> Result<Option<Memory>, AllocError> {
+        let mut arena = Arena::new(alloc, 48)?;
+        let Some(span) = arena.carve(48) else {
+            return Ok(None);
+        };
+        let mmem = Mmem::new(span, Some(16), 3);
+        Ok(Some(Memory { arena, mmem }))
     }
 
     /// Takes a block, where the handle has none and there is room.
@@ -76,8 +87,7 @@ impl Memory {
 }
 
 /// How many bytes were moved after these calls: each is a handle and a length, and a length of 0 gives the block back.
-fn slid_after(alloc: Global, calls: &str) -> Result<u64, Fail> {
-    let mut memory = Memory::new(alloc, 32)?.ok_or("no span")?;
+fn slid_after(mut memory: Memory, calls: &str) -> u64 {
     for call in calls.split(", ") {
         let (handle, n) = call.split_once(" ").unwrap_or((call, ""));
         let handle = handle.parse().unwrap_or(0).min(15);
@@ -86,7 +96,7 @@ fn slid_after(alloc: Global, calls: &str) -> Result<u64, Fail> {
             n => memory.alloc(handle, n),
         }
     }
-    Ok(memory.mmem.slid())
+    memory.mmem.slid()
 }
 
 // - A free moves nothing. For the next block there is no space behind the block of 20 bytes, which moves down. Nothing lies
@@ -102,7 +112,18 @@ fn counts_moved_bytes(rt: HostRuntime) -> Result<(), Fail> {
 |0 8, 1 8, 2 16, 0 0, 2 0, 3 16: 0";
     for case in cases.split("|") {
         let (calls, slid) = case.split_once(": ").unwrap_or((case, ""));
-        assert_eq!(rt; slid_after(rt.alloc(), calls)?, slid.parse()?, "{calls}");
+        let memory = Memory::new(rt.alloc(), 32)?.ok_or("no span")?;
+        assert_eq!(rt; slid_after(memory, calls), slid.parse()?, "{calls}");
     }
+    Ok(())
+}
+
+/// The block of 4 bytes is beyond the quota. The other two are freed and taken by turns, up to the end of the 48 bytes, where
+/// the one that is live then has to slide down.
+#[test]
+fn slides_under_quotas(rt: HostRuntime) -> Result<(), Fail> {
+    let memory = Memory::with_quotas(rt.alloc())?.ok_or("no span")?;
+    let calls = "0 8, 1 8, 2 4, 0 0, 0 8, 1 0, 1 8, 0 0, 0 8, 1 0, 1 8, 0 0, 0 8";
+    assert_eq!(rt; slid_after(memory, calls), 8);
     Ok(())
 }

@@ -21,8 +21,10 @@ fn the_kernel_is_told_what_is_free(rt: HostRuntime) -> Result<(), Fail> {
     let sizes = Sizes {
         mmem: 32,
         heap: 4_096,
+        header: 16,
+        quota: None,
     };
-    let mut memory = NodeMemory::new(rt.alloc(), sizes)?;
+    let mut memory = NodeMemory::new(rt.alloc(), sizes, 16)?;
     let taken = memory.ask(Pid(19), &Call::MmemAlloc(0, 2));
     assert!(rt; matches!(taken, Reply::Done));
     assert!(rt; matches!(memory.ask(Pid(3), &Call::MmemAvail), Reply::Num(28)));

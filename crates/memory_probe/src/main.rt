@@ -14,13 +14,20 @@ use std::io;
 const SIZES: Sizes = Sizes {
     mmem: 4_096,
     heap: 4_096,
+    header: 16,
+    quota: None,
 };
 
 /// No multiple of 4.
 const BAD_SIZES: Sizes = Sizes {
     mmem: 4_098,
     heap: 4_096,
+    header: 16,
+    quota: None,
 };
+
+/// How many applications there are.
+const APPLICATIONS: u8 = 2;
 
 fn made<T: Drop>(answer: Result<T, AllocError>) -> &'static str {
     match answer {
@@ -37,19 +44,21 @@ fn made_of_sizes<T: Drop>(answer: Result<T, BootFault>) -> &'static str {
     }
 }
 
-/// A mote of these sizes with two applications.
+/// A mote of these sizes.
 fn config_of(sizes: Sizes) -> Config {
     Config {
         mmem: sizes.mmem,
         heap: sizes.heap,
-        apps: 2,
+        apps: APPLICATIONS,
+        quota: sizes.quota,
+        header: sizes.header,
     }
 }
 
 fn main(rt: HostRuntime) -> io::Result<()> {
     let alloc = rt.alloc();
     // These two ask for no memory, so the first growth is the arena's.
-    let memory = made_of_sizes(NodeMemory::new(alloc, BAD_SIZES));
+    let memory = made_of_sizes(NodeMemory::new(alloc, BAD_SIZES, APPLICATIONS));
     println!(rt; "node memory of bad sizes: {memory}")?;
     let kernel = made_of_sizes(Kernel::boot(alloc, config_of(BAD_SIZES)));
     println!(rt; "kernel of bad sizes: {kernel}")?;
@@ -58,7 +67,7 @@ fn main(rt: HostRuntime) -> io::Result<()> {
     println!(rt; "serial line: {}", made(SerialLine::new(alloc)))?;
     println!(rt;
         "node memory: {}",
-        made_of_sizes(NodeMemory::new(alloc, SIZES))
+        made_of_sizes(NodeMemory::new(alloc, SIZES, APPLICATIONS))
     )?;
     println!(rt;
         "kernel: {}",

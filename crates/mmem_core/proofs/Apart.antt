@@ -6,6 +6,7 @@ use Rattle.mote_types.specs.BlockNames.{IsName, number_of}
 use Rattle.arena_core.specs.declared.span.Span.{Span}
 use Rattle.arena_core.specs.Extents.{LiesIn, AreApart}
 use Rattle.mmem_core.specs.declared.place.Place.{Place}
+use Rattle.mmem_core.specs.declared.quotas.Quotas.{Quotas}
 use Rattle.mmem_core.specs.Places.{place_in}
 use Rattle.mmem_core.specs.Code.Laid.{at_of, room_of, LieApart}
 use Rattle.mmem_core.specs.Separation.{extent_of, bytes_at_place, BlocksLieApart}
@@ -22,9 +23,9 @@ number_of-differs p h q k named named' differ =
       | inr other ↦ other (omega (arith, same, named.0, named.2, named'.0, named'.2))
     ])
 
-module _ (span : Span) (xs : List (Option Place)) (slid : ℕ) (lie : LieApart xs span.len) where
+module _ (span : Span) (quotas : Quotas) (xs : List (Option Place)) (slid : ℕ) (lie : LieApart xs span.len) where
   abbrev T : Table
-  T = record { span = span; places = xs; slid = slid }
+  T = record { span = span; quotas = quotas; places = xs; slid = slid }
 
   inside : (i : ℕ) (place : Place) → place_in xs i ≡ Some place → LiesIn span (extent_of T place)
   inside i place live = let within = place_inside xs span.len i place lie live in (omega arith, omega arith)
@@ -44,7 +45,7 @@ module _ (span : Span) (xs : List (Option Place)) (slid : ℕ) (lie : LieApart x
 
     read : (i : ℕ) (place : Option Place) → place_in xs i ≡ place → block_in region place ≡ option_map (bytes_at_place T bytes) place
     read i None live = refl
-    read i (Some place) live = ap Some (bytes_are span xs slid lie bytes within i place live)
+    read i (Some place) live = ap Some (bytes_are span quotas xs slid lie bytes within i place live)
 
     pub blocks_apart : BlocksLieApart T bytes
     blocks_apart =

@@ -16,7 +16,7 @@ IsWithin-kept old new before after kept within =
 
 pub store_of-same : (table : Table) (xs ys : List ℕ) → region_of table xs ≡ region_of table ys → store_of table xs ≡ store_of table ys
 store_of-same table xs ys same =
-    ap (λ region. let store : ManagedStore = record { capacity = table.span.len; blocks = map (block_in region) table.places } in store) same
+    ap (λ region. let store : ManagedStore = record { capacity = table.span.len; quota = table.quotas.each; blocks = map (block_in region) table.places } in store) same
 
 pub store_of-elsewhere : (table : Table) (at len : ℕ) (old new : List ℕ) → ChangesOnly at len old new → (table.span.at + table.span.len ≤ at) ⊎ (at + len ≤ table.span.at) → store_of table new ≡ store_of table old
 store_of-elsewhere table at len old new changes apart = store_of-same table new old (changes.others table.span.at table.span.len apart)

@@ -1,25 +1,31 @@
 -- What holds while the blocks slide together, one after the other.
-use Rattle.std.proofs.Common.{◌≡◌, ℕ, ◌+◌, ◌-◌, ◌≤◌, ◌<◌, ◌^◌, min, List, [], ◌∷◌, ◌++◌, length, slice_set, slice_range, Option, Some, None, refl, sym, ap, ◌∙◌, subst, arith}
+use Rattle.std.proofs.Common.{◌≡◌, ℕ, ◌+◌, ◌-◌, ◌≤◌, ◌<◌, ◌^◌, min, inl, inr, List, [], ◌∷◌, ◌++◌, length, slice_set, slice_range, Option, Some, None, refl, sym, ap, ◌∙◌, subst, arith}
 use Rattle.std.specs.Prelude.{slice_get, IfSome, IsSome}
+use Rattle.std.proofs.lemmas.Bool.{cases_eq}
 use Rattle.std.proofs.lemmas.List.{length-set}
 use Rattle.mote_types.specs.Rounding.{up4}
 use Rattle.arena_core.specs.Contents.{Contents, contents}
 use Rattle.arena_core.specs.Written.{written}
 use Rattle.mmem_core.specs.declared.mmem.Mmem.TheInside.{Inside}
 use Rattle.mmem_core.specs.declared.place.Place.{Place}
-use Rattle.mmem_core.specs.ManagedStore.{free}
+use Rattle.mmem_core.specs.ManagedStore.{unused}
 use Rattle.mmem_core.specs.Places.{place_in, last_end, room_moved}
+use Rattle.mmem_core.specs.Code.Shares.{AreShared}
 use Rattle.mmem_core.specs.Code.Laid.{at_of, room_of, AreLaid, IsLaidOut, LieApart}
 use Rattle.mmem_core.specs.Table.{Table, store_of, KeepsToSpan, CountsMoved}
 use Rattle.mmem_core.proofs.PlaceLemmas as places
+use Rattle.mmem_core.proofs.Shares.{rooms_kept}
 use Rattle.mmem_core.proofs.PlaceLemmas.{AreSliding, Same}
-use Rattle.mmem_core.proofs.TableLemmas.{moved, kept, kept_same, kept_both, free_is, place_length}
+use Rattle.mmem_core.proofs.TableLemmas.{moved, kept, kept_same, kept_both, unused_is, place_length}
 
 abbrev pub table_of : Inside → Table
-table_of m = record { span = m.span; places = m.places; slid = m.slid }
+table_of m = record { span = m.span; quotas = m.quotas; places = m.places; slid = m.slid }
 
 pub record IsMidway (old now : Inside) (before after : Contents) (next : Option ℕ) (end : ℕ) : Type 0 where
   pub same_span : now.span ≡ old.span
+  pub same_quotas : now.quotas ≡ old.quotas
+  pub same_taken : now.taken ≡ old.taken
+  pub same_rooms : (i : ℕ) → room_of (place_in now.places i) ≡ room_of (place_in old.places i)
   pub same_order : now.order ≡ old.order
   pub same_used : now.used ≡ old.used
   pub lower : List ℕ
@@ -53,6 +59,9 @@ pub midway_first : (m : Inside) (arena : Contents) (next : Option ℕ) → IsLai
     → IsMidway m m arena arena next 0
 midway_first m arena next sound count small slid within next_is below = record {
   same_span = refl;
+  same_quotas = refl;
+  same_taken = refl;
+  same_rooms = λ i. refl;
   same_order = refl;
   same_used = refl;
   lower = [];
@@ -65,7 +74,7 @@ midway_first m arena next sound count small slid within next_is below = record {
   within = within;
   small = small;
   blocks = refl;
-  rest = kept_same (table_of m) (table_of m) arena refl;
+  rest = kept_same (table_of m) (table_of m) arena refl refl;
   counted = omega (arith, places.bytes_moved-same m.places);
 }
 
@@ -110,7 +119,7 @@ module _ (old now : Inside) (before after : Contents) (number end : ℕ) (midway
     midway_more slid after' next slid_is after_is next_is below =
         let lowered : Option Place = Some (record { at = end; len = place.len }) in
         let ys = slice_set now.places number lowered in
-        let new : Table = record { span = now.span; places = ys; slid = slid } in
+        let new : Table = record { span = now.span; quotas = now.quotas; places = ys; slid = slid } in
         let lie = places.LieApart-from now.places now.order now.used now.span.len sound in
         let d = down in let i = inside in let n = places.len_le_room place.len in
         let below_number = places.live_below now.places number place live in
@@ -118,7 +127,7 @@ module _ (old now : Inside) (before after : Contents) (number end : ℕ) (midway
         let ws = slice_range after.bytes (now.span.at + place.at) (now.span.at + place.at + place.len) in
         let long = place_len after.bytes midway.within in
         let apart = places.avoids_lower now.places (at_of (place_in now.places number) + room_of (place_in now.places number)) more now.span.len number next_sliding.to_come.2 (omega arith) next_sliding.to_come.1 in
-        let step = kept now.span now.places now.slid lie after.bytes midway.within new (now.span.at + end) after.carved ws refl (omega arith) (omega arith) in
+        let step = kept now.span now.quotas now.places now.slid lie after.bytes midway.within new (now.span.at + end) after.carved ws refl refl (omega arith) (omega arith) in
         let step' : KeepsToSpan (table_of now) new after after' = subst (λ (a : Contents). KeepsToSpan (table_of now) new after a) (sym after_is) step in
         let size : length after'.bytes ≡ length after.bytes = step'.bytes.size in
         let count = places.bytes_moved-more old.places now.places number lowered below_number first in
@@ -126,6 +135,9 @@ module _ (old now : Inside) (before after : Contents) (number end : ℕ) (midway
         let room = ap (λ q. room_moved q lowered) was in
         record {
           same_span = midway.same_span;
+          same_quotas = midway.same_quotas;
+          same_taken = midway.same_taken;
+          same_rooms = λ i. moved_room i ∙ midway.same_rooms i;
           same_order = midway.same_order;
           same_used = midway.same_used;
           lower = midway.lower ++ number ∷ [];
@@ -138,7 +150,7 @@ module _ (old now : Inside) (before after : Contents) (number end : ℕ) (midway
           within = omega (arith, midway.within);
           small = midway.small;
           blocks = ap (λ (a : Contents). store_of new a.bytes) after_is
-              ∙ moved now.span now.places now.slid lie after.bytes midway.within number place live slid end d
+              ∙ moved now.span now.quotas now.places now.slid lie after.bytes midway.within number place live slid end d
               (λ j ne. places.slides_past now.places now.order now.used now.span.len end midway.lower number more place live next_sliding j ne)
               ∙ midway.blocks;
           rest = kept_both (table_of old) (table_of now) new before after after' midway.rest step';
@@ -148,7 +160,17 @@ module _ (old now : Inside) (before after : Contents) (number end : ℕ) (midway
         place_len : (bytes : List ℕ) → now.span.at + now.span.len ≤ length bytes → length (slice_range bytes (now.span.at + place.at) (now.span.at + place.at + place.len)) ≡ place.len
         place_len bytes within =
             let lie = places.LieApart-from now.places now.order now.used now.span.len sound in
-            place_length now.span now.places now.slid lie bytes within number place live
+            place_length now.span now.quotas now.places now.slid lie bytes within number place live
+
+        moved_room : (i : ℕ) → room_of (place_in (slice_set now.places number (Some (record { at = end; len = place.len }))) i) ≡ room_of (place_in now.places i)
+        moved_room i = elim (cases_eq i number) [
+          | inl e ↦
+              ap (λ j. room_of (place_in (slice_set now.places number (Some (record { at = end; len = place.len }))) j)) e
+              ∙ ap room_of (places.place_in-set_same now.places number (Some (record { at = end; len = place.len })) (places.live_below now.places number place live))
+              ∙ sym (ap room_of live)
+              ∙ ap (λ j. room_of (place_in now.places j)) (sym e)
+          | inr ne ↦ ap room_of (places.place_in-set_other now.places number i (Some (record { at = end; len = place.len })) ne)
+        ]
 
         still_same : (xs : List ℕ) → Same old.places now.places xs → Same now.places (slice_set now.places number (Some (record { at = end; len = place.len }))) xs → Same old.places (slice_set now.places number (Some (record { at = end; len = place.len }))) xs
         still_same [] a b = tt
@@ -162,11 +184,15 @@ module _ (old now : Inside) (before after : Contents) (end : ℕ) (midway : IsMi
   pub slid_sound : IsLaidOut now.places now.order now.used now.span.len
   slid_sound = places.IsLaidOut-slid now.places now.order now.used now.span.len end midway.lower last_sliding
 
+  pub slid_shared : AreShared old.quotas old.places old.taken old.used old.span.len → AreShared now.quotas now.places now.taken now.used now.span.len
+  slid_shared shared =
+      rw (midway.same_quotas, midway.same_taken, midway.same_used, midway.same_span) (rooms_kept old.quotas old.places old.taken old.used old.span.len shared now.places midway.same_rooms)
+
   pub slid_apart : LieApart now.places now.span.len
   slid_apart = places.LieApart-from now.places now.order now.used now.span.len slid_sound
 
-  pub room_behind : last_end now.places + free (store_of (table_of now) after.bytes) ≤ now.span.len
+  pub room_behind : last_end now.places + unused (store_of (table_of now) after.bytes) ≤ now.span.len
   room_behind =
-      let rest = free_is now.span now.places now.slid slid_apart after.bytes midway.within now.used slid_sound.total in
+      let rest = unused_is now.span now.quotas now.places now.slid slid_apart after.bytes midway.within now.used slid_sound.total in
       let last = places.last_is_used now.places now.order now.used now.span.len end midway.lower last_sliding in
       omega (arith, rest, last, slid_sound.fits)

@@ -9,7 +9,7 @@ use Rattle.arena_core.specs.Written.{written}
 use Rattle.arena_core.proofs.Ranges.{length-range, range-written, range-written_apart, written-range}
 use Rattle.arena_core.proofs.Rows.{written_is}
 use Rattle.mmem_core.specs.declared.place.Place.{Place}
-use Rattle.mmem_core.specs.ManagedStore.{ManagedStore, size_of, free}
+use Rattle.mmem_core.specs.ManagedStore.{ManagedStore, size_of, unused}
 use Rattle.mmem_core.specs.Places.{place_in}
 use Rattle.mmem_core.specs.Code.Laid.{at_of, room_of, LieApart}
 use Rattle.mmem_core.specs.Table.{bytes_at}
@@ -33,7 +33,7 @@ map_same : {Y : Type 0} (f g : Option Place → Y) (xs : List (Option Place)) �
 map_same f g [] h = refl
 map_same f g (x ∷ xs) h = λ i. h 0 (omega arith) i ∷ map_same f g xs (λ j l. h (suc j) (omega arith)) i
 
-size_same : (region : List ℕ) (p : Option Place) → at_of p + room_of p ≤ length region → size_of (block_in region p) ≡ room_of p
+pub size_same : (region : List ℕ) (p : Option Place) → at_of p + room_of p ≤ length region → size_of (block_in region p) ≡ room_of p
 size_same region None h = refl
 size_same region (Some place) h = ap up4 (length-range region place.at place.len (omega (arith, places.len_le_room place.len)))
 
@@ -43,9 +43,9 @@ sum_same region [] h = refl
 sum_same region (x ∷ xs) h =
     omega (arith, sum_by-cons size_of (block_in region x) (map (block_in region) xs), sum_by-cons room_of x xs, size_same region x (h 0), sum_same region xs (λ j. h (suc j)))
 
--- a new block takes its rounded size of what is free
-pub free-added : (store : ManagedStore) (i n : ℕ) → i < length store.blocks → get_or store.blocks i None ≡ None → free (record store { blocks = slice_set store.blocks i (Some (zeros n)) }) ≡ free store - up4 n
-free-added store i n below none =
+-- a new block takes its rounded size of what is unused
+pub unused-added : (store : ManagedStore) (i n : ℕ) → i < length store.blocks → get_or store.blocks i None ≡ None → unused (record store { blocks = slice_set store.blocks i (Some (zeros n)) }) ≡ unused store - up4 n
+unused-added store i n below none =
     let count : size_of (Some (zeros n)) ≡ up4 n = ap up4 (length-replicate n 0) in
     let nothing = ap size_of none in
     omega (arith, sum_by-set size_of store.blocks i (Some (zeros n)) None below, count, nothing)

@@ -1,7 +1,9 @@
 -- What the handles of a table stand for, after each kind of change of the table and of the arena's bytes.
 use Rattle.std.proofs.Common.{◌≡◌, ◌≢◌, ℕ, ◌+◌, ◌-◌, ◌≤◌, ◌⊎◌, inl, inr, List, [], length, get_or, unwrap_or, slice_set, slice_range, sum_by, map, Option, Some, None, refl, sym, ap, ◌∙◌, arith}
+use Rattle.std.specs.Option.{option_map_or}
 use Rattle.std.proofs.lemmas.Bool.{cases_eq}
 use Rattle.std.proofs.lemmas.List.{length-replicate, map-set}
+use Rattle.mote_types.specs.BlockNames.{number_of}
 use Rattle.mote_types.specs.Rounding.{up4}
 use Rattle.mote_types.specs.Bytes.{zeros, overwritten}
 use Rattle.arena_core.specs.declared.span.Span.{Span}
@@ -10,25 +12,29 @@ use Rattle.arena_core.specs.Outside.{ChangesOnly}
 use Rattle.arena_core.specs.Written.{written}
 use Rattle.arena_core.proofs.Ranges.{length-range, written-range, range-range, changes_only}
 use Rattle.mmem_core.specs.declared.place.Place.{Place}
-use Rattle.mmem_core.specs.ManagedStore.{ManagedStore, free}
+use Rattle.mmem_core.specs.declared.quotas.Quotas.{Quotas}
+use Rattle.mmem_core.specs.ManagedStore.{ManagedStore, size_of, block_of, unused, taken_by, free}
 use Rattle.mmem_core.specs.Places.{place_in, last_end}
 use Rattle.mmem_core.specs.Code.Laid.{at_of, room_of, LieApart}
+use Rattle.mmem_core.specs.Code.Shares.{room_by}
 use Rattle.mmem_core.specs.Table.{Table, store_of, bytes_at, KeepsToSpan}
 use Rattle.mmem_core.proofs.PlaceLemmas as places
-use Rattle.mmem_core.proofs.StoreLemmas.{block_in, get_or-blocks, no_place, sum_same, blocks-added, blocks-moved, blocks-written}
+use Rattle.mmem_core.proofs.Shares.{same_sum}
+use Rattle.mmem_core.proofs.StoreLemmas.{block_in, get_or-blocks, no_place, size_same, sum_same, blocks-added, blocks-moved, blocks-written}
 
 abbrev pub with_slot : ℕ → Option (List ℕ) → ManagedStore → ManagedStore
 with_slot i block store = record store { blocks = slice_set store.blocks i block }
 
 -- calls one after the other, and none
-pub kept_same : (old new : Table) (arena : Contents) → new.span ≡ old.span → KeepsToSpan old new arena arena
-kept_same old new arena same = record { span = same; carved = refl; bytes = record { size = refl; others = λ from n apart. refl } }
+pub kept_same : (old new : Table) (arena : Contents) → new.span ≡ old.span → new.quotas ≡ old.quotas → KeepsToSpan old new arena arena
+kept_same old new arena same limits = record { span = same; quotas = limits; carved = refl; bytes = record { size = refl; others = λ from n apart. refl } }
 
 pub kept_both : (first second third : Table) (before middle after : Contents) → KeepsToSpan first second before middle → KeepsToSpan second third middle after → KeepsToSpan first third before after
 kept_both first second third before middle after one two =
     let bytes : ChangesOnly first.span.at first.span.len middle.bytes after.bytes = rw one.span at two.bytes in
     record {
       span = two.span ∙ one.span;
+      quotas = two.quotas ∙ one.quotas;
       carved = two.carved ∙ one.carved;
       bytes = record {
         size = bytes.size ∙ one.bytes.size;
@@ -36,9 +42,9 @@ kept_both first second third before middle after one two =
       };
     }
 
-module _ (span : Span) (xs : List (Option Place)) (slid : ℕ) (lie : LieApart xs span.len) (B : List ℕ) (within : span.at + span.len ≤ length B) where
+module _ (span : Span) (quotas : Quotas) (xs : List (Option Place)) (slid : ℕ) (lie : LieApart xs span.len) (B : List ℕ) (within : span.at + span.len ≤ length B) where
   abbrev T : Table
-  T = record { span = span; places = xs; slid = slid }
+  T = record { span = span; quotas = quotas; places = xs; slid = slid }
 
   abbrev region : List ℕ
   region = slice_range B span.at (span.at + span.len)
@@ -46,31 +52,46 @@ module _ (span : Span) (xs : List (Option Place)) (slid : ℕ) (lie : LieApart x
   region_length : length region ≡ span.len
   region_length = length-range B span.at span.len within
 
-  pub free_is : (used : ℕ) → sum_by room_of xs ≡ used → free (store_of T B) ≡ span.len - used
-  free_is used total =
+  pub unused_is : (used : ℕ) → sum_by room_of xs ≡ used → unused (store_of T B) ≡ span.len - used
+  unused_is used total =
       let long = region_length in
       ap (λ k. span.len - k) (sum_same region xs (λ j. omega (arith, lie.inside j)) ∙ total)
 
+  taken_by_is : (p : ℕ) → taken_by p (store_of T B) ≡ room_by p xs
+  taken_by_is p =
+      let long = region_length in
+      same_sum (λ h. size_of (block_of p h (store_of T B))) (λ h. room_of (place_in xs (number_of p h))) 0 16
+      (λ h _ _. ap size_of (get_or-blocks region xs (number_of p h)) ∙ size_same region (place_in xs (number_of p h)) (omega (arith, lie.inside (number_of p h))))
+
+  pub free_under : (quota p n : ℕ) → quotas.each ≡ Some quota → n ≡ room_by p xs → free p (store_of T B) ≡ quota - n
+  free_under quota p n each room =
+      ap (λ (o : Option ℕ). option_map_or (λ q. q - taken_by p (store_of T B)) o (unused (store_of T B))) each
+      ∙ ap (λ k. quota - k) (taken_by_is p ∙ sym room)
+
+  pub free_of_all : (p used : ℕ) → quotas.each ≡ None → sum_by room_of xs ≡ used → free p (store_of T B) ≡ span.len - used
+  free_of_all p used each total =
+      ap (λ (o : Option ℕ). option_map_or (λ q. q - taken_by p (store_of T B)) o (unused (store_of T B))) each ∙ unused_is used total
+
   -- a change of the region's bytes and of the places, seen as a change of the blocks
   changed : (ys : List (Option Place)) (slid' at : ℕ) (ws : List ℕ) (blocks : List (Option (List ℕ))) → at + length ws ≤ span.len → map (block_in (written region at ws)) ys ≡ blocks →
-      store_of (record { span = span; places = ys; slid = slid' }) (written B (span.at + at) ws) ≡ record (store_of T B) { blocks = blocks }
+      store_of (record { span = span; quotas = quotas; places = ys; slid = slid' }) (written B (span.at + at) ws) ≡ record (store_of T B) { blocks = blocks }
   changed ys slid' at ws blocks inside e =
-      ap (λ (bs : List (Option (List ℕ))). let store : ManagedStore = record { capacity = span.len; blocks = bs } in store)
+      ap (λ (bs : List (Option (List ℕ))). let store : ManagedStore = record { capacity = span.len; quota = quotas.each; blocks = bs } in store)
       (ap (λ r. map (block_in r) ys) (written-range B span.at span.len at ws inside within) ∙ e)
 
   pub unused_place : (i : ℕ) → get_or (store_of T B).blocks i None ≡ None → place_in xs i ≡ None
   unused_place i unused = no_place region (place_in xs i) (sym (get_or-blocks region xs i) ∙ unused)
 
   pub added : (slid' i n : ℕ) → last_end xs + n ≤ span.len →
-      store_of (record { span = span; places = slice_set xs i (Some (record { at = last_end xs; len = n })); slid = slid' }) (written B (span.at + last_end xs) (zeros n)) ≡ with_slot i (Some (zeros n)) (store_of T B)
+      store_of (record { span = span; quotas = quotas; places = slice_set xs i (Some (record { at = last_end xs; len = n })); slid = slid' }) (written B (span.at + last_end xs) (zeros n)) ≡ with_slot i (Some (zeros n)) (store_of T B)
   added slid' i n room =
       let count : length (zeros n) ≡ n = length-replicate n 0 in let long = region_length in
       changed (slice_set xs i (Some (record { at = last_end xs; len = n }))) slid' (last_end xs) (zeros n) (slice_set (store_of T B).blocks i (Some (zeros n))) (omega arith)
       (blocks-added region xs (last_end xs) i n (zeros n) (places.end_le_last xs) count (omega arith))
 
-  pub taken_away : (slid' i : ℕ) → store_of (record { span = span; places = slice_set xs i None; slid = slid' }) B ≡ with_slot i None (store_of T B)
+  pub taken_away : (slid' i : ℕ) → store_of (record { span = span; quotas = quotas; places = slice_set xs i None; slid = slid' }) B ≡ with_slot i None (store_of T B)
   taken_away slid' i =
-      ap (λ (bs : List (Option (List ℕ))). let store : ManagedStore = record { capacity = span.len; blocks = bs } in store) (map-set (block_in region) xs i None)
+      ap (λ (bs : List (Option (List ℕ))). let store : ManagedStore = record { capacity = span.len; quota = quotas.each; blocks = bs } in store) (map-set (block_in region) xs i None)
 
   module _ (i : ℕ) (place : Place) (live : place_in xs i ≡ Some place) where
     pub place_inside : place.at + up4 place.len ≤ span.len
@@ -104,12 +125,12 @@ module _ (span : Span) (xs : List (Option Place)) (slid : ℕ) (lie : LieApart x
     -- the block moves down, past no other one
     pub moved : (slid' to : ℕ) → to ≤ place.at
         → ((j : ℕ) → j ≢ i → (at_of (place_in xs j) + room_of (place_in xs j) ≤ to) ⊎ (place.at + up4 place.len ≤ at_of (place_in xs j)))
-        → store_of (record { span = span; places = slice_set xs i (Some (record { at = to; len = place.len })); slid = slid' })
+        → store_of (record { span = span; quotas = quotas; places = slice_set xs i (Some (record { at = to; len = place.len })); slid = slid' })
         (written B (span.at + to) (slice_range B (span.at + place.at) (span.at + place.at + place.len))) ≡ store_of T B
     moved slid' to down past =
         let g = place_inside in let n = places.len_le_room place.len in let long = region_length in let count = place_length in
         let below = places.live_below xs i place live in
-        ap (λ ws. store_of (record { span = span; places = slice_set xs i (Some (record { at = to; len = place.len })); slid = slid' }) (written B (span.at + to) ws)) (sym bytes_are)
+        ap (λ ws. store_of (record { span = span; quotas = quotas; places = slice_set xs i (Some (record { at = to; len = place.len })); slid = slid' }) (written B (span.at + to) ws)) (sym bytes_are)
         ∙ changed (slice_set xs i (Some (record { at = to; len = place.len }))) slid' to (bytes_at region place) (store_of T B).blocks (omega (arith, ap length bytes_are))
         (blocks-moved xs i place live region to (omega arith) down
         (λ j. elim (cases_eq j i) [
@@ -119,9 +140,10 @@ module _ (span : Span) (xs : List (Option Place)) (slid : ℕ) (lie : LieApart x
               elim (past j ne) [ inl before ↦ inl (omega arith) | inr behind ↦ inr (omega arith) ]
         ]))
 
-  pub kept : (new : Table) (at carved : ℕ) (ws : List ℕ) → new.span ≡ span → span.at ≤ at → at + length ws ≤ span.at + span.len → KeepsToSpan T new (contents B carved) (contents (written B at ws) carved)
-  kept new at carved ws same low high = record {
+  pub kept : (new : Table) (at carved : ℕ) (ws : List ℕ) → new.span ≡ span → new.quotas ≡ quotas → span.at ≤ at → at + length ws ≤ span.at + span.len → KeepsToSpan T new (contents B carved) (contents (written B at ws) carved)
+  kept new at carved ws same limits low high = record {
     span = same;
+    quotas = limits;
     carved = refl;
     bytes = changes_only B at ws (omega arith) span.at span.len low high;
   }

@@ -1,19 +1,23 @@
 -- Managed memory as its users see it: a map from handles of processes to byte lists. A block has no place in it, and the
 -- blocks have no order.
 use Rattle.std.specs.Prelude.{◌≡◌, ℕ, ◌-◌, ◌%◌, ◌≤◌, Bool, List, [], length, replicate, get_or, slice_set, sum_by, nat_le, Option, Some, None, unwrap_or}
+use Rattle.std.specs.List.{range_with_len}
 use Rattle.std.specs.Option.{option_map, option_map_or}
 use Rattle.mote_types.specs.declared.block_name.TheConstants.{NAMES}
 use Rattle.mote_types.specs.BlockNames.{number_of}
+use Rattle.mote_types.specs.declared.refusal.Refusal.{Refusal}
 use Rattle.mote_types.specs.Rounding.{up4}
 use Rattle.mote_types.specs.Bytes.{zeros, overwritten}
 
 pub record ManagedStore : Type 0 where
   pub capacity : ℕ
+  -- what each process may hold of it, if that is limited
+  pub quota : Option ℕ
   -- what each name stands for: the bytes of its block, if it is live
   pub blocks : List (Option (List ℕ))
 
-abbrev pub empty_store : ℕ → ManagedStore
-empty_store capacity = record { capacity = capacity; blocks = replicate NAMES None }
+abbrev pub empty_store : ℕ → Option ℕ → ManagedStore
+empty_store capacity quota = record { capacity = capacity; quota = quota; blocks = replicate NAMES None }
 
 -- the bytes of p's block, if it is live
 abbrev pub block_of : ℕ → ℕ → ManagedStore → Option (List ℕ)
@@ -27,11 +31,28 @@ length_of p handle store = option_map length (block_of p handle store)
 abbrev pub size_of : Option (List ℕ) → ℕ
 size_of block = option_map_or (λ bytes. up4 (length bytes)) block 0
 
-abbrev pub free : ManagedStore → ℕ
-free store = store.capacity - sum_by size_of store.blocks
+-- what all blocks leave
+abbrev pub unused : ManagedStore → ℕ
+unused store = store.capacity - sum_by size_of store.blocks
 
-abbrev pub fits : ℕ → ManagedStore → Bool
-fits n store = nat_le (up4 n) (free store)
+-- the handles of a process: 0 to 15
+abbrev pub handles : List ℕ
+handles = range_with_len 0 16
+
+-- what p's blocks take
+abbrev pub taken_by : ℕ → ManagedStore → ℕ
+taken_by p store = sum_by (λ handle. size_of (block_of p handle store)) handles
+
+-- what is free for p: under a quota what its own blocks leave of that, else what all blocks leave
+abbrev pub free : ℕ → ManagedStore → ℕ
+free p store = option_map_or (λ quota. quota - taken_by p store) store.quota (unused store)
+
+abbrev pub fits : ℕ → ℕ → ManagedStore → Bool
+fits p n store = nat_le (up4 n) (free p store)
+
+-- why a block that doesn't fit is refused
+abbrev pub shortage : ManagedStore → Refusal
+shortage store = option_map_or (λ _. Refusal.OverQuota) store.quota Refusal.NoRoom
 
 -- p's block is this one from now on, or none
 abbrev pub with_block : ℕ → ℕ → Option (List ℕ) → ManagedStore → ManagedStore

@@ -5,12 +5,15 @@ use Rattle.arena_core.specs.declared.span.Span.{Span}
 use Rattle.arena_core.specs.Contents.{Contents}
 use Rattle.arena_core.specs.Outside.{ChangesOnly}
 use Rattle.mmem_core.specs.declared.place.Place.{Place}
+use Rattle.mmem_core.specs.declared.quotas.Quotas.{Quotas}
 use Rattle.mmem_core.specs.ManagedStore.{ManagedStore}
 use Rattle.mmem_core.specs.Places.{bytes_moved}
 
 pub record Table : Type 0 where
   -- the part of the arena that the blocks lie in
   pub span : Span
+  -- how much each process may hold, and which processes may hold blocks
+  pub quotas : Quotas
   pub places : List (Option Place)
   -- how many bytes were moved so far
   pub slid : ℕ
@@ -28,6 +31,7 @@ abbrev pub store_of : Table → List ℕ → ManagedStore
 store_of table bytes =
     record {
       capacity = table.span.len;
+      quota = table.quotas.each;
       blocks = map (option_map (bytes_at (region_of table bytes))) table.places;
     }
 
@@ -35,9 +39,10 @@ store_of table bytes =
 abbrev pub IsWithin : Table → List ℕ → Type 0
 IsWithin table bytes = table.span.at + table.span.len ≤ length bytes
 
--- the table keeps its span, and of the arena only bytes of that span changed
+-- the table keeps its span and its quotas, and of the arena only bytes of that span changed
 pub record KeepsToSpan (old new : Table) (old_arena new_arena : Contents) : Type 0 where
   pub span : new.span ≡ old.span
+  pub quotas : new.quotas ≡ old.quotas
   pub carved : new_arena.carved ≡ old_arena.carved
   pub bytes : ChangesOnly old.span.at old.span.len old_arena.bytes new_arena.bytes
 

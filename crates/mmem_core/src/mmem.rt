@@ -1,16 +1,33 @@
 //! The handle table, and the calls on blocks.
 
-ghost use Rattle.std.specs.Prelude.{◌≡◌, ℕ, List, ◌+◌, ◌≤◌, ◌<◌, ◌↔◌, length, slice_set, IsNone, IfNone, IfSome, OnSome, IsSome, IsSomeAnd, Some, None};
+ghost use Rattle.std.specs.Prelude.{◌≡◌, ℕ, List, ◌+◌, ◌-◌, ◌*◌, ◌≤◌, ◌<◌, ◌↔◌, length, slice_set, IsNone, IfNone, IfSome, OnSome, IsSome, IsSomeAnd, Some, None};
+ghost use Rattle.std.specs.Option.{option_map_or};
 ghost use Rattle.mote_types.specs.Rounding.{up4};
 ghost use Rattle.mote_types.specs.BlockNames as names;
 ghost use Rattle.mote_types.specs.BlockNames.{IsName};
-ghost use Rattle.mmem_core.specs.ManagedStore.{IsManagedSize, empty_store, block_of, bytes_of, length_of, free, allocated, freed, with_bytes, copied};
+ghost use Rattle.mmem_core.specs.ManagedStore.{IsManagedSize, empty_store, block_of, bytes_of, length_of, unused, free, shortage, allocated, freed, with_bytes, copied};
 
 use crate::order::Order;
 use crate::place::{Place, rounded};
+use crate::quotas::Quotas;
 use arena_core::{Arena, Span};
 use mote_types::block_name::{Key, NAMES, number_of};
+use mote_types::event::Pid;
+use mote_types::refusal::Refusal;
 use std::marker::Model;
+
+/// How many processes have names: process 3 and the applications.
+const PROCESSES: usize = 17;
+
+/// Where a process stands in a table of those that have names.
+fn place_of_process(pid: Pid) -> usize
+    requires least { 3 ≤ pid.0 }
+    requires most { pid.0 ≤ 19 }
+    ensures place { result ≡ pid.0 - 3 }
+    ensures within { result < PROCESSES }
+{
+    (pid.0 - 3) as usize
+}
 
 /// Managed memory over a span of an arena.
 ///
@@ -18,22 +35,26 @@ use std::marker::Model;
 #[derive(Drop)]
 pub struct Mmem {
     span: Span,
+    quotas: Quotas,
     places: [Option<Place>; NAMES],
     order: Order,
     used: u32,
+    /// What each process's blocks take of that, from process 3 on.
+    taken: [u32; PROCESSES],
     slid: u64,
 }
 
 impl Model for Mmem {
     ghost use Rattle.std.specs.Prelude.{◌≡◌, ◌≤◌, length};
     ghost use Rattle.mmem_core.specs.Code.Laid.{IsLaidOut, LieApart};
+    ghost use Rattle.mmem_core.specs.Code.Shares.{AreShared};
     ghost use Rattle.mmem_core.specs.Table.{Table};
 
     ghost Value = { Table };
 
-    ghost view = { λ m. record { span = m.span; places = m.places; slid = m.slid } };
+    ghost view = { λ m. record { span = m.span; quotas = m.quotas; places = m.places; slid = m.slid } };
 
-    ghost invariant = { λ m. IsLaidOut m.places m.order m.used m.span.len × LieApart m.places m.span.len × (m.span.len ≤ 65536) };
+    ghost invariant = { λ m. IsLaidOut m.places m.order m.used m.span.len × LieApart m.places m.span.len × (m.span.len ≤ 65536) × AreShared m.quotas m.places m.taken m.used m.span.len };
 }
 
 impl Mmem {
@@ -42,41 +63,60 @@ impl Mmem {
     ghost use Rattle.mmem_core.specs.Separation.{BlocksLieApart, place_of};
 
     /// Managed memory without a block, over a span of 4 to 65,536 bytes, a multiple of 4.
-    pub fn new(span: Span) -> Mmem
-        requires { IsManagedSize span.len }
+    ///
+    /// With a quota each of so many owners, the processes from 3 on, may hold so many bytes, and the span has room for all of
+    /// them; other processes may hold none. With no quota each of the processes 3 to 19 may take all that is free.
+    pub fn new(span: Span, quota: Option<u32>, owners: u8) -> Mmem
+        requires size { IsManagedSize span.len }
+        requires owners { owners ≤ 17 }
+        requires quotas { IfSome quota (λ bytes. bytes * owners ≤ span.len) }
         ensures span { result.span ≡ span }
-        ensures empty { (bytes : List ℕ) → store_of result bytes ≡ empty_store span.len }
+        ensures quota { result.quotas.each ≡ quota }
+        ensures owners { result.quotas.owners ≡ option_map_or (λ _. owners) quota 17 }
+        ensures empty { (bytes : List ℕ) → store_of result bytes ≡ empty_store span.len quota }
         ensures nothing_slid { result.slid ≡ 0 }
     {
+        let owners = match quota {
+            Some(_) => owners,
+            None => PROCESSES as u8,
+        };
         Mmem {
             span,
+            quotas: Quotas {
+                each: quota,
+                owners,
+            },
             places: [None; NAMES],
             order: Order::new(),
             used: 0,
+            taken: [0; PROCESSES],
             slid: 0,
         }
     }
 
     /// Gives a name that is not live a block of `n` bytes, all 0. `None` exactly where `n`, rounded up to a multiple of 4,
-    /// is more than what is free; then nothing changes.
+    /// is more than what is free for its process; then nothing changes.
     ///
     /// The block comes behind the last one. Where the space there is too short, all blocks slide together first.
     pub fn alloc(&mut self, arena: &mut Arena, key: Key, n: u32) -> Option<()>
         requires named { IsName key.0.0 key.1 }
+        requires owner { key.0.0 ≤ 2 + self.old.quotas.owners }
         requires within { IsWithin self.old arena.old.bytes }
         requires unused { block_of key.0.0 key.1 (store_of self.old arena.old.bytes) ≡ None }
         requires some_bytes { 1 ≤ n }
-        ensures refused { IsNone result ↔ (free (store_of self.old arena.old.bytes) < up4 n) }
+        ensures refused { IsNone result ↔ (free key.0.0 (store_of self.old arena.old.bytes) < up4 n) }
         ensures unchanged { IfNone result ((self.new ≡ self.old) × (arena.new ≡ arena.old)) }
         ensures block { OnSome result (store_of self.new arena.new.bytes ≡ allocated key.0.0 key.1 n (store_of self.old arena.old.bytes)) }
         ensures rest { KeepsToSpan self.old self.new arena.old arena.new }
         ensures slid { CountsMoved self.old self.new }
         ensures still { last_end self.old.places + up4 n ≤ self.old.span.len → bytes_moved self.old.places self.new.places ≡ 0 }
-        ensures together { 0 < bytes_moved self.old.places self.new.places → last_end self.new.places + free (store_of self.new arena.new.bytes) ≤ self.new.span.len }
+        ensures together { 0 < bytes_moved self.old.places self.new.places → last_end self.new.places + unused (store_of self.new arena.new.bytes) ≤ self.new.span.len }
         ensures last { IfSome result (λ _. IsSomeAnd (place_of key.0.0 key.1 self.new) (λ place. last_end self.new.places ≡ place.at + up4 n)) }
     {
+        // Read for the check alone: a refused call leaves the count in its range.
+        let _slid = &self.slid;
         let size = rounded(n);
-        if ((self.span.len - self.used) as u64) < size {
+        if (self.avail(key.0) as u64) < size {
             return None;
         }
         self.make_room(arena, size as u32);
@@ -101,13 +141,13 @@ impl Mmem {
     /// Sees to it that `size` bytes behind the last block are free: where they aren't, all blocks slide together.
     fn make_room(&mut self, arena: &mut Arena, size: u32)
         requires within { IsWithin self.old arena.old.bytes }
-        requires room { size ≤ free (store_of self.old arena.old.bytes) }
+        requires room { size ≤ unused (store_of self.old arena.old.bytes) }
         ensures room { last_end self.new.places + size ≤ self.new.span.len }
         ensures blocks { store_of self.new arena.new.bytes ≡ store_of self.old arena.old.bytes }
         ensures rest { KeepsToSpan self.old self.new arena.old arena.new }
         ensures slid { CountsMoved self.old self.new }
         ensures still { last_end self.old.places + size ≤ self.old.span.len → bytes_moved self.old.places self.new.places ≡ 0 }
-        ensures together { 0 < bytes_moved self.old.places self.new.places → last_end self.new.places + free (store_of self.new arena.new.bytes) ≤ self.new.span.len }
+        ensures together { 0 < bytes_moved self.old.places self.new.places → last_end self.new.places + unused (store_of self.new arena.new.bytes) ≤ self.new.span.len }
     {
         if self.span.len - self.end() < size {
             self.slide_together(arena);
@@ -117,7 +157,7 @@ impl Mmem {
     /// Slides all blocks together, from the span's start on and in the order of their places.
     fn slide_together(&mut self, arena: &mut Arena)
         requires { IsWithin self.old arena.old.bytes }
-        ensures room { last_end self.new.places + free (store_of self.new arena.new.bytes) ≤ self.new.span.len }
+        ensures room { last_end self.new.places + unused (store_of self.new arena.new.bytes) ≤ self.new.span.len }
         ensures blocks { store_of self.new arena.new.bytes ≡ store_of self.old arena.old.bytes }
         ensures rest { KeepsToSpan self.old self.new arena.old arena.new }
         ensures slid { CountsMoved self.old self.new }
@@ -137,9 +177,11 @@ impl Mmem {
     /// Puts a new block of zeros behind the last one.
     fn put_last(&mut self, arena: &mut Arena, key: Key, n: u32)
         requires named { IsName key.0.0 key.1 }
+        requires owner { key.0.0 ≤ 2 + self.old.quotas.owners }
         requires within { IsWithin self.old arena.old.bytes }
         requires unused { block_of key.0.0 key.1 (store_of self.old arena.old.bytes) ≡ None }
         requires some_bytes { 1 ≤ n }
+        requires share { up4 n ≤ free key.0.0 (store_of self.old arena.old.bytes) }
         requires room { last_end self.old.places + up4 n ≤ self.old.span.len }
         ensures block { store_of self.new arena.new.bytes ≡ allocated key.0.0 key.1 n (store_of self.old arena.old.bytes) }
         ensures place { self.new.places ≡ slice_set self.old.places (names.number_of key.0.0 key.1) (Some (record { at = last_end self.old.places; len = n })) }
@@ -160,6 +202,7 @@ impl Mmem {
         self.places[number] = Some(Place { at, len: n });
         self.order.append(number);
         self.used += rounded(n) as u32;
+        self.taken[place_of_process(key.0)] += rounded(n) as u32;
     }
 
     /// Takes a name's block away, which leaves a hole. No block moves.
@@ -178,6 +221,7 @@ impl Mmem {
         self.order.remove(number);
         self.places[number] = None;
         self.used -= rounded(place.len) as u32;
+        self.taken[place_of_process(key.0)] -= rounded(place.len) as u32;
     }
 
     /// The bytes of a name's block.
@@ -228,11 +272,28 @@ impl Mmem {
         }
     }
 
-    /// How many bytes are free: what the rounded lengths of all live blocks leave of the span.
-    pub fn avail(&self) -> u32
-        ensures { (bytes : List ℕ) → IsWithin self.now bytes → result ≡ free (store_of self.now bytes) }
+    /// How many bytes are free for a process: what the rounded lengths of its own live blocks leave of its quota; where there
+    /// is none, what those of all live blocks leave of the span. For an owner so many bytes are there, whatever the others hold.
+    pub fn avail(&self, pid: Pid) -> u32
+        requires least { 3 ≤ pid.0 }
+        requires most { pid.0 ≤ 19 }
+        ensures free { (bytes : List ℕ) → IsWithin self.now bytes → result ≡ free pid.0 (store_of self.now bytes) }
+        ensures there { (bytes : List ℕ) → IsWithin self.now bytes → pid.0 ≤ 2 + self.now.quotas.owners → result ≤ unused (store_of self.now bytes) }
     {
-        self.span.len - self.used
+        match self.quotas.each {
+            Some(quota) => quota - self.taken[place_of_process(pid)],
+            None => self.span.len - self.used,
+        }
+    }
+
+    /// Why a block that doesn't fit is refused: `OverQuota` where there are quotas, else `NoRoom`.
+    pub fn shortage(&self) -> Refusal
+        ensures { (bytes : List ℕ) → result ≡ shortage (store_of self.now bytes) }
+    {
+        match self.quotas.each {
+            Some(_) => Refusal::OverQuota,
+            None => Refusal::NoRoom,
+        }
     }
 
     /// The length of a name's block, if it is live.

@@ -11,7 +11,14 @@ use Rattle.mote.specs.declared.failure.Failure.{Failure}
 
 -- a mote of the named sizes with the named applications
 abbrev pub config_of : Named → Config
-config_of named = record { mmem = named.mmem; heap = named.heap; apps = length named.applications.items }
+config_of named =
+    record {
+      mmem = named.mmem;
+      heap = named.heap;
+      apps = length named.applications.items;
+      quota = named.quota;
+      header = named.header;
+    }
 
 -- the parser takes the words, each name is an application's, and there is a mote of these sizes with so many applications
 pub record NamesMote (words : List (List ℕ)) : Type 0 where

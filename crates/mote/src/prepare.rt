@@ -41,6 +41,8 @@ pub fn prepare<'a>(alloc: Global, words: &'a [&'a str]) -> Result<Prepared, Fail
         mmem: named.mmem,
         heap: named.heap,
         apps: named.applications.len() as u8,
+        quota: named.quota,
+        header: named.header,
     };
     let kernel = Kernel::boot(alloc, config)?;
     Ok(Prepared {

@@ -5,4 +5,5 @@ use Rattle.node_memory.specs.declared.sizes.Sizes.{Sizes}
 
 -- a mote of these sizes with so many applications
 abbrev pub config_of : Sizes → ℕ → Config
-config_of sizes applications = record { mmem = sizes.mmem; heap = sizes.heap; apps = applications }
+config_of sizes applications =
+    record { mmem = sizes.mmem; heap = sizes.heap; apps = applications; quota = sizes.quota; header = sizes.header }

@@ -20,10 +20,12 @@ use node_memory::Sizes;
 use std::alloc::Global;
 use std::marker::{Brand, PhantomData};
 
-/// The sizes of managed memory and of the heap where nothing else is said, in bytes.
+/// The sizes of a mote's memory where nothing else is said, in bytes: no process has a quota.
 pub const DEFAULT_SIZES: Sizes = Sizes {
     mmem: 4_096,
     heap: 4_096,
+    header: 16,
+    quota: None,
 };
 
 /// Boots a mote of these sizes for the applications in the boxes, and runs it from a source to a sink. What is written is
@@ -32,9 +34,9 @@ pub const DEFAULT_SIZES: Sizes = Sizes {
 ///
 /// # Errors
 ///
-/// `BadSizes` exactly where a size is out of its range or no multiple of 4 or there are more than 16 applications; `Read`
-/// and `Write` exactly where that device failed; else `Memory`. What was written is a front part of the text then, and
-/// after `Read` all of the text of the whole lines that were read.
+/// `BadSizes` exactly where the kernel boots with no such sizes or there are more than 16 applications; `Read` and `Write`
+/// exactly where that device failed; else `Memory`. What was written is a front part of the text then, and after `Read` all
+/// of the text of the whole lines that were read.
 pub fn run_boxes<S: ByteSource, K: ByteSink>(
     alloc: Global,
     sizes: Sizes,
@@ -63,6 +65,8 @@ pub fn run_boxes<S: ByteSource, K: ByteSink>(
         mmem: sizes.mmem,
         heap: sizes.heap,
         apps,
+        quota: sizes.quota,
+        header: sizes.header,
     };
     let kernel = Kernel::boot(alloc, config)?;
     let end = run(source, sink, kernel, boxes, quiet)?;

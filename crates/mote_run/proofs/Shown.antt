@@ -19,7 +19,9 @@ boots_so a b e h =
     let mmem : a.mmem ≡ b.mmem = ap (λ (m : Machine). m.memory.managed.capacity) e in
     let heap : a.heap ≡ b.heap = ap (λ (m : Machine). m.memory.heap.size) e in
     let apps : a.apps ≡ b.apps = ap (λ (m : Machine). m.scheduler.applications) e in
-    rw (mmem, heap, apps) h
+    let quota : a.quota ≡ b.quota = ap (λ (m : Machine). m.memory.managed.quota) e in
+    let header : a.header ≡ b.header = ap (λ (m : Machine). m.memory.heap.header) e in
+    rw (mmem, heap, apps, quota, header) h
 
 -- what holds under premises holds once they are met
 pub ok_under : {T E A B X : Type 0} (Q : X → Type 0) (R : X → T → Type 0) (r : Result T E)

@@ -7,7 +7,7 @@ ghost use Rattle.kernel_core.specs.declared.config.Config.{Config};
 ghost use Rattle.kernel_core.specs.Machine.{booted};
 ghost use Rattle.mote_run.specs.RunText.{HasRead, HasRun, HasRunInPart, HasRunOnWholeLines, WasBooted};
 ghost use Rattle.mote_run.specs.Shown.{Shows};
-ghost use Rattle.run_laws.specs.RunLaws.{BlocksAreOwn, EventsArriveInOrder, TimersAreKept};
+ghost use Rattle.run_laws.specs.RunLaws.{BlocksAreOwn, EventsArriveInOrder, ProcessesAreIsolated, TimersAreKept};
 ghost use Rattle.mote_run.specs.Code.Writing.{WritesOn};
 
 use crate::due::Due;
@@ -20,6 +20,7 @@ use mote_text::transcript::final_text;
 use mote_types::app::App;
 use mote_types::device::{ByteSink, ByteSource};
 use run_laws::events::events_arrive_in_order;
+use run_laws::isolation::processes_are_isolated;
 use run_laws::memory::blocks_are_own;
 use run_laws::timers::timers_are_kept;
 use thiserror::Error;
@@ -84,7 +85,8 @@ fn write_run<S: ByteSource, K: ByteSink>(
 /// What is written is the text of the run that the machine makes with the same inputs and applications, and the answer
 /// is how that run ends. Of what that run shows an author of an application can rely on this: a process's managed and heap
 /// blocks are what its own calls made of them (`memory`); the events that are accepted for it arrive in order, and none is
-/// lost (`events`); no timer event comes early or twice, and none is lost (`timers`).
+/// lost (`events`); no timer event comes early or twice, and none is lost (`timers`); with quotas managed memory answers a
+/// process as one of its own would, whatever the others do (`isolation`).
 ///
 /// # Errors
 ///
@@ -115,11 +117,14 @@ pub fn run<S: ByteSource, K: ByteSink>(
         Shows (EventsArriveInOrder config.apps) config (says_of says apps.old) quiet (S.taken source.old) (S.taken source.new) (S.is_ended source.new) (K.given sink.old) (K.given sink.new) result }
     ensures timers { S.is_named → K.is_named → (config : Config) → kernel.machine ≡ booted config →
         Shows (TimersAreKept config.apps) config (says_of says apps.old) quiet (S.taken source.old) (S.taken source.new) (S.is_ended source.new) (K.given sink.old) (K.given sink.new) result }
+    ensures isolation { S.is_named → K.is_named → (config : Config) → kernel.machine ≡ booted config →
+        Shows (ProcessesAreIsolated config.quota config.apps) config (says_of says apps.old) quiet (S.taken source.old) (S.taken source.new) (S.is_ended source.new) (K.given sink.old) (K.given sink.new) result }
 {
     // Laws of every run of the machine.
     blocks_are_own();
     events_arrive_in_order();
     timers_are_kept();
+    processes_are_isolated();
     text_exists();
     let mut kernel = kernel;
     write_run(source, sink, &mut kernel, apps, quiet)

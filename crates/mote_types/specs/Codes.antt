@@ -36,3 +36,4 @@ refusal_number Refusal.Linked = 14
 refusal_number Refusal.NotLinked = 15
 refusal_number Refusal.NoPacket = 16
 refusal_number Refusal.NotReceiver = 17
+refusal_number Refusal.OverQuota = 18

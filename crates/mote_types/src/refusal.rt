@@ -40,10 +40,12 @@ pub enum Refusal {
     NoPacket,
     /// The caller is not the receiver.
     NotReceiver,
+    /// The caller's quota of managed memory has no room for so many bytes.
+    OverQuota,
 }
 
 impl Refusal {
-    /// The number that a transcript shows, from 1 to 17.
+    /// The number that a transcript shows, from 1 to 18.
     pub fn number(self) -> u8
         ensures { result ≡ codes.refusal_number self }
     {
@@ -65,6 +67,7 @@ impl Refusal {
             Refusal::NotLinked => 15,
             Refusal::NoPacket => 16,
             Refusal::NotReceiver => 17,
+            Refusal::OverQuota => 18,
         }
     }
 }

@@ -1,7 +1,6 @@
 -- The command line as the parser knows it is a simple one, and what the getters read of matches, by their rows.
 use Rattle.std.proofs.Common.{◌≡◌, ◌∙◌, ℕ, Bool, true, false, refl, ap, sym, arith, List, [], map, Option, Some, None, Result, Ok, Err, codes}
 use Rattle.std.specs.Prelude.{find, option_map, option_and_then, unwrap_or, if◌then◌else◌, bytes_eq}
-use Rattle.std.specs.Option.{option_map_or}
 use Rattle.std.specs.Borrow.{Bor}
 use Rattle.std.specs.Str.Parse.{ParsesUnsigned, digits_value, without_leading_plus}
 use Rattle.clap.specs.Facts.{Entry}
@@ -16,7 +15,7 @@ use Rattle.clap.proofs.OnLiterals.{clap_on_literals}
 use Rattle.clap.proofs.ValueTestLemmas.{Accepts-accepts, accepts-Accepts}
 use Rattle.clap.proofs.WalkLemmas.{find-map, one_text-rows, raw_values-rows}
 use Rattle.mote_apps.specs.declared.bundled.Bundled.{Bundled}
-use Rattle.mote_words.specs.CommandLine.{applications_of, faults_in, is_quiet, named_in, names_of, number_of, program, rows_in, size_of}
+use Rattle.mote_words.specs.CommandLine.{applications_of, faults_in, is_quiet, named_in, names_of, number_of, number_written, program, rows_in, size_of}
 use Rattle.mote_words.specs.declared.words.Named.{Named}
 
 pub program_is_simple : is_simple program ≡ true
@@ -43,27 +42,27 @@ names_given f id o is given =
 
 -- what was read of a text is the number that it writes
 number_read : (E : Type 0) (G : List ℕ → Result ℕ E → Type 0) → ((t : List ℕ) (x : Result ℕ E) → G t x → ParsesUnsigned 32 10 t x) →
-    (t : List ℕ) (r : Option ℕ) → ReadsOne G t r → unwrap_or r 0 ≡ number_of t
+    (t : List ℕ) (r : Option ℕ) → ReadsOne G t r → r ≡ number_written t
 number_read E G only t (Some v) read =
     let parsed = only t (Ok v) read in
     let in_range : is_unsigned_in 0 4294967295 t ≡ true =
     Accepts-accepts false (ValueParser.Unsigned 0 4294967295) t (parsed.0.0, omega (arith, parsed), omega arith, omega (arith, parsed)) in
-    rw in_range parsed.1
+    rw in_range (ap Some parsed.1)
 number_read E G only t None read = go (is_unsigned_in 0 4294967295 t) refl
   where
-    go : (b : Bool) → is_unsigned_in 0 4294967295 t ≡ b → 0 ≡ (if b then digits_value 10 (without_leading_plus t) else 0)
+    go : (b : Bool) → is_unsigned_in 0 4294967295 t ≡ b → None ≡ (if b then Some (digits_value 10 (without_leading_plus t)) else None)
     go true e =
         let accepted = accepts-Accepts false (ValueParser.Unsigned 0 4294967295) t e in
         absurd (only t (Err read.0) read.1 (accepted.0, omega (arith, accepted)))
     go false e = refl
 
-pub size_given : (E : Type 0) (G : List ℕ → Result ℕ E → Type 0) → ((t : List ℕ) (x : Result ℕ E) → G t x → ParsesUnsigned 32 10 t x) →
+pub number_given : (E : Type 0) (G : List ℕ → Result ℕ E → Type 0) → ((t : List ℕ) (x : Result ℕ E) → G t x → ParsesUnsigned 32 10 t x) →
     (f : Found) (id : Text) (r : Option ℕ) → (one_text f id ≡ None → r ≡ None) →
-    ((t : List ℕ) → one_text f id ≡ Some t → ReadsOne G t r) → unwrap_or r 0 ≡ size_of id (rows_of f)
-size_given E G only f id r none value = go (one_text f id) refl ∙ ap (λ o. option_map_or number_of o 0) (one_text-rows f id)
+    ((t : List ℕ) → one_text f id ≡ Some t → ReadsOne G t r) → r ≡ number_of id (rows_of f)
+number_given E G only f id r none value = go (one_text f id) refl ∙ ap (option_and_then number_written) (one_text-rows f id)
   where
-    go : (o : Option (List ℕ)) → one_text f id ≡ o → unwrap_or r 0 ≡ option_map_or number_of o 0
-    go None e = ap (λ x. unwrap_or x 0) (none e)
+    go : (o : Option (List ℕ)) → one_text f id ≡ o → r ≡ option_and_then number_written o
+    go None e = none e
     go (Some t) e = number_read E G only t r (value t e)
 
 -- where the value of an argument came from
@@ -75,12 +74,14 @@ source_given f id = go (find (λ (e : Entry). bytes_eq e.0.now id) f.entries.ite
     go None = refl
     go (Some e) = refl
 
-abbrev pub named_with : List Bundled → ℕ → ℕ → Bool → Named
-named_with applications mmem heap quiet = record { applications = record { items = applications }; mmem = mmem; heap = heap; quiet = quiet }
+abbrev pub named_with : List Bundled → ℕ → ℕ → Option ℕ → ℕ → Bool → Named
+named_with applications mmem heap quota header quiet =
+    record { applications = record { items = applications }; mmem = mmem; heap = heap; quota = quota; header = header; quiet = quiet }
 
-pub named_read : (words : List Text) (applications : List Bundled) (mmem heap : ℕ) (quiet : Bool) →
+pub named_read : (words : List Text) (applications : List Bundled) (mmem heap : ℕ) (quota : Option ℕ) (header : ℕ) (quiet : Bool) →
     applications ≡ applications_of (names_of (rows_in words)) → mmem ≡ size_of (codes "mmem") (rows_in words) →
-    heap ≡ size_of (codes "heap") (rows_in words) → quiet ≡ is_quiet (rows_in words) →
-    named_with applications mmem heap quiet ≡ named_in words
+    heap ≡ size_of (codes "heap") (rows_in words) → quota ≡ number_of (codes "quota") (rows_in words) →
+    header ≡ size_of (codes "header") (rows_in words) → quiet ≡ is_quiet (rows_in words) →
+    named_with applications mmem heap quota header quiet ≡ named_in words
 unfolding named_in
-named_read words applications mmem heap quiet a m h q = rw (a, m, h, q) refl
+named_read words applications mmem heap quota header quiet a m h o r q = rw (a, m, h, o, r, q) refl

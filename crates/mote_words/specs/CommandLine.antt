@@ -1,6 +1,5 @@
 -- What the words of the command line name: what the parser makes of them, and which applications and sizes that is.
 use Rattle.std.specs.Prelude.{◌≡◌, ◌<◌, ◌≤◌, ⊤, ℕ, Bool, pos, true, false, List, [], ◌∷◌, Option, Some, None, is_none, find, filter_map, length, codes, unwrap_or, option_and_then, bytes_eq, if◌then◌else◌}
-use Rattle.std.specs.Option.{option_map_or}
 use Rattle.std.specs.Str.Parse.{digits_value, without_leading_plus}
 use Rattle.clap.specs.Lexer.{usize_max}
 use Rattle.clap.specs.Words.{App, Row, Rule, Text, all_of, fault_of, kind_of, matches_of, new_app, new_rule, one_of, with_rule}
@@ -20,15 +19,17 @@ use Rattle.mote_words.specs.declared.refusal.Refusal.{Refusal}
 
 -- ---- the command line, as the parser knows it
 
--- `--NAME N`, with a number that this parser takes; 4,096 where the option isn't used
+-- `--NAME N`, with a number that this parser takes
+abbrev pub number_option : Text → ValueParser → Rule
+number_option name numbers = record (new_rule name) { long = Some name; value_names = 1; parser = Some numbers }
+
+-- that number where the option isn't used
+abbrev pub with_default : Text → Rule → Rule
+with_default number rule = record rule { defaults = number ∷ [] }
+
+-- the size of a region
 abbrev pub size_option : Text → ValueParser → Rule
-size_option name numbers =
-    record (new_rule name) {
-      long = Some name;
-      value_names = 1;
-      defaults = codes "4096" ∷ [];
-      parser = Some numbers;
-    }
+size_option name numbers = with_default (codes "4096") (number_option name numbers)
 
 -- the numbers from `least` to 65,536
 abbrev pub sizes_from : ℕ → ValueParser
@@ -39,6 +40,13 @@ mmem_option = size_option (codes "mmem") (sizes_from 4)
 
 abbrev pub heap_option : Rule
 heap_option = size_option (codes "heap") (sizes_from 20)
+
+abbrev pub quota_option : Rule
+quota_option = number_option (codes "quota") (sizes_from 4)
+
+-- any number of 32 bits: whether it is one that a mote has is seen later
+abbrev pub header_option : Rule
+header_option = with_default (codes "16") (number_option (codes "header") (ValueParser.Signed (pos 0) (pos 4294967295)))
 
 abbrev pub quiet_flag : Rule
 quiet_flag = record (new_rule (codes "quiet")) { long = Some (codes "quiet"); action = Some ArgAction.SetTrue }
@@ -52,7 +60,9 @@ abbrev pub versioned : App
 versioned = on_top (λ shape. record shape { has_version = true }) (new_app (codes "mote"))
 
 abbrev pub program : App
-program = with_rule (with_rule (with_rule (with_rule versioned mmem_option) heap_option) quiet_flag) names_argument
+program =
+    with_rule (with_rule (with_rule (with_rule (with_rule (with_rule versioned mmem_option) heap_option) quota_option) header_option) quiet_flag)
+    names_argument
 
 -- what the parser finds of each argument, where it takes the words
 unfoldable pub rows_in : List Text → List Row
@@ -68,12 +78,17 @@ faults_in words = fault_of program words
 abbrev pub names_of : List Row → List Text
 names_of rows = unwrap_or (all_of (codes "APP") rows) []
 
--- the number that a text writes; 0 where it writes none of 32 bits
-abbrev pub number_of : Text → ℕ
-number_of text = if is_unsigned_in 0 4294967295 text then digits_value 10 (without_leading_plus text) else 0
+-- the number that a text writes, if it writes one of 32 bits
+abbrev pub number_written : Text → Option ℕ
+number_written text = if is_unsigned_in 0 4294967295 text then Some (digits_value 10 (without_leading_plus text)) else None
 
+-- the number of an option, if it has one
+abbrev pub number_of : Text → List Row → Option ℕ
+number_of option rows = option_and_then number_written (one_of option rows)
+
+-- the number of an option that has a default
 abbrev pub size_of : Text → List Row → ℕ
-size_of option rows = option_map_or number_of (one_of option rows) 0
+size_of option rows = unwrap_or (number_of option rows) 0
 
 abbrev pub is_in_words : Option ValueSource → Bool
 is_in_words (Some ValueSource.CommandLine) = true
@@ -108,6 +123,8 @@ named_in words =
       applications = record { items = applications_of (names_of (rows_in words)) };
       mmem = size_of (codes "mmem") (rows_in words);
       heap = size_of (codes "heap") (rows_in words);
+      quota = number_of (codes "quota") (rows_in words);
+      header = size_of (codes "header") (rows_in words);
       quiet = is_quiet (rows_in words);
     }
 

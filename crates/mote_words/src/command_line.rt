@@ -48,17 +48,29 @@ Exit status:
 Example, which prints 'on' at the clock's tick 10:
   printf 'tick 10\\n' | mote blink";
 
-/// The option of this name, which takes a number of bytes.
-fn size_option<'a>(alloc: Global, name: &'a str, numbers: ValueParser<'a>, help: &'a str) -> Arg<'a>
-    ensures rule { rule_of result ≡ spec.size_option name.entry.now numbers.entry }
+/// The option of this name, which takes a number.
+fn number_option<'a>(
+    alloc: Global,
+    name: &'a str,
+    numbers: ValueParser<'a>,
+    help: &'a str,
+) -> Arg<'a>
+    ensures rule { rule_of result ≡ spec.number_option name.entry.now numbers.entry }
     ensures local { result.global ≡ false }
 {
     Arg::new(alloc, name)
         .long(name)
         .value_name("N")
-        .default_value("4096")
         .value_parser(numbers)
         .help(help)
+}
+
+/// The option of this name, which takes the size of a region.
+fn size_option<'a>(alloc: Global, name: &'a str, numbers: ValueParser<'a>, help: &'a str) -> Arg<'a>
+    ensures rule { rule_of result ≡ spec.size_option name.entry.now numbers.entry }
+    ensures local { result.global ≡ false }
+{
+    number_option(alloc, name, numbers, help).default_value("4096")
 }
 
 fn mmem_option<'a>(alloc: Global) -> Arg<'a>
@@ -77,6 +89,25 @@ fn heap_option<'a>(alloc: Global) -> Arg<'a>
     let numbers = value_parser!(u32).range(20..=65_536);
     let help = "Bytes of heap memory, a multiple of 4 from 20 to 65536";
     size_option(alloc, "heap", numbers, help)
+}
+
+fn quota_option<'a>(alloc: Global) -> Arg<'a>
+    ensures rule { rule_of result ≡ spec.quota_option }
+    ensures local { result.global ≡ false }
+{
+    let numbers = value_parser!(u32).range(4..=65_536);
+    let help =
+        "Bytes of managed memory for each application and for the frames, a multiple of 4 from 4 to 65536";
+    number_option(alloc, "quota", numbers, help)
+}
+
+fn header_option<'a>(alloc: Global) -> Arg<'a>
+    ensures rule { rule_of result ≡ spec.header_option }
+    ensures local { result.global ≡ false }
+{
+    let numbers = value_parser!(u32);
+    let help = "Bytes of a header in heap memory, 16 or 8";
+    number_option(alloc, "header", numbers, help).default_value("16")
 }
 
 fn quiet_flag<'a>(alloc: Global) -> Arg<'a>
@@ -108,6 +139,8 @@ fn command<'a>(alloc: Global) -> Result<Command<'a>, AllocError>
         .after_help(AFTER_HELP)
         .arg(mmem_option(alloc))?
         .arg(heap_option(alloc))?
+        .arg(quota_option(alloc))?
+        .arg(header_option(alloc))?
         .arg(quiet_flag(alloc))?
         .arg(names_argument(alloc))
 }
@@ -126,11 +159,18 @@ pub fn parse<'a>(alloc: Global, words: &'a [&'a str]) -> Result<ArgMatches<'a>, 
     command.try_get_matches_from(words)
 }
 
-/// The number of an option. The parser lets no other text through; where there is none the size is 0, which no mote has.
+/// The number of an option, if it has one. The parser lets no other text through.
+pub fn number_in(matches: &ArgMatches<'_>, option: &str) -> Option<u32>
+    ensures { result ≡ spec.number_of option.now (rows_of (found_of matches.now)) }
+{
+    matches.get_one::<u32>(option)
+}
+
+/// The number of an option that has a default. Where there is none the size is 0, which no mote has.
 pub fn size_in(matches: &ArgMatches<'_>, option: &str) -> u32
     ensures { result ≡ spec.size_of option.now (rows_of (found_of matches.now)) }
 {
-    matches.get_one::<u32>(option).unwrap_or(0)
+    number_in(matches, option).unwrap_or(0)
 }
 
 fn is_in_words(source: Option<ValueSource>) -> bool

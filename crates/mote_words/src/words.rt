@@ -6,7 +6,7 @@ ghost use Rattle.clap.specs.Words.{found_of};
 ghost use Rattle.mote_words.specs.CommandLine.{NamesApplications, Refuses, RefusesNames, applications_of, is_unknown, named_in, names_of};
 ghost use Rattle.mote_words.specs.Code.Names.{application_of, refusal_of};
 
-use crate::command_line::{is_quiet, parse, size_in};
+use crate::command_line::{is_quiet, number_in, parse, size_in};
 use crate::refusal::Refusal;
 use arrayvec::ArrayVec;
 use clap::ArgMatches;
@@ -27,6 +27,10 @@ pub struct Named {
     pub mmem: u32,
     /// The size of the heap, in bytes.
     pub heap: u32,
+    /// What each application and the frames may hold of managed memory, in bytes, if that is limited.
+    pub quota: Option<u32>,
+    /// The length of a header in the heap, in bytes.
+    pub header: u32,
     /// Whether the transcript is a quiet one.
     pub quiet: bool,
 }
@@ -61,7 +65,8 @@ fn applications_in<'a>(matches: &ArgMatches<'a>) -> Result<Applications, Refusal
     }
 }
 
-/// What the words name. The first word is the program's name. Where an option isn't used its size is 4,096 bytes.
+/// What the words name. The first word is the program's name. Where the option for it isn't used a region has 4,096 bytes, a
+/// header has 16, and there is no quota.
 ///
 /// # Errors
 ///
@@ -78,6 +83,8 @@ pub fn read_words<'a>(alloc: Global, words: &'a [&'a str]) -> Result<Named, Refu
         applications,
         mmem: size_in(&matches, "mmem"),
         heap: size_in(&matches, "heap"),
+        quota: number_in(&matches, "quota"),
+        header: size_in(&matches, "header"),
         quiet: is_quiet(&matches),
     })
 }

@@ -130,14 +130,14 @@ pools-apart from k listed l bytes lie there apart = apart bytes (behind-get k fr
 
 -- a block that is read from a range of the arena
 read-from : (name : BlockName) (bytes : List ℕ) (layout : Layout) (extent : Extent) (at len : ℕ) → extent_named name layout ≡ Some extent → range_of at len layout.bytes ≡ bytes
-    → at ≡ extent.at + header_of name → at + len ≤ length layout.bytes → header_of name + len ≤ extent.len → IsReadFrom name bytes layout
+    → at ≡ extent.at + header_of name layout → at + len ≤ length layout.bytes → header_of name layout + len ≤ extent.len → IsReadFrom name bytes layout
 read-from name bytes layout extent at len takes is at_is within fits =
     let count : length bytes ≡ len = ap length (sym is) ∙ length-range layout.bytes at len within in
     record {
       extent = extent;
       takes = takes;
       fits = omega (arith, fits, count);
-      read = sym is ∙ ap (λ a. range_of a len layout.bytes) at_is ∙ ap (λ n. range_of (extent.at + header_of name) n layout.bytes) (sym count);
+      read = sym is ∙ ap (λ a. range_of a len layout.bytes) at_is ∙ ap (λ n. range_of (extent.at + header_of name layout) n layout.bytes) (sym count);
     }
 
 module _ (l : Layout) (laid_out : IsLaidOut l) (managed_apart : managed.BlocksLieApart l.managed l.bytes) (pools_apart : (k : ℕ) (listed : ListedPool) → slice_get l.pools k ≡ Some listed → pools.BlocksLieApart listed.pool l.bytes) where
@@ -257,7 +257,7 @@ module _ (l : Layout) (laid_out : IsLaidOut l) (managed_apart : managed.BlocksLi
       let block = there.0 in
       let inside = heap_apart.inside p b block there.1 in
       let room = heap_apart.room p b block there.1 in
-      read-from (BlockName.Heap p b) bytes l (heap.extent_of l.heap block) (l.heap.span.at + block.at + 16) (length block.bytes) (ap (λ o. option_map (heap.extent_of l.heap) o) there.1) there.2 refl (omega (arith, inside, room, laid_out.heap.chunks.within)) (omega (arith, room))
+      read-from (BlockName.Heap p b) bytes l (heap.extent_of l.heap block) (l.heap.span.at + block.at + l.heap.header) (length block.bytes) (ap (λ o. option_map (heap.extent_of l.heap) o) there.1) there.2 refl (omega (arith, inside, room, laid_out.heap.chunks.within)) (omega (arith, room))
   read (BlockName.Pooled k b) bytes is = read-pool k b bytes (seen-or k l.pools l.bytes (unused_pool_of 0)) is
 
   pub all-apart : BlocksLieApart (placed l)

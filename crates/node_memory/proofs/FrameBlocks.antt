@@ -35,7 +35,7 @@ written-block p h bytes store new below is =
     ap (λ (s : ManagedStore). with_bytes p h 0 bytes s) is
     ∙ ap (λ b. with_block p h (Some (overwritten 0 bytes b)) made) read
     ∙ ap (λ b. with_block p h (Some b) made) (overwritten-all bytes)
-    ∙ ap (λ blocks. let s : ManagedStore = record { capacity = store.capacity; blocks = blocks } in s) (set-set store.blocks i (Some (zeros (length bytes))) (Some bytes))
+    ∙ ap (λ blocks. let s : ManagedStore = record { capacity = store.capacity; quota = store.quota; blocks = blocks } in s) (set-set store.blocks i (Some (zeros (length bytes))) (Some bytes))
 
 module _ (slot : ℕ) (bytes : List ℕ) (old new : Table) (heap : Region) (listed : List ListedPool) (before middle after : Contents) (laid_out : IsLaidOut (layout_of old heap listed before.bytes)) (slot_is : slot < 8) (made : managed.KeepsToSpan old new before middle) (made_is : store_of new middle.bytes ≡ with_block 3 slot (Some (zeros (length bytes))) (store_of old before.bytes)) (wrote : managed.KeepsToSpan new new middle after) (wrote_is : store_of new after.bytes ≡ with_bytes 3 slot 0 bytes (store_of new middle.bytes)) where
   middle_laid_out : IsLaidOut (layout_of new heap listed middle.bytes)

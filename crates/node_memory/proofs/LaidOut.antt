@@ -8,6 +8,7 @@ use Rattle.arena_core.specs.declared.span.Span.{Span}
 use Rattle.arena_core.specs.Contents.{Contents}
 use Rattle.arena_core.specs.Outside.{ChangesOnly}
 use Rattle.mote_types.specs.BlockNames.{number_of}
+use Rattle.mmem_core.specs.declared.quotas.Quotas.{Quotas}
 use Rattle.mmem_core.specs.ManagedStore.{ManagedStore, with_block}
 use Rattle.heap_core.specs.declared.region.Region.{Region}
 use Rattle.heap_core.specs.HeapStore.{HeapStore}
@@ -111,6 +112,7 @@ module _ (p h : ℕ) (block : Option (List ℕ)) (old new : Table) (heap : Regio
   pub after-managed : IsLaidOut (layout_of new heap listed after.bytes)
   after-managed = record {
     managed = managed_calls.IsWithin-kept old new before after kept laid_out.managed;
+    holder = omega (arith, ap (λ (q : Quotas). q.owners) kept.quotas, laid_out.holder);
     names = names_same ∙ laid_out.names;
     behind = omega (arith, ap (λ (s : Span). s.at) kept.span, ap (λ (s : Span). s.len) kept.span, laid_out.behind);
     heap = IsLaidOut-elsewhere heap old.span.at old.span.len before.bytes after.bytes kept.bytes apart laid_out.heap;
@@ -139,6 +141,7 @@ module _ (table : Table) (old new : Region) (listed : List ListedPool) (before a
   pub after-heap : IsLaidOut (layout_of table new listed after.bytes)
   after-heap = record {
     managed = omega (arith, kept.bytes.size, laid_out.managed);
+    holder = laid_out.holder;
     names = laid_out.names;
     behind = omega (arith, start, laid_out.behind);
     heap = now;
@@ -172,6 +175,7 @@ after-pool table heap k listed d new before after lt laid_out kept linked =
     let same = heap_of-elsewhere heap p.span.at p.span.len before.bytes after.bytes kept.bytes (inl far) laid_out.heap in (
       record {
         managed = omega (arith, kept.bytes.size, laid_out.managed);
+        holder = laid_out.holder;
         names = laid_out.names;
         behind = laid_out.behind;
         heap = IsLaidOut-elsewhere heap p.span.at p.span.len before.bytes after.bytes kept.bytes (inl far) laid_out.heap;

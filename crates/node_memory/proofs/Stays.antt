@@ -8,7 +8,7 @@ use Rattle.arena_core.specs.Extents.{Extent}
 use Rattle.mmem_core.specs.Table.{Table}
 use Rattle.heap_core.specs.declared.region.Region.{Region}
 use Rattle.heap_core.specs.HeapBytes.{heap_of}
-use Rattle.heap_core.specs.HeapStore.{Block, HeapStore, header_len}
+use Rattle.heap_core.specs.HeapStore.{Block, HeapStore}
 use Rattle.heap_core.specs.Separation.{live_block}
 use Rattle.memb_core.specs.BlockPool as pools
 use Rattle.memb_core.specs.Separation as places_in_pool
@@ -30,7 +30,7 @@ pools_stay (l ∷ later) before after b zero e =
 pools_stay (l ∷ later) before after b (suc k) e = pools_stay later before after b k (ap (drop 1) e)
 
 abbrev extent : Span → HeapStore → ℕ → ℕ → Option Extent
-extent span heap p b = option_map (λ (block : Block). let e : Extent = record { at = span.at + block.at; len = header_len + block.room } in e) (live_block p b heap)
+extent span heap p b = option_map (λ (block : Block). let e : Extent = record { at = span.at + block.at; len = heap.header + block.room } in e) (live_block p b heap)
 
 -- the heap shows the same, in the same span
 module _ (table : Table) (old new : Region) (listed : List ListedPool) (before after : List ℕ) (span : new.span ≡ old.span) (same : contents_of (layout_of table new listed after) ≡ contents_of (layout_of table old listed before)) where

@@ -44,7 +44,7 @@ ask_managed (Call.MmemRead h at len) p m =
 ask_managed (Call.MmemCopy source target) p m =
     unless_refused (copy_refusal p source target m.managed) m
     (done (with_managed (copied p source p target m.managed) m))
-ask_managed Call.MmemAvail p m = (m, Reply.Num (free m.managed))
+ask_managed Call.MmemAvail p m = (m, Reply.Num (free p m.managed))
 -- the other calls are not on managed memory, and are not asked here
 ask_managed _ p m = done m
 

@@ -2,7 +2,7 @@
 use Rattle.std.specs.Prelude.{ℕ, Bool, not, ◌||◌, length, Option, Some, None, is_some, if◌then◌else◌, ◌==◌, nat_le, nat_lt}
 use Rattle.mote_types.specs.Bytes.{is_within}
 use Rattle.mote_types.specs.declared.refusal.Refusal.{Refusal}
-use Rattle.mmem_core.specs.ManagedStore.{ManagedStore, block_of, bytes_of, fits}
+use Rattle.mmem_core.specs.ManagedStore.{ManagedStore, block_of, bytes_of, fits, shortage}
 
 -- handles are 0 to 15
 abbrev pub is_handle : ℕ → Bool
@@ -16,7 +16,7 @@ alloc_refusal p h n store =
     if not (is_handle h) then Some Refusal.BadName
     else if is_live p h store then Some Refusal.InUse
     else if n == 0 then Some Refusal.Range
-    else if not (fits n store) then Some Refusal.NoRoom
+    else if not (fits p n store) then Some (shortage store)
     else None
 
 abbrev pub free_refusal : ℕ → ℕ → ManagedStore → Option Refusal

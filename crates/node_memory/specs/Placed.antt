@@ -1,5 +1,5 @@
 -- The memory of a node together with the places of its blocks in the arena.
-use Rattle.std.specs.Prelude.{ℕ, List, map}
+use Rattle.std.specs.Prelude.{ℕ, ◌+◌, List, map}
 use Rattle.mmem_core.specs.Table.{Table, store_of}
 use Rattle.heap_core.specs.declared.region.Region.{Region}
 use Rattle.heap_core.specs.HeapBytes.{heap_of}
@@ -30,3 +30,7 @@ pub record PlacedMemory : Type 0 where
 
 abbrev pub placed : Layout → PlacedMemory
 placed layout = record { contents = contents_of layout; layout = layout }
+
+-- the last process that may have managed blocks: where there is no quota, 19
+abbrev pub last_owner : PlacedMemory → ℕ
+last_owner m = 2 + m.layout.managed.quotas.owners

@@ -74,17 +74,17 @@ extent_named (BlockName.Heap p b) l = option_map (heap_places.extent_of l.heap) 
 extent_named (BlockName.Pooled k b) l = extent_in_pool b l.bytes (slice_get l.pools k)
 
 -- what stands in that part before the block's bytes: the header of a block of the heap, the link of a pool's block
-abbrev pub header_of : BlockName → ℕ
-header_of (BlockName.Managed p h) = 0
-header_of (BlockName.Heap p b) = 16
-header_of (BlockName.Pooled k b) = 4
+abbrev pub header_of : BlockName → Layout → ℕ
+header_of (BlockName.Managed p h) l = 0
+header_of (BlockName.Heap p b) l = l.heap.header
+header_of (BlockName.Pooled k b) l = 4
 
 -- the block of that name takes a part of the arena, and these are the bytes that stand there behind its header
 pub record IsReadFrom (name : BlockName) (bytes : List ℕ) (layout : Layout) : Type 0 where
   pub extent : Extent
   pub takes : extent_named name layout ≡ Some extent
-  pub fits : header_of name + length bytes ≤ extent.len
-  pub read : bytes ≡ range_of (extent.at + header_of name) (length bytes) layout.bytes
+  pub fits : header_of name layout + length bytes ≤ extent.len
+  pub read : bytes ≡ range_of (extent.at + header_of name layout) (length bytes) layout.bytes
 
 -- Each live block, whatever its kind, takes a part of the one arena and is read from there; the parts of two different blocks
 -- share no byte.

@@ -2,9 +2,9 @@
 
 ghost use Rattle.std.specs.Prelude.{◌≡◌, ◌≤◌, ◌<◌, true, false, None, Some, length, IsSome, IfOk, IfErr};
 ghost use Rattle.mmem_core.specs.ManagedStore as store;
-ghost use Rattle.mmem_core.specs.ManagedStore.{fits};
-ghost use Rattle.mote_types.specs.declared.refusal.Refusal.{Refusal as Why};
-ghost use Rattle.node_memory.specs.Frames.{frame_block, frame_in, frame_taken, frame_dropped, send_refusal};
+ghost use Rattle.mmem_core.specs.ManagedStore.{fits, shortage};
+ghost use Rattle.node_memory.specs.Frames.{frame_holder, frame_block, frame_in, frame_taken, frame_dropped, send_refusal};
+ghost use Rattle.node_memory.specs.Placed.{last_owner};
 ghost use Rattle.node_memory.specs.Separation.{LeavesOthers};
 
 use crate::managed::LAST_HANDLE;
@@ -22,18 +22,19 @@ impl NodeMemory {
     /// Takes a frame of 1 to 127 bytes into a slot from 0 to 7 that holds none.
     ///
     /// # Errors
-    /// `NoRoom` exactly where managed memory has no room for its length, rounded up to a multiple of 4. Then nothing
-    /// changes.
+    /// `NoRoom` exactly where managed memory has no room for its length, rounded up to a multiple of 4; where there are quotas,
+    /// `OverQuota` exactly where that of process 3 has none. Then nothing changes.
     pub fn take_frame(&mut self, slot: u8, bytes: &[u8]) -> Result<(), Refusal>
         requires slot { slot < 8 }
         requires some_bytes { 1 ≤ length bytes.now }
         requires few_bytes { length bytes.now ≤ 127 }
         requires unused { frame_in slot self.old.contents ≡ None }
-        ensures taken { IfOk result (λ _. (fits (length bytes.now) self.old.contents.managed ≡ true)
+        ensures taken { IfOk result (λ _. (fits frame_holder (length bytes.now) self.old.contents.managed ≡ true)
             × (self.new.contents ≡ frame_taken slot bytes.now self.old.contents)) }
-        ensures refused { IfErr result (λ r. (r ≡ Why.NoRoom) × (fits (length bytes.now) self.old.contents.managed ≡ false)
+        ensures refused { IfErr result (λ r. (r ≡ shortage self.old.contents.managed) × (fits frame_holder (length bytes.now) self.old.contents.managed ≡ false)
             × (self.new ≡ self.old)) }
         ensures others { LeavesOthers (Some (frame_block slot)) self.old.contents self.new.contents }
+        ensures owners { last_owner self.new ≡ last_owner self.old }
     {
         let key = (FRAME_HOLDER, slot);
         if self
@@ -41,10 +42,18 @@ impl NodeMemory {
             .alloc(&mut self.arena, key, bytes.len() as u32)
             .is_none()
         {
-            return Err(Refusal::NoRoom);
+            return Err(self.mmem.shortage());
         }
         self.mmem.write(&mut self.arena, key, 0, bytes);
         Ok(())
+    }
+
+    /// Why a managed block for which there is no room is refused: `OverQuota` where there are quotas, else `NoRoom`.
+    pub fn shortage(&self) -> Refusal
+        ensures { result ≡ shortage self.now.contents.managed }
+    {
+        let _arena = &self.arena;
+        self.mmem.shortage()
     }
 
     /// Gives the block of the frame in a slot back.
@@ -53,6 +62,7 @@ impl NodeMemory {
         requires held { IsSome (frame_in slot self.old.contents) }
         ensures dropped { self.new.contents ≡ frame_dropped slot self.old.contents }
         ensures others { LeavesOthers (Some (frame_block slot)) self.old.contents self.new.contents }
+        ensures owners { last_owner self.new ≡ last_owner self.old }
     {
         self.mmem.free(&mut self.arena, (FRAME_HOLDER, slot));
     }

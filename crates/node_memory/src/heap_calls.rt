@@ -6,6 +6,7 @@ ghost use Rattle.mote_types.specs.declared.call.Call.{Call};
 ghost use Rattle.mote_types.specs.declared.reply.Reply.{Reply as Answer};
 ghost use Rattle.heap_core.specs.HeapStore as store;
 ghost use Rattle.node_memory.specs.Ask.{ask_heap, IfRefused};
+ghost use Rattle.node_memory.specs.Placed.{last_owner};
 ghost use Rattle.node_memory.specs.Separation.{StaysInPlace};
 
 use crate::memory::NodeMemory;
@@ -33,6 +34,7 @@ impl NodeMemory {
         requires most { pid.0 ≤ 19 }
         ensures asked { ask_heap (Call.HeapAlloc block n) pid.0 self.old.contents ≡ (self.new.contents, result) }
         ensures refused { IfRefused result (StaysInPlace self.old self.new) }
+        ensures owners { last_owner self.new ≡ last_owner self.old }
     {
         if block > LAST_HEAP_BLOCK {
             return Reply::Refused(Refusal::BadName);
@@ -55,6 +57,7 @@ impl NodeMemory {
         requires most { pid.0 ≤ 19 }
         ensures asked { ask_heap (Call.HeapRealloc block n) pid.0 self.old.contents ≡ (self.new.contents, result) }
         ensures refused { IfRefused result (StaysInPlace self.old self.new) }
+        ensures owners { last_owner self.new ≡ last_owner self.old }
     {
         if block > LAST_HEAP_BLOCK {
             return Reply::Refused(Refusal::BadName);
@@ -77,6 +80,7 @@ impl NodeMemory {
         requires most { pid.0 ≤ 19 }
         ensures asked { ask_heap (Call.HeapFree block) pid.0 self.old.contents ≡ (self.new.contents, result) }
         ensures refused { IfRefused result (self.new ≡ self.old) }
+        ensures owners { last_owner self.new ≡ last_owner self.old }
     {
         if block > LAST_HEAP_BLOCK {
             return Reply::Refused(Refusal::BadName);
@@ -94,6 +98,7 @@ impl NodeMemory {
         requires most { pid.0 ≤ 19 }
         ensures asked { ask_heap (Call.HeapWrite block at chunk.now) pid.0 self.old.contents ≡ (self.new.contents, result) }
         ensures refused { IfRefused result (self.new ≡ self.old) }
+        ensures owners { last_owner self.new ≡ last_owner self.old }
     {
         if block > LAST_HEAP_BLOCK {
             return Reply::Refused(Refusal::BadName);

@@ -7,6 +7,7 @@ ghost use Rattle.mote_types.specs.declared.call.Call.{Call};
 ghost use Rattle.node_memory.specs.Ask.{ask_managed};
 ghost use Rattle.node_memory.specs.ManagedCalls as calls;
 ghost use Rattle.node_memory.specs.Memory.{with_managed};
+ghost use Rattle.node_memory.specs.Placed.{last_owner};
 
 use crate::memory::NodeMemory;
 use crate::ranges::{LONGEST_READ, chunk_of, is_outside};
@@ -32,9 +33,11 @@ impl NodeMemory {
     pub(crate) fn mmem_alloc(&mut self, pid: Pid, handle: u8, n: u32) -> Result<(), Refusal>
         requires least { 3 ≤ pid.0 }
         requires most { pid.0 ≤ 19 }
+        requires owner { pid.0 ≤ last_owner self.old }
         ensures accepted { IfOk result (λ _. (calls.alloc_refusal pid.0 handle n self.old.contents.managed ≡ None)
             × (self.new.contents ≡ with_managed (store.allocated pid.0 handle n self.old.contents.managed) self.old.contents)) }
         ensures refused { IfErr result (λ r. (calls.alloc_refusal pid.0 handle n self.old.contents.managed ≡ Some r) × (self.new ≡ self.old)) }
+        ensures owners { last_owner self.new ≡ last_owner self.old }
     {
         if handle > LAST_HANDLE {
             return Err(Refusal::BadName);
@@ -46,7 +49,7 @@ impl NodeMemory {
             return Err(Refusal::Range);
         }
         if self.mmem.alloc(&mut self.arena, (pid, handle), n).is_none() {
-            return Err(Refusal::NoRoom);
+            return Err(self.mmem.shortage());
         }
         Ok(())
     }
@@ -58,6 +61,7 @@ impl NodeMemory {
         ensures accepted { IfOk result (λ _. (calls.free_refusal pid.0 handle self.old.contents.managed ≡ None)
             × (self.new.contents ≡ with_managed (store.freed pid.0 handle self.old.contents.managed) self.old.contents)) }
         ensures refused { IfErr result (λ r. (calls.free_refusal pid.0 handle self.old.contents.managed ≡ Some r) × (self.new ≡ self.old)) }
+        ensures owners { last_owner self.new ≡ last_owner self.old }
     {
         if handle > LAST_HANDLE {
             return Err(Refusal::BadName);
@@ -83,6 +87,7 @@ impl NodeMemory {
         ensures accepted { IfOk result (λ _. (calls.write_refusal pid.0 handle at (length bytes.now) self.old.contents.managed ≡ None)
             × (self.new.contents ≡ with_managed (store.with_bytes pid.0 handle at bytes.now self.old.contents.managed) self.old.contents)) }
         ensures refused { IfErr result (λ r. (calls.write_refusal pid.0 handle at (length bytes.now) self.old.contents.managed ≡ Some r) × (self.new ≡ self.old)) }
+        ensures owners { last_owner self.new ≡ last_owner self.old }
     {
         if handle > LAST_HANDLE {
             return Err(Refusal::BadName);
@@ -123,6 +128,7 @@ impl NodeMemory {
         ensures accepted { IfOk result (λ _. (calls.copy_refusal pid.0 source target self.old.contents.managed ≡ None)
             × (self.new.contents ≡ with_managed (store.copied pid.0 source pid.0 target self.old.contents.managed) self.old.contents)) }
         ensures refused { IfErr result (λ r. (calls.copy_refusal pid.0 source target self.old.contents.managed ≡ Some r) × (self.new ≡ self.old)) }
+        ensures owners { last_owner self.new ≡ last_owner self.old }
     {
         if let Some(refusal) = self.copy_refusal(pid, source, target) {
             return Err(refusal);
@@ -148,11 +154,13 @@ impl NodeMemory {
         }
     }
 
-    /// How many bytes of managed memory are free.
-    pub(crate) fn mmem_avail(&self) -> u32
-        ensures { result ≡ store.free self.now.contents.managed }
+    /// How many bytes of managed memory are free for a process.
+    pub(crate) fn mmem_avail(&self, pid: Pid) -> u32
+        requires least { 3 ≤ pid.0 }
+        requires most { pid.0 ≤ 19 }
+        ensures { result ≡ store.free pid.0 self.now.contents.managed }
     {
         let _arena = &self.arena;
-        self.mmem.avail()
+        self.mmem.avail(pid)
     }
 }

@@ -76,25 +76,33 @@ impl Model for NodeMemory {
 
 impl NodeMemory {
     ghost use Rattle.node_memory.specs.Memory.{fresh_memory};
+    ghost use Rattle.node_memory.specs.Placed.{last_owner};
     ghost use Rattle.node_memory.specs.Separation.{BlocksLieApart, LeavesAll, LeavesOthers, changed_block};
 
-    /// A node's memory without a block. All memory is taken here.
+    /// The memory of a node with so many applications, without a block. All memory is taken here.
     ///
     /// # Errors
-    /// `BadSizes` exactly where a size is out of its range or no multiple of 4, however little memory there is; else
-    /// `Memory` where memory is refused.
-    pub fn new(alloc: Global, sizes: Sizes) -> Result<NodeMemory, BootFault>
+    /// `BadSizes` exactly where a size or the quota is out of its range or no multiple of 4, where a header has neither 16 nor
+    /// 8 bytes, or where managed memory has no room for all quotas, however little memory there is; else `Memory` where
+    /// memory is refused.
+    pub fn new(alloc: Global, sizes: Sizes, applications: u8) -> Result<NodeMemory, BootFault>
+        requires { applications ≤ 16 }
         ensures fresh { IfOk result (λ memory. memory.contents ≡ fresh_memory sizes) }
-        ensures bad_sizes { IsErrOf result BootFault.BadSizes ↔ (are_sizes sizes ≡ false) }
+        ensures owners { IfOk result (λ memory. 3 + applications ≤ last_owner memory) }
+        ensures bad_sizes { IsErrOf result BootFault.BadSizes ↔ (are_sizes sizes applications ≡ false) }
     {
-        if !sizes.are_allowed() {
+        if !sizes.are_allowed(applications) {
             return Err(BootFault::BadSizes);
         }
         let mut arena = Arena::new(alloc, sizes.mmem + sizes.heap + pools_size()).map_err(
             |_| BootFault::Memory,
         )?;
-        let mmem = Mmem::new(arena.carve(sizes.mmem).unwrap());
-        let heap = Heap::new(arena.carve(sizes.heap).unwrap());
+        let mmem = Mmem::new(
+            arena.carve(sizes.mmem).unwrap(),
+            sizes.quota,
+            applications + 1,
+        );
+        let heap = Heap::new(arena.carve(sizes.heap).unwrap(), sizes.header);
         let pools = pools_over(&mut arena);
         Ok(NodeMemory {
             arena,
@@ -106,13 +114,16 @@ impl NodeMemory {
 
     /// Carries out an application's call on memory, and answers its reply. A refused call changes no block, and moves none.
     ///
-    /// Process 3 too may ask how much managed memory is free.
+    /// Process 3 too may ask how much managed memory is free for it. Where there are quotas, the caller is one of the processes
+    /// that have one.
     pub fn ask(&mut self, pid: Pid, call: &Call) -> Reply
         requires on_memory { is_memory_call call.now ≡ true }
         requires asker { asking.MayAsk pid.0 call.now }
+        requires owner { pid.0 ≤ last_owner self.old }
         ensures asked { asking.ask call.now pid.0 self.old.contents ≡ (self.new.contents, result) }
         ensures refused { IfRefused result (LeavesAll call.now self.old self.new) }
         ensures others { LeavesOthers (changed_block call.now pid.0 self.old.contents) self.old.contents self.new.contents }
+        ensures owners { last_owner self.new ≡ last_owner self.old }
     {
         match part_called(call) {
             Some(Part::Managed) => self.ask_managed(pid, call),
@@ -125,9 +136,11 @@ impl NodeMemory {
     /// Carries out a call on managed memory.
     fn ask_managed(&mut self, pid: Pid, call: &Call) -> Reply
         requires asker { asking.MayAsk pid.0 call.now }
+        requires owner { pid.0 ≤ last_owner self.old }
         requires part { parts.part_called call.now ≡ Some part.Part.Managed }
         ensures asked { asking.ask_managed call.now pid.0 self.old.contents ≡ (self.new.contents, result) }
         ensures refused { IfRefused result (self.new ≡ self.old) }
+        ensures owners { last_owner self.new ≡ last_owner self.old }
     {
         match call {
             Call::MmemAlloc(handle, n) => {
@@ -141,7 +154,7 @@ impl NodeMemory {
             Call::MmemCopy(source, target) => {
                 Reply::done_or_refused(self.mmem_copy(pid, *source, *target))
             }
-            Call::MmemAvail => Reply::Num(self.mmem_avail()),
+            Call::MmemAvail => Reply::Num(self.mmem_avail(pid)),
             _ => unreachable!(),
         }
     }
@@ -152,6 +165,7 @@ impl NodeMemory {
         requires part { parts.part_called call.now ≡ Some part.Part.Heap }
         ensures asked { asking.ask_heap call.now pid.0 self.old.contents ≡ (self.new.contents, result) }
         ensures refused { IfRefused result (LeavesAll call.now self.old self.new) }
+        ensures owners { last_owner self.new ≡ last_owner self.old }
     {
         match call {
             Call::HeapAlloc(block, n) => self.heap_alloc(pid, *block, *n),
@@ -169,6 +183,7 @@ impl NodeMemory {
         requires part { parts.part_called call.now ≡ Some (part.Part.Pool pool) }
         ensures asked { asking.ask_pool_of pool call.now self.old.contents ≡ (self.new.contents, result) }
         ensures refused { IfRefused result (self.new ≡ self.old) }
+        ensures owners { last_owner self.new ≡ last_owner self.old }
     {
         if pool as usize >= POOLS {
             return Reply::Refused(Refusal::BadName);

@@ -10,6 +10,11 @@ pub struct Sizes {
     pub mmem: u32,
     /// The heap: 20 to 65,536, a multiple of 4.
     pub heap: u32,
+    /// The header of a block of the heap: 16 or 8.
+    pub header: u32,
+    /// What process 3 and each application may hold of managed memory, where that is limited: 4 to 65,536, a multiple of 4.
+    /// Managed memory has room for all of these together.
+    pub quota: Option<u32>,
 }
 
 /// Whether a region of at least so many bytes may have this size.
@@ -19,11 +24,25 @@ fn is_region_size(least: u32, size: u32) -> bool
     least <= size && size <= 65_536 && size % 4 == 0
 }
 
+/// Whether process 3 and each of so many applications may have this quota of so much managed memory.
+fn is_quota(mmem: u32, applications: u8, quota: u32) -> bool
+    ensures { result ≡ specs.is_quota mmem applications quota }
+{
+    is_region_size(4, quota) && quota * (applications as u32 + 1) <= mmem
+}
+
 impl Sizes {
-    /// Whether a node's memory may have these sizes.
-    pub fn are_allowed(&self) -> bool
-        ensures { result ≡ specs.are_sizes self.now }
+    /// Whether the memory of a node with so many applications may have these sizes.
+    pub fn are_allowed(&self, applications: u8) -> bool
+        ensures { result ≡ specs.are_sizes self.now applications }
     {
-        is_region_size(4, self.mmem) && is_region_size(20, self.heap)
+        let are_quotas = match self.quota {
+            Some(quota) => is_quota(self.mmem, applications, quota),
+            None => true,
+        };
+        is_region_size(4, self.mmem)
+            && is_region_size(20, self.heap)
+            && (self.header == 16 || self.header == 8)
+            && are_quotas
     }
 }

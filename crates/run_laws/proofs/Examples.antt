@@ -1,26 +1,28 @@
 -- Worked examples: what the turns of a transcript make of blocks, events and timers.
-use Rattle.std.proofs.Common.{◌≡◌, ℕ, List, [], ◌∷◌, refl}
+use Rattle.std.proofs.Common.{◌≡◌, ℕ, true, false, List, [], ◌∷◌, ◌++◌, map, refl}
 use Rattle.std.specs.Prelude.{Some, None, length}
+use Rattle.std.specs.List.{list_any}
 use Rattle.mote_types.specs.declared.call.Call.{Call}
 use Rattle.mote_types.specs.declared.reply.Reply.{Reply}
 use Rattle.mote_types.specs.declared.refusal.Refusal.{Refusal}
 use Rattle.mote_types.specs.declared.event.Origin.{Origin}
 use Rattle.mote_types.specs.declared.event.Stimulus.{Stimulus}
-use Rattle.mote_types.specs.declared.event.TheConstants.{INIT}
+use Rattle.mote_types.specs.declared.event.TheConstants.{EXIT, INIT, TIMER}
 use Rattle.mote_types.specs.declared.entry.Entry.{Entry}
 use Rattle.mote_types.specs.declared.entry.Input.{Input}
 use Rattle.mote_types.specs.declared.event.Payload.{Payload}
-use Rattle.mote_types.specs.Codes.{plain_event}
+use Rattle.mote_types.specs.Codes.{number_event, plain_event}
 use Rattle.timer_core.specs.Timers.{deadline}
 use Rattle.run_laws.specs.BlockHistory.{managed_block, heap_block}
-use Rattle.run_laws.specs.EventLaws.{accepted_events, given_events}
-use Rattle.run_laws.specs.OwnTurns.{own}
+use Rattle.run_laws.specs.EventLaws.{IsAtRest, accepted_events, given_events, has_ended, is_exit}
+use Rattle.run_laws.specs.MemoryLaws.{are_names, heap_makes, heap_needs, heap_reads, managed_makes, managed_needs, managed_reads}
+use Rattle.run_laws.specs.OwnTurns.{HasCall, own}
 use Rattle.run_laws.specs.TimerLaws.{ripe_armings, standing, timer_events}
 
-started : ℕ → Call → Entry
+unfoldable pub started : ℕ → Call → Entry
 started p call = Entry.Turn (record { 0 = p }) Origin.Synch (Stimulus.Event (plain_event INIT)) call
 
-told : ℕ → Reply → Call → Entry
+unfoldable pub told : ℕ → Reply → Call → Entry
 told p reply call = Entry.Turn (record { 0 = p }) Origin.Answer (Stimulus.Answer reply) call
 
 -- process 4 makes a block of 4 bytes and writes its second one; process 5 frees a block of its own of that name
@@ -47,44 +49,142 @@ others_have_none : managed_block transcript 5 0 ≡ None
 unfolding transcript started told
 others_have_none = refl
 
+-- the reply to a call stands in the next turn
+write_answered : HasCall transcript (started 4 (Call.MmemAlloc 0 4) ∷ []) 4 Origin.Answer (Stimulus.Answer Reply.Done) (Call.MmemWrite 0 1 (record { items = 7 ∷ [] })) Reply.Done
+unfolding transcript started told
+write_answered =
+    record {
+      later = started 5 (Call.MmemFree 0) ∷ told 5 (Reply.Refused Refusal.NotLive) Call.Wait
+          ∷ told 4 Reply.Done (Call.HeapAlloc 2 2) ∷ told 4 Reply.Done (Call.HeapRealloc 2 3) ∷ [];
+      is_split = refl;
+      is_answered = refl;
+    }
+
 -- the last call has no reply yet, so it counts for nothing
 not_yet_resized : heap_block transcript 4 2 ≡ Some (0 ∷ 0 ∷ [])
 unfolding transcript started told
 not_yet_resized = refl
 
 -- Events and timers: process 5 posts event 140 to process 4, which is given it; 4 sets timer 2 to 5 ticks, and 7 ticks pass.
-ticked : List Entry
+before_ticks : List Entry
 unfolding started told
-ticked =
+before_ticks =
     started 4 Call.Wait
     ∷ started 5 (Call.Post 4 140 Payload.Empty)
     ∷ told 5 Reply.Done Call.Wait
     ∷ Entry.Turn (record { 0 = 4 }) Origin.Event (Stimulus.Event (plain_event 140)) (Call.TimerSet 2 5)
     ∷ told 4 Reply.Done Call.Wait
-    ∷ Entry.Input (Input.Tick 7)
     ∷ []
 
+ticked : List Entry
+unfolding before_ticks started told
+ticked = before_ticks ++ Entry.Input (Input.Tick 7) ∷ []
+
 event_given : given_events ticked 4 ≡ accepted_events 4 ticked
-unfolding ticked started told
+unfolding ticked before_ticks started told
 event_given = refl
 
 one_accepted : accepted_events 4 ticked ≡ plain_event 140 ∷ []
-unfolding ticked started told
+unfolding ticked before_ticks started told
 one_accepted = refl
 
 -- none was posted to 5
 none_for_the_poster : accepted_events 5 ticked ≡ []
-unfolding ticked started told
+unfolding ticked before_ticks started told
 none_for_the_poster = refl
 
 now_ripe : ripe_armings ticked 4 2 ≡ 1
-unfolding ticked started told
+unfolding ticked before_ticks started told
 now_ripe = refl
 
 not_given_yet : timer_events ticked 4 2 ≡ 0
-unfolding ticked started told
+unfolding ticked before_ticks started told
 not_given_yet = refl
 
 deadline_at_five : deadline (standing ticked 4 2).cell ≡ 5
-unfolding ticked started told
+unfolding ticked before_ticks started told
 deadline_at_five = refl
+
+-- the timer stands, and its event was not given since
+armed_now : (standing ticked 4 2).is_armed ≡ true
+unfolding ticked before_ticks started told
+armed_now = refl
+
+not_given_since : (standing ticked 4 2).was_given ≡ false
+unfolding ticked before_ticks started told
+not_given_since = refl
+
+-- the mote rests before the ticks, and behind them
+rests_before_ticks : IsAtRest ticked before_ticks
+unfolding ticked before_ticks started told
+rests_before_ticks = IsAtRest.before_input before_ticks [] (Input.Tick 7) refl
+
+rests_at_the_end : IsAtRest ticked ticked
+unfolding ticked before_ticks started told
+rests_at_the_end = IsAtRest.at_end refl
+
+-- Process 4 is given its timer's event, and then sets the timer anew.
+set_anew : List Entry
+unfolding told
+set_anew =
+    told 4 Reply.Done (Call.TimerSet 2 0)
+    ∷ told 4 Reply.Done Call.Wait
+    ∷ Entry.Turn (record { 0 = 4 }) Origin.Event (Stimulus.Event (number_event TIMER 2)) Call.Wait
+    ∷ Entry.Turn (record { 0 = 4 }) Origin.Event (Stimulus.Event (plain_event 140)) (Call.TimerSet 2 9)
+    ∷ told 4 Reply.Done Call.Wait
+    ∷ []
+
+given_once : timer_events set_anew 4 2 ≡ 1
+unfolding set_anew told
+given_once = refl
+
+ripe_once : ripe_armings set_anew 4 2 ≡ 1
+unfolding set_anew told
+ripe_once = refl
+
+given_before_it_was_set_anew : (standing set_anew 4 2).was_given ≡ false
+unfolding set_anew told
+given_before_it_was_set_anew = refl
+
+-- a process ends by its Exit, or by being killed
+still_there : has_ended 4 set_anew ≡ false
+unfolding set_anew told
+still_there = refl
+
+exited : has_ended 4 (told 4 Reply.Done Call.Exit ∷ []) ≡ true
+unfolding told
+exited = refl
+
+killed : has_ended 4 (Entry.Turn (record { 0 = 4 }) Origin.Synch (Stimulus.Event (plain_event EXIT)) Call.Wait ∷ []) ≡ true
+killed = refl
+
+no_exits : list_any is_exit (Call.Wait ∷ Call.AllocEvent ∷ Call.Start 5 ∷ Call.Kill 5 ∷ []) ≡ false
+no_exits = refl
+
+-- The blocks that calls name.
+
+managed_blocks_needed : map managed_needs (Call.MmemFree 1 ∷ Call.MmemWrite 2 0 (record { items = [] }) ∷ Call.MmemRead 3 0 1 ∷ Call.MmemCopy 4 5 ∷ Call.PacketSend 6 ∷ [])
+    ≡ (1 ∷ []) ∷ (2 ∷ []) ∷ (3 ∷ []) ∷ (4 ∷ 5 ∷ []) ∷ (6 ∷ []) ∷ []
+managed_blocks_needed = refl
+
+heap_blocks_needed : map heap_needs (Call.HeapFree 1 ∷ Call.HeapWrite 2 0 (record { items = [] }) ∷ Call.HeapRead 3 0 1 ∷ Call.HeapRealloc 4 9 ∷ [])
+    ≡ (1 ∷ []) ∷ (2 ∷ []) ∷ (3 ∷ []) ∷ (4 ∷ []) ∷ []
+heap_blocks_needed = refl
+
+managed_block_made : managed_makes (Call.MmemAlloc 3 9) ≡ 3 ∷ []
+managed_block_made = refl
+
+heap_block_made : heap_makes (Call.HeapAlloc 3 9) ≡ 3 ∷ []
+heap_block_made = refl
+
+managed_range_read : managed_reads (Call.MmemRead 2 1 4) ≡ Some (2, 1, 4)
+managed_range_read = refl
+
+heap_range_read : heap_reads (Call.HeapRead 2 1 4) ≡ Some (2, 1, 4)
+heap_range_read = refl
+
+last_name : are_names (15 ∷ []) ≡ true
+last_name = refl
+
+no_name : are_names (16 ∷ []) ≡ false
+no_name = refl

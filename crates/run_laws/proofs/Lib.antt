@@ -1,11 +1,14 @@
 pub mod event_order
 pub mod timer_deadlines
+pub mod Alone
 pub mod Caller
 pub mod Callers
 pub mod Costs
 mod Examples
 pub mod Heap
 pub mod HeapStores
+pub mod Isolated
+mod IsolationExamples
 pub mod KindLaws
 pub mod Managed
 pub mod Marks
@@ -15,5 +18,6 @@ pub mod Senders
 pub mod Silent
 pub mod Stores
 pub mod Told
+pub mod Totals
 pub mod Untouched
 pub mod Whole

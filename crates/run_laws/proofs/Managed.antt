@@ -121,7 +121,7 @@ unless-kept : (o : Option Refusal) (q : ℕ) (m after : Machine) → after.memor
 unless-kept None q m after h = h
 unless-kept (Some refusal) q m after h = refl
 
-plain-managed : (call : Call) (q : ℕ) (m : Machine) → is_plain call ≡ true → (after_call call q m).memory.managed ≡ m.memory.managed
+pub plain-managed : (call : Call) (q : ℕ) (m : Machine) → is_plain call ≡ true → (after_call call q m).memory.managed ≡ m.memory.managed
 plain-managed Call.PacketDone q m e = absurd (cc)
 plain-managed (Call.MmemAlloc h n) q m e = absurd (cc)
 plain-managed (Call.MmemFree h) q m e = absurd (cc)
@@ -295,7 +295,7 @@ module _ (p : ℕ) where
       }
 
 -- at boot no block is live
-all_same : {A : Type 0} (d : A) (n i : ℕ) → get_or (replicate n d) i d ≡ d
+pub all_same : {A : Type 0} (d : A) (n i : ℕ) → get_or (replicate n d) i d ≡ d
 all_same d zero i = refl
 all_same d (suc n) zero = refl
 all_same d (suc n) (suc i) = all_same d n i

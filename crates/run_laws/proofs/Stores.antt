@@ -1,6 +1,6 @@
 -- Managed memory: what each call keeps of it.
-use Rattle.std.proofs.Common.{◌≡◌, ℕ, ◌≤◌, ◌<◌, Bool, true, false, List, [], length, refl, ◌∙◌, ap, arith, get_or, slice_set}
-use Rattle.std.specs.Prelude.{Option, Some, None, ◌==◌, if◌then◌else◌, ◌≢◌, nat_lt, is_some, unwrap_or}
+use Rattle.std.proofs.Common.{◌≡◌, ℕ, ◌+◌, ◌≤◌, ◌<◌, Bool, true, false, List, [], length, refl, ◌∙◌, ap, arith, get_or, slice_set}
+use Rattle.std.specs.Prelude.{Option, Some, None, ◌==◌, if◌then◌else◌, ◌≢◌, nat_lt, is_some, sum_by, unwrap_or}
 use Rattle.std.specs.Option.{option_map}
 use Rattle.std.proofs.lemmas.Bool.Decides.{nat_tests}
 use Rattle.std.proofs.lemmas.List.{get_or-set_same, get_or-set_other, length-set}
@@ -10,7 +10,7 @@ use Rattle.mote_types.specs.declared.refusal.Refusal.{Refusal}
 use Rattle.mote_types.specs.BlockNames.{number_of}
 use Rattle.mote_types.specs.Bytes.{zeros, overwritten, range_of}
 use Rattle.arrayvec.specs.ArrayVec.{ArrayVec}
-use Rattle.mmem_core.specs.ManagedStore.{block_of, bytes_of, with_block}
+use Rattle.mmem_core.specs.ManagedStore.{block_of, bytes_of, size_of, taken_by, with_block}
 use Rattle.node_memory.specs.Memory.{Memory, with_managed, with_heap, with_pool, pool_in}
 use Rattle.node_memory.specs.ManagedCalls.{is_handle, alloc_refusal, free_refusal, write_refusal, read_refusal, copy_refusal}
 use Rattle.heap_core.specs.HeapStore as heap_store
@@ -24,6 +24,7 @@ use Rattle.node_memory.specs.Ask.{Asked, ask, ask_part, ask_managed, ask_heap, a
 use Rattle.process_core.specs.Processes.{is_kernel_process}
 use Rattle.run_laws.specs.BlockHistory.{Blocks, copied, managed_after}
 use Rattle.run_laws.proofs.KindLaws.{accepted}
+use Rattle.run_laws.proofs.Totals.{total-put}
 
 -- a process's blocks
 abbrev pub own_blocks : ℕ → Memory → Blocks
@@ -66,6 +67,12 @@ put_own p k h block m few a size low = go (is_handle h) (h == k) refl refl
         get_or-set_other m.managed.blocks (number_of p k) (number_of p h) block None apart
     go false true e s = absurd (grind (arith, nat_tests, low, e, s))
     go false false e s = refl
+
+put_total : (p k : ℕ) (block : Option (List ℕ)) (m : Memory) → p ≤ 19 → is_kernel_process p ≡ false → length m.managed.blocks ≡ 272 → is_handle k ≡ true
+    → sum_by size_of (with_block p k block m.managed).blocks + taken_by p m.managed ≡ sum_by size_of m.managed.blocks + taken_by p (with_block p k block m.managed)
+put_total p k block m few a size low =
+    let kb : k ≤ 15 = grind (arith, nat_tests, low) in
+    total-put p k block m.managed kb (rw size (omega arith))
 
 -- a call on memory
 
@@ -129,6 +136,11 @@ ask-rest call p m e = ask_part-rest (part_called call) call p m e
 -- What a call that changes managed memory does to it
 pub record IsManagedChange (call : Call) (q : ℕ) (m : Memory) (asked : Memory × Reply) : Type 0 where
   pub size : length asked.0.managed.blocks ≡ length m.managed.blocks
+  pub capacity : asked.0.managed.capacity ≡ m.managed.capacity
+  pub quota : asked.0.managed.quota ≡ m.managed.quota
+  -- what all blocks take changes as much as what the caller's take
+  pub total : q ≤ 19 → is_kernel_process q ≡ false → length m.managed.blocks ≡ 272
+      → sum_by size_of asked.0.managed.blocks + taken_by q m.managed ≡ sum_by size_of m.managed.blocks + taken_by q asked.0.managed
   pub own : q ≤ 19 → is_kernel_process q ≡ false → length m.managed.blocks ≡ 272 → (h : ℕ) → own_blocks q asked.0 h ≡ accepted managed_after call asked.1 (own_blocks q m) h
   pub others : (p : ℕ) → (q == p) ≡ false → is_kernel_process p ≡ false → (h : ℕ) → own_blocks p asked.0 h ≡ own_blocks p m h
 
@@ -143,10 +155,21 @@ module _ (call : Call) (q k : ℕ) (block : Option (List ℕ)) (m : Memory) wher
   is_change None low made =
       record {
         size = length-set m.managed.blocks (number_of q k) block;
+        capacity = refl;
+        quota = refl;
+        total = λ few a size. put_total q k block m few a size (low refl);
         own = λ few a size h. put_own q k h block m few a size (low refl) ∙ made refl h;
         others = λ p n a h. put_other q k p h block m n a (low refl);
       }
-  is_change (Some refusal) low made = record { size = refl; own = λ few a size h. refl; others = λ p n a h. refl }
+  is_change (Some refusal) low made =
+      record {
+        size = refl;
+        capacity = refl;
+        quota = refl;
+        total = λ few a size. refl;
+        own = λ few a size h. refl;
+        others = λ p n a h. refl;
+      }
 
 pub alloc-change : (k n q : ℕ) (m : Memory) → IsManagedChange (Call.MmemAlloc k n) q m (ask (Call.MmemAlloc k n) q m)
 alloc-change k n q m = is_change (Call.MmemAlloc k n) q k (Some (zeros n)) m (alloc_refusal q k n m.managed) (λ e. grind (arith, e)) (λ e h. refl)

@@ -72,6 +72,10 @@ module _ {S : Type 0} (next : Call → Reply → S → S) (Law : S → Call → 
   well-after t [] ys h = h
   well-after t (x ∷ xs) ys h = well-after (told next p t x) xs ys h.1
 
+  pub well-front : (t : Told S) (xs ys : List Entry) → WellTold t (xs ++ ys) → WellTold t xs
+  well-front t [] ys h = tt
+  well-front t (x ∷ xs) ys h = (h.0, well-front (told next p t x) xs ys h.1)
+
   well-any : (t : Told S) (o : Option Entry) → FineAny Law p t o → WellTold t (option_to_list o)
   well-any t (Some entry) h = (h, tt)
   well-any t None h = tt

@@ -1,5 +1,6 @@
 pub mod BlockHistory
 pub mod EventLaws
+pub mod Isolation
 pub mod MemoryLaws
 pub mod OwnTurns
 pub mod RunLaws

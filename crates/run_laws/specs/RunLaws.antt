@@ -1,8 +1,9 @@
 -- What the entries of a run show an application, law by law.
-use Rattle.std.specs.Prelude.{◌≡◌, ℕ, true, List}
+use Rattle.std.specs.Prelude.{◌≡◌, ℕ, true, List, ◌++◌, take, Option, Some}
 use Rattle.mote_types.specs.declared.entry.Entry.{Entry}
 use Rattle.process_core.specs.Processes.{is_application}
 use Rattle.run_laws.specs.EventLaws.{InOrderFor, NoLostEventFor}
+use Rattle.run_laws.specs.Isolation.{managed_calls, managed_replies, IsAnsweredAlone}
 use Rattle.run_laws.specs.MemoryLaws.{Kind, managed_kind, heap_kind, ReadsItsBlock, NotLiveExactly, InUseExactly}
 use Rattle.run_laws.specs.Sent.{EverySent}
 use Rattle.run_laws.specs.TimerLaws.{NoEarlyTimerFor, NoLostTimerFor}
@@ -18,6 +19,20 @@ pub record BlocksAreOwn (X : List Entry) : Type 0 where
   pub managed : AreOwn managed_kind X
   pub heap : AreOwn heap_kind X
   pub sent : EverySent X
+
+-- managed memory for each of so many applications, where each process has a quota of so many bytes, if it has one
+pub record ProcessesAreIsolated (quota : Option ℕ) (applications : ℕ) (X : List Entry) : Type 0 where
+  pub alone : (bytes p : ℕ) → quota ≡ Some bytes → is_application applications p ≡ true → IsAnsweredAlone bytes p X
+  -- and in each front part of X
+  pub alone_so_far : (bytes p : ℕ) (before later : List Entry) → quota ≡ Some bytes → is_application applications p ≡ true
+      → before ++ later ≡ X → IsAnsweredAlone bytes p before
+
+-- the calls of p on managed memory in two transcripts, whatever else these show
+pub record AreAnsweredAlike (p : ℕ) (X Y : List Entry) : Type 0 where
+  pub same : managed_calls p X ≡ managed_calls p Y → managed_replies p X ≡ managed_replies p Y
+  -- and where only the first n calls are the same
+  pub same_so_far : (n : ℕ) → take n (managed_calls p X) ≡ take n (managed_calls p Y)
+      → take n (managed_replies p X) ≡ take n (managed_replies p Y)
 
 -- events, for each of so many applications
 pub record EventsArriveInOrder (applications : ℕ) (X : List Entry) : Type 0 where

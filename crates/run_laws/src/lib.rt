@@ -4,6 +4,7 @@
 #![tactic(auto)]
 
 pub mod events;
+pub mod isolation;
 pub mod memory;
 pub mod rest;
 pub mod timers;

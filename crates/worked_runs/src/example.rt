@@ -4,6 +4,8 @@
 //! - `app NAME`: one more application, by its name, or `clock-watcher`, which asks for the clock at every turn;
 //! - `calls CALL, CALL, ..`: one more application, which makes these calls and then waits;
 //! - `mmem N`, `heap N`: the size of managed memory or of the heap, where it is not 4,096;
+//! - `quota N`: what each application and the frames may hold of managed memory, and `header N`: the length of a header in the
+//!   heap, where it is not 16;
 //! - `script LINE`: one more line of the script, and `last LINE`: the script's last one, with no line end;
 //! - `quiet`: the transcript is a quiet one;
 //! - `ends END`: how the run ends, where it is not `finished`;
@@ -63,7 +65,7 @@ impl<'a> Example<'a> {
                 let (count, line) = counted(rest);
                 push_lines(&mut self.transcript, count, line)
             }
-            "mmem" | "heap" | "quiet" | "ends" => {
+            "mmem" | "heap" | "quota" | "header" | "quiet" | "ends" => {
                 self.read_setting(word, rest);
                 Ok(())
             }
@@ -75,6 +77,8 @@ impl<'a> Example<'a> {
         match word {
             "mmem" => self.sizes.mmem = number_of(rest),
             "heap" => self.sizes.heap = number_of(rest),
+            "quota" => self.sizes.quota = Some(number_of(rest)),
+            "header" => self.sizes.header = number_of(rest),
             "quiet" => self.quiet = true,
             _ => self.end = rest,
         }

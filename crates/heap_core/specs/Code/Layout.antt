@@ -11,10 +11,10 @@ chunks_of heap bytes = chunks_from heap.footprint bytes heap.span.at 0 heap.foot
 
 -- all chunks but the gaps as blocks: the live ones, and those that were freed and are not joined yet
 abbrev pub store_of : Region → List ℕ → HeapStore
-store_of heap bytes = record { size = heap.span.len; blocks = blocks_in bytes heap.span.at (chunks_of heap bytes) }
+store_of heap bytes = record { size = heap.span.len; header = heap.header; blocks = blocks_in heap.header bytes heap.span.at (chunks_of heap bytes) }
 
 -- the headers in the heap's span tell chunks without a break, and the gaps among them are joined
 pub record HasChunks (heap : Region) (bytes : List ℕ) : Type 0 where
   pub within : heap.span.at + heap.span.len ≤ length bytes
-  pub told : Tell bytes heap.span.at 0 heap.footprint (chunks_of heap bytes)
-  pub joined : AreJoined (chunks_of heap bytes)
+  pub told : Tell heap.header bytes heap.span.at 0 heap.footprint (chunks_of heap bytes)
+  pub joined : AreJoined heap.header (chunks_of heap bytes)

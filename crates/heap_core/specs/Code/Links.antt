@@ -1,20 +1,11 @@
 -- How the headers link the free chunks: the gaps, the lowest first, and the chunks that were freed and are not joined yet.
-use Rattle.std.specs.Prelude.{◌≡◌, ◌≢◌, ℕ, zero, suc, ◌+◌, ◌≤◌, Bool, false, not, List, [], ◌∷◌, ◌++◌, length, filter, fold, Option, Some, None, is_none, if◌then◌else◌, ◌==◌, nat_lt, nat_le}
+use Rattle.std.specs.Prelude.{◌≡◌, ◌≢◌, ℕ, zero, suc, ◌+◌, ◌≤◌, not, List, [], ◌∷◌, ◌++◌, length, filter, fold, Option, Some, None, is_none, if◌then◌else◌, ◌==◌, nat_lt, nat_le}
 use Rattle.heap_core.specs.declared.chunk.Chunk.{Chunk}
 use Rattle.heap_core.specs.declared.region.Region.{Region}
 use Rattle.heap_core.specs.HeapStore.{Block}
-use Rattle.heap_core.specs.Code.Chunks.{chunk_at, Tell, is_named}
+use Rattle.heap_core.specs.Code.Chunks.{FREED, chunk_at, Tell, is_named}
 use Rattle.heap_core.specs.Code.Layout.{chunks_of, store_of}
 use Rattle.heap_core.specs.Code.Walks.{LiveIn}
-
--- the owner of a chunk that was freed and is not joined yet: no name has that number
-abbrev pub FREED : ℕ
-FREED = 272
-
--- that owner is a name
-abbrev pub is_a_name : Option ℕ → Bool
-is_a_name None = false
-is_a_name (Some name) = nat_lt name FREED
 
 abbrev pub with_free : Chunk → Option ℕ → List Chunk → List Chunk
 with_free chunk None chunks = chunk ∷ chunks
@@ -49,11 +40,11 @@ chunks_along zero bytes base head = []
 chunks_along (suc n) bytes base None = []
 chunks_along (suc n) bytes base (Some at) = chunk_at bytes base at ∷ chunks_along n bytes base (chunk_at bytes base at).link
 
--- these are all chunks along the links from a place on, and each has its header below the end
+-- these are all chunks along the links from a place on: gaps, and the words that tell each lie below the end
 abbrev pub Follow : List ℕ → ℕ → ℕ → Option ℕ → List Chunk → Type 0
 Follow bytes base end head [] = head ≡ None
 Follow bytes base end head (chunk ∷ chunks) =
-    (head ≡ Some chunk.at) × (chunk_at bytes base chunk.at ≡ chunk) × (chunk.at + 16 ≤ end) × Follow bytes base end chunk.link chunks
+    (head ≡ Some chunk.at) × (chunk_at bytes base chunk.at ≡ chunk) × (chunk.owner ≡ None) × (chunk.at + 12 ≤ end) × Follow bytes base end chunk.link chunks
 
 -- all of them
 unfoldable pub gaps_from_place : Region → List ℕ → Option ℕ → List Chunk
@@ -121,8 +112,8 @@ pub record Exchanged (old new : Region) (bytes new_bytes : List ℕ) (from end :
   pub behind : List Chunk
   pub was : chunks_of old bytes ≡ before ++ (gone ++ behind)
   pub is : chunks_of new new_bytes ≡ before ++ (mid ++ behind)
-  pub front : Tell bytes old.span.at 0 from before
-  pub back : Tell bytes old.span.at end old.footprint behind
+  pub front : Tell old.header bytes old.span.at 0 from before
+  pub back : Tell old.header bytes old.span.at end old.footprint behind
   pub linked : LinkedTo first mid link
 
 -- what is kept beside the gaps stays

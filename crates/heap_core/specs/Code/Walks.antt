@@ -3,8 +3,8 @@ use Rattle.std.specs.Prelude.{◌≡◌, ◌≢◌, ℕ, ◌+◌, ◌-◌, ◌%�
 use Rattle.heap_core.specs.declared.chunk.Chunk.{Chunk}
 use Rattle.heap_core.specs.declared.chunk.Place.{Place}
 use Rattle.heap_core.specs.declared.region.Region.{Region}
-use Rattle.heap_core.specs.HeapStore.{Block, HeapStore, header_len}
-use Rattle.heap_core.specs.Code.Chunks.{chunks_from}
+use Rattle.heap_core.specs.HeapStore.{Block, HeapStore}
+use Rattle.heap_core.specs.Code.Chunks.{shortest, chunks_from}
 
 abbrev pub is_owner : ℕ → Option ℕ → Bool
 is_owner name None = false
@@ -25,20 +25,20 @@ pub record LiveIn (chunk : Chunk) (chunks : List Chunk) : Type 0 where
   pub live : chunk.owner ≢ None
 
 -- what lies between two places is as long as a whole gap
-abbrev pub LeavesGap : ℕ → ℕ → Type 0
-LeavesGap from to = (from + 20 ≤ to) × ((to - from) % 4 ≡ 0)
+abbrev pub LeavesGap : ℕ → ℕ → ℕ → Type 0
+LeavesGap header from to = (from + shortest header ≤ to) × ((to - from) % 4 ≡ 0)
 
 -- the room of a whole chunk
-abbrev pub IsWholeRoom : ℕ → Type 0
-IsWholeRoom room = (4 ≤ room) × (room % 4 ≡ 0)
+abbrev pub IsWholeRoom : ℕ → ℕ → Type 0
+IsWholeRoom header room = (shortest header ≤ header + room) × (room % 4 ≡ 0)
 
 -- one of these chunks is a gap there, which has so many bytes, or leaves a whole gap behind them
-pub record GapAt (place len : ℕ) (chunks : List Chunk) : Type 0 where
+pub record GapAt (header place len : ℕ) (chunks : List Chunk) : Type 0 where
   pub gap : Chunk
   pub stands : Stands gap chunks
   pub free : gap.owner ≡ None
   pub at : gap.at ≡ place
-  pub rest : (len ≡ gap.len) ⊎ LeavesGap len gap.len
+  pub rest : (len ≡ gap.len) ⊎ LeavesGap header len gap.len
 
 -- it is one of these chunks, and the block of that name
 pub record Owned (name : ℕ) (chunk : Chunk) (chunks : List Chunk) : Type 0 where
@@ -83,23 +83,22 @@ abbrev pub without_place : ℕ → HeapStore → HeapStore
 without_place at heap = record heap { blocks = filter (λ (block : Block). not (block.at == at)) heap.blocks }
 
 -- the place of a live chunk's block
-abbrev pub place_in_chunk : Chunk → Place
-place_in_chunk chunk = record { at = chunk.at; room = chunk.len - header_len }
+abbrev pub place_in_chunk : ℕ → Chunk → Place
+place_in_chunk header chunk = record { at = chunk.at; room = chunk.len - header }
 
 abbrev pub at_place : ℕ → ℕ → Place
 at_place at room = record { at = at; room = room }
 
 -- the bytes of a live chunk's block
-abbrev pub bytes_in_chunk : List ℕ → ℕ → Chunk → List ℕ
-bytes_in_chunk bytes base chunk =
-    slice_range bytes (base + chunk.at + header_len) (base + chunk.at + header_len + chunk.size)
+abbrev pub bytes_in_chunk : ℕ → List ℕ → ℕ → Chunk → List ℕ
+bytes_in_chunk header bytes base chunk = slice_range bytes (base + chunk.at + header) (base + chunk.at + header + chunk.size)
 
 -- the bytes that a new block is given: those of a live chunk, if one is named
-abbrev pub bytes_given : List ℕ → ℕ → Option Chunk → List ℕ
-bytes_given bytes base None = []
-bytes_given bytes base (Some chunk) = bytes_in_chunk bytes base chunk
+abbrev pub bytes_given : ℕ → List ℕ → ℕ → Option Chunk → List ℕ
+bytes_given header bytes base None = []
+bytes_given header bytes base (Some chunk) = bytes_in_chunk header bytes base chunk
 
 -- the block of a live chunk
-abbrev pub block_in_chunk : List ℕ → ℕ → ℕ → Chunk → Block
-block_in_chunk bytes base name chunk =
-    record { name = name; at = chunk.at; room = chunk.len - header_len; bytes = bytes_in_chunk bytes base chunk }
+abbrev pub block_in_chunk : ℕ → List ℕ → ℕ → ℕ → Chunk → Block
+block_in_chunk header bytes base name chunk =
+    record { name = name; at = chunk.at; room = chunk.len - header; bytes = bytes_in_chunk header bytes base chunk }

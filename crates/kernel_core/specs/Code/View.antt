@@ -9,6 +9,7 @@ use Rattle.mote_types.specs.declared.event.Pid.{Pid}
 use Rattle.device_core.specs.declared.frame.Frame.{Frame}
 use Rattle.node_memory.specs.Frames.{frame_in}
 use Rattle.node_memory.specs.Memory.{Memory}
+use Rattle.node_memory.specs.Placed.{last_owner}
 use Rattle.process_core.specs.Agenda.{Item, Job, job_carrying}
 use Rattle.process_core.specs.Processes.{numbers}
 use Rattle.process_core.specs.Scheduler.{carrying, in_front}
@@ -83,6 +84,8 @@ pub record IsInOrder (k : KernelFields) : Type 0 where
   pub inputs : k.inputs ≤ 2 ^ 40
   pub events : HasFitEvents k
   pub frames : HoldsFrames k.memory.contents k.packets.frames
+  -- each application may have managed blocks
+  pub owners : 3 + k.applications ≤ last_owner k.memory
   -- a turn draws a number, or ends a process whose callback timers then get four
   pub draws : debt k ≤ 1 + 8 * (10000 * k.inputs + k.work)
 
@@ -92,6 +95,7 @@ pub record IsAtTurn (pid : Pid) (k : KernelFields) : Type 0 where
   pub shown : k.unshown ≡ none_unshown
   pub first : 4 ≤ pid.0
   pub last : pid.0 ≤ 19
+  pub owner : pid.0 ≤ last_owner k.memory
   pub applications : k.applications ≡ k.scheduler.state.applications
   pub clock : k.clock ≤ 2 ^ 62
   pub few : k.timers.armings.drawn < 2 ^ 60
@@ -135,6 +139,7 @@ pub record IsCarriedOut (old new : KernelFields) : Type 0 where
   pub events : HasFitEvents new
   pub draws : debt new ≤ debt old + 4
   pub frames : HoldsFrames new.memory.contents new.packets.frames
+  pub owners : last_owner new.memory ≡ last_owner old.memory
   pub unshown : unshown_count new.unshown ≤ 1
 
 -- an input had its effect
@@ -149,6 +154,7 @@ pub record IsTakenIn (old new : KernelFields) : Type 0 where
   pub events : new.scheduler.state.events ≡ old.scheduler.state.events
   pub agenda : new.scheduler.state.agenda ≡ old.scheduler.state.agenda
   pub frames : HoldsFrames new.memory.contents new.packets.frames
+  pub owners : last_owner new.memory ≡ last_owner old.memory
 
 -- what a kernel process did
 pub record IsServed (old new : KernelFields) : Type 0 where

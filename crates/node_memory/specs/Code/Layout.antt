@@ -20,6 +20,8 @@ LieBehind from (listed ∷ later) bytes =
 -- the arena's bytes are as the calls left them: the heap lies behind managed memory, and the pools behind the heap
 pub record IsLaidOut (layout : Layout) : Type 0 where
   pub managed : IsWithin layout.managed layout.bytes
+  -- process 3 may hold frames
+  pub holder : 1 ≤ layout.managed.quotas.owners
   -- the table has an entry for each name
   pub names : length layout.managed.places ≡ NAMES
   pub behind : end_of layout.managed.span ≤ layout.heap.span.at

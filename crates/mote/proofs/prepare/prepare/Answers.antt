@@ -1,7 +1,8 @@
-use Rattle.std.proofs.Common.{rules, ◌≡◌, ◌∙◌, ap, refl, Bool, true, false}
+use Rattle.std.proofs.Common.{rules, ℕ, ◌≡◌, ◌∙◌, ap, refl, Bool, true, false}
 use Rattle.std.specs.Prelude.{Result, Ok, Err}
 use Rattle.kernel_core.specs.declared.config.Config.{Config}
 use Rattle.kernel_core.specs.Machine.{booted, is_bootable}
+use Rattle.mote_words.specs.declared.words.Named.{Named}
 use Rattle.mote.specs.CommandLine.{config_of}
 use Rattle.mote.proofs.prepare.prepare.Goals as goal
 
@@ -16,14 +17,18 @@ not_false false value error h =
     let bad : true ≡ false = ap is_ok (h refl) in
     search rules
 
+-- the configuration of these words with so many applications
+abbrev with_applications : Named → ℕ → Config
+with_applications named n = record { mmem = named.mmem; heap = named.heap; apps = n; quota = named.quota; header = named.header }
+
 pub returns-clause-ready : goal.returns-clause-ready
 returns-clause-ready c =
-    let config : Config = record { mmem = c.in_ok-named.named.mmem; heap = c.in_ok-named.named.heap; apps = c.len.result } in
+    let config = with_applications c.in_ok-named.named c.len.result in
     let bootable : is_bootable config ≡ true = not_false _ _ _ c.in_ok-kernel.ensures.bad_sizes.1 in
     ((config, bootable, c.len.ensures.value, c.in_ok-kernel.ensures.booted.0), c.in_ok-kernel.ensures.booted.1)
 
 pub returns-clause-booted : goal.returns-clause-booted
 returns-clause-booted c =
-    let sized : Config = record { mmem = c.in_ok-named.named.mmem; heap = c.in_ok-named.named.heap; apps = c.len.result } in
-    let named : sized ≡ config_of c.in_ok-named.named = ap (λ n. record { mmem = c.in_ok-named.named.mmem; heap = c.in_ok-named.named.heap; apps = n }) c.len.ensures.value in
+    let sized = with_applications c.in_ok-named.named c.len.result in
+    let named : sized ≡ config_of c.in_ok-named.named = ap (with_applications c.in_ok-named.named) c.len.ensures.value in
     c.in_ok-kernel.ensures.booted.0 ∙ ap booted (named ∙ ap config_of c.in_ok-named.ensures.named)

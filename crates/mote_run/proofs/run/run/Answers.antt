@@ -1,6 +1,6 @@
 use Rattle.std.proofs.Common.{◌≡◌, ◌∙◌, true, sym}
 use Rattle.kernel_core.specs.Machine.{is_bootable}
-use Rattle.run_laws.specs.RunLaws.{BlocksAreOwn, EventsArriveInOrder, TimersAreKept}
+use Rattle.run_laws.specs.RunLaws.{BlocksAreOwn, EventsArriveInOrder, ProcessesAreIsolated, TimersAreKept}
 use Rattle.mote_run.proofs.Shown.{boots_so, err_under, ok_under, shows}
 use Rattle.mote_run.proofs.run.run.Goals as goal
 
@@ -19,4 +19,10 @@ pub returns-clause-timers : goal.returns-clause-timers
 returns-clause-timers g c = λ s k config boots.
     let bootable : is_bootable config ≡ true = boots_so config c.requires.booted.0.0 (sym boots ∙ c.requires.booted.0.3) c.requires.booted.0.1 in
     shows (TimersAreKept config.apps) config _ _ _ _ _ _ _ (λ says inputs after runs. c.timers_are_kept.ensures.kept config says inputs after runs bootable) _
+    (c.text_exists.ensures.exists config) (ok_under _ _ _ c.write_run.ensures.text s k config boots) (err_under _ _ _ c.write_run.ensures.front s k config boots)
+
+pub returns-clause-isolation : goal.returns-clause-isolation
+returns-clause-isolation g c = λ s k config boots.
+    let bootable : is_bootable config ≡ true = boots_so config c.requires.booted.0.0 (sym boots ∙ c.requires.booted.0.3) c.requires.booted.0.1 in
+    shows (ProcessesAreIsolated config.quota config.apps) config _ _ _ _ _ _ _ (λ says inputs after runs. c.processes_are_isolated.ensures.isolated config says inputs after runs bootable) _
     (c.text_exists.ensures.exists config) (ok_under _ _ _ c.write_run.ensures.text s k config boots) (err_under _ _ _ c.write_run.ensures.front s k config boots)

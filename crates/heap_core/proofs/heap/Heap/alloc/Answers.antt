@@ -78,7 +78,7 @@ returns-clause-laid_out c =
     subst (λ places. ArePlaced (slice_set places name (Some place.at)) mid) (sym (c.settle.ensures.kept.places ∙ j.joins.places))
     (placed_more was.places (heap_of was A) mid place name bytes c.number_of-name.ensures.within none is laid.places) in
     record {
-      chunks = has_same new _ B' refl refl c.settle.ensures.chunks;
+      chunks = has_same new _ B' refl refl refl c.settle.ensures.chunks;
       named = named;
       places = places;
       gaps = record { linked = c.settle.ensures.gaps.linked; count = c.settle.ensures.gaps.count };

@@ -3,8 +3,8 @@ use Rattle.std.proofs.lemmas.Bool.{lt-ltb}
 use Rattle.heap_core.specs.declared.region.Region.{Region}
 use Rattle.heap_core.specs.HeapStore.{HeapStore, freed, without_block}
 use Rattle.heap_core.specs.HeapBytes.{heap_of, IsLaidOut}
+use Rattle.heap_core.specs.Code.Chunks.{is_a_name}
 use Rattle.heap_core.specs.Code.Layout.{chunks_of}
-use Rattle.heap_core.specs.Code.Links.{is_a_name}
 use Rattle.heap_core.specs.Code.Places.{ArePlaced}
 use Rattle.heap_core.proofs.Blocks.{count, elsewhere}
 use Rattle.heap_core.proofs.Bodies.{live_without_place}
@@ -43,7 +43,7 @@ returns-clause-laid_out c =
     let places : ArePlaced (slice_set c.set_aside.new.self.places number None) mid =
     subst (λ places. ArePlaced (slice_set places number None) mid) (sym s.places) (placed_less heap.places (heap_of heap B) mid number c.number_of-name.ensures.within is laid.places) in
     record {
-      chunks = has_same c.set_aside.new.self _ c.set_aside.new.arena.bytes refl refl s.chunks;
+      chunks = has_same c.set_aside.new.self _ c.set_aside.new.arena.bytes refl refl refl s.chunks;
       named = named;
       places = places;
       gaps = record { linked = s.gaps.linked; count = s.gaps.count };

@@ -14,16 +14,16 @@ use Rattle.heap_core.proofs.Names.{find_is, owned}
 use Rattle.heap_core.proofs.Stored.{stored, find_named}
 use Rattle.heap_core.proofs.heap.Heap.len_of.Goals as goal
 
-abbrev length_in : List ℕ → ℕ → Option Chunk → Option ℕ
-length_in B b o = option_map (λ c. length (bytes_in_chunk B b c)) o
+abbrev length_in : ℕ → List ℕ → ℕ → Option Chunk → Option ℕ
+length_in header B b o = option_map (λ c. length (bytes_in_chunk header B b c)) o
 
-length_is : (heap : Region) (B : List ℕ) (name p h : ℕ) (o : Option Chunk) → name < 272 → name ≡ number_of p h → option_map (block_in_chunk B heap.span.at name) o ≡ find (has_name name) (blocks_in B heap.span.at (chunks_of heap B)) → length_in B heap.span.at o ≡ length_of p h (heap_of heap B)
+length_is : (heap : Region) (B : List ℕ) (name p h : ℕ) (o : Option Chunk) → name < 272 → name ≡ number_of p h → option_map (block_in_chunk heap.header B heap.span.at name) o ≡ find (has_name name) (blocks_in heap.header B heap.span.at (chunks_of heap B)) → length_in heap.header B heap.span.at o ≡ length_of p h (heap_of heap B)
 length_is heap B name p h o small same found =
     length_from o
-    ∙ ap (λ k. option_map length (option_map (λ (block : Block). block.bytes) k)) (found ∙ sym (find_named name (blocks_in B heap.span.at (chunks_of heap B)) small))
+    ∙ ap (λ k. option_map length (option_map (λ (block : Block). block.bytes) k)) (found ∙ sym (find_named name (blocks_in heap.header B heap.span.at (chunks_of heap B)) small))
     ∙ ap (λ k. option_map length (option_map (λ (block : Block). block.bytes) (find (has_name k) (heap_of heap B).blocks))) same
   where
-    length_from : (o : Option Chunk) → length_in B heap.span.at o ≡ option_map length (option_map (λ (block : Block). block.bytes) (option_map (block_in_chunk B heap.span.at name) o))
+    length_from : (o : Option Chunk) → length_in heap.header B heap.span.at o ≡ option_map length (option_map (λ (block : Block). block.bytes) (option_map (block_in_chunk heap.header B heap.span.at name) o))
     length_from None = refl
     length_from (Some c) = refl
 
@@ -33,7 +33,7 @@ returns-in_err-chunk c =
     subst (λ (r : Region). c.from_residual.result ≡ length_of c.args.key.0.0 c.args.key.1 (heap_of r B)) c.self.view_is
     (c.from_residual.ensures
     ∙ length_is heap B name c.args.key.0.0 c.args.key.1 None c.number_of.ensures.within c.number_of.ensures.number
-    (ap (option_map (block_in_chunk B heap.span.at name)) c.in_err-chunk.ensures ∙ sym (find_is B heap.span.at name (chunks_of heap B))))
+    (ap (option_map (block_in_chunk heap.header B heap.span.at name)) c.in_err-chunk.ensures ∙ sym (find_is heap.header B heap.span.at name (chunks_of heap B))))
 
 pub returns : goal.returns
 returns c =
@@ -42,4 +42,4 @@ returns c =
     subst (λ (r : Region). Some chunk.size ≡ length_of c.args.key.0.0 c.args.key.1 (heap_of r B)) c.self.view_is
     (ap Some (sym (block_bytes heap B (stored heap B laid) chunk name c.number_of.ensures.within (owned name chunk (chunks_of heap B) (sym c.in_ok-chunk.ensures))))
     ∙ length_is heap B name c.args.key.0.0 c.args.key.1 (Some chunk) c.number_of.ensures.within c.number_of.ensures.number
-    (ap (option_map (block_in_chunk B heap.span.at name)) c.in_ok-chunk.ensures ∙ sym (find_is B heap.span.at name (chunks_of heap B))))
+    (ap (option_map (block_in_chunk heap.header B heap.span.at name)) c.in_ok-chunk.ensures ∙ sym (find_is heap.header B heap.span.at name (chunks_of heap B))))

@@ -35,10 +35,10 @@ returns-in_default-clause-block c =
     let s = stored heap B joined in let small = c.number_of-name.ensures.within in let o = c.live_chunk-chunk.ensures.owned in
     let all : heap_of heap B ≡ store = plain heap B j.joins.freed j.none in
     let same : store ≡ heap_of was A = sym all ∙ j.joins.blocks in
-    let found : find_block name store ≡ Some (block_in_chunk B heap.span.at name chunk) = ap (find_block name) (sym all) ∙ c.live_chunk-chunk.ensures.block in
+    let found : find_block name store ≡ Some (block_in_chunk heap.header B heap.span.at name chunk) = ap (find_block name) (sym all) ∙ c.live_chunk-chunk.ensures.block in
     let left : without_place chunk.at store ≡ without_block name store = without_place_is heap B s chunk name small o in
     let named : (other : ℕ) → count other store.blocks ≤ 1 = λ other. subst (λ (k : HeapStore). count other k.blocks ≤ 1) all (joined.named other) in
-    let none : room_in_place (place_in_chunk chunk) n store ≡ None = sym c.room_in_place.ensures ∙ c.in_default.is in
+    let none : room_in_place (place_in_chunk heap.header chunk) n store ≡ None = sym c.room_in_place.ensures ∙ c.in_default.is in
     let new = heap_of c.relocate.new.self c.relocate.new.arena.bytes in
     let is : reallocated p h n store ≡ Some new = elsewhere heap B store chunk p h name n left c.number_of-name.ensures.number found new none c.in_ok-at.ensures.block in
     subst (λ (r : Region). reallocated p h n (heap_of r A) ≡ Some new) c.self.view_is (ap (reallocated p h n) (sym same) ∙ is)
@@ -53,20 +53,20 @@ returns-in_default-clause-laid_out c =
     let s = stored heap B joined in let small = c.number_of-name.ensures.within in let o = c.live_chunk-chunk.ensures.owned in
     let all : heap_of heap B ≡ store = plain heap B j.joins.freed j.none in
     let same : store ≡ heap_of was A = sym all ∙ j.joins.blocks in
-    let found : find_block name store ≡ Some (block_in_chunk B heap.span.at name chunk) = ap (find_block name) (sym all) ∙ c.live_chunk-chunk.ensures.block in
+    let found : find_block name store ≡ Some (block_in_chunk heap.header B heap.span.at name chunk) = ap (find_block name) (sym all) ∙ c.live_chunk-chunk.ensures.block in
     let left : without_place chunk.at store ≡ without_block name store = without_place_is heap B s chunk name small o in
     let named : (other : ℕ) → count other store.blocks ≤ 1 = λ other. subst (λ (k : HeapStore). count other k.blocks ≤ 1) all (joined.named other) in
-    let none : room_in_place (place_in_chunk chunk) n store ≡ None = sym c.room_in_place.ensures ∙ c.in_default.is in
+    let none : room_in_place (place_in_chunk heap.header chunk) n store ≡ None = sym c.room_in_place.ensures ∙ c.in_default.is in
     let new = heap_of c.relocate.new.self c.relocate.new.arena.bytes in
     let is : reallocated p h n store ≡ Some new = elsewhere heap B store chunk p h name n left c.number_of-name.ensures.number found new none c.in_ok-at.ensures.block in
     let m = c.in_ok-at.ensures in
     record {
-      chunks = has_same c.relocate.new.self _ c.relocate.new.arena.bytes refl refl m.chunks;
+      chunks = has_same c.relocate.new.self _ c.relocate.new.arena.bytes refl refl refl m.chunks;
       named = named_after heap B store chunk p h name n left c.number_of-name.ensures.number found named new is;
       places =
           subst (λ places. ArePlaced (slice_set places name (Some c.in_ok-at.at)) new) (sym c.relocate.ensures.places)
-          (placed_moved heap.places store new (place n store) c.in_ok-at.at name (resized n (bytes_in_chunk B heap.span.at chunk)) small (sym m.at)
-          (ap (λ rest. option_map (λ (target : Place). with_block (block_at target name (resized n (bytes_in_chunk B heap.span.at chunk))) rest) (place n store)) (sym left) ∙ m.block)
+          (placed_moved heap.places store new (place n store) c.in_ok-at.at name (resized n (bytes_in_chunk heap.header B heap.span.at chunk)) small (sym m.at)
+          (ap (λ rest. option_map (λ (target : Place). with_block (block_at target name (resized n (bytes_in_chunk heap.header B heap.span.at chunk))) rest) (place n store)) (sym left) ∙ m.block)
           s.places);
       gaps = record { linked = m.gaps.linked; count = m.gaps.count };
       freed = record { list = m.freed.list; linked = m.freed.linked; count = m.freed.count; all = m.freed.all };
@@ -81,11 +81,11 @@ returns-clause-block c =
     let s = stored heap B joined in let small = c.number_of-name.ensures.within in let o = c.live_chunk-chunk.ensures.owned in
     let all : heap_of heap B ≡ store = plain heap B j.joins.freed j.none in
     let same : store ≡ heap_of was A = sym all ∙ j.joins.blocks in
-    let found : find_block name store ≡ Some (block_in_chunk B heap.span.at name chunk) = ap (find_block name) (sym all) ∙ c.live_chunk-chunk.ensures.block in
+    let found : find_block name store ≡ Some (block_in_chunk heap.header B heap.span.at name chunk) = ap (find_block name) (sym all) ∙ c.live_chunk-chunk.ensures.block in
     let left : without_place chunk.at store ≡ without_block name store = without_place_is heap B s chunk name small o in
     let named : (other : ℕ) → count other store.blocks ≤ 1 = λ other. subst (λ (k : HeapStore). count other k.blocks ≤ 1) all (joined.named other) in
     let after = c.resize.new.self in let B' = c.resize.new.arena.bytes in let new = heap_of after B' in
-    let bytes = resized n (bytes_in_chunk B heap.span.at chunk) in let block = block_at (at_place chunk.at c.in-Some.room) name bytes in
+    let bytes = resized n (bytes_in_chunk heap.header B heap.span.at chunk) in let block = block_at (at_place chunk.at c.in-Some.room) name bytes in
     let freed : FreedLinked after B' =
     freed_none heap after B B' j.joins.freed j.none c.resize.ensures.kept
     (ap (λ (k : HeapStore). length (unnamed k.blocks)) c.resize.ensures.block ∙ placed_unnamed block (filter (by_place chunk.at) store.blocks) (lt-ltb name 272 small) ∙ none_unnamed (by_place chunk.at) store.blocks (j.joins.freed.all ∙ j.none)) in
@@ -102,11 +102,11 @@ returns-clause-laid_out c =
     let s = stored heap B joined in let small = c.number_of-name.ensures.within in let o = c.live_chunk-chunk.ensures.owned in
     let all : heap_of heap B ≡ store = plain heap B j.joins.freed j.none in
     let same : store ≡ heap_of was A = sym all ∙ j.joins.blocks in
-    let found : find_block name store ≡ Some (block_in_chunk B heap.span.at name chunk) = ap (find_block name) (sym all) ∙ c.live_chunk-chunk.ensures.block in
+    let found : find_block name store ≡ Some (block_in_chunk heap.header B heap.span.at name chunk) = ap (find_block name) (sym all) ∙ c.live_chunk-chunk.ensures.block in
     let left : without_place chunk.at store ≡ without_block name store = without_place_is heap B s chunk name small o in
     let named : (other : ℕ) → count other store.blocks ≤ 1 = λ other. subst (λ (k : HeapStore). count other k.blocks ≤ 1) all (joined.named other) in
     let after = c.resize.new.self in let B' = c.resize.new.arena.bytes in let new = heap_of after B' in
-    let bytes = resized n (bytes_in_chunk B heap.span.at chunk) in let block = block_at (at_place chunk.at c.in-Some.room) name bytes in
+    let bytes = resized n (bytes_in_chunk heap.header B heap.span.at chunk) in let block = block_at (at_place chunk.at c.in-Some.room) name bytes in
     let freed : FreedLinked after B' =
     freed_none heap after B B' j.joins.freed j.none c.resize.ensures.kept
     (ap (λ (k : HeapStore). length (unnamed k.blocks)) c.resize.ensures.block ∙ placed_unnamed block (filter (by_place chunk.at) store.blocks) (lt-ltb name 272 small) ∙ none_unnamed (by_place chunk.at) store.blocks (j.joins.freed.all ∙ j.none)) in
@@ -134,10 +134,10 @@ returns-in_err-at-clause-refused c =
     let s = stored heap B joined in let small = c.number_of-name.ensures.within in let o = c.live_chunk-chunk.ensures.owned in
     let all : heap_of heap B ≡ store = plain heap B j.joins.freed j.none in
     let same : store ≡ heap_of was A = sym all ∙ j.joins.blocks in
-    let found : find_block name store ≡ Some (block_in_chunk B heap.span.at name chunk) = ap (find_block name) (sym all) ∙ c.live_chunk-chunk.ensures.block in
+    let found : find_block name store ≡ Some (block_in_chunk heap.header B heap.span.at name chunk) = ap (find_block name) (sym all) ∙ c.live_chunk-chunk.ensures.block in
     let left : without_place chunk.at store ≡ without_block name store = without_place_is heap B s chunk name small o in
     let named : (other : ℕ) → count other store.blocks ≤ 1 = λ other. subst (λ (k : HeapStore). count other k.blocks ≤ 1) all (joined.named other) in
-    let none : room_in_place (place_in_chunk chunk) n store ≡ None = sym c.room_in_place.ensures ∙ c.in_default.is in
+    let none : room_in_place (place_in_chunk heap.header chunk) n store ≡ None = sym c.room_in_place.ensures ∙ c.in_default.is in
     let refused : place n store ≡ None = (let e = c.from_residual.ensures in elim_none (place n store) (c.in_err-at.ensures.at)) in
     let is : reallocated p h n (heap_of c.args.self.now A) ≡ None =
     subst (λ (r : Region). reallocated p h n (heap_of r A) ≡ None) c.self.view_is (ap (reallocated p h n) (sym same) ∙ nowhere heap B store chunk p h name n left c.number_of-name.ensures.number found none refused) in
@@ -154,10 +154,10 @@ returns-in_default-clause-refused c =
     let s = stored heap B joined in let small = c.number_of-name.ensures.within in let o = c.live_chunk-chunk.ensures.owned in
     let all : heap_of heap B ≡ store = plain heap B j.joins.freed j.none in
     let same : store ≡ heap_of was A = sym all ∙ j.joins.blocks in
-    let found : find_block name store ≡ Some (block_in_chunk B heap.span.at name chunk) = ap (find_block name) (sym all) ∙ c.live_chunk-chunk.ensures.block in
+    let found : find_block name store ≡ Some (block_in_chunk heap.header B heap.span.at name chunk) = ap (find_block name) (sym all) ∙ c.live_chunk-chunk.ensures.block in
     let left : without_place chunk.at store ≡ without_block name store = without_place_is heap B s chunk name small o in
     let named : (other : ℕ) → count other store.blocks ≤ 1 = λ other. subst (λ (k : HeapStore). count other k.blocks ≤ 1) all (joined.named other) in
-    let none : room_in_place (place_in_chunk chunk) n store ≡ None = sym c.room_in_place.ensures ∙ c.in_default.is in
+    let none : room_in_place (place_in_chunk heap.header chunk) n store ≡ None = sym c.room_in_place.ensures ∙ c.in_default.is in
     let new = heap_of c.relocate.new.self c.relocate.new.arena.bytes in
     let is : reallocated p h n store ≡ Some new = elsewhere heap B store chunk p h name n left c.number_of-name.ensures.number found new none c.in_ok-at.ensures.block in
     let some : reallocated p h n (heap_of c.args.self.now A) ≡ Some new = subst (λ (r : Region). reallocated p h n (heap_of r A) ≡ Some new) c.self.view_is (ap (reallocated p h n) (sym same) ∙ is) in
@@ -172,11 +172,11 @@ returns-clause-refused c =
     let s = stored heap B joined in let small = c.number_of-name.ensures.within in let o = c.live_chunk-chunk.ensures.owned in
     let all : heap_of heap B ≡ store = plain heap B j.joins.freed j.none in
     let same : store ≡ heap_of was A = sym all ∙ j.joins.blocks in
-    let found : find_block name store ≡ Some (block_in_chunk B heap.span.at name chunk) = ap (find_block name) (sym all) ∙ c.live_chunk-chunk.ensures.block in
+    let found : find_block name store ≡ Some (block_in_chunk heap.header B heap.span.at name chunk) = ap (find_block name) (sym all) ∙ c.live_chunk-chunk.ensures.block in
     let left : without_place chunk.at store ≡ without_block name store = without_place_is heap B s chunk name small o in
     let named : (other : ℕ) → count other store.blocks ≤ 1 = λ other. subst (λ (k : HeapStore). count other k.blocks ≤ 1) all (joined.named other) in
     let after = c.resize.new.self in let B' = c.resize.new.arena.bytes in let new = heap_of after B' in
-    let bytes = resized n (bytes_in_chunk B heap.span.at chunk) in let block = block_at (at_place chunk.at c.in-Some.room) name bytes in
+    let bytes = resized n (bytes_in_chunk heap.header B heap.span.at chunk) in let block = block_at (at_place chunk.at c.in-Some.room) name bytes in
     let freed : FreedLinked after B' =
     freed_none heap after B B' j.joins.freed j.none c.resize.ensures.kept
     (ap (λ (k : HeapStore). length (unnamed k.blocks)) c.resize.ensures.block ∙ placed_unnamed block (filter (by_place chunk.at) store.blocks) (lt-ltb name 272 small) ∙ none_unnamed (by_place chunk.at) store.blocks (j.joins.freed.all ∙ j.none)) in

@@ -6,7 +6,7 @@ use Rattle.arena_core.specs.Contents.{contents}
 use Rattle.arena_core.specs.Written.{written}
 use Rattle.arena_core.proofs.Ranges.{changes_only}
 use Rattle.heap_core.specs.declared.region.Region.{Region}
-use Rattle.heap_core.specs.HeapStore.{Block, HeapStore, header_len, has_name, block_of, with_bytes}
+use Rattle.heap_core.specs.HeapStore.{Block, HeapStore, has_name, block_of, with_bytes}
 use Rattle.heap_core.specs.HeapBytes.{heap_of, IsLaidOut, KeepsToSpan}
 use Rattle.heap_core.specs.Code.Links.{LinkedTo, gaps_among, AreFreed}
 use Rattle.heap_core.proofs.Blocks.{count}
@@ -30,13 +30,13 @@ returns-clause-block c =
     let laid : IsLaidOut heap B = subst (λ (r : Region). IsLaidOut r B) (sym c.self.view_is) c.requires.laid_out in
     let room : at + length ws ≤ chunk.size = range_fits heap B (stored heap B laid) chunk name small o (heap_of heap B) c.args.key.0.0 c.args.key.1 at (length ws) c.number_of.ensures.number c.live_chunk-chunk.ensures.block
     (subst (λ (r : Region). IsSomeAnd (block_of c.args.key.0.0 c.args.key.1 (heap_of r B)) (λ block. at + length ws ≤ length block)) (sym c.self.view_is) c.requires.range) in
-    let start : c.body-body.result.at + at ≡ heap.span.at + chunk.at + header_len + at = ap (λ k. k + at) c.body-body.ensures.at in
-    let after : written B (heap.span.at + chunk.at + header_len + at) ws ≡ written B (c.body-body.result.at + at) c.copy_from_slice.new.self =
-    sym (ap (λ k. written B k c.copy_from_slice.new.self) start ∙ ap (written B (heap.span.at + chunk.at + header_len + at)) c.copy_from_slice.ensures.after) in
+    let start : c.body-body.result.at + at ≡ heap.span.at + chunk.at + heap.header + at = ap (λ k. k + at) c.body-body.ensures.at in
+    let after : written B (heap.span.at + chunk.at + heap.header + at) ws ≡ written B (c.body-body.result.at + at) c.copy_from_slice.new.self =
+    sym (ap (λ k. written B k c.copy_from_slice.new.self) start ∙ ap (written B (heap.span.at + chunk.at + heap.header + at)) c.copy_from_slice.ensures.after) in
     subst (λ (r : Region). heap_of r (written B (c.body-body.result.at + at) c.copy_from_slice.new.self) ≡ with_bytes c.args.key.0.0 c.args.key.1 at ws (heap_of r B)) c.self.view_is
     (ap (heap_of heap) (sym after)
-    ∙ ap (λ blocks. let h : HeapStore = record { size = heap.span.len; blocks = blocks } in h) (live_blocks heap B (stored heap B laid) chunk name small o at ws room)
-    ∙ ap (λ k. let h : HeapStore = record { size = heap.span.len; blocks = map (λ (block : Block). if has_name k block then (let new : Block = record block { bytes = overwritten at ws block.bytes } in new) else block) (heap_of heap B).blocks } in h) c.number_of.ensures.number)
+    ∙ ap (λ blocks. let h : HeapStore = record { size = heap.span.len; header = heap.header; blocks = blocks } in h) (live_blocks heap B (stored heap B laid) chunk name small o at ws room)
+    ∙ ap (λ k. let h : HeapStore = record { size = heap.span.len; header = heap.header; blocks = map (λ (block : Block). if has_name k block then (let new : Block = record block { bytes = overwritten at ws block.bytes } in new) else block) (heap_of heap B).blocks } in h) c.number_of.ensures.number)
 
 pub returns-clause-laid_out : goal.returns-clause-laid_out
 returns-clause-laid_out c =
@@ -44,11 +44,11 @@ returns-clause-laid_out c =
     let laid : IsLaidOut heap B = subst (λ (r : Region). IsLaidOut r B) (sym c.self.view_is) c.requires.laid_out in
     let room : at + length ws ≤ chunk.size = range_fits heap B (stored heap B laid) chunk name small o (heap_of heap B) c.args.key.0.0 c.args.key.1 at (length ws) c.number_of.ensures.number c.live_chunk-chunk.ensures.block
     (subst (λ (r : Region). IsSomeAnd (block_of c.args.key.0.0 c.args.key.1 (heap_of r B)) (λ block. at + length ws ≤ length block)) (sym c.self.view_is) c.requires.range) in
-    let start : c.body-body.result.at + at ≡ heap.span.at + chunk.at + header_len + at = ap (λ k. k + at) c.body-body.ensures.at in
-    let after : written B (heap.span.at + chunk.at + header_len + at) ws ≡ written B (c.body-body.result.at + at) c.copy_from_slice.new.self =
-    sym (ap (λ k. written B k c.copy_from_slice.new.self) start ∙ ap (written B (heap.span.at + chunk.at + header_len + at)) c.copy_from_slice.ensures.after) in
+    let start : c.body-body.result.at + at ≡ heap.span.at + chunk.at + heap.header + at = ap (λ k. k + at) c.body-body.ensures.at in
+    let after : written B (heap.span.at + chunk.at + heap.header + at) ws ≡ written B (c.body-body.result.at + at) c.copy_from_slice.new.self =
+    sym (ap (λ k. written B k c.copy_from_slice.new.self) start ∙ ap (written B (heap.span.at + chunk.at + heap.header + at)) c.copy_from_slice.ensures.after) in
     let over = λ (block : Block). (let new : Block = record block { bytes = overwritten at ws block.bytes } in new) in
-    let new : IsLaidOut heap (written B (heap.span.at + chunk.at + header_len + at) ws) = record {
+    let new : IsLaidOut heap (written B (heap.span.at + chunk.at + heap.header + at) ws) = record {
       chunks = (body_spliced heap B (stored heap B laid) chunk name small o at ws room).has;
       named = λ other. omega (
         arith,
@@ -82,13 +82,14 @@ returns-clause-rest c =
     let laid : IsLaidOut heap B = subst (λ (r : Region). IsLaidOut r B) (sym c.self.view_is) c.requires.laid_out in
     let room : at + length ws ≤ chunk.size = range_fits heap B (stored heap B laid) chunk name small o (heap_of heap B) c.args.key.0.0 c.args.key.1 at (length ws) c.number_of.ensures.number c.live_chunk-chunk.ensures.block
     (subst (λ (r : Region). IsSomeAnd (block_of c.args.key.0.0 c.args.key.1 (heap_of r B)) (λ block. at + length ws ≤ length block)) (sym c.self.view_is) c.requires.range) in
-    let start : c.body-body.result.at + at ≡ heap.span.at + chunk.at + header_len + at = ap (λ k. k + at) c.body-body.ensures.at in
-    let after : written B (heap.span.at + chunk.at + header_len + at) ws ≡ written B (c.body-body.result.at + at) c.copy_from_slice.new.self =
-    sym (ap (λ k. written B k c.copy_from_slice.new.self) start ∙ ap (written B (heap.span.at + chunk.at + header_len + at)) c.copy_from_slice.ensures.after) in
-    let kept : KeepsToSpan heap heap c.args.arena.now (contents (written B (heap.span.at + chunk.at + header_len + at) ws) c.args.arena.now.carved) = record {
+    let start : c.body-body.result.at + at ≡ heap.span.at + chunk.at + heap.header + at = ap (λ k. k + at) c.body-body.ensures.at in
+    let after : written B (heap.span.at + chunk.at + heap.header + at) ws ≡ written B (c.body-body.result.at + at) c.copy_from_slice.new.self =
+    sym (ap (λ k. written B k c.copy_from_slice.new.self) start ∙ ap (written B (heap.span.at + chunk.at + heap.header + at)) c.copy_from_slice.ensures.after) in
+    let kept : KeepsToSpan heap heap c.args.arena.now (contents (written B (heap.span.at + chunk.at + heap.header + at) ws) c.args.arena.now.carved) = record {
       span = refl;
+      header = refl;
       carved = refl;
-      bytes = changes_only B (heap.span.at + chunk.at + header_len + at) ws (omega (arith, c.live_chunk-chunk.ensures.inside, laid.chunks.within)) heap.span.at heap.span.len (omega arith) (omega (arith, c.live_chunk-chunk.ensures.inside));
+      bytes = changes_only B (heap.span.at + chunk.at + heap.header + at) ws (omega (arith, c.live_chunk-chunk.ensures.inside, laid.chunks.within)) heap.span.at heap.span.len (omega arith) (omega (arith, c.live_chunk-chunk.ensures.inside));
     } in
     subst (λ (r : Region). KeepsToSpan r r c.args.arena.now (contents (written B (c.body-body.result.at + at) c.copy_from_slice.new.self) c.args.arena.now.carved)) c.self.view_is
     (subst (λ bytes. KeepsToSpan heap heap c.args.arena.now (contents bytes c.args.arena.now.carved)) after kept)

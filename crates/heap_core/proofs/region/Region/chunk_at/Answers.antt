@@ -1,9 +1,15 @@
-use Rattle.std.proofs.Common.{ap, ◌∙◌}
-use Rattle.heap_core.specs.Code.Chunks.{number_in}
-use Rattle.heap_core.proofs.Told.{chunk_is}
+use Rattle.std.proofs.Common.{◌≡◌, ◌+◌, ap, sym, ◌∙◌}
+use Rattle.heap_core.specs.Code.Chunks.{word_at, number_in, owner_in, size_in, link_in}
+use Rattle.heap_core.proofs.Told.{chunk_is, link_named, link_free}
 use Rattle.heap_core.proofs.region.Region.chunk_at.Goals as goal
+use Rattle.heap_core.proofs.region.Region.chunk_at.Goals.{then-is_a_name, else-is_a_name}
 
 pub returns : goal.returns
 returns c =
-    chunk_is c.args.arena.now.bytes c.args.self.now.span.at c.args.at c.word.result c.number_in.result c.word-3.result c.number_in-2.result c.word.ensures
-    (c.number_in.ensures ∙ ap number_in c.word-2.ensures) c.word-3.ensures (c.number_in-2.ensures ∙ ap number_in c.word-4.ensures)
+    let B = c.args.arena.now.bytes in let place = c.args.self.now.span.at + c.args.at in let owner = c.owner_in-owner.result in
+    let link : c.if-is_a_name.link ≡ link_in owner (word_at B (place + 8)) = elim c.if-is_a_name.branch [
+      | then-is_a_name w ↦ w.link-is ∙ sym (link_named owner (word_at B (place + 8)) (sym c.is_a_name.ensures ∙ w.if-is_a_name.true))
+      | else-is_a_name w ↦ w.link-is ∙ w.number_in-link.ensures ∙ ap number_in w.word.ensures ∙ sym (link_free owner (word_at B (place + 8)) (sym c.is_a_name.ensures ∙ w.if-is_a_name.false))
+    ] in
+    chunk_is B c.args.self.now.span.at c.args.at c.word-2.result owner c.size_in.result c.if-is_a_name.link c.word-2.ensures
+    (c.owner_in-owner.ensures ∙ ap owner_in c.word-second.ensures) (c.size_in.ensures ∙ ap size_in c.word-second.ensures) link

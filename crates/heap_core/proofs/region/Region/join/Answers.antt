@@ -20,7 +20,7 @@ chunk_at-chunk-requires-clause-inside c =
 
 pub release-requires-clause-chunks : goal.release-requires-clause-chunks
 unfolding chunks_of
-release-requires-clause-chunks c = has_same c.loop-self.self _ c.loop-self.arena.bytes refl refl c.loop-self.invariant.chunks
+release-requires-clause-chunks c = has_same c.loop-self.self _ c.loop-self.arena.bytes refl refl refl c.loop-self.invariant.chunks
 
 pub release-requires-clause-stands : goal.release-requires-clause-stands
 unfolding chunks_of
@@ -53,12 +53,12 @@ loop-self-preserved c =
         count = omega (arith, n.count, c.release.ensures.kept.freed);
         all = omega (arith, ap (λ (s : HeapStore). length (unnamed s.blocks)) c.release.ensures.block, unnamed_without heap B i.chunks chunk 272 n.live.stands n.owner (omega arith), i.freed.all, c.release.ensures.kept.freed);
       };
-      blocks = ap (λ (s : HeapStore). let h : HeapStore = record { size = s.size; blocks = filter is_named s.blocks } in h) c.release.ensures.block
-          ∙ ap (λ blocks. let h : HeapStore = record { size = heap.span.len; blocks = blocks } in h) (named_without heap B i.chunks chunk 272 n.live.stands n.owner (omega arith))
+      blocks = ap (λ (s : HeapStore). let h : HeapStore = record { size = s.size; header = s.header; blocks = filter is_named s.blocks } in h) c.release.ensures.block
+          ∙ ap (λ blocks. let h : HeapStore = record { size = heap.span.len; header = heap.header; blocks = blocks } in h) (named_without heap B i.chunks chunk 272 n.live.stands n.owner (omega arith))
           ∙ i.blocks;
       places = c.release.ensures.kept.places ∙ i.places;
       rest = KeepsToSpan-then c.args.self.now heap new c.args.arena.now c.loop-self.arena c.release.new.arena i.rest
-          (record { span = c.release.ensures.rest.span; carved = c.release.ensures.rest.carved; bytes = c.release.ensures.rest.bytes });
+          (record { span = c.release.ensures.rest.span; header = c.release.ensures.rest.header; carved = c.release.ensures.rest.carved; bytes = c.release.ensures.rest.bytes });
     }
 
 pub returns-clause-joins : goal.returns-clause-joins
@@ -66,12 +66,12 @@ unfolding chunks_of
 returns-clause-joins c =
     let i = c.loop-self.invariant in
     record {
-      chunks = has_same c.loop-self.self _ c.loop-self.arena.bytes refl refl i.chunks;
+      chunks = has_same c.loop-self.self _ c.loop-self.arena.bytes refl refl refl i.chunks;
       gaps = i.gaps;
       freed = record { list = i.freed.list; linked = i.freed.linked; count = i.freed.count; all = i.freed.all };
       blocks = i.blocks;
       places = i.places;
-      rest = record { span = i.rest.span; carved = i.rest.carved; bytes = i.rest.bytes };
+      rest = record { span = i.rest.span; header = i.rest.header; carved = i.rest.carved; bytes = i.rest.bytes };
     }
 
 pub returns-clause-none : goal.returns-clause-none

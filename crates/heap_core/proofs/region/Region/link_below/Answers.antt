@@ -52,19 +52,26 @@ returns-in-Some-clause-linked c before behind end is last linked later =
     relinked_list c.args.self.now c.args.arena.now.bytes c.put_chunk.new.arena.bytes c.in-Some.gap c.args.first c.requires.chunks s.0 s.1 c.put_chunk.ensures.chunk c.put_chunk.ensures.others
     before behind end is (sym last ∙ c.in-Some.is) linked later
 
+pub put_chunk-requires-clause-size : goal.put_chunk-requires-clause-size
+put_chunk-requires-clause-size c =
+    let heap = c.args.self.now in let s = gap_stands (chunks_of c.args.self.now c.args.arena.now.bytes) c.args.before c.in-Some.gap c.in-Some.is c.requires.before in
+    let a = here heap c.args.arena.now.bytes c.args.arena.now.bytes c.in-Some.gap c.args.first c.requires.chunks s.0 s.1 in
+    omega (arith, a.fits, a.enough, heap.header_least, heap.inside, heap.small)
+
 pub returns-in-Some-clause-rest : goal.returns-in-Some-clause-rest
 returns-in-Some-clause-rest c =
     let heap = c.args.self.now in let s = gap_stands (chunks_of c.args.self.now c.args.arena.now.bytes) c.args.before c.in-Some.gap c.in-Some.is c.requires.before in
     let a = here heap c.args.arena.now.bytes c.args.arena.now.bytes c.in-Some.gap c.args.first c.requires.chunks s.0 s.1 in
     record {
       span = refl;
+      header = refl;
       carved = c.put_chunk.ensures.carved;
-      bytes = changes_more (heap.span.at + c.in-Some.gap.at) 16 heap.span.at heap.span.len c.args.arena.now.bytes c.put_chunk.new.arena.bytes c.put_chunk.ensures.others (omega arith) (omega (arith, a.fits, a.enough, heap.inside));
+      bytes = changes_more (heap.span.at + c.in-Some.gap.at) 12 heap.span.at heap.span.len c.args.arena.now.bytes c.put_chunk.new.arena.bytes c.put_chunk.ensures.others (omega arith) (omega (arith, a.fits, a.enough, heap.inside));
     }
 
 pub returns-in-None-clause-chunks : goal.returns-in-None-clause-chunks
 unfolding chunks_of
-returns-in-None-clause-chunks c = has_same c.args.self.now _ c.args.arena.now.bytes refl refl c.requires.chunks
+returns-in-None-clause-chunks c = has_same c.args.self.now _ c.args.arena.now.bytes refl refl refl c.requires.chunks
 
 pub returns-in-None-clause-block : goal.returns-in-None-clause-block
 unfolding chunks_of

@@ -12,7 +12,7 @@ use Rattle.heap_core.proofs.region.Region.live_chunk.Goals as goal
 pub unwrap-requires : goal.unwrap-requires
 unwrap-requires c =
     let heap = c.args.self.now in let B = c.args.arena.now.bytes in
-    some_owned B heap.span.at c.args.name (chunks_of heap B) c.find.result c.find.ensures
+    some_owned heap.header B heap.span.at c.args.name (chunks_of heap B) c.find.result c.find.ensures
     (subst (λ (o : Option Block). IsSome o) (find_named c.args.name (store_of heap B).blocks c.requires.name) c.requires.live)
 
 pub returns-clause-owned : goal.returns-clause-owned
@@ -22,7 +22,7 @@ pub returns-clause-block : goal.returns-clause-block
 returns-clause-block c =
     let heap = c.args.self.now in let B = c.args.arena.now.bytes in
     find_named c.args.name (store_of heap B).blocks c.requires.name
-    ∙ find_is B heap.span.at c.args.name (chunks_of heap B) ∙ ap (option_map (block_in_chunk B heap.span.at c.args.name)) (sym c.find.ensures ∙ c.unwrap.ensures)
+    ∙ find_is heap.header B heap.span.at c.args.name (chunks_of heap B) ∙ ap (option_map (block_in_chunk heap.header B heap.span.at c.args.name)) (sym c.find.ensures ∙ c.unwrap.ensures)
 
 pub returns-clause-inside : goal.returns-clause-inside
 returns-clause-inside c =

@@ -1,41 +1,38 @@
-use Rattle.std.proofs.Common.{ℕ, ◌+◌, subst, sym, arith}
-use Rattle.arena_core.specs.Contents.{Contents}
-use Rattle.heap_core.proofs.WrittenHeaders.{WordPut, word_put, header_written, header_changes}
+use Rattle.std.proofs.Common.{◌+◌, sym, ◌∙◌, arith}
+use Rattle.heap_core.proofs.Told.{changes_more}
+use Rattle.heap_core.proofs.WrittenHeaders.{live_written, live_changes, free_written, free_changes}
 use Rattle.heap_core.proofs.region.Region.put_chunk.Goals as goal
-use Rattle.heap_core.proofs.region.Region.put_chunk.Goals.{After-put_word-4}
 
-module _ (c : After-put_word-4) where
-  abbrev h : ℕ
-  h = c.args.self.now.span.at + c.args.chunk.at
+pub returns-then-is_a_name-clause-chunk : goal.returns-then-is_a_name-clause-chunk
+returns-then-is_a_name-clause-chunk c =
+    let chunk = c.args.chunk in let named = sym c.is_a_name.ensures ∙ c.if-is_a_name.true in
+    live_written c.args.arena.now c.put_word.new.self c.put_word-2.new.self c.args.self.now.span.at chunk.at chunk.len c.owned_word.result c.put_word.ensures.bytes c.put_word-2.ensures.bytes
+    (omega (arith, c.requires.within, c.requires.inside)) (omega arith) c.owned_word.type_inv
+    chunk.owner chunk.size chunk.link c.owned_word.ensures.owner c.owned_word.ensures.size named (c.requires.live named)
 
-  first : WordPut c.args.arena.now.bytes c.put_word.new.self.bytes h c.args.chunk.len
-  first =
-      subst (λ (a : Contents). WordPut c.args.arena.now.bytes a.bytes h c.args.chunk.len) (sym c.put_word.ensures.bytes)
-      (word_put c.args.arena.now.bytes h c.args.chunk.len (omega (arith, c.requires.within, c.requires.inside)) (omega arith))
+pub returns-then-is_a_name-clause-live : goal.returns-then-is_a_name-clause-live
+returns-then-is_a_name-clause-live c named =
+    let chunk = c.args.chunk in
+    live_changes c.args.arena.now c.put_word.new.self c.put_word-2.new.self c.args.self.now.span.at chunk.at chunk.len c.owned_word.result c.put_word.ensures.bytes c.put_word-2.ensures.bytes
+    (omega (arith, c.requires.within, c.requires.inside)) (omega arith) c.owned_word.type_inv
 
-  second : WordPut c.put_word.new.self.bytes c.put_word-2.new.self.bytes (h + 4) c.word_of.result
-  second =
-      subst (λ (a : Contents). WordPut c.put_word.new.self.bytes a.bytes (h + 4) c.word_of.result) (sym c.put_word-2.ensures.bytes)
-      (word_put c.put_word.new.self.bytes (h + 4) c.word_of.result (omega (arith, c.requires.within, c.requires.inside, c.put_word.ensures.size)) c.word_of.type_inv)
-
-  third : WordPut c.put_word-2.new.self.bytes c.put_word-3.new.self.bytes (h + 8) c.args.chunk.size
-  third =
-      subst (λ (a : Contents). WordPut c.put_word-2.new.self.bytes a.bytes (h + 8) c.args.chunk.size) (sym c.put_word-3.ensures.bytes)
-      (word_put c.put_word-2.new.self.bytes (h + 8) c.args.chunk.size (omega (arith, c.requires.within, c.requires.inside, c.put_word.ensures.size, c.put_word-2.ensures.size)) (omega arith))
-
-  fourth : WordPut c.put_word-3.new.self.bytes c.put_word-4.new.self.bytes (h + 12) c.word_of-2.result
-  fourth =
-      subst (λ (a : Contents). WordPut c.put_word-3.new.self.bytes a.bytes (h + 12) c.word_of-2.result) (sym c.put_word-4.ensures.bytes)
-      (word_put c.put_word-3.new.self.bytes (h + 12) c.word_of-2.result (omega (arith, c.requires.within, c.requires.inside, c.put_word.ensures.size, c.put_word-2.ensures.size, c.put_word-3.ensures.size)) c.word_of-2.type_inv)
+pub returns-then-is_a_name-clause-others : goal.returns-then-is_a_name-clause-others
+returns-then-is_a_name-clause-others c =
+    let chunk = c.args.chunk in let h = c.args.self.now.span.at + chunk.at in
+    changes_more h 8 h 12 c.args.arena.now.bytes c.put_word-2.new.self.bytes
+    (live_changes c.args.arena.now c.put_word.new.self c.put_word-2.new.self c.args.self.now.span.at chunk.at chunk.len c.owned_word.result c.put_word.ensures.bytes c.put_word-2.ensures.bytes
+    (omega (arith, c.requires.within, c.requires.inside)) (omega arith) c.owned_word.type_inv)
+    (omega arith) (omega arith)
 
 pub returns-clause-chunk : goal.returns-clause-chunk
 returns-clause-chunk c =
     let chunk = c.args.chunk in
-    header_written c.args.arena.now.bytes c.put_word.new.self.bytes c.put_word-2.new.self.bytes c.put_word-3.new.self.bytes c.put_word-4.new.self.bytes c.args.self.now.span.at chunk.at chunk.len c.word_of.result chunk.size c.word_of-2.result
-    (first c) (second c) (third c) (fourth c) chunk.owner chunk.link c.word_of.ensures c.word_of-2.ensures
+    free_written c.args.arena.now c.put_word.new.self c.put_word-2.new.self c.args.self.now.span.at chunk.at chunk.len c.owned_word.result c.put_word.ensures.bytes c.put_word-2.ensures.bytes
+    (omega (arith, c.requires.within, c.requires.inside)) (omega arith) c.owned_word.type_inv c.put_word-3.new.self c.word_of.result c.put_word-3.ensures.bytes c.word_of.type_inv
+    chunk.owner chunk.size chunk.link c.owned_word.ensures.owner c.owned_word.ensures.size (sym c.is_a_name.ensures ∙ c.if-is_a_name.false) c.word_of.ensures.number
 
 pub returns-clause-others : goal.returns-clause-others
 returns-clause-others c =
     let chunk = c.args.chunk in
-    header_changes c.args.arena.now.bytes c.put_word.new.self.bytes c.put_word-2.new.self.bytes c.put_word-3.new.self.bytes c.put_word-4.new.self.bytes c.args.self.now.span.at chunk.at chunk.len c.word_of.result chunk.size c.word_of-2.result
-    (first c) (second c) (third c) (fourth c)
+    free_changes c.args.arena.now c.put_word.new.self c.put_word-2.new.self c.args.self.now.span.at chunk.at chunk.len c.owned_word.result c.put_word.ensures.bytes c.put_word-2.ensures.bytes
+    (omega (arith, c.requires.within, c.requires.inside)) (omega arith) c.owned_word.type_inv c.put_word-3.new.self c.word_of.result c.put_word-3.ensures.bytes c.word_of.type_inv

@@ -31,7 +31,7 @@ pub merge-requires-clause-small : goal.merge-requires-clause-small
 merge-requires-clause-small c =
     let heap = c.args.self.now in
     subst (λ o. IfSome o (λ place. place < 65536)) (sym c.link_behind-link.ensures)
-    (gap_from_small c.args.arena.now.bytes heap.span.at (c.args.chunk.at + c.args.chunk.len + c.gap_behind-gap.result) heap.footprint 65536 (chunks_of heap c.args.arena.now.bytes) c.requires.chunks.told (omega (arith, heap.inside, heap.small)))
+    (gap_from_small heap.header c.args.arena.now.bytes heap.span.at (c.args.chunk.at + c.args.chunk.len + c.gap_behind-gap.result) heap.footprint 65536 (chunks_of heap c.args.arena.now.bytes) c.requires.chunks.told (omega (arith, heap.inside, heap.small)))
 
 pub overflow_sub-chunk : goal.overflow_sub-chunk
 overflow_sub-chunk c =
@@ -51,7 +51,7 @@ overflow_sub-self c = omega (arith, counted c, c.gap_count.ensures, c.gap_count-
 
 pub returns-clause-chunks : goal.returns-clause-chunks
 unfolding chunks_of
-returns-clause-chunks c = has_same c.merge.new.self _ c.merge.new.arena.bytes refl refl c.merge.ensures.chunks
+returns-clause-chunks c = has_same c.merge.new.self _ c.merge.new.arena.bytes refl refl refl c.merge.ensures.chunks
 
 pub returns-clause-gaps : goal.returns-clause-gaps
 unfolding chunks_of

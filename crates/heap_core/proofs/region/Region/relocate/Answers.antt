@@ -5,9 +5,9 @@ use Rattle.std.proofs.lemmas.Bool.{ne_eqb, lt-ltb}
 use Rattle.mote_types.specs.Bytes.{resized}
 use Rattle.heap_core.specs.declared.chunk.Place.{Place}
 use Rattle.heap_core.specs.HeapStore.{Block, HeapStore, block_at, with_block, placed}
-use Rattle.heap_core.specs.Code.Chunks.{is_named}
+use Rattle.heap_core.specs.Code.Chunks.{is_a_name, is_named}
 use Rattle.heap_core.specs.Code.Layout.{chunks_of, store_of}
-use Rattle.heap_core.specs.Code.Links.{is_a_name, unnamed}
+use Rattle.heap_core.specs.Code.Links.{unnamed}
 use Rattle.heap_core.specs.Code.Walks.{without_place, bytes_in_chunk, LiveIn}
 use Rattle.heap_core.proofs.Blocks.{filter_placed, blocks_ascending, elsewhere}
 use Rattle.heap_core.proofs.Choices.{elsewhere_placed}
@@ -31,7 +31,7 @@ set_aside-requires-clause-live c = ap is_a_name c.requires.owned.owner ∙ lt-lt
 pub set_aside-requires-clause-freed : goal.set_aside-requires-clause-freed
 set_aside-requires-clause-freed c =
     let heap = c.args.self.now in let B = c.args.arena.now.bytes in let xs = (store_of heap B).blocks in
-    let block : Block = block_at c.in_ok-target.target c.args.name (resized c.args.n (bytes_in_chunk B heap.span.at c.args.chunk)) in
+    let block : Block = block_at c.in_ok-target.target c.args.name (resized c.args.n (bytes_in_chunk heap.header B heap.span.at c.args.chunk)) in
     freed_none heap c.settle.new.self B c.settle.new.arena.bytes c.requires.freed c.requires.joined c.settle.ensures.kept
     (ap (λ (h : HeapStore). length (unnamed h.blocks)) c.settle.ensures.block ∙ placed_unnamed block xs (lt-ltb c.args.name 272 c.requires.name) ∙ c.requires.freed.all ∙ c.requires.joined)
 
@@ -39,19 +39,20 @@ pub returns-clause-block : goal.returns-clause-block
 returns-clause-block c =
     let heap = c.args.self.now in let B = c.args.arena.now.bytes in let b = heap.span.at in let chunk = c.args.chunk in let n = c.args.n in let xs = (store_of heap B).blocks in
     let target = c.in_ok-target.target in let mid = c.settle.new.self in let M = c.settle.new.arena.bytes in
-    let block : Block = block_at target c.args.name (resized n (bytes_in_chunk B b chunk)) in
+    let block : Block = block_at target c.args.name (resized n (bytes_in_chunk heap.header B b chunk)) in
     let live : LiveIn chunk (chunks_of heap B) = record { stands = c.requires.owned.stands; live = is_live heap B c.requires.chunks chunk c.args.name c.requires.owned.stands c.requires.owned.owner } in
     let far = elsewhere_placed heap B c.requires.chunks n target c.requires.some chunk live (sym c.in_ok-target.ensures) in
     let stays : elsewhere chunk.at block ≡ true = ap not (ne_eqb target.at chunk.at far) in
     let none : length (unnamed (store_of mid M).blocks) ≡ 0 =
     ap (λ (h : HeapStore). length (unnamed h.blocks)) c.settle.ensures.block ∙ placed_unnamed block xs (lt-ltb c.args.name 272 c.requires.name) ∙ c.requires.freed.all ∙ c.requires.joined in
     let blocks : filter is_named (store_of mid M).blocks ≡ placed block xs = all_named (store_of mid M).blocks none ∙ ap (λ (h : HeapStore). h.blocks) c.settle.ensures.block in
-    ap (option_map (λ (p : Place). with_block (block_at p c.args.name (resized n (bytes_in_chunk B b chunk))) (without_place chunk.at (store_of heap B)))) (sym c.in_ok-target.ensures)
+    ap (option_map (λ (p : Place). with_block (block_at p c.args.name (resized n (bytes_in_chunk heap.header B b chunk))) (without_place chunk.at (store_of heap B)))) (sym c.in_ok-target.ensures)
     ∙ ap Some (sym (c.set_aside.ensures.block
-    ∙ ap (λ blocks. let h : HeapStore = record { size = mid.span.len; blocks = filter (elsewhere chunk.at) blocks } in h) blocks
-    ∙ ap (λ size. let h : HeapStore = record { size = size; blocks = filter (elsewhere chunk.at) (placed block xs) } in h) (ap (λ (h : HeapStore). h.size) c.settle.ensures.block)
-    ∙ ap (λ blocks. let h : HeapStore = record { size = heap.span.len; blocks = blocks } in h)
-    (filter_placed (elsewhere chunk.at) heap.footprint block xs stays (blocks_ascending B b 0 heap.footprint (chunks_of heap B) c.requires.chunks.told))))
+    ∙ ap (λ blocks. let h : HeapStore = record { size = mid.span.len; header = mid.header; blocks = filter (elsewhere chunk.at) blocks } in h) blocks
+    ∙ ap (λ size. let h : HeapStore = record { size = size; header = mid.header; blocks = filter (elsewhere chunk.at) (placed block xs) } in h) (ap (λ (h : HeapStore). h.size) c.settle.ensures.block)
+    ∙ ap (λ header. let h : HeapStore = record { size = heap.span.len; header = header; blocks = filter (elsewhere chunk.at) (placed block xs) } in h) (ap (λ (h : HeapStore). h.header) c.settle.ensures.block)
+    ∙ ap (λ blocks. let h : HeapStore = record { size = heap.span.len; header = heap.header; blocks = blocks } in h)
+    (filter_placed (elsewhere chunk.at) heap.footprint block xs stays (blocks_ascending heap.header B b 0 heap.footprint (chunks_of heap B) c.requires.chunks.told))))
 
 pub returns-clause-places : goal.returns-clause-places
 returns-clause-places c = c.set_aside.ensures.places ∙ c.settle.ensures.kept.places

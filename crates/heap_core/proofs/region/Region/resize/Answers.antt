@@ -56,7 +56,7 @@ pub lay-first-requires-clause-link : goal.lay-first-requires-clause-link
 lay-first-requires-clause-link c =
     let heap = c.args.self.now in
     subst (λ o. IfSome o (λ place. place < 65536)) (sym c.link_behind-link.ensures)
-    (gap_from_small c.args.arena.now.bytes heap.span.at (c.args.chunk.at + c.args.chunk.len + c.gap_behind-gap.result) heap.footprint 65536 (chunks_of heap c.args.arena.now.bytes) c.requires.chunks.told (omega (arith, heap.inside, heap.small)))
+    (gap_from_small heap.header c.args.arena.now.bytes heap.span.at (c.args.chunk.at + c.args.chunk.len + c.gap_behind-gap.result) heap.footprint 65536 (chunks_of heap c.args.arena.now.bytes) c.requires.chunks.told (omega (arith, heap.inside, heap.small)))
 
 pub lay-first-requires-clause-fits : goal.lay-first-requires-clause-fits
 lay-first-requires-clause-fits c =
@@ -72,8 +72,8 @@ lay-first-requires-clause-fits c =
       link = refl;
     }
 
-abbrev live_of : ℕ → ℕ → ℕ → ℕ → Chunk
-live_of at room name n = record { at = at; len = 16 + room; owner = Some name; size = n; link = None }
+abbrev live_of : ℕ → ℕ → ℕ → ℕ → ℕ → Chunk
+live_of header at room name n = record { at = at; len = header + room; owner = Some name; size = n; link = None }
 
 pub link_below-requires-clause-chunks : goal.link_below-requires-clause-chunks
 link_below-requires-clause-chunks c =
@@ -94,7 +94,7 @@ link_below-requires-clause-before c =
     let own = own_hole heap B has chunk name o gap gap_is in let gone = chunk ∷ own_gone heap B has chunk name o in let is = own_is heap B has chunk name o gap gap_is in
     let hole = hole_after heap B c.clear.new.arena.bytes chunk.at end c.args.n own c.clear.ensures.others (below heap chunk.at c.args.room c.args.n end rest room) in
     let laid = c.lay-first.ensures.laid hole in
-    last_laid heap c.lay-first.new.self B c.clear.new.arena.bytes c.lay-first.new.arena.bytes (live_of chunk.at c.args.room name c.args.n) chunk.at end own gone is has c.requires.gaps.linked c.gaps_beside-beside.result.below c.lay-first.result c.link_behind-link.result laid c.gaps_beside-beside.ensures.below c.link_behind-link.ensures
+    last_laid heap c.lay-first.new.self B c.clear.new.arena.bytes c.lay-first.new.arena.bytes (live_of heap.header chunk.at c.args.room name c.args.n) chunk.at end own gone is has c.requires.gaps.linked c.gaps_beside-beside.result.below c.lay-first.result c.link_behind-link.result laid c.gaps_beside-beside.ensures.below c.link_behind-link.ensures
 
 -- how many gaps there are once the block is laid, and the one that was behind it
 counted : (c : After-gap_count) → c.link_below.new.self.gaps ≡ length (gaps_among (chunks_of c.link_below.new.self c.link_below.new.arena.bytes)) + gap_count c.gap_behind-gap.result
@@ -110,7 +110,7 @@ counted c =
       arith,
       c.link_below.ensures.count.0,
       c.link_below.ensures.count.1,
-      count_laid heap c.lay-first.new.self B c.clear.new.arena.bytes c.lay-first.new.arena.bytes (live_of chunk.at c.args.room name c.args.n) chunk.at end own gone is has c.requires.gaps.linked c.gaps_beside-beside.result.below c.lay-first.result c.link_behind-link.result laid c.gaps_beside-beside.ensures.below c.link_behind-link.ensures (gap_count gap) c.requires.gaps.count (own_count heap B has chunk name o gap gap_is),
+      count_laid heap c.lay-first.new.self B c.clear.new.arena.bytes c.lay-first.new.arena.bytes (live_of heap.header chunk.at c.args.room name c.args.n) chunk.at end own gone is has c.requires.gaps.linked c.gaps_beside-beside.result.below c.lay-first.result c.link_behind-link.result laid c.gaps_beside-beside.ensures.below c.link_behind-link.ensures (gap_count gap) c.requires.gaps.count (own_count heap B has chunk name o gap gap_is),
     )
 
 pub overflow_sub-self : goal.overflow_sub-self
@@ -125,7 +125,7 @@ returns-clause-gaps c =
     let own = own_hole heap B has chunk name o gap gap_is in let gone = chunk ∷ own_gone heap B has chunk name o in let is = own_is heap B has chunk name o gap gap_is in
     let hole = hole_after heap B c.clear.new.arena.bytes chunk.at end c.args.n own c.clear.ensures.others (below heap chunk.at c.args.room c.args.n end rest room) in
     let laid = c.lay-first.ensures.laid hole in
-    record { linked = list_laid heap c.lay-first.new.self B c.clear.new.arena.bytes c.lay-first.new.arena.bytes (live_of chunk.at c.args.room name c.args.n) chunk.at end own gone is has c.requires.gaps.linked c.gaps_beside-beside.result.below c.lay-first.result c.link_behind-link.result laid c.gaps_beside-beside.ensures.below c.link_behind-link.ensures c.link_below.new.self c.link_below.new.arena.bytes c.lay-first.ensures.lowest c.link_below.ensures.linked; count = omega (arith, counted c.before, c.gap_count.ensures) }
+    record { linked = list_laid heap c.lay-first.new.self B c.clear.new.arena.bytes c.lay-first.new.arena.bytes (live_of heap.header chunk.at c.args.room name c.args.n) chunk.at end own gone is has c.requires.gaps.linked c.gaps_beside-beside.result.below c.lay-first.result c.link_behind-link.result laid c.gaps_beside-beside.ensures.below c.link_behind-link.ensures c.link_below.new.self c.link_below.new.arena.bytes c.lay-first.ensures.lowest c.link_below.ensures.linked; count = omega (arith, counted c.before, c.gap_count.ensures) }
 
 pub returns-clause-others : goal.returns-clause-others
 unfolding hole_after chunks_of
@@ -140,7 +140,7 @@ returns-clause-others c other h far =
 
 pub returns-clause-chunks : goal.returns-clause-chunks
 unfolding chunks_of
-returns-clause-chunks c = has_same c.link_below.new.self _ c.link_below.new.arena.bytes refl refl c.link_below.ensures.chunks
+returns-clause-chunks c = has_same c.link_below.new.self _ c.link_below.new.arena.bytes refl refl refl c.link_below.ensures.chunks
 
 pub returns-clause-block : goal.returns-clause-block
 unfolding hole_after chunks_of
@@ -153,7 +153,7 @@ returns-clause-block c =
     let laid = c.lay-first.ensures.laid hole in
     c.link_below.ensures.block
     ∙ put_block heap c.lay-first.new.self B c.clear.new.arena.bytes c.lay-first.new.arena.bytes (at_place chunk.at c.args.room) name c.args.n end own c.clear.ensures.others rest room c.lay-first.result c.link_behind-link.result laid
-    (resized c.args.n (bytes_in_chunk B heap.span.at chunk)) (filter (elsewhere chunk.at) (store_of heap B).blocks) c.clear.ensures.bytes (own_blocks heap B has chunk name o gap gap_is) c.lay-first.ensures.rest.span
+    (resized c.args.n (bytes_in_chunk heap.header B heap.span.at chunk)) (filter (elsewhere chunk.at) (store_of heap B).blocks) c.clear.ensures.bytes (own_blocks heap B has chunk name o gap gap_is) c.lay-first.ensures.rest.span c.lay-first.ensures.rest.header
 
 pub returns-clause-kept : goal.returns-clause-kept
 returns-clause-kept c =
@@ -172,12 +172,13 @@ returns-clause-rest c =
     (KeepsToSpan-then heap heap c.lay-first.new.self c.args.arena.now c.clear.new.arena c.lay-first.new.arena
     (record {
       span = refl;
+      header = refl;
       carved = c.clear.ensures.carved;
-      bytes = changes_more (heap.span.at + chunk.at + 16) c.args.n heap.span.at heap.span.len B c.clear.new.arena.bytes c.clear.ensures.others (omega arith) (omega (arith, inside, room));
+      bytes = changes_more (heap.span.at + chunk.at + heap.header) c.args.n heap.span.at heap.span.len B c.clear.new.arena.bytes c.clear.ensures.others (omega arith) (omega (arith, inside, room));
     })
     c.lay-first.ensures.rest)
     c.link_below.ensures.rest in
-    record { span = k.span; carved = k.carved; bytes = k.bytes }
+    record { span = k.span; header = k.header; carved = k.carved; bytes = k.bytes }
 
 pub lay-first-requires-clause-few : goal.lay-first-requires-clause-few
 lay-first-requires-clause-few c =

@@ -1,8 +1,8 @@
 use Rattle.std.proofs.Common.{◌+◌, ◌∷◌, Some, refl, sym, ap, ◌∙◌, arith}
 use Rattle.heap_core.specs.HeapStore.{HeapStore}
 use Rattle.heap_core.specs.declared.chunk.Chunk.{Chunk}
+use Rattle.heap_core.specs.Code.Chunks.{FREED}
 use Rattle.heap_core.specs.Code.Layout.{chunks_of}
-use Rattle.heap_core.specs.Code.Links.{FREED}
 use Rattle.heap_core.proofs.Freed.{owner_named, freed_small, newest_small, at, set, set_named, set_unnamed, set_freed, set_gaps, set_linked}
 use Rattle.heap_core.proofs.Places.{has_same}
 use Rattle.heap_core.proofs.Told.{changes_more}
@@ -15,6 +15,12 @@ put_chunk-requires-clause-inside c =
     let a = at heap c.args.arena.now.bytes c.requires.chunks c.args.chunk o.0 c.requires.stands o.1 in
     omega (arith, a.fits, a.enough, heap.inside)
 
+pub put_chunk-requires-clause-size : goal.put_chunk-requires-clause-size
+put_chunk-requires-clause-size c =
+    let heap = c.args.self.now in let o = owner_named c.args.chunk.owner c.requires.live in
+    let a = at heap c.args.arena.now.bytes c.requires.chunks c.args.chunk o.0 c.requires.stands o.1 in
+    omega (arith, a.fits, a.enough, heap.header_least, heap.inside, heap.small)
+
 pub put_chunk-requires-clause-link : goal.put_chunk-requires-clause-link
 put_chunk-requires-clause-link c = newest_small c.args.self.now c.args.arena.now.bytes c.requires.chunks c.requires.freed
 
@@ -26,13 +32,13 @@ unfolding chunks_of
 returns-clause-chunks c =
     let heap = c.args.self.now in let o = owner_named c.args.chunk.owner c.requires.live in
     let s = set heap c.args.arena.now.bytes c.requires.chunks c.args.chunk o.0 c.requires.stands o.1 o.2 c.put_chunk.new.arena.bytes c.put_chunk.ensures.chunk c.put_chunk.ensures.others in
-    has_same heap _ c.put_chunk.new.arena.bytes refl refl s.has
+    has_same heap _ c.put_chunk.new.arena.bytes refl refl refl s.has
 
 pub returns-clause-block : goal.returns-clause-block
 unfolding chunks_of
 returns-clause-block c =
     let heap = c.args.self.now in let o = owner_named c.args.chunk.owner c.requires.live in
-    ap (λ blocks. let h : HeapStore = record { size = heap.span.len; blocks = blocks } in h)
+    ap (λ blocks. let h : HeapStore = record { size = heap.span.len; header = heap.header; blocks = blocks } in h)
     (set_named heap c.args.arena.now.bytes c.requires.chunks c.args.chunk o.0 c.requires.stands o.1 o.2 c.put_chunk.new.arena.bytes c.put_chunk.ensures.chunk c.put_chunk.ensures.others)
 
 pub returns-clause-gaps : goal.returns-clause-gaps
@@ -62,6 +68,7 @@ returns-clause-rest c =
     let a = at heap c.args.arena.now.bytes c.requires.chunks c.args.chunk o.0 c.requires.stands o.1 in
     record {
       span = refl;
+      header = refl;
       carved = c.put_chunk.ensures.carved;
-      bytes = changes_more (heap.span.at + c.args.chunk.at) 16 heap.span.at heap.span.len c.args.arena.now.bytes c.put_chunk.new.arena.bytes c.put_chunk.ensures.others (omega arith) (omega (arith, a.fits, a.enough, heap.inside));
+      bytes = changes_more (heap.span.at + c.args.chunk.at) 12 heap.span.at heap.span.len c.args.arena.now.bytes c.put_chunk.new.arena.bytes c.put_chunk.ensures.others (omega arith) (omega (arith, a.fits, a.enough, heap.inside));
     }

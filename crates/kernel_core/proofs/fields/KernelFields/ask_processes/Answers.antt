@@ -9,6 +9,7 @@ returns-in-Exit-clause-kept c =
       turn = search rules;
       events = search rules;
       frames = search rules;
+      owners = search rules;
       unshown = search rules;
       draws = rw c.ended.ensures (omega (arith, ended-draws c.args.pid.0 c.args.self.now.scheduler.state c.requires.at_turn.distinct));
     }

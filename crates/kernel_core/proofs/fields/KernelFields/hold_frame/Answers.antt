@@ -1,4 +1,4 @@
-use Rattle.std.proofs.Common.{rules, ◌≡◌, ap}
+use Rattle.std.proofs.Common.{rules, ◌≡◌, ◌∙◌, ap}
 use Rattle.kernel_core.specs.Code.View.{HoldsFrames}
 use Rattle.kernel_core.proofs.FrameBlocks.{frames_after_taken}
 use Rattle.kernel_core.proofs.fields.KernelFields.hold_frame.Goals as goal
@@ -14,6 +14,7 @@ returns-clause-kept c = record {
   turn = search rules;
   events = search rules;
   agenda = search rules;
+  owners = c.take_frame.ensures.owners ∙ c.free_bytes.ensures.owners;
   frames =
       let k = c.args.self.now in
       let old = c.free_bytes.new.self in

@@ -26,6 +26,7 @@ invariant_of-result c =
       inputs = search rules;
       events = search rules;
       frames = rw memory (rw packets (no_frames (sizes_of c.args.config)));
+      owners = c.in_ok-memory.ensures.owners;
       draws = search (rules, starts);
     }
 

@@ -4,42 +4,35 @@ use Rattle.std.proofs.Common.{length, get_or, rules, ◌≡◌, ◌+◌, ◌-◌
 use Rattle.mote_types.specs.Rounding.{up4}
 use Rattle.mote_types.specs.BlockNames.{number_of}
 use Rattle.mmem_core.specs.declared.place.Place.{Place}
-use Rattle.mmem_core.specs.ManagedStore.{ManagedStore, free}
+use Rattle.mmem_core.specs.ManagedStore.{ManagedStore, unused}
 use Rattle.mmem_core.specs.Places.{place_in, last_end, bytes_moved}
-use Rattle.mmem_core.specs.Table.{Table, store_of, region_of, IsWithin}
+use Rattle.mmem_core.specs.Table.{Table, store_of, region_of}
 use Rattle.mmem_core.proofs.PlaceLemmas.{bytes_moved-added, bytes_moved-same}
-use Rattle.mmem_core.proofs.StoreLemmas.{no_place, get_or-blocks, block_in, free-added}
-use Rattle.mmem_core.proofs.TableLemmas.{free_is}
+use Rattle.mmem_core.proofs.StoreLemmas.{no_place, get_or-blocks, block_in, unused-added}
 use Rattle.mmem_core.proofs.mmem.Mmem.alloc.Goals as goal
 
-pub returns-then-self-size-clause-refused : goal.returns-then-self-size-clause-refused
-returns-then-self-size-clause-refused c =
-    let m = c.self.inside in let bytes = c.args.arena.now.bytes in
-    let here = subst (λ (t : Table). IsWithin t bytes) (sym c.self.view_is) c.requires.within in
-    let rest = subst (λ (t : Table). free (store_of t bytes) ≡ m.span.len - m.used) c.self.view_is (free_is m.span m.places m.slid c.self.invariant.1 bytes here m.used c.self.invariant.0.total) in
-    ((λ _. omega (arith, rest, c.rounded-size.ensures)), (λ _. refl))
+pub returns-then-avail-size-clause-refused : goal.returns-then-avail-size-clause-refused
+returns-then-avail-size-clause-refused c =
+    let left = c.avail.ensures.free c.args.arena.now.bytes c.requires.within in
+    ((λ _. omega (arith, left, c.rounded-size.ensures, c.if-avail-size.true)), (λ _. refl))
 
-pub returns-then-self-size-clause-slid : goal.returns-then-self-size-clause-slid
-returns-then-self-size-clause-slid c =
+pub returns-then-avail-size-clause-slid : goal.returns-then-avail-size-clause-slid
+returns-then-avail-size-clause-slid c =
     let slid = ap (λ (t : Table). t.slid) c.self.view_is in
     omega (arith, slid, bytes_moved-same c.args.self.now.places)
 
-pub returns-then-self-size-clause-still : goal.returns-then-self-size-clause-still
-returns-then-self-size-clause-still c = λ _. bytes_moved-same c.args.self.now.places
+pub returns-then-avail-size-clause-still : goal.returns-then-avail-size-clause-still
+returns-then-avail-size-clause-still c = λ _. bytes_moved-same c.args.self.now.places
 
 pub make_room-requires-clause-room : goal.make_room-requires-clause-room
 make_room-requires-clause-room c =
-    let m = c.self.inside in let bytes = c.args.arena.now.bytes in
-    let here = subst (λ (t : Table). IsWithin t bytes) (sym c.self.view_is) c.requires.within in
-    let rest = subst (λ (t : Table). free (store_of t bytes) ≡ m.span.len - m.used) c.self.view_is (free_is m.span m.places m.slid c.self.invariant.1 bytes here m.used c.self.invariant.0.total) in
-    omega (arith, rest, c.if-self-size.false)
+    let there = c.avail.ensures.there c.args.arena.now.bytes c.requires.within c.requires.owner in
+    omega (arith, there, c.if-avail-size.false)
 
 pub returns-clause-refused : goal.returns-clause-refused
 returns-clause-refused c =
-    let m = c.self.inside in let bytes = c.args.arena.now.bytes in
-    let here = subst (λ (t : Table). IsWithin t bytes) (sym c.self.view_is) c.requires.within in
-    let rest = subst (λ (t : Table). free (store_of t bytes) ≡ m.span.len - m.used) c.self.view_is (free_is m.span m.places m.slid c.self.invariant.1 bytes here m.used c.self.invariant.0.total) in
-    ((λ e. absurd (cc)), (λ less. absurd (omega (arith, rest, c.rounded-size.ensures, c.if-self-size.false))))
+    let left = c.avail.ensures.free c.args.arena.now.bytes c.requires.within in
+    ((λ e. absurd (cc)), (λ less. absurd (omega (arith, left, less, c.rounded-size.ensures, c.if-avail-size.false))))
 
 pub returns-clause-slid : goal.returns-clause-slid
 returns-clause-slid c =
@@ -65,7 +58,7 @@ returns-clause-together c moved =
     let none = no_place (region_of old bytes) (place_in old.places i) (sym (get_or-blocks (region_of old bytes) old.places i) ∙ c.requires.unused) in
     let fresh : Option Place = Some (record { at = last_end middle.places; len = n }) in
     let same = ap (bytes_moved old.places) c.put_last.ensures.place ∙ bytes_moved-added old.places middle.places i fresh none in
-    let before : last_end middle.places + free (store_of middle c.make_room.new.arena.bytes) ≤ middle.span.len = c.make_room.ensures.together (omega (arith, same, moved)) in
+    let before : last_end middle.places + unused (store_of middle c.make_room.new.arena.bytes) ≤ middle.span.len = c.make_room.ensures.together (omega (arith, same, moved)) in
     let store = store_of middle c.make_room.new.arena.bytes in
     let count : length c.self.inside.places ≡ 272 = search rules in
     let names = ap (λ (t : Table). length t.places) c.self.view_is in
@@ -73,9 +66,9 @@ returns-clause-together c moved =
     omega (arith, c.requires.named.0, c.requires.named.1, c.requires.named.2, count, names, length-map old.places (block_in (region_of old bytes))) in
     let below' : i < length store.blocks = subst (λ (s : ManagedStore). i < length s.blocks) (sym c.make_room.ensures.blocks) below in
     let none' : get_or store.blocks i None ≡ None = subst (λ (s : ManagedStore). get_or s.blocks i None ≡ None) (sym c.make_room.ensures.blocks) c.requires.unused in
-    let taken : free (store_of c.put_last.new.self c.put_last.new.arena.bytes) ≡ free store - up4 n = ap free c.put_last.ensures.block ∙ free-added store i n below' none' in
+    let taken : unused (store_of c.put_last.new.self c.put_last.new.arena.bytes) ≡ unused store - up4 n = ap unused c.put_last.ensures.block ∙ unused-added store i n below' none' in
     let span = ap (λ (s : Span). s.len) c.put_last.ensures.rest.span in
     omega (arith, before, taken, c.put_last.ensures.end, c.make_room.ensures.room, c.rounded-size.ensures, span)
 
-pub returns-then-self-size-clause-together : goal.returns-then-self-size-clause-together
-returns-then-self-size-clause-together c moved = absurd (omega (arith, moved, bytes_moved-same c.args.self.now.places))
+pub returns-then-avail-size-clause-together : goal.returns-then-avail-size-clause-together
+returns-then-avail-size-clause-together c moved = absurd (omega (arith, moved, bytes_moved-same c.args.self.now.places))

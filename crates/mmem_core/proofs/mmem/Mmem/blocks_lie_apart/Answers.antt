@@ -9,4 +9,4 @@ returns c bytes within =
     let m = c.self.inside in let lie = c.self.invariant.1 in
     let here = subst (λ (t : Table). IsWithin t bytes) (sym c.self.view_is) within in
     subst (λ (t : Table). BlocksLieApart t bytes) c.self.view_is
-    (blocks_apart m.span m.places m.slid lie bytes here)
+    (blocks_apart m.span m.quotas m.places m.slid lie bytes here)

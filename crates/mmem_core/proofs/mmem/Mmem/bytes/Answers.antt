@@ -12,4 +12,4 @@ returns c =
     let here = subst (λ (t : Table). IsWithin t bytes) (sym c.self.view_is) c.requires.within in
     let live : place_in m.places i ≡ Some c.unwrap-place.result = cc (c.unwrap-place.ensures, c.number_of.ensures.number) in
     subst (λ (t : Table). block_of c.args.key.0.0 c.args.key.1 (store_of t bytes) ≡ Some c.bytes.result.now) c.self.view_is
-    (block_is m.span m.places m.slid lie bytes here i c.unwrap-place.result live ∙ ap Some (sym c.bytes.ensures))
+    (block_is m.span m.quotas m.places m.slid lie bytes here i c.unwrap-place.result live ∙ ap Some (sym c.bytes.ensures))

@@ -1,10 +1,12 @@
-use Rattle.std.proofs.Common.{◌≡◌, ℕ, ◌+◌, ◌-◌, ◌++◌, ◌^◌, List, slice_set, slice_index_or, None, min, refl, sym, ap, subst, ◌∙◌, arith}
+use Rattle.std.proofs.Common.{◌≡◌, ℕ, ◌+◌, ◌-◌, ◌++◌, ◌^◌, ◌<◌, List, length, get_or, slice_set, slice_index_or, None, min, refl, sym, ap, subst, ◌∙◌, arith}
 use Rattle.mmem_core.specs.ManagedStore.{freed}
-use Rattle.mmem_core.specs.Places.{bytes_moved}
+use Rattle.mote_types.specs.BlockNames.{number_of}
+use Rattle.mmem_core.specs.Places.{place_in, bytes_moved}
 use Rattle.mmem_core.specs.Code.Laid.{room_of, IsLaidOut}
 use Rattle.mmem_core.specs.Table.{Table, store_of, IsWithin}
 use Rattle.mmem_core.proofs.RingLemmas.{parted}
 use Rattle.mmem_core.proofs.PlaceLemmas.{IsLaidOut-freed, LieApart-from, bytes_moved-freed}
+use Rattle.mmem_core.proofs.Shares.{freed_shared, room_le_taken}
 use Rattle.mmem_core.proofs.TableLemmas.{taken_away, with_slot}
 use Rattle.mmem_core.proofs.mmem.Mmem.free.Goals as goal
 
@@ -18,16 +20,23 @@ invariant_of-self c =
     let sound : IsLaidOut left (parts.0 ++ parts.1) (m.used - c.rounded.result) m.span.len =
     subst (λ n. IsLaidOut left (parts.0 ++ parts.1) n m.span.len) used (IsLaidOut-freed m.places m.order m.used m.span.len c.self.invariant.0 parts.0 number parts.1 parts.2) in
     let laid_out : IsLaidOut left c.remove.new.self (m.used - c.rounded.result) m.span.len = subst (λ (xs : List ℕ). IsLaidOut left xs (m.used - c.rounded.result) m.span.len) (sym order) sound in
-    (laid_out, LieApart-from left c.remove.new.self (m.used - c.rounded.result) m.span.len laid_out, c.self.invariant.2)
+    let p = c.args.key.0.0 in let h = c.args.key.1 in
+    let below : number_of p h < length m.places = omega (arith, c.number_of-number.ensures.number, c.number_of-number.ensures.within) in
+    let room : room_of (place_in m.places (number_of p h)) ≡ c.rounded.result =
+    ap (λ i. room_of (place_in m.places i)) (sym c.number_of-number.ensures.number) ∙ ap room_of c.unwrap-place.ensures ∙ sym c.rounded.ensures in
+    let shared = freed_shared m.quotas m.places m.taken m.used m.span.len c.self.invariant.3 p h c.requires.named below number c.place_of_process.result c.rounded.result
+    (get_or m.taken c.place_of_process.result 0 - c.rounded-2.result) (m.used - c.rounded.result) c.number_of-number.ensures.number c.place_of_process.ensures.place room
+    (ap (λ n. get_or m.taken c.place_of_process.result 0 - n) (c.rounded-2.ensures ∙ sym c.rounded.ensures)) refl in
+    (laid_out, LieApart-from left c.remove.new.self (m.used - c.rounded.result) m.span.len laid_out, c.self.invariant.2, shared)
 
 pub returns-clause-block : goal.returns-clause-block
 returns-clause-block c =
     let m = c.self.inside in let bytes = c.args.arena.now.bytes in let number = c.number_of-number.result in
     let here = subst (λ (t : Table). IsWithin t bytes) (sym c.self.view_is) c.requires.within in
-    let result : Table = record { span = m.span; places = slice_set m.places number None; slid = m.slid } in
+    let result : Table = record { span = m.span; quotas = m.quotas; places = slice_set m.places number None; slid = m.slid } in
     subst (λ (t : Table). store_of result bytes ≡ freed c.args.key.0.0 c.args.key.1 (store_of t bytes)) c.self.view_is
-    (taken_away m.span m.places m.slid c.self.invariant.1 bytes here m.slid number
-    ∙ ap (λ i. with_slot i None (store_of (record { span = m.span; places = m.places; slid = m.slid }) bytes)) c.number_of-number.ensures.number)
+    (taken_away m.span m.quotas m.places m.slid c.self.invariant.1 bytes here m.slid number
+    ∙ ap (λ i. with_slot i None (store_of (record { span = m.span; quotas = m.quotas; places = m.places; slid = m.slid }) bytes)) c.number_of-number.ensures.number)
 
 pub returns-clause-slid : goal.returns-clause-slid
 returns-clause-slid c =
@@ -39,3 +48,12 @@ pub returns-clause-still : goal.returns-clause-still
 returns-clause-still c =
     let m = c.self.inside in let number = c.number_of-number.result in
     (subst (λ (t : Table). bytes_moved t.places (slice_set m.places number None) ≡ 0) c.self.view_is (bytes_moved-freed m.places number), refl)
+
+pub overflow_sub-self-2 : goal.overflow_sub-self-2
+overflow_sub-self-2 c =
+    let m = c.self.inside in let p = c.args.key.0.0 in let h = c.args.key.1 in
+    let below : number_of p h < length m.places = omega (arith, c.number_of-number.ensures.number, c.number_of-number.ensures.within) in
+    let room : room_of (place_in m.places (number_of p h)) ≡ c.rounded-2.result =
+    ap (λ i. room_of (place_in m.places i)) (sym c.number_of-number.ensures.number) ∙ ap room_of c.unwrap-place.ensures ∙ sym c.rounded-2.ensures in
+    let entry = ap (λ i. get_or m.taken i 0) c.place_of_process.ensures.place in
+    omega (arith, room, entry, room_le_taken m.quotas m.places m.taken m.used m.span.len c.self.invariant.3 p h c.requires.named below)

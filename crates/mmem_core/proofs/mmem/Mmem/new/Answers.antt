@@ -1,11 +1,22 @@
-use Rattle.std.proofs.Common.{List, ℕ, Option, None, replicate, sym, subst, arith}
+use Rattle.std.proofs.Common.{◌≡◌, ◌≤◌, ◌*◌, List, ℕ, Option, None, Some, replicate, sym, subst, arith}
+use Rattle.std.specs.Prelude.{IfSome}
 use Rattle.mmem_core.specs.declared.place.Place.{Place}
 use Rattle.mmem_core.specs.Code.Laid.{IsLaidOut}
 use Rattle.mmem_core.proofs.PlaceLemmas.{IsLaidOut-none, LieApart-from}
+use Rattle.mmem_core.proofs.Shares.{none_shared}
 use Rattle.mmem_core.proofs.mmem.Mmem.new.Goals as goal
+use Rattle.mmem_core.proofs.mmem.Mmem.new.Goals.{in-Some, in-None}
 
 pub invariant_of-result : goal.invariant_of-result
 invariant_of-result c =
     let none : List (Option Place) = replicate 272 None in
     let sound = subst (λ (xs : List ℕ). IsLaidOut none xs 0 c.args.span.len) (sym c.new.ensures) (IsLaidOut-none 272 c.args.span.len) in
-    (sound, LieApart-from none c.new.result 0 c.args.span.len sound, omega arith)
+    let fit : (bytes : ℕ) → c.args.quota ≡ Some bytes → bytes * c.match-quota.owners ≤ c.args.span.len =
+    λ bytes is. elim c.match-quota.branch [
+      | in-Some w ↦
+          let quotas : IfSome c.args.quota (λ quota. quota * c.args.owners ≤ c.args.span.len) = c.requires.quotas in
+          rw w.owners-is (rw is at quotas)
+      | in-None w ↦ absurd (let none = w.in-None.is in cc)
+    ] in
+    let shared = none_shared (record { each = c.args.quota; owners = c.match-quota.owners }) c.args.span.len fit in
+    (sound, LieApart-from none c.new.result 0 c.args.span.len sound, omega arith, shared)

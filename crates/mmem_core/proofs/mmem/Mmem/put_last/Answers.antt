@@ -1,4 +1,4 @@
-use Rattle.std.proofs.Common.{◌≡◌, ℕ, ◌+◌, ◌≤◌, ◌<◌, ◌++◌, ◌∷◌, [], List, length, slice_set, Option, Some, None, IsSomeAnd, refl, sym, ap, subst, ◌∙◌, arith}
+use Rattle.std.proofs.Common.{◌≡◌, ℕ, ◌+◌, ◌≤◌, ◌<◌, ◌++◌, ◌∷◌, [], List, length, get_or, slice_set, Option, Some, None, IsSomeAnd, refl, sym, ap, subst, ◌∙◌, arith}
 use Rattle.std.proofs.lemmas.List.{length-replicate}
 use Rattle.mote_types.specs.Rounding.{up4}
 use Rattle.mote_types.specs.Bytes.{zeros}
@@ -6,19 +6,20 @@ use Rattle.mote_types.specs.BlockNames.{number_of}
 use Rattle.arena_core.specs.Contents.{Contents}
 use Rattle.arena_core.specs.Written.{written}
 use Rattle.mmem_core.specs.declared.place.Place.{Place}
-use Rattle.mmem_core.specs.ManagedStore.{block_of, allocated}
+use Rattle.mmem_core.specs.ManagedStore.{block_of, free, allocated}
 use Rattle.mmem_core.specs.Places.{place_in, last_end}
 use Rattle.mmem_core.specs.Code.Laid.{IsLaidOut}
 use Rattle.mmem_core.specs.Table.{Table, store_of, IsWithin, KeepsToSpan}
 use Rattle.mmem_core.proofs.PlaceLemmas.{IsLaidOut-added, LieApart-from, unlisted, len_le_room, last_end-added, place_in-set_same}
-use Rattle.mmem_core.proofs.TableLemmas.{unused_place, added, kept, with_slot}
+use Rattle.mmem_core.proofs.Shares.{taken_is, taken_le_used, block_shared}
+use Rattle.mmem_core.proofs.TableLemmas.{free_under, unused_place, added, kept, with_slot}
 use Rattle.mmem_core.proofs.mmem.Mmem.put_last.Goals as goal
 
 pub append-requires-clause-fresh : goal.append-requires-clause-fresh
 append-requires-clause-fresh c =
     let m = c.self.inside in let bytes = c.args.arena.now.bytes in let number = c.number_of-number.result in
     let here = subst (λ (t : Table). IsWithin t bytes) (sym c.self.view_is) c.requires.within in
-    let unused = unused_place m.span m.places m.slid c.self.invariant.1 bytes here (number_of c.args.key.0.0 c.args.key.1)
+    let unused = unused_place m.span m.quotas m.places m.slid c.self.invariant.1 bytes here (number_of c.args.key.0.0 c.args.key.1)
     (subst (λ (t : Table). block_of c.args.key.0.0 c.args.key.1 (store_of t bytes) ≡ None) (sym c.self.view_is) c.requires.unused) in
     unlisted m.places m.order m.used m.span.len c.self.invariant.0 number (ap (place_in m.places) c.number_of-number.ensures.number ∙ unused)
 
@@ -26,7 +27,7 @@ pub invariant_of-self : goal.invariant_of-self
 invariant_of-self c =
     let m = c.self.inside in let bytes = c.args.arena.now.bytes in let number = c.number_of-number.result in let n = c.args.n in
     let here = subst (λ (t : Table). IsWithin t bytes) (sym c.self.view_is) c.requires.within in
-    let unused = unused_place m.span m.places m.slid c.self.invariant.1 bytes here (number_of c.args.key.0.0 c.args.key.1)
+    let unused = unused_place m.span m.quotas m.places m.slid c.self.invariant.1 bytes here (number_of c.args.key.0.0 c.args.key.1)
     (subst (λ (t : Table). block_of c.args.key.0.0 c.args.key.1 (store_of t bytes) ≡ None) (sym c.self.view_is) c.requires.unused) in
     let none : place_in m.places number ≡ None = ap (place_in m.places) c.number_of-number.ensures.number ∙ unused in
     let below : number < length m.places = omega (arith, c.number_of-number.ensures.within) in
@@ -39,7 +40,18 @@ invariant_of-self c =
     let used : m.used + up4 n ≡ m.used + c.rounded.result = ap (λ k. m.used + k) (sym c.rounded.ensures) in
     let laid_out : IsLaidOut places c.append.new.self (m.used + c.rounded.result) m.span.len =
     subst (λ (xs : List ℕ). IsLaidOut places xs (m.used + c.rounded.result) m.span.len) (sym c.append.ensures) (subst (λ k. IsLaidOut places (m.order ++ number ∷ []) k m.span.len) used sound') in
-    (laid_out, LieApart-from places c.append.new.self (m.used + c.rounded.result) m.span.len laid_out, c.self.invariant.2)
+    let entry = ap (λ i. get_or m.taken i 0) c.place_of_process.ensures.place in
+    let shared = block_shared m.quotas m.places m.taken m.used m.span.len c.self.invariant.3 c.args.key.0.0 c.args.key.1 c.requires.named
+    (omega (arith, below, c.number_of-number.ensures.number)) (Some (record { at = c.end-at.result; len = n })) number c.place_of_process.result (up4 n)
+    (get_or m.taken c.place_of_process.result 0 + c.rounded-2.result) (m.used + c.rounded.result) c.number_of-number.ensures.number c.place_of_process.ensures.place unused refl
+    (ap (λ k. get_or m.taken c.place_of_process.result 0 + k) c.rounded-2.ensures) (sym used)
+    (subst (λ (t : Table). c.args.key.0.0 ≤ 2 + t.quotas.owners) (sym c.self.view_is) c.requires.owner)
+    (λ quota each.
+    let room = entry ∙ taken_is m.quotas m.places m.taken m.used m.span.len c.self.invariant.3 c.args.key.0.0 c.requires.named.0 c.requires.named.1 in
+    let left = free_under m.span m.quotas m.places m.slid c.self.invariant.1 bytes here quota c.args.key.0.0 (get_or m.taken c.place_of_process.result 0) each room in
+    let share = subst (λ (t : Table). up4 n ≤ free c.args.key.0.0 (store_of t bytes)) (sym c.self.view_is) c.requires.share in
+    omega (arith, left, share, len_le_room n, c.requires.some_bytes, c.rounded-2.ensures)) in
+    (laid_out, LieApart-from places c.append.new.self (m.used + c.rounded.result) m.span.len laid_out, c.self.invariant.2, shared)
 
 pub returns-clause-block : goal.returns-clause-block
 returns-clause-block c =
@@ -47,14 +59,14 @@ returns-clause-block c =
     let here = subst (λ (t : Table). IsWithin t bytes) (sym c.self.view_is) c.requires.within in
     let room : last_end m.places + up4 n ≤ m.span.len = subst (λ (t : Table). last_end t.places + up4 n ≤ t.span.len) (sym c.self.view_is) c.requires.room in
     let at : c.end-at.result ≡ last_end m.places = c.end-at.ensures.end ∙ sym (ap (λ (t : Table). last_end t.places) c.self.view_is) in
-    let result : ℕ → Table = λ a. record { span = m.span; places = slice_set m.places number (Some (record { at = a; len = n })); slid = m.slid } in
+    let result : ℕ → Table = λ a. record { span = m.span; quotas = m.quotas; places = slice_set m.places number (Some (record { at = a; len = n })); slid = m.slid } in
     let filled : store_of (result c.end-at.result) c.fill.new.self.bytes ≡ _ =
     ap (λ (a : Contents). store_of (result c.end-at.result) a.bytes) c.fill.ensures.bytes in
     subst (λ (t : Table). store_of (result c.end-at.result) c.fill.new.self.bytes ≡ allocated c.args.key.0.0 c.args.key.1 n (store_of t bytes)) c.self.view_is
     (filled
     ∙ ap (λ a. store_of (result a) (written bytes (m.span.at + a) (zeros n))) at
-    ∙ added m.span m.places m.slid c.self.invariant.1 bytes here m.slid number n (omega (arith, len_le_room n))
-    ∙ ap (λ i. with_slot i (Some (zeros n)) (store_of (record { span = m.span; places = m.places; slid = m.slid }) bytes)) c.number_of-number.ensures.number)
+    ∙ added m.span m.quotas m.places m.slid c.self.invariant.1 bytes here m.slid number n (omega (arith, len_le_room n))
+    ∙ ap (λ i. with_slot i (Some (zeros n)) (store_of (record { span = m.span; quotas = m.quotas; places = m.places; slid = m.slid }) bytes)) c.number_of-number.ensures.number)
 
 pub returns-clause-rest : goal.returns-clause-rest
 returns-clause-rest c =
@@ -63,10 +75,10 @@ returns-clause-rest c =
     let room : last_end m.places + up4 n ≤ m.span.len = subst (λ (t : Table). last_end t.places + up4 n ≤ t.span.len) (sym c.self.view_is) c.requires.room in
     let at : c.end-at.result ≡ last_end m.places = c.end-at.ensures.end ∙ sym (ap (λ (t : Table). last_end t.places) c.self.view_is) in
     let count : length (zeros n) ≡ n = length-replicate n 0 in
-    let result : Table = record { span = m.span; places = slice_set m.places number (Some (record { at = c.end-at.result; len = n })); slid = m.slid } in
+    let result : Table = record { span = m.span; quotas = m.quotas; places = slice_set m.places number (Some (record { at = c.end-at.result; len = n })); slid = m.slid } in
     subst (λ (t : Table). KeepsToSpan t result c.args.arena.now c.fill.new.self) c.self.view_is
-    (subst (λ (a : Contents). KeepsToSpan (record { span = m.span; places = m.places; slid = m.slid }) result c.args.arena.now a) (sym c.fill.ensures.bytes)
-    (kept m.span m.places m.slid c.self.invariant.1 bytes here result (m.span.at + c.end-at.result) c.args.arena.now.carved (zeros n) refl (omega arith) (omega (arith, at, len_le_room n))))
+    (subst (λ (a : Contents). KeepsToSpan (record { span = m.span; quotas = m.quotas; places = m.places; slid = m.slid }) result c.args.arena.now a) (sym c.fill.ensures.bytes)
+    (kept m.span m.quotas m.places m.slid c.self.invariant.1 bytes here result (m.span.at + c.end-at.result) c.args.arena.now.carved (zeros n) refl refl (omega arith) (omega (arith, at, len_le_room n))))
 
 pub returns-clause-end : goal.returns-clause-end
 returns-clause-end c =
@@ -91,3 +103,10 @@ returns-clause-last c =
     ∙ last_end-added m.places number n below
     ∙ ap (λ a. a + up4 n) (sym at) in
     subst (λ (p : Option Place). IsSomeAnd p (λ place. last_end places ≡ place.at + up4 n)) (sym here) ends
+
+pub overflow_add-self-2 : goal.overflow_add-self-2
+overflow_add-self-2 c =
+    let m = c.self.inside in
+    let few = taken_le_used m.quotas m.places m.taken m.used m.span.len c.self.invariant.3 c.place_of_process.result c.place_of_process.ensures.within in
+    let room = subst (λ (t : Table). last_end t.places + up4 c.args.n ≤ t.span.len) (sym c.self.view_is) c.requires.room in
+    omega (arith, few, room, c.rounded-2.ensures, c.self.invariant.0.fits, c.self.invariant.2)

@@ -1,6 +1,6 @@
 use Rattle.std.proofs.Common.{◌≡◌, ◌+◌, ◌-◌, ◌^◌, min, sym, ap, ◌∙◌, subst, arith, rules}
 use Rattle.mmem_core.specs.Table.{Table, IsWithin}
-use Rattle.mmem_core.proofs.Sliding.{IsMidway, midway_first, is_live, down, inside, some_room, midway_more, slid_sound, slid_apart, room_behind}
+use Rattle.mmem_core.proofs.Sliding.{IsMidway, midway_first, is_live, down, inside, some_room, midway_more, slid_sound, slid_apart, slid_shared, room_behind}
 use Rattle.mmem_core.proofs.PlaceLemmas.{len_le_room}
 use Rattle.mmem_core.proofs.mmem.Mmem.slide_together.Goals as goal
 
@@ -60,7 +60,7 @@ pub invariant_of-self : goal.invariant_of-self
 invariant_of-self c =
     let m = c.loop-next.self-inside in
     let midway = subst (λ next. IsMidway c.self.inside m c.args.arena.now c.loop-next.arena next c.loop-next.end) c.in_default.is c.loop-next.invariant in
-    (slid_sound c.self.inside m c.args.arena.now c.loop-next.arena c.loop-next.end midway, slid_apart c.self.inside m c.args.arena.now c.loop-next.arena c.loop-next.end midway, midway.small)
+    (slid_sound c.self.inside m c.args.arena.now c.loop-next.arena c.loop-next.end midway, slid_apart c.self.inside m c.args.arena.now c.loop-next.arena c.loop-next.end midway, midway.small, slid_shared c.self.inside m c.args.arena.now c.loop-next.arena c.loop-next.end midway c.self.invariant.3)
 
 pub returns-clause-room : goal.returns-clause-room
 returns-clause-room c =

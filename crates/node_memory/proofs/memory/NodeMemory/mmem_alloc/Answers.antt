@@ -1,7 +1,8 @@
-use Rattle.std.proofs.Common.{rules, ap, ◌∙◌}
+use Rattle.std.proofs.Common.{rules, ◌≡◌, ap, ◌∙◌}
 use Rattle.std.specs.Prelude.{Some}
 use Rattle.mote_types.specs.Bytes.{zeros}
-use Rattle.mmem_core.specs.ManagedStore.{allocated}
+use Rattle.mmem_core.specs.ManagedStore.{allocated, shortage}
+use Rattle.mmem_core.specs.Table.{store_of}
 use Rattle.node_memory.specs.Memory.{with_managed}
 use Rattle.node_memory.specs.Placed.{PlacedMemory}
 use Rattle.node_memory.proofs.LaidOut.{after-managed, managed-changed, still-laid_out}
@@ -25,3 +26,11 @@ returns-clause-accepted c =
       managed-changed c.args.pid.0 c.args.handle (Some (zeros c.args.n)) k.mmem c.alloc.new.self k.heap k.pools k.arena c.alloc.new.arena c.self.invariant c.alloc.ensures.rest (search rules)
           ∙ ap (λ (v : PlacedMemory). with_managed (allocated c.args.pid.0 c.args.handle c.args.n v.contents.managed) v.contents) c.self.view_is,
     )
+
+pub returns-then-is_none-clause-refused : goal.returns-then-is_none-clause-refused
+returns-then-is_none-clause-refused c =
+    let k = c.self.inside in
+    let same = none-then c.alloc.result (search rules) c.alloc.ensures.unchanged in
+    let told : c.shortage.result ≡ shortage (store_of k.mmem k.arena.bytes) = c.shortage.ensures k.arena.bytes ∙ ap (λ t. shortage (store_of t k.arena.bytes)) same.0 in
+    let why : c.shortage.result ≡ shortage c.args.self.now.contents.managed = told ∙ ap (λ (v : PlacedMemory). shortage v.contents.managed) c.self.view_is in
+    search rules

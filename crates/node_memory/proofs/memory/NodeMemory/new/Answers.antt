@@ -1,4 +1,5 @@
-use Rattle.std.proofs.Common.{rules, subst, ◌≡◌, ap, ◌∙◌, ℕ, List, map}
+use Rattle.std.proofs.Common.{rules, subst, ◌≡◌, ◌≤◌, ◌+◌, ap, ◌∙◌, ℕ, List, map, Option, Some, None, arith}
+use Rattle.std.specs.Option.{option_map_or}
 use Rattle.mmem_core.specs.ManagedStore.{ManagedStore, empty_store}
 use Rattle.mmem_core.specs.Table.{store_of}
 use Rattle.heap_core.specs.HeapStore.{HeapStore, empty_heap}
@@ -8,6 +9,11 @@ use Rattle.node_memory.specs.ListedPools.{PoolWithLists, unused_pool_of}
 use Rattle.node_memory.specs.Memory.{Memory, usable_sizes}
 use Rattle.node_memory.proofs.memory.NodeMemory.new.Goals as goal
 
+-- process 3 is an owner, with quotas and without
+quota_owners : (n : ℕ) (quota : Option ℕ) (owners : ℕ) → owners ≡ option_map_or (λ _. n + 1) quota 17 → 1 ≤ owners
+quota_owners n None owners is = omega (arith, is)
+quota_owners n (Some quota) owners is = omega (arith, is)
+
 abbrev memory : ManagedStore → HeapStore → List PoolWithLists → Memory
 memory managed heap pools = record { managed = managed; heap = heap; pools = pools }
 
@@ -16,6 +22,7 @@ invariant_of-result c =
     let from : c.carve-2.new.self.carved ≡ end_of c.new-heap.result.span = search rules in
     record {
       managed = search rules;
+      holder = quota_owners c.args.applications c.args.sizes.quota c.new-mmem.result.quotas.owners c.new-mmem.ensures.owners;
       names = search rules;
       behind = search rules;
       heap = c.new-heap.ensures.laid_out c.pools_over-pools.new.arena.bytes (search rules);
@@ -28,9 +35,9 @@ returns-clause-fresh c =
     let bytes = c.pools_over-pools.new.arena.bytes in
     let size : c.unwrap.result.len ≡ c.args.sizes.mmem = search rules in
     let heap_size : c.unwrap-2.result.len ≡ c.args.sizes.heap = search rules in
-    let empty : store_of c.new-mmem.result bytes ≡ empty_store c.args.sizes.mmem = c.new-mmem.ensures.empty bytes ∙ ap (λ (n : ℕ). empty_store n) size in
-    let no_block : heap_of c.new-heap.result bytes ≡ empty_heap c.args.sizes.heap = c.new-heap.ensures.empty bytes ∙ ap (λ (n : ℕ). empty_heap n) heap_size in
+    let empty : store_of c.new-mmem.result bytes ≡ empty_store c.args.sizes.mmem c.args.sizes.quota = c.new-mmem.ensures.empty bytes ∙ ap (λ (n : ℕ). empty_store n c.args.sizes.quota) size in
+    let no_block : heap_of c.new-heap.result bytes ≡ empty_heap c.args.sizes.heap c.args.sizes.header = c.new-heap.ensures.empty bytes ∙ ap (λ (n : ℕ). empty_heap n c.args.sizes.header) heap_size in
     let unused : List PoolWithLists = map unused_pool_of usable_sizes in
     ap (λ pools. memory (store_of c.new-mmem.result bytes) (heap_of c.new-heap.result bytes) pools) c.pools_over-pools.ensures.unused
     ∙ ap (λ m. memory m (heap_of c.new-heap.result bytes) unused) empty
-    ∙ ap (λ h. memory (empty_store c.args.sizes.mmem) h unused) no_block
+    ∙ ap (λ h. memory (empty_store c.args.sizes.mmem c.args.sizes.quota) h unused) no_block

@@ -1,11 +1,14 @@
-use Rattle.std.proofs.Common.{rules, ap, sym, ◌∙◌, subst}
+use Rattle.std.proofs.Common.{rules, ◌≡◌, ap, sym, ◌∙◌, subst}
 use Rattle.std.specs.Prelude.{Some}
+use Rattle.mmem_core.specs.ManagedStore.{shortage}
+use Rattle.mmem_core.specs.Table.{store_of}
 use Rattle.node_memory.specs.Frames.{frame_block, frame_taken}
 use Rattle.node_memory.specs.Memory.{Memory}
 use Rattle.node_memory.specs.Placed.{PlacedMemory}
 use Rattle.node_memory.specs.Separation.{LeavesOthers}
 use Rattle.node_memory.proofs.FrameBlocks.{after-frame, frame-changed}
 use Rattle.node_memory.proofs.Others.{leaves-frame}
+use Rattle.node_memory.proofs.Refused.{none-then}
 use Rattle.node_memory.proofs.memory.NodeMemory.take_frame.Goals as goal
 
 pub invariant_of-self-2 : goal.invariant_of-self-2
@@ -27,3 +30,11 @@ returns-clause-others c =
     let taken = frame-changed c.args.slot c.args.bytes.now k.mmem c.alloc.new.self k.heap k.pools k.arena c.alloc.new.arena c.write.new.arena c.self.invariant c.requires.slot c.alloc.ensures.rest (search rules) c.write.ensures.rest c.write.ensures.block
     ∙ ap (λ (v : PlacedMemory). frame_taken c.args.slot c.args.bytes.now v.contents) c.self.view_is in
     subst (λ (m : Memory). LeavesOthers (Some (frame_block c.args.slot)) c.args.self.now.contents m) (sym taken) (leaves-frame c.args.slot (Some c.args.bytes.now) c.args.self.now.contents c.requires.slot)
+
+pub returns-then-is_none-clause-refused : goal.returns-then-is_none-clause-refused
+returns-then-is_none-clause-refused c =
+    let k = c.self.inside in
+    let same = none-then c.alloc.result (search rules) c.alloc.ensures.unchanged in
+    let told : c.shortage.result ≡ shortage (store_of k.mmem k.arena.bytes) = c.shortage.ensures k.arena.bytes ∙ ap (λ t. shortage (store_of t k.arena.bytes)) same.0 in
+    let why : c.shortage.result ≡ shortage c.args.self.now.contents.managed = told ∙ ap (λ (v : PlacedMemory). shortage v.contents.managed) c.self.view_is in
+    search rules

@@ -1,5 +1,5 @@
 use Rattle.std.proofs.Common.{rules, ◌≡◌, ◌∙◌, ap, Some}
-use Rattle.mote_words.proofs.command_line.size_option.Goals as goal
+use Rattle.mote_words.proofs.command_line.number_option.Goals as goal
 
 pub returns-clause-rule : goal.returns-clause-rule
 returns-clause-rule c =

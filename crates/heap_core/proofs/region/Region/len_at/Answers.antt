@@ -1,0 +1,6 @@
+use Rattle.heap_core.specs.Code.Chunks.{chunk_at}
+use Rattle.heap_core.proofs.region.Region.len_at.Goals as goal
+
+pub returns : goal.returns
+unfolding chunk_at
+returns c = c.word.ensures

@@ -1,0 +1,12 @@
+//! How much of managed memory each process may hold.
+
+ghost use Rattle.std.specs.Prelude.{◌≡◌};
+
+/// How much each process may hold, and which processes may hold blocks.
+#[derive(Clone, Copy, Drop)]
+pub struct Quotas {
+    /// Bytes, the blocks' lengths rounded up; none where a process may take all that is free.
+    pub each: Option<u32>,
+    /// How many processes may hold blocks, from process 3 on.
+    pub owners: u8,
+}

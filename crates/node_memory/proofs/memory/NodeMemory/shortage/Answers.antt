@@ -1,0 +1,7 @@
+use Rattle.std.proofs.Common.{ap, ◌∙◌}
+use Rattle.mmem_core.specs.ManagedStore.{shortage}
+use Rattle.node_memory.specs.Placed.{PlacedMemory}
+use Rattle.node_memory.proofs.memory.NodeMemory.shortage.Goals as goal
+
+pub returns : goal.returns
+returns c = c.shortage.ensures c.self.inside.arena.bytes ∙ ap (λ (v : PlacedMemory). shortage v.contents.managed) c.self.view_is

@@ -1,0 +1,229 @@
+-- Under a quota a process is answered by managed memory as by a memory of its own.
+use Rattle.std.proofs.Common.{◌≡◌, ℕ, zero, suc, ◌+◌, ◌≤◌, Bool, true, false, List, [], ◌∷◌, ◌++◌, refl, ◌∙◌, sym, ap, arith, subst, cond, append-nil}
+use Rattle.std.specs.Prelude.{Option, Some, None, ◌==◌, map, filter_map, take}
+use Rattle.std.proofs.lemmas.Bool.Decides.{nat_tests}
+use Rattle.mote_types.specs.declared.call.Call.{Call}
+use Rattle.mote_types.specs.declared.reply.Reply.{Reply}
+use Rattle.mote_types.specs.declared.event.Origin.{Origin}
+use Rattle.mote_types.specs.declared.event.Pid.{Pid}
+use Rattle.mote_types.specs.declared.event.Stimulus.{Stimulus}
+use Rattle.mote_types.specs.declared.entry.Entry.{Entry}
+use Rattle.mote_types.specs.declared.entry.Input.{Input}
+use Rattle.mote_types.specs.Applications.{Applications}
+use Rattle.device_core.specs.declared.frame.Frame.{Frame}
+use Rattle.mmem_core.specs.ManagedStore.{ManagedStore}
+use Rattle.node_memory.specs.Memory.{Memory}
+use Rattle.node_memory.specs.Ask.{ask}
+use Rattle.process_core.specs.Processes.{is_application, is_kernel_process}
+use Rattle.kernel_core.specs.declared.config.Config.{Config}
+use Rattle.kernel_core.specs.Machine.{Machine, booted, is_bootable}
+use Rattle.kernel_core.specs.Calls.{after_call, asked_of_memory}
+use Rattle.kernel_core.specs.Run.{Running, Runs, at_start}
+use Rattle.run_laws.specs.BlockHistory.{Blocks, managed_after}
+use Rattle.run_laws.specs.Isolation.{is_managed_call, managed_answer, as_over_quota, managed_calls, managed_replies, replies_from, private_memory, private_replies, IsAnsweredAlone}
+use Rattle.run_laws.specs.MemoryLaws.{managed_kind}
+use Rattle.run_laws.specs.OwnTurns.{OwnTurn, own_from, reply_in, reply_of, is_done, ticks_in}
+use Rattle.run_laws.specs.RunLaws.{AreAnsweredAlike}
+use Rattle.run_laws.proofs.Alone.{IsAlone, no-own, alone-at-first, same-reply, stays-alone}
+use Rattle.run_laws.proofs.KindLaws.{KindLaw, accepted}
+use Rattle.run_laws.proofs.Managed.{HasBlocks, managed-laws, boot-has, one_reply, plain-managed, told_next, same_blocks}
+use Rattle.run_laws.proofs.Marks.{marks, due}
+use Rattle.run_laws.proofs.Stores.{own_blocks, changes_managed, alloc-change, free-change, write-change, copy-change}
+use Rattle.run_laws.proofs.Told.{Told, told, answered, LawAt, Laws}
+use Rattle.run_laws.proofs.Whole.{WellTold, law-of, well-front, run-told}
+
+-- a call on managed memory is told what memory answers
+asks : (call : Call) (p : ℕ) (m : Machine) → is_managed_call call ≡ true → after_call call p m ≡ asked_of_memory call p m
+asks (Call.MmemAlloc h n) p m e = refl
+asks (Call.MmemFree h) p m e = refl
+asks (Call.MmemWrite h at chunk) p m e = refl
+asks (Call.MmemRead h at len) p m e = refl
+asks (Call.MmemCopy source target) p m e = refl
+asks Call.MmemAvail p m e = refl
+asks call p m e = absurd (grind (arith, e))
+
+told-reply : (call : Call) (p : ℕ) (m : Machine) → is_managed_call call ≡ true
+    → due (marks p (after_call call p m).scheduler.agenda) ≡ Some (ask call p m.memory).1
+told-reply call p m e =
+    ap (λ (x : Machine). due (marks p x.scheduler.agenda)) (asks call p m e) ∙ told_next p (ask call p m.memory).1 m.scheduler.agenda
+
+-- the quota stays
+call-quota : (call : Call) (q : ℕ) (m : Machine) → (after_call call q m).memory.managed.quota ≡ m.memory.managed.quota
+call-quota Call.PacketDone q m = grind arith
+call-quota (Call.MmemAlloc h n) q m = (alloc-change h n q m.memory).quota
+call-quota (Call.MmemFree h) q m = (free-change h q m.memory).quota
+call-quota (Call.MmemWrite h at chunk) q m = (write-change h at chunk q m.memory).quota
+call-quota (Call.MmemCopy source target) q m = (copy-change source target q m.memory).quota
+call-quota call q m = ap (λ (store : ManagedStore). store.quota) (plain-managed call q m refl)
+
+no-change : (call : Call) → is_managed_call call ≡ false → changes_managed call ≡ false
+no-change call e = grind (arith, e)
+
+done-alike : (reply : Reply) → is_done (Some (as_over_quota reply)) ≡ is_done (Some reply)
+done-alike reply = grind arith
+
+module _ (quota p : ℕ) where
+  -- a memory of p's own, after a call
+  abbrev own_after : Call → Reply → Memory → Memory
+  own_after call reply s = cond (is_managed_call call) (ask call p s).0 s
+
+  -- what it answers
+  abbrev AsAlone : Memory → Call → Reply → Type 0
+  AsAlone s call reply = is_managed_call call ≡ true → as_over_quota (ask call p s).1 ≡ reply
+
+  -- p has the same blocks in it as in the memory of the node, which is under the quota
+  pub record IsLikeOwn (m : Memory) (frames : List Frame) (s : Memory) : Type 0 where
+    pub has : HasBlocks p m frames (own_blocks p s)
+    pub limit : m.managed.quota ≡ Some quota
+    pub alone : IsAlone quota p s
+
+  still-like : (m : Memory) (frames : List Frame) (s new : Memory) (left : List Frame) → IsLikeOwn m frames s → HasBlocks p new left (own_blocks p s)
+      → new.managed.quota ≡ m.managed.quota → IsLikeOwn new left s
+  still-like m frames s new left rel has e = record { has = has; limit = e ∙ rel.limit; alone = rel.alone }
+
+  module _ (few : p ≤ 19) where
+    abbrev blocks_laws : Laws (accepted managed_after) (KindLaw managed_kind) (HasBlocks p) p
+    blocks_laws = managed-laws p few
+
+    -- p's own call
+    own-call : (call : Call) (m : Machine) (s : Memory) (reply : Reply) (test : Bool) → is_managed_call call ≡ test
+        → is_kernel_process p ≡ false → IsLikeOwn m.memory m.packets.frames s
+        → HasBlocks p (after_call call p m).memory (after_call call p m).packets.frames (accepted managed_after call reply (own_blocks p s))
+        → due (marks p (after_call call p m).scheduler.agenda) ≡ Some reply
+        → AsAlone s call reply × IsLikeOwn (after_call call p m).memory (after_call call p m).packets.frames (cond test (ask call p s).0 s)
+    own-call call m s reply false f k rel has e =
+        let plain : accepted managed_after call reply (own_blocks p s) ≡ own_blocks p s = grind (arith, no-change call f) in
+        let like = still-like m.memory m.packets.frames s (after_call call p m).memory (after_call call p m).packets.frames rel (rw plain at has) (call-quota call p m) in
+        (λ g. absurd (grind (arith, f, g)), like)
+    own-call call m s reply true f k rel has e =
+        let stays = stays-alone quota p s few k rel.alone call in
+        let asked : (ask call p m.memory).1 ≡ reply = one_reply _ _ _ (told-reply call p m f) e in
+        let alike : as_over_quota (ask call p s).1 ≡ reply = same-reply quota p m.memory s rel.limit rel.alone (rel.has.own k) call f ∙ asked in
+        let both : is_done (Some (ask call p s).1) ≡ is_done (Some reply) = sym (done-alike (ask call p s).1) ∙ ap (λ (r : Reply). is_done (Some r)) alike in
+        let own : own_blocks p (ask call p s).0 ≡ accepted managed_after call (ask call p s).1 (own_blocks p s) = same_blocks _ _ stays.own in
+        let blocks : own_blocks p (ask call p s).0 ≡ accepted managed_after call reply (own_blocks p s) = rw both at own in
+        (λ _. alike, record { has = rw blocks has; limit = call-quota call p m ∙ rel.limit; alone = stays.alone })
+
+    pub isolated-laws : Laws own_after AsAlone IsLikeOwn p
+    isolated-laws =
+        record {
+          self = λ call m s reply k rel rest e.
+              own-call call m s reply (is_managed_call call) refl k rel (blocks_laws.self call m (own_blocks p s) reply k rel.has rest e).1 e;
+          silent = λ call m s k rel e.
+              still-like m.memory m.packets.frames s (after_call call p m).memory (after_call call p m).packets.frames rel
+              (blocks_laws.silent call m (own_blocks p s) k rel.has e) (call-quota call p m);
+          other = λ call q m s n rel.
+              still-like m.memory m.packets.frames s (after_call call q m).memory (after_call call q m).packets.frames rel
+              (blocks_laws.other call q m (own_blocks p s) n rel.has) (call-quota call q m);
+          frame = λ slot len bytes memory frames s low rel.
+              still-like memory frames s _ _ rel (blocks_laws.frame slot len bytes memory frames (own_blocks p s) low rel.has) refl;
+        }
+
+  -- the replies among these turns are those of a memory of p's own
+  abbrev Replied : List OwnTurn → Memory → Type 0
+  Replied turns s = map (λ a. a.reply) (filter_map managed_answer turns) ≡ replies_from p s (map (λ a. a.call) (filter_map managed_answer turns))
+
+  -- one turn more, in front
+  one-more : (turn : OwnTurn) (turns : List OwnTurn) (s : Memory) → LawAt AsAlone (Some turn.call) s turn.reply
+      → Replied turns (answered own_after (Some turn.call) turn.reply s) → Replied (turn ∷ turns) s
+  one-more turn turns s law later = go turn.reply (is_managed_call turn.call) refl refl law later
+    where
+      go : (reply : Option Reply) (test : Bool) → turn.reply ≡ reply → is_managed_call turn.call ≡ test → LawAt AsAlone (Some turn.call) s reply
+          → Replied turns (answered own_after (Some turn.call) reply s) → Replied (turn ∷ turns) s
+      go (Some reply) true e f law later =
+          let shown : managed_answer turn ≡ Some (record { call = turn.call; reply = reply }) = grind (arith, e, f) in
+          let private = law f in
+          let rest : Replied turns (ask turn.call p s).0 = rw f at later in
+          rw (shown, private, rest)
+      go (Some reply) false e f law later =
+          let none : managed_answer turn ≡ None = grind (arith, e, f) in
+          let rest : Replied turns s = rw f at later in
+          rw none rest
+      go None test e f law later =
+          let none : managed_answer turn ≡ None = grind (arith, e, f) in
+          rw none later
+
+  law-at : (later : List Entry) (t : Told Memory) → WellTold own_after AsAlone IsLikeOwn p t later → LawAt AsAlone t.last t.now (reply_in p later)
+  law-at later t h = go t.last (reply_in p later) refl refl
+    where
+      go : (last : Option Call) (reply : Option Reply) → t.last ≡ last → reply_in p later ≡ reply → LawAt AsAlone last t.now reply
+      go (Some call) (Some reply) e f = law-of own_after AsAlone IsLikeOwn p later t call reply e f h
+      go (Some call) None e f = tt
+      go None reply e f = tt
+
+  -- what is told to p next is taken as told already
+  abbrev RepliedAfter : Told Memory → ℕ → List Entry → Type 0
+  RepliedAfter t clock entries = Replied (own_from p clock entries) (answered own_after t.last (reply_in p entries) t.now)
+
+  replied-turn : (test : Bool) (pid : Pid) (origin : Origin) (stimulus : Stimulus) (call : Call) (later : List Entry) (clock : ℕ) (t : Told Memory) → (pid.0 == p) ≡ test
+      → WellTold own_after AsAlone IsLikeOwn p (told own_after p t (Entry.Turn pid origin stimulus call)) later
+      → RepliedAfter (told own_after p t (Entry.Turn pid origin stimulus call)) (clock + 0) later
+      → RepliedAfter t clock (Entry.Turn pid origin stimulus call ∷ later)
+  replied-turn false pid origin stimulus call later clock t e h rest =
+      let same : told own_after p t (Entry.Turn pid origin stimulus call) ≡ t = grind (arith, e) in
+      let rest_here : RepliedAfter t (clock + 0) later = rw same at rest in
+      rw e rest_here
+  replied-turn true pid origin stimulus call later clock t e h rest =
+      let s = answered own_after t.last (reply_of stimulus) t.now in
+      let new : Told Memory = record { now = s; last = Some call } in
+      let same : told own_after p t (Entry.Turn pid origin stimulus call) ≡ new = grind (arith, e) in
+      let rest_here : RepliedAfter new (clock + 0) later = rw same at rest in
+      let well : WellTold own_after AsAlone IsLikeOwn p new later = rw same at h in
+      let turn : OwnTurn = record { clock = clock; origin = origin; stimulus = stimulus; call = call; reply = reply_in p later } in
+      let more : Replied (turn ∷ own_from p (clock + 0) later) s = one-more turn (own_from p (clock + 0) later) s (law-at later new well) rest_here in
+      rw e more
+
+  replied : (entries : List Entry) (clock : ℕ) (t : Told Memory) → WellTold own_after AsAlone IsLikeOwn p t entries → RepliedAfter t clock entries
+  replied [] clock t h = refl
+  replied (Entry.Turn pid origin stimulus call ∷ later) clock t h =
+      replied-turn (pid.0 == p) pid origin stimulus call later clock t refl h.1
+      (replied later (clock + 0) (told own_after p t (Entry.Turn pid origin stimulus call)) h.1)
+  replied (Entry.Input input ∷ later) clock t h = replied later (clock + ticks_in (Entry.Input input)) t h.1
+  replied (Entry.Note note ∷ later) clock t h = replied later (clock + 0) t h.1
+  replied (Entry.Halt ∷ later) clock t h = replied later (clock + 0) t h.1
+
+  -- at boot neither memory has a block
+  boot-like : (c : Config) → c.quota ≡ Some quota → IsLikeOwn (booted c).memory [] (private_memory quota)
+  boot-like c e =
+      record {
+        has = subst (λ (blocks : Blocks). HasBlocks p (booted c).memory [] blocks) (no-own quota p) (boot-has p c);
+        limit = e;
+        alone = alone-at-first quota p;
+      }
+
+-- the run
+
+pub alone-so-far : (c : Config) (says : Applications) (inputs : List Input) (after : Running) → Runs says (at_start c) inputs after
+    → is_bootable c ≡ true → (quota p : ℕ) (before later : List Entry) → c.quota ≡ Some quota → is_application c.apps p ≡ true
+    → before ++ later ≡ after.entries → IsAnsweredAlone quota p before
+alone-so-far c says inputs after runs boots quota p before later e named split =
+    let few : p ≤ 19 = grind (arith, nat_tests, boots, named) in
+    let start : Told Memory = record { now = private_memory quota; last = None } in
+    let kept = run-told (own_after quota p) (AsAlone quota p) (IsLikeOwn quota p) p (isolated-laws quota p few) start c says inputs after runs (boot-like quota p c e) in
+    let well = well-front (own_after quota p) (AsAlone quota p) (IsLikeOwn quota p) p start before later (rw split kept.well) in
+    replied quota p before 0 start well
+
+pub all-alone : (c : Config) (says : Applications) (inputs : List Input) (after : Running) → Runs says (at_start c) inputs after
+    → is_bootable c ≡ true → (quota p : ℕ) → c.quota ≡ Some quota → is_application c.apps p ≡ true → IsAnsweredAlone quota p after.entries
+all-alone c says inputs after runs boots quota p e named =
+    alone-so-far c says inputs after runs boots quota p after.entries [] e named (append-nil after.entries)
+
+-- two transcripts
+
+-- what comes later changes no reply
+replies-take : (p n : ℕ) (calls : List Call) (memory : Memory) → take n (replies_from p memory calls) ≡ replies_from p memory (take n calls)
+replies-take p zero calls memory = refl
+replies-take p (suc n) [] memory = refl
+replies-take p (suc n) (call ∷ calls) memory =
+    ap (λ (replies : List Reply). as_over_quota (ask call p memory).1 ∷ replies) (replies-take p n calls (ask call p memory).0)
+
+pub alone-alike : (quota p : ℕ) (X Y : List Entry) → IsAnsweredAlone quota p X → IsAnsweredAlone quota p Y → AreAnsweredAlike p X Y
+alone-alike quota p X Y one other =
+    record {
+      same = λ e. one ∙ (ap (private_replies quota p) e ∙ sym other);
+      same_so_far = λ n e. front X n one ∙ (ap (private_replies quota p) e ∙ sym (front Y n other));
+    }
+  where
+    front : (entries : List Entry) (n : ℕ) → IsAnsweredAlone quota p entries
+        → take n (managed_replies p entries) ≡ private_replies quota p (take n (managed_calls p entries))
+    front entries n alone = ap (take n) alone ∙ replies-take p n (managed_calls p entries) (private_memory quota)

@@ -1,0 +1,68 @@
+-- What a process's managed blocks take, and what all managed blocks take.
+use Rattle.std.proofs.Common.{◌≡◌, ℕ, zero, suc, ◌+◌, ◌≤◌, ◌<◌, Bool, true, false, List, length, refl, ◌∙◌, ap, arith}
+use Rattle.std.specs.Prelude.{Option, None, ◌==◌, ◌≢◌, sum_by}
+use Rattle.std.specs.List.{range_with_len}
+use Rattle.std.proofs.lemmas.Bool.Decides.{nat_tests}
+use Rattle.std.proofs.lemmas.List.{get_or-set_same, get_or-set_other}
+use Rattle.std.proofs.lemmas.List.Sums.{sum_by-cons, sum_by-set}
+use Rattle.mote_types.specs.BlockNames.{number_of}
+use Rattle.mmem_core.specs.ManagedStore.{ManagedStore, block_of, size_of, taken_by, with_block}
+
+-- sums over numbers in a row
+
+same-terms : (f g : ℕ → ℕ) (n from : ℕ) → ((h : ℕ) → from ≤ h → g h ≡ f h) → sum_by g (range_with_len from n) ≡ sum_by f (range_with_len from n)
+same-terms f g zero from e = refl
+same-terms f g (suc n) from e =
+    let later = same-terms f g n (from + 1) (λ h low. e h (omega (arith, low))) in
+    let first : g from ≡ f from = e from (omega arith) in
+    let left = sum_by-cons g from (range_with_len (from + 1) n) in
+    let right = sum_by-cons f from (range_with_len (from + 1) n) in
+    omega (arith, later, first, left, right)
+
+-- one term differs
+other-term : (f g : ℕ → ℕ) (k n from : ℕ) → from ≤ k → k < from + n → ((h : ℕ) → h ≢ k → g h ≡ f h)
+    → sum_by g (range_with_len from n) + f k ≡ sum_by f (range_with_len from n) + g k
+other-term f g k zero from low high e = absurd (omega (arith, low, high))
+other-term f g k (suc n) from low high e =
+    go (from == k) refl (λ ne. other-term f g k n (from + 1) (omega (arith, low, ne)) (omega (arith, high)) e)
+  where
+    left : sum_by g (range_with_len from (suc n)) ≡ g from + sum_by g (range_with_len (from + 1) n)
+    left = sum_by-cons g from (range_with_len (from + 1) n)
+
+    right : sum_by f (range_with_len from (suc n)) ≡ f from + sum_by f (range_with_len (from + 1) n)
+    right = sum_by-cons f from (range_with_len (from + 1) n)
+
+    go : (b : Bool) → (from == k) ≡ b
+        → (from ≢ k → sum_by g (range_with_len (from + 1) n) + f k ≡ sum_by f (range_with_len (from + 1) n) + g k)
+        → sum_by g (range_with_len from (suc n)) + f k ≡ sum_by f (range_with_len from (suc n)) + g k
+    go true same more =
+        let here : from ≡ k = grind (arith, nat_tests, same) in
+        let later = same-terms f g n (from + 1) (λ h above. e h (λ eq. absurd (omega (arith, above, eq, here)))) in
+        let old : f from ≡ f k = ap f here in
+        let new : g from ≡ g k = ap g here in
+        omega (arith, left, right, later, old, new)
+    go false same more =
+        let ne : from ≢ k = grind (arith, nat_tests, same) in
+        let later = more ne in
+        let first : g from ≡ f from = e from ne in
+        omega (arith, left, right, later, first)
+
+-- a block in the place of another one: what p's blocks take changes as much as what all blocks take
+
+module _ (p k : ℕ) (block : Option (List ℕ)) (store : ManagedStore) (low : k ≤ 15) (inside : number_of p k < length store.blocks) where
+  abbrev after : ManagedStore
+  after = with_block p k block store
+
+  taken-put : taken_by p after + size_of (block_of p k store) ≡ taken_by p store + size_of block
+  taken-put =
+      let same : size_of (block_of p k after) ≡ size_of block = ap size_of (get_or-set_same store.blocks (number_of p k) block None inside) in
+      let others : (h : ℕ) → h ≢ k → size_of (block_of p h after) ≡ size_of (block_of p h store) =
+      λ h ne. ap size_of (get_or-set_other store.blocks (number_of p k) (number_of p h) block None (λ eq. ne (omega (arith, eq)))) in
+      let sums = other-term (λ h. size_of (block_of p h store)) (λ h. size_of (block_of p h after)) k 16 0 (omega arith) (omega (arith, low)) others in
+      sums ∙ ap (λ n. taken_by p store + n) same
+
+  pub total-put : sum_by size_of after.blocks + taken_by p store ≡ sum_by size_of store.blocks + taken_by p after
+  total-put =
+      let all = sum_by-set size_of store.blocks (number_of p k) block None inside in
+      let own = taken-put in
+      omega (arith, all, own)
