@@ -1,5 +1,6 @@
 pub mod Answers
 pub mod Blocks
+mod Examples
 pub mod LendsTwo
 pub mod Made
 pub mod Pairs

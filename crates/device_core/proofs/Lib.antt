@@ -1,3 +1,4 @@
+mod Examples
 pub mod Lines
 pub mod Slots
 pub mod TakenTogether

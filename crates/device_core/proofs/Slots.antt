@@ -10,8 +10,7 @@ use Rattle.std.proofs.lemmas.List.Elements.{All-append}
 use Rattle.std.proofs.lemmas.List.FromFn.{get_or-range_with_len}
 use Rattle.std.proofs.lemmas.Map.Keys.{IsDistinct-push, IsDistinct-tail}
 use Rattle.std.proofs.lemmas.Map.Steps.{length-le_from_distinct_below, le-length_from_below}
-use Rattle.device_core.specs.PacketQueue.{PacketQueue, no_packets, is_held, free_slot, with_frame}
-use Rattle.device_core.specs.Code.PacketFields.{IsWellFormed}
+use Rattle.device_core.specs.PacketQueue.{PacketQueue, no_packets, is_held, free_slot, with_frame, IsWellFormed}
 use Rattle.device_core.specs.declared.frame.Frame.{Frame}
 
 -- the least slot from this one on that no held frame has

@@ -3,7 +3,8 @@ use Rattle.std.proofs.Common.{◌≡◌, ℕ, ◌≤◌, ◌+◌, ◌-◌, Bool,
 use Rattle.std.proofs.lemmas.List.{take_all, append-nil}
 use Rattle.std.proofs.lemmas.Bool.Decides.{nat_tests}
 use Rattle.std.specs.List.{list_any}
-use Rattle.device_core.specs.SerialLine.{after_bytes, takes_all}
+use Rattle.device_core.specs.SerialLine.{after_bytes}
+use Rattle.device_core.specs.Code.Taking.{takes_all}
 use Rattle.device_core.proofs.Lines.{state, byte_taken}
 
 -- none of the bytes is ignored, and the ring has room for all of them

@@ -1,2 +1,3 @@
 -- The code's own invariants.
 pub mod PacketFields
+pub mod Taking

@@ -1,6 +1,6 @@
 -- Packets: the frames that are held, in the order in which they came.
-use Rattle.std.specs.Prelude.{ℕ, ◌+◌, ◌-◌, Bool, false, not, List, [], ◌∷◌, ◌++◌, length, drop, Option, Some, None, if◌then◌else◌, ◌==◌, nat_lt, slice_get}
-use Rattle.std.specs.List.{list_any, find}
+use Rattle.std.specs.Prelude.{ℕ, ◌+◌, ◌-◌, ◌<◌, ◌≤◌, Bool, false, not, List, [], ◌∷◌, ◌++◌, length, drop, map, Option, Some, None, IfSome, if◌then◌else◌, ◌==◌, eqb, nat_lt, slice_get}
+use Rattle.std.specs.List.{list_any, find, IsDistinct, All}
 use Rattle.std.specs.Option.{option_map, option_map_or}
 use Rattle.mote_types.specs.declared.event.Pid.{Pid}
 use Rattle.device_core.specs.declared.frame.Frame.{Frame}
@@ -67,3 +67,13 @@ without_receiver queue = record queue { receiver = None; announced = 0 }
 -- p has ended
 abbrev pub forgotten : ℕ → PacketQueue → PacketQueue
 forgotten p queue = if is_receiver queue p then without_receiver queue else queue
+
+-- what holds of every queue
+pub record IsWellFormed (queue : PacketQueue) : Type 0 where
+  pub few : length queue.frames ≤ 8
+  -- no two frames have the same slot
+  pub distinct : IsDistinct eqb (map (λ frame. frame.slot) queue.frames)
+  pub slots : All (λ frame. frame.slot < 8) queue.frames
+  pub told : queue.announced ≤ length queue.frames
+  -- the receiver is an application
+  pub receiver : IfSome queue.receiver (λ p. (4 ≤ p) × (p ≤ 19))

@@ -1,5 +1,5 @@
 -- The serial line: bytes come in through a ring, and leave as lines.
-use Rattle.std.specs.Prelude.{ℕ, Bool, true, false, not, ◌&&◌, List, [], ◌∷◌, ◌++◌, ◌+◌, length, take, Option, Some, None, if◌then◌else◌, ◌==◌, nat_lt, nat_le}
+use Rattle.std.specs.Prelude.{ℕ, Bool, true, false, not, List, [], ◌∷◌, ◌++◌, length, take, Option, Some, None, if◌then◌else◌, ◌==◌, nat_lt}
 use Rattle.std.specs.List.{list_any, before_first, after_first, fold}
 use Rattle.arrayvec.specs.ArrayVec.{ArrayVec}
 
@@ -33,11 +33,6 @@ after_byte serial byte =
 
 abbrev pub after_bytes : SerialLine → List ℕ → SerialLine
 after_bytes serial bytes = fold after_byte serial bytes
-
--- outside the overflow state none of the bytes is ignored or lost
-abbrev pub takes_all : SerialLine → List ℕ → Bool
-takes_all serial bytes =
-    not serial.overflow && nat_le (length serial.ring + length bytes) 127 && not (list_any (λ byte. byte == 13) bytes)
 
 abbrev pub has_line : SerialLine → Bool
 has_line serial = list_any is_line_end serial.ring

@@ -3,8 +3,7 @@
 ghost use Rattle.std.specs.Prelude.{◌≡◌, ◌<◌, ◌≤◌, ◌↔◌, true, false, length, Some, None, IsNone, IsSome, IfSome};
 ghost use Rattle.std.specs.Option.{option_map};
 ghost use Rattle.device_core.specs.PacketQueue as packets;
-ghost use Rattle.device_core.specs.PacketQueue.{no_packets, is_full};
-ghost use Rattle.device_core.specs.Code.PacketFields.{IsWellFormed};
+ghost use Rattle.device_core.specs.PacketQueue.{no_packets, is_full, IsWellFormed};
 
 use crate::frame::Frame;
 use arrayvec::ArrayVec;
@@ -27,7 +26,8 @@ pub struct PacketQueue {
 
 impl Model for PacketQueue {
     ghost use Rattle.device_core.specs.PacketQueue.{PacketQueue as Packets};
-    ghost use Rattle.device_core.specs.Code.PacketFields.{IsWellFormed, packets_of};
+    ghost use Rattle.device_core.specs.Code.PacketFields.{packets_of};
+    ghost use Rattle.device_core.specs.PacketQueue.{IsWellFormed};
 
     ghost Value = { Packets };
 

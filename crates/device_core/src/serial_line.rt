@@ -2,8 +2,8 @@
 
 ghost use Rattle.std.specs.Prelude.{◌≡◌, ◌<◌, length, IfOk, OnSome};
 ghost use Rattle.std.specs.Option.{option_map};
-ghost use Rattle.device_core.specs.SerialLine.{quiet_line, takes_all, after_byte, after_bytes};
-ghost use Rattle.device_core.specs.SerialLine.{line_of, next_line, after_line};
+ghost use Rattle.device_core.specs.SerialLine.{quiet_line, after_byte, after_bytes, line_of, next_line, after_line};
+ghost use Rattle.device_core.specs.Code.Taking.{takes_all};
 
 use arrayvec::ArrayVec;
 use circular_buffer::HeapCircularBuffer;

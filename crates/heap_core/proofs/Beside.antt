@@ -8,8 +8,8 @@ use Rattle.heap_core.specs.declared.chunk.Chunk.{Chunk}
 use Rattle.heap_core.specs.declared.chunk.Gap.{Gap}
 use Rattle.heap_core.specs.declared.region.Region.{Region}
 use Rattle.heap_core.specs.HeapStore.{gaps, gap_at, footprint, least_room, room_taken, room_in_place}
-use Rattle.heap_core.specs.Code.Chunks.{shortest, least_len, Tell, AreJoined}
-use Rattle.heap_core.specs.Code.Layout.{chunks_of, HasChunks, store_of}
+use Rattle.heap_core.specs.Chunks.{shortest, least_len, Tell, AreJoined}
+use Rattle.heap_core.specs.Layout.{chunks_of, HasChunks, store_of}
 use Rattle.heap_core.specs.Code.Walks.{gap_of, front_gap, place_in_chunk, LeavesGap, IsWholeRoom}
 use Rattle.heap_core.proofs.Told.{place_told, told_le, owner_cases}
 use Rattle.heap_core.proofs.Gaps.{with_gap, gaps_in, gaps_are, end_is}

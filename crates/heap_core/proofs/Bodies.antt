@@ -14,14 +14,14 @@ use Rattle.arena_core.proofs.Rows.{written_is}
 use Rattle.heap_core.specs.declared.chunk.Chunk.{Chunk}
 use Rattle.heap_core.specs.declared.region.Region.{Region}
 use Rattle.heap_core.specs.HeapStore.{Block, HeapStore, has_name, block_of, find_block, without_block}
-use Rattle.heap_core.specs.Code.Chunks.{is_a_name, AreJoined, with_chunk, blocks_in, is_named}
+use Rattle.heap_core.specs.Chunks.{is_a_name, AreJoined, with_chunk, blocks_in, is_named}
 use Rattle.heap_core.specs.HeapBytes.{heap_of}
-use Rattle.heap_core.specs.Code.Layout.{chunks_of, store_of}
+use Rattle.heap_core.specs.Layout.{chunks_of, store_of}
 use Rattle.heap_core.proofs.Stored.{IsStored}
 use Rattle.heap_core.specs.Code.Walks.{Owned, block_in_chunk, without_place}
 use Rattle.heap_core.proofs.Told.{told_body, changes_more, blocks_append}
 use Rattle.heap_core.proofs.Names.{count_append, count_first, map_unnamed, filter_unnamed, keeps_name}
-use Rattle.heap_core.specs.Code.Links.{unnamed}
+use Rattle.heap_core.specs.FreeList.{unnamed}
 use Rattle.heap_core.proofs.Freed.{filter_swap, filter_map}
 use Rattle.heap_core.proofs.Blocks.{count, elsewhere}
 use Rattle.heap_core.proofs.Releases.{left_apart}

@@ -10,10 +10,10 @@ use Rattle.arena_core.specs.Contents.{Contents}
 use Rattle.arena_core.specs.Outside.{ChangesOnly}
 use Rattle.heap_core.specs.declared.region.Region.{Region}
 use Rattle.heap_core.specs.HeapStore.{HeapStore, has_name}
-use Rattle.heap_core.specs.Code.Chunks.{Tell, AreJoined, blocks_in, is_named}
-use Rattle.heap_core.specs.Code.Layout.{chunks_of, store_of}
-use Rattle.heap_core.specs.Code.Links.{LinkedTo, gaps_among, AreFreed, unnamed}
-use Rattle.heap_core.specs.Code.Places.{ArePlaced}
+use Rattle.heap_core.specs.Chunks.{Tell, AreJoined, blocks_in, is_named}
+use Rattle.heap_core.specs.Layout.{chunks_of, store_of}
+use Rattle.heap_core.specs.FreeList.{LinkedTo, gaps_among, AreFreed, unnamed}
+use Rattle.heap_core.specs.Places.{ArePlaced}
 use Rattle.heap_core.specs.HeapBytes.{heap_of, IsWithin, IsLaidOut, KeepsToSpan}
 use Rattle.heap_core.specs.Separation.{BlocksLieApart}
 use Rattle.heap_core.proofs.Separation.{blocks_lie_apart}

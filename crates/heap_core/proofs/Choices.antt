@@ -7,9 +7,10 @@ use Rattle.heap_core.specs.declared.chunk.Gap.{Gap}
 use Rattle.heap_core.specs.declared.chunk.Place.{Place}
 use Rattle.heap_core.specs.declared.region.Region.{Region}
 use Rattle.heap_core.specs.HeapStore.{least_room, best_gap, gaps, place, place_in, top_place, top_gap, footprint}
-use Rattle.heap_core.specs.Code.Layout.{chunks_of, HasChunks, store_of}
-use Rattle.heap_core.specs.Code.Walks.{GapAt, Stands, LiveIn, IsWholeRoom}
-use Rattle.heap_core.specs.Code.Chunks.{chunk_at, AreJoined}
+use Rattle.heap_core.specs.Layout.{chunks_of, HasChunks, store_of}
+use Rattle.heap_core.specs.FreeList.{Stands, LiveIn}
+use Rattle.heap_core.specs.Code.Walks.{GapAt, IsWholeRoom}
+use Rattle.heap_core.specs.Chunks.{chunk_at, AreJoined}
 use Rattle.heap_core.specs.declared.chunk.Chunk.{Chunk}
 use Rattle.heap_core.proofs.Gaps.{end_is, best_fits}
 use Rattle.heap_core.proofs.Lengths.{lengths, needed}

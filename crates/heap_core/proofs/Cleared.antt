@@ -4,10 +4,11 @@ use Rattle.std.specs.Prelude.{Option, Some, None}
 use Rattle.arena_core.specs.Outside.{ChangesOnly}
 use Rattle.heap_core.specs.declared.chunk.Chunk.{Chunk}
 use Rattle.heap_core.specs.declared.region.Region.{Region}
-use Rattle.heap_core.specs.Code.Chunks.{chunk_at}
-use Rattle.heap_core.specs.Code.Layout.{chunks_of, HasChunks, store_of}
-use Rattle.heap_core.specs.Code.Links.{gaps_among, gap_count, Exchanged}
-use Rattle.heap_core.specs.Code.Walks.{Stands, LiveIn, chunks_before, chunks_behind, free_from, front_gap, without_place}
+use Rattle.heap_core.specs.Chunks.{chunk_at}
+use Rattle.heap_core.specs.Layout.{chunks_of, HasChunks, store_of}
+use Rattle.heap_core.specs.FreeList.{gaps_among, Stands, LiveIn}
+use Rattle.heap_core.specs.Code.Links.{gap_count, Exchanged}
+use Rattle.heap_core.specs.Code.Walks.{chunks_before, chunks_behind, free_from, front_gap, without_place}
 use Rattle.heap_core.proofs.Releases.{from_below, end_below, top_spliced, top_released, top_stays, top_exchanged, top_counted, gap_spliced, gap_released, gap_stays, gap_exchanged, gap_counted}
 use Rattle.heap_core.proofs.Standing.{Around, around, before_is, behind_is}
 use Rattle.heap_core.proofs.Told.{chunk_of}

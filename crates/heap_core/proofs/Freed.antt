@@ -9,10 +9,11 @@ use Rattle.heap_core.specs.declared.chunk.Chunk.{Chunk}
 use Rattle.heap_core.specs.declared.region.Region.{Region}
 use Rattle.heap_core.specs.HeapStore.{Block, HeapStore, placed}
 use Rattle.heap_core.specs.HeapBytes.{heap_of}
-use Rattle.heap_core.specs.Code.Chunks.{FREED, is_a_name, chunk_at, AreJoined, with_chunk, blocks_in, is_named}
-use Rattle.heap_core.specs.Code.Layout.{chunks_of, store_of, HasChunks}
-use Rattle.heap_core.specs.Code.Links.{gaps_among, LinkedTo, NoneAt, AreFreed, unnamed, FreedLinked, KeepsFreed}
-use Rattle.heap_core.specs.Code.Walks.{Stands, LiveIn, block_in_chunk}
+use Rattle.heap_core.specs.Chunks.{FREED, is_a_name, chunk_at, AreJoined, with_chunk, blocks_in, is_named}
+use Rattle.heap_core.specs.Layout.{chunks_of, store_of, HasChunks}
+use Rattle.heap_core.specs.FreeList.{gaps_among, LinkedTo, NoneAt, AreFreed, unnamed, FreedLinked, Stands, LiveIn}
+use Rattle.heap_core.specs.Code.Links.{KeepsFreed}
+use Rattle.heap_core.specs.Code.Walks.{block_in_chunk}
 use Rattle.heap_core.proofs.Blocks.{elsewhere}
 use Rattle.heap_core.proofs.Gaps.{many}
 use Rattle.heap_core.proofs.Lists.{gaps_append, live_first, linked_parted, linked_live, link_live, linked_append}

@@ -5,8 +5,8 @@ use Rattle.std.proofs.lemmas.Bool.{lt-ltb, le-ltb, cases_Bool, leb-true, false�
 use Rattle.heap_core.specs.declared.chunk.Chunk.{Chunk}
 use Rattle.heap_core.specs.declared.chunk.Gap.{Gap}
 use Rattle.heap_core.specs.HeapStore.{Block, end_of, gap_between, gaps_from, better, best_gap}
-use Rattle.heap_core.specs.Code.Chunks.{least_len, Tell, BeginsLive, AreJoined, with_chunk, blocks_in}
-use Rattle.heap_core.specs.Code.Links.{with_free, gaps_among}
+use Rattle.heap_core.specs.Chunks.{least_len, Tell, BeginsLive, AreJoined, with_chunk, blocks_in}
+use Rattle.heap_core.specs.FreeList.{with_free, gaps_among}
 use Rattle.heap_core.proofs.Told.{place_told, owner_cases}
 
 abbrev pub with_gap : Chunk → Option ℕ → List Gap → List Gap

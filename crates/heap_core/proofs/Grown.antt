@@ -4,8 +4,9 @@ use Rattle.std.specs.Prelude.{Option, Some, None}
 use Rattle.std.proofs.lemmas.Bool.{cases_eq}
 use Rattle.heap_core.specs.declared.chunk.Chunk.{Chunk}
 use Rattle.heap_core.specs.declared.region.Region.{Region}
-use Rattle.heap_core.specs.Code.Layout.{chunks_of, HasChunks}
-use Rattle.heap_core.specs.Code.Links.{LinkedTo, Exchanged, gaps_among, gap_from, last_of}
+use Rattle.heap_core.specs.Layout.{chunks_of, HasChunks}
+use Rattle.heap_core.specs.FreeList.{LinkedTo, gaps_among}
+use Rattle.heap_core.specs.Code.Links.{Exchanged, gap_from, last_of}
 use Rattle.heap_core.specs.Code.Walks.{free_from}
 use Rattle.heap_core.proofs.Lists.{linked_append, linked_gap, last_stands, free_no_gap, free_gap_there, free_gap_below, ends_of}
 use Rattle.heap_core.proofs.Standing.{Around, around}

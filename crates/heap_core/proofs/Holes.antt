@@ -9,11 +9,12 @@ use Rattle.heap_core.specs.declared.chunk.Chunk.{Chunk}
 use Rattle.heap_core.specs.declared.chunk.Place.{Place}
 use Rattle.heap_core.specs.declared.region.Region.{Region}
 use Rattle.heap_core.specs.HeapStore.{Block, HeapStore, placed, block_at, with_block, least_room, room_in_place}
-use Rattle.heap_core.specs.Code.Chunks.{shortest, least_len, Tell, BeginsLive, IsWhole, AreJoined, with_chunk, blocks_in}
+use Rattle.heap_core.specs.Chunks.{shortest, least_len, Tell, BeginsLive, IsWhole, AreJoined, with_chunk, blocks_in}
 use Rattle.heap_core.specs.Code.Holes.{Hole, Fits, Leaves, Laid, Free}
-use Rattle.heap_core.specs.Code.Layout.{chunks_of, HasChunks, store_of}
-use Rattle.heap_core.specs.Code.Links.{LinkedTo, gaps_among, gap_count, gap_below, gap_from, Relinked}
-use Rattle.heap_core.specs.Code.Walks.{chunks_behind, GapAt, LiveIn, Owned, laid, front_gap, place_in_chunk, bytes_in_chunk, LeavesGap, IsWholeRoom}
+use Rattle.heap_core.specs.Layout.{chunks_of, HasChunks, store_of}
+use Rattle.heap_core.specs.FreeList.{LinkedTo, gaps_among, LiveIn}
+use Rattle.heap_core.specs.Code.Links.{gap_count, gap_below, gap_from, Relinked}
+use Rattle.heap_core.specs.Code.Walks.{chunks_behind, GapAt, Owned, laid, front_gap, place_in_chunk, bytes_in_chunk, LeavesGap, IsWholeRoom}
 use Rattle.heap_core.proofs.Beside.{room_is, Taken, taken, front_gap_whole}
 use Rattle.heap_core.proofs.Blocks.{blocks_between, placed_behind, placed_front, elsewhere}
 use Rattle.heap_core.proofs.Gaps.{none_in_front}

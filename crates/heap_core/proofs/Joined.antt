@@ -6,9 +6,9 @@ use Rattle.heap_core.specs.declared.region.Region.{Region}
 use Rattle.heap_core.specs.HeapStore.{HeapStore, has_name, gaps}
 use Rattle.heap_core.specs.HeapBytes.{heap_of, IsLaidOut}
 use Rattle.heap_core.specs.Code.Joins.{Joins}
-use Rattle.heap_core.specs.Code.Layout.{chunks_of, HasChunks}
-use Rattle.heap_core.specs.Code.Links.{GapsLinked, FreedLinked}
-use Rattle.heap_core.specs.Code.Places.{ArePlaced}
+use Rattle.heap_core.specs.Layout.{chunks_of, HasChunks}
+use Rattle.heap_core.specs.FreeList.{GapsLinked, FreedLinked}
+use Rattle.heap_core.specs.Places.{ArePlaced}
 use Rattle.heap_core.proofs.Freed.{plain}
 use Rattle.heap_core.proofs.Gaps.{gaps_are, gaps_many}
 

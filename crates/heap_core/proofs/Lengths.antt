@@ -3,7 +3,7 @@ use Rattle.std.proofs.Common.{◌≡◌, ℕ, ◌+◌, ◌%◌, ◌≤◌, inl, 
 use Rattle.std.proofs.lemmas.Bool.{cases_eq}
 use Rattle.heap_core.specs.declared.region.Region.{Region}
 use Rattle.heap_core.specs.HeapStore.{IsHeaderLength, least_room}
-use Rattle.heap_core.specs.Code.Chunks.{shortest}
+use Rattle.heap_core.specs.Chunks.{shortest}
 use Rattle.heap_core.specs.Code.Walks.{IsWholeRoom}
 
 -- a heap has one of the two

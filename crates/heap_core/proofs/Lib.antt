@@ -4,6 +4,8 @@ pub mod Bodies
 pub mod Callers
 pub mod Choices
 pub mod Cleared
+mod Examples
+pub mod FreeCount
 pub mod Freed
 pub mod Gaps
 pub mod Grown

@@ -6,10 +6,11 @@ use Rattle.std.proofs.lemmas.List.{append_assoc, length-append}
 use Rattle.std.proofs.lemmas.List.Sums.{fold-append}
 use Rattle.heap_core.specs.declared.chunk.Chunk.{Chunk}
 use Rattle.heap_core.specs.declared.region.Region.{Region}
-use Rattle.heap_core.specs.Code.Chunks.{least_len, chunk_at, Tell}
-use Rattle.heap_core.specs.Code.Layout.{chunks_of, HasChunks}
-use Rattle.heap_core.specs.Code.Links.{with_free, gaps_among, gap_count, Meets, behind_link, LinkedTo, chunks_along, Follow, lower, higher, gap_below, gap_from, last_of, gaps_from_place, Relinked, Exchanged, KeepsFreed}
-use Rattle.heap_core.specs.Code.Walks.{free_behind, free_from, Stands}
+use Rattle.heap_core.specs.Chunks.{least_len, chunk_at, Tell}
+use Rattle.heap_core.specs.Layout.{chunks_of, HasChunks}
+use Rattle.heap_core.specs.FreeList.{with_free, gaps_among, Meets, behind_link, LinkedTo, Stands}
+use Rattle.heap_core.specs.Code.Links.{gap_count, chunks_along, Follow, lower, higher, gap_below, gap_from, last_of, gaps_from_place, Relinked, Exchanged, KeepsFreed}
+use Rattle.heap_core.specs.Code.Walks.{free_behind, free_from}
 use Rattle.heap_core.proofs.Standing.{Around}
 use Rattle.heap_core.proofs.Steps.{ended}
 use Rattle.heap_core.proofs.Told.{Split, place_told, told_le, told_split, owner_cases}

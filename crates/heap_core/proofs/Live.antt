@@ -8,7 +8,7 @@ use Rattle.arena_core.proofs.Ranges.{length-range}
 use Rattle.heap_core.specs.declared.chunk.Chunk.{Chunk}
 use Rattle.heap_core.specs.declared.chunk.Gap.{Gap}
 use Rattle.heap_core.specs.HeapStore.{Block, end_of, gap_between, gaps_from, LieInOrder}
-use Rattle.heap_core.specs.Code.Chunks.{shortest, least_len, Tell, AreJoined, with_chunk, blocks_in, is_a_name, is_named}
+use Rattle.heap_core.specs.Chunks.{shortest, least_len, Tell, AreJoined, with_chunk, blocks_in, is_a_name, is_named}
 use Rattle.heap_core.specs.Code.Walks.{block_in_chunk}
 use Rattle.heap_core.proofs.Freed.{owner_named}
 use Rattle.heap_core.proofs.Gaps.{last_end}

@@ -3,8 +3,8 @@ use Rattle.std.proofs.Common.{◌≡◌, ◌≢◌, ℕ, ◌+◌, ◌≤◌, ◌
 use Rattle.std.specs.Prelude.{All, Option, Some, None, IfSome}
 use Rattle.std.proofs.lemmas.List.Elements.{All-head, All-tail}
 use Rattle.heap_core.specs.declared.chunk.Chunk.{Chunk}
-use Rattle.heap_core.specs.Code.Chunks.{least_len, Tell}
-use Rattle.heap_core.specs.Code.Walks.{Stands, LiveIn}
+use Rattle.heap_core.specs.Chunks.{least_len, Tell}
+use Rattle.heap_core.specs.FreeList.{Stands, LiveIn}
 use Rattle.heap_core.proofs.Told.{place_told, told_le}
 
 abbrev pub In : Chunk → List Chunk → Type 0

@@ -7,7 +7,7 @@ use Rattle.std.proofs.lemmas.List.{length-append}
 use Rattle.std.proofs.lemmas.List.Elements.{filter-append}
 use Rattle.heap_core.specs.declared.chunk.Chunk.{Chunk}
 use Rattle.heap_core.specs.HeapStore.{Block, has_name, placed}
-use Rattle.heap_core.specs.Code.Chunks.{with_chunk, blocks_in}
+use Rattle.heap_core.specs.Chunks.{with_chunk, blocks_in}
 use Rattle.heap_core.specs.Code.Walks.{is_owner, owned_by, Owned, block_in_chunk}
 use Rattle.heap_core.proofs.Told.{owner_cases}
 use Rattle.heap_core.proofs.Blocks.{count}

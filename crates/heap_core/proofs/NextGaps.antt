@@ -4,9 +4,10 @@ use Rattle.std.specs.Prelude.{Option, None}
 use Rattle.std.proofs.lemmas.List.{append_assoc, append-nil}
 use Rattle.heap_core.specs.declared.chunk.Chunk.{Chunk}
 use Rattle.heap_core.specs.declared.region.Region.{Region}
-use Rattle.heap_core.specs.Code.Chunks.{chunk_at, Tell}
-use Rattle.heap_core.specs.Code.Layout.{chunks_of, HasChunks}
-use Rattle.heap_core.specs.Code.Links.{LinkedTo, gaps_among, gap_from}
+use Rattle.heap_core.specs.Chunks.{chunk_at, Tell}
+use Rattle.heap_core.specs.Layout.{chunks_of, HasChunks}
+use Rattle.heap_core.specs.FreeList.{LinkedTo, gaps_among}
+use Rattle.heap_core.specs.Code.Links.{gap_from}
 use Rattle.heap_core.specs.Code.Walks.{gap_of, front_gap}
 use Rattle.heap_core.proofs.Lists.{linked_parted, linked_gap, linked_live, ends_of}
 use Rattle.heap_core.proofs.Standing.{Around, around}

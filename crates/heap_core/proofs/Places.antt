@@ -9,9 +9,9 @@ use Rattle.heap_core.specs.declared.chunk.Chunk.{Chunk}
 use Rattle.heap_core.specs.declared.chunk.Place.{Place}
 use Rattle.heap_core.specs.declared.region.Region.{Region}
 use Rattle.heap_core.specs.HeapStore.{Block, HeapStore, has_name, find_block, placed, with_block, without_block, block_at}
-use Rattle.heap_core.specs.Code.Chunks.{chunk_at, chunks_from, Tell, AreJoined}
-use Rattle.heap_core.specs.Code.Layout.{chunks_of, HasChunks}
-use Rattle.heap_core.specs.Code.Places.{place_found, ArePlaced}
+use Rattle.heap_core.specs.Chunks.{chunk_at, chunks_from, Tell, AreJoined}
+use Rattle.heap_core.specs.Layout.{chunks_of, HasChunks}
+use Rattle.heap_core.specs.Places.{place_found, ArePlaced}
 use Rattle.heap_core.specs.Code.Walks.{owned_by, block_in_chunk}
 use Rattle.heap_core.proofs.Stored.{IsStored}
 use Rattle.heap_core.proofs.Names.{find_is, owned}

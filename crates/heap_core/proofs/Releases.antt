@@ -9,10 +9,11 @@ use Rattle.arena_core.specs.declared.span.Span.{Span}
 use Rattle.heap_core.specs.declared.chunk.Chunk.{Chunk}
 use Rattle.heap_core.specs.declared.region.Region.{Region}
 use Rattle.heap_core.specs.HeapStore.{Block, HeapStore}
-use Rattle.heap_core.specs.Code.Chunks.{shortest, chunk_at, Tell, BeginsLive, AreJoined, with_chunk, blocks_in}
-use Rattle.heap_core.specs.Code.Layout.{chunks_of, HasChunks, store_of}
-use Rattle.heap_core.specs.Code.Links.{gaps_among, gap_count, Exchanged}
-use Rattle.heap_core.specs.Code.Walks.{LiveIn, free_behind, free_from, gap_of, front_gap, without_place}
+use Rattle.heap_core.specs.Chunks.{shortest, chunk_at, Tell, BeginsLive, AreJoined, with_chunk, blocks_in}
+use Rattle.heap_core.specs.Layout.{chunks_of, HasChunks, store_of}
+use Rattle.heap_core.specs.FreeList.{gaps_among, LiveIn}
+use Rattle.heap_core.specs.Code.Links.{gap_count, Exchanged}
+use Rattle.heap_core.specs.Code.Walks.{free_behind, free_from, gap_of, front_gap, without_place}
 use Rattle.heap_core.proofs.Lists.{gaps_append, gaps_counted, count_some, count_none, gap_first, live_first, link_gap}
 use Rattle.heap_core.proofs.Members.{In, in_of, in_left, in_right, in_cases, in_without, in_skip, stands_of}
 use Rattle.heap_core.proofs.Told.{place_told, told_le, blocks_append, owner_cases, changes_more}

@@ -6,10 +6,10 @@ use Rattle.arena_core.specs.Outside.{ChangesOnly}
 use Rattle.heap_core.specs.declared.chunk.Chunk.{Chunk}
 use Rattle.heap_core.specs.declared.region.Region.{Region}
 use Rattle.heap_core.specs.HeapStore.{HeapStore}
-use Rattle.heap_core.specs.Code.Chunks.{chunk_at, Tell, AreJoined, blocks_in}
-use Rattle.heap_core.specs.Code.Layout.{chunks_of, store_of, HasChunks}
-use Rattle.heap_core.specs.Code.Links.{LinkedTo, gaps_among, last_of}
-use Rattle.heap_core.specs.Code.Walks.{Stands, LiveIn}
+use Rattle.heap_core.specs.Chunks.{chunk_at, Tell, AreJoined, blocks_in}
+use Rattle.heap_core.specs.Layout.{chunks_of, store_of, HasChunks}
+use Rattle.heap_core.specs.FreeList.{LinkedTo, gaps_among, Stands, LiveIn}
+use Rattle.heap_core.specs.Code.Links.{last_of}
 use Rattle.heap_core.proofs.Gaps.{none_in_front}
 use Rattle.heap_core.proofs.Lists.{gaps_counted, gap_first, linked_append, linked_again, last_gap}
 use Rattle.heap_core.proofs.Members.{live_exchanged}

@@ -7,9 +7,10 @@ use Rattle.heap_core.specs.declared.chunk.Chunk.{Chunk}
 use Rattle.heap_core.specs.declared.chunk.Gap.{Gap}
 use Rattle.heap_core.specs.declared.region.Region.{Region}
 use Rattle.heap_core.specs.HeapStore.{shorter, best_gap, gaps}
-use Rattle.heap_core.specs.Code.Chunks.{chunk_at}
-use Rattle.heap_core.specs.Code.Layout.{chunks_of, HasChunks, store_of}
-use Rattle.heap_core.specs.Code.Links.{LinkedTo, Follow, gaps_from_place}
+use Rattle.heap_core.specs.Chunks.{chunk_at}
+use Rattle.heap_core.specs.Layout.{chunks_of, HasChunks, store_of}
+use Rattle.heap_core.specs.FreeList.{LinkedTo}
+use Rattle.heap_core.specs.Code.Links.{Follow, gaps_from_place}
 use Rattle.heap_core.proofs.Gaps.{better_chunk, better_same, gaps_are}
 use Rattle.heap_core.proofs.Lists.{NextGap, walk_begins, next_gap, no_gap}
 use Rattle.heap_core.proofs.Told.{place_told}

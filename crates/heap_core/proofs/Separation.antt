@@ -9,8 +9,8 @@ use Rattle.heap_core.specs.declared.region.Region.{Region}
 use Rattle.heap_core.specs.HeapStore.{Block, find_block}
 use Rattle.heap_core.specs.HeapBytes.{heap_of, IsLaidOut}
 use Rattle.heap_core.specs.Separation.{extent_of, bytes_behind_header, BlocksLieApart}
-use Rattle.heap_core.specs.Code.Chunks.{Tell}
-use Rattle.heap_core.specs.Code.Layout.{chunks_of, store_of}
+use Rattle.heap_core.specs.Chunks.{Tell}
+use Rattle.heap_core.specs.Layout.{chunks_of, store_of}
 use Rattle.heap_core.specs.Code.Walks.{owned_by, Owned, block_in_chunk}
 use Rattle.heap_core.proofs.Bodies.{a, block_bytes}
 use Rattle.heap_core.proofs.Members.{In, in_of, in_told}

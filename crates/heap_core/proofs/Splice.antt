@@ -5,8 +5,8 @@ use Rattle.std.proofs.lemmas.Bool.{lt-ltb, le-ltb}
 use Rattle.arena_core.specs.Outside.{ChangesOnly}
 use Rattle.heap_core.specs.declared.chunk.Chunk.{Chunk}
 use Rattle.heap_core.specs.declared.region.Region.{Region}
-use Rattle.heap_core.specs.Code.Chunks.{chunks_from, Tell, BeginsLive, IsWhole, AreJoined, blocks_in}
-use Rattle.heap_core.specs.Code.Layout.{chunks_of, HasChunks}
+use Rattle.heap_core.specs.Chunks.{chunks_from, Tell, BeginsLive, IsWhole, AreJoined, blocks_in}
+use Rattle.heap_core.specs.Layout.{chunks_of, HasChunks}
 use Rattle.heap_core.specs.Code.Walks.{laid}
 use Rattle.heap_core.proofs.Told.{told_le, told_append, told_frame, blocks_frame, blocks_append, walked}
 

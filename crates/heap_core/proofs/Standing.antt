@@ -2,9 +2,10 @@
 use Rattle.std.proofs.Common.{◌≡◌, ℕ, ◌+◌, ◌≤◌, List, ◌∷◌, ◌++◌, refl, sym, ap, ◌∙◌, subst, arith}
 use Rattle.heap_core.specs.declared.chunk.Chunk.{Chunk}
 use Rattle.heap_core.specs.declared.region.Region.{Region}
-use Rattle.heap_core.specs.Code.Chunks.{least_len, chunk_at, Tell}
-use Rattle.heap_core.specs.Code.Layout.{chunks_of, HasChunks}
-use Rattle.heap_core.specs.Code.Walks.{Stands, chunks_before, chunks_behind}
+use Rattle.heap_core.specs.Chunks.{least_len, chunk_at, Tell}
+use Rattle.heap_core.specs.Layout.{chunks_of, HasChunks}
+use Rattle.heap_core.specs.FreeList.{Stands}
+use Rattle.heap_core.specs.Code.Walks.{chunks_before, chunks_behind}
 use Rattle.heap_core.proofs.Told.{place_told, told_le, told_split, walked}
 
 pub record Around (header : ℕ) (B : List ℕ) (b end : ℕ) (chunk : Chunk) (chunks : List Chunk) : Type 0 where

@@ -1,7 +1,7 @@
 -- A walk over the chunks: where it stands, and its next step.
 use Rattle.std.proofs.Common.{◌≡◌, ℕ, ◌+◌, ◌≤◌, ◌<◌, List, [], ◌∷◌, refl, sym, ap, ◌∙◌, subst, arith}
 use Rattle.heap_core.specs.declared.chunk.Chunk.{Chunk}
-use Rattle.heap_core.specs.Code.Chunks.{least_len, chunk_at, Tell}
+use Rattle.heap_core.specs.Chunks.{least_len, chunk_at, Tell}
 use Rattle.heap_core.specs.declared.region.Region.{Region}
 use Rattle.heap_core.specs.Code.Walks.{chunks_between}
 use Rattle.heap_core.proofs.Told.{place_told, told_le, walked}

@@ -6,9 +6,9 @@ use Rattle.std.proofs.lemmas.Bool.{cases_Bool, eqb-true, lt-ltb, ltb-true, false
 use Rattle.heap_core.specs.declared.region.Region.{Region}
 use Rattle.heap_core.specs.HeapStore.{Block, has_name}
 use Rattle.heap_core.specs.HeapBytes.{IsLaidOut}
-use Rattle.heap_core.specs.Code.Chunks.{is_named}
-use Rattle.heap_core.specs.Code.Layout.{store_of, HasChunks}
-use Rattle.heap_core.specs.Code.Places.{ArePlaced}
+use Rattle.heap_core.specs.Chunks.{is_named}
+use Rattle.heap_core.specs.Layout.{store_of, HasChunks}
+use Rattle.heap_core.specs.Places.{ArePlaced}
 
 -- the headers in the heap's span tell chunks, each name has one at most, and the table tells where it is
 pub record IsStored (heap : Region) (bytes : List ℕ) : Type 0 where

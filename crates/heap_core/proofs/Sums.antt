@@ -7,8 +7,8 @@ use Rattle.heap_core.specs.declared.chunk.Chunk.{Chunk}
 use Rattle.heap_core.specs.declared.region.Region.{Region}
 use Rattle.heap_core.specs.HeapStore.{Block, footprint, stats_of, LieInOrder}
 use Rattle.heap_core.specs.HeapBytes.{heap_of}
-use Rattle.heap_core.specs.Code.Chunks.{is_a_name, Tell}
-use Rattle.heap_core.specs.Code.Layout.{chunks_of, HasChunks}
+use Rattle.heap_core.specs.Chunks.{is_a_name, Tell}
+use Rattle.heap_core.specs.Layout.{chunks_of, HasChunks}
 use Rattle.heap_core.specs.Code.Walks.{block_in_chunk}
 use Rattle.heap_core.proofs.Freed.{owner_named}
 use Rattle.heap_core.proofs.Gaps.{last_end}

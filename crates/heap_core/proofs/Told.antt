@@ -7,7 +7,7 @@ use Rattle.std.proofs.lemmas.Bool.{lt-ltb, le-ltb}
 use Rattle.arena_core.specs.Outside.{ChangesOnly}
 use Rattle.heap_core.specs.declared.chunk.Chunk.{Chunk}
 use Rattle.heap_core.specs.HeapStore.{Block}
-use Rattle.heap_core.specs.Code.Chunks.{is_a_name, word_at, number_in, owner_in, size_in, link_in, chunk_at, chunks_from, least_len, Tell, with_chunk, blocks_in}
+use Rattle.heap_core.specs.Chunks.{is_a_name, word_at, number_in, owner_in, size_in, link_in, chunk_at, chunks_from, least_len, Tell, with_chunk, blocks_in}
 
 -- a chunk as the bytes of three words tell it
 abbrev pub told_chunk : ℕ → List ℕ → List ℕ → List ℕ → Chunk

@@ -5,9 +5,10 @@ use Rattle.std.specs.Option.{option_map}
 use Rattle.std.proofs.lemmas.Bool.{lt-ltb, le-ltb, le-leb, lt-leb, cases_Bool}
 use Rattle.heap_core.specs.declared.chunk.Chunk.{Chunk}
 use Rattle.heap_core.specs.declared.region.Region.{Region}
-use Rattle.heap_core.specs.Code.Chunks.{least_len, chunk_at, Tell}
-use Rattle.heap_core.specs.Code.Layout.{chunks_of, HasChunks}
-use Rattle.heap_core.specs.Code.Links.{gaps_among, LinkedTo, Follow, lower, higher, gap_below, gap_from, gaps_from_place}
+use Rattle.heap_core.specs.Chunks.{least_len, chunk_at, Tell}
+use Rattle.heap_core.specs.Layout.{chunks_of, HasChunks}
+use Rattle.heap_core.specs.FreeList.{gaps_among, LinkedTo}
+use Rattle.heap_core.specs.Code.Links.{Follow, lower, higher, gap_below, gap_from, gaps_from_place}
 use Rattle.heap_core.proofs.Lists.{gap_first, live_first, walk_begins, next_gap, no_gap, followed, NextGap}
 use Rattle.heap_core.proofs.Told.{place_told, owner_cases}
 

@@ -4,10 +4,10 @@ use Rattle.arena_core.specs.Contents.{Contents}
 use Rattle.arena_core.specs.Outside.{ChangesOnly}
 use Rattle.heap_core.specs.declared.heap.Heap.{Heap}
 use Rattle.heap_core.specs.HeapStore.{HeapStore, has_name}
-use Rattle.heap_core.specs.Code.Chunks.{is_named}
-use Rattle.heap_core.specs.Code.Layout.{store_of, HasChunks}
-use Rattle.heap_core.specs.Code.Links.{GapsLinked, FreedLinked}
-use Rattle.heap_core.specs.Code.Places.{ArePlaced}
+use Rattle.heap_core.specs.Chunks.{is_named}
+use Rattle.heap_core.specs.Layout.{store_of, HasChunks}
+use Rattle.heap_core.specs.FreeList.{GapsLinked, FreedLinked}
+use Rattle.heap_core.specs.Places.{ArePlaced}
 
 -- The live blocks and where they lie; a chunk that was freed is none of them. Of the arena's bytes it reads the span's alone.
 abbrev pub heap_of : Heap → List ℕ → HeapStore
@@ -26,7 +26,8 @@ pub record IsLaidOut (heap : Heap) (bytes : List ℕ) : Type 0 where
   pub gaps : GapsLinked heap bytes
   pub freed : FreedLinked heap bytes
 
--- how many chunks the free list has: those that were freed and are not joined yet, and behind them the gaps
+-- how many chunks the free list has: those that were freed and are not joined yet, and behind them the gaps. These are all
+-- free chunks (`linked`)
 abbrev pub linked_of : Heap → ℕ
 linked_of heap = heap.freed + heap.gaps
 

@@ -1,6 +1,10 @@
 -- what a reader must believe
+pub mod Chunks
+pub mod FreeList
 pub mod HeapBytes
 pub mod HeapStore
+pub mod Layout
+pub mod Places
 pub mod Separation
 -- the code's own invariants
 pub mod Code

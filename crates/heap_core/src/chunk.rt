@@ -4,7 +4,7 @@ ghost use Rattle.std.specs.Prelude.{◌≡◌, ◌≤◌, ◌<◌, IfSome, is_no
 ghost use Rattle.std.specs.Option.{option_map_or};
 ghost use Rattle.mote_types.specs.Rounding.{up4};
 ghost use Rattle.heap_core.specs.HeapStore.{least_room, room_taken, shorter};
-ghost use Rattle.heap_core.specs.Code.Chunks.{number_in, owner_in, size_in, is_a_name};
+ghost use Rattle.heap_core.specs.Chunks.{number_in, owner_in, size_in, is_a_name};
 ghost use Rattle.heap_core.specs.Code.Links.{gap_count};
 
 /// The owner of a chunk that was freed and is not joined yet. No name has that number.

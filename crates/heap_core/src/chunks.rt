@@ -21,7 +21,7 @@ pub struct Chunks<'a> {
 impl<'a> Model for Chunks<'a> {
     ghost use Rattle.std.specs.Prelude.{List, length, ◌+◌, ◌≤◌};
     ghost use Rattle.heap_core.specs.declared.chunk.Chunk.{Chunk as OfChunks};
-    ghost use Rattle.heap_core.specs.Code.Chunks.{Tell};
+    ghost use Rattle.heap_core.specs.Chunks.{Tell};
     ghost use Rattle.heap_core.specs.Code.Walks.{chunks_between};
 
     ghost Value = { List OfChunks };
@@ -51,7 +51,7 @@ impl<'a> Iterator for Chunks<'a> {
 }
 
 impl Region {
-    ghost use Rattle.heap_core.specs.Code.Layout.{chunks_of, HasChunks};
+    ghost use Rattle.heap_core.specs.Layout.{chunks_of, HasChunks};
 
     /// All chunks.
     pub(crate) fn chunks<'a>(&'a self, arena: &'a Arena) -> Chunks<'a>

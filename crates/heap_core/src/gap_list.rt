@@ -2,7 +2,8 @@
 
 ghost use Rattle.std.specs.Prelude.{◌≡◌};
 ghost use Rattle.std.specs.Option.{option_map};
-ghost use Rattle.heap_core.specs.Code.Links.{gaps_among, gap_below, gap_from};
+ghost use Rattle.heap_core.specs.FreeList.{gaps_among, LinkedTo};
+ghost use Rattle.heap_core.specs.Code.Links.{gap_below, gap_from};
 
 use crate::chunk::Chunk;
 use crate::region::Region;
@@ -18,8 +19,7 @@ pub struct Beside {
 }
 
 impl Region {
-    ghost use Rattle.heap_core.specs.Code.Layout.{chunks_of, HasChunks};
-    ghost use Rattle.heap_core.specs.Code.Links.{LinkedTo};
+    ghost use Rattle.heap_core.specs.Layout.{chunks_of, HasChunks};
     ghost use Rattle.std.specs.Prelude.{None};
 
     /// The gaps beside a place.

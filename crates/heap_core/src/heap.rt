@@ -27,6 +27,7 @@ impl Model for Heap {
 }
 
 impl Heap {
+    ghost use Rattle.heap_core.specs.FreeList.{free_chunks};
     ghost use Rattle.heap_core.specs.HeapBytes.{heap_of, IsWithin, IsLaidOut, linked_of, KeepsToSpan};
     ghost use Rattle.heap_core.specs.Separation.{BlocksLieApart};
 
@@ -155,10 +156,12 @@ impl Heap {
         self.region.stats(arena)
     }
 
-    /// The length of the free list: the chunks that were freed and are not joined yet, and behind them the gaps. `free` adds 1
-    /// to it; after each `alloc`, refused or not, it is the number of gaps below the top gap.
+    /// The length of the free list: the chunks that were freed and are not joined yet, and behind them the gaps. These are all
+    /// chunks but the live blocks. `free` adds 1 to it; after each `alloc`, refused or not, it is the number of gaps below the
+    /// top gap.
     pub fn linked(&self) -> u32
-        ensures { result ≡ linked_of self.now }
+        ensures value { result ≡ linked_of self.now }
+        ensures free { (bytes : List ℕ) → IsLaidOut self.now bytes → result ≡ length (free_chunks self.now bytes) }
     {
         self.region.freed as u32 + self.region.gaps as u32
     }

@@ -1,11 +1,12 @@
 //! The steps of a call that change which chunks there are.
 
-ghost use Rattle.std.specs.Prelude.{◌≡◌, ◌≢◌, ℕ, ◌+◌, ◌-◌, length, ◌≤◌, ◌<◌, true, Some, None, IfSome, IfNone, OnSome};
+ghost use Rattle.std.specs.Prelude.{◌≡◌, ◌≢◌, ◌+◌, ◌-◌, length, ◌≤◌, ◌<◌, true, Some, None, IfSome, IfNone, OnSome};
 ghost use Rattle.std.specs.Option.{option_map};
 ghost use Rattle.mote_types.specs.Bytes.{resized};
 ghost use Rattle.heap_core.specs.HeapStore.{place, with_block, block_at, room_in_place};
-ghost use Rattle.heap_core.specs.Code.Chunks.{is_a_name};
-ghost use Rattle.heap_core.specs.Code.Walks.{Stands, LiveIn, Owned, free_from, front_gap, chunks_before, chunks_behind, bytes_given, without_place, place_in_chunk, at_place, bytes_in_chunk};
+ghost use Rattle.heap_core.specs.Chunks.{is_a_name};
+ghost use Rattle.heap_core.specs.FreeList.{Stands, LiveIn, LinkedTo, gaps_among, GapsLinked, FreedLinked};
+ghost use Rattle.heap_core.specs.Code.Walks.{Owned, free_from, front_gap, chunks_before, chunks_behind, bytes_given, without_place, place_in_chunk, at_place, bytes_in_chunk};
 
 use crate::chunk::{Chunk, FREED, FreeEnd, Place, gap_count};
 use crate::region::Region;
@@ -13,8 +14,8 @@ use arena_core::Arena;
 
 impl Region {
     ghost use Rattle.heap_core.specs.declared.chunk.Chunk.{Chunk as OfChunks};
-    ghost use Rattle.heap_core.specs.Code.Layout.{chunks_of, store_of, HasChunks};
-    ghost use Rattle.heap_core.specs.Code.Links.{LinkedTo, gaps_among, gap_count, gap_below, gap_from, GapsLinked, FreedLinked, Relinked, Exchanged, KeepsFreed};
+    ghost use Rattle.heap_core.specs.Layout.{chunks_of, store_of, HasChunks};
+    ghost use Rattle.heap_core.specs.Code.Links.{gap_count, gap_below, gap_from, Relinked, Exchanged, KeepsFreed};
     ghost use Rattle.heap_core.specs.Code.Holes.{Hole, Fits, Laid, Free};
     ghost use Rattle.heap_core.specs.HeapBytes.{heap_of, KeepsToSpan};
     ghost use Rattle.heap_core.specs.Code.Joins.{Joins};

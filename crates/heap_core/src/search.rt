@@ -2,7 +2,8 @@
 
 ghost use Rattle.std.specs.Prelude.{◌≡◌, ◌≢◌, ◌≤◌, ◌<◌, ◌+◌, find, Some, None, IsSome};
 ghost use Rattle.heap_core.specs.HeapStore.{stats_of, find_block, best_gap, gaps, place, room_in_place};
-ghost use Rattle.heap_core.specs.Code.Walks.{owned_by, Owned, block_in_chunk, chunks_before, chunks_behind, free_from, Stands, front_gap, place_in_chunk};
+ghost use Rattle.heap_core.specs.FreeList.{Stands, LinkedTo, gaps_among};
+ghost use Rattle.heap_core.specs.Code.Walks.{owned_by, Owned, block_in_chunk, chunks_before, chunks_behind, free_from, front_gap, place_in_chunk};
 
 use crate::chunk::{Chunk, Gap, Place, is_gap, is_live, least_room, room_taken, shorter};
 use crate::region::Region;
@@ -10,8 +11,8 @@ use arena_core::Arena;
 use mote_types::reply::HeapStats;
 
 impl Region {
-    ghost use Rattle.heap_core.specs.Code.Layout.{chunks_of, store_of, HasChunks};
-    ghost use Rattle.heap_core.specs.Code.Links.{LinkedTo, gaps_among, gap_below, gap_from};
+    ghost use Rattle.heap_core.specs.Layout.{chunks_of, store_of, HasChunks};
+    ghost use Rattle.heap_core.specs.Code.Links.{gap_below, gap_from};
     ghost use Rattle.heap_core.specs.HeapBytes.{heap_of, IsLaidOut};
 
     /// The chunk of a name's block.

@@ -6,7 +6,7 @@ use Rattle.std.specs.List.{IsDistinct, AllByRecursion}
 use Rattle.mote_types.specs.declared.event.Event.{Event}
 use Rattle.mote_types.specs.declared.event.Stimulus.{Stimulus}
 use Rattle.mote_types.specs.declared.event.Origin.{Origin}
-use Rattle.mote_types.specs.declared.event.TheConstants.{EXITED}
+use Rattle.mote_types.specs.EventNumbers.{EXITED}
 use Rattle.mote_types.specs.Codes.{number_event}
 use Rattle.process_core.specs.Agenda.{Queued, Item, Job}
 use Rattle.process_core.specs.declared.process.Process.{Process}

@@ -2,7 +2,8 @@
 use Rattle.std.proofs.Common.{◌≡◌, ℕ, ◌≤◌, ◌<◌, Bool, true, false, ◌||◌, List, [], ◌∷◌, ◌++◌, refl, arith, All}
 use Rattle.std.proofs.lemmas.List.Elements.{All-append, All-nil, All-cons, All-head, All-tail}
 use Rattle.std.specs.Prelude.{map, ◌==◌}
-use Rattle.process_core.specs.Agenda.{Queued, event_carrying}
+use Rattle.process_core.specs.Agenda.{Queued}
+use Rattle.kernel_core.specs.Code.Carrying.{event_carrying}
 use Rattle.timer_core.specs.Armings.{Armings, is_present_arming, present_arming}
 use Rattle.kernel_core.specs.Code.Draws.{IsFit, HasFitEvents}
 use Rattle.kernel_core.specs.Expiries.{struck_if, strike_out}

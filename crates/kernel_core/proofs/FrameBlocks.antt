@@ -8,7 +8,6 @@ use Rattle.std.proofs.lemmas.Map.Keys.{IsDistinct-head}
 use Rattle.mote_types.specs.declared.call.Call.{Call}
 use Rattle.device_core.specs.declared.frame.Frame.{Frame}
 use Rattle.mote_types.specs.BlockNames.{number_of}
-use Rattle.mote_types.specs.declared.block_name.TheConstants.{NAMES}
 use Rattle.node_memory.specs.Frames.{frame_block, frame_in, frame_taken, frame_dropped}
 use Rattle.node_memory.specs.Memory.{Memory, fresh_memory}
 use Rattle.node_memory.specs.declared.sizes.Sizes.{Sizes}
@@ -138,7 +137,7 @@ none_has slot [] apart = refl
 none_has slot (frame ∷ frames) apart = grind (arith, apart.0, none_has slot frames apart.1)
 
 -- the front frame was dropped
-module _ (slot : ℕ) (old new : Memory) (below : slot < 8) (count : length old.managed.blocks ≡ NAMES) (dropped : new ≡ frame_dropped slot old)
+module _ (slot : ℕ) (old new : Memory) (below : slot < 8) (count : length old.managed.blocks ≡ 272) (dropped : new ≡ frame_dropped slot old)
     (leaves : LeavesOthers (Some (frame_block slot)) old new) where
   gone_here : frame_in slot new ≡ None
   gone_here = ap (frame_in slot) dropped ∙ get_or-set_same old.managed.blocks (number_of 3 slot) None None (omega (arith, count, below))
@@ -161,6 +160,6 @@ module _ (slot : ℕ) (old new : Memory) (below : slot < 8) (count : length old.
 -- fresh memory holds no frame
 pub no_frames : (sizes : Sizes) → HoldsFrames (fresh_memory sizes) []
 no_frames sizes = record {
-  names = length-replicate {A = Option (List ℕ)} NAMES None;
-  live = λ slot below. ap is_some (get_or-replicate NAMES (number_of 3 slot) None None (omega (arith, below)));
+  names = length-replicate {A = Option (List ℕ)} 272 None;
+  live = λ slot below. ap is_some (get_or-replicate 272 (number_of 3 slot) None None (omega (arith, below)));
 }

@@ -1,7 +1,7 @@
 -- The free places of the event queue.
 use Rattle.std.proofs.Common.{◌≡◌, suc, ◌+◌, true, false, length, arith}
 use Rattle.std.proofs.lemmas.List.{length-map}
-use Rattle.process_core.specs.Agenda.{event_carrying}
+use Rattle.kernel_core.specs.Code.Carrying.{event_carrying}
 use Rattle.process_core.specs.Scheduler.{has_room}
 use Rattle.kernel_core.specs.declared.fields.KernelFields.{KernelFields}
 use Rattle.kernel_core.specs.Machine.{free_places}

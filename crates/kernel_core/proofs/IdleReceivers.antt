@@ -5,7 +5,7 @@ use Rattle.std.proofs.lemmas.Bool.Decides.{nat_tests}
 use Rattle.mote_types.specs.declared.event.Event.{Event}
 use Rattle.mote_types.specs.declared.event.Origin.{Origin}
 use Rattle.mote_types.specs.declared.event.Stimulus.{Stimulus}
-use Rattle.mote_types.specs.declared.event.TheConstants.{POLL, CONTINUE, EXITED}
+use Rattle.mote_types.specs.EventNumbers.{POLL, CONTINUE, EXITED}
 use Rattle.process_core.specs.Agenda.{Item}
 use Rattle.process_core.specs.KernelReceivers.{behind_kernel_receivers, is_other_than, kernel_receivers_passed}
 use Rattle.process_core.specs.Processes.{is_any_marked, is_kernel_process}
@@ -14,7 +14,7 @@ use Rattle.kernel_core.specs.declared.fields.KernelFields.{KernelFields}
 use Rattle.kernel_core.specs.Code.Cost.{starts, present}
 use Rattle.kernel_core.specs.Code.Draws.{draws}
 use Rattle.kernel_core.specs.Code.View.{machine_of, none_unshown, IsInOrder}
-use Rattle.kernel_core.specs.IdleReceivers.{kernel_events}
+use Rattle.kernel_core.specs.Code.IdleReceivers.{kernel_events}
 use Rattle.kernel_core.specs.KernelProcesses.{serve}
 use Rattle.kernel_core.specs.Machine.{Machine, scheduled}
 use Rattle.kernel_core.specs.Run.{Answers, GoesSilently, silent, one_step}

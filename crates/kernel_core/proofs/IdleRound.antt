@@ -2,12 +2,13 @@
 use Rattle.std.proofs.Common.{◌≡◌, ℕ, ◌+◌, ◌==◌, Bool, true, false, refl, ap}
 use Rattle.std.specs.Prelude.{is_some}
 use Rattle.std.proofs.lemmas.List.{length-map}
-use Rattle.mote_types.specs.declared.event.TheConstants.{POLL}
+use Rattle.mote_types.specs.EventNumbers.{POLL}
 use Rattle.mote_types.specs.Codes.{plain_event}
 use Rattle.process_core.specs.Agenda.{Job}
 use Rattle.process_core.specs.Idle.{is_idle}
 use Rattle.process_core.specs.LonePoll.{unmarked, IsLonePoll}
-use Rattle.process_core.specs.Scheduler.{Scheduler, carrying}
+use Rattle.process_core.specs.Scheduler.{Scheduler}
+use Rattle.kernel_core.specs.Code.Carrying.{carrying}
 use Rattle.process_core.specs.SchedulerView.{awaiting_nothing}
 use Rattle.timer_core.specs.Timers.{first_due}
 use Rattle.kernel_core.specs.declared.fields.KernelFields.{KernelFields}

@@ -2,7 +2,7 @@
 use Rattle.std.proofs.Common.{◌≡◌, ℕ, zero, suc, ◌+◌, Bool, true, false, List, ◌∷◌, [], ◌++◌, length, refl, ap, sym, ◌∙◌, arith, Option, Some, None}
 use Rattle.std.specs.Prelude.{is_some, if◌then◌else◌}
 use Rattle.mote_types.specs.Codes.{number_event}
-use Rattle.mote_types.specs.declared.event.TheConstants.{PACKET}
+use Rattle.mote_types.specs.EventNumbers.{PACKET}
 use Rattle.process_core.specs.Agenda.{Queued}
 use Rattle.process_core.specs.Scheduler.{has_room}
 use Rattle.kernel_core.specs.declared.fields.KernelFields.{KernelFields}

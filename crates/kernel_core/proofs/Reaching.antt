@@ -1,9 +1,10 @@
 -- Jobs of the scheduler, as steps of the kernel's machine.
 use Rattle.std.proofs.Common.{◌≡◌, ℕ, false, ◌∷◌, ◌∙◌, refl, Some}
 use Rattle.mote_types.specs.declared.entry.Entry.{Entry}
-use Rattle.process_core.specs.Agenda.{Item, Job, job_carrying}
+use Rattle.process_core.specs.Agenda.{Item, Job}
+use Rattle.kernel_core.specs.Code.Carrying.{job_carrying, carrying}
 use Rattle.process_core.specs.SchedulerView.{SchedulerView}
-use Rattle.process_core.specs.Scheduler.{ComesTo, carrying}
+use Rattle.process_core.specs.Scheduler.{ComesTo}
 use Rattle.timer_core.specs.Armings.{Armings}
 use Rattle.kernel_core.specs.declared.fields.KernelFields.{KernelFields}
 use Rattle.kernel_core.specs.declared.unshown.Unshown.{Unshown}

@@ -2,8 +2,9 @@
 use Rattle.std.proofs.Common.{◌≡◌, ℕ, zero, suc, Bool, false, refl}
 use Rattle.std.specs.Prelude.{Option, Some, None}
 use Rattle.std.specs.Option.{option_map}
-use Rattle.process_core.specs.Agenda.{Job, job_carrying}
-use Rattle.process_core.specs.Scheduler.{Scheduler, job, worked, settled, carrying, ComesTo}
+use Rattle.process_core.specs.Agenda.{Job}
+use Rattle.kernel_core.specs.Code.Carrying.{job_carrying, carrying}
+use Rattle.process_core.specs.Scheduler.{Scheduler, job, worked, settled, ComesTo}
 use Rattle.kernel_core.specs.Machine.{Machine}
 use Rattle.kernel_core.specs.Run.{Answers, Silently, silent, one_step, job_done}
 use Rattle.kernel_core.proofs.Carrying.{worked-carrying, job-carrying}

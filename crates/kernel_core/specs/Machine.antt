@@ -9,7 +9,6 @@ use Rattle.kernel_core.specs.declared.config.Config.{Config}
 use Rattle.node_memory.specs.Memory.{Memory, fresh_memory}
 use Rattle.node_memory.specs.Sizes.{are_sizes}
 use Rattle.node_memory.specs.declared.sizes.Sizes.{Sizes}
-use Rattle.process_core.specs.declared.scheduler.TheConstants.{QUEUE_PLACES}
 use Rattle.process_core.specs.Agenda.{Queued, Item}
 use Rattle.process_core.specs.Scheduler.{Scheduler, at_boot, in_front, marked, posted}
 use Rattle.process_core.specs.Requests.{answered}
@@ -72,7 +71,7 @@ with_event event = scheduled (posted event)
 
 -- the places of the event queue that no event has
 abbrev pub free_places : Machine → ℕ
-free_places m = QUEUE_PLACES - length m.scheduler.events
+free_places m = 32 - length m.scheduler.events
 
 -- process p will be polled
 abbrev pub mark : ℕ → Machine → Machine

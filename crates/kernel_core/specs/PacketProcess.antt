@@ -1,7 +1,7 @@
 -- Process 3 (packet), which tells the receiver of the frames that came in.
 use Rattle.std.specs.Prelude.{ℕ, Bool, ◌&&◌, Option, Some, None, is_some, if◌then◌else◌, ◌==◌}
 use Rattle.mote_types.specs.declared.event.Event.{Event}
-use Rattle.mote_types.specs.declared.event.TheConstants.{POLL, EXITED, PACKET}
+use Rattle.mote_types.specs.EventNumbers.{POLL, EXITED, PACKET}
 use Rattle.mote_types.specs.Codes.{number_event}
 use Rattle.device_core.specs.declared.frame.Frame.{Frame}
 use Rattle.device_core.specs.PacketQueue.{PacketQueue, unannounced, with_announced, forgotten}

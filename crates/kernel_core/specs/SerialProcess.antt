@@ -2,7 +2,7 @@
 use Rattle.std.specs.Prelude.{ℕ, suc, true, false, List, Option, Some, None, if◌then◌else◌, ◌==◌, filter, length}
 use Rattle.mote_types.specs.declared.event.Event.{Event}
 use Rattle.mote_types.specs.declared.event.Payload.{Payload}
-use Rattle.mote_types.specs.declared.event.TheConstants.{POLL, CONTINUE, SERIAL_LINE}
+use Rattle.mote_types.specs.EventNumbers.{POLL, CONTINUE, SERIAL_LINE}
 use Rattle.mote_types.specs.Codes.{plain_event}
 use Rattle.device_core.specs.SerialLine.{SerialLine, is_line_end, line_of, next_line, after_line}
 use Rattle.process_core.specs.Agenda.{Queued}

@@ -2,7 +2,7 @@
 use Rattle.std.specs.Prelude.{ℕ, Bool, false, ◌&&◌, Option, Some, None, is_some, if◌then◌else◌, ◌==◌, nat_le}
 use Rattle.mote_types.specs.declared.event.Event.{Event}
 use Rattle.mote_types.specs.declared.event.Payload.{Payload}
-use Rattle.mote_types.specs.declared.event.TheConstants.{POLL, EXITED, TIMER}
+use Rattle.mote_types.specs.EventNumbers.{POLL, EXITED, TIMER}
 use Rattle.mote_types.specs.Codes.{number_event}
 use Rattle.process_core.specs.Agenda.{Queued}
 use Rattle.timer_core.specs.declared.timer.Timer.{Timer}

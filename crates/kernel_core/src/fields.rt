@@ -1,14 +1,12 @@
 //! The fields of a kernel, and how they change.
 
-ghost use Rattle.std.specs.Prelude.{◌≡◌, ◌<◌, ◌≤◌, ◌+◌, ◌-◌, ◌*◌, ◌^◌, ◌∷◌, ℕ, Bool, true, false, not, ◌||◌, None, Some, List, [], ◌++◌, length, slice_get, IfSome, eqb};
-ghost use Rattle.std.specs.List.{list_any, IsDistinct};
+ghost use Rattle.std.specs.Prelude.{◌≡◌, ◌<◌, ◌≤◌, ◌+◌, ◌-◌, ◌*◌, ◌^◌, ◌∷◌, ℕ, true, false, not, Some, List, [], ◌++◌, length, slice_get, IfSome, eqb};
+ghost use Rattle.std.specs.List.{IsDistinct};
 ghost use Rattle.mote_types.specs.Applications.{says_of};
-ghost use Rattle.mote_types.specs.Entries.{is_halt};
 ghost use Rattle.mote_types.specs.declared.event.Pid.{Pid as Process};
 ghost use Rattle.mote_types.specs.declared.event.Stimulus.{Stimulus as Told};
-ghost use Rattle.kernel_core.specs.Mote.{TakesEntry};
 ghost use Rattle.node_memory.specs.Placed.{last_owner};
-ghost use Rattle.kernel_core.specs.Code.View.{HoldsFrames, machine_of, mote_of, none_unshown, entries_left_in, IsInOrder};
+ghost use Rattle.kernel_core.specs.Code.View.{HoldsFrames, machine_of, none_unshown, entries_left_in, IsInOrder};
 ghost use Rattle.process_core.specs.Told.{job_told};
 ghost use Rattle.process_core.specs.declared.ready.Ready as ready;
 ghost use Rattle.process_core.specs.SchedulerView.{job_of, turn_of, callback_of};
@@ -17,20 +15,16 @@ ghost use Rattle.process_core.specs.Scheduler.{IsWellFormed};
 ghost use Rattle.kernel_core.specs.Code.Draws.{HasFitEvents, IsFitJob, debt, draws_of_job};
 ghost use Rattle.kernel_core.specs.Code.Cost.{IsPaid, costs, present};
 ghost use Rattle.kernel_core.specs.Code.View.{ComesToJob};
-ghost use Rattle.kernel_core.specs.Inputs.{fed, has_bytes, ticks_of};
-ghost use Rattle.kernel_core.specs.Run.{Answers, silent, is_at_rest, entry_of, GoesOn, heard, made, job_done, within_limit, turn_taken, with_more_work};
-ghost use Rattle.kernel_core.specs.Machine.{Machine};
+ghost use Rattle.kernel_core.specs.Run.{Answers, silent, is_at_rest, entry_of, heard, within_limit, turn_taken, with_more_work};
 
-use crate::step::Step;
 use crate::turn::Turn;
 use crate::unshown::Unshown;
 use device_core::packet_queue::PacketQueue;
 use device_core::serial_line::SerialLine;
 use mote_types::app::App;
 use mote_types::ask::ask;
-use mote_types::call::Call;
-use mote_types::entry::{Entry, Input};
-use mote_types::event::{ETIMER, Origin, Pid, SERIAL_PROCESS, Stimulus};
+use mote_types::entry::Entry;
+use mote_types::event::{Origin, Pid, Stimulus};
 use node_memory::NodeMemory;
 use process_core::ready::Ready;
 use process_core::scheduler::Scheduler;

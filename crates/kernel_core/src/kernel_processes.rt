@@ -3,13 +3,13 @@
 ghost use Rattle.std.specs.Prelude.{◌≡◌, ◌≤◌, ◌<◌, ◌+◌, ◌^◌, ℕ, Bool, false, IfSome, Some};
 ghost use Rattle.std.specs.Option.{option_map};
 ghost use Rattle.mote_types.specs.declared.event.Pid as pid;
-ghost use Rattle.process_core.specs.Agenda.{job_carrying};
+ghost use Rattle.kernel_core.specs.Code.Carrying.{job_carrying};
 ghost use Rattle.process_core.specs.SchedulerView.{job_of};
 ghost use Rattle.process_core.specs.Told.{served_with};
 ghost use Rattle.kernel_core.specs.Code.Cost.{present};
 ghost use Rattle.kernel_core.specs.Code.Draws.{HasFitEvents, debt, draws_of_event, draws_of_job};
 ghost use Rattle.kernel_core.specs.Code.View.{entries_left_in, machine_of, none_unshown, IsInOrder, IsServed};
-ghost use Rattle.kernel_core.specs.IdleReceivers.{idle_receivers_passed, is_wait};
+ghost use Rattle.kernel_core.specs.Code.IdleReceivers.{idle_receivers_passed, is_wait};
 ghost use Rattle.kernel_core.specs.Run.{Answers, GoesSilently, job_done, silent};
 ghost use Rattle.kernel_core.specs.KernelProcesses.{serve};
 ghost use Rattle.kernel_core.specs.TimerProcesses.{exited_application};

@@ -1,7 +1,6 @@
 //! Process 2 (serial line), which broadcasts the lines that came in.
 
-ghost use Rattle.std.specs.Prelude.{◌≡◌, true, false, suc};
-ghost use Rattle.mote_types.specs.Codes.{plain_event};
+ghost use Rattle.std.specs.Prelude.{◌≡◌, false};
 ghost use Rattle.kernel_core.specs.Code.Draws.{HasFitEvents, debt};
 ghost use Rattle.kernel_core.specs.SerialProcess as process;
 ghost use Rattle.kernel_core.specs.Code.View.{machine_of, IsServed};

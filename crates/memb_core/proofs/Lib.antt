@@ -3,5 +3,6 @@ pub mod Blocks
 pub mod Bytes
 pub mod Callers
 pub mod Chains
+mod Examples
 pub mod Linked
 pub mod Numbers

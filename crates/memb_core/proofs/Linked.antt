@@ -6,7 +6,8 @@ use Rattle.memb_core.specs.PoolTable.{PoolTable, ListHeads}
 use Rattle.memb_core.specs.declared.list_name.ListName.{ListName}
 use Rattle.memb_core.specs.BlockLists.{has_number, without, put_behind, popped}
 use Rattle.memb_core.specs.PoolBytes.{pool_of, IsWithin}
-use Rattle.memb_core.specs.Links.{start_of, with_start, link_of, list_of, all_along, Names, AreDistinct, is_used, IsLinked, AreLinked, KeepsLists, LeavesOthers}
+use Rattle.memb_core.specs.Links.{start_of, link_of, list_of, all_along, Names, AreDistinct, is_used, IsLinked, AreLinked, KeepsLists, LeavesOthers}
+use Rattle.memb_core.specs.Code.Changes.{with_start}
 use Rattle.memb_core.proofs.Blocks.{used_below}
 use Rattle.memb_core.proofs.Numbers.{has_first, has_later, has_cases, differ, at_most, left_had, distinct_left, had_behind, distinct_behind, without_head, has_no_more}
 use Rattle.memb_core.proofs.Chains.{all_along_none, all_along_is, names_agree, link_listed, names_without, names_behind}

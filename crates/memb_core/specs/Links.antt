@@ -12,11 +12,6 @@ abbrev pub start_of : ListName → ListHeads → Option ℕ
 start_of ListName.First lists = lists.first
 start_of ListName.Second lists = lists.second
 
--- the lists with another head kept for one of them
-abbrev pub with_start : ListName → Option ℕ → ListHeads → ListHeads
-with_start ListName.First start lists = record lists { first = start }
-with_start ListName.Second start lists = record lists { second = start }
-
 -- the block that a link names: 0 for none, else its number and 1
 abbrev pub named_by : ℕ → Option ℕ
 named_by word = if word == 0 then None else Some (word - 1)

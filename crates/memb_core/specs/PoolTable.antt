@@ -1,5 +1,5 @@
 -- What a pool and its lists keep besides the bytes, which lie in the arena.
-use Rattle.std.specs.Prelude.{ℕ, Bool, List, Option, slice_set}
+use Rattle.std.specs.Prelude.{ℕ, Bool, List, Option}
 use Rattle.arena_core.specs.declared.span.Span.{Span}
 
 pub record PoolTable : Type 0 where
@@ -9,10 +9,6 @@ pub record PoolTable : Type 0 where
   pub usable : ℕ
   -- of each block, by its number, whether it is used
   pub used : List Bool
-
--- block b is used from now on, or is not
-abbrev pub with_used : ℕ → Bool → PoolTable → PoolTable
-with_used b is_used pool = record pool { used = slice_set pool.used b is_used }
 
 -- the heads of the two lists
 pub record ListHeads : Type 0 where

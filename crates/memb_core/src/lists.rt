@@ -34,7 +34,8 @@ impl Model for Lists {
 impl Lists {
     ghost use Rattle.memb_core.specs.PoolTable.{PoolTable};
     ghost use Rattle.memb_core.specs.PoolBytes.{pool_of, IsWithin, KeepsToSpan};
-    ghost use Rattle.memb_core.specs.Links.{start_of, with_start, list_of, AreLinked, LeavesOthers};
+    ghost use Rattle.memb_core.specs.Links.{start_of, list_of, AreLinked, LeavesOthers};
+    ghost use Rattle.memb_core.specs.Code.Changes.{with_start};
 
     /// Two lists without a block.
     pub fn new() -> Lists

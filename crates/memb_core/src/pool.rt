@@ -39,7 +39,8 @@ impl Model for Pool {
 }
 
 impl Pool {
-    ghost use Rattle.memb_core.specs.PoolTable.{ListHeads, with_used};
+    ghost use Rattle.memb_core.specs.PoolTable.{ListHeads};
+    ghost use Rattle.memb_core.specs.Code.Changes.{with_used};
     ghost use Rattle.memb_core.specs.declared.list_name.ListName.{ListName as Name};
     ghost use Rattle.memb_core.specs.BlockLists.{has_number};
     ghost use Rattle.memb_core.specs.PoolBytes.{place_of, pool_of, IsWithin, KeepsToSpan};

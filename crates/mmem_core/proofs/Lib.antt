@@ -1,5 +1,6 @@
 mod Apart
 pub mod Callers
+mod Examples
 pub mod PlaceLemmas
 mod RingLemmas
 pub mod Shares

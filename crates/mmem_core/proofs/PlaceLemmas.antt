@@ -1,6 +1,6 @@
 -- How the places change, and what the blocks take.
 use Rattle.std.proofs.Common.{◌≡◌, ◌≢◌, ℕ, zero, suc, ◌+◌, ◌-◌, ◌≤◌, ◌<◌, ◌⊎◌, inl, inr, List, [], ◌∷◌, ◌++◌, length, get_or, slice_set, replicate, sum_by, Option, Some, None, if◌then◌else◌, ◌==◌, Bool, true, refl, sym, ap, ◌∙◌, subst, arith, zero-add, append_assoc}
-use Rattle.std.specs.Prelude.{Contains, IsSome, slice_get}
+use Rattle.std.specs.Prelude.{Contains, IsSome, IsSomeAnd, slice_get}
 use Rattle.std.specs.List.{AllByRecursion}
 use Rattle.std.proofs.lemmas.List.{get_or-set_same, get_or-set_other, append-nil}
 use Rattle.std.proofs.lemmas.List.Elements.{Contains-append_left, Contains-append_right, Contains-append_cases, Contains-push}
@@ -498,6 +498,22 @@ if_true b x y e = ap (λ c. if c then x else y) e
 room_moved-same : (p : Option Place) → room_moved p p ≡ 0
 room_moved-same None = refl
 room_moved-same (Some place) = if_true (place.at == place.at) 0 (up4 place.len) (eq-eqb place.at place.at refl)
+
+-- where a place that had no block is emptied again, all is as it was
+emptied : (xs : List (Option Place)) (i : ℕ) (p : Option Place) → place_in xs i ≡ None → slice_set (slice_set xs i p) i None ≡ xs
+emptied [] i p none = refl
+emptied (x ∷ xs) zero p none = ap (λ y. y ∷ xs) (sym none)
+emptied (x ∷ xs) (suc i) p none = ap (λ ys. x ∷ ys) (emptied xs i p none)
+
+-- a block that is put behind the last one begins where the last of the others ends
+pub begins_behind : (xs : List (Option Place)) (i n : ℕ) → i < length xs → place_in xs i ≡ None
+    → (ys : List (Option Place)) → ys ≡ slice_set xs i (Some (record { at = last_end xs; len = n }))
+    → IsSomeAnd (place_in ys i) (λ (place : Place). place.at ≡ last_end (slice_set ys i None))
+begins_behind xs i n below none ys is =
+    let fresh : Place = record { at = last_end xs; len = n } in
+    let here : place_in ys i ≡ Some fresh = ap (λ zs. place_in zs i) is ∙ place_in-set_same xs i (Some fresh) below in
+    let ends : last_end xs ≡ last_end (slice_set ys i None) = sym (ap (λ zs. last_end (slice_set zs i None)) is ∙ ap last_end (emptied xs i (Some fresh) none)) in
+    subst (λ p. IsSomeAnd p (λ (place : Place). place.at ≡ last_end (slice_set ys i None))) (sym here) ends
 
 pub bytes_moved-same : (xs : List (Option Place)) → bytes_moved xs xs ≡ 0
 bytes_moved-same [] = refl

@@ -3,7 +3,6 @@
 use Rattle.std.specs.Prelude.{◌≡◌, ℕ, ◌-◌, ◌%◌, ◌≤◌, Bool, List, [], length, replicate, get_or, slice_set, sum_by, nat_le, Option, Some, None, unwrap_or}
 use Rattle.std.specs.List.{range_with_len}
 use Rattle.std.specs.Option.{option_map, option_map_or}
-use Rattle.mote_types.specs.declared.block_name.TheConstants.{NAMES}
 use Rattle.mote_types.specs.BlockNames.{number_of}
 use Rattle.mote_types.specs.declared.refusal.Refusal.{Refusal}
 use Rattle.mote_types.specs.Rounding.{up4}
@@ -17,7 +16,7 @@ pub record ManagedStore : Type 0 where
   pub blocks : List (Option (List ℕ))
 
 abbrev pub empty_store : ℕ → Option ℕ → ManagedStore
-empty_store capacity quota = record { capacity = capacity; quota = quota; blocks = replicate NAMES None }
+empty_store capacity quota = record { capacity = capacity; quota = quota; blocks = replicate 272 None }
 
 -- the bytes of p's block, if it is live
 abbrev pub block_of : ℕ → ℕ → ManagedStore → Option (List ℕ)

@@ -1,5 +1,5 @@
 -- Where the live blocks lie in the arena. Nothing else shows it: replies are read from the map of handles to bytes.
-use Rattle.std.specs.Prelude.{◌≡◌, ◌≢◌, ℕ, ◌+◌, ◌⊎◌, List, Option, Some}
+use Rattle.std.specs.Prelude.{◌≡◌, ◌≢◌, ℕ, ◌+◌, ◌⊎◌, List, slice_set, Option, Some, None}
 use Rattle.std.specs.Option.{option_map}
 use Rattle.mote_types.specs.BlockNames.{IsName, number_of}
 use Rattle.mote_types.specs.Bytes.{range_of}
@@ -7,12 +7,16 @@ use Rattle.mote_types.specs.Rounding.{up4}
 use Rattle.arena_core.specs.Extents.{Extent, LiesIn, AreApart}
 use Rattle.mmem_core.specs.declared.place.Place.{Place}
 use Rattle.mmem_core.specs.ManagedStore.{block_of}
-use Rattle.mmem_core.specs.Places.{place_in}
+use Rattle.mmem_core.specs.Places.{place_in, last_end}
 use Rattle.mmem_core.specs.Table.{Table, store_of}
 
 -- the place of p's block in the span, if it is live
 abbrev pub place_of : ℕ → ℕ → Table → Option Place
 place_of p handle table = place_in table.places (number_of p handle)
+
+-- where the last one ends of all blocks but p's
+abbrev pub end_of_others : ℕ → ℕ → Table → ℕ
+end_of_others p handle table = last_end (slice_set table.places (number_of p handle) None)
 
 -- the part of the arena that the block at a place takes: its length, rounded up
 abbrev pub extent_of : Table → Place → Extent

@@ -5,7 +5,7 @@ ghost use Rattle.std.specs.Option.{option_map_or};
 ghost use Rattle.mote_types.specs.Rounding.{up4};
 ghost use Rattle.mote_types.specs.BlockNames as names;
 ghost use Rattle.mote_types.specs.BlockNames.{IsName};
-ghost use Rattle.mmem_core.specs.ManagedStore.{IsManagedSize, empty_store, block_of, bytes_of, length_of, unused, free, shortage, allocated, freed, with_bytes, copied};
+ghost use Rattle.mmem_core.specs.ManagedStore.{IsManagedSize, empty_store, block_of, length_of, unused, free, shortage, allocated, freed, with_bytes, copied};
 
 use crate::order::Order;
 use crate::place::{Place, rounded};
@@ -60,7 +60,7 @@ impl Model for Mmem {
 impl Mmem {
     ghost use Rattle.mmem_core.specs.Places.{bytes_moved, last_end};
     ghost use Rattle.mmem_core.specs.Table.{store_of, IsWithin, KeepsToSpan, CountsMoved};
-    ghost use Rattle.mmem_core.specs.Separation.{BlocksLieApart, place_of};
+    ghost use Rattle.mmem_core.specs.Separation.{BlocksLieApart, place_of, end_of_others};
 
     /// Managed memory without a block, over a span of 4 to 65,536 bytes, a multiple of 4.
     ///
@@ -111,6 +111,7 @@ impl Mmem {
         ensures slid { CountsMoved self.old self.new }
         ensures still { last_end self.old.places + up4 n ≤ self.old.span.len → bytes_moved self.old.places self.new.places ≡ 0 }
         ensures together { 0 < bytes_moved self.old.places self.new.places → last_end self.new.places + unused (store_of self.new arena.new.bytes) ≤ self.new.span.len }
+        ensures behind { IfSome result (λ _. IsSomeAnd (place_of key.0.0 key.1 self.new) (λ place. place.at ≡ end_of_others key.0.0 key.1 self.new)) }
         ensures last { IfSome result (λ _. IsSomeAnd (place_of key.0.0 key.1 self.new) (λ place. last_end self.new.places ≡ place.at + up4 n)) }
     {
         // Read for the check alone: a refused call leaves the count in its range.

@@ -1,7 +1,5 @@
 //! How much of managed memory each process may hold.
 
-ghost use Rattle.std.specs.Prelude.{◌≡◌};
-
 /// How much each process may hold, and which processes may hold blocks.
 #[derive(Clone, Copy, Drop)]
 pub struct Quotas {

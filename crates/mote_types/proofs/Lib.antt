@@ -1,1 +1,2 @@
 pub mod Voices
+mod SameNumbers

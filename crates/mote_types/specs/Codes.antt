@@ -3,7 +3,7 @@ use Rattle.std.specs.Prelude.{ℕ, Bool, [], ◌∷◌, ◌==◌}
 use Rattle.std.specs.List.{list_any}
 use Rattle.mote_types.specs.declared.event.Event.{Event}
 use Rattle.mote_types.specs.declared.event.Payload.{Payload}
-use Rattle.mote_types.specs.declared.event.TheConstants.{NONE, INIT, POLL, EXIT, SERVICE_REMOVED, EXITED, TIMER, SERIAL_LINE, PACKET}
+use Rattle.mote_types.specs.EventNumbers.{NONE, INIT, POLL, EXIT, SERVICE_REMOVED, EXITED, TIMER, SERIAL_LINE, PACKET}
 use Rattle.mote_types.specs.declared.refusal.Refusal.{Refusal}
 
 abbrev pub plain_event : ℕ → Event

@@ -16,7 +16,7 @@ pub const NAMES: usize = 272;
 pub fn number_of(key: Key) -> usize
     requires { IsName key.0.0 key.1 }
     ensures number { result ≡ names.number_of key.0.0 key.1 }
-    ensures within { result < NAMES }
+    ensures within { result < 272 }
 {
     (key.0.0 - 3) as usize * 16 + key.1 as usize
 }

@@ -1,5 +1,6 @@
 pub mod Apart
 pub mod Asked
+mod Examples
 pub mod FrameBlocks
 pub mod HeapAsked
 pub mod HeapOthers

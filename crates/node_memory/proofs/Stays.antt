@@ -1,8 +1,9 @@
 -- What a refused call leaves as it is and where it is.
-use Rattle.std.proofs.Common.{◌≡◌, ℕ, zero, suc, ◌+◌, List, [], ◌∷◌, map, drop, refl, ap, ◌∙◌}
+use Rattle.std.proofs.Common.{◌≡◌, ℕ, zero, suc, ◌+◌, true, List, [], ◌∷◌, map, drop, refl, ap, ◌∙◌}
 use Rattle.std.specs.Prelude.{Option, slice_get}
 use Rattle.std.specs.Option.{option_map}
 use Rattle.mote_types.specs.declared.call.Call.{Call}
+use Rattle.mote_types.specs.declared.reply.Reply.{Reply}
 use Rattle.arena_core.specs.declared.span.Span.{Span}
 use Rattle.arena_core.specs.Extents.{Extent}
 use Rattle.mmem_core.specs.Table.{Table}
@@ -16,7 +17,7 @@ use Rattle.node_memory.specs.declared.listed_pool.ListedPool.{ListedPool}
 use Rattle.node_memory.specs.ListedPools.{PoolWithLists, seen}
 use Rattle.node_memory.specs.Memory.{Memory}
 use Rattle.node_memory.specs.Placed.{PlacedMemory, contents_of, placed}
-use Rattle.node_memory.specs.Separation.{BlockName, extent_in_pool, extent_named, StaysInPlace, LeavesAll}
+use Rattle.node_memory.specs.Separation.{BlockName, extent_in_pool, extent_named, StaysInPlace, lacks_place, LeavesAll}
 use Rattle.node_memory.proofs.LaidOut.{layout_of}
 
 abbrev seen_by : List ℕ → ListedPool → PoolWithLists
@@ -45,7 +46,8 @@ module _ (table : Table) (old new : Region) (listed : List ListedPool) (before a
 pub stays : (old new : PlacedMemory) → new ≡ old → StaysInPlace old new
 stays old new e = record { contents = ap (λ (m : PlacedMemory). m.contents) e; extents = λ name. ap (λ (m : PlacedMemory). extent_named name m.layout) e }
 
-pub leaves_all : (call : Call) (old new : PlacedMemory) → new ≡ old → LeavesAll call old new
-leaves_all (Call.HeapAlloc b n) old new e = stays old new e
-leaves_all (Call.HeapRealloc b n) old new e = stays old new e
-leaves_all _ old new e = e
+pub leaves_all : (call : Call) (reply : Reply) (old new : PlacedMemory) → new ≡ old → LeavesAll call reply old new
+leaves_all call reply old new e = record { blocks = stays old new e; rest = λ _. e }
+
+pub leaves_blocks : (call : Call) (reply : Reply) (old new : PlacedMemory) → lacks_place call reply ≡ true → StaysInPlace old new → LeavesAll call reply old new
+leaves_blocks call reply old new lacks stay = record { blocks = stay; rest = λ e. absurd (cc) }

@@ -1,5 +1,5 @@
 -- A pool with its two lists, as its users see them.
-use Rattle.std.specs.Prelude.{ℕ, ◌%◌, Bool, true, false, ◌||◌, List, [], Option, Some, if◌then◌else◌, ◌==◌}
+use Rattle.std.specs.Prelude.{ℕ, ◌%◌, Bool, ◌||◌, List, [], if◌then◌else◌, ◌==◌}
 use Rattle.memb_core.specs.BlockPool.{BlockPool, unused_pool}
 use Rattle.memb_core.specs.BlockLists.{has_number}
 use Rattle.memb_core.specs.Links.{list_of}
@@ -34,12 +34,6 @@ with_blocks pool s = record s { pool = pool }
 -- whether the block is in one of the lists
 abbrev pub is_linked : ℕ → PoolWithLists → Bool
 is_linked b s = has_number b s.first || has_number b s.second
-
--- whether the list that a block is in, if it is in one, is this one
-abbrev pub is_holder : ListName → Option ListName → Bool
-is_holder ListName.First (Some ListName.First) = true
-is_holder ListName.Second (Some ListName.Second) = true
-is_holder _ _ = false
 
 -- lists 2 k and 2 k + 1 are the first and the second one of pool k
 abbrev pub list_named : ℕ → ListName

@@ -1,7 +1,9 @@
 -- Where the live blocks lie in the arena, and that a call on one block leaves every other block as it was.
-use Rattle.std.specs.Prelude.{◌≡◌, ◌≢◌, ℕ, ◌+◌, ◌≤◌, List, length, slice_get, Option, Some, None}
+use Rattle.std.specs.Prelude.{◌≡◌, ◌≢◌, ℕ, ◌+◌, ◌≤◌, Bool, true, false, List, length, slice_get, Option, Some, None}
 use Rattle.std.specs.Option.{option_map}
 use Rattle.mote_types.specs.declared.call.Call.{Call}
+use Rattle.mote_types.specs.declared.refusal.Refusal.{Refusal}
+use Rattle.mote_types.specs.declared.reply.Reply.{Reply}
 use Rattle.mote_types.specs.BlockNames.{IsName}
 use Rattle.mmem_core.specs.ManagedStore as managed
 use Rattle.heap_core.specs.HeapStore as heap
@@ -100,8 +102,18 @@ pub record StaysInPlace (old new : PlacedMemory) : Type 0 where
   pub contents : new.contents ≡ old.contents
   pub extents : (name : BlockName) → extent_named name new.layout ≡ extent_named name old.layout
 
--- What a refused call leaves: all, but that making or resizing a block of the heap may have joined what was freed there before.
-abbrev pub LeavesAll : Call → PlacedMemory → PlacedMemory → Type 0
-LeavesAll (Call.HeapAlloc b n) old new = StaysInPlace old new
-LeavesAll (Call.HeapRealloc b n) old new = StaysInPlace old new
-LeavesAll _ old new = new ≡ old
+abbrev pub is_no_room : Reply → Bool
+is_no_room (Reply.Refused Refusal.NoRoom) = true
+is_no_room _ = false
+
+-- a block of the heap could not be made or resized, since there is no place for it
+abbrev pub lacks_place : Call → Reply → Bool
+lacks_place (Call.HeapAlloc b n) reply = is_no_room reply
+lacks_place (Call.HeapRealloc b n) reply = is_no_room reply
+lacks_place _ reply = false
+
+-- What a call leaves that is refused with this reply: every block, as it is and where it is; and all else too, but where the heap
+-- lacks a place: then what was freed there before may have been joined.
+pub record LeavesAll (call : Call) (reply : Reply) (old new : PlacedMemory) : Type 0 where
+  pub blocks : StaysInPlace old new
+  pub rest : lacks_place call reply ≡ false → new ≡ old

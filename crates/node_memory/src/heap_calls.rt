@@ -7,7 +7,7 @@ ghost use Rattle.mote_types.specs.declared.reply.Reply.{Reply as Answer};
 ghost use Rattle.heap_core.specs.HeapStore as store;
 ghost use Rattle.node_memory.specs.Ask.{ask_heap, IfRefused};
 ghost use Rattle.node_memory.specs.Placed.{last_owner};
-ghost use Rattle.node_memory.specs.Separation.{StaysInPlace};
+ghost use Rattle.node_memory.specs.Separation.{LeavesAll};
 
 use crate::memory::NodeMemory;
 use crate::ranges::{LONGEST_READ, chunk_of, is_outside};
@@ -33,7 +33,7 @@ impl NodeMemory {
         requires least { 3 ≤ pid.0 }
         requires most { pid.0 ≤ 19 }
         ensures asked { ask_heap (Call.HeapAlloc block n) pid.0 self.old.contents ≡ (self.new.contents, result) }
-        ensures refused { IfRefused result (StaysInPlace self.old self.new) }
+        ensures refused { IfRefused result (LeavesAll (Call.HeapAlloc block n) result self.old self.new) }
         ensures owners { last_owner self.new ≡ last_owner self.old }
     {
         if block > LAST_HEAP_BLOCK {
@@ -56,7 +56,7 @@ impl NodeMemory {
         requires least { 3 ≤ pid.0 }
         requires most { pid.0 ≤ 19 }
         ensures asked { ask_heap (Call.HeapRealloc block n) pid.0 self.old.contents ≡ (self.new.contents, result) }
-        ensures refused { IfRefused result (StaysInPlace self.old self.new) }
+        ensures refused { IfRefused result (LeavesAll (Call.HeapRealloc block n) result self.old self.new) }
         ensures owners { last_owner self.new ≡ last_owner self.old }
     {
         if block > LAST_HEAP_BLOCK {

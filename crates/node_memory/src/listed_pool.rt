@@ -8,6 +8,7 @@ ghost use Rattle.memb_core.specs.PoolBytes.{KeepsToSpan};
 ghost use Rattle.node_memory.specs.Ask.{IfRefused};
 ghost use Rattle.node_memory.specs.ListedPools as specs;
 ghost use Rattle.node_memory.specs.ListedPools.{seen, unused_pool_of};
+ghost use Rattle.node_memory.specs.Code.ListCalls as code;
 ghost use Rattle.node_memory.specs.Code.ListCalls.{is_list_call, tells_of_list};
 ghost use Rattle.node_memory.specs.Parts.{pool_called};
 ghost use Rattle.node_memory.specs.PoolCalls.{ask_pool};
@@ -61,7 +62,7 @@ pub fn other_list(list: ListName) -> ListName
 
 /// Whether the list that a block is in, if it is in one, is this one.
 fn is_holder(list: ListName, holder: Option<ListName>) -> bool
-    ensures { result ≡ specs.is_holder list holder }
+    ensures { result ≡ code.is_holder list holder }
 {
     matches!(
         (list, holder),

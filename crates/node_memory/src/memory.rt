@@ -121,7 +121,7 @@ impl NodeMemory {
         requires asker { asking.MayAsk pid.0 call.now }
         requires owner { pid.0 ≤ last_owner self.old }
         ensures asked { asking.ask call.now pid.0 self.old.contents ≡ (self.new.contents, result) }
-        ensures refused { IfRefused result (LeavesAll call.now self.old self.new) }
+        ensures refused { IfRefused result (LeavesAll call.now result self.old self.new) }
         ensures others { LeavesOthers (changed_block call.now pid.0 self.old.contents) self.old.contents self.new.contents }
         ensures owners { last_owner self.new ≡ last_owner self.old }
     {
@@ -164,7 +164,7 @@ impl NodeMemory {
         requires asker { asking.MayAsk pid.0 call.now }
         requires part { parts.part_called call.now ≡ Some part.Part.Heap }
         ensures asked { asking.ask_heap call.now pid.0 self.old.contents ≡ (self.new.contents, result) }
-        ensures refused { IfRefused result (LeavesAll call.now self.old self.new) }
+        ensures refused { IfRefused result (LeavesAll call.now result self.old self.new) }
         ensures owners { last_owner self.new ≡ last_owner self.old }
     {
         match call {

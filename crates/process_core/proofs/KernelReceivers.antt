@@ -7,7 +7,8 @@ use Rattle.process_core.specs.declared.frame.First.{First}
 use Rattle.process_core.specs.declared.frame.Frame.{Frame}
 use Rattle.process_core.specs.KernelReceivers.{behind_kernel_receivers, is_other_than}
 use Rattle.process_core.specs.Processes.{is_kernel_process}
-use Rattle.process_core.specs.Code.Frames.{agenda_of, changed_top, on_top, receiver_items, has_receiver, from_application, past_kernel_receivers}
+use Rattle.process_core.specs.Code.Frames.{changed_top, on_top, has_receiver, from_application, past_kernel_receivers}
+use Rattle.process_core.specs.OpenWork.{agenda_of, receiver_items}
 use Rattle.process_core.specs.Code.Nesting.{IsNested, LiesOn, answering_in, leaving_in}
 use Rattle.process_core.specs.Code.SchedulerFields.{IsInOrder}
 use Rattle.process_core.proofs.Order.{order_same, with_top}

@@ -9,4 +9,5 @@ pub mod NothingLeft
 pub mod Tops
 pub mod Counting
 pub mod LonePoll
+mod Examples
 pub mod KernelReceivers

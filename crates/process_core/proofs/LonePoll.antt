@@ -2,7 +2,7 @@
 use Rattle.std.proofs.Common.{◌≡◌, ℕ, ◌<◌, ◌==◌, eqb, Bool, true, false, ◌&&◌, List, [], ◌∷◌, length, refl, arith, Some}
 use Rattle.std.specs.Prelude.{not, map}
 use Rattle.std.proofs.lemmas.Bool.Decides.{nat_tests}
-use Rattle.mote_types.specs.declared.event.TheConstants.{POLL}
+use Rattle.mote_types.specs.EventNumbers.{POLL}
 use Rattle.mote_types.specs.Codes.{plain_event}
 use Rattle.process_core.specs.declared.process.Process.{Process}
 use Rattle.process_core.specs.Agenda.{Item, Job}

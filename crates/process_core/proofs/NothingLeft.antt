@@ -9,7 +9,7 @@ use Rattle.mote_types.specs.declared.reply.Reply.{Reply}
 use Rattle.process_core.specs.declared.frame.First.{First}
 use Rattle.process_core.specs.declared.frame.Frame.{Frame}
 use Rattle.process_core.specs.Idle.{is_empty}
-use Rattle.process_core.specs.Code.Frames.{items_of, agenda_of, receiver_items}
+use Rattle.process_core.specs.OpenWork.{items_of, agenda_of, receiver_items}
 
 pub is_empty_append : {A : Type 0} (xs ys : List A) → is_empty (xs ++ ys) ≡ (is_empty xs && is_empty ys)
 is_empty_append [] ys = refl

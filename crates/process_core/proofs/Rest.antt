@@ -4,12 +4,12 @@ use Rattle.std.specs.Prelude.{if◌then◌else◌, not, ◌&&◌, is_some, map}
 use Rattle.std.specs.List.{list_any}
 use Rattle.process_core.specs.declared.frame.Frame.{Frame}
 use Rattle.process_core.specs.declared.frame.First.{First}
-use Rattle.process_core.specs.Code.Frames.{items_of, agenda_of, receiver_items, exit_items}
+use Rattle.process_core.specs.OpenWork.{items_of, agenda_of, receiver_items, exit_items}
 use Rattle.std.proofs.lemmas.List.Folds.{list_any-append}
 use Rattle.std.proofs.lemmas.Bool.Decides.{nat_tests}
 use Rattle.mote_types.specs.declared.event.Event.{Event}
 use Rattle.mote_types.specs.declared.event.Origin.{Origin}
-use Rattle.mote_types.specs.declared.event.TheConstants.{EXITED}
+use Rattle.mote_types.specs.EventNumbers.{EXITED}
 use Rattle.mote_types.specs.Codes.{number_event}
 use Rattle.mote_types.specs.declared.event.Stimulus.{Stimulus}
 use Rattle.process_core.specs.Processes.{is_kernel_process, is_on_list, is_running, is_any_marked, is_marked}

@@ -10,7 +10,8 @@ use Rattle.process_core.specs.Agenda.{Item, Job}
 use Rattle.process_core.specs.Processes.{is_any_marked}
 use Rattle.process_core.specs.Code.Frames.{changed_top, on_top, has_receiver, with_receiver, receiver_of, told_by, past_receiver, wants_polls, polled, IsBroadcast, IsDelivery}
 use Rattle.process_core.specs.Code.SchedulerFields.{scheduler_of}
-use Rattle.process_core.specs.Scheduler.{Scheduler, in_front, of_event, Yields}
+use Rattle.process_core.specs.Scheduler.{Scheduler, in_front, of_event}
+use Rattle.process_core.specs.Code.Yields.{Yields}
 use Rattle.process_core.proofs.Sound.{not_true}
 use Rattle.process_core.proofs.Yields.{unpolled_yields}
 

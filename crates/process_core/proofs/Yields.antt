@@ -12,12 +12,13 @@ use Rattle.process_core.specs.declared.frame.Frame.{Frame}
 use Rattle.process_core.specs.Code.Frames.{from_marked}
 use Rattle.mote_types.specs.declared.event.Event.{Event}
 use Rattle.mote_types.specs.declared.event.Origin.{Origin}
-use Rattle.mote_types.specs.declared.event.TheConstants.{INIT, POLL}
+use Rattle.mote_types.specs.EventNumbers.{INIT, POLL}
 use Rattle.mote_types.specs.Codes.{plain_event}
 use Rattle.process_core.specs.declared.state.State.{State}
 use Rattle.process_core.specs.Processes.{is_any_marked, is_marked, with_mark, is_running, is_kernel_process}
 use Rattle.process_core.specs.Agenda.{Queued, Item, Job}
-use Rattle.process_core.specs.Scheduler.{Scheduler, worked, job, settled, Yields, in_front, of_event, first_event, state_in, job_of_give}
+use Rattle.process_core.specs.Scheduler.{Scheduler, worked, job, settled, in_front, of_event, first_event, state_in, job_of_give}
+use Rattle.process_core.specs.Code.Yields.{Yields}
 
 not_running : (state : State) → (state ≡ State.Running → ⊥) → is_running state ≡ false
 not_running State.Running h = absurd (h refl)

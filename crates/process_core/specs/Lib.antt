@@ -3,6 +3,7 @@ pub mod Agenda
 pub mod Idle
 pub mod KernelReceivers
 pub mod LonePoll
+pub mod OpenWork
 pub mod Processes
 pub mod Requests
 pub mod Scheduler

@@ -1,6 +1,6 @@
 -- A round that does nothing but poll one process of the kernel.
 use Rattle.std.specs.Prelude.{◌≡◌, ℕ, Bool, true, false, not, ◌&&◌, List}
-use Rattle.mote_types.specs.declared.event.TheConstants.{POLL}
+use Rattle.mote_types.specs.EventNumbers.{POLL}
 use Rattle.mote_types.specs.Codes.{plain_event}
 use Rattle.process_core.specs.declared.process.Process.{Process}
 use Rattle.process_core.specs.Agenda.{Job}

@@ -2,7 +2,6 @@
 use Rattle.std.specs.Prelude.{ℕ, ◌+◌, ◌<◌, ◌≡◌, [], ◌∷◌, Bool, true, false, not, ◌&&◌, List, map, filter, find, if◌then◌else◌, ◌==◌, nat_le, nat_lt}
 use Rattle.std.specs.List.{list_any}
 use Rattle.std.specs.Option.{option_map_or}
-use Rattle.mote_types.specs.declared.event.TheConstants.{FIRST_APPLICATION}
 use Rattle.process_core.specs.declared.state.State.{State}
 use Rattle.process_core.specs.declared.process.Process.{Process}
 
@@ -11,7 +10,7 @@ is_process p process = process.number == p
 
 -- the kernel's processes are 0 (etimer), 1 (ctimer), 2 (serial line) and 3 (packet)
 abbrev pub is_kernel_process : ℕ → Bool
-is_kernel_process p = nat_lt p FIRST_APPLICATION
+is_kernel_process p = nat_lt p 4
 
 abbrev pub numbers : List Process → List ℕ
 numbers list = map (λ process. process.number) list
@@ -66,12 +65,12 @@ at_first = map (λ p. record { number = p; state = State.Running; marked = false
 
 -- whether the process is an application, where there are so many
 abbrev pub is_application : ℕ → ℕ → Bool
-is_application applications p = nat_le FIRST_APPLICATION p && nat_lt p (FIRST_APPLICATION + applications)
+is_application applications p = nat_le 4 p && nat_lt p (4 + applications)
 
 abbrev pub IsApplication : ℕ → ℕ → Type 0
 IsApplication applications p = is_application applications p ≡ true
 
 -- The kernel's processes always run, and any other process on the list is an application
 pub record IsOfMote (applications : ℕ) (list : List Process) : Type 0 where
-  pub kernel : (p : ℕ) → p < FIRST_APPLICATION → state_of p list ≡ State.Running
-  pub known : (p : ℕ) → (state_of p list ≡ State.Absent → ⊥) → p < FIRST_APPLICATION + applications
+  pub kernel : (p : ℕ) → p < 4 → state_of p list ≡ State.Running
+  pub known : (p : ℕ) → (state_of p list ≡ State.Absent → ⊥) → p < 4 + applications

@@ -5,7 +5,7 @@ use Rattle.mote_types.specs.declared.event.Stimulus.{Stimulus}
 use Rattle.mote_types.specs.declared.event.Origin.{Origin}
 use Rattle.mote_types.specs.declared.reply.Reply.{Reply}
 use Rattle.mote_types.specs.declared.refusal.Refusal.{Refusal}
-use Rattle.mote_types.specs.declared.event.TheConstants.{EXITED}
+use Rattle.mote_types.specs.EventNumbers.{EXITED}
 use Rattle.mote_types.specs.Codes.{number_event, is_reserved}
 use Rattle.process_core.specs.declared.state.State.{State}
 use Rattle.process_core.specs.Processes.{numbers, without, is_on_list, is_alive, is_called, is_ending, is_application}

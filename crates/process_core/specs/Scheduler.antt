@@ -4,13 +4,12 @@ use Rattle.std.specs.List.{range_with_len, list_any, IsDistinct}
 use Rattle.mote_types.specs.declared.event.Event.{Event}
 use Rattle.mote_types.specs.declared.event.Stimulus.{Stimulus}
 use Rattle.mote_types.specs.declared.event.Origin.{Origin}
-use Rattle.mote_types.specs.declared.event.TheConstants.{FIRST_APPLICATION, MOST_APPLICATIONS, INIT, POLL, EXIT, FIRST_FREE}
+use Rattle.mote_types.specs.EventNumbers.{INIT, POLL, EXIT, FIRST_FREE}
 use Rattle.mote_types.specs.Codes.{plain_event}
-use Rattle.process_core.specs.declared.scheduler.TheConstants.{QUEUE_PLACES}
 use Rattle.process_core.specs.declared.state.State.{State}
 use Rattle.process_core.specs.declared.process.Process.{Process}
 use Rattle.process_core.specs.Processes.{numbers, state_of, is_marked, is_any_marked, with_state, with_mark, without, is_on_list, is_running, is_kernel_process, at_first, IsOfMote}
-use Rattle.process_core.specs.Agenda.{Queued, Item, Job, event_carrying}
+use Rattle.process_core.specs.Agenda.{Queued, Item, Job}
 
 pub record Scheduler (X : Type 0) : Type 0 where
   -- how many applications there are
@@ -42,7 +41,7 @@ module _ {X : Type 0} where
 
   -- the event queue has a free place
   abbrev pub has_room : Scheduler X → Bool
-  has_room s = nat_lt (length s.events) QUEUE_PLACES
+  has_room s = nat_lt (length s.events) 32
 
   abbrev pub posted : Queued X → Scheduler X → Scheduler X
   posted event s = record s { events = s.events ++ event ∷ [] }
@@ -131,17 +130,6 @@ module _ {X : Type 0} where
   abbrev pub ComesTo : Scheduler X → Job X → Scheduler X → Type 0
   ComesTo s next after = (n : ℕ) × (job (settled n s) ≡ Some next) × (worked (settled n s) ≡ after)
 
--- the same scheduler, whose expiries carry something else
-abbrev pub carrying : {X Y : Type 0} → (ℕ → ℕ → X → Y) → Scheduler X → Scheduler Y
-carrying f s =
-    record {
-      applications = s.applications;
-      processes = s.processes;
-      events = map (event_carrying f) s.events;
-      agenda = s.agenda;
-      next_event = s.next_event;
-    }
-
 -- the process list before the applications start, and the applications that are to be started
 abbrev pub at_boot : {X : Type 0} → ℕ → Scheduler X
 at_boot applications =
@@ -149,15 +137,9 @@ at_boot applications =
       applications = applications;
       processes = at_first;
       events = [];
-      agenda = map (λ p. Item.Start p) (range_with_len FIRST_APPLICATION applications);
+      agenda = map (λ p. Item.Start p) (range_with_len 4 applications);
       next_event = FIRST_FREE;
     }
-
-module _ {X : Type 0} where
-  -- Items are worked off: up to this job where there is one, and else some that are no jobs
-  abbrev pub Yields : Scheduler X → Option (Job X) → Scheduler X → Type 0
-  Yields s None after = (n : ℕ) × (settled n s ≡ after)
-  Yields s (Some next) after = ComesTo s next after
 
 abbrev pub is_shown : Item → Bool
 is_shown (Item.Show entry) = true
@@ -165,7 +147,7 @@ is_shown _ = false
 
 -- what is true of the scheduler at any time
 pub record IsWellFormed {X : Type 0} (s : Scheduler X) : Type 0 where
-  pub few : s.applications ≤ MOST_APPLICATIONS
+  pub few : s.applications ≤ 16
   pub mote : IsOfMote s.applications s.processes
   -- no process is on the list twice
   pub distinct : IsDistinct eqb (numbers s.processes)

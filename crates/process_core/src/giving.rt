@@ -7,7 +7,8 @@ ghost use Rattle.process_core.specs.Code.Frames.{has_receiver, on_top, weight};
 ghost use Rattle.process_core.specs.SchedulerView.{job_of};
 ghost use Rattle.process_core.specs.Told.{job_told};
 ghost use Rattle.process_core.specs.Code.SchedulerFields.{scheduler_of, awaited_after, HoldsEvent, IsInOrder};
-ghost use Rattle.process_core.specs.Scheduler.{in_front, Yields};
+ghost use Rattle.process_core.specs.Scheduler.{in_front};
+ghost use Rattle.process_core.specs.Code.Yields.{Yields};
 ghost use Rattle.process_core.specs.declared.awaited.Awaited.{Awaited};
 
 use crate::awaited::Awaited;
@@ -58,7 +59,7 @@ impl SchedulerFields {
 
     /// Starts the process, unless it's on the list.
     pub fn start_one(&mut self, pid: Pid, told: &mut Stimulus) -> Option<Ready>
-        requires known { pid.0 < FIRST_APPLICATION + self.old.applications }
+        requires known { pid.0 < 4 + self.old.applications }
         requires order { IsInOrder self.old }
         requires idle { self.old.awaited ≡ Awaited.Nothing }
         ensures yields { Yields (in_front (Item.Start pid.0 ∷ []) (scheduler_of self.old))

@@ -1,7 +1,7 @@
 //! Whether anything is left to be done.
 ghost use Rattle.std.specs.Prelude.{◌≡◌, is_some};
 ghost use Rattle.std.specs.List.{list_all};
-ghost use Rattle.process_core.specs.Code.Frames.{items_of, agenda_of};
+ghost use Rattle.process_core.specs.OpenWork.{items_of, agenda_of};
 ghost use Rattle.process_core.specs.Idle.{is_empty};
 ghost use Rattle.process_core.specs.SchedulerView.{is_at_rest};
 

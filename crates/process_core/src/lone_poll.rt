@@ -4,14 +4,14 @@ ghost use Rattle.std.specs.Prelude.{◌≡◌, ◌<◌, None, true};
 ghost use Rattle.process_core.specs.LonePoll.{polls_alone, unmarked, IsLonePoll};
 
 use crate::scheduler::Scheduler;
-use mote_types::event::{FIRST_APPLICATION, Pid};
+use mote_types::event::Pid;
 
 impl Scheduler {
     /// Whether the next round would poll this process, one of the kernel's, and deliver nothing: no work is open, no event
     /// waits, and no other process is marked. Where the poll changes nothing, such a round takes the mark away and ends at
     /// rest.
     pub fn polls_alone(&self, pid: Pid) -> bool
-        requires kernel { pid.0 < FIRST_APPLICATION }
+        requires kernel { pid.0 < 4 }
         requires idle { self.now.turn ≡ None }
         ensures value { result ≡ polls_alone pid.0 self.now.state }
         ensures round { result ≡ true → IsLonePoll pid.0 self.now.state }

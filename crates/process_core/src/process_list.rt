@@ -1,5 +1,5 @@
 //! The process list, the head first.
-ghost use Rattle.std.specs.Prelude.{◌≡◌, ◌<◌, ◌≤◌, [], ◌∷◌, map, length, true, false, eqb, slice_index_or};
+ghost use Rattle.std.specs.Prelude.{◌≡◌, ◌<◌, ◌≤◌, ◌∷◌, length, false, eqb};
 ghost use Rattle.std.specs.List.{IsDistinct};
 ghost use Rattle.process_core.specs.LonePoll.{is_only_marked};
 ghost use Rattle.process_core.specs.Processes.{state_of, is_marked, is_any_marked, with_state, with_mark, without, numbers, at_first};

@@ -66,7 +66,7 @@ impl Scheduler {
 
     /// Marks one of the kernel's processes, 0 to 3, for the next poll round (`process_poll`).
     pub fn mark(&mut self, pid: Pid)
-        requires { pid.0 < FIRST_APPLICATION }
+        requires { pid.0 < 4 }
         ensures value { self.new ≡ record self.old { state = marked pid.0 self.old.state } }
         // a kernel process is always on the list
         ensures is_marked { is_marked pid.0 self.new.state.processes ≡ true }

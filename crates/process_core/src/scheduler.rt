@@ -4,8 +4,7 @@ ghost use Rattle.std.specs.Prelude.{◌≡◌, ◌≤◌, ◌<◌, ◌+◌, ◌*
 ghost use Rattle.mote_types.specs.declared.event.Event.{Event};
 ghost use Rattle.mote_types.specs.declared.event.Pid.{Pid};
 ghost use Rattle.mote_types.specs.declared.event.Stimulus.{Stimulus as Told};
-ghost use Rattle.mote_types.specs.declared.event.TheConstants.{MOST_APPLICATIONS};
-ghost use Rattle.process_core.specs.Code.Frames.{agenda_of};
+ghost use Rattle.process_core.specs.OpenWork.{agenda_of};
 ghost use Rattle.process_core.specs.SchedulerView.{awaiting_nothing, job_of, turn_of, callback_of};
 ghost use Rattle.process_core.specs.Processes.{IsApplication};
 ghost use Rattle.process_core.specs.Requests.{is_in_activation};
@@ -59,7 +58,7 @@ impl Scheduler {
     ///
     /// The event queue is all that takes memory: 32 places. Where memory is refused there is no scheduler.
     pub fn new(alloc: Global, applications: u8) -> Result<Scheduler, AllocError>
-        requires { applications ≤ MOST_APPLICATIONS }
+        requires { applications ≤ 16 }
         ensures { IfOk result (λ s. s ≡ awaiting_nothing (at_boot applications)) }
     {
         let events = HeapCircularBuffer::with_capacity(alloc, QUEUE_PLACES)?;
@@ -91,7 +90,7 @@ impl Scheduler {
         // what the layer above can rely on
         ensures active { IfSome self.new.turn (λ p. IsApplication self.new.state.applications p.0
             × (is_in_activation (state_in self.new.state p.0) ≡ true)) }
-        ensures served { (p : Pid) (event : Event) → result ≡ ready.Job.Serve p event → p.0 < FIRST_APPLICATION }
+        ensures served { (p : Pid) (event : Event) → result ≡ ready.Job.Serve p event → p.0 < 4 }
         ensures rest { result ≡ ready.Job.Rest → (self.new.state.agenda ≡ []) × (wants_round self.new.state ≡ false) }
         ensures applications { self.new.state.applications ≡ self.old.state.applications }
         ensures standing { IsWellFormed self.new.state }
@@ -112,7 +111,7 @@ impl Scheduler {
         // what the layer above can rely on
         ensures active { IfSome self.new.turn (λ p. IsApplication self.new.state.applications p.0
             × (is_in_activation (state_in self.new.state p.0) ≡ true)) }
-        ensures served { (p : Pid) → result ≡ Answer.Serve p → (p.0 < FIRST_APPLICATION)
+        ensures served { (p : Pid) → result ≡ Answer.Serve p → (p.0 < 4)
             × (event : Event) × (told.new ≡ Told.Event event) }
         ensures rest { result ≡ Answer.Rest → (self.new.state.agenda ≡ []) × (wants_round self.new.state ≡ false) }
         ensures applications { self.new.state.applications ≡ self.old.state.applications }

@@ -1,5 +1,5 @@
 //! The stack of open work.
-ghost use Rattle.std.specs.Prelude.{◌≡◌, ◌<◌, ◌==◌, [], ◌∷◌, true, false, length, drop, reverse, slice_get, option_copied, option_map};
+ghost use Rattle.std.specs.Prelude.{◌≡◌, ◌<◌, ◌==◌, [], ◌∷◌, false, length, drop, reverse, slice_get, option_copied, option_map};
 ghost use Rattle.mote_types.specs.declared.event.Pid.{Pid as At};
 ghost use Rattle.mote_types.specs.declared.event.Stimulus.{Stimulus as Told};
 ghost use Rattle.mote_types.specs.declared.reply.Reply.{Reply as Answered};

@@ -1,12 +1,12 @@
 //! How open work is done.
 
-ghost use Rattle.std.specs.Prelude.{◌≡◌, ◌<◌, [], ◌∷◌, None, Some, length, option_map};
+ghost use Rattle.std.specs.Prelude.{◌≡◌, ◌<◌, [], None, Some, length, option_map};
 ghost use Rattle.mote_types.specs.declared.event.Stimulus.{Stimulus as Told};
 ghost use Rattle.process_core.specs.Code.Frames.{weight, IsBoot, IsDelivery, IsPollRound, IsBroadcast, IsFarewell, IsAnswer};
 ghost use Rattle.process_core.specs.SchedulerView.{job_of};
 ghost use Rattle.process_core.specs.Told.{job_told};
 ghost use Rattle.process_core.specs.Code.SchedulerFields.{scheduler_of, awaited_after, HoldsEvent, IsInOrder};
-ghost use Rattle.process_core.specs.Scheduler.{Yields};
+ghost use Rattle.process_core.specs.Code.Yields.{Yields};
 ghost use Rattle.process_core.specs.declared.awaited.Awaited.{Awaited};
 ghost use Rattle.process_core.specs.declared.frame.Frame.{Frame};
 

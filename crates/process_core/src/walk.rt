@@ -47,7 +47,7 @@ impl Walk {
     }
 
     /// The next process that is marked. The walk leaves it and those before it behind.
-    pub fn next_marked(&mut self, processes: &ProcessList) -> Option<Pid>
+    pub(crate) fn next_marked(&mut self, processes: &ProcessList) -> Option<Pid>
         ensures next { option_map (λ (p : At). p.0) result ≡ slice_get (from_marked processes.now self.old) 0 }
         ensures behind { self.new ≡ drop 1 (from_marked processes.now self.old) }
     {
@@ -60,7 +60,7 @@ impl Walk {
     }
 
     /// The walk leaves the kernel's processes that come next behind.
-    pub fn pass_kernel_processes(&mut self)
+    pub(crate) fn pass_kernel_processes(&mut self)
         ensures { self.new ≡ from_application self.old }
     {
         while self.at < self.numbers.len() && self.numbers.as_slice()[self.at] < FIRST_APPLICATION {

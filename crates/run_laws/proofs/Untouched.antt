@@ -4,7 +4,7 @@ use Rattle.std.specs.Prelude.{Option, Some, None, if◌then◌else◌, ◌==◌}
 use Rattle.std.proofs.lemmas.List.{length-map}
 use Rattle.mote_types.specs.declared.call.Call.{Call}
 use Rattle.mote_types.specs.declared.event.Event.{Event}
-use Rattle.mote_types.specs.declared.event.TheConstants.{POLL, EXITED, CONTINUE}
+use Rattle.mote_types.specs.EventNumbers.{POLL, EXITED, CONTINUE}
 use Rattle.process_core.specs.Processes.{state_of}
 use Rattle.kernel_core.specs.Machine.{Machine, free_places, mark}
 use Rattle.kernel_core.specs.Calls.{after_call}

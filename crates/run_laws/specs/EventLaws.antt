@@ -5,7 +5,7 @@ use Rattle.mote_types.specs.declared.call.Call.{Call}
 use Rattle.mote_types.specs.declared.event.Stimulus.{Stimulus}
 use Rattle.mote_types.specs.declared.event.Origin.{Origin}
 use Rattle.mote_types.specs.declared.event.Event.{Event}
-use Rattle.mote_types.specs.declared.event.TheConstants.{EXIT, TIMER, SERIAL_LINE, PACKET}
+use Rattle.mote_types.specs.EventNumbers.{EXIT, TIMER, SERIAL_LINE, PACKET}
 use Rattle.mote_types.specs.declared.entry.Input.{Input}
 use Rattle.mote_types.specs.declared.entry.Entry.{Entry}
 use Rattle.mote_types.specs.Entries.{is_halt}

@@ -5,7 +5,7 @@ use Rattle.mote_types.specs.declared.call.Call.{Call}
 use Rattle.mote_types.specs.declared.event.Stimulus.{Stimulus}
 use Rattle.mote_types.specs.declared.event.Payload.{Payload}
 use Rattle.mote_types.specs.declared.entry.Entry.{Entry}
-use Rattle.mote_types.specs.declared.event.TheConstants.{TIMER}
+use Rattle.mote_types.specs.EventNumbers.{TIMER}
 use Rattle.timer_core.specs.declared.timer.Cell.{Cell}
 use Rattle.timer_core.specs.Timers.{zero_cell, deadline}
 use Rattle.run_laws.specs.EventLaws.{IsAtRest, has_ended}

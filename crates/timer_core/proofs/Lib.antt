@@ -4,5 +4,6 @@ pub mod Changes
 pub mod LinkLemmas
 pub mod NameLemmas
 pub mod Unlinking
+mod Examples
 pub mod Forgetting
 pub mod NoneDue

@@ -1,6 +1,6 @@
 -- The arming numbers of the callback timers: an expiry that was taken off the timer list counts only while its number is
 -- the present one.
-use Rattle.std.specs.Prelude.{◌≡◌, ℕ, ◌+◌, ◌-◌, ◌*◌, ◌<◌, Bool, List, [], ◌∷◌, length, All, fold, replicate, ◌==◌, slice_index, slice_set}
+use Rattle.std.specs.Prelude.{ℕ, ◌+◌, ◌-◌, ◌*◌, Bool, List, [], ◌∷◌, fold, replicate, ◌==◌, slice_index, slice_set}
 
 pub record Armings : Type 0 where
   -- the present number of each callback timer, 4 for each application
@@ -27,8 +27,3 @@ renumbered p armings c = record { present = slice_set armings.present (callback_
 -- so does each callback timer of p
 abbrev pub all_renumbered : ℕ → Armings → Armings
 all_renumbered p armings = fold (renumbered p) armings (0 ∷ 1 ∷ 2 ∷ 3 ∷ [])
-
--- each callback timer has a number that was drawn
-pub record IsNumbered (armings : Armings) : Type 0 where
-  pub places : length armings.present ≡ 64
-  pub below : All (λ arming. arming < armings.drawn) armings.present

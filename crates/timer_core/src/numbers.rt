@@ -19,7 +19,8 @@ pub(crate) struct ArmingNumbers {
 }
 
 impl Model for ArmingNumbers {
-    ghost use Rattle.timer_core.specs.Armings.{Armings, IsNumbered};
+    ghost use Rattle.timer_core.specs.Armings.{Armings};
+    ghost use Rattle.timer_core.specs.Code.Numbered.{IsNumbered};
 
     ghost Value = { Armings };
 

@@ -1,6 +1,6 @@
 //! The timers of all applications.
 
-ghost use Rattle.std.specs.Prelude.{◌≡◌, ◌≢◌, ◌<◌, ◌≤◌, ◌+◌, ◌^◌, ℕ, true, false, not, is_some, IfOk, IfErr, IfSome};
+ghost use Rattle.std.specs.Prelude.{◌≡◌, ◌<◌, ◌≤◌, ◌+◌, ◌^◌, ℕ, true, false, not, is_some, IfOk, IfErr, IfSome};
 ghost use Rattle.std.specs.Option.{option_map};
 ghost use Rattle.mote_types.specs.declared.refusal.Refusal.{Refusal};
 ghost use Rattle.timer_core.specs.declared.timer.Timer.{Timer};

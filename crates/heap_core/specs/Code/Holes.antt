@@ -3,10 +3,11 @@ use Rattle.std.specs.Prelude.{◌≡◌, ℕ, ◌+◌, ◌-◌, ◌≤◌, ◌<�
 use Rattle.heap_core.specs.declared.chunk.Chunk.{Chunk}
 use Rattle.heap_core.specs.declared.chunk.Place.{Place}
 use Rattle.heap_core.specs.declared.region.Region.{Region}
-use Rattle.heap_core.specs.Code.Chunks.{Tell, BeginsLive, IsWhole, AreJoined, with_chunk, blocks_in}
-use Rattle.heap_core.specs.Code.Layout.{chunks_of, HasChunks}
-use Rattle.heap_core.specs.Code.Links.{LinkedTo, gaps_among, gap_count}
-use Rattle.heap_core.specs.Code.Walks.{LeavesGap, IsWholeRoom, LiveIn}
+use Rattle.heap_core.specs.Chunks.{Tell, BeginsLive, IsWhole, AreJoined, with_chunk, blocks_in}
+use Rattle.heap_core.specs.Layout.{chunks_of, HasChunks}
+use Rattle.heap_core.specs.FreeList.{LinkedTo, gaps_among, LiveIn}
+use Rattle.heap_core.specs.Code.Links.{gap_count}
+use Rattle.heap_core.specs.Code.Walks.{LeavesGap, IsWholeRoom}
 
 -- The headers tell chunks up to one place and from another one on, and what lies between is free: whatever its bytes are.
 pub record Hole (heap : Region) (bytes : List ℕ) (at end : ℕ) : Type 0 where

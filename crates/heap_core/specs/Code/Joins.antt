@@ -3,8 +3,8 @@ use Rattle.std.specs.Prelude.{◌≡◌}
 use Rattle.arena_core.specs.Contents.{Contents}
 use Rattle.heap_core.specs.declared.region.Region.{Region}
 use Rattle.heap_core.specs.HeapBytes.{heap_of, KeepsToSpan}
-use Rattle.heap_core.specs.Code.Layout.{HasChunks}
-use Rattle.heap_core.specs.Code.Links.{GapsLinked, FreedLinked}
+use Rattle.heap_core.specs.Layout.{HasChunks}
+use Rattle.heap_core.specs.FreeList.{GapsLinked, FreedLinked}
 
 -- every block stays, and its place, its room and its bytes
 pub record Joins (old new : Region) (before after : Contents) : Type 0 where

@@ -1,38 +1,14 @@
--- How the headers link the free chunks: the gaps, the lowest first, and the chunks that were freed and are not joined yet.
-use Rattle.std.specs.Prelude.{◌≡◌, ◌≢◌, ℕ, zero, suc, ◌+◌, ◌≤◌, not, List, [], ◌∷◌, ◌++◌, length, filter, fold, Option, Some, None, is_none, if◌then◌else◌, ◌==◌, nat_lt, nat_le}
+-- Where the free list leads, and what a change of it leaves.
+use Rattle.std.specs.Prelude.{◌≡◌, ℕ, zero, suc, ◌+◌, ◌≤◌, List, [], ◌∷◌, ◌++◌, fold, Option, Some, None, is_none, if◌then◌else◌, ◌==◌, nat_lt, nat_le}
 use Rattle.heap_core.specs.declared.chunk.Chunk.{Chunk}
 use Rattle.heap_core.specs.declared.region.Region.{Region}
-use Rattle.heap_core.specs.HeapStore.{Block}
-use Rattle.heap_core.specs.Code.Chunks.{FREED, chunk_at, Tell, is_named}
-use Rattle.heap_core.specs.Code.Layout.{chunks_of, store_of}
-use Rattle.heap_core.specs.Code.Walks.{LiveIn}
-
-abbrev pub with_free : Chunk → Option ℕ → List Chunk → List Chunk
-with_free chunk None chunks = chunk ∷ chunks
-with_free chunk (Some name) chunks = chunks
-
--- the gaps among these chunks
-abbrev pub gaps_among : List Chunk → List Chunk
-gaps_among [] = []
-gaps_among (chunk ∷ chunks) = with_free chunk chunk.owner (gaps_among chunks)
+use Rattle.heap_core.specs.Chunks.{chunk_at, Tell}
+use Rattle.heap_core.specs.FreeList.{gaps_among, LinkedTo}
+use Rattle.heap_core.specs.Layout.{chunks_of}
 
 -- how many gaps that many free bytes are
 abbrev pub gap_count : ℕ → ℕ
 gap_count len = if len == 0 then 0 else 1
-
--- a list that begins there comes to this chunk next, if it is a gap
-abbrev pub Meets : Option ℕ → Chunk → Option ℕ → Type 0
-Meets head chunk None = head ≡ Some chunk.at
-Meets head chunk (Some name) = Unit {0}
-
-abbrev pub behind_link : Option ℕ → Chunk → Option ℕ → Option ℕ
-behind_link head chunk None = chunk.link
-behind_link head chunk (Some name) = head
-
--- the gaps among these chunks are linked from one place on, in their order, and the last is linked to the other place
-abbrev pub LinkedTo : Option ℕ → List Chunk → Option ℕ → Type 0
-LinkedTo head [] end = head ≡ end
-LinkedTo head (chunk ∷ chunks) end = Meets head chunk chunk.owner × LinkedTo (behind_link head chunk chunk.owner) chunks end
 
 -- the chunks along the links from a place on, at most n of them
 abbrev pub chunks_along : ℕ → List ℕ → ℕ → Option ℕ → List Chunk
@@ -65,33 +41,6 @@ higher at found gap = if is_none found then (if nat_le at gap.at then Some gap.a
 -- the place of the lowest gap from a place on
 abbrev pub gap_from : ℕ → List Chunk → Option ℕ
 gap_from at gaps = fold (higher at) None gaps
-
--- none of these chunks begins there
-abbrev pub NoneAt : ℕ → List Chunk → Type 0
-NoneAt at [] = Unit {0}
-NoneAt at (chunk ∷ chunks) = (chunk.at ≢ at) × NoneAt at chunks
-
--- these chunks were freed, and are linked from one place on
-abbrev pub AreFreed : List Chunk → Option ℕ → List Chunk → Type 0
-AreFreed all head [] = head ≡ None
-AreFreed all head (chunk ∷ chunks) =
-    (head ≡ Some chunk.at) × LiveIn chunk all × (chunk.owner ≡ Some FREED) × NoneAt chunk.at chunks × AreFreed all chunk.link chunks
-
--- the blocks without a name
-abbrev pub unnamed : List Block → List Block
-unnamed blocks = filter (λ block. not (is_named block)) blocks
-
--- the list of the gaps
-pub record GapsLinked (heap : Region) (bytes : List ℕ) : Type 0 where
-  pub linked : LinkedTo heap.lowest (chunks_of heap bytes) None
-  pub count : heap.gaps ≡ length (gaps_among (chunks_of heap bytes))
-
--- the list of the chunks that were freed and are not joined yet: each chunk without a name is in it
-pub record FreedLinked (heap : Region) (bytes : List ℕ) : Type 0 where
-  pub list : List Chunk
-  pub linked : AreFreed (chunks_of heap bytes) heap.newest list
-  pub count : length list ≡ heap.freed
-  pub all : length (unnamed (store_of heap bytes).blocks) ≡ heap.freed
 
 -- the highest of these gaps
 abbrev pub last_of : List Chunk → Option Chunk

@@ -1,10 +1,11 @@
 -- What walks over the chunks look for, and what the steps of a call do to the blocks.
-use Rattle.std.specs.Prelude.{◌≡◌, ◌≢◌, ℕ, ◌+◌, ◌-◌, ◌%◌, ◌≤◌, ◌⊎◌, Bool, false, not, List, [], ◌∷◌, ◌++◌, filter, fold, slice_range, Option, Some, None, if◌then◌else◌, ◌==◌, nat_lt}
+use Rattle.std.specs.Prelude.{◌≡◌, ℕ, ◌+◌, ◌-◌, ◌%◌, ◌≤◌, ◌⊎◌, Bool, false, not, List, [], ◌∷◌, filter, fold, slice_range, Option, Some, None, if◌then◌else◌, ◌==◌, nat_lt}
 use Rattle.heap_core.specs.declared.chunk.Chunk.{Chunk}
 use Rattle.heap_core.specs.declared.chunk.Place.{Place}
 use Rattle.heap_core.specs.declared.region.Region.{Region}
 use Rattle.heap_core.specs.HeapStore.{Block, HeapStore}
-use Rattle.heap_core.specs.Code.Chunks.{shortest, chunks_from}
+use Rattle.heap_core.specs.Chunks.{shortest, chunks_from}
+use Rattle.heap_core.specs.FreeList.{Stands}
 
 abbrev pub is_owner : ℕ → Option ℕ → Bool
 is_owner name None = false
@@ -12,17 +13,6 @@ is_owner name (Some other) = other == name
 
 abbrev pub owned_by : ℕ → Chunk → Bool
 owned_by name chunk = is_owner name chunk.owner
-
--- it is one of these chunks
-pub record Stands (chunk : Chunk) (chunks : List Chunk) : Type 0 where
-  pub before : List Chunk
-  pub behind : List Chunk
-  pub is : chunks ≡ before ++ (chunk ∷ behind)
-
--- it is a live one of these chunks
-pub record LiveIn (chunk : Chunk) (chunks : List Chunk) : Type 0 where
-  pub stands : Stands chunk chunks
-  pub live : chunk.owner ≢ None
 
 -- what lies between two places is as long as a whole gap
 abbrev pub LeavesGap : ℕ → ℕ → ℕ → Type 0

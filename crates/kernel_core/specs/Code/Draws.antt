@@ -2,7 +2,7 @@
 use Rattle.std.specs.Prelude.{◌≡◌, ℕ, ◌+◌, ◌≤◌, ◌<◌, Bool, false, ◌&&◌, List, [], ◌∷◌, All, if◌then◌else◌, ◌==◌}
 use Rattle.mote_types.specs.declared.event.Event.{Event}
 use Rattle.mote_types.specs.declared.event.Stimulus.{Stimulus}
-use Rattle.mote_types.specs.declared.event.TheConstants.{EXITED}
+use Rattle.mote_types.specs.EventNumbers.{EXITED}
 use Rattle.process_core.specs.Agenda.{Queued, Item, Job}
 use Rattle.kernel_core.specs.declared.fields.KernelFields.{KernelFields}
 

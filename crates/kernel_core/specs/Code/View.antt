@@ -1,7 +1,6 @@
 -- What the fields of a kernel stand for.
 use Rattle.std.specs.Prelude.{◌≡◌, ℕ, ◌+◌, ◌*◌, ◌-◌, ◌≤◌, ◌<◌, ◌^◌, ◌==◌, eqb, Bool, not, false, List, [], ◌∷◌, ◌++◌, is_some, length, Option, None, Some, if◌then◌else◌}
 use Rattle.std.specs.List.{list_any, IsDistinct}
-use Rattle.mote_types.specs.declared.block_name.TheConstants.{NAMES}
 use Rattle.mote_types.specs.declared.entry.Entry.{Entry}
 use Rattle.mote_types.specs.declared.entry.Input.{Input}
 use Rattle.mote_types.specs.declared.entry.Note.{Note}
@@ -10,9 +9,10 @@ use Rattle.device_core.specs.declared.frame.Frame.{Frame}
 use Rattle.node_memory.specs.Frames.{frame_in}
 use Rattle.node_memory.specs.Memory.{Memory}
 use Rattle.node_memory.specs.Placed.{last_owner}
-use Rattle.process_core.specs.Agenda.{Item, Job, job_carrying}
+use Rattle.process_core.specs.Agenda.{Item, Job}
+use Rattle.kernel_core.specs.Code.Carrying.{job_carrying, carrying}
 use Rattle.process_core.specs.Processes.{numbers}
-use Rattle.process_core.specs.Scheduler.{carrying, in_front}
+use Rattle.process_core.specs.Scheduler.{in_front}
 use Rattle.kernel_core.specs.declared.fields.KernelFields.{KernelFields}
 use Rattle.kernel_core.specs.declared.unshown.Unshown.{Unshown}
 use Rattle.kernel_core.specs.Machine.{Machine}
@@ -70,7 +70,7 @@ mote_of k = record { machine = machine_of k; inputs = k.inputs; entries_left = e
 -- The frames and the memory fit together
 pub record HoldsFrames (memory : Memory) (frames : List Frame) : Type 0 where
   -- there is a place for each name
-  pub names : length memory.managed.blocks ≡ NAMES
+  pub names : length memory.managed.blocks ≡ 272
   -- a slot's block is live exactly where a held frame has the slot
   pub live : (slot : ℕ) → slot < 8 → is_some (frame_in slot memory) ≡ list_any (λ frame. frame.slot == slot) frames
 

@@ -1,7 +1,6 @@
 -- How managed memory, the heap and the pools lie in the arena.
 use Rattle.std.specs.Prelude.{◌≡◌, ℕ, ◌+◌, ◌≤◌, List, [], ◌∷◌, length}
 use Rattle.arena_core.specs.declared.span.Span.{Span}
-use Rattle.mote_types.specs.declared.block_name.TheConstants.{NAMES}
 use Rattle.mmem_core.specs.Table.{IsWithin}
 use Rattle.heap_core.specs.HeapBytes as heap
 use Rattle.memb_core.specs.Links.{AreLinked}
@@ -23,7 +22,7 @@ pub record IsLaidOut (layout : Layout) : Type 0 where
   -- process 3 may hold frames
   pub holder : 1 ≤ layout.managed.quotas.owners
   -- the table has an entry for each name
-  pub names : length layout.managed.places ≡ NAMES
+  pub names : length layout.managed.places ≡ 272
   pub behind : end_of layout.managed.span ≤ layout.heap.span.at
   pub heap : heap.IsLaidOut layout.heap layout.bytes
   pub count : length layout.pools ≡ 4

@@ -7,7 +7,6 @@
 use Rattle.std.specs.Prelude.{◌≡◌, ℕ, ◌+◌, ◌<◌, ◌≤◌, Bool, true, false, List, [], ◌∷◌, flat_map, length, Option, IfSome, eqb}
 use Rattle.std.specs.List.{list_any}
 use Rattle.mote_types.specs.declared.event.Pid.{Pid}
-use Rattle.mote_types.specs.declared.event.TheConstants.{FIRST_APPLICATION}
 use Rattle.process_core.specs.declared.process.Process.{Process}
 use Rattle.process_core.specs.declared.state.State.{State}
 use Rattle.process_core.specs.declared.frame.First.{First}
@@ -37,7 +36,7 @@ leaving stack = flat_map leaving_in stack
 
 -- a process that a caller starts is one of the mote's
 abbrev pub IsKnown : ℕ → First → Type 0
-IsKnown applications (First.Start q) = q.0 < FIRST_APPLICATION + applications
+IsKnown applications (First.Start q) = q.0 < 4 + applications
 IsKnown applications _ = Unit {0}
 
 -- what a frame may lie on
@@ -48,7 +47,7 @@ LiesOn applications (Frame.Answer pid first reply) below = (is_one_of pid.0 (ans
 LiesOn applications (Frame.Leave pid walk exits) below = (is_one_of pid.0 (answering below) ≡ false) × (is_one_of pid.0 (leaving below) ≡ false)
 -- where it lies on a broadcast, a receiver's turn was begun with it, or no receiver is left
 LiesOn applications (Frame.Polls walk) below = (length below ≤ 1) × (on_top false has_receiver below ≡ false)
-LiesOn applications (Frame.Boot walk) below = (below ≡ []) × ((p : ℕ) → is_one_of p walk ≡ true → p < FIRST_APPLICATION + applications)
+LiesOn applications (Frame.Boot walk) below = (below ≡ []) × ((p : ℕ) → is_one_of p walk ≡ true → p < 4 + applications)
 LiesOn applications (Frame.Deliver is_polled) below = below ≡ []
 LiesOn applications (Frame.Callback pid number) below = below ≡ []
 LiesOn applications (Frame.Broadcast next walk event) below = below ≡ []

@@ -1,8 +1,6 @@
 -- What the fields of the code's scheduler stand for, and what is always true of them.
 use Rattle.std.specs.Prelude.{◌≡◌, ℕ, ◌≤◌, [], ◌∷◌, map, Option, Some, None, IfSome}
 use Rattle.mote_types.specs.declared.event.Pid.{Pid}
-use Rattle.mote_types.specs.declared.event.TheConstants.{MOST_APPLICATIONS}
-use Rattle.process_core.specs.declared.scheduler.TheConstants.{QUEUE_PLACES}
 use Rattle.process_core.specs.declared.awaited.Awaited.{Awaited}
 use Rattle.process_core.specs.declared.scheduler_fields.SchedulerFields.{SchedulerFields}
 use Rattle.process_core.specs.declared.frame.Frame.{Frame}
@@ -13,7 +11,7 @@ use Rattle.process_core.specs.declared.ready.Ready.{Ready}
 use Rattle.process_core.specs.Agenda.{Queued}
 use Rattle.process_core.specs.Scheduler.{Scheduler}
 use Rattle.process_core.specs.SchedulerView.{SchedulerView}
-use Rattle.process_core.specs.Code.Frames.{agenda_of}
+use Rattle.process_core.specs.OpenWork.{agenda_of}
 use Rattle.process_core.specs.Code.Nesting.{IsSound}
 
 abbrev pub queued_of : code.Queued → Queued ℕ
@@ -60,8 +58,8 @@ pub record IsInOrder (d : SchedulerFields) : Type 0 where
   pub sound : IsSound d.applications d.processes d.stack (turn_in d.awaited)
   -- an expiry is delivered at the end of a round, where no work is open
   pub bare : IfSome (callback_in d.awaited) (λ _. d.stack ≡ [])
-  pub room : d.events.capacity ≡ QUEUE_PLACES
-  pub few : d.applications ≤ MOST_APPLICATIONS
+  pub room : d.events.capacity ≡ 32
+  pub few : d.applications ≤ 16
   pub numbers : d.next_event ≤ 256
 
 -- the fields with one more frame on the stack

@@ -11,7 +11,7 @@ use Rattle.mote_types.specs.declared.event.Origin.{Origin}
 use Rattle.mote_types.specs.declared.event.Payload.{Payload}
 use Rattle.mote_types.specs.declared.entry.Entry.{Entry}
 use Rattle.mote_types.specs.declared.entry.Note.{Note}
-use Rattle.mote_types.specs.declared.event.TheConstants.{EXIT, EXITED}
+use Rattle.mote_types.specs.EventNumbers.{EXIT, EXITED}
 use Rattle.mote_types.specs.Codes.{number_event, is_reserved}
 use Rattle.process_core.specs.declared.state.State.{State}
 use Rattle.process_core.specs.Agenda.{Queued, Item}

@@ -5,7 +5,7 @@ use Rattle.std.specs.List.{list_all}
 use Rattle.std.proofs.lemmas.Bool.Decides.{nat_tests}
 use Rattle.mote_types.specs.declared.event.Stimulus.{Stimulus}
 use Rattle.mote_types.specs.declared.event.Origin.{Origin}
-use Rattle.mote_types.specs.declared.event.TheConstants.{EXIT, INIT, POLL}
+use Rattle.mote_types.specs.EventNumbers.{EXIT, INIT, POLL}
 use Rattle.mote_types.specs.Codes.{plain_event}
 use Rattle.process_core.specs.declared.state.State.{State}
 use Rattle.process_core.specs.Agenda.{Queued, Item}

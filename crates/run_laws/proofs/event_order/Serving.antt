@@ -3,7 +3,7 @@ use Rattle.std.proofs.Common.{◌≡◌, ℕ, zero, suc, Bool, true, false, List
 use Rattle.std.specs.Prelude.{Option, Some, None, map, if◌then◌else◌, ◌==◌, nat_le}
 use Rattle.std.proofs.lemmas.Bool.Decides.{nat_tests}
 use Rattle.mote_types.specs.declared.event.Event.{Event}
-use Rattle.mote_types.specs.declared.event.TheConstants.{POLL, EXITED, CONTINUE, PACKET}
+use Rattle.mote_types.specs.EventNumbers.{POLL, EXITED, CONTINUE, PACKET}
 use Rattle.mote_types.specs.Codes.{plain_event, number_event}
 use Rattle.process_core.specs.Agenda.{Queued}
 use Rattle.process_core.specs.Scheduler.{has_room}

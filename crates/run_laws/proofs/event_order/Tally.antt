@@ -12,7 +12,7 @@ use Rattle.mote_types.specs.declared.event.Event.{Event}
 use Rattle.mote_types.specs.declared.event.Origin.{Origin}
 use Rattle.mote_types.specs.declared.event.Pid.{Pid}
 use Rattle.mote_types.specs.declared.entry.Entry.{Entry}
-use Rattle.mote_types.specs.declared.event.TheConstants.{EXIT}
+use Rattle.mote_types.specs.EventNumbers.{EXIT}
 use Rattle.kernel_core.specs.Run.{heard, stimulus_of}
 use Rattle.run_laws.specs.OwnTurns.{OwnTurn, own_from, own_turn, reply_in, reply_of, is_done, ticks_in}
 use Rattle.run_laws.specs.EventLaws.{has_ended, is_exit, is_event_of_code}

@@ -6,7 +6,7 @@ use Rattle.std.proofs.lemmas.Bool.Decides.{nat_tests}
 use Rattle.mote_types.specs.declared.event.Stimulus.{Stimulus}
 use Rattle.mote_types.specs.declared.event.Event.{Event}
 use Rattle.mote_types.specs.declared.event.Origin.{Origin}
-use Rattle.mote_types.specs.declared.event.TheConstants.{EXIT, INIT, POLL}
+use Rattle.mote_types.specs.EventNumbers.{EXIT, INIT, POLL}
 use Rattle.mote_types.specs.Codes.{plain_event}
 use Rattle.run_laws.specs.EventLaws.{posted_event}
 use Rattle.process_core.specs.declared.state.State.{State}

@@ -7,7 +7,7 @@ use Rattle.mote_types.specs.declared.event.Stimulus.{Stimulus}
 use Rattle.mote_types.specs.declared.event.Event.{Event}
 use Rattle.mote_types.specs.declared.event.Origin.{Origin}
 use Rattle.mote_types.specs.declared.event.Payload.{Payload}
-use Rattle.mote_types.specs.declared.event.TheConstants.{POLL, EXITED, CONTINUE, PACKET}
+use Rattle.mote_types.specs.EventNumbers.{POLL, EXITED, CONTINUE, PACKET}
 use Rattle.mote_types.specs.Codes.{plain_event, number_event}
 use Rattle.process_core.specs.declared.state.State.{State}
 use Rattle.process_core.specs.Agenda.{Queued, Item}

@@ -5,7 +5,7 @@ use Rattle.std.specs.List.{list_any, list_all}
 use Rattle.std.proofs.lemmas.Bool.Decides.{nat_tests}
 use Rattle.mote_types.specs.declared.event.Stimulus.{Stimulus}
 use Rattle.mote_types.specs.declared.event.Event.{Event}
-use Rattle.mote_types.specs.declared.event.TheConstants.{TIMER, CONTINUE, PACKET, POLL, EXITED}
+use Rattle.mote_types.specs.EventNumbers.{TIMER, CONTINUE, PACKET, POLL, EXITED}
 use Rattle.mote_types.specs.Codes.{number_event, plain_event}
 use Rattle.process_core.specs.Agenda.{Queued, Item}
 use Rattle.process_core.specs.Scheduler.{of_event, has_room}

@@ -8,9 +8,9 @@ use Rattle.heap_core.specs.declared.chunk.Place.{Place}
 use Rattle.heap_core.specs.declared.region.Region.{Region}
 use Rattle.heap_core.specs.HeapStore.{Block, HeapStore, has_name, block_at, block_of, with_block, allocated, place}
 use Rattle.heap_core.specs.HeapBytes.{heap_of, IsLaidOut}
-use Rattle.heap_core.specs.Code.Layout.{chunks_of, store_of}
-use Rattle.heap_core.specs.Code.Links.{unnamed, FreedLinked}
-use Rattle.heap_core.specs.Code.Places.{ArePlaced}
+use Rattle.heap_core.specs.Layout.{chunks_of, store_of}
+use Rattle.heap_core.specs.FreeList.{unnamed, FreedLinked}
+use Rattle.heap_core.specs.Places.{ArePlaced}
 use Rattle.heap_core.proofs.Blocks.{count}
 use Rattle.heap_core.proofs.Freed.{plain, placed_unnamed, freed_none}
 use Rattle.heap_core.proofs.Joined.{linked_is}

@@ -1,6 +1,6 @@
 use Rattle.std.proofs.Common.{inl, refl, arith}
-use Rattle.heap_core.specs.Code.Chunks.{shortest}
-use Rattle.heap_core.specs.Code.Layout.{chunks_of}
+use Rattle.heap_core.specs.Chunks.{shortest}
+use Rattle.heap_core.specs.Layout.{chunks_of}
 use Rattle.heap_core.proofs.Live.{live_in_order, live_gaps_long}
 use Rattle.heap_core.proofs.Separation.{blocks_lie_apart}
 use Rattle.heap_core.proofs.heap.Heap.blocks_lie_apart.Goals as goal

@@ -3,9 +3,9 @@ use Rattle.std.proofs.lemmas.Bool.{lt-ltb}
 use Rattle.heap_core.specs.declared.region.Region.{Region}
 use Rattle.heap_core.specs.HeapStore.{HeapStore, freed, without_block}
 use Rattle.heap_core.specs.HeapBytes.{heap_of, IsLaidOut}
-use Rattle.heap_core.specs.Code.Chunks.{is_a_name}
-use Rattle.heap_core.specs.Code.Layout.{chunks_of}
-use Rattle.heap_core.specs.Code.Places.{ArePlaced}
+use Rattle.heap_core.specs.Chunks.{is_a_name}
+use Rattle.heap_core.specs.Layout.{chunks_of}
+use Rattle.heap_core.specs.Places.{ArePlaced}
 use Rattle.heap_core.proofs.Blocks.{count, elsewhere}
 use Rattle.heap_core.proofs.Bodies.{live_without_place}
 use Rattle.heap_core.proofs.Names.{count_filter}

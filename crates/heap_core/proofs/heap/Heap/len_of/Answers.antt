@@ -6,8 +6,8 @@ use Rattle.heap_core.specs.declared.chunk.Chunk.{Chunk}
 use Rattle.heap_core.specs.declared.region.Region.{Region}
 use Rattle.heap_core.specs.HeapStore.{Block, has_name, length_of}
 use Rattle.heap_core.specs.HeapBytes.{heap_of, IsLaidOut}
-use Rattle.heap_core.specs.Code.Chunks.{blocks_in}
-use Rattle.heap_core.specs.Code.Layout.{chunks_of}
+use Rattle.heap_core.specs.Chunks.{blocks_in}
+use Rattle.heap_core.specs.Layout.{chunks_of}
 use Rattle.heap_core.specs.Code.Walks.{block_in_chunk, bytes_in_chunk}
 use Rattle.heap_core.proofs.Bodies.{block_bytes}
 use Rattle.heap_core.proofs.Names.{find_is, owned}

@@ -7,9 +7,9 @@ use Rattle.heap_core.specs.declared.chunk.Place.{Place}
 use Rattle.heap_core.specs.declared.region.Region.{Region}
 use Rattle.heap_core.specs.HeapStore.{Block, HeapStore, block_at, find_block, with_block, without_block, place, room_in_place, reallocated}
 use Rattle.heap_core.specs.HeapBytes.{heap_of, IsLaidOut}
-use Rattle.heap_core.specs.Code.Layout.{chunks_of, store_of}
-use Rattle.heap_core.specs.Code.Links.{unnamed, FreedLinked}
-use Rattle.heap_core.specs.Code.Places.{ArePlaced}
+use Rattle.heap_core.specs.Layout.{chunks_of, store_of}
+use Rattle.heap_core.specs.FreeList.{unnamed, FreedLinked}
+use Rattle.heap_core.specs.Places.{ArePlaced}
 use Rattle.heap_core.specs.Code.Walks.{place_in_chunk, at_place, bytes_in_chunk, block_in_chunk, without_place}
 use Rattle.heap_core.proofs.Blocks.{count}
 use Rattle.heap_core.proofs.Blocks.{elsewhere as by_place}

@@ -8,7 +8,7 @@ use Rattle.arena_core.proofs.Ranges.{changes_only}
 use Rattle.heap_core.specs.declared.region.Region.{Region}
 use Rattle.heap_core.specs.HeapStore.{Block, HeapStore, has_name, block_of, with_bytes}
 use Rattle.heap_core.specs.HeapBytes.{heap_of, IsLaidOut, KeepsToSpan}
-use Rattle.heap_core.specs.Code.Links.{LinkedTo, gaps_among, AreFreed}
+use Rattle.heap_core.specs.FreeList.{LinkedTo, gaps_among, AreFreed}
 use Rattle.heap_core.proofs.Blocks.{count}
 use Rattle.heap_core.proofs.Bodies.{range_fits, body_spliced, live_blocks, same_chunks, same_unnamed}
 use Rattle.heap_core.proofs.Names.{count_map, keeps_name, keeps_place}

@@ -1,5 +1,5 @@
 use Rattle.std.proofs.Common.{refl, arith}
-use Rattle.heap_core.specs.Code.Layout.{chunks_of}
+use Rattle.heap_core.specs.Layout.{chunks_of}
 use Rattle.heap_core.specs.Code.Walks.{chunks_between}
 use Rattle.heap_core.proofs.region.Region.chunks.Goals as goal
 

@@ -1,5 +1,5 @@
 use Rattle.std.proofs.Common.{◌+◌, ◌∙◌, refl, arith}
-use Rattle.heap_core.specs.Code.Layout.{chunks_of}
+use Rattle.heap_core.specs.Layout.{chunks_of}
 use Rattle.heap_core.proofs.Cleared.{sides, cleared_top, cleared_gap}
 use Rattle.heap_core.proofs.Places.{has_same}
 use Rattle.heap_core.proofs.Told.{changes_more}

@@ -1,9 +1,10 @@
 use Rattle.std.proofs.Common.{◌≡◌, ◌+◌, inl, inr, sym, ap, ◌∙◌, subst, arith}
 use Rattle.heap_core.specs.declared.chunk.Chunk.{Chunk}
-use Rattle.heap_core.specs.Code.Chunks.{chunk_at}
+use Rattle.heap_core.specs.Chunks.{chunk_at}
 use Rattle.heap_core.specs.Code.Holes.{Free}
-use Rattle.heap_core.specs.Code.Layout.{chunks_of}
-use Rattle.heap_core.specs.Code.Links.{gaps_among, gap_from}
+use Rattle.heap_core.specs.Layout.{chunks_of}
+use Rattle.heap_core.specs.FreeList.{gaps_among}
+use Rattle.heap_core.specs.Code.Links.{gap_from}
 use Rattle.heap_core.proofs.Choices.{place_cases}
 use Rattle.heap_core.proofs.Holes.{free_top, free_gap}
 use Rattle.heap_core.proofs.NextGaps.{behind_gap, above_all}

@@ -1,9 +1,9 @@
 use Rattle.std.proofs.Common.{length, refl, sym, ap, ◌∙◌, subst, arith}
 use Rattle.std.specs.Prelude.{filter}
 use Rattle.heap_core.specs.HeapStore.{HeapStore}
-use Rattle.heap_core.specs.Code.Chunks.{is_named}
-use Rattle.heap_core.specs.Code.Layout.{chunks_of}
-use Rattle.heap_core.specs.Code.Links.{AreFreed, unnamed}
+use Rattle.heap_core.specs.Chunks.{is_named}
+use Rattle.heap_core.specs.Layout.{chunks_of}
+use Rattle.heap_core.specs.FreeList.{AreFreed, unnamed}
 use Rattle.heap_core.proofs.Callers.{KeepsToSpan-then}
 use Rattle.heap_core.proofs.Freed.{newest_is, none_newest, freed_moved, named_without, unnamed_without}
 use Rattle.heap_core.proofs.Places.{has_same}

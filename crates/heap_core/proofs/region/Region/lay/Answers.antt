@@ -3,9 +3,10 @@ use Rattle.std.specs.Prelude.{IfSome}
 use Rattle.arena_core.specs.Contents.{Contents}
 use Rattle.arena_core.specs.Outside.{ChangesOnly}
 use Rattle.heap_core.specs.declared.chunk.Chunk.{Chunk}
-use Rattle.heap_core.specs.Code.Chunks.{shortest, chunk_at, Tell, BeginsLive}
+use Rattle.heap_core.specs.Chunks.{shortest, chunk_at, Tell, BeginsLive}
 use Rattle.heap_core.specs.Code.Walks.{laid, bytes_in_chunk, LeavesGap}
-use Rattle.heap_core.specs.Code.Links.{gaps_among, gap_count, LinkedTo}
+use Rattle.heap_core.specs.FreeList.{gaps_among, LinkedTo}
+use Rattle.heap_core.specs.Code.Links.{gap_count}
 use Rattle.heap_core.proofs.Holes.{is_live, live_block, live_joined, laid_block, laid_begins, laid_joined, laid_between, fits_least}
 use Rattle.heap_core.proofs.Lengths.{lengths}
 use Rattle.heap_core.proofs.Lists.{count_none, count_some, live_first, link_gap, link_live}

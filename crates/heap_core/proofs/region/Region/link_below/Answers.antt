@@ -1,9 +1,8 @@
 use Rattle.std.proofs.Common.{◌≡◌, ◌+◌, List, Some, None, refl, sym, ◌∙◌, subst, arith}
 use Rattle.std.specs.Prelude.{Option, IfSome}
 use Rattle.heap_core.specs.declared.chunk.Chunk.{Chunk}
-use Rattle.heap_core.specs.Code.Layout.{chunks_of}
-use Rattle.heap_core.specs.Code.Links.{LinkedTo}
-use Rattle.heap_core.specs.Code.Walks.{Stands}
+use Rattle.heap_core.specs.Layout.{chunks_of}
+use Rattle.heap_core.specs.FreeList.{LinkedTo, Stands}
 use Rattle.heap_core.proofs.Lists.{linked_append, linked_none, no_last}
 use Rattle.heap_core.proofs.Places.{has_same}
 use Rattle.heap_core.proofs.Relinks.{here, relinked, relinked_store, relinked_count, relinked_stands, relinked_list}

@@ -2,7 +2,7 @@ use Rattle.std.proofs.Common.{subst, sym, ap, ◌∙◌, arith}
 use Rattle.std.specs.Prelude.{Option, IsSome}
 use Rattle.std.specs.Option.{option_map}
 use Rattle.heap_core.specs.HeapStore.{Block}
-use Rattle.heap_core.specs.Code.Layout.{chunks_of, store_of}
+use Rattle.heap_core.specs.Layout.{chunks_of, store_of}
 use Rattle.heap_core.specs.Code.Walks.{block_in_chunk}
 use Rattle.heap_core.proofs.Names.{find_is, owned, some_owned}
 use Rattle.heap_core.proofs.Standing.{around}

@@ -1,6 +1,7 @@
 use Rattle.std.proofs.Common.{◌≡◌, sym, ap, ◌∙◌, subst, arith}
-use Rattle.heap_core.specs.Code.Layout.{chunks_of}
-use Rattle.heap_core.specs.Code.Links.{gaps_among, gap_from}
+use Rattle.heap_core.specs.Layout.{chunks_of}
+use Rattle.heap_core.specs.FreeList.{gaps_among}
+use Rattle.heap_core.specs.Code.Links.{gap_from}
 use Rattle.heap_core.specs.Code.Walks.{free_from}
 use Rattle.heap_core.proofs.Grown.{leads_there, list_grown}
 use Rattle.heap_core.proofs.Lists.{last_exchanged, list_exchanged}

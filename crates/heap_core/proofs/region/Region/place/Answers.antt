@@ -3,7 +3,7 @@ use Rattle.std.specs.Option.{option_map, option_or}
 use Rattle.std.proofs.lemmas.Bool.{cond-true, cond-false, le-leb, lt-leb}
 use Rattle.heap_core.specs.declared.chunk.Place.{Place}
 use Rattle.heap_core.specs.HeapStore.{least_room, best_gap, gaps, place_in, top_place, top_gap, footprint}
-use Rattle.heap_core.specs.Code.Layout.{chunks_of, store_of}
+use Rattle.heap_core.specs.Layout.{chunks_of, store_of}
 use Rattle.heap_core.proofs.Gaps.{end_is, best_fits}
 use Rattle.heap_core.proofs.region.Region.place.Goals as goal
 

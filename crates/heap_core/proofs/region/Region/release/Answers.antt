@@ -1,7 +1,8 @@
 use Rattle.std.proofs.Common.{◌≡◌, ◌+◌, ◌-◌, ◌<◌, length, refl, sym, ap, ◌∙◌, subst, arith}
 use Rattle.std.specs.Prelude.{IfSome}
-use Rattle.heap_core.specs.Code.Layout.{chunks_of}
-use Rattle.heap_core.specs.Code.Links.{gaps_among, gap_count}
+use Rattle.heap_core.specs.Layout.{chunks_of}
+use Rattle.heap_core.specs.FreeList.{gaps_among}
+use Rattle.heap_core.specs.Code.Links.{gap_count}
 use Rattle.heap_core.specs.Code.Walks.{free_from, front_gap}
 use Rattle.heap_core.proofs.Lists.{gap_from_small, gaps_few}
 use Rattle.heap_core.proofs.Places.{has_same}

@@ -5,10 +5,10 @@ use Rattle.std.proofs.lemmas.Bool.{ne_eqb, lt-ltb}
 use Rattle.mote_types.specs.Bytes.{resized}
 use Rattle.heap_core.specs.declared.chunk.Place.{Place}
 use Rattle.heap_core.specs.HeapStore.{Block, HeapStore, block_at, with_block, placed}
-use Rattle.heap_core.specs.Code.Chunks.{is_a_name, is_named}
-use Rattle.heap_core.specs.Code.Layout.{chunks_of, store_of}
-use Rattle.heap_core.specs.Code.Links.{unnamed}
-use Rattle.heap_core.specs.Code.Walks.{without_place, bytes_in_chunk, LiveIn}
+use Rattle.heap_core.specs.Chunks.{is_a_name, is_named}
+use Rattle.heap_core.specs.Layout.{chunks_of, store_of}
+use Rattle.heap_core.specs.FreeList.{unnamed, LiveIn}
+use Rattle.heap_core.specs.Code.Walks.{without_place, bytes_in_chunk}
 use Rattle.heap_core.proofs.Blocks.{filter_placed, blocks_ascending, elsewhere}
 use Rattle.heap_core.proofs.Choices.{elsewhere_placed}
 use Rattle.heap_core.proofs.Callers.{KeepsToSpan-then}

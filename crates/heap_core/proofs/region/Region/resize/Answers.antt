@@ -1,8 +1,9 @@
 use Rattle.std.proofs.Common.{ℕ, length, ◌≡◌, ◌+◌, ◌<◌, ◌∷◌, Some, None, refl, sym, subst, ◌∙◌, arith}
 use Rattle.std.specs.Prelude.{IfSome, filter}
 use Rattle.mote_types.specs.Bytes.{resized}
-use Rattle.heap_core.specs.Code.Layout.{chunks_of, store_of}
-use Rattle.heap_core.specs.Code.Links.{gaps_among, gap_count}
+use Rattle.heap_core.specs.Layout.{chunks_of, store_of}
+use Rattle.heap_core.specs.FreeList.{gaps_among}
+use Rattle.heap_core.specs.Code.Links.{gap_count}
 use Rattle.heap_core.specs.declared.chunk.Chunk.{Chunk}
 use Rattle.heap_core.specs.Code.Walks.{at_place, bytes_in_chunk}
 use Rattle.heap_core.proofs.Blocks.{elsewhere}

@@ -1,8 +1,8 @@
 use Rattle.std.proofs.Common.{◌+◌, ◌∷◌, Some, refl, sym, ap, ◌∙◌, arith}
 use Rattle.heap_core.specs.HeapStore.{HeapStore}
 use Rattle.heap_core.specs.declared.chunk.Chunk.{Chunk}
-use Rattle.heap_core.specs.Code.Chunks.{FREED}
-use Rattle.heap_core.specs.Code.Layout.{chunks_of}
+use Rattle.heap_core.specs.Chunks.{FREED}
+use Rattle.heap_core.specs.Layout.{chunks_of}
 use Rattle.heap_core.proofs.Freed.{owner_named, freed_small, newest_small, at, set, set_named, set_unnamed, set_freed, set_gaps, set_linked}
 use Rattle.heap_core.proofs.Places.{has_same}
 use Rattle.heap_core.proofs.Told.{changes_more}

@@ -3,9 +3,10 @@ use Rattle.std.specs.Prelude.{IfSome}
 use Rattle.mote_types.specs.Bytes.{resized}
 use Rattle.heap_core.specs.declared.chunk.Chunk.{Chunk}
 use Rattle.heap_core.specs.declared.chunk.Place.{Place}
-use Rattle.heap_core.specs.Code.Layout.{chunks_of, store_of}
-use Rattle.heap_core.specs.Code.Links.{gaps_among, gap_count}
-use Rattle.heap_core.specs.Code.Walks.{LiveIn, bytes_given}
+use Rattle.heap_core.specs.Layout.{chunks_of, store_of}
+use Rattle.heap_core.specs.FreeList.{gaps_among, LiveIn}
+use Rattle.heap_core.specs.Code.Links.{gap_count}
+use Rattle.heap_core.specs.Code.Walks.{bytes_given}
 use Rattle.heap_core.proofs.Holes.{below, hole_after, put_block, last_laid, list_laid, count_laid}
 use Rattle.heap_core.proofs.Lists.{gap_from_small, gaps_few, kept_then}
 use Rattle.heap_core.proofs.Members.{if_some, inside}

@@ -1,6 +1,7 @@
 use Rattle.std.proofs.Common.{◌≡◌, refl, sym, ap, ◌∙◌}
 use Rattle.memb_core.specs.BlockLists.{popped}
-use Rattle.memb_core.specs.Links.{with_start, link_of, list_of}
+use Rattle.memb_core.specs.Links.{link_of, list_of}
+use Rattle.memb_core.specs.Code.Changes.{with_start}
 use Rattle.memb_core.proofs.Linked.{listed_below, link_small, start_listed, head_out, listed, leaves}
 use Rattle.memb_core.proofs.lists.Lists.pop.Goals as goal
 

@@ -4,7 +4,8 @@ use Rattle.std.proofs.lemmas.Bool.{eqb-true}
 use Rattle.std.proofs.lemmas.List.Quantifiers.{position-Some}
 use Rattle.memb_core.specs.BlockLists.{has_number, without}
 use Rattle.memb_core.specs.PoolBytes.{IsWithin}
-use Rattle.memb_core.specs.Links.{with_start, link_of, list_of}
+use Rattle.memb_core.specs.Links.{link_of, list_of}
+use Rattle.memb_core.specs.Code.Changes.{with_start}
 use Rattle.memb_core.proofs.Callers.{IsWithin-kept}
 use Rattle.memb_core.proofs.Linked.{Changes, listed_below, link_small, head_out, first_out, later_out, listed, leaves}
 use Rattle.memb_core.proofs.Numbers.{no_place, has_at, without_none}

@@ -6,7 +6,8 @@ use Rattle.std.proofs.lemmas.List.{length-set}
 use Rattle.mote_types.specs.Bytes.{zeros}
 use Rattle.arena_core.specs.Contents.{Contents, contents}
 use Rattle.arena_core.specs.Written.{written}
-use Rattle.memb_core.specs.PoolTable.{PoolTable, with_used}
+use Rattle.memb_core.specs.PoolTable.{PoolTable}
+use Rattle.memb_core.specs.Code.Changes.{with_used}
 use Rattle.memb_core.specs.BlockPool.{BlockPool}
 use Rattle.memb_core.specs.PoolBytes.{pool_of, place_of, IsWithin}
 use Rattle.memb_core.specs.BlockLists.{has_number}

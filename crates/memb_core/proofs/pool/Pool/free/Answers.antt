@@ -1,7 +1,8 @@
 use Rattle.std.proofs.Common.{ℕ, List, false, refl, ap, sym, subst, ◌∙◌, arith}
 use Rattle.std.specs.Prelude.{Option}
 use Rattle.std.proofs.lemmas.List.{length-set, get_or-set_other}
-use Rattle.memb_core.specs.PoolTable.{PoolTable, with_used}
+use Rattle.memb_core.specs.PoolTable.{PoolTable}
+use Rattle.memb_core.specs.Code.Changes.{with_used}
 use Rattle.memb_core.specs.BlockPool.{BlockPool}
 use Rattle.memb_core.specs.PoolBytes.{pool_of}
 use Rattle.memb_core.specs.Links.{link_of, list_of, AreLinked}

@@ -7,7 +7,7 @@ use Rattle.mmem_core.specs.declared.place.Place.{Place}
 use Rattle.mmem_core.specs.ManagedStore.{ManagedStore, unused}
 use Rattle.mmem_core.specs.Places.{place_in, last_end, bytes_moved}
 use Rattle.mmem_core.specs.Table.{Table, store_of, region_of}
-use Rattle.mmem_core.proofs.PlaceLemmas.{bytes_moved-added, bytes_moved-same}
+use Rattle.mmem_core.proofs.PlaceLemmas.{begins_behind, bytes_moved-added, bytes_moved-same}
 use Rattle.mmem_core.proofs.StoreLemmas.{no_place, get_or-blocks, block_in, unused-added}
 use Rattle.mmem_core.proofs.mmem.Mmem.alloc.Goals as goal
 
@@ -72,3 +72,18 @@ returns-clause-together c moved =
 
 pub returns-then-avail-size-clause-together : goal.returns-then-avail-size-clause-together
 returns-then-avail-size-clause-together c moved = absurd (omega (arith, moved, bytes_moved-same c.args.self.now.places))
+
+pub returns-clause-behind : goal.returns-clause-behind
+returns-clause-behind c =
+    let middle = c.make_room.new.self in let i = number_of c.args.key.0.0 c.args.key.1 in
+    let old = c.args.self.now in let bytes = c.args.arena.now.bytes in
+    let region = region_of middle c.make_room.new.arena.bytes in
+    let unused' = subst (λ (s : ManagedStore). get_or s.blocks i None ≡ None) (sym c.make_room.ensures.blocks) c.requires.unused in
+    let none = no_place region (place_in middle.places i) (sym (get_or-blocks region middle.places i) ∙ unused') in
+    let same = ap (λ (s : ManagedStore). length s.blocks) c.make_room.ensures.blocks in
+    let count : length c.self.inside.places ≡ 272 = search rules in
+    let names = ap (λ (t : Table). length t.places) c.self.view_is in
+    let before = length-map old.places (block_in (region_of old bytes)) in
+    let after = length-map middle.places (block_in region) in
+    let below : i < length middle.places = omega (arith, c.requires.named.0, c.requires.named.1, c.requires.named.2, count, names, same, before, after) in
+    begins_behind middle.places i c.args.n below none c.put_last.new.self.places c.put_last.ensures.place

@@ -22,7 +22,7 @@ returns-in-Some-Pool-clause-others c =
     leaves-of-part c.args.call.now c.args.pid.0 (Part.Pool c.in-Some-Pool.pool) c.args.self.now.contents c.ask_pool.new.self.contents c.ask_pool.result c.requires.asker is c.ask_pool.ensures.asked
 
 pub returns-in-Some-Managed-clause-refused : goal.returns-in-Some-Managed-clause-refused
-returns-in-Some-Managed-clause-refused c = refused-then c.ask_managed.result (leaves_all c.args.call.now c.args.self.now c.ask_managed.new.self) c.ask_managed.ensures.refused
+returns-in-Some-Managed-clause-refused c = refused-then c.ask_managed.result (leaves_all c.args.call.now c.ask_managed.result c.args.self.now c.ask_managed.new.self) c.ask_managed.ensures.refused
 
 pub returns-in-Some-Pool-clause-refused : goal.returns-in-Some-Pool-clause-refused
-returns-in-Some-Pool-clause-refused c = refused-then c.ask_pool.result (leaves_all c.args.call.now c.args.self.now c.ask_pool.new.self) c.ask_pool.ensures.refused
+returns-in-Some-Pool-clause-refused c = refused-then c.ask_pool.result (leaves_all c.args.call.now c.ask_pool.result c.args.self.now c.ask_pool.new.self) c.ask_pool.ensures.refused

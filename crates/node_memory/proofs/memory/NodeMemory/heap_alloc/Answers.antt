@@ -1,11 +1,14 @@
-use Rattle.std.proofs.Common.{rules, arith, subst, ap, sym, ◌∙◌, ◌≡◌, None}
+use Rattle.std.proofs.Common.{rules, arith, subst, ap, sym, ◌∙◌, ◌≡◌, refl, None}
+use Rattle.mote_types.specs.declared.call.Call.{Call}
+use Rattle.mote_types.specs.declared.refusal.Refusal.{Refusal}
+use Rattle.mote_types.specs.declared.reply.Reply.{Reply}
 use Rattle.heap_core.specs.HeapBytes.{heap_of}
 use Rattle.heap_core.specs.HeapStore.{allocated}
 use Rattle.node_memory.specs.HeapCalls.{alloc_refusal}
 use Rattle.node_memory.specs.Memory.{Memory, with_heap}
 use Rattle.node_memory.specs.Placed.{PlacedMemory, contents_of, placed}
 use Rattle.node_memory.specs.Separation.{StaysInPlace}
-use Rattle.node_memory.proofs.Stays.{heap_stays}
+use Rattle.node_memory.proofs.Stays.{heap_stays, leaves_blocks}
 use Rattle.node_memory.proofs.HeapAsked.{alloc-accepted, asked-found, asked-no-room}
 use Rattle.node_memory.proofs.LaidOut.{layout_of, after-heap, heap-changed}
 use Rattle.node_memory.proofs.memory.NodeMemory.heap_alloc.Goals as goal
@@ -57,5 +60,7 @@ returns-clause-refused c =
           let same = heap-changed k.mmem k.heap c.alloc.new.self k.pools k.arena c.alloc.new.arena c.self.invariant c.alloc.ensures.rest c.alloc.ensures.laid_out
           ∙ ap (λ h. with_heap h (contents_of (layout_of k.mmem k.heap k.pools k.arena.bytes))) w.in-None.ensures.unchanged in
           let stay = heap_stays k.mmem k.heap c.alloc.new.self k.pools k.arena.bytes c.alloc.new.arena.bytes c.alloc.ensures.rest.span same in
-          rw w.result-is (subst (λ (m : PlacedMemory). StaysInPlace m (placed (layout_of k.mmem c.alloc.new.self k.pools c.alloc.new.arena.bytes))) c.self.view_is stay)
+          let left : StaysInPlace c.args.self.now (placed (layout_of k.mmem c.alloc.new.self k.pools c.alloc.new.arena.bytes)) =
+          subst (λ (m : PlacedMemory). StaysInPlace m (placed (layout_of k.mmem c.alloc.new.self k.pools c.alloc.new.arena.bytes))) c.self.view_is stay in
+          rw w.result-is (leaves_blocks (Call.HeapAlloc c.args.block c.args.n) (Reply.Refused Refusal.NoRoom) c.args.self.now (placed (layout_of k.mmem c.alloc.new.self k.pools c.alloc.new.arena.bytes)) refl left)
     ]

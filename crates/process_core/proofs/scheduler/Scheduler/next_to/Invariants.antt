@@ -1,6 +1,6 @@
 use Rattle.std.proofs.Common.{◌≡◌, None}
 use Rattle.process_core.specs.declared.awaited.Awaited.{Awaited}
-use Rattle.process_core.specs.Scheduler.{Yields}
+use Rattle.process_core.specs.Code.Yields.{Yields}
 use Rattle.process_core.specs.Code.SchedulerFields.{scheduler_of, IsInOrder}
 use Rattle.process_core.specs.Code.Frames.{weight}
 use Rattle.process_core.proofs.scheduler.Scheduler.next_to.Given as goal

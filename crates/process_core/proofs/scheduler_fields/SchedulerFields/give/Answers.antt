@@ -1,9 +1,8 @@
 use Rattle.process_core.proofs.Sound.{sound-given, sound-quiet}
-use Rattle.std.proofs.Common.{arith}
+use Rattle.std.proofs.Common.{arith, sym, ◌∙◌, refl}
 use Rattle.process_core.specs.Code.SchedulerFields.{turn_in, scheduler_of}
 use Rattle.process_core.proofs.Yields.{give_yields_nothing}
 use Rattle.process_core.proofs.scheduler_fields.SchedulerFields.give.Goals as goal
-use Rattle.std.proofs.Common.{sym, ◌∙◌, refl}
 
 pub returns-in-Running-clause-order : goal.returns-in-Running-clause-order
 returns-in-Running-clause-order c =

@@ -1,7 +1,6 @@
 -- The table that tells where the block of each name begins.
 use Rattle.std.specs.Prelude.{◌≡◌, ℕ, ◌<◌, List, length, Option, None, get_or}
 use Rattle.std.specs.Option.{option_map}
-use Rattle.mote_types.specs.declared.block_name.TheConstants.{NAMES}
 use Rattle.heap_core.specs.HeapStore.{Block, HeapStore, find_block}
 
 -- where the block of a name begins, if it is live
@@ -10,5 +9,5 @@ place_found name heap = option_map (λ (block : Block). block.at) (find_block na
 
 -- the table has an entry for each name, which tells where its block is
 pub record ArePlaced (places : List (Option ℕ)) (heap : HeapStore) : Type 0 where
-  pub entries : length places ≡ NAMES
-  pub told : (name : ℕ) → name < NAMES → get_or places name None ≡ place_found name heap
+  pub entries : length places ≡ 272
+  pub told : (name : ℕ) → name < 272 → get_or places name None ≡ place_found name heap

@@ -1,7 +1,7 @@
 -- Events with which none of the kernel's processes does anything.
 use Rattle.std.specs.Prelude.{ℕ, Bool, true, false, List, [], ◌∷◌, if◌then◌else◌}
 use Rattle.mote_types.specs.declared.call.Call.{Call}
-use Rattle.mote_types.specs.declared.event.TheConstants.{POLL, CONTINUE, EXITED}
+use Rattle.mote_types.specs.EventNumbers.{POLL, CONTINUE, EXITED}
 use Rattle.process_core.specs.KernelReceivers.{kernel_receivers_passed}
 use Rattle.process_core.specs.Scheduler.{Scheduler}
 

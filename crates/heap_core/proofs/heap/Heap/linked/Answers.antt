@@ -1,0 +1,7 @@
+use Rattle.std.proofs.Common.{ap, ◌∙◌}
+use Rattle.heap_core.specs.HeapBytes.{linked_of}
+use Rattle.heap_core.proofs.FreeCount.{all_linked}
+use Rattle.heap_core.proofs.heap.Heap.linked.Goals as goal
+
+pub returns-clause-free : goal.returns-clause-free
+returns-clause-free c = λ bytes laid. ap linked_of c.self.view_is ∙ all_linked c.args.self.now bytes laid

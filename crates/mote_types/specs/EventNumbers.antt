@@ -1,0 +1,40 @@
+-- The event numbers that the definitions speak of: those of process.h, and three that are this project's own.
+use Rattle.std.specs.Prelude.{ℕ}
+
+-- PROCESS_EVENT_NONE and those that follow it
+
+abbrev pub NONE : ℕ
+NONE = 128
+
+abbrev pub INIT : ℕ
+INIT = 129
+
+abbrev pub POLL : ℕ
+POLL = 130
+
+abbrev pub EXIT : ℕ
+EXIT = 131
+
+abbrev pub SERVICE_REMOVED : ℕ
+SERVICE_REMOVED = 132
+
+abbrev pub CONTINUE : ℕ
+CONTINUE = 133
+
+abbrev pub EXITED : ℕ
+EXITED = 135
+
+abbrev pub TIMER : ℕ
+TIMER = 136
+
+-- a line from the serial line
+abbrev pub SERIAL_LINE : ℕ
+SERIAL_LINE = 138
+
+-- a frame for the receiver
+abbrev pub PACKET : ℕ
+PACKET = 139
+
+-- the first number that AllocEvent gives
+abbrev pub FIRST_FREE : ℕ
+FIRST_FREE = 140

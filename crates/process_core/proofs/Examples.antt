@@ -1,0 +1,34 @@
+-- Schedulers that none has become.
+use Rattle.std.proofs.Common.{ℕ, false, List, [], ◌∷◌, arith}
+use Rattle.mote_types.specs.declared.entry.Entry.{Entry}
+use Rattle.process_core.specs.declared.state.State.{State}
+use Rattle.process_core.specs.declared.process.Process.{Process}
+use Rattle.process_core.specs.Agenda.{Item}
+use Rattle.process_core.specs.Processes.{at_first}
+use Rattle.process_core.specs.Scheduler.{Scheduler, IsWellFormed, at_boot}
+
+-- with so many applications, these processes and this agenda
+with_parts : ℕ → List Process → List Item → Scheduler ℕ
+with_parts applications processes agenda = record (at_boot applications) { processes = processes; agenda = agenda }
+
+running : ℕ → Process
+running p = record { number = p; state = State.Running; marked = false }
+
+more_than_sixteen : IsWellFormed (with_parts 17 at_first []) → ⊥
+unfolding with_parts
+more_than_sixteen s = absurd (omega (arith, s.few))
+
+-- a process of the kernel has left the list
+no_etimer : IsWellFormed (with_parts 1 (running 3 ∷ running 2 ∷ running 1 ∷ []) []) → ⊥
+unfolding with_parts running
+no_etimer s = absurd (let gone = s.mote.kernel 0 (omega arith) in cc)
+
+-- the mote has no such application
+unknown_process : IsWellFormed (with_parts 1 (running 9 ∷ at_first) []) → ⊥
+unfolding with_parts running
+unknown_process s = absurd (omega (arith, s.mote.known 9 (λ absent. absurd (cc))))
+
+-- entries are shown by the layer above
+shows_an_entry : IsWellFormed (with_parts 1 at_first (Item.Show Entry.Halt ∷ [])) → ⊥
+unfolding with_parts
+shows_an_entry s = absurd (let shown = s.unshown in cc)
