@@ -3,7 +3,7 @@
 ghost use Rattle.std.specs.Prelude.{◌<◌};
 
 use arrayvec::ArrayVec;
-use mote_text::line::LineBuf;
+use mote_text::line::{LineBuf, OutputBuffer};
 use mote_text::lines::{Lines, Taken};
 use mote_text::script::{BadLine, End, read_input};
 use mote_text::transcript::{entry_text, final_text};
@@ -263,7 +263,7 @@ pub(crate) fn check_text(rt: &impl Abort, line: &[u8], text: &str) {
 /// The buffer holds another line before.
 fn check(rt: &impl Abort, entry: Entry, text: &str) {
     let mut line = LineBuf::new();
-    line.push(b"> tick 1\n");
+    let _ = line.try_extend_from_slice(b"> tick 1\n");
     entry_text(&entry, &mut line);
     check_text(rt, line.as_slice(), text);
 }
@@ -293,7 +293,7 @@ fn lines_of_entries_that_no_run_has(rt: HostRuntime) {
 }
 
 fn check_end(rt: &impl Abort, end: End, text: &str) {
-    let mut line = LineBuf::new();
+    let mut line = OutputBuffer::new();
     line.push(b"halt\n");
     final_text(end, &mut line);
     check_text(rt, line.as_slice(), text);

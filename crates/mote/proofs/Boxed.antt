@@ -44,11 +44,10 @@ pub said_the_same : {P Q : Type 0} {G : Config → Type 0} (R : Config → Appli
     (P → Q → (config : Config) → G config → R config says) → P → Q → (config : Config) → G config → R config others
 said_the_same R says others same run p q config given = subst (R config) same (run p q config given)
 
--- where memory was refused for the boxes, nothing ran: that is the front part of each run
-pub nothing_ran : {T E : Type 0} (P Q : Type 0) (G : Config → Type 0) (result : Result T E) (says : Applications) (quiet : Bool) (taken given : List ℕ) (is_ended : Bool) →
-    OnErr result (P → Q → (config : Config) → G config → HasRunInPart config says quiet taken taken is_ended given given)
-nothing_ran P Q G (Ok value) says quiet taken given is_ended = tt
-nothing_ran P Q G (Err error) says quiet taken given is_ended = λ _ _ config _.
+-- where nothing was read and nothing written, that is the front part of each run
+pub nothing_done : (config : Config) (says : Applications) (quiet : Bool) (taken given : List ℕ) (is_ended : Bool) →
+    HasRunInPart config says quiet taken taken is_ended given given
+nothing_done config says quiet taken given is_ended =
     record {
       bytes = [];
       out = [];
@@ -56,3 +55,9 @@ nothing_ran P Q G (Err error) says quiet taken given is_ended = λ _ _ config _.
       given = sym (append-nil given);
       is_front = λ more ended whole end run. (whole, refl);
     }
+
+-- where memory was refused for the boxes, nothing ran
+pub nothing_ran : {T E : Type 0} (P Q : Type 0) (G : Config → Type 0) (result : Result T E) (says : Applications) (quiet : Bool) (taken given : List ℕ) (is_ended : Bool) →
+    OnErr result (P → Q → (config : Config) → G config → HasRunInPart config says quiet taken taken is_ended given given)
+nothing_ran P Q G (Ok value) says quiet taken given is_ended = tt
+nothing_ran P Q G (Err error) says quiet taken given is_ended = λ _ _ config _. nothing_done config says quiet taken given is_ended

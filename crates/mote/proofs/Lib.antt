@@ -1,1 +1,3 @@
 mod Boxed
+mod Examples
+mod Named

@@ -1,12 +1,16 @@
 -- Which mote the words of the command line name, and what the program may come to on them.
-use Rattle.std.specs.Prelude.{◌≡◌, ◌⊎◌, ⊤, ℕ, true, false, List, length, Result, Ok, Err}
+use Rattle.std.specs.Prelude.{◌≡◌, ◌⊎◌, ⊤, ℕ, Bool, true, false, List, length, Result, Ok, Err}
+use Rattle.mote_types.specs.Applications.{Applications, says_of}
+use Rattle.mote_apps.specs.Bundled.{bundled_says}
 use Rattle.kernel_core.specs.declared.config.Config.{Config}
 use Rattle.kernel_core.specs.Machine.{is_bootable}
 use Rattle.mote_text.specs.declared.script.End.{End}
+use Rattle.mote_run.specs.RunText.{HasRun, HasRunInPart, HasRunOnWholeLines}
 use Rattle.mote_words.specs.CommandLine.{AsksForText, NamesApplications, named_in}
 use Rattle.mote_words.specs.CommandLine as of_words
 use Rattle.mote_words.specs.declared.refusal.Refusal.{Refusal}
 use Rattle.mote_words.specs.declared.words.Named.{Named}
+use Rattle.mote.specs.Statuses.{status_of_outcome}
 use Rattle.mote.specs.declared.failure.Failure.{Failure}
 
 -- a mote of the named sizes with the named applications
@@ -40,10 +44,32 @@ Refuses words Failure.BadSizes = HasBadSizes words
 Refuses words Failure.OutOfMemory = ⊤
 Refuses words failure = ⊥
 
--- what the program may come to on words: a run, or its failure, only where they name a mote
+-- what the program may come to on words: a run, or its failure, only where they name a mote, and what they are refused with only
+-- where they name none. A text that they ask for may fail to be written
 abbrev pub IsOutcome : List (List ℕ) → Result End Failure → Type 0
-IsOutcome words (Ok end) = NamesMote words ⊎ (AsksForText words × (end ≡ End.Finished))
+IsOutcome words (Ok end) = NamesMote words
 IsOutcome words (Err Failure.Read) = NamesMote words
 IsOutcome words (Err Failure.Write) = NamesMote words ⊎ AsksForText words
-IsOutcome words (Err (Failure.Request text)) = ⊥
 IsOutcome words (Err failure) = Refuses words failure
+
+-- what was read and written is a run: all of it where this was answered with the run's end, and else a front part; where
+-- reading failed, just the text of the whole lines that were read
+abbrev pub HasRunTo : Config → Applications → Bool → List ℕ → List ℕ → Bool → List ℕ → List ℕ → Result End Failure → Type 0
+HasRunTo config says quiet taken_old taken_new is_ended given_old given_new (Ok end) =
+    HasRun config says quiet taken_old taken_new is_ended given_old given_new end
+HasRunTo config says quiet taken_old taken_new is_ended given_old given_new (Err Failure.Read) =
+    HasRunInPart config says quiet taken_old taken_new is_ended given_old given_new
+    × HasRunOnWholeLines config says quiet taken_old taken_new given_old given_new
+HasRunTo config says quiet taken_old taken_new is_ended given_old given_new (Err failure) =
+    HasRunInPart config says quiet taken_old taken_new is_ended given_old given_new
+
+-- of the named applications, at the named sizes, and quiet as they are
+abbrev pub HasRunNamed : Named → List ℕ → List ℕ → Bool → List ℕ → List ℕ → Result End Failure → Type 0
+HasRunNamed named = HasRunTo (config_of named) (says_of bundled_says named.applications.items) named.quiet
+
+-- the status of an outcome that the words allow, with which this was done
+pub record IsStatusFor (words : List (List ℕ)) (IsDone : Result End Failure → Type 0) (status : ℕ) : Type 0 where
+  pub outcome : Result End Failure
+  pub is_allowed : IsOutcome words outcome
+  pub is_done : IsDone outcome
+  pub is_status : status ≡ status_of_outcome outcome

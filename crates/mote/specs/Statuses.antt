@@ -35,14 +35,10 @@ IsRunFailure Failure.Write = ⊤
 IsRunFailure Failure.OutOfMemory = ⊤
 IsRunFailure _ = ⊥
 
--- what the program comes to where it was refused a mote: what was asked for is written, and all else stays
-abbrev pub IsAnswerTo : Failure → Result End Failure → Type 0
-IsAnswerTo (Failure.Request text) result = (result ≡ Ok End.Finished) ⊎ (result ≡ Err Failure.Write)
-IsAnswerTo failure result = result ≡ Err failure
-
--- the statuses that there are
-abbrev pub IsStatus : ℕ → Type 0
-IsStatus status = (outcome : Result End Failure) × (status ≡ status_of_outcome outcome)
+-- what an outcome comes to once a text that the words ask for was written, or that failed: all else stays
+abbrev pub IsShown : Result End Failure → Result End Failure → Type 0
+IsShown (Err (Failure.Request text)) result = (result ≡ Err (Failure.Request text)) ⊎ (result ≡ Err Failure.Write)
+IsShown outcome result = result ≡ outcome
 
 -- the line on standard error, without its end; the parser's texts are its own
 abbrev pub failure_text : Failure → Option (List ℕ)

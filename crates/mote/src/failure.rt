@@ -8,7 +8,7 @@ use mote_run::End;
 use mote_run::run::RunFault;
 use mote_types::fault::BootFault;
 use mote_words::{ParserText, Refusal};
-use std::alloc::AllocFailed;
+use std::alloc::{AllocError, AllocFailed};
 use std::fmt;
 
 /// What the program tells in place of a run, or of its end: on standard error, and only what the words asked for on
@@ -76,6 +76,16 @@ impl<T: Drop> From<AllocFailed<T>> for Failure<'_> {
     ghost from_gives = { λ _ failure. failure ≡ OutOfMemory };
 
     fn from(_error: AllocFailed<T>) -> Self {
+        Failure::OutOfMemory
+    }
+}
+
+impl From<AllocError> for Failure<'_> {
+    ghost use Rattle.mote.specs.declared.failure.Failure.TheVariants.{OutOfMemory};
+
+    ghost from_gives = { λ _ failure. failure ≡ OutOfMemory };
+
+    fn from(_error: AllocError) -> Self {
         Failure::OutOfMemory
     }
 }

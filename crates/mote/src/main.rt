@@ -1,69 +1,59 @@
 //! Runs applications on a mote: a script comes from standard input, its transcript goes to standard output.
 #![tactic(auto)]
 
-ghost use Rattle.std.specs.Prelude.{◌≡◌, ◌≢◌, length, IfOk, IfErr};
-ghost use Rattle.mote_run.specs.RunText.{WasBooted};
-ghost use Rattle.mote_words.specs.CommandLine.{texts};
-ghost use Rattle.mote.specs.CommandLine.{IsOutcome};
-ghost use Rattle.mote.specs.Statuses.{IsAnswerTo, IsRunFailure, IsStatus, status_of_outcome};
+ghost use Rattle.std.specs.Prelude.{◌≡◌, ◌≢◌, ◌<◌, ◌-◌, ◌^◌, false, map, string_bytes, IfOk, IfErr};
+ghost use Rattle.mote_words.specs.CommandLine.{named_in};
+ghost use Rattle.mote.specs.CommandLine.{HasRunNamed, IsStatusFor};
 ghost use Rattle.mote.specs.declared.failure.Failure.{Failure as Refused};
 
 mod failure;
 mod prepare;
 mod running;
+mod telling;
 
-use failure::{Failure, status_of};
-use mote_run::End;
+use failure::Failure;
 use mote_streams::{Input, Output};
-use mote_words::ParserText;
-use prepare::{Prepared, prepare};
-use running::run_prepared;
+use mote_types::device::{ByteSink, ByteSource};
+use running::run_words;
+use std::alloc::Global;
 use std::process::ExitCode;
 use std::{env, io};
+use telling::{show, tell};
 
-/// Runs a mote from standard input to standard output.
-fn run_streams<'a, R: AllocGlobal + io::Input + Print>(
-    rt: &R,
-    prepared: Prepared,
-) -> Result<End, Failure<'a>>
-    requires booted { WasBooted prepared.kernel (length prepared.applications.items) }
-    ensures failure { IfErr result IsRunFailure }
+/// The words as texts.
+fn texts_of<'a>(alloc: Global, words: &'a [String]) -> Result<Vec<&'a str>, Failure<'static>>
+    ensures texts { IfOk result (λ texts. map (λ text. text.now) texts.items ≡ map string_bytes words.now) }
+    ensures failure { IfErr result (λ failure. failure ≡ Refused.OutOfMemory) }
 {
-    let mut source = Input::new(rt.reader());
-    let mut sink = Output::new(io::writer(rt));
-    run_prepared(rt.alloc(), prepared, &mut source, &mut sink)
-}
-
-/// Writes what the words asked for, the help or the version, to standard output.
-fn show<'a, R: Print>(rt: &R, text: &ParserText) -> Result<End, Failure<'a>>
-    ensures end { IfOk result (λ end. end ≡ End.Finished) }
-    ensures failure { IfErr result (λ failure. failure ≡ Refused.Write) }
-{
-    print!(rt; "{text}").map_err(|_| Failure::Write)?;
-    Ok(End::Finished)
-}
-
-/// What the program comes to where the words name no mote.
-fn refuse<'a, R: Print>(rt: &R, failure: Failure<'a>) -> Result<End, Failure<'a>>
-    ensures { IsAnswerTo failure.entry result }
-{
-    if let Failure::Request(text) = &failure {
-        return show(rt, text);
+    let mut texts = Vec::new(alloc);
+    for word in words {
+        texts.push(word.as_str())?;
     }
-    Err(failure)
+    Ok(texts)
 }
 
-/// Boots a mote for what the words name, and runs it from standard input to standard output.
-fn run_words<'a, R: AllocGlobal + io::Input + Print>(
+/// Runs the mote that the words of the command line name from the source to the sink, or tells why they name none. Answers
+/// the status that the program exits with. The first word is the program's name.
+///
+/// # Errors
+///
+/// `OutOfMemory` where memory was refused for the words.
+fn run_to_status<R: AllocGlobal + Print + Eprint, S: ByteSource, K: ByteSink>(
     rt: &R,
-    words: &'a [&'a str],
-) -> Result<End, Failure<'a>>
-    ensures { IsOutcome (texts words.now) result }
+    words: &[String],
+    source: &mut S,
+    sink: &mut K,
+) -> Result<u8, Failure<'static>>
+    requires unended { S.is_ended source.old ≡ false }
+    requires countable_reads { S.failure_count source.old < 2 ^ 64 - 1 }
+    requires countable_writes { K.failure_count sink.old < 2 ^ 64 - 1 }
+    ensures status { IfOk result (IsStatusFor (map string_bytes words.now) (λ outcome. S.is_named → K.is_named →
+        HasRunNamed (named_in (map string_bytes words.now)) (S.taken source.old) (S.taken source.new) (S.is_ended source.new) (K.given sink.old) (K.given sink.new) outcome)) }
+    ensures failure { IfErr result (λ failure. failure ≡ Refused.OutOfMemory) }
 {
-    match prepare(rt.alloc(), words) {
-        Ok(prepared) => run_streams(rt, prepared),
-        Err(failure) => refuse(rt, failure),
-    }
+    let texts = texts_of(rt.alloc(), words)?;
+    let outcome = run_words(rt.alloc(), texts.as_slice(), source, sink);
+    Ok(tell(rt, show(rt, outcome)))
 }
 
 /// The words of the command line, the program's name first.
@@ -74,45 +64,21 @@ fn run_words<'a, R: AllocGlobal + io::Input + Print>(
 fn words_of<R: AllocGlobal + env::Env>(rt: &R) -> Result<Vec<String>, Failure<'static>>
     ensures { IfErr result (λ failure. failure ≢ Refused.OutOfMemory → failure ≡ Refused.NotText) }
 {
-    let arguments = env::args(rt).map_err(|error| match error.kind() {
+    let words = env::args(rt).map_err(|error| match error.kind() {
         io::ErrorKind::OutOfMemory => Failure::OutOfMemory,
         _ => Failure::NotText,
     })?;
-    let mut words = Vec::new(rt.alloc());
-    for word in arguments {
-        words.push(word)?;
-    }
-    Ok(words)
+    Ok(words.collect(rt.alloc())?)
 }
 
-/// Tells a failure on standard error, and answers the status of the outcome. Where standard error fails too, nothing is
-/// told.
-fn tell<R: Eprint>(rt: &R, outcome: Result<End, Failure<'_>>) -> u8
-    ensures { result ≡ status_of_outcome outcome.entry }
-{
-    if let Err(failure) = &outcome {
-        let _ = match failure {
-            // The parser's texts have their line ends.
-            Failure::Request(text) | Failure::Words(text) => eprint!(rt; "{text}"),
-            _ => eprintln!(rt; "{failure}"),
-        };
-    }
-    status_of(&outcome)
-}
-
-/// What the program does, and the status that it exits with.
+/// What the program does, from standard input to standard output, and the status that it exits with.
 fn work<R: AllocGlobal + env::Env + io::Input + Print + Eprint>(
     rt: &R,
-) -> Result<u8, Failure<'static>>
-    ensures status { IfOk result IsStatus }
-    ensures failure { IfErr result (λ failure. failure ≢ Refused.OutOfMemory → failure ≡ Refused.NotText) }
-{
-    let arguments = words_of(rt)?;
-    let mut words = Vec::new(rt.alloc());
-    for word in &arguments {
-        words.push(word.as_str())?;
-    }
-    Ok(tell(rt, run_words(rt, words.as_slice())))
+) -> Result<u8, Failure<'static>> {
+    let words = words_of(rt)?;
+    let mut source = Input::new(rt.reader());
+    let mut sink = Output::new(io::writer(rt));
+    run_to_status(rt, words.as_slice(), &mut source, &mut sink)
 }
 
 fn main(rt: HostRuntime) -> ExitCode {

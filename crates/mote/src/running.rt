@@ -1,4 +1,4 @@
-//! The run of a mote that is ready for it.
+//! The run of a mote that is ready for it, and of the mote that words name.
 
 ghost use Rattle.std.specs.Prelude.{◌≡◌, ◌<◌, ◌-◌, ◌^◌, ◌↔◌, false, length, IfOk, IfErr, OnErr, IsErrOf};
 ghost use Rattle.mote_types.specs.Applications.{says_of};
@@ -6,11 +6,13 @@ ghost use Rattle.mote_apps.specs.Bundled.{bundled_says};
 ghost use Rattle.kernel_core.specs.declared.config.Config.{Config};
 ghost use Rattle.kernel_core.specs.Machine.{booted};
 ghost use Rattle.mote_run.specs.RunText.{HasRun, HasRunInPart, HasRunOnWholeLines, WasBooted};
+ghost use Rattle.mote_words.specs.CommandLine.{named_in, texts};
+ghost use Rattle.mote.specs.CommandLine.{HasRunNamed, IsOutcome};
 ghost use Rattle.mote.specs.Statuses.{IsRunFailure};
 ghost use Rattle.mote.specs.declared.failure.Failure.{Failure as Refused};
 
 use crate::failure::Failure;
-use crate::prepare::Prepared;
+use crate::prepare::{Prepared, prepare};
 use mote_run::End;
 use mote_run::run::run;
 use mote_types::app::App;
@@ -56,4 +58,29 @@ pub fn run_prepared<'a, S: ByteSource, K: ByteSink>(
         prepared.quiet,
     )?;
     Ok(end)
+}
+
+/// Runs the mote that the words name from a source to a sink: it has the sizes and the applications that they name, and its
+/// transcript is quiet where they ask for that. The first word is the program's name.
+///
+/// # Errors
+///
+/// Those of `prepare`, before anything is read or written, and then those of `run_prepared`.
+pub fn run_words<'a, S: ByteSource, K: ByteSink>(
+    alloc: Global,
+    words: &'a [&'a str],
+    source: &mut S,
+    sink: &mut K,
+) -> Result<End, Failure<'a>>
+    requires unended { S.is_ended source.old ≡ false }
+    requires countable_reads { S.failure_count source.old < 2 ^ 64 - 1 }
+    requires countable_writes { K.failure_count sink.old < 2 ^ 64 - 1 }
+    ensures outcome { IsOutcome (texts words.now) result }
+    ensures run { S.is_named → K.is_named →
+        HasRunNamed (named_in (texts words.now)) (S.taken source.old) (S.taken source.new) (S.is_ended source.new) (K.given sink.old) (K.given sink.new) result }
+    ensures read_fault { IsErrOf result Refused.Read ↔ (S.failure_count source.old < S.failure_count source.new) }
+    ensures write_fault { IsErrOf result Refused.Write ↔ (K.failure_count sink.old < K.failure_count sink.new) }
+{
+    let prepared = prepare(alloc, words)?;
+    run_prepared(alloc, prepared, source, sink)
 }

@@ -15,8 +15,8 @@ use Rattle.kernel_core.specs.declared.config.Config.{Config}
 use Rattle.kernel_core.specs.Machine.{Machine, booted}
 use Rattle.kernel_core.specs.Inputs.{fed}
 use Rattle.kernel_core.specs.Run.{Running, Runs, ComesToRest, after_steps, at_start, is_still, with_input}
-use Rattle.mote_run.specs.RunText.{HasRunOnWholeLines, script_done}
-use Rattle.mote_run.specs.Code.Between.{HasEnded, InRun}
+use Rattle.mote_run.specs.RunText.{HasRunOnWholeLines}
+use Rattle.mote_run.specs.Code.Between.{HasEnded, InRun, script_done}
 use Rattle.mote_run.specs.Code.Reading.{GoesOn, TakenPart, Took, number_after, said}
 use Rattle.mote_run.specs.Code.Settling.{Settled, lines}
 use Rattle.mote_run.specs.Code.Writing.{WritesOn}

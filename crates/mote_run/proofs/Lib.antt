@@ -1,5 +1,6 @@
 pub mod Determined
 pub mod Ended
+mod Examples
 pub mod Fronts
 pub mod GivenBytes
 pub mod InRun

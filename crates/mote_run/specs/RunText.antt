@@ -1,12 +1,12 @@
 -- What a run writes.
-use Rattle.std.specs.Prelude.{◌≡◌, ℕ, Bool, true, length, List, [], ◌++◌, if◌then◌else◌}
+use Rattle.std.specs.Prelude.{◌≡◌, ℕ, Bool, true, length, List, [], ◌++◌}
 use Rattle.mote_types.specs.Applications.{Applications}
 use Rattle.mote_types.specs.declared.entry.Input.{Input}
 use Rattle.mote_text.specs.declared.script.End.{End}
 use Rattle.mote_text.specs.Script.{inputs, read_lines, whole_lines}
 use Rattle.mote_text.specs.Transcript.{end_of, shown, text}
 use Rattle.kernel_core.specs.declared.config.Config.{Config}
-use Rattle.kernel_core.specs.Machine.{Machine, booted, is_bootable}
+use Rattle.kernel_core.specs.Machine.{booted, is_bootable}
 use Rattle.kernel_core.specs.Mote.{Mote}
 use Rattle.kernel_core.specs.Run.{Running, Runs, at_start}
 
@@ -59,7 +59,3 @@ pub record HasRunOnWholeLines (config : Config) (says : Applications) (quiet : B
 abbrev pub WasBooted : Mote → ℕ → Type 0
 WasBooted kernel applications =
     ((config : Config) × (is_bootable config ≡ true) × (config.apps ≡ applications) × (kernel.machine ≡ booted config)) × (kernel.inputs ≡ 0)
-
--- the end of a run whose script has ended, where the machine is so
-abbrev pub script_done : Machine → End
-script_done m = if m.is_halted then End.Halted else End.Finished

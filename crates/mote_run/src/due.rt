@@ -2,12 +2,12 @@
 
 ghost use Rattle.std.specs.Prelude.{◌≡◌, ◌<◌, ◌≤◌, ◌+◌, ◌-◌, ◌^◌, [], ℕ, List, length, IfErr, OnErr, OnOk};
 ghost use Rattle.mote_types.specs.declared.entry.Entry.{Entry as MadeEntry};
-ghost use Rattle.mote_text.specs.EntryText.{entry_line};
+ghost use Rattle.mote_text.specs.EntryText.{entry_line, entry_line_limit};
 ghost use Rattle.mote_run.specs.Code.Writing.{WritesOn};
 
 use crate::device::write_all;
 use crate::run::RunFault;
-use mote_text::line::{LineBuf, MOST_OF_LINE};
+use mote_text::line::{MOST_OF_LINE, OutputBuffer};
 use mote_text::transcript::{push_entry, push_input_line, push_turn_line};
 use mote_types::call::Call;
 use mote_types::device::ByteSink;
@@ -17,7 +17,7 @@ use mote_types::event::{Origin, Pid, Stimulus};
 /// The text that was made and is not written yet.
 #[derive(Drop)]
 pub struct Due {
-    pub text: LineBuf,
+    pub text: OutputBuffer,
 }
 
 impl Due {
@@ -25,7 +25,7 @@ impl Due {
         ensures { result.text.items ≡ [] }
     {
         Due {
-            text: LineBuf::new(),
+            text: OutputBuffer::new(),
         }
     }
 
@@ -50,7 +50,7 @@ impl Due {
     fn make_room<K: ByteSink>(&mut self, sink: &mut K) -> Result<(), RunFault>
         requires countable { K.failure_count sink.old < 2 ^ 64 - 1 }
         ensures written { OnOk result (K.is_named → WritesOn (K.given sink.old) self.old.text.items (K.given sink.new) self.new.text.items []) }
-        ensures room { OnOk result (length self.new.text.items + MOST_OF_LINE ≤ 4_096) }
+        ensures room { OnOk result (length self.new.text.items + entry_line_limit ≤ 4_096) }
         ensures cut_off { OnErr result (K.is_named → (lost : List ℕ) × WritesOn (K.given sink.old) self.old.text.items (K.given sink.new) lost []) }
         ensures succeeded { OnOk result (K.failure_count sink.new ≡ K.failure_count sink.old) }
         ensures fault { IfErr result (λ fault. fault ≡ RunFault.Write) }

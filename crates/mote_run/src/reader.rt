@@ -6,7 +6,7 @@ ghost use Rattle.mote_text.specs.Script.{line_limit, line_said, read_line};
 ghost use Rattle.mote_text.specs.declared.lines.Taken.{Taken as Stopped};
 ghost use Rattle.mote_run.specs.Code.Reading.{HasFrameLine, ReadPart};
 
-use mote_text::line::LineBuf;
+use mote_text::line::OutputBuffer;
 use mote_text::lines::{Lines, Taken};
 use mote_text::script::{BadLine, read_input};
 use mote_text::transcript::said_text;
@@ -16,7 +16,7 @@ use mote_types::entry::Input;
 #[derive(Drop)]
 pub struct LineInput {
     pub input: Input,
-    pub frame_line: LineBuf,
+    pub frame_line: OutputBuffer,
 }
 
 /// The lines of a script, the number of the present one, which begins at 1, and a place for the input of a line.
@@ -68,7 +68,7 @@ impl Reader {
             number: 1,
             place: LineInput {
                 input: Input::Tick(0),
-                frame_line: LineBuf::new(),
+                frame_line: OutputBuffer::new(),
             },
         }
     }

@@ -14,8 +14,8 @@ use crate::due::Due;
 use crate::law::text_exists;
 use crate::work::take_script;
 use kernel_core::kernel::Kernel;
-use mote_text::line::LineBuf;
-use mote_text::script::{End, SCRIPT_LIMIT};
+use mote_text::line::OutputBuffer;
+use mote_text::script::End;
 use mote_text::transcript::final_text;
 use mote_types::app::App;
 use mote_types::device::{ByteSink, ByteSource};
@@ -44,7 +44,7 @@ fn close<K: ByteSink>(sink: &mut K, due: &mut Due, end: End) -> Result<End, RunF
     ensures fault { IfErr result (λ fault. fault ≡ RunFault.Write) }
     ensures failed { OnErr result (K.failure_count sink.new ≡ K.failure_count sink.old + 1) }
 {
-    let mut line = LineBuf::new();
+    let mut line = OutputBuffer::new();
     final_text(end, &mut line);
     due.put(sink, line.as_slice())?;
     due.flush(sink)?;
@@ -69,7 +69,7 @@ fn write_run<S: ByteSource, K: ByteSink>(
         HasRunInPart config (says_of says apps.old) quiet (S.taken source.old) (S.taken source.new) (S.is_ended source.new) (K.given sink.old) (K.given sink.new)) }
     ensures after_read_fault { IsErrOf result RunFault.Read → S.is_named → K.is_named → (config : Config) → kernel.old.machine ≡ booted config →
         HasRunOnWholeLines config (says_of says apps.old) quiet (S.taken source.old) (S.taken source.new) (K.given sink.old) (K.given sink.new) }
-    ensures few { S.is_named → (count : ℕ) × (count ≤ SCRIPT_LIMIT + 1) × HasRead count (S.taken source.old) (S.taken source.new) }
+    ensures few { S.is_named → (count : ℕ) × (count ≤ 16_777_216 + 1) × HasRead count (S.taken source.old) (S.taken source.new) }
     ensures read_fault { IsErrOf result RunFault.Read ↔ (S.failure_count source.old < S.failure_count source.new) }
     ensures write_fault { IsErrOf result RunFault.Write ↔ (K.failure_count sink.old < K.failure_count sink.new) }
 {
@@ -108,7 +108,7 @@ pub fn run<S: ByteSource, K: ByteSink>(
         HasRunInPart config (says_of says apps.old) quiet (S.taken source.old) (S.taken source.new) (S.is_ended source.new) (K.given sink.old) (K.given sink.new)) }
     ensures after_read_fault { IsErrOf result RunFault.Read → S.is_named → K.is_named → (config : Config) → kernel.machine ≡ booted config →
         HasRunOnWholeLines config (says_of says apps.old) quiet (S.taken source.old) (S.taken source.new) (K.given sink.old) (K.given sink.new) }
-    ensures few { S.is_named → (count : ℕ) × (count ≤ SCRIPT_LIMIT + 1) × HasRead count (S.taken source.old) (S.taken source.new) }
+    ensures few { S.is_named → (count : ℕ) × (count ≤ 16_777_216 + 1) × HasRead count (S.taken source.old) (S.taken source.new) }
     ensures read_fault { IsErrOf result RunFault.Read ↔ (S.failure_count source.old < S.failure_count source.new) }
     ensures write_fault { IsErrOf result RunFault.Write ↔ (K.failure_count sink.old < K.failure_count sink.new) }
     ensures memory { S.is_named → K.is_named → (config : Config) → kernel.machine ≡ booted config →

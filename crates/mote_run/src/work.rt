@@ -7,8 +7,8 @@ ghost use Rattle.mote_text.specs.declared.lines.Taken.{Taken as Stopped};
 ghost use Rattle.kernel_core.specs.declared.config.Config.{Config};
 ghost use Rattle.kernel_core.specs.Machine.{booted};
 ghost use Rattle.kernel_core.specs.Run.{is_still};
-ghost use Rattle.mote_run.specs.RunText.{HasRead, HasRunInPart, HasRunOnWholeLines, WasBooted, script_done};
-ghost use Rattle.mote_run.specs.Code.Between.{HasEnded, InRun};
+ghost use Rattle.mote_run.specs.RunText.{HasRead, HasRunInPart, HasRunOnWholeLines, WasBooted};
+ghost use Rattle.mote_run.specs.Code.Between.{HasEnded, InRun, script_done};
 
 use crate::due::Due;
 use crate::refill::refill;
@@ -16,7 +16,7 @@ use crate::run::RunFault;
 use crate::script::{LIMIT, Script};
 use crate::settle::{settle, settle_input};
 use kernel_core::kernel::Kernel;
-use mote_text::script::{BadLine, End, SCRIPT_LIMIT};
+use mote_text::script::{BadLine, End};
 use mote_types::app::App;
 use mote_types::device::{ByteSink, ByteSource};
 use mote_types::entry::Entry;
@@ -147,7 +147,7 @@ pub fn take_script<S: ByteSource, K: ByteSink>(
         HasRunInPart config (says_of says apps.old) quiet (S.taken source.old) (S.taken source.new) (S.is_ended source.new) (K.given sink.old) (K.given sink.new)) }
     ensures after_read_fault { IsErrOf result RunFault.Read → S.is_named → K.is_named → (config : Config) → kernel.old.machine ≡ booted config →
         HasRunOnWholeLines config (says_of says apps.old) quiet (S.taken source.old) (S.taken source.new) (K.given sink.old) (K.given sink.new) }
-    ensures few { S.is_named → (count : ℕ) × (count ≤ SCRIPT_LIMIT + 1) × HasRead count (S.taken source.old) (S.taken source.new) }
+    ensures few { S.is_named → (count : ℕ) × (count ≤ 16_777_216 + 1) × HasRead count (S.taken source.old) (S.taken source.new) }
     ensures read_succeeded { OnOk result (S.failure_count source.new ≡ S.failure_count source.old) }
     ensures write_succeeded { OnOk result (K.failure_count sink.new ≡ K.failure_count sink.old) }
     ensures read_fault { IsErrOf result RunFault.Read ↔ (S.failure_count source.old < S.failure_count source.new) }

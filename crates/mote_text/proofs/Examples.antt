@@ -1,9 +1,20 @@
--- Worked examples: what small scripts give.
-use Rattle.std.proofs.Common.{◌≡◌, ◌≤◌, ℕ, [], ◌∷◌, codes, refl, ◌∙◌, arith, lit≤}
+-- Worked examples: what small scripts give, and what small transcripts show.
+use Rattle.std.proofs.Common.{◌≡◌, ◌≤◌, ℕ, true, [], ◌∷◌, codes, refl, ◌∙◌, arith, lit≤}
+use Rattle.std.specs.Fmt.{digits}
+use Rattle.hex.specs.Hex.{encode_with}
+use Rattle.mote_types.specs.declared.call.Call.{Call}
+use Rattle.mote_types.specs.declared.entry.Entry.{Entry}
 use Rattle.mote_types.specs.declared.entry.Input.{Input}
+use Rattle.mote_types.specs.declared.entry.Note.{Note}
+use Rattle.mote_types.specs.declared.event.Origin.{Origin}
+use Rattle.mote_types.specs.declared.event.Stimulus.{Stimulus}
+use Rattle.mote_types.specs.declared.refusal.Refusal.{Refusal}
+use Rattle.mote_types.specs.declared.reply.Reply.{Reply}
+use Rattle.mote_text.specs.EntryText.{entry_line, line_of}
 use Rattle.mote_text.specs.declared.script.End.{End}
 use Rattle.mote_text.proofs.WholeLines.{inputs_of_short}
-use Rattle.mote_text.specs.Script.{inputs, read_line, script_limit}
+use Rattle.mote_text.specs.Script.{inputs, read_line, script_limit, whole_lines}
+use Rattle.mote_text.specs.Transcript.{final_line, shown, text}
 
 small : (n : ℕ) → n ≤ 1000 → n ≤ script_limit
 unfolding script_limit
@@ -22,3 +33,27 @@ a_bad_line = inputs_of_short (codes "tick 5\n\nticks 1\ntick 7\n") (small 23 (li
 nothing : inputs [] ≡ ([], End.Finished)
 unfolding read_line
 nothing = inputs_of_short [] (small 0 (lit≤ tt)) ∙ refl
+
+-- the last line has not ended
+one_whole_line : whole_lines (codes "tick 5\ntick") ≡ codes "tick 5" ∷ []
+one_whole_line = refl
+
+printed : Entry
+printed = Entry.Turn (record { 0 = 4 }) Origin.Answer (Stimulus.Answer Reply.Done) (Call.Print (record { items = 104 ∷ 105 ∷ 10 ∷ [] }))
+
+line_of_a_turn : entry_line printed ≡ codes "4 answer done -> print 68690a\n"
+unfolding entry_line line_of printed digits encode_with
+line_of_a_turn = refl
+
+text_of_a_bad_script : text (Entry.Input (Input.Tick 5) ∷ Entry.Halt ∷ []) (End.BadLine 3) ≡ codes "> tick 5\nhalt\nbad line 3\n"
+unfolding entry_line line_of digits
+text_of_a_bad_script = refl
+
+too_long : final_line End.TooLong ≡ codes "too long\n"
+unfolding line_of
+too_long = refl
+
+-- a quiet transcript
+shown_quietly : shown true (Entry.Input (Input.Tick 5) ∷ printed ∷ Entry.Note (Note.Lost Refusal.NotLive) ∷ Entry.Halt ∷ []) ≡ printed ∷ Entry.Halt ∷ []
+unfolding printed
+shown_quietly = refl

@@ -131,5 +131,10 @@ spaced words = flat_map (λ word. codes " " ++ word) words
 unfoldable pub line_of : List Word → List ℕ
 line_of words = join_by (λ word. word) (codes " ") words ++ codes "\n"
 
+-- the bytes of an entry's line, with its end
 unfoldable pub entry_line : Entry → List ℕ
 entry_line entry = line_of (entry_words entry)
+
+-- no line of an entry has more bytes, with its end
+abbrev pub entry_line_limit : ℕ
+entry_line_limit = 640

@@ -5,7 +5,7 @@ ghost use Rattle.std.specs.Prelude.{◌≡◌, ◌≤◌, ◌+◌, ◌++◌, [],
 ghost use Rattle.mote_text.specs.EntryText.{spaced, hex, payload_word, call_words};
 ghost use Rattle.mote_text.specs.Code.CallWords.{argument_words};
 
-use crate::line::{LineBuf, push_hex, push_number};
+use crate::line::{OutputBuffer, push_hex, push_number};
 use crate::words::push_payload;
 use mote_types::call::Call;
 use mote_types::event::Payload;
@@ -72,7 +72,7 @@ fn word_of(call: &Call) -> &'static str
 }
 
 /// Appends the number of what a call is on.
-fn push_name(line: &mut LineBuf, name: u8)
+fn push_name(line: &mut OutputBuffer, name: u8)
     requires { length line.old.items + 21 ≤ 4096 }
     ensures text { line.new.items ≡ line.old.items ++ spaced (decimal name ∷ []) }
     ensures length { length line.new.items ≤ length line.old.items + 21 }
@@ -80,7 +80,7 @@ fn push_name(line: &mut LineBuf, name: u8)
     push_number(line, u64::from(name));
 }
 
-fn push_pair(line: &mut LineBuf, first: u8, second: u8)
+fn push_pair(line: &mut OutputBuffer, first: u8, second: u8)
     requires { length line.old.items + 42 ≤ 4096 }
     ensures text { line.new.items ≡ line.old.items ++ spaced (decimal first ∷ decimal second ∷ []) }
     ensures length { length line.new.items ≤ length line.old.items + 42 }
@@ -89,7 +89,7 @@ fn push_pair(line: &mut LineBuf, first: u8, second: u8)
     push_name(line, second);
 }
 
-fn push_triple(line: &mut LineBuf, first: u8, second: u8, third: u8)
+fn push_triple(line: &mut OutputBuffer, first: u8, second: u8, third: u8)
     requires { length line.old.items + 63 ≤ 4096 }
     ensures text { line.new.items ≡ line.old.items ++ spaced (decimal first ∷ decimal second ∷ decimal third ∷ []) }
     ensures length { length line.new.items ≤ length line.old.items + 63 }
@@ -99,7 +99,7 @@ fn push_triple(line: &mut LineBuf, first: u8, second: u8, third: u8)
 }
 
 /// Appends a thing, and a length, an interval, or a place in it.
-fn push_sized(line: &mut LineBuf, name: u8, size: u32)
+fn push_sized(line: &mut OutputBuffer, name: u8, size: u32)
     requires { length line.old.items + 42 ≤ 4096 }
     ensures text { line.new.items ≡ line.old.items ++ spaced (decimal name ∷ decimal size ∷ []) }
     ensures length { length line.new.items ≤ length line.old.items + 42 }
@@ -109,7 +109,7 @@ fn push_sized(line: &mut LineBuf, name: u8, size: u32)
 }
 
 /// Appends where a call reads, and how many bytes.
-fn push_span(line: &mut LineBuf, at: u32, len: u8)
+fn push_span(line: &mut OutputBuffer, at: u32, len: u8)
     requires { length line.old.items + 42 ≤ 4096 }
     ensures text { line.new.items ≡ line.old.items ++ spaced (decimal at ∷ decimal len ∷ []) }
     ensures length { length line.new.items ≤ length line.old.items + 42 }
@@ -119,7 +119,7 @@ fn push_span(line: &mut LineBuf, at: u32, len: u8)
 }
 
 /// Appends where a call writes, and what.
-fn push_chunk(line: &mut LineBuf, at: u32, chunk: &Chunk)
+fn push_chunk(line: &mut OutputBuffer, at: u32, chunk: &Chunk)
     requires { length line.old.items + 151 ≤ 4096 }
     ensures text { line.new.items ≡ line.old.items ++ spaced (decimal at ∷ hex chunk.now.items ∷ []) }
     ensures length { length line.new.items ≤ length line.old.items + 151 }
@@ -129,7 +129,7 @@ fn push_chunk(line: &mut LineBuf, at: u32, chunk: &Chunk)
 }
 
 /// Appends the code of an event, and what it carries.
-fn push_event(line: &mut LineBuf, code: u8, payload: &Payload)
+fn push_event(line: &mut OutputBuffer, code: u8, payload: &Payload)
     requires { length line.old.items + 277 ≤ 4096 }
     ensures text { line.new.items ≡ line.old.items ++ spaced (decimal code ∷ payload_word payload.now ∷ []) }
     ensures length { length line.new.items ≤ length line.old.items + 277 }
@@ -139,7 +139,7 @@ fn push_event(line: &mut LineBuf, code: u8, payload: &Payload)
 }
 
 /// Appends the arguments of a read.
-fn push_read(line: &mut LineBuf, name: u8, at: u32, len: u8)
+fn push_read(line: &mut OutputBuffer, name: u8, at: u32, len: u8)
     requires { length line.old.items + 63 ≤ 4096 }
     ensures text { line.new.items ≡ line.old.items ++ spaced (decimal name ∷ decimal at ∷ decimal len ∷ []) }
     ensures length { length line.new.items ≤ length line.old.items + 63 }
@@ -149,7 +149,7 @@ fn push_read(line: &mut LineBuf, name: u8, at: u32, len: u8)
 }
 
 /// Appends the arguments of a write.
-fn push_write(line: &mut LineBuf, name: u8, at: u32, chunk: &Chunk)
+fn push_write(line: &mut OutputBuffer, name: u8, at: u32, chunk: &Chunk)
     requires { length line.old.items + 172 ≤ 4096 }
     ensures text { line.new.items ≡ line.old.items ++ spaced (decimal name ∷ decimal at ∷ hex chunk.now.items ∷ []) }
     ensures length { length line.new.items ≤ length line.old.items + 172 }
@@ -159,7 +159,7 @@ fn push_write(line: &mut LineBuf, name: u8, at: u32, chunk: &Chunk)
 }
 
 /// Appends the arguments of a read from a pool's block.
-fn push_pool_read(line: &mut LineBuf, pool: u8, block: u8, at: u32, len: u8)
+fn push_pool_read(line: &mut OutputBuffer, pool: u8, block: u8, at: u32, len: u8)
     requires { length line.old.items + 84 ≤ 4096 }
     ensures text { line.new.items ≡ line.old.items ++
         spaced (decimal pool ∷ decimal block ∷ decimal at ∷ decimal len ∷ []) }
@@ -170,7 +170,7 @@ fn push_pool_read(line: &mut LineBuf, pool: u8, block: u8, at: u32, len: u8)
 }
 
 /// Appends the arguments of a write into a pool's block.
-fn push_pool_write(line: &mut LineBuf, pool: u8, block: u8, at: u32, chunk: &Chunk)
+fn push_pool_write(line: &mut OutputBuffer, pool: u8, block: u8, at: u32, chunk: &Chunk)
     requires { length line.old.items + 193 ≤ 4096 }
     ensures text { line.new.items ≡ line.old.items ++
         spaced (decimal pool ∷ decimal block ∷ decimal at ∷ hex chunk.now.items ∷ []) }
@@ -181,7 +181,7 @@ fn push_pool_write(line: &mut LineBuf, pool: u8, block: u8, at: u32, chunk: &Chu
 }
 
 /// Appends the arguments of a post to one process.
-fn push_post(line: &mut LineBuf, process: u8, code: u8, payload: &Payload)
+fn push_post(line: &mut OutputBuffer, process: u8, code: u8, payload: &Payload)
     requires { length line.old.items + 298 ≤ 4096 }
     ensures text { line.new.items ≡ line.old.items ++
         spaced (decimal process ∷ decimal code ∷ payload_word payload.now ∷ []) }
@@ -193,7 +193,7 @@ fn push_post(line: &mut LineBuf, process: u8, code: u8, payload: &Payload)
 
 /// Appends a call's arguments.
 #[tactic(auto, using(crate::proofs::Spaced::spaced_none))]
-fn push_arguments(line: &mut LineBuf, call: &Call)
+fn push_arguments(line: &mut OutputBuffer, call: &Call)
     requires { length line.old.items + 298 ≤ 4096 }
     ensures text { line.new.items ≡ line.old.items ++ spaced (argument_words call.now) }
     ensures length { length line.new.items ≤ length line.old.items + 298 }
@@ -260,7 +260,7 @@ fn push_arguments(line: &mut LineBuf, call: &Call)
 }
 
 /// Appends an arrow and what a process called, at most 315 bytes.
-pub(crate) fn push_call(line: &mut LineBuf, call: &Call)
+pub(crate) fn push_call(line: &mut OutputBuffer, call: &Call)
     requires { length line.old.items + 315 ≤ 4096 }
     ensures text { line.new.items ≡ line.old.items ++ spaced (codes "->" ∷ call_words call.now) }
     ensures length { length line.new.items ≤ length line.old.items + 315 }

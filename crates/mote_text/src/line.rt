@@ -1,4 +1,4 @@
-//! A line of a transcript, and how it is put together. A word, a number or bytes have a space in front.
+//! Lines of a transcript, and how they are put together. A word, a number or bytes have a space in front.
 #![tactic(auto, unfolding(crate::specs::EntryText::spaced))]
 
 ghost use Rattle.std.specs.Prelude.{◌≡◌, ◌≤◌, ◌<◌, ◌+◌, ◌*◌, ◌++◌, [], ◌∷◌, length, decimal, map};
@@ -6,25 +6,29 @@ ghost use Rattle.std.specs.Char.{to_ascii_lowercase};
 ghost use Rattle.hex.specs.Hex.{encode_lower};
 ghost use Rattle.mote_text.specs.EntryText.{hex, spaced};
 
+use arrayvec::ArrayVec;
 use itoa::Buffer;
 use std::marker::Model;
 
-/// How many bytes a `LineBuf` holds.
+/// How many bytes an `OutputBuffer` holds.
 const CAPACITY: usize = 4_096;
 
 /// No line of a transcript is longer, with its end.
 pub const MOST_OF_LINE: usize = 640;
 
-/// Room for lines of a transcript.
+/// Room for one line of a transcript.
+pub type LineBuf = ArrayVec<u8, MOST_OF_LINE>;
+
+/// Lines of a transcript that are gathered, to be written at once.
 ///
 /// No `ArrayVec`: that writes blanks over all that it clears, and lends no place for digits before blanks stand there.
 #[derive(Drop)]
-pub struct LineBuf {
+pub struct OutputBuffer {
     bytes: [u8; CAPACITY],
     len: usize,
 }
 
-impl Model for LineBuf {
+impl Model for OutputBuffer {
     ghost use Rattle.std.specs.Prelude.{◌≤◌, ℕ, take};
     ghost use Rattle.arrayvec.specs.ArrayVec.{ArrayVec as Items};
 
@@ -35,11 +39,11 @@ impl Model for LineBuf {
     ghost invariant = { λ line. line.len ≤ 4096 };
 }
 
-impl LineBuf {
+impl OutputBuffer {
     pub fn new() -> Self
         ensures { result.items ≡ [] }
     {
-        LineBuf {
+        OutputBuffer {
             bytes: [0; CAPACITY],
             len: 0,
         }
@@ -107,7 +111,7 @@ impl LineBuf {
 
 /// Appends this word.
 #[inline(always)]
-pub(crate) fn push_word(line: &mut LineBuf, word: &str)
+pub(crate) fn push_word(line: &mut OutputBuffer, word: &str)
     requires { length line.old.items + 1 + length word.now ≤ 4096 }
     ensures text { line.new.items ≡ line.old.items ++ spaced (word.now ∷ []) }
     ensures length { length line.new.items ≡ length line.old.items + 1 + length word.now }
@@ -119,7 +123,7 @@ pub(crate) fn push_word(line: &mut LineBuf, word: &str)
 /// Appends this number in decimal, with no space in front.
 #[inline(always)]
 #[tactic(auto, using(std::proofs::lemmas::Fmt::decimal_digit))]
-pub(crate) fn push_decimal(line: &mut LineBuf, n: u64)
+pub(crate) fn push_decimal(line: &mut OutputBuffer, n: u64)
     requires { length line.old.items + 20 ≤ 4096 }
     ensures text { line.new.items ≡ line.old.items ++ decimal n }
     ensures length { length line.new.items ≤ length line.old.items + 20 }
@@ -134,7 +138,7 @@ pub(crate) fn push_decimal(line: &mut LineBuf, n: u64)
 
 /// Appends this number in decimal, however many digits it has.
 #[inline(never)]
-fn push_long_decimal(line: &mut LineBuf, n: u64)
+fn push_long_decimal(line: &mut OutputBuffer, n: u64)
     requires { length line.old.items + 20 ≤ 4096 }
     ensures text { line.new.items ≡ line.old.items ++ decimal n }
     ensures length { length line.new.items ≤ length line.old.items + 20 }
@@ -144,7 +148,7 @@ fn push_long_decimal(line: &mut LineBuf, n: u64)
 
 /// Appends this number in decimal: at most 20 digits.
 #[inline]
-pub(crate) fn push_number(line: &mut LineBuf, n: u64)
+pub(crate) fn push_number(line: &mut OutputBuffer, n: u64)
     requires { length line.old.items + 21 ≤ 4096 }
     ensures text { line.new.items ≡ line.old.items ++ spaced (decimal n ∷ []) }
     ensures length { length line.new.items ≤ length line.old.items + 21 }
@@ -154,7 +158,7 @@ pub(crate) fn push_number(line: &mut LineBuf, n: u64)
 }
 
 /// Appends these bytes in hex, or a dash where there are none.
-pub(crate) fn push_hex(line: &mut LineBuf, bytes: &[u8])
+pub(crate) fn push_hex(line: &mut OutputBuffer, bytes: &[u8])
     requires few { length bytes.now ≤ 256 }
     requires room { length line.old.items + 2 + 2 * length bytes.now ≤ 4096 }
     ensures text { line.new.items ≡ line.old.items ++ spaced (hex bytes.now ∷ []) }
@@ -169,7 +173,7 @@ pub(crate) fn push_hex(line: &mut LineBuf, bytes: &[u8])
 }
 
 /// Appends this word, and a number.
-pub(crate) fn push_numbered(line: &mut LineBuf, word: &str, n: u64)
+pub(crate) fn push_numbered(line: &mut OutputBuffer, word: &str, n: u64)
     requires { length line.old.items + 22 + length word.now ≤ 4096 }
     ensures text { line.new.items ≡ line.old.items ++ spaced (word.now ∷ decimal n ∷ []) }
     ensures length { length line.new.items ≤ length line.old.items + 22 + length word.now }
@@ -179,7 +183,7 @@ pub(crate) fn push_numbered(line: &mut LineBuf, word: &str, n: u64)
 }
 
 /// Appends this word, and bytes.
-pub(crate) fn push_shown(line: &mut LineBuf, word: &str, bytes: &[u8])
+pub(crate) fn push_shown(line: &mut OutputBuffer, word: &str, bytes: &[u8])
     requires few { length bytes.now ≤ 256 }
     requires room { length line.old.items + 3 + length word.now + 2 * length bytes.now ≤ 4096 }
     ensures text { line.new.items ≡ line.old.items ++ spaced (word.now ∷ hex bytes.now ∷ []) }

@@ -4,12 +4,12 @@
 ghost use Rattle.std.specs.Prelude.{◌≡◌, ◌≤◌, ◌+◌, ◌++◌, ◌||◌, not, length, Some};
 ghost use Rattle.mote_types.specs.declared.entry.Entry.{Entry as Made};
 ghost use Rattle.mote_types.specs.declared.entry.Input.{Input as Handed};
-ghost use Rattle.mote_text.specs.EntryText.{entry_line, spaced};
+ghost use Rattle.mote_text.specs.EntryText.{entry_line, entry_line_limit, spaced};
 ghost use Rattle.mote_text.specs.Script.{read_line};
 ghost use Rattle.mote_text.specs.Transcript.{final_line, is_shown, prints_or_sends};
 
 use crate::calls::push_call;
-use crate::line::{LineBuf, MOST_OF_LINE, push_decimal, push_number};
+use crate::line::{LineBuf, OutputBuffer, push_decimal, push_number};
 use crate::script::End;
 use crate::words::{push_input, push_note, push_origin, push_stimulus};
 use mote_types::call::Call;
@@ -22,9 +22,10 @@ use mote_types::event::{Origin, Pid, Stimulus};
 // As `push_input`.
 #[inline(always)]
 #[tactic(auto, unfolding(crate::specs::EntryText::entry_line, crate::specs::EntryText::line_of, crate::specs::EntryText::spaced))]
-pub fn push_input_line(input: &Input, line: &mut LineBuf)
-    requires { length line.old.items + MOST_OF_LINE ≤ 4096 }
-    ensures { line.new.items ≡ line.old.items ++ entry_line (Made.Input input.now) }
+pub fn push_input_line(input: &Input, line: &mut OutputBuffer)
+    requires { length line.old.items + entry_line_limit ≤ 4096 }
+    ensures text { line.new.items ≡ line.old.items ++ entry_line (Made.Input input.now) }
+    ensures length { length line.new.items ≤ length line.old.items + entry_line_limit }
 {
     line.push(b">");
     push_input(line, input);
@@ -40,10 +41,11 @@ pub fn push_turn_line(
     origin: Origin,
     stimulus: &Stimulus,
     call: &Call,
-    line: &mut LineBuf,
+    line: &mut OutputBuffer,
 )
-    requires { length line.old.items + MOST_OF_LINE ≤ 4096 }
-    ensures { line.new.items ≡ line.old.items ++ entry_line (Made.Turn pid origin stimulus.now call.now) }
+    requires { length line.old.items + entry_line_limit ≤ 4096 }
+    ensures text { line.new.items ≡ line.old.items ++ entry_line (Made.Turn pid origin stimulus.now call.now) }
+    ensures length { length line.new.items ≤ length line.old.items + entry_line_limit }
 {
     push_decimal(line, u64::from(pid.0));
     push_origin(line, origin);
@@ -56,9 +58,10 @@ pub fn push_turn_line(
 ///
 /// Source: the transcript format is this project's profile.
 #[tactic(auto, unfolding(crate::specs::EntryText::entry_line, crate::specs::EntryText::line_of, crate::specs::EntryText::spaced))]
-pub fn push_entry(entry: &Entry, line: &mut LineBuf)
-    requires { length line.old.items + MOST_OF_LINE ≤ 4096 }
-    ensures { line.new.items ≡ line.old.items ++ entry_line entry.now }
+pub fn push_entry(entry: &Entry, line: &mut OutputBuffer)
+    requires { length line.old.items + entry_line_limit ≤ 4096 }
+    ensures text { line.new.items ≡ line.old.items ++ entry_line entry.now }
+    ensures length { length line.new.items ≤ length line.old.items + entry_line_limit }
 {
     match entry {
         Entry::Input(input) => return push_input_line(input, line),
@@ -77,19 +80,22 @@ pub fn push_entry(entry: &Entry, line: &mut LineBuf)
     line.push(b"\n");
 }
 
-/// Puts the line of an entry, with its end, in place of what is in the buffer.
+/// Puts the line of an entry, with its end, in place of what is in the buffer. It has at most 640 bytes.
 pub fn entry_text(entry: &Entry, line: &mut LineBuf)
-    ensures { line.new.items ≡ entry_line entry.now }
+    ensures text { line.new.items ≡ entry_line entry.now }
+    ensures length { length (entry_line entry.now) ≤ entry_line_limit }
 {
+    let mut made = OutputBuffer::new();
+    push_entry(entry, &mut made);
     line.clear();
-    push_entry(entry, line);
+    let _ = line.try_extend_from_slice(made.as_slice());
 }
 
 /// Puts the line of the input that a script's line says, with its end, in place of what is in the buffer: it is the
 /// script's line in lower case.
 // Out of the way of ticks, which most lines are.
 #[inline(never)]
-pub fn said_text(script_line: &[u8], line: &mut LineBuf)
+pub fn said_text(script_line: &[u8], line: &mut OutputBuffer)
     requires { length script_line.now ≤ 1024 }
     ensures { (input : Handed) → read_line script_line.now ≡ Some (Some input) → line.new.items ≡ entry_line (Made.Input input) }
 {
@@ -104,7 +110,7 @@ pub fn said_text(script_line: &[u8], line: &mut LineBuf)
 ///
 /// Source: the transcript format is this project's profile.
 #[tactic(auto, unfolding(crate::specs::EntryText::line_of, crate::specs::EntryText::spaced))]
-pub fn final_text(end: End, line: &mut LineBuf)
+pub fn final_text(end: End, line: &mut OutputBuffer)
     ensures { line.new.items ≡ final_line end }
 {
     line.clear();

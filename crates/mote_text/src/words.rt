@@ -5,13 +5,13 @@ ghost use Rattle.std.specs.Prelude.{◌≡◌, ◌≤◌, ◌+◌, ◌++◌, [],
 ghost use Rattle.mote_types.specs.Codes.{refusal_number};
 ghost use Rattle.mote_text.specs.EntryText.{spaced, hex, flag_word, payload_word, origin_word, stats_words, reply_words, stimulus_words, input_words, note_words};
 
-use crate::line::{LineBuf, push_number, push_numbered, push_shown, push_word};
+use crate::line::{OutputBuffer, push_number, push_numbered, push_shown, push_word};
 use mote_types::entry::{Input, Note};
 use mote_types::event::{Origin, Payload, Stimulus};
 use mote_types::refusal::Refusal;
 use mote_types::reply::{HeapStats, Reply};
 
-pub(crate) fn push_payload(line: &mut LineBuf, payload: &Payload)
+pub(crate) fn push_payload(line: &mut OutputBuffer, payload: &Payload)
     requires { length line.old.items + 256 ≤ 4096 }
     ensures text { line.new.items ≡ line.old.items ++ spaced (payload_word payload.now ∷ []) }
     ensures length { length line.new.items ≤ length line.old.items + 256 }
@@ -26,7 +26,7 @@ pub(crate) fn push_payload(line: &mut LineBuf, payload: &Payload)
     }
 }
 
-pub(crate) fn push_origin(line: &mut LineBuf, origin: Origin)
+pub(crate) fn push_origin(line: &mut OutputBuffer, origin: Origin)
     requires { length line.old.items + 9 ≤ 4096 }
     ensures text { line.new.items ≡ line.old.items ++ spaced (origin_word origin ∷ []) }
     ensures length { length line.new.items ≤ length line.old.items + 9 }
@@ -41,7 +41,7 @@ pub(crate) fn push_origin(line: &mut LineBuf, origin: Origin)
 }
 
 /// Appends this word, and the number of a refusal.
-fn push_refusal(line: &mut LineBuf, word: &str, refusal: Refusal)
+fn push_refusal(line: &mut OutputBuffer, word: &str, refusal: Refusal)
     requires { length line.old.items + 22 + length word.now ≤ 4096 }
     ensures text { line.new.items ≡ line.old.items ++ spaced (word.now ∷ decimal (refusal_number refusal) ∷ []) }
     ensures length { length line.new.items ≤ length line.old.items + 22 + length word.now }
@@ -49,7 +49,7 @@ fn push_refusal(line: &mut LineBuf, word: &str, refusal: Refusal)
     push_numbered(line, word, u64::from(refusal.number()));
 }
 
-fn push_flag(line: &mut LineBuf, flag: bool)
+fn push_flag(line: &mut OutputBuffer, flag: bool)
     requires { length line.old.items + 11 ≤ 4096 }
     ensures text { line.new.items ≡ line.old.items ++ spaced (codes "flag" ∷ flag_word flag ∷ []) }
     ensures length { length line.new.items ≤ length line.old.items + 11 }
@@ -58,7 +58,7 @@ fn push_flag(line: &mut LineBuf, flag: bool)
     push_word(line, if flag { "true" } else { "false" });
 }
 
-fn push_stats(line: &mut LineBuf, stats: &HeapStats)
+fn push_stats(line: &mut OutputBuffer, stats: &HeapStats)
     requires { length line.old.items + 111 ≤ 4096 }
     ensures text { line.new.items ≡ line.old.items ++ spaced (stats_words stats.now) }
     ensures length { length line.new.items ≤ length line.old.items + 111 }
@@ -71,7 +71,7 @@ fn push_stats(line: &mut LineBuf, stats: &HeapStats)
     push_number(line, u64::from(stats.chunks));
 }
 
-fn push_reply(line: &mut LineBuf, reply: &Reply)
+fn push_reply(line: &mut OutputBuffer, reply: &Reply)
     requires { length line.old.items + 136 ≤ 4096 }
     ensures text { line.new.items ≡ line.old.items ++ spaced (reply_words reply.now) }
     ensures length { length line.new.items ≤ length line.old.items + 136 }
@@ -88,7 +88,7 @@ fn push_reply(line: &mut LineBuf, reply: &Reply)
 }
 
 /// Appends what a process was told, at most 277 bytes.
-pub(crate) fn push_stimulus(line: &mut LineBuf, stimulus: &Stimulus)
+pub(crate) fn push_stimulus(line: &mut OutputBuffer, stimulus: &Stimulus)
     requires { length line.old.items + 277 ≤ 4096 }
     ensures text { line.new.items ≡ line.old.items ++ spaced (stimulus_words stimulus.now) }
     ensures length { length line.new.items ≤ length line.old.items + 277 }
@@ -106,7 +106,7 @@ pub(crate) fn push_stimulus(line: &mut LineBuf, stimulus: &Stimulus)
 /// Appends an input, at most 521 bytes.
 // Most inputs are ticks, whose words are soon written: a call would cost half as much again.
 #[inline(always)]
-pub(crate) fn push_input(line: &mut LineBuf, input: &Input)
+pub(crate) fn push_input(line: &mut OutputBuffer, input: &Input)
     requires { length line.old.items + 521 ≤ 4096 }
     ensures text { line.new.items ≡ line.old.items ++ spaced (input_words input.now) }
     ensures length { length line.new.items ≤ length line.old.items + 521 }
@@ -119,7 +119,7 @@ pub(crate) fn push_input(line: &mut LineBuf, input: &Input)
 }
 
 /// Appends a note, at most 261 bytes.
-pub(crate) fn push_note(line: &mut LineBuf, note: &Note)
+pub(crate) fn push_note(line: &mut OutputBuffer, note: &Note)
     requires { length line.old.items + 261 ≤ 4096 }
     ensures text { line.new.items ≡ line.old.items ++ spaced (note_words note.now) }
     ensures length { length line.new.items ≤ length line.old.items + 261 }

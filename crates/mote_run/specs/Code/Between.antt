@@ -1,5 +1,5 @@
 -- What holds between two parts of a run's script.
-use Rattle.std.specs.Prelude.{◌≡◌, ◌+◌, ◌≤◌, ℕ, Bool, true, List, [], ◌++◌, length}
+use Rattle.std.specs.Prelude.{◌≡◌, ◌+◌, ◌≤◌, ℕ, Bool, true, List, [], ◌++◌, length, if◌then◌else◌}
 use Rattle.std.specs.List.{list_any}
 use Rattle.mote_types.specs.Applications.{Applications}
 use Rattle.mote_types.specs.Entries.{is_halt}
@@ -16,6 +16,10 @@ use Rattle.kernel_core.specs.Run.{Running, Runs, at_start, is_still}
 use Rattle.mote_run.specs.RunText.{IsRunText}
 use Rattle.mote_run.specs.Code.Settling.{IsTold, lines}
 use Rattle.mote_run.specs.Code.Writing.{WritesOn}
+
+-- the end of a run whose script has ended, where the machine is so
+abbrev pub script_done : Machine → End
+script_done m = if m.is_halted then End.Halted else End.Finished
 
 -- so many bytes were used: those of the lines that have ended, and those of the present line, whose end hasn't come. The rest was
 -- read and not used

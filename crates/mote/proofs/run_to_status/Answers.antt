@@ -1,0 +1,25 @@
+use Rattle.std.proofs.Common.{◌≡◌, ◌∙◌, List, ℕ, ap, map, inr, string_bytes, subst}
+use Rattle.mote_words.specs.CommandLine.{named_in, texts}
+use Rattle.mote.specs.CommandLine.{HasRunNamed, IsOutcome}
+use Rattle.mote.proofs.Named.{of_shown}
+use Rattle.mote.proofs.run_to_status.Goals as goal
+
+pub returns-clause-status : goal.returns-clause-status
+returns-clause-status g c =
+    let words = map string_bytes c.args.words.now in
+    let done = c.run_words-outcome.ensures in
+    let taken_old = g.S.ByteSource.taken c.args.source.now in
+    let taken = g.S.ByteSource.taken c.run_words-outcome.new.source in
+    let is_ended = g.S.ByteSource.is_ended c.run_words-outcome.new.source in
+    let given_old = g.K.ByteSink.given c.args.sink.now in
+    let given = g.K.ByteSink.given c.run_words-outcome.new.sink in
+    let same : texts c.as_slice.result.now ≡ words = ap texts c.as_slice.ensures.value ∙ c.in_ok-texts.ensures.texts in
+    let allowed = subst (λ (w : List (List ℕ)). IsOutcome w c.run_words-outcome.result) same done.outcome in
+    record {
+      outcome = c.show.result;
+      is_allowed = of_shown (IsOutcome words) _ _ allowed (λ text asked refused. inr (_, refused.0, refused.1)) c.show.ensures;
+      is_done = λ source_named sink_named.
+          let ran = subst (λ (w : List (List ℕ)). HasRunNamed (named_in w) taken_old taken is_ended given_old given c.run_words-outcome.result) same (done.run source_named sink_named) in
+          of_shown (HasRunNamed (named_in words) taken_old taken is_ended given_old given) _ _ ran (λ text asked front. front) c.show.ensures;
+      is_status = c.tell.ensures;
+    }

@@ -1,0 +1,41 @@
+-- Worked examples: what words, names and numbers on the command line come to.
+use Rattle.std.proofs.Common.{◌≡◌, true, false, [], ◌∷◌, codes, refl}
+use Rattle.std.specs.Prelude.{Some, None, find, length}
+use Rattle.clap.specs.declared.error.kind.ErrorKind.{ErrorKind}
+use Rattle.clap.specs.declared.parser.matches.ValueSource.{ValueSource}
+use Rattle.mote_words.specs.CommandLine.{applications_of, is_in_words, is_request, is_unknown, number_written}
+
+-- repeats are allowed, and each name is an application's
+two_applications : length (applications_of (codes "blink" ∷ codes "echo" ∷ codes "blink" ∷ [])) ≡ 3
+two_applications = refl
+
+all_known : find is_unknown (codes "hello" ∷ codes "blink" ∷ codes "echo" ∷ codes "relay" ∷ codes "churn" ∷ codes "ping" ∷ []) ≡ None
+all_known = refl
+
+-- the first of two
+first_unknown : find is_unknown (codes "hello" ∷ codes "hullo" ∷ codes "blank" ∷ []) ≡ Some (codes "hullo")
+first_unknown = refl
+
+a_size : number_written (codes "65536") ≡ Some 65536
+a_size = refl
+
+too_wide : number_written (codes "4294967296") ≡ None
+too_wide = refl
+
+no_number : number_written (codes "4k") ≡ None
+no_number = refl
+
+help : is_request ErrorKind.DisplayHelp ≡ true
+help = refl
+
+version : is_request ErrorKind.DisplayVersion ≡ true
+version = refl
+
+mistake : is_request ErrorKind.UnknownArgument ≡ false
+mistake = refl
+
+used : is_in_words (Some ValueSource.CommandLine) ≡ true
+used = refl
+
+by_default : is_in_words (Some ValueSource.DefaultValue) ≡ false
+by_default = refl
