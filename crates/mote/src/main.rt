@@ -64,11 +64,15 @@ fn run_to_status<R: AllocGlobal + Print + Eprint, S: ByteSource, K: ByteSink>(
 fn words_of<R: AllocGlobal + env::Env>(rt: &R) -> Result<Vec<String>, Failure<'static>>
     ensures { IfErr result (λ failure. failure ≢ Refused.OutOfMemory → failure ≡ Refused.NotText) }
 {
-    let words = env::args(rt).map_err(|error| match error.kind() {
+    let arguments = env::args(rt).map_err(|error| match error.kind() {
         io::ErrorKind::OutOfMemory => Failure::OutOfMemory,
         _ => Failure::NotText,
     })?;
-    Ok(words.collect(rt.alloc())?)
+    let mut words = Vec::new(rt.alloc());
+    for word in arguments {
+        words.push(word)?;
+    }
+    Ok(words)
 }
 
 /// What the program does, from standard input to standard output, and the status that it exits with.
