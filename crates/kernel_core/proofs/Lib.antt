@@ -11,4 +11,5 @@ pub mod IdleRound
 pub mod Leftover
 pub mod Lines
 pub mod Drawing
+mod Examples
 pub mod Repeating

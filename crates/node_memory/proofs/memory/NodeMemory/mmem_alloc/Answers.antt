@@ -2,11 +2,10 @@ use Rattle.std.proofs.Common.{rules, ◌≡◌, ap, ◌∙◌}
 use Rattle.std.specs.Prelude.{Some}
 use Rattle.mote_types.specs.Bytes.{zeros}
 use Rattle.mmem_core.specs.ManagedStore.{allocated, shortage}
-use Rattle.mmem_core.specs.Table.{store_of}
 use Rattle.node_memory.specs.Memory.{with_managed}
 use Rattle.node_memory.specs.Placed.{PlacedMemory}
 use Rattle.node_memory.proofs.LaidOut.{after-managed, managed-changed, still-laid_out}
-use Rattle.node_memory.proofs.Refused.{none-then}
+use Rattle.node_memory.proofs.Refused.{none-then, shortage-of-before}
 use Rattle.node_memory.proofs.memory.NodeMemory.mmem_alloc.Goals as goal
 
 pub invariant_of-self : goal.invariant_of-self
@@ -31,6 +30,5 @@ pub returns-then-is_none-clause-refused : goal.returns-then-is_none-clause-refus
 returns-then-is_none-clause-refused c =
     let k = c.self.inside in
     let same = none-then c.alloc.result (search rules) c.alloc.ensures.unchanged in
-    let told : c.shortage.result ≡ shortage (store_of k.mmem k.arena.bytes) = c.shortage.ensures k.arena.bytes ∙ ap (λ t. shortage (store_of t k.arena.bytes)) same.0 in
-    let why : c.shortage.result ≡ shortage c.args.self.now.contents.managed = told ∙ ap (λ (v : PlacedMemory). shortage v.contents.managed) c.self.view_is in
+    let why : c.shortage.result ≡ shortage c.args.self.now.contents.managed = shortage-of-before c.shortage.result k.mmem c.alloc.new.self k.arena.bytes c.args.self.now.contents.managed (c.shortage.ensures k.arena.bytes) same.0 (ap (λ (v : PlacedMemory). v.contents.managed) c.self.view_is) in
     search rules

@@ -1,0 +1,140 @@
+-- Worked examples: how small motes start, what a killed process is told, what the kernel's own processes do, and the limit of work.
+use Rattle.std.proofs.Common.{◌≡◌, ℕ, true, [], ◌∷◌, refl}
+use Rattle.std.specs.Prelude.{Some, None, length, if◌then◌else◌, ◌==◌}
+use Rattle.mote_types.specs.Applications.{Applications, Says, fold_says, says_of}
+use Rattle.mote_types.specs.Codes.{number_event, plain_event}
+use Rattle.mote_types.specs.EventNumbers.{CONTINUE, INIT, POLL, EXIT, TIMER, SERIAL_LINE, PACKET}
+use Rattle.mote_types.specs.declared.call.Call.{Call}
+use Rattle.mote_types.specs.declared.entry.Entry.{Entry}
+use Rattle.mote_types.specs.declared.event.Event.{Event}
+use Rattle.mote_types.specs.declared.event.Origin.{Origin}
+use Rattle.mote_types.specs.declared.event.Payload.{Payload}
+use Rattle.mote_types.specs.declared.event.Stimulus.{Stimulus}
+use Rattle.mote_types.specs.declared.refusal.Refusal.{Refusal}
+use Rattle.mote_types.specs.declared.reply.Reply.{Reply}
+use Rattle.device_core.specs.PacketQueue as PacketQueue
+use Rattle.device_core.specs.SerialLine.{after_bytes, quiet_line}
+use Rattle.process_core.specs.Agenda.{Queued}
+use Rattle.timer_core.specs.Names as Names
+use Rattle.timer_core.specs.Names.{event_timer}
+use Rattle.timer_core.specs.Timers.{no_timers, set_timer}
+use Rattle.kernel_core.specs.declared.config.Config.{Config}
+use Rattle.kernel_core.specs.Inputs.{frame_arrived, frame_refusal}
+use Rattle.kernel_core.specs.Machine.{Machine, booted, with_serial}
+use Rattle.kernel_core.specs.PacketCalls.{receiver_claimed}
+use Rattle.kernel_core.specs.PacketProcess.{announce}
+use Rattle.kernel_core.specs.Repeating.{times}
+use Rattle.kernel_core.specs.Run.{Running, after_steps, at_start, is_at_rest}
+use Rattle.kernel_core.specs.SerialProcess.{serial_line}
+use Rattle.kernel_core.specs.TimerProcesses.{post_due}
+
+-- a mote of so many applications
+abbrev small : ℕ → Config
+small applications = record { mmem = 4; heap = 20; apps = applications; quota = None; header = 16 }
+
+-- the same answer whenever it is told the same
+abbrev always : (Stimulus → Call) → Says
+always answer = fold_says (λ (state : ℕ) stimulus. answer stimulus) (λ state stimulus. state) 0
+
+-- more steps than anything here takes: at rest a step changes nothing
+abbrev rested : Applications → Running → Running
+rested says = after_steps says 40
+
+-- what a process is told, from where, and what it answers
+abbrev turn : ℕ → Origin → Stimulus → Call → Entry
+turn p origin stimulus call = Entry.Turn (record { 0 = p }) origin stimulus call
+
+abbrev event_turn : ℕ → Origin → Event → Call → Entry
+event_turn p origin event call = turn p origin (Stimulus.Event event) call
+
+abbrev done_then_waits : ℕ → Entry
+done_then_waits p = turn p Origin.Answer (Stimulus.Answer Reply.Done) Call.Wait
+
+-- One application, which asks for the clock when it starts.
+
+abbrev asks_the_clock : Stimulus → Call
+asks_the_clock (Stimulus.Event event) = Call.Clock
+asks_the_clock _ = Call.Wait
+
+abbrev one : Applications
+one = says_of always (asks_the_clock ∷ [])
+
+abbrev started : Running
+started = rested one (at_start (small 1))
+
+at_rest_after_start : is_at_rest started.machine ≡ true
+at_rest_after_start = refl
+
+started_entries : started.entries ≡
+    event_turn 4 Origin.Synch (plain_event INIT) Call.Clock ∷ turn 4 Origin.Answer (Stimulus.Answer (Reply.Wide 0)) Call.Wait ∷ []
+started_entries = refl
+
+-- Two applications: the first one kills the second, which asks for the clock in its EXIT event. Whoever kills is in its own
+-- turn, so it isn't told that the other one has exited.
+
+abbrev killer : Stimulus → Call
+killer (Stimulus.Event event) = if event.code == INIT then Call.Poll 4 else Call.Kill 5
+killer _ = Call.Wait
+
+abbrev killed : Stimulus → Call
+killed (Stimulus.Event event) = if event.code == EXIT then Call.Clock else Call.Wait
+killed _ = Call.Wait
+
+abbrev two : Applications
+two = says_of always (killer ∷ killed ∷ [])
+
+told_of_the_end : (rested two (at_start (small 2))).entries ≡
+    event_turn 4 Origin.Synch (plain_event INIT) (Call.Poll 4)
+    ∷ done_then_waits 4
+    ∷ event_turn 5 Origin.Synch (plain_event INIT) Call.Wait
+    ∷ event_turn 4 Origin.Poll (plain_event POLL) (Call.Kill 5)
+    ∷ event_turn 5 Origin.Synch (plain_event EXIT) Call.Clock
+    ∷ turn 5 Origin.Answer (Stimulus.Answer (Reply.Wide 0)) Call.Wait
+    ∷ done_then_waits 4
+    ∷ []
+told_of_the_end = refl
+
+-- What the kernel's own processes do.
+
+-- a timer of process 4 is due in three ticks
+abbrev timed : ℕ → Machine
+timed clock = record (booted (small 1)) { clock = clock; timers = set_timer 0 (event_timer 4 0) 3 no_timers }
+
+not_due : length (post_due (timed 2)).scheduler.events ≡ 0
+unfolding times Names.all_timers
+not_due = refl
+
+due : (post_due (timed 3)).scheduler.events ≡ Queued.To 4 (number_event TIMER 0) ∷ []
+unfolding times Names.all_timers
+due = refl
+
+-- "hi" came in
+abbrev with_line : Machine
+with_line = with_serial (after_bytes quiet_line (104 ∷ 105 ∷ 10 ∷ [])) (booted (small 1))
+
+line_told : (serial_line (plain_event POLL) with_line).scheduler.events ≡
+    Queued.ToAll (record { code = SERIAL_LINE; payload = Payload.Line (record { items = 104 ∷ 105 ∷ [] }) })
+    ∷ Queued.To 2 (plain_event CONTINUE)
+    ∷ []
+unfolding times
+line_told = refl
+
+-- managed memory has room for four bytes
+frame_fits : frame_refusal 4 (booted (small 1)) ≡ None
+frame_fits = refl
+
+frame_is_lost : frame_refusal 5 (booted (small 1)) ≡ Some Refusal.NoRoom
+frame_is_lost = refl
+
+frame_told : (announce (receiver_claimed 4 (frame_arrived (7 ∷ 9 ∷ []) (booted (small 1))))).scheduler.events ≡
+    Queued.To 4 (number_event PACKET 2) ∷ []
+unfolding times PacketQueue.free_slot
+frame_told = refl
+
+-- Where the work of an input is at its limit, the next turn halts the mote.
+
+abbrev worked_up : Machine
+worked_up = record (booted (small 1)) { work = 10000 }
+
+halts_at_its_limit : (after_steps one 3 (record { machine = worked_up; entries = [] })).entries ≡ Entry.Halt ∷ []
+halts_at_its_limit = refl
