@@ -21,3 +21,4 @@ pub mod Told
 pub mod Totals
 pub mod Untouched
 pub mod Whole
+mod BrokenLaws
