@@ -2,6 +2,7 @@
 use Rattle.std.proofs.Common.{◌≡◌, ◌⊎◌, inl, inr, ℕ, zero, suc, ◌+◌, ◌-◌, ◌<◌, ◌≤◌, true, false, List, [], ◌∷◌, length, refl, sym, ◌∙◌, ap, arith, set, get_or, ◌==◌, ◌&&◌}
 use Rattle.std.specs.Prelude.{map, replicate}
 use Rattle.std.proofs.lemmas.Bool.{and_parts, cases_eq, eqb-true, false_from_ne_true}
+use Rattle.std.proofs.lemmas.List.{get_or-set_same}
 use Rattle.timer_core.specs.declared.timer.Timer.{Timer}
 use Rattle.timer_core.specs.declared.timer.Cell.{Cell}
 use Rattle.timer_core.specs.declared.table.LinkedCell.{LinkedCell}
@@ -100,6 +101,11 @@ pub cell_read : (cells : List LinkedCell) (t : Timer) → IsNamed t → cell_und
 cell_read cells t named =
     let whole : place_of t - 0 ≡ place_of t = omega arith in
     rw whole at (read_from t 0 all_timers cells named (omega arith) (omega (arith, count, place_below t named)) all_placed)
+
+pub cell_given : (cells : List LinkedCell) (t : Timer) (x : LinkedCell) → IsNamed t → place_of t < length cells →
+    cell_under t (named_cells all_timers (set cells (place_of t) x)) ≡ x.cell
+cell_given cells t x named within =
+    cell_read (set cells (place_of t) x) t named ∙ ap (λ (c : LinkedCell). c.cell) (get_or-set_same cells (place_of t) x zero_linked within)
 
 kept_at : (names : List Timer) (cells : List LinkedCell) (k : ℕ) (x : LinkedCell) → x.cell ≡ (get_or cells k zero_linked).cell →
     named_cells names (set cells k x) ≡ named_cells names cells

@@ -1,5 +1,5 @@
 -- What the changes of the table make of the cells and the timer list.
-use Rattle.std.proofs.Common.{◌≡◌, ℕ, ◌<◌, ◌≤◌, true, false, List, [], length, refl, ◌∙◌, ap, arith, set, get_or}
+use Rattle.std.proofs.Common.{◌≡◌, ℕ, ◌<◌, ◌≤◌, true, false, List, length, refl, sym, subst, ◌∙◌, ap, arith, set, get_or}
 use Rattle.std.specs.Prelude.{Some, None, replicate, All, ◌^◌}
 use Rattle.std.specs.List.{list_any}
 use Rattle.std.proofs.lemmas.List.{length-set}
@@ -11,11 +11,13 @@ use Rattle.timer_core.specs.declared.table.TimerTable.TheInside.{Inside}
 use Rattle.timer_core.specs.Code.Places.{place_of}
 use Rattle.timer_core.specs.Names.{IsNamed, all_timers, is_timer}
 use Rattle.timer_core.specs.Timers.{NamedCell, Timers, no_timers, armed_with, stop_timer}
-use Rattle.timer_core.specs.Code.Links.{next_of, listed_from, named_cells, IsList, IsTable, timers_of, zero_linked}
-use Rattle.timer_core.proofs.NameLemmas.{same_timer, place_below}
+use Rattle.timer_core.specs.Code.Links.{next_of, flag_of, listed_from, named_cells, AreFlagged, Names, IsTable, timers_of, zero_linked}
+use Rattle.timer_core.specs.Code.Neighbours.{Follows, IsHead}
+use Rattle.timer_core.proofs.NameLemmas.{place_below}
 use Rattle.timer_core.proofs.Cells.{cells_set, cells_kept, cells_at_boot}
-use Rattle.timer_core.proofs.LinkLemmas.{Passes, Relinked, listed_from_none, relinked_kept, relinked_first}
-use Rattle.timer_core.proofs.Unlinking.{others_first, IsPassed, others_at_end, relinked_without}
+use Rattle.timer_core.proofs.Flags.{flags_kept, flags_added, flags_removed}
+use Rattle.timer_core.proofs.LinkLemmas.{Relinked, passes, next_of_same, listed_from_none, relinked_kept, relinked_first}
+use Rattle.timer_core.proofs.Unlinking.{others, others_none, others_itself, relinked_without}
 
 -- the table is sound, and stands for these timers
 pub record StandsFor (table : Inside) (timers : Timers) : Type 0 where
@@ -30,10 +32,13 @@ same_timers t u cells armed =
     ap (λ (new : List NamedCell). let v : Timers = record { cells = new; armed = t.armed } in v) cells
     ∙ ap (λ (new : List Timer). let v : Timers = record { cells = u.cells; armed = new } in v) armed
 
-stands_for : (table : Inside) (timers : Timers) → length table.cells ≡ 192 → HasStarts table.cells → named_cells all_timers table.cells ≡ timers.cells
-    → Relinked table.cells table.first timers.armed → StandsFor table timers
-stands_for table timers places starts cells r =
-    record { sound = record { places = places; listed = r.sound; starts = starts }; value = same_timers (timers_of table) timers cells r.listed }
+stands_for : (table : Inside) (timers : Timers) → length table.cells ≡ 192 → HasStarts table.cells → AreFlagged table.cells timers.armed
+    → named_cells all_timers table.cells ≡ timers.cells → Relinked table.cells table.first timers.armed → StandsFor table timers
+stands_for table timers places starts flags cells r =
+    record {
+      sound = record { places = places; listed = r.sound; flags = rw r.listed flags; starts = starts };
+      value = same_timers (timers_of table) timers cells r.listed;
+    }
 
 -- at boot
 pub timers_at_boot : timers_of (record { cells = replicate 192 zero_linked; first = None }) ≡ no_timers
@@ -45,54 +50,78 @@ starts_set cells k x h starts = All-set (λ linked_cell. linked_cell.cell.start 
 -- a timer that is armed gets another cell
 pub cell_changed : (table : Inside) (t : Timer) (cell : Cell) → IsTable table → IsNamed t → cell.start ≤ 2 ^ 63 →
     list_any (is_timer t) (listed_from table.cells table.first) ≡ true →
-    StandsFor (record { cells = set table.cells (place_of t) (record { cell = cell; next = next_of table.cells t }); first = table.first })
+    StandsFor
+    (record { cells = set table.cells (place_of t) (record { cell = cell; is_armed = flag_of table.cells t; next = next_of table.cells t }); first = table.first })
     (armed_with t cell (timers_of table))
 cell_changed table t cell h named start e =
     let within : place_of t < length table.cells = omega (arith, h.places, place_below t named) in
-    let x : LinkedCell = record { cell = cell; next = next_of table.cells t } in
-    rw e (stands_for _ _ (length-set table.cells (place_of t) x ∙ h.places) (starts_set table.cells (place_of t) x start h.starts) (cells_set table.cells t x named)
+    let x : LinkedCell = record { cell = cell; is_armed = flag_of table.cells t; next = next_of table.cells t } in
+    rw e (stands_for _ _ (length-set table.cells (place_of t) x ∙ h.places) (starts_set table.cells (place_of t) x start h.starts)
+    (flags_kept table.cells t x _ named within h.flags refl) (cells_set table.cells t x named)
     (relinked_kept table.cells table.first t x within refl h.listed))
 
 -- a timer that isn't armed becomes the head
 pub head_added : (table : Inside) (t : Timer) (cell : Cell) → IsTable table → IsNamed t → cell.start ≤ 2 ^ 63 →
     list_any (is_timer t) (listed_from table.cells table.first) ≡ false →
-    StandsFor (record { cells = set table.cells (place_of t) (record { cell = cell; next = table.first }); first = Some t })
+    StandsFor (record { cells = set table.cells (place_of t) (record { cell = cell; is_armed = true; next = table.first }); first = Some t })
     (armed_with t cell (timers_of table))
 head_added table t cell h named start e =
     let within : place_of t < length table.cells = omega (arith, h.places, place_below t named) in
-    let x : LinkedCell = record { cell = cell; next = table.first } in
-    rw e (stands_for _ _ (length-set table.cells (place_of t) x ∙ h.places) (starts_set table.cells (place_of t) x start h.starts) (cells_set table.cells t x named)
+    let x : LinkedCell = record { cell = cell; is_armed = true; next = table.first } in
+    rw e (stands_for _ _ (length-set table.cells (place_of t) x ∙ h.places) (starts_set table.cells (place_of t) x start h.starts)
+    (flags_added table.cells t x _ named within h.flags refl) (cells_set table.cells t x named)
     (relinked_first table.cells table.first t x named within refl e h.listed))
 
-pub head_removed : (table : Inside) (timer other : Timer) → IsTable table → Passes table.cells table.first other → is_timer timer other ≡ true →
-    StandsFor (record { cells = table.cells; first = next_of table.cells timer }) (stop_timer timer (timers_of table))
-head_removed table timer other h p e =
-    let later : IsList table.cells (next_of table.cells timer) = rw (same_timer timer other e) p.later in
-    stands_for _ _ h.places h.starts refl (record { sound = later; listed = others_first table.cells table.first timer other p e })
+-- the cell of the timer, which says that it isn't on the list
+abbrev pub unflagged : List LinkedCell → Timer → LinkedCell
+unflagged cells t = record (get_or cells (place_of t) zero_linked) { is_armed = false }
 
-pub link_closed : (table : Inside) (timer before other : Timer) → IsTable table → IsPassed table.cells table.first timer before →
-    next_of table.cells before ≡ Some other → is_timer timer other ≡ true →
+-- the cells with that one
+abbrev pub without_flag : List LinkedCell → Timer → List LinkedCell
+without_flag cells t = set cells (place_of t) (unflagged cells t)
+
+start_at : (cells : List LinkedCell) (t : Timer) → place_of t < length cells → HasStarts cells → (get_or cells (place_of t) zero_linked).cell.start ≤ 2 ^ 63
+start_at cells t within starts = All-get_or (λ linked_cell. linked_cell.cell.start ≤ 2 ^ 63) cells (place_of t) zero_linked within starts
+
+pub head_removed : (table : Inside) (t : Timer) → IsTable table → IsNamed t → IsHead t (listed_from table.cells table.first) →
+    StandsFor (record { cells = without_flag table.cells t; first = next_of table.cells t }) (stop_timer t (timers_of table))
+head_removed table t h named head =
+    let within : place_of t < length table.cells = omega (arith, h.places, place_below t named) in
+    let x : LinkedCell = unflagged table.cells t in
+    let names = subst (Names table.cells table.first) head.listed h.listed.ends in
+    let step = passes table.cells table.first t names.0 h.listed in
+    let r = relinked_kept table.cells (next_of table.cells t) t x within refl step.later in
+    stands_for _ _ (length-set table.cells (place_of t) x ∙ h.places)
+    (starts_set table.cells (place_of t) x (start_at table.cells t within h.starts) h.starts)
+    (flags_removed table.cells t x _ named within h.flags refl) (cells_kept table.cells (place_of t) x refl)
+    (record { sound = r.sound; listed = r.listed ∙ others_itself table.cells table.first t step })
+
+pub link_closed : (table : Inside) (t before : Timer) → IsTable table → IsNamed t → IsNamed before → Follows t before (listed_from table.cells table.first) →
     StandsFor
     (record {
-      cells = set table.cells (place_of before) (record { cell = (get_or table.cells (place_of before) zero_linked).cell; next = next_of table.cells timer });
+      cells = set (without_flag table.cells t) (place_of before)
+          (record (get_or (without_flag table.cells t) (place_of before) zero_linked) { next = next_of table.cells t });
       first = table.first;
     })
-    (stop_timer timer (timers_of table))
-link_closed table timer before other h w next e =
-    let within : place_of before < length table.cells = omega (arith, h.places, place_below before w.named) in
-    let x : LinkedCell = record { cell = (get_or table.cells (place_of before) zero_linked).cell; next = next_of table.cells timer } in
-    let start = All-get_or (λ linked_cell. linked_cell.cell.start ≤ 2 ^ 63) table.cells (place_of before) zero_linked within h.starts in
-    stands_for _ _ (length-set table.cells (place_of before) x ∙ h.places) (starts_set table.cells (place_of before) x start h.starts) (cells_kept table.cells (place_of before) x refl)
-    (relinked_without table.cells table.first timer before other x w next e within refl h.listed)
+    (stop_timer t (timers_of table))
+link_closed table t before h named earlier f =
+    let within : place_of t < length table.cells = omega (arith, h.places, place_below t named) in
+    let x : LinkedCell = unflagged table.cells t in
+    let cells : List LinkedCell = without_flag table.cells t in
+    let places : length cells ≡ 192 = length-set table.cells (place_of t) x ∙ h.places in
+    let starts : HasStarts cells = starts_set table.cells (place_of t) x (start_at table.cells t within h.starts) h.starts in
+    let kept = relinked_kept table.cells table.first t x within refl h.listed in
+    let inside : place_of before < length cells = omega (arith, places, place_below before earlier) in
+    let y : LinkedCell = record (get_or cells (place_of before) zero_linked) { next = next_of table.cells t } in
+    let r = relinked_without cells table.first t before y earlier inside (sym (next_of_same table.cells t x within)) (rw kept.listed f) kept.sound in
+    stands_for _ _ (length-set cells (place_of before) y ∙ places)
+    (starts_set cells (place_of before) y (start_at cells before inside starts) starts)
+    (flags_kept cells before y _ earlier inside (flags_removed table.cells t x _ named within h.flags refl) refl)
+    (cells_kept cells (place_of before) y refl ∙ cells_kept table.cells (place_of t) x refl)
+    (record { sound = r.sound; listed = r.listed ∙ ap (others t) kept.listed })
 
 -- the timer was not on the list
-pub nothing_removed : (table : Inside) (timer before : Timer) → IsPassed table.cells table.first timer before → next_of table.cells before ≡ None →
+pub nothing_removed : (table : Inside) (timer : Timer) → list_any (is_timer timer) (listed_from table.cells table.first) ≡ false →
     timers_of table ≡ stop_timer timer (timers_of table)
-nothing_removed table timer before w e =
-    same_timers (timers_of table) (stop_timer timer (timers_of table)) refl (others_at_end table.cells table.first timer before w e)
-
--- there was no list
-pub nothing_listed : (table : Inside) (timer : Timer) → table.first ≡ None → timers_of table ≡ stop_timer timer (timers_of table)
-nothing_listed table timer e =
-    same_timers (timers_of table) (stop_timer timer (timers_of table)) refl
-    (let empty : listed_from table.cells table.first ≡ [] = rw (e, listed_from_none) refl in rw empty refl)
+nothing_removed table timer none =
+    same_timers (timers_of table) (stop_timer timer (timers_of table)) refl (sym (others_none timer (listed_from table.cells table.first) none))

@@ -1,6 +1,7 @@
 pub mod ArmingLemmas
 pub mod Cells
 pub mod Changes
+pub mod Flags
 pub mod LinkLemmas
 pub mod NameLemmas
 pub mod Unlinking

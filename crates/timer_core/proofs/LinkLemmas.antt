@@ -3,7 +3,7 @@ use Rattle.std.proofs.Common.{◌≡◌, ℕ, zero, suc, ◌<◌, ◌≤◌, Boo
 use Rattle.std.specs.Prelude.{Option, Some, None, find, map, replicate, ◌^◌}
 use Rattle.std.specs.List.{list_any, IsDistinct, AllByRecursion}
 use Rattle.std.proofs.lemmas.Bool.{or_parts, or_cases, ne_eqb, eqb-true, cases_eq}
-use Rattle.std.proofs.lemmas.List.{length-map, get_or-set_same, get_or-set_other}
+use Rattle.std.proofs.lemmas.List.{length-map, get_or-set_same, get_or-set_other, get_or-replicate}
 use Rattle.std.proofs.lemmas.List.Elements.{All-replicate}
 use Rattle.std.proofs.lemmas.Map.Steps.{length-le_from_distinct_below}
 use Rattle.timer_core.specs.declared.timer.Timer.{Timer}
@@ -75,15 +75,6 @@ passes cells link timer e l = rw e (passes_some cells timer (rw e at l))
 pub listed_shorter : (cells : List LinkedCell) (link : Option Timer) (timer : Timer) → Passes cells link timer →
     length (listed_from cells (next_of cells timer)) < length (listed_from cells link)
 listed_shorter cells link timer p = rw p.listed (omega arith)
-
--- whether a timer is among those still to be passed
-pub armed_here : (cells : List LinkedCell) (link : Option Timer) (timer other : Timer) → Passes cells link other → is_timer timer other ≡ true →
-    list_any (is_timer timer) (listed_from cells link) ≡ true
-armed_here cells link timer other p e = rw (p.listed, e)
-
-pub armed_later : (cells : List LinkedCell) (link : Option Timer) (timer other : Timer) → Passes cells link other → is_timer timer other ≡ false →
-    list_any (is_timer timer) (listed_from cells (next_of cells other)) ≡ list_any (is_timer timer) (listed_from cells link)
-armed_later cells link timer other p e = rw (p.listed, e)
 
 -- the first of those still to be passed that passes a test
 pub found_here : (cells : List LinkedCell) (link : Option Timer) (test : Timer → Bool) (timer : Timer) → Passes cells link timer → test timer ≡ true →
@@ -195,5 +186,6 @@ table_at_boot =
     record {
       places = refl;
       listed = record { ends = refl; apart = tt };
+      flags = λ t h. ap (λ (c : LinkedCell). c.is_armed) (get_or-replicate 192 (place_of t) zero_linked zero_linked (place_below t h));
       starts = All-replicate (λ linked_cell. linked_cell.cell.start ≤ 2 ^ 63) 192 zero_linked (lit≤ tt);
     }

@@ -5,7 +5,7 @@ use Rattle.std.proofs.lemmas.Bool.{lt-leb}
 use Rattle.timer_core.specs.declared.timer.Timer.{Timer}
 use Rattle.timer_core.specs.declared.timer.Cell.{Cell}
 use Rattle.timer_core.specs.Names.{is_timer}
-use Rattle.timer_core.specs.Timers.{NamedCell, Timers, armed_with, stop_timer, is_armed, is_due, deadline, cell_of, cell_under, with_cell, given_cell, first_due}
+use Rattle.timer_core.specs.Timers.{NamedCell, Timers, armed_with, is_armed, is_due, deadline, cell_of, cell_under, with_cell, given_cell, first_due}
 use Rattle.timer_core.proofs.NameLemmas.{same_timer}
 
 -- whether a test holds
@@ -79,5 +79,6 @@ none_found_in_fewer test keep (a ∷ items) none =
     by_test (inr passed) (inl kept) rest = rw (kept, passed) (rest (rw passed at none))
     by_test (inr passed) (inr left) rest = rw left (rest (rw passed at none))
 
-pub none_due_after_stopping : (clock : ℕ) (t : Timer) (timers : Timers) → first_due clock timers ≡ None → first_due clock (stop_timer t timers) ≡ None
-none_due_after_stopping clock t timers none = none_found_in_fewer (is_due clock timers) _ timers.armed none
+pub none_due_in_fewer : (clock : ℕ) (keep : Timer → Bool) (timers : Timers) → first_due clock timers ≡ None →
+    first_due clock (record timers { armed = filter keep timers.armed }) ≡ None
+none_due_in_fewer clock keep timers none = none_found_in_fewer (is_due clock timers) keep timers.armed none

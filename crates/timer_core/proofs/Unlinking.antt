@@ -9,6 +9,7 @@ use Rattle.timer_core.specs.declared.table.LinkedCell.{LinkedCell}
 use Rattle.timer_core.specs.Code.Places.{place_of}
 use Rattle.timer_core.specs.Names.{IsNamed, is_timer}
 use Rattle.timer_core.specs.Code.Links.{next_of, listed_from, Names, AreApart, IsList}
+use Rattle.timer_core.specs.Code.Neighbours.{Follows, IsHead}
 use Rattle.timer_core.proofs.NameLemmas.{same_timer, is_timer_itself, is_timer_flips}
 use Rattle.timer_core.proofs.LinkLemmas.{Passes, passes, Relinked, relinked, names_other, next_of_other, next_of_same, length-listed, listed_from_none}
 
@@ -49,15 +50,15 @@ length-others t (u ∷ later) = split (is_timer t u) refl (length-others t later
     split false e r = rw e (omega arith)
 
 -- the list without its first timer
-others_itself : (cells : List LinkedCell) (link : Option Timer) (timer : Timer) → Passes cells link timer →
+pub others_itself : (cells : List LinkedCell) (link : Option Timer) (timer : Timer) → Passes cells link timer →
     listed_from cells (next_of cells timer) ≡ others timer (listed_from cells link)
 others_itself cells link timer p = rw (p.listed, is_timer_itself timer) (sym (others_none timer (listed_from cells (next_of cells timer)) p.apart))
 
-pub others_first : (cells : List LinkedCell) (link : Option Timer) (timer other : Timer) → Passes cells link other → is_timer timer other ≡ true →
-    listed_from cells (next_of cells timer) ≡ others timer (listed_from cells link)
-others_first cells link timer other p e =
-    let itself : Passes cells link timer = rw (same_timer timer other e) p in
-    others_itself cells link timer itself
+pub head_here : (cells : List LinkedCell) (link : Option Timer) (timer other : Timer) → Passes cells link other → is_timer timer other ≡ true →
+    IsHead timer (listed_from cells link)
+head_here cells link timer other p here =
+    let same = same_timer timer other here in
+    record { later = listed_from cells (next_of cells other); listed = p.listed ∙ rw same }
 
 -- the walk has come to this timer: those so far are not the one that is looked for
 pub record IsPassed (cells : List LinkedCell) (link : Option Timer) (timer before : Timer) : Type 0 where
@@ -87,13 +88,25 @@ passed_more cells link timer before other w e differs =
     }
 
 -- at the end: the timer is not on the list
-pub others_at_end : (cells : List LinkedCell) (link : Option Timer) (timer before : Timer) → IsPassed cells link timer before → next_of cells before ≡ None →
-    listed_from cells link ≡ others timer (listed_from cells link)
-others_at_end cells link timer before w e =
+pub absent_at_end : (cells : List LinkedCell) (link : Option Timer) (timer before : Timer) → IsPassed cells link timer before → next_of cells before ≡ None →
+    list_any (is_timer timer) (listed_from cells link) ≡ false
+absent_at_end cells link timer before w e =
     let last : listed_from cells link ≡ w.earlier ++ before ∷ [] = w.listed ∙ rw (e, listed_from_none) in
-    let none : list_any (is_timer timer) (listed_from cells link) ≡ false =
-    rw last (list_any-append (is_timer timer) w.earlier (before ∷ []) ∙ rw (w.absent, w.differs)) in
-    sym (others_none timer (listed_from cells link) none)
+    rw last (list_any-append (is_timer timer) w.earlier (before ∷ []) ∙ rw (w.absent, w.differs))
+
+-- it comes next
+pub follows_here : (cells : List LinkedCell) (link : Option Timer) (timer before other : Timer) → IsPassed cells link timer before →
+    next_of cells before ≡ Some other → is_timer timer other ≡ true → Follows timer before (listed_from cells link)
+follows_here cells link timer before other w next here =
+    let same = same_timer timer other here in
+    let step = passes cells (next_of cells before) other next w.later in
+    record {
+      earlier = w.earlier;
+      later = listed_from cells (next_of cells other);
+      listed = w.listed ∙ rw (step.listed, same);
+      absent = w.absent;
+      differs = w.differs;
+    }
 
 -- it follows: the list is closed over it
 others_closed : (timer before : Timer) (earlier rest : List Timer) → list_any (is_timer timer) earlier ≡ false → is_timer timer before ≡ false →
@@ -128,27 +141,16 @@ names_closed cells link timer before x (u ∷ earlier) rest h within e apart nam
     let same = next_of_other cells before u x h names.1.0 (is_timer_flips u before parts.0) in
     (names.0, (names.1.0, rw same (names_closed cells (next_of cells u) timer before x earlier rest h within e apart.1 names.1.1)))
 
-closed : (cells : List LinkedCell) (link : Option Timer) (timer before : Timer) (x : LinkedCell) (earlier rest : List Timer) → IsNamed before →
-    place_of before < length cells → x.next ≡ next_of cells timer → listed_from cells link ≡ earlier ++ before ∷ (timer ∷ rest) →
-    list_any (is_timer timer) earlier ≡ false → is_timer timer before ≡ false → IsList cells link →
+pub relinked_without : (cells : List LinkedCell) (link : Option Timer) (timer before : Timer) (x : LinkedCell) → IsNamed before →
+    place_of before < length cells → x.next ≡ next_of cells timer → Follows timer before (listed_from cells link) → IsList cells link →
     Relinked (set cells (place_of before) x) link (others timer (listed_from cells link))
-closed cells link timer before x earlier rest h within e listed absent differs l =
-    let apart : AreApart (earlier ++ before ∷ (timer ∷ rest)) = rw (← listed) l.apart in
-    let names : Names cells link (earlier ++ before ∷ (timer ∷ rest)) = rw (← listed) l.ends in
-    let none = (apart_behind before earlier (timer ∷ rest) apart).1.0 in
-    let kept : others timer (listed_from cells link) ≡ earlier ++ before ∷ rest =
-    rw listed (others_closed timer before earlier rest absent differs none) in
+relinked_without cells link timer before x h within e f l =
+    let apart : AreApart (f.earlier ++ before ∷ (timer ∷ f.later)) = rw (← f.listed) l.apart in
+    let names : Names cells link (f.earlier ++ before ∷ (timer ∷ f.later)) = rw (← f.listed) l.ends in
+    let none = (apart_behind before f.earlier (timer ∷ f.later) apart).1.0 in
+    let kept : others timer (listed_from cells link) ≡ f.earlier ++ before ∷ f.later =
+    rw f.listed (others_closed timer before f.earlier f.later f.absent f.differs none) in
     relinked _ link (others timer (listed_from cells link))
-    (rw kept (names_closed cells link timer before x earlier rest h within e apart names))
+    (rw kept (names_closed cells link timer before x f.earlier f.later h within e apart names))
     (others_apart timer (listed_from cells link) l.apart)
     (omega (arith, length-others timer (listed_from cells link), length-listed cells link))
-
-pub relinked_without : (cells : List LinkedCell) (link : Option Timer) (timer before other : Timer) (x : LinkedCell) → IsPassed cells link timer before →
-    next_of cells before ≡ Some other → is_timer timer other ≡ true → place_of before < length cells → x.next ≡ next_of cells timer → IsList cells link →
-    Relinked (set cells (place_of before) x) link (others timer (listed_from cells link))
-relinked_without cells link timer before other x w next here within e l =
-    let same = same_timer timer other here in
-    let step = passes cells (next_of cells before) other next w.later in
-    let listed : listed_from cells link ≡ w.earlier ++ before ∷ (timer ∷ listed_from cells (next_of cells other)) =
-    w.listed ∙ rw (step.listed, same) in
-    closed cells link timer before x w.earlier (listed_from cells (next_of cells other)) w.named within e listed w.absent w.differs l

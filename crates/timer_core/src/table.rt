@@ -1,6 +1,7 @@
 //! All cells in one table. Those of the armed timers are linked, which makes the timer list.
 
-ghost use Rattle.std.specs.Prelude.{◌≡◌, ◌≤◌, ◌^◌, IfSome};
+ghost use Rattle.std.specs.Prelude.{◌≡◌, ◌≤◌, ◌^◌, true, None, IfSome};
+ghost use Rattle.timer_core.specs.Code.Neighbours.{Follows, IsHead};
 ghost use Rattle.timer_core.specs.Code.Watched.{NoneDueBefore};
 ghost use Rattle.timer_core.specs.Names.{IsNamed};
 ghost use Rattle.timer_core.specs.Timers.{no_timers, cell_of, is_armed, armed_with, stop_timer, first_due, without_event_timers, without_callback_timers};
@@ -12,10 +13,11 @@ use std::marker::Model;
 /// How many timers there are: 12 for each of 16 applications.
 const TIMERS: usize = 192;
 
-/// A cell, and on the timer list the timer that follows.
+/// A cell, whether its timer is on the timer list, and there the timer that follows.
 #[derive(Clone, Copy, Drop)]
 pub(crate) struct LinkedCell {
     cell: Cell,
+    is_armed: bool,
     next: Option<Timer>,
 }
 
@@ -25,6 +27,7 @@ const ZERO: LinkedCell = LinkedCell {
         start: 0,
         interval: 0,
     },
+    is_armed: false,
     next: None,
 };
 
@@ -72,31 +75,49 @@ impl TimerTable {
         requires { IsNamed timer }
         ensures { result ≡ is_armed timer self.now }
     {
-        let mut link = self.first;
-        while let Some(other) = link {
-            if timer.is(other) {
-                return true;
-            }
-            link = self.cells[other.place()].next;
-        }
-        false
+        self.cells[timer.place()].is_armed
     }
 
     /// The timer gets this cell and is on the list: in its old place, or else at the head.
     pub(crate) fn arm(&mut self, timer: Timer, cell: Cell)
         requires named { IsNamed timer }
         requires start { cell.start ≤ 2 ^ 63 }
-        ensures { self.new ≡ armed_with timer cell self.old }
+        ensures armed { self.new ≡ armed_with timer cell self.old }
+        ensures given { cell_of timer self.new ≡ cell }
     {
         if self.is_armed(timer) {
             self.cells[timer.place()].cell = cell;
         } else {
             self.cells[timer.place()] = LinkedCell {
                 cell,
+                is_armed: true,
                 next: self.first,
             };
             self.first = Some(timer);
         }
+    }
+
+    /// The timer that stands before an armed one on the list, or `None` where that one is the head.
+    fn before(&self, timer: Timer) -> Option<Timer>
+        requires armed { is_armed timer self.now ≡ true }
+        ensures follows { IfSome result (λ before. Follows timer before self.now.armed) }
+        ensures named { IfSome result IsNamed }
+        ensures head { result ≡ None → IsHead timer self.now.armed }
+    {
+        let Some(first) = self.first else {
+            return None;
+        };
+        if timer.is(first) {
+            return None;
+        }
+        let mut before = first;
+        while let Some(other) = self.cells[before.place()].next {
+            if timer.is(other) {
+                return Some(before);
+            }
+            before = other;
+        }
+        None
     }
 
     /// The timer is off the list.
@@ -104,21 +125,15 @@ impl TimerTable {
         requires { IsNamed timer }
         ensures { self.new ≡ stop_timer timer self.old }
     {
-        let Some(first) = self.first else {
-            return;
-        };
-        let following = self.cells[timer.place()].next;
-        if timer.is(first) {
-            self.first = following;
+        if !self.is_armed(timer) {
             return;
         }
-        let mut before = first;
-        while let Some(other) = self.cells[before.place()].next {
-            if timer.is(other) {
-                self.cells[before.place()].next = following;
-                return;
-            }
-            before = other;
+        let before = self.before(timer);
+        let following = self.cells[timer.place()].next;
+        self.cells[timer.place()].is_armed = false;
+        match before {
+            Some(before) => self.cells[before.place()].next = following,
+            None => self.first = following,
         }
     }
 

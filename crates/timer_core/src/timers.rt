@@ -182,12 +182,14 @@ impl Timers {
         }
     }
 
-    /// Whether a timer on the list is due.
+    /// Whether a timer on the list is due. Nothing that contracts see is changed; where nothing is due, the earliest deadline
+    /// is known from then on, and no list is walked along before it.
     #[inline]
-    pub fn any_due(&self, clock: u64) -> bool
-        ensures { result ≡ is_some (first_due clock self.now.timers) }
+    pub fn any_due(&mut self, clock: u64) -> bool
+        ensures answer { result ≡ is_some (first_due clock self.old.timers) }
+        ensures kept { self.new ≡ self.old }
     {
-        self.table.any_due(clock)
+        self.table.first_due(clock).is_some()
     }
 
     /// Whether that is the number that callback timer `number` of `pid` has now, so that an expiry with it counts.

@@ -1,6 +1,6 @@
 //! The timer table, and the moment from which on one of its timers may be due.
 
-ghost use Rattle.std.specs.Prelude.{◌≡◌, ◌≤◌, ◌^◌, IfSome, is_some};
+ghost use Rattle.std.specs.Prelude.{◌≡◌, ◌≤◌, ◌^◌, IfSome};
 ghost use Rattle.timer_core.specs.Names.{IsNamed};
 ghost use Rattle.timer_core.specs.Timers.{no_timers, cell_of, is_armed, armed_with, stop_timer, first_due, without_event_timers, without_callback_timers};
 
@@ -9,10 +9,10 @@ use crate::timer::{Cell, Timer};
 use mote_types::event::Pid;
 use std::marker::Model;
 
-/// The timer table, and the earliest deadline on its list: before that moment nothing is due, and no walk looks for it.
+/// The timer table, and a moment before which nothing is due, so that no walk looks for it.
 ///
-/// A timer that is armed brings the moment forward. Where the timer that had that deadline is armed anew or leaves the list,
-/// it is looked for again.
+/// A timer that is armed brings the moment forward. Where it has come and nothing is due, the timers that brought it forward
+/// were armed anew or left the list: the earliest deadline is looked for.
 #[derive(Drop)]
 pub(crate) struct WatchedTable {
     table: TimerTable,
@@ -64,13 +64,8 @@ impl WatchedTable {
         requires start { cell.start ≤ 2 ^ 63 }
         ensures { self.new ≡ armed_with timer cell self.old }
     {
-        let old = self.table.cell(timer).deadline();
         self.table.arm(timer, cell);
-        if old == self.due_from {
-            self.due_from = self.table.earliest_deadline();
-        } else {
-            self.due_from = self.due_from.min(self.table.cell(timer).deadline());
-        }
+        self.due_from = self.due_from.min(cell.deadline());
     }
 
     /// The timer is off the list.
@@ -78,11 +73,7 @@ impl WatchedTable {
         requires { IsNamed timer }
         ensures { self.new ≡ stop_timer timer self.old }
     {
-        let old = self.table.cell(timer).deadline();
         self.table.disarm(timer);
-        if old == self.due_from {
-            self.due_from = self.table.earliest_deadline();
-        }
     }
 
     /// The event timers of `pid` are off the list.
@@ -92,7 +83,6 @@ impl WatchedTable {
         ensures { self.new ≡ without_event_timers pid.0 self.old }
     {
         self.table.disarm_events(pid);
-        self.due_from = self.table.earliest_deadline();
     }
 
     /// The callback timers of `pid` are off the list.
@@ -102,25 +92,22 @@ impl WatchedTable {
         ensures { self.new ≡ without_callback_timers pid.0 self.old }
     {
         self.table.disarm_callbacks(pid);
-        self.due_from = self.table.earliest_deadline();
     }
 
     /// The first on the list whose deadline has come.
-    pub(crate) fn first_due(&self, clock: u64) -> Option<Timer>
-        ensures first { result ≡ first_due clock self.now }
+    #[inline]
+    pub(crate) fn first_due(&mut self, clock: u64) -> Option<Timer>
+        ensures first { result ≡ first_due clock self.old }
         ensures named { IfSome result IsNamed }
+        ensures kept { self.new ≡ self.old }
     {
         if clock < self.due_from {
             return None;
         }
-        self.table.first_due(clock)
-    }
-
-    /// Whether the deadline of a timer on the list has come.
-    #[inline]
-    pub(crate) fn any_due(&self, clock: u64) -> bool
-        ensures { result ≡ is_some (first_due clock self.now) }
-    {
-        clock >= self.due_from && self.table.first_due(clock).is_some()
+        let first = self.table.first_due(clock);
+        if first.is_none() {
+            self.due_from = self.table.earliest_deadline();
+        }
+        first
     }
 }

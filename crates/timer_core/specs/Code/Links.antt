@@ -1,5 +1,5 @@
 -- How the table's links make the timer list.
-use Rattle.std.specs.Prelude.{◌≡◌, ℕ, ◌≤◌, ◌^◌, zero, suc, false, List, [], ◌∷◌, length, All, Option, Some, None, slice_index_or}
+use Rattle.std.specs.Prelude.{◌≡◌, ℕ, ◌≤◌, ◌^◌, zero, suc, Bool, false, List, [], ◌∷◌, length, All, Option, Some, None, slice_index_or}
 use Rattle.std.specs.List.{list_any}
 use Rattle.timer_core.specs.declared.timer.Timer.{Timer}
 use Rattle.timer_core.specs.declared.table.LinkedCell.{LinkedCell}
@@ -9,7 +9,7 @@ use Rattle.timer_core.specs.Code.Places.{place_of}
 use Rattle.timer_core.specs.Timers.{NamedCell, Timers, zero_cell}
 
 abbrev pub zero_linked : LinkedCell
-zero_linked = record { cell = zero_cell; next = None }
+zero_linked = record { cell = zero_cell; is_armed = false; next = None }
 
 -- the link in the timer's cell
 abbrev pub next_of : List LinkedCell → Timer → Option Timer
@@ -40,9 +40,18 @@ pub record IsList (cells : List LinkedCell) (link : Option Timer) : Type 0 where
   pub ends : Names cells link (listed_from cells link)
   pub apart : AreApart (listed_from cells link)
 
+-- whether the timer's cell says that it is on the list
+abbrev pub flag_of : List LinkedCell → Timer → Bool
+flag_of cells timer = (slice_index_or cells (place_of timer) zero_linked).is_armed
+
+-- each cell says whether its timer is among these
+abbrev pub AreFlagged : List LinkedCell → List Timer → Type 0
+AreFlagged cells armed = (timer : Timer) → IsNamed timer → flag_of cells timer ≡ list_any (is_timer timer) armed
+
 pub record IsTable (table : Inside) : Type 0 where
   pub places : length table.cells ≡ 192
   pub listed : IsList table.cells table.first
+  pub flags : AreFlagged table.cells (listed_from table.cells table.first)
   pub starts : All (λ linked_cell. linked_cell.cell.start ≤ 2 ^ 63) table.cells
 
 -- the cells of the table, each under the name of its place

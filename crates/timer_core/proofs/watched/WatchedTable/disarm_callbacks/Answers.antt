@@ -1,0 +1,7 @@
+use Rattle.std.proofs.Common.{◌∙◌, ap}
+use Rattle.timer_core.specs.Timers.{first_due}
+use Rattle.timer_core.proofs.NoneDue.{none_due_in_fewer}
+use Rattle.timer_core.proofs.watched.WatchedTable.disarm_callbacks.Goals as goal
+
+pub invariant_of-self : goal.invariant_of-self
+invariant_of-self c = λ clock before. ap (first_due clock) c.disarm_callbacks.ensures ∙ none_due_in_fewer clock _ c.self.inside.table (c.self.invariant clock before)
