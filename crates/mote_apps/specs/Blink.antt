@@ -3,7 +3,7 @@ use Rattle.std.specs.Prelude.{ℕ, Bool, true, false, not, List, [], ◌∷◌, 
 use Rattle.mote_types.specs.Applications.{Says, fold_says}
 use Rattle.mote_types.specs.declared.call.Call.{Call}
 use Rattle.mote_types.specs.declared.event.Stimulus.{Stimulus}
-use Rattle.mote_types.specs.declared.event.TheConstants.{INIT, TIMER}
+use Rattle.mote_types.specs.EventNumbers.{INIT, TIMER}
 use Rattle.mote_apps.specs.declared.blink.Blink.{Blink}
 
 -- 'on' or 'off', and a line end

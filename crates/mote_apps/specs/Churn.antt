@@ -3,7 +3,7 @@ use Rattle.std.specs.Prelude.{ℕ, ◌+◌, List, [], ◌∷◌, length, slice_i
 use Rattle.mote_types.specs.Applications.{Says, fold_says}
 use Rattle.mote_types.specs.declared.call.Call.{Call}
 use Rattle.mote_types.specs.declared.event.Stimulus.{Stimulus}
-use Rattle.mote_types.specs.declared.event.TheConstants.{INIT}
+use Rattle.mote_types.specs.EventNumbers.{INIT}
 use Rattle.mote_apps.specs.declared.churn.Churn.{Churn}
 
 -- its calls, in turn

@@ -4,7 +4,7 @@ use Rattle.mote_types.specs.Applications.{Says, fold_says}
 use Rattle.mote_types.specs.declared.call.Call.{Call}
 use Rattle.mote_types.specs.declared.event.Payload.{Payload}
 use Rattle.mote_types.specs.declared.event.Stimulus.{Stimulus}
-use Rattle.mote_types.specs.declared.event.TheConstants.{SERIAL_LINE}
+use Rattle.mote_types.specs.EventNumbers.{SERIAL_LINE}
 use Rattle.mote_apps.specs.declared.echo.Echo.{Echo}
 
 -- the first 64 bytes of a line are printed at once

@@ -3,7 +3,7 @@ use Rattle.std.specs.Prelude.{ℕ, List, [], ◌∷◌, ◌==◌, if◌then◌el
 use Rattle.mote_types.specs.Applications.{Says, fold_says}
 use Rattle.mote_types.specs.declared.call.Call.{Call}
 use Rattle.mote_types.specs.declared.event.Stimulus.{Stimulus}
-use Rattle.mote_types.specs.declared.event.TheConstants.{INIT}
+use Rattle.mote_types.specs.EventNumbers.{INIT}
 
 -- 'hi' and a line end
 abbrev pub greeting : List ℕ

@@ -5,7 +5,7 @@ use Rattle.mote_types.specs.declared.call.Call.{Call}
 use Rattle.mote_types.specs.declared.event.Payload.{Payload}
 use Rattle.mote_types.specs.declared.event.Stimulus.{Stimulus}
 use Rattle.mote_types.specs.declared.event.Event.{Event}
-use Rattle.mote_types.specs.declared.event.TheConstants.{INIT, TIMER}
+use Rattle.mote_types.specs.EventNumbers.{INIT, TIMER}
 use Rattle.mote_types.specs.declared.reply.Reply.{Reply}
 use Rattle.mote_apps.specs.declared.ping.Ping.{Ping}
 use Rattle.mote_apps.specs.declared.ping.Stage.{Stage}

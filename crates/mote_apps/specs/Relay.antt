@@ -4,7 +4,7 @@ use Rattle.mote_types.specs.Applications.{Says, fold_says}
 use Rattle.mote_types.specs.declared.call.Call.{Call}
 use Rattle.mote_types.specs.declared.event.Payload.{Payload}
 use Rattle.mote_types.specs.declared.event.Stimulus.{Stimulus}
-use Rattle.mote_types.specs.declared.event.TheConstants.{INIT, PACKET}
+use Rattle.mote_types.specs.EventNumbers.{INIT, PACKET}
 use Rattle.mote_types.specs.declared.reply.Reply.{Reply}
 use Rattle.mote_apps.specs.declared.relay.Relay.{Relay}
 use Rattle.mote_apps.specs.declared.relay.Stage.{Stage}

@@ -3,7 +3,7 @@
 ghost use Rattle.std.specs.Prelude.{◌≡◌, false};
 ghost use Rattle.mote_apps.specs.Blink.{blink_says, light_text};
 
-use crate::chunk::chunk_of;
+use app_kit::chunk_of;
 use mote_types::app::App;
 use mote_types::call::Call;
 use mote_types::event::{Event, INIT, Stimulus, TIMER};

@@ -9,6 +9,7 @@ use crate::echo::Echo;
 use crate::hello::Hello;
 use crate::ping::Ping;
 use crate::relay::Relay;
+use app_kit::FromName;
 use mote_types::app::App;
 use mote_types::call::Call;
 use mote_types::event::Stimulus;
@@ -45,6 +46,14 @@ impl Default for Bundled {
     /// What an unused place of a list of applications holds.
     fn default() -> Self {
         Bundled::Hello(Hello)
+    }
+}
+
+impl FromName for Bundled {
+    ghost by_name = { named };
+
+    fn from_name(name: &str) -> Option<Self> {
+        Bundled::named(name)
     }
 }
 

@@ -3,7 +3,7 @@
 ghost use Rattle.std.specs.Prelude.{◌≡◌};
 ghost use Rattle.mote_apps.specs.Churn.{churn_says, call_at, next_place};
 
-use crate::chunk::chunk_of;
+use app_kit::chunk_of;
 use mote_types::app::App;
 use mote_types::call::Call;
 use mote_types::event::{Event, INIT, Stimulus};

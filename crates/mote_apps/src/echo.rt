@@ -4,7 +4,7 @@ ghost use Rattle.std.specs.Prelude.{◌≡◌, ◌≤◌, [], length, take, drop
 ghost use Rattle.mote_types.specs.declared.call.Call.{Call};
 ghost use Rattle.mote_apps.specs.Echo.{echo_says};
 
-use crate::chunk::chunk_of;
+use app_kit::chunk_of;
 use mote_types::app::App;
 use mote_types::call::Call;
 use mote_types::event::{Event, Payload, SERIAL_LINE, Stimulus};

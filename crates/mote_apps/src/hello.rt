@@ -2,7 +2,7 @@
 
 ghost use Rattle.mote_apps.specs.Hello.{hello_says};
 
-use crate::chunk::chunk_of;
+use app_kit::chunk_of;
 use mote_types::app::App;
 use mote_types::call::Call;
 use mote_types::event::{Event, INIT, Stimulus};

@@ -4,7 +4,6 @@
 pub mod blink;
 pub mod bundled;
 pub mod chaos;
-mod chunk;
 pub mod churn;
 pub mod echo;
 pub mod hello;

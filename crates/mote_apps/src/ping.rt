@@ -5,7 +5,7 @@ ghost use Rattle.std.specs.Option.{option_map};
 ghost use Rattle.mote_apps.specs.Ping.{ping_says, number_text, number_given, asked_answer, asked_next, ring_answer, ring_next};
 ghost use Rattle.mote_apps.specs.declared.ping.Stage.{Stage};
 
-use itoa::Buffer;
+use app_kit::{push_bytes, push_decimal};
 use mote_types::app::App;
 use mote_types::call::Call;
 use mote_types::event::{Event, INIT, Payload, Stimulus, TIMER};
@@ -41,8 +41,8 @@ fn make_text(n: u32) -> Chunk
     ensures { result.items ≡ number_text n }
 {
     let mut text = Chunk::new();
-    let _ = text.try_extend_from_slice(Buffer::new().format(n).as_bytes());
-    text.push(b'\n');
+    push_decimal(&mut text, n);
+    push_bytes(&mut text, b"\n");
     text
 }
 

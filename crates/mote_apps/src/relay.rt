@@ -4,7 +4,7 @@ ghost use Rattle.std.specs.Prelude.{◌≡◌};
 ghost use Rattle.mote_apps.specs.Relay.{relay_says, step_at};
 ghost use Rattle.mote_apps.specs.declared.relay.Stage.{Stage};
 
-use crate::chunk::chunk_of;
+use app_kit::chunk_of;
 use mote_types::app::App;
 use mote_types::call::Call;
 use mote_types::event::{Event, INIT, PACKET, Payload, Stimulus};

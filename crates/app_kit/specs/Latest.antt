@@ -1,0 +1,6 @@
+-- What is kept of a list that grows at its end.
+use Rattle.std.specs.Prelude.{ℕ, ◌-◌, List, length, drop}
+
+-- the last n, or all where they are no more
+abbrev pub latest : {A : Type 0} → ℕ → List A → List A
+latest n xs = drop (length xs - n) xs

@@ -1,0 +1,46 @@
+//! The bytes of one read, write or print, and how they are put together.
+
+ghost use Rattle.std.specs.Prelude.{◌≡◌, ◌≤◌, ◌+◌, ◌++◌, ◌↔◌, true, length, take, decimal, bytes_eq};
+
+use itoa::Buffer;
+use mote_types::reply::Chunk;
+
+/// How many bytes a chunk holds.
+const ROOM: usize = 64;
+
+/// These bytes as a chunk: the first 64 alone, where they are more.
+#[tactic(auto, using(std::proofs::lemmas::List::take_min))]
+pub fn chunk_of(bytes: &[u8]) -> Chunk
+    ensures front { result.items ≡ take 64 bytes.now }
+    ensures whole { length bytes.now ≤ 64 → result.items ≡ bytes.now }
+{
+    let (front, _) = bytes.split_at(ROOM.min(bytes.len()));
+    let mut chunk = Chunk::new();
+    let _ = chunk.try_extend_from_slice(front);
+    chunk
+}
+
+/// Appends these bytes.
+pub fn push_bytes(chunk: &mut Chunk, bytes: &[u8])
+    requires { length chunk.old.items + length bytes.now ≤ 64 }
+    ensures { chunk.new.items ≡ chunk.old.items ++ bytes.now }
+{
+    let _ = chunk.try_extend_from_slice(bytes);
+}
+
+/// Appends this number in decimal, which has at most 10 digits.
+pub fn push_decimal(chunk: &mut Chunk, number: u32)
+    requires { length chunk.old.items + 10 ≤ 64 }
+    ensures digits { chunk.new.items ≡ chunk.old.items ++ decimal number }
+    ensures few { length chunk.new.items ≤ length chunk.old.items + 10 }
+{
+    push_bytes(chunk, Buffer::new().format(number).as_bytes());
+}
+
+/// Whether these are the same bytes, as a command from the serial line and its name.
+pub fn same_bytes(left: &[u8], right: &[u8]) -> bool
+    ensures test { result ≡ bytes_eq left.now right.now }
+    ensures same { (result ≡ true) ↔ (left.now ≡ right.now) }
+{
+    left == right
+}

@@ -1,0 +1,17 @@
+//! The latest of many items.
+
+ghost use Rattle.std.specs.Prelude.{◌≡◌, ◌<◌, ◌++◌, [], ◌∷◌};
+ghost use Rattle.app_kit.specs.Latest.{latest};
+
+use arrayvec::ArrayVec;
+
+/// Appends an item. Where there is no room the oldest one goes, so the latest N are kept.
+pub fn push_latest<T: Default + Drop, const N: usize>(window: &mut ArrayVec<T, N>, item: T)
+    requires { 0 < N }
+    ensures { window.new.items ≡ latest N (window.old.items ++ item ∷ []) }
+{
+    if window.is_full() {
+        window.remove(0);
+    }
+    window.push(item);
+}
