@@ -7,8 +7,8 @@ use Rattle.kernel_core.specs.declared.config.Config.{Config}
 use Rattle.mote_run.specs.RunText.{HasRun, HasRunInPart, HasRunOnWholeLines}
 use Rattle.mote_words.specs.declared.refusal.ParserText.{ParserText}
 use Rattle.mote.specs.CommandLine.{HasRunTo, Refuses}
-use Rattle.mote.specs.Statuses.{IsShown}
-use Rattle.mote.specs.declared.failure.Failure.{Failure}
+use Rattle.mote_shell.specs.Statuses.{IsShown}
+use Rattle.mote_shell.specs.declared.failure.Failure.{Failure}
 use Rattle.mote.proofs.Boxed.{nothing_done}
 
 module _ (config : Config) (says : Applications) (quiet : Bool) (taken_old : List ℕ) (is_ended : Bool) (given_old : List ℕ) where

@@ -1,45 +1,46 @@
 -- Which mote the words of the command line name, and what the program may come to on them.
 use Rattle.std.specs.Prelude.{◌≡◌, ◌⊎◌, ⊤, ℕ, Bool, true, false, List, length, Result, Ok, Err}
 use Rattle.mote_types.specs.Applications.{Applications, says_of}
-use Rattle.mote_apps.specs.Bundled.{bundled_says}
+use Rattle.mote_apps.specs.Bundled.{bundled_says, named}
 use Rattle.kernel_core.specs.declared.config.Config.{Config}
 use Rattle.kernel_core.specs.Machine.{is_bootable}
 use Rattle.mote_text.specs.declared.script.End.{End}
 use Rattle.mote_run.specs.RunText.{HasRun, HasRunInPart, HasRunOnWholeLines}
+use Rattle.mote_apps.specs.declared.bundled.Bundled.{Bundled}
 use Rattle.mote_words.specs.CommandLine.{AsksForText, NamesApplications, named_in}
 use Rattle.mote_words.specs.CommandLine as of_words
 use Rattle.mote_words.specs.declared.refusal.Refusal.{Refusal}
 use Rattle.mote_words.specs.declared.words.Named.{Named}
-use Rattle.mote.specs.Statuses.{status_of_outcome}
-use Rattle.mote.specs.declared.failure.Failure.{Failure}
+use Rattle.mote_shell.specs.Statuses.{status_of_outcome}
+use Rattle.mote_shell.specs.declared.failure.Failure.{Failure}
 
 -- a mote of the named sizes with the named applications
-abbrev pub config_of : Named → Config
-config_of named =
+abbrev pub config_of : Named Bundled → Config
+config_of asked =
     record {
-      mmem = named.mmem;
-      heap = named.heap;
-      apps = length named.applications.items;
-      quota = named.quota;
-      header = named.header;
+      mmem = asked.mmem;
+      heap = asked.heap;
+      apps = length asked.applications.items;
+      quota = asked.quota;
+      header = asked.header;
     }
 
 -- the parser takes the words, each name is an application's, and there is a mote of these sizes with so many applications
 pub record NamesMote (words : List (List ℕ)) : Type 0 where
-  pub applications : NamesApplications words
-  pub bootable : is_bootable (config_of (named_in words)) ≡ true
+  pub applications : NamesApplications named words
+  pub bootable : is_bootable (config_of (named_in named words)) ≡ true
 
 -- each name is an application's, and they are at most 16, but there is no mote of these sizes
 abbrev pub HasBadSizes : List (List ℕ) → Type 0
-HasBadSizes words = NamesApplications words × (is_bootable (config_of (named_in words)) ≡ false)
+HasBadSizes words = NamesApplications named words × (is_bootable (config_of (named_in named words)) ≡ false)
 
 -- what the program may answer to words in place of a mote: each failure under its own condition, of which no two hold at once;
 -- and want of memory
 abbrev pub Refuses : List (List ℕ) → Failure → Type 0
-Refuses words (Failure.Request text) = of_words.Refuses words (Refusal.Request text)
-Refuses words (Failure.Words text) = of_words.Refuses words (Refusal.Words text)
-Refuses words (Failure.NoApplication name) = of_words.Refuses words (Refusal.NoApplication name)
-Refuses words Failure.TooManyApplications = of_words.Refuses words Refusal.TooManyApplications
+Refuses words (Failure.Request text) = of_words.Refuses named words (Refusal.Request text)
+Refuses words (Failure.Words text) = of_words.Refuses named words (Refusal.Words text)
+Refuses words (Failure.NoApplication name) = of_words.Refuses named words (Refusal.NoApplication name)
+Refuses words Failure.TooManyApplications = of_words.Refuses named words Refusal.TooManyApplications
 Refuses words Failure.BadSizes = HasBadSizes words
 Refuses words Failure.OutOfMemory = ⊤
 Refuses words failure = ⊥
@@ -51,6 +52,13 @@ IsOutcome words (Ok end) = NamesMote words
 IsOutcome words (Err Failure.Read) = NamesMote words
 IsOutcome words (Err Failure.Write) = NamesMote words ⊎ AsksForText words
 IsOutcome words (Err failure) = Refuses words failure
+
+-- how a run that was begun can fail
+abbrev pub IsRunFailure : Failure → Type 0
+IsRunFailure Failure.Read = ⊤
+IsRunFailure Failure.Write = ⊤
+IsRunFailure Failure.OutOfMemory = ⊤
+IsRunFailure _ = ⊥
 
 -- what was read and written is a run: all of it where this was answered with the run's end, and else a front part; where
 -- reading failed, just the text of the whole lines that were read
@@ -64,8 +72,8 @@ HasRunTo config says quiet taken_old taken_new is_ended given_old given_new (Err
     HasRunInPart config says quiet taken_old taken_new is_ended given_old given_new
 
 -- of the named applications, at the named sizes, and quiet as they are
-abbrev pub HasRunNamed : Named → List ℕ → List ℕ → Bool → List ℕ → List ℕ → Result End Failure → Type 0
-HasRunNamed named = HasRunTo (config_of named) (says_of bundled_says named.applications.items) named.quiet
+abbrev pub HasRunNamed : Named Bundled → List ℕ → List ℕ → Bool → List ℕ → List ℕ → Result End Failure → Type 0
+HasRunNamed asked = HasRunTo (config_of asked) (says_of bundled_says asked.applications.items) asked.quiet
 
 -- the status of an outcome that the words allow, with which this was done
 pub record IsStatusFor (words : List (List ℕ)) (IsDone : Result End Failure → Type 0) (status : ℕ) : Type 0 where

@@ -1,36 +1,36 @@
 //! Runs applications on a mote: a script comes from standard input, its transcript goes to standard output.
 #![tactic(auto)]
 
-ghost use Rattle.std.specs.Prelude.{◌≡◌, ◌≢◌, ◌<◌, ◌-◌, ◌^◌, false, map, string_bytes, IfOk, IfErr};
+ghost use Rattle.std.specs.Prelude.{◌≡◌, ◌<◌, ◌-◌, ◌^◌, false, map, string_bytes, IfOk, IfErr};
+ghost use Rattle.mote_apps.specs.Bundled.{named};
 ghost use Rattle.mote_words.specs.CommandLine.{named_in};
+ghost use Rattle.mote_shell.specs.declared.failure.Failure.{Failure as Refused};
 ghost use Rattle.mote.specs.CommandLine.{HasRunNamed, IsStatusFor};
-ghost use Rattle.mote.specs.declared.failure.Failure.{Failure as Refused};
 
-mod failure;
 mod prepare;
 mod running;
-mod telling;
 
-use failure::Failure;
+use mote_shell::{Failure, Program, after_help, exit_code, finish, texts_of, words_of};
 use mote_streams::{Input, Output};
 use mote_types::device::{ByteSink, ByteSource};
 use running::run_words;
-use std::alloc::Global;
 use std::process::ExitCode;
 use std::{env, io};
-use telling::{show, tell};
 
-/// The words as texts.
-fn texts_of<'a>(alloc: Global, words: &'a [String]) -> Result<Vec<&'a str>, Failure<'static>>
-    ensures texts { IfOk result (λ texts. map (λ text. text.now) texts.items ≡ map string_bytes words.now) }
-    ensures failure { IfErr result (λ failure. failure ≡ Refused.OutOfMemory) }
-{
-    let mut texts = Vec::new(alloc);
-    for word in words {
-        texts.push(word.as_str())?;
-    }
-    Ok(texts)
-}
+const PROGRAM: Program = Program {
+    name: "mote",
+    version: "0.1.0",
+    after_help: after_help!(
+        "  hello    prints 'hi' when it is started
+  blink    prints 'on' and 'off' by turns, every 10 ticks
+  echo     prints each line that comes in on the serial line
+  relay    sends each radio frame that comes in
+  churn    makes 18 calls on all kinds of memory when it is started
+  ping     broadcasts a count every 5 ticks, and prints it",
+        "which prints 'on' at the clock's tick 10:
+  printf 'tick 10\\n' | mote blink"
+    ),
+};
 
 /// Runs the mote that the words of the command line name from the source to the sink, or tells why they name none. Answers
 /// the status that the program exits with. The first word is the program's name.
@@ -48,31 +48,12 @@ fn run_to_status<R: AllocGlobal + Print + Eprint, S: ByteSource, K: ByteSink>(
     requires countable_reads { S.failure_count source.old < 2 ^ 64 - 1 }
     requires countable_writes { K.failure_count sink.old < 2 ^ 64 - 1 }
     ensures status { IfOk result (IsStatusFor (map string_bytes words.now) (λ outcome. S.is_named → K.is_named →
-        HasRunNamed (named_in (map string_bytes words.now)) (S.taken source.old) (S.taken source.new) (S.is_ended source.new) (K.given sink.old) (K.given sink.new) outcome)) }
+        HasRunNamed (named_in named (map string_bytes words.now)) (S.taken source.old) (S.taken source.new) (S.is_ended source.new) (K.given sink.old) (K.given sink.new) outcome)) }
     ensures failure { IfErr result (λ failure. failure ≡ Refused.OutOfMemory) }
 {
     let texts = texts_of(rt.alloc(), words)?;
     let outcome = run_words(rt.alloc(), texts.as_slice(), source, sink);
-    Ok(tell(rt, show(rt, outcome)))
-}
-
-/// The words of the command line, the program's name first.
-///
-/// # Errors
-///
-/// `OutOfMemory` where memory was refused, else `NotText`.
-fn words_of<R: AllocGlobal + env::Env>(rt: &R) -> Result<Vec<String>, Failure<'static>>
-    ensures { IfErr result (λ failure. failure ≢ Refused.OutOfMemory → failure ≡ Refused.NotText) }
-{
-    let arguments = env::args(rt).map_err(|error| match error.kind() {
-        io::ErrorKind::OutOfMemory => Failure::OutOfMemory,
-        _ => Failure::NotText,
-    })?;
-    let mut words = Vec::new(rt.alloc());
-    for word in arguments {
-        words.push(word)?;
-    }
-    Ok(words)
+    Ok(finish(rt, PROGRAM, outcome))
 }
 
 /// What the program does, from standard input to standard output, and the status that it exits with.
@@ -86,8 +67,5 @@ fn work<R: AllocGlobal + env::Env + io::Input + Print + Eprint>(
 }
 
 fn main(rt: HostRuntime) -> ExitCode {
-    match work(&rt) {
-        Ok(status) => ExitCode::from(status),
-        Err(failure) => ExitCode::from(tell(&rt, Err(failure))),
-    }
+    exit_code(&rt, PROGRAM, work(&rt))
 }

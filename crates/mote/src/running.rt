@@ -2,19 +2,18 @@
 
 ghost use Rattle.std.specs.Prelude.{◌≡◌, ◌<◌, ◌-◌, ◌^◌, ◌↔◌, false, length, IfOk, IfErr, OnErr, IsErrOf};
 ghost use Rattle.mote_types.specs.Applications.{says_of};
-ghost use Rattle.mote_apps.specs.Bundled.{bundled_says};
+ghost use Rattle.mote_apps.specs.Bundled.{bundled_says, named};
 ghost use Rattle.kernel_core.specs.declared.config.Config.{Config};
 ghost use Rattle.kernel_core.specs.Machine.{booted};
 ghost use Rattle.mote_run.specs.RunText.{HasRun, HasRunInPart, HasRunOnWholeLines, WasBooted};
 ghost use Rattle.mote_words.specs.CommandLine.{named_in, texts};
-ghost use Rattle.mote.specs.CommandLine.{HasRunNamed, IsOutcome};
-ghost use Rattle.mote.specs.Statuses.{IsRunFailure};
-ghost use Rattle.mote.specs.declared.failure.Failure.{Failure as Refused};
+ghost use Rattle.mote.specs.CommandLine.{HasRunNamed, IsOutcome, IsRunFailure};
+ghost use Rattle.mote_shell.specs.declared.failure.Failure.{Failure as Refused};
 
-use crate::failure::Failure;
 use crate::prepare::{Prepared, prepare};
 use mote_run::End;
-use mote_run::run::run;
+use mote_run::run::{RunFault, run};
+use mote_shell::Failure;
 use mote_types::app::App;
 use mote_types::device::{ByteSink, ByteSource};
 use std::alloc::Global;
@@ -50,14 +49,17 @@ pub fn run_prepared<'a, S: ByteSource, K: ByteSink>(
     for application in prepared.applications {
         boxes.push(Box::new(alloc, application)?)?;
     }
-    let end = run(
+    match run(
         source,
         sink,
         prepared.kernel,
         boxes.as_mut_slice(),
         prepared.quiet,
-    )?;
-    Ok(end)
+    ) {
+        Ok(end) => Ok(end),
+        Err(RunFault::Read) => Err(Failure::Read),
+        Err(RunFault::Write) => Err(Failure::Write),
+    }
 }
 
 /// Runs the mote that the words name from a source to a sink: it has the sizes and the applications that they name, and its
@@ -77,7 +79,7 @@ pub fn run_words<'a, S: ByteSource, K: ByteSink>(
     requires countable_writes { K.failure_count sink.old < 2 ^ 64 - 1 }
     ensures outcome { IsOutcome (texts words.now) result }
     ensures run { S.is_named → K.is_named →
-        HasRunNamed (named_in (texts words.now)) (S.taken source.old) (S.taken source.new) (S.is_ended source.new) (K.given sink.old) (K.given sink.new) result }
+        HasRunNamed (named_in named (texts words.now)) (S.taken source.old) (S.taken source.new) (S.is_ended source.new) (K.given sink.old) (K.given sink.new) result }
     ensures read_fault { IsErrOf result Refused.Read ↔ (S.failure_count source.old < S.failure_count source.new) }
     ensures write_fault { IsErrOf result Refused.Write ↔ (K.failure_count sink.old < K.failure_count sink.new) }
 {

@@ -1,19 +1,23 @@
 -- Worked examples: what words, names and numbers on the command line come to.
-use Rattle.std.proofs.Common.{◌≡◌, true, false, [], ◌∷◌, codes, refl}
-use Rattle.std.specs.Prelude.{Some, None, find, length}
+use Rattle.std.proofs.Common.{◌≡◌, ℕ, List, true, false, [], ◌∷◌, codes, refl}
+use Rattle.std.specs.Prelude.{Option, Some, None, bytes_eq, find, if◌then◌else◌}
 use Rattle.clap.specs.declared.error.kind.ErrorKind.{ErrorKind}
 use Rattle.clap.specs.declared.parser.matches.ValueSource.{ValueSource}
 use Rattle.mote_words.specs.CommandLine.{applications_of, is_in_words, is_request, is_unknown, number_written}
 
--- repeats are allowed, and each name is an application's
-two_applications : length (applications_of (codes "blink" ∷ codes "echo" ∷ codes "blink" ∷ [])) ≡ 3
-two_applications = refl
+-- a table of two applications
+abbrev table : List ℕ → Option ℕ
+table name = if bytes_eq name (codes "blink") then Some 1 else if bytes_eq name (codes "echo") then Some 2 else None
 
-all_known : find is_unknown (codes "hello" ∷ codes "blink" ∷ codes "echo" ∷ codes "relay" ∷ codes "churn" ∷ codes "ping" ∷ []) ≡ None
+-- repeats are allowed, and each name is an application's
+three_applications : applications_of table (codes "blink" ∷ codes "echo" ∷ codes "blink" ∷ []) ≡ 1 ∷ 2 ∷ 1 ∷ []
+three_applications = refl
+
+all_known : find (is_unknown table) (codes "blink" ∷ codes "echo" ∷ []) ≡ None
 all_known = refl
 
 -- the first of two
-first_unknown : find is_unknown (codes "hello" ∷ codes "hullo" ∷ codes "blank" ∷ []) ≡ Some (codes "hullo")
+first_unknown : find (is_unknown table) (codes "echo" ∷ codes "hullo" ∷ codes "blank" ∷ []) ≡ Some (codes "hullo")
 first_unknown = refl
 
 a_size : number_written (codes "65536") ≡ Some 65536

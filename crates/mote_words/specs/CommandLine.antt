@@ -12,8 +12,6 @@ use Rattle.clap.specs.declared.builder.value_parser.ValueParser.{ValueParser}
 use Rattle.clap.specs.declared.error.Error.{Error}
 use Rattle.clap.specs.declared.error.kind.ErrorKind.{ErrorKind}
 use Rattle.clap.specs.declared.parser.matches.ValueSource.{ValueSource}
-use Rattle.mote_apps.specs.declared.bundled.Bundled.{Bundled}
-use Rattle.mote_apps.specs.Bundled.{named}
 use Rattle.mote_words.specs.declared.words.Named.{Named}
 use Rattle.mote_words.specs.declared.refusal.Refusal.{Refusal}
 
@@ -56,22 +54,23 @@ abbrev pub names_argument : Rule
 names_argument = record (new_rule (codes "APP")) { range = Some (record { start_inclusive = 0; end_inclusive = usize_max }) }
 
 -- it has a version; the parser itself adds the options for it and for the help
-abbrev pub versioned : App
-versioned = on_top (λ shape. record shape { has_version = true }) (new_app (codes "mote"))
+abbrev pub versioned : Text → App
+versioned name = on_top (λ shape. record shape { has_version = true }) (new_app name)
 
-abbrev pub program : App
-program =
-    with_rule (with_rule (with_rule (with_rule (with_rule (with_rule versioned mmem_option) heap_option) quota_option) header_option) quiet_flag)
+-- that of a program of this name
+abbrev pub program : Text → App
+program name =
+    with_rule (with_rule (with_rule (with_rule (with_rule (with_rule (versioned name) mmem_option) heap_option) quota_option) header_option) quiet_flag)
     names_argument
 
--- what the parser finds of each argument, where it takes the words
+-- what the parser finds of each argument, where it takes the words: the same whatever the program's name is, so here it has none
 unfoldable pub rows_in : List Text → List Row
-rows_in words = matches_of program words
+rows_in words = matches_of (program []) words
 
 -- why it doesn't take them: the kind of the first mistake, or of the help or the version that they ask for; nothing where it
 -- takes them
 unfoldable pub faults_in : List Text → List ErrorKind
-faults_in words = fault_of program words
+faults_in words = fault_of (program []) words
 
 -- ---- what the rows say that the parser finds
 
@@ -98,57 +97,59 @@ is_in_words _ = false
 abbrev pub is_quiet : List Row → Bool
 is_quiet rows = is_in_words (option_and_then (λ row. row.source) (find (λ row. bytes_eq row.id (codes "quiet")) rows))
 
--- ---- which applications the names are
-
--- no application has this name
-abbrev pub is_unknown : Text → Bool
-is_unknown name = is_none (named name)
-
--- the applications of these names, each as it is before its first turn
-abbrev pub applications_of : List Text → List Bundled
-applications_of = filter_map named
-
--- what these names may be refused with: the first that is unknown, then their number
-abbrev pub RefusesNames : List Text → Refusal → Type 0
-RefusesNames names (Refusal.NoApplication name) = find is_unknown names ≡ Some name.now
-RefusesNames names Refusal.TooManyApplications = (find is_unknown names ≡ None) × (16 < length names)
-RefusesNames names _ = ⊥
-
--- ---- what the words name
-
--- the applications in the order of their names, the sizes, and whether the transcript is a quiet one
-unfoldable pub named_in : List Text → Named
-named_in words =
-    record {
-      applications = record { items = applications_of (names_of (rows_in words)) };
-      mmem = size_of (codes "mmem") (rows_in words);
-      heap = size_of (codes "heap") (rows_in words);
-      quota = number_of (codes "quota") (rows_in words);
-      header = size_of (codes "header") (rows_in words);
-      quiet = is_quiet (rows_in words);
-    }
-
--- the parser takes the words, each name is an application's, and they are at most 16
-pub record NamesApplications (words : List Text) : Type 0 where
-  pub taken : faults_in words ≡ []
-  pub known : find is_unknown (names_of (rows_in words)) ≡ None
-  pub few : length (names_of (rows_in words)) ≤ 16
-
 abbrev pub is_request : ErrorKind → Bool
 is_request ErrorKind.DisplayHelp = true
 is_request ErrorKind.DisplayVersion = true
 is_request _ = false
 
--- what words may be refused with: each refusal under its own condition, of which no two hold at once; and want of memory
-abbrev pub Refuses : List Text → Refusal → Type 0
-Refuses words (Refusal.Request text) = IsAmong (kind_of text.error) (faults_in words) × (is_request (kind_of text.error) ≡ true)
-Refuses words (Refusal.Words text) = IsAmong (kind_of text.error) (faults_in words) × (is_request (kind_of text.error) ≡ false)
-Refuses words Refusal.OutOfMemory = ⊤
-Refuses words refusal = (faults_in words ≡ []) × RefusesNames (names_of (rows_in words)) refusal
-
 -- the words ask for the help or the version
 abbrev pub AsksForText : List Text → Type 0
 AsksForText words = (kind : ErrorKind) × IsAmong kind (faults_in words) × (is_request kind ≡ true)
+
+-- by the table of a program's applications, which has the one of each name
+module _ {A : Type 0} (by_name : Text → Option A) where
+  -- ---- which applications the names are
+
+  -- no application has this name
+  abbrev pub is_unknown : Text → Bool
+  is_unknown name = is_none (by_name name)
+
+  -- the applications of these names, each as it is before its first turn
+  abbrev pub applications_of : List Text → List A
+  applications_of = filter_map by_name
+
+  -- what these names may be refused with: the first that is unknown, then their number
+  abbrev pub RefusesNames : List Text → Refusal → Type 0
+  RefusesNames names (Refusal.NoApplication name) = find is_unknown names ≡ Some name.now
+  RefusesNames names Refusal.TooManyApplications = (find is_unknown names ≡ None) × (16 < length names)
+  RefusesNames names _ = ⊥
+
+  -- ---- what the words name
+
+  -- the applications in the order of their names, the sizes, and whether the transcript is a quiet one
+  unfoldable pub named_in : List Text → Named A
+  named_in words =
+      record {
+        applications = record { items = applications_of (names_of (rows_in words)) };
+        mmem = size_of (codes "mmem") (rows_in words);
+        heap = size_of (codes "heap") (rows_in words);
+        quota = number_of (codes "quota") (rows_in words);
+        header = size_of (codes "header") (rows_in words);
+        quiet = is_quiet (rows_in words);
+      }
+
+  -- the parser takes the words, each name is an application's, and they are at most 16
+  pub record NamesApplications (words : List Text) : Type 0 where
+    pub taken : faults_in words ≡ []
+    pub known : find is_unknown (names_of (rows_in words)) ≡ None
+    pub few : length (names_of (rows_in words)) ≤ 16
+
+  -- what words may be refused with: each refusal under its own condition, of which no two hold at once; and want of memory
+  abbrev pub Refuses : List Text → Refusal → Type 0
+  Refuses words (Refusal.Request text) = IsAmong (kind_of text.error) (faults_in words) × (is_request (kind_of text.error) ≡ true)
+  Refuses words (Refusal.Words text) = IsAmong (kind_of text.error) (faults_in words) × (is_request (kind_of text.error) ≡ false)
+  Refuses words Refusal.OutOfMemory = ⊤
+  Refuses words refusal = (faults_in words ≡ []) × RefusesNames (names_of (rows_in words)) refusal
 
 -- ---- the refusal by the kind of what the parser found
 

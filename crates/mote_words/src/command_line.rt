@@ -6,13 +6,11 @@ ghost use Rattle.clap.specs.Words.{app_of, found_of, rows_of, rule_of};
 ghost use Rattle.clap.specs.Walk.{texts};
 ghost use Rattle.mote_words.specs.CommandLine as spec;
 
+use crate::program::Program;
 use clap::builder::ValueParser;
 use clap::parser::ValueSource;
 use clap::{Arg, ArgAction, ArgMatches, Command, Error, value_parser};
 use std::alloc::{AllocError, Global};
-
-/// The version of the program.
-const VERSION: &str = "0.1.0";
 
 const ABOUT: &str = "\
 Runs applications on one simulated Contiki-NG node.
@@ -26,27 +24,6 @@ An empty line and one that begins with '#' do nothing.
 Writes a transcript to standard output: a line for each input ('> tick 5'), and
 a line for each turn of an application: its process number, what it was told,
 and the call that it makes ('4 event 136 0 -> print 6f6e0a').";
-
-const AFTER_HELP: &str = "\
-Applications, processes 4, 5, .. in the order of their names:
-  hello    prints 'hi' when it is started
-  blink    prints 'on' and 'off' by turns, every 10 ticks
-  echo     prints each line that comes in on the serial line
-  relay    sends each radio frame that comes in
-  churn    makes 18 calls on all kinds of memory when it is started
-  ping     broadcasts a count every 5 ticks, and prints it
-
-Exit status:
-  0     the script was carried out, or this text or the version was printed
-  2     the script has a line of no form: 'bad line N' ends the transcript
-  3     the mote halted: 'halt' ends the transcript
-  4     the script has more than 16777216 bytes: 'too long' ends the transcript
-  5, 6  standard input can't be read, standard output can't be written
-  64    the words name no mote
-  70    memory was refused
-
-Example, which prints 'on' at the clock's tick 10:
-  printf 'tick 10\\n' | mote blink";
 
 /// The option of this name, which takes a number.
 fn number_option<'a>(
@@ -130,13 +107,13 @@ fn names_argument<'a>(alloc: Global) -> Arg<'a>
 }
 
 /// The command line as the parser is told it.
-fn command<'a>(alloc: Global) -> Result<Command<'a>, AllocError>
-    ensures { IfOk result (λ command. app_of command ≡ spec.program) }
+fn command<'a>(alloc: Global, program: Program) -> Result<Command<'a>, AllocError>
+    ensures { IfOk result (λ command. app_of command ≡ spec.program program.name.now) }
 {
-    Command::new(alloc, "mote")
-        .version(VERSION)
+    Command::new(alloc, program.name)
+        .version(program.version)
         .about(ABOUT)
-        .after_help(AFTER_HELP)
+        .after_help(program.after_help)
         .arg(mmem_option(alloc))?
         .arg(heap_option(alloc))?
         .arg(quota_option(alloc))?
@@ -151,11 +128,15 @@ fn command<'a>(alloc: Global) -> Result<Command<'a>, AllocError>
 ///
 /// What the parser finds in the words: a mistake, or that they ask for the help or the version. `OutOfMemory` where memory
 /// was refused.
-pub fn parse<'a>(alloc: Global, words: &'a [&'a str]) -> Result<ArgMatches<'a>, Error>
+pub fn parse<'a>(
+    alloc: Global,
+    program: Program,
+    words: &'a [&'a str],
+) -> Result<ArgMatches<'a>, Error>
     ensures matches { IfOk result (λ matches. rows_of (found_of matches) ≡ spec.rows_in (texts words.now)) }
     ensures faults { FailsBy (spec.faults_in (texts words.now)) result }
 {
-    let command = command(alloc)?;
+    let command = command(alloc, program)?;
     command.try_get_matches_from(words)
 }
 

@@ -7,22 +7,23 @@ ghost use Rattle.mote_words.specs.CommandLine.{NamesApplications, Refuses, Refus
 ghost use Rattle.mote_words.specs.Code.Names.{application_of, refusal_of};
 
 use crate::command_line::{is_quiet, number_in, parse, size_in};
+use crate::program::Program;
 use crate::refusal::Refusal;
+use app_kit::FromName;
 use arrayvec::ArrayVec;
 use clap::ArgMatches;
-use mote_apps::bundled::Bundled;
 use std::alloc::Global;
 
 /// How many applications a mote may have.
 const MOST_APPLICATIONS: usize = 16;
 
 /// The applications of a mote, in the order of their process numbers.
-pub type Applications = ArrayVec<Bundled, MOST_APPLICATIONS>;
+pub type Applications<T> = ArrayVec<T, MOST_APPLICATIONS>;
 
 /// What words name.
 #[derive(Drop)]
-pub struct Named {
-    pub applications: Applications,
+pub struct Named<T> {
+    pub applications: Applications<T>,
     /// The size of managed memory, in bytes.
     pub mmem: u32,
     /// The size of the heap, in bytes.
@@ -36,14 +37,14 @@ pub struct Named {
 }
 
 /// The applications of these names.
-fn read_names<'a>(names: &[&'a str]) -> Result<Applications, Refusal<'a>>
-    ensures applications { IfOk result (λ applications. applications.items ≡ filter_map application_of names.now) }
-    ensures known { IfOk result (λ _. refusal_of names.now ≡ None) }
-    ensures refused { IfErr result (λ refusal. refusal_of names.now ≡ Some refusal) }
+fn read_names<'a, T: FromName>(names: &[&'a str]) -> Result<Applications<T>, Refusal<'a>>
+    ensures applications { IfOk result (λ applications. applications.items ≡ filter_map (application_of T.by_name) names.now) }
+    ensures known { IfOk result (λ _. refusal_of T.by_name names.now ≡ None) }
+    ensures refused { IfErr result (λ refusal. refusal_of T.by_name names.now ≡ Some refusal) }
 {
-    let mut applications = Applications::new();
+    let mut applications = ArrayVec::new();
     for name in names {
-        let application = Bundled::named(name).ok_or(Refusal::NoApplication(*name))?;
+        let application = T::from_name(name).ok_or(Refusal::NoApplication(*name))?;
         let _ = applications.try_push(application);
     }
     if names.len() > MOST_APPLICATIONS {
@@ -53,15 +54,17 @@ fn read_names<'a>(names: &[&'a str]) -> Result<Applications, Refusal<'a>>
 }
 
 /// The applications whose names the parser found.
-fn applications_in<'a>(matches: &ArgMatches<'a>) -> Result<Applications, Refusal<'a>>
-    ensures applications { IfOk result (λ applications. applications.items ≡ applications_of (names_of (rows_of (found_of matches.now)))) }
-    ensures known { IfOk result (λ _. find is_unknown (names_of (rows_of (found_of matches.now))) ≡ None) }
+fn applications_in<'a, T: FromName>(
+    matches: &ArgMatches<'a>,
+) -> Result<Applications<T>, Refusal<'a>>
+    ensures applications { IfOk result (λ applications. applications.items ≡ applications_of T.by_name (names_of (rows_of (found_of matches.now)))) }
+    ensures known { IfOk result (λ _. find (is_unknown T.by_name) (names_of (rows_of (found_of matches.now))) ≡ None) }
     ensures few { IfOk result (λ _. length (names_of (rows_of (found_of matches.now))) ≤ 16) }
-    ensures refused { IfErr result (RefusesNames (names_of (rows_of (found_of matches.now)))) }
+    ensures refused { IfErr result (RefusesNames T.by_name (names_of (rows_of (found_of matches.now)))) }
 {
     match matches.get_strs("APP") {
         Some(names) => read_names(names),
-        None => Ok(Applications::new()),
+        None => Ok(ArrayVec::new()),
     }
 }
 
@@ -72,12 +75,16 @@ fn applications_in<'a>(matches: &ArgMatches<'a>) -> Result<Applications, Refusal
 ///
 /// First `Request` or `Words` with what the parser finds, then `NoApplication` with the first name that no application
 /// has, then `TooManyApplications` where there are more than 16. `OutOfMemory` where memory was refused.
-pub fn read_words<'a>(alloc: Global, words: &'a [&'a str]) -> Result<Named, Refusal<'a>>
-    ensures taken { IfOk result (λ _. NamesApplications (texts words.now)) }
-    ensures named { IfOk result (λ named. named ≡ named_in (texts words.now)) }
-    ensures refused { IfErr result (Refuses (texts words.now)) }
+pub fn read_words<'a, T: FromName>(
+    alloc: Global,
+    program: Program,
+    words: &'a [&'a str],
+) -> Result<Named<T>, Refusal<'a>>
+    ensures taken { IfOk result (λ _. NamesApplications T.by_name (texts words.now)) }
+    ensures named { IfOk result (λ named. named ≡ named_in T.by_name (texts words.now)) }
+    ensures refused { IfErr result (Refuses T.by_name (texts words.now)) }
 {
-    let matches = parse(alloc, words)?;
+    let matches = parse(alloc, program, words)?;
     let applications = applications_in(&matches)?;
     Ok(Named {
         applications,

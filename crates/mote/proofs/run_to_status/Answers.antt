@@ -1,4 +1,5 @@
 use Rattle.std.proofs.Common.{◌≡◌, ◌∙◌, List, ℕ, ap, map, inr, string_bytes, subst}
+use Rattle.mote_apps.specs.Bundled.{named}
 use Rattle.mote_words.specs.CommandLine.{named_in, texts}
 use Rattle.mote.specs.CommandLine.{HasRunNamed, IsOutcome}
 use Rattle.mote.proofs.Named.{of_shown}
@@ -16,10 +17,10 @@ returns-clause-status g c =
     let same : texts c.as_slice.result.now ≡ words = ap texts c.as_slice.ensures.value ∙ c.in_ok-texts.ensures.texts in
     let allowed = subst (λ (w : List (List ℕ)). IsOutcome w c.run_words-outcome.result) same done.outcome in
     record {
-      outcome = c.show.result;
-      is_allowed = of_shown (IsOutcome words) _ _ allowed (λ text asked refused. inr (_, refused.0, refused.1)) c.show.ensures;
+      outcome = c.finish.ensures.shown;
+      is_allowed = of_shown (IsOutcome words) _ _ allowed (λ text asked refused. inr (_, refused.0, refused.1)) c.finish.ensures.is_shown;
       is_done = λ source_named sink_named.
-          let ran = subst (λ (w : List (List ℕ)). HasRunNamed (named_in w) taken_old taken is_ended given_old given c.run_words-outcome.result) same (done.run source_named sink_named) in
-          of_shown (HasRunNamed (named_in words) taken_old taken is_ended given_old given) _ _ ran (λ text asked front. front) c.show.ensures;
-      is_status = c.tell.ensures;
+          let ran = subst (λ (w : List (List ℕ)). HasRunNamed (named_in named w) taken_old taken is_ended given_old given c.run_words-outcome.result) same (done.run source_named sink_named) in
+          of_shown (HasRunNamed (named_in named words) taken_old taken is_ended given_old given) _ _ ran (λ text asked front. front) c.finish.ensures.is_shown;
+      is_status = c.finish.ensures.is_status;
     }

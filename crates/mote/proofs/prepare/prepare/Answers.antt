@@ -2,6 +2,7 @@ use Rattle.std.proofs.Common.{rules, ℕ, ◌≡◌, ◌∙◌, ap, refl, Bool, 
 use Rattle.std.specs.Prelude.{Result, Ok, Err}
 use Rattle.kernel_core.specs.declared.config.Config.{Config}
 use Rattle.kernel_core.specs.Machine.{booted, is_bootable}
+use Rattle.mote_apps.specs.declared.bundled.Bundled.{Bundled}
 use Rattle.mote_words.specs.declared.words.Named.{Named}
 use Rattle.mote.specs.CommandLine.{config_of}
 use Rattle.mote.proofs.prepare.prepare.Goals as goal
@@ -18,17 +19,17 @@ not_false false value error h =
     search rules
 
 -- the configuration of these words with so many applications
-abbrev with_applications : Named → ℕ → Config
+abbrev with_applications : Named Bundled → ℕ → Config
 with_applications named n = record { mmem = named.mmem; heap = named.heap; apps = n; quota = named.quota; header = named.header }
 
 pub returns-clause-ready : goal.returns-clause-ready
 returns-clause-ready c =
-    let config = with_applications c.in_ok-named.named c.len.result in
+    let config = with_applications c.in_ok-asked.asked c.len.result in
     let bootable : is_bootable config ≡ true = not_false _ _ _ c.in_ok-kernel.ensures.bad_sizes.1 in
     ((config, bootable, c.len.ensures.value, c.in_ok-kernel.ensures.booted.0), c.in_ok-kernel.ensures.booted.1)
 
 pub returns-clause-booted : goal.returns-clause-booted
 returns-clause-booted c =
-    let sized = with_applications c.in_ok-named.named c.len.result in
-    let named : sized ≡ config_of c.in_ok-named.named = ap (with_applications c.in_ok-named.named) c.len.ensures.value in
-    c.in_ok-kernel.ensures.booted.0 ∙ ap booted (named ∙ ap config_of c.in_ok-named.ensures.named)
+    let sized = with_applications c.in_ok-asked.asked c.len.result in
+    let named : sized ≡ config_of c.in_ok-asked.asked = ap (with_applications c.in_ok-asked.asked) c.len.ensures.value in
+    c.in_ok-kernel.ensures.booted.0 ∙ ap booted (named ∙ ap config_of c.in_ok-asked.ensures.named)

@@ -1,5 +1,4 @@
 use Rattle.std.proofs.Common.{rules, refl, inl, ◌≡◌, ◌∷◌, [], ◌++◌, ◌∙◌, ap, sym, length}
-use Rattle.std.specs.Prelude.{Result, Ok, Err, OnErr}
 use Rattle.std.proofs.lemmas.List.{append-nil, append_assoc}
 use denote.Param.Object.{read_made}
 use Rattle.mote_types.specs.Applications.{Says}
@@ -9,11 +8,6 @@ use Rattle.mote_run.specs.RunText.{HasRun, HasRunInPart, HasRunOnWholeLines}
 use Rattle.mote.proofs.Boxed.{as_many_more, nothing_ran, one_more, said_the_same, same_applications}
 use Rattle.mote.proofs.running.run_prepared.OwnLists.{own-1}
 use Rattle.mote.proofs.running.run_prepared.Goals as goal
-
--- what holds anyway holds of an error
-on_err : {T E P : Type 0} (r : Result T E) → P → OnErr r P
-on_err (Ok value) p = tt
-on_err (Err error) p = p
 
 pub loop-application-preserved : goal.loop-application-preserved
 loop-application-preserved g c =
@@ -46,30 +40,39 @@ run-requires-clause-booted g c =
     let given = c.requires.booted in
     ((given.0.0, given.0.1, given.0.2 ∙ sym as_many, given.0.3), given.1)
 
-pub returns-clause-text : goal.returns-clause-text
-returns-clause-text g c =
+pub returns-in-Ok-clause-text : goal.returns-in-Ok-clause-text
+returns-in-Ok-clause-text g c =
     let yielded = c.loop-application.yielded in
     let all : yielded ≡ c.args.prepared.applications.items =
     sym (append-nil yielded) ∙ (ap (λ rest. yielded ++ rest) (sym c.in-None.ensures.steps.0) ∙ c.loop-application.invariant.1) in
     said_the_same
-    (λ config says. HasRun config says c.args.prepared.quiet (g.S.ByteSource.taken c.args.source.now) (g.S.ByteSource.taken c.run.new.source) (g.S.ByteSource.is_ended c.run.new.source) (g.K.ByteSink.given c.args.sink.now) (g.K.ByteSink.given c.run.new.sink) c.in_ok-end.end)
-    _ _ (same_applications _ bundled_says _ _ _ _ c.as_mut_slice.ensures.value c.loop-application.invariant.2 all) c.in_ok-end.ensures.text
+    (λ config says. HasRun config says c.args.prepared.quiet (g.S.ByteSource.taken c.args.source.now) (g.S.ByteSource.taken c.run.new.source) (g.S.ByteSource.is_ended c.run.new.source) (g.K.ByteSink.given c.args.sink.now) (g.K.ByteSink.given c.run.new.sink) c.in-Ok.end)
+    _ _ (same_applications _ bundled_says _ _ _ _ c.as_mut_slice.ensures.value c.loop-application.invariant.2 all) c.in-Ok.ensures.text
 
-pub returns-in_err-end-clause-front : goal.returns-in_err-end-clause-front
-returns-in_err-end-clause-front g c =
+pub returns-in-Err-Read-clause-front : goal.returns-in-Err-Read-clause-front
+returns-in-Err-Read-clause-front g c =
     let yielded = c.loop-application.yielded in
     let all : yielded ≡ c.args.prepared.applications.items =
     sym (append-nil yielded) ∙ (ap (λ rest. yielded ++ rest) (sym c.in-None.ensures.steps.0) ∙ c.loop-application.invariant.1) in
-    on_err _ (said_the_same
+    said_the_same
     (λ config says. HasRunInPart config says c.args.prepared.quiet (g.S.ByteSource.taken c.args.source.now) (g.S.ByteSource.taken c.run.new.source) (g.S.ByteSource.is_ended c.run.new.source) (g.K.ByteSink.given c.args.sink.now) (g.K.ByteSink.given c.run.new.sink))
-    _ _ (same_applications _ bundled_says _ _ _ _ c.as_mut_slice.ensures.value c.loop-application.invariant.2 all) c.in_err-end.ensures.front)
+    _ _ (same_applications _ bundled_says _ _ _ _ c.as_mut_slice.ensures.value c.loop-application.invariant.2 all) c.in-Err-Read.ensures.front
 
-pub returns-in_err-end-clause-after_read_fault : goal.returns-in_err-end-clause-after_read_fault
-returns-in_err-end-clause-after_read_fault g c =
+pub returns-in-Err-Read-clause-after_read_fault : goal.returns-in-Err-Read-clause-after_read_fault
+returns-in-Err-Read-clause-after_read_fault g c =
     let yielded = c.loop-application.yielded in
     let all : yielded ≡ c.args.prepared.applications.items =
     sym (append-nil yielded) ∙ (ap (λ rest. yielded ++ rest) (sym c.in-None.ensures.steps.0) ∙ c.loop-application.invariant.1) in
     λ is_read. said_the_same
     (λ config says. HasRunOnWholeLines config says c.args.prepared.quiet (g.S.ByteSource.taken c.args.source.now) (g.S.ByteSource.taken c.run.new.source) (g.K.ByteSink.given c.args.sink.now) (g.K.ByteSink.given c.run.new.sink))
     _ _ (same_applications _ bundled_says _ _ _ _ c.as_mut_slice.ensures.value c.loop-application.invariant.2 all)
-    (c.in_err-end.ensures.after_read_fault (c.in_err-end.ensures.read_fault.1 (search rules)))
+    (c.in-Err-Read.ensures.after_read_fault (search rules))
+
+pub returns-clause-front : goal.returns-clause-front
+returns-clause-front g c =
+    let yielded = c.loop-application.yielded in
+    let all : yielded ≡ c.args.prepared.applications.items =
+    sym (append-nil yielded) ∙ (ap (λ rest. yielded ++ rest) (sym c.in-None.ensures.steps.0) ∙ c.loop-application.invariant.1) in
+    said_the_same
+    (λ config says. HasRunInPart config says c.args.prepared.quiet (g.S.ByteSource.taken c.args.source.now) (g.S.ByteSource.taken c.run.new.source) (g.S.ByteSource.is_ended c.run.new.source) (g.K.ByteSink.given c.args.sink.now) (g.K.ByteSink.given c.run.new.sink))
+    _ _ (same_applications _ bundled_says _ _ _ _ c.as_mut_slice.ensures.value c.loop-application.invariant.2 all) c.in-Err-Write.ensures.front

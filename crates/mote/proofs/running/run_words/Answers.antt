@@ -1,6 +1,6 @@
 use Rattle.std.proofs.Common.{subst, Bool}
 use Rattle.mote_types.specs.Applications.{says_of}
-use Rattle.mote_apps.specs.Bundled.{bundled_says}
+use Rattle.mote_apps.specs.Bundled.{bundled_says, named}
 use Rattle.mote_words.specs.CommandLine.{named_in, texts}
 use Rattle.mote.specs.CommandLine.{HasRunTo, config_of}
 use Rattle.mote.proofs.Named.{ran_nothing, ran_to}
@@ -12,7 +12,7 @@ returns-in_err-prepared-clause-run g c = λ source_named sink_named.
 
 pub returns-clause-run : goal.returns-clause-run
 returns-clause-run g c = λ source_named sink_named.
-    let named = named_in (texts c.args.words.now) in
+    let asked = named_in named (texts c.args.words.now) in
     let ready = c.in_ok-prepared.ensures in
     let done = c.run_prepared.ensures in
     let taken_old = g.S.ByteSource.taken c.args.source.now in
@@ -20,9 +20,9 @@ returns-clause-run g c = λ source_named sink_named.
     let is_ended = g.S.ByteSource.is_ended c.run_prepared.new.source in
     let given_old = g.K.ByteSink.given c.args.sink.now in
     let given = g.K.ByteSink.given c.run_prepared.new.sink in
-    let of_prepared = ran_to (config_of named) _ _ taken_old is_ended given_old taken given c.run_prepared.result done.text done.front done.after_read_fault source_named sink_named ready.booted in
+    let of_prepared = ran_to (config_of asked) _ _ taken_old is_ended given_old taken given c.run_prepared.result done.text done.front done.after_read_fault source_named sink_named ready.booted in
     let as_applied =
-    subst (λ applications. HasRunTo (config_of named) (says_of bundled_says applications.items) c.in_ok-prepared.prepared.quiet taken_old taken is_ended given_old given c.run_prepared.result)
+    subst (λ applications. HasRunTo (config_of asked) (says_of bundled_says applications.items) c.in_ok-prepared.prepared.quiet taken_old taken is_ended given_old given c.run_prepared.result)
     ready.applications of_prepared in
-    subst (λ (quiet : Bool). HasRunTo (config_of named) (says_of bundled_says named.applications.items) quiet taken_old taken is_ended given_old given c.run_prepared.result)
+    subst (λ (quiet : Bool). HasRunTo (config_of asked) (says_of bundled_says asked.applications.items) quiet taken_old taken is_ended given_old given c.run_prepared.result)
     ready.quiet as_applied

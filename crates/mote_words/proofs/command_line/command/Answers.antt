@@ -7,10 +7,10 @@ use Rattle.mote_words.proofs.command_line.command.Goals as goal
 
 pub returns : goal.returns
 returns c =
-    let numbered : app_of c.version.result ≡ versioned =
+    let numbered : app_of c.version.result ≡ versioned c.args.program.name.now =
     ap app_of_fields c.version.ensures ∙ ap (on_top (λ shape. record shape { has_version = true })) c.new.ensures.app in
-    let told : app_of c.about.result ≡ versioned = ap app_of_fields c.about.ensures ∙ numbered in
-    let explained : app_of c.after_help.result ≡ versioned = ap app_of_fields c.after_help.ensures ∙ told in
+    let told : app_of c.about.result ≡ versioned c.args.program.name.now = ap app_of_fields c.about.ensures ∙ numbered in
+    let explained : app_of c.after_help.result ≡ versioned c.args.program.name.now = ap app_of_fields c.after_help.ensures ∙ told in
     let first = c.in_ok-arg.ensures.shape c.mmem_option.ensures.local ∙ ap₂ with_rule explained c.mmem_option.ensures.rule in
     let second = c.in_ok-arg-2.ensures.shape c.heap_option.ensures.local ∙ ap₂ with_rule first c.heap_option.ensures.rule in
     let third = c.in_ok-arg-3.ensures.shape c.quota_option.ensures.local ∙ ap₂ with_rule second c.quota_option.ensures.rule in

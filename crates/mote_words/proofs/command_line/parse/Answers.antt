@@ -10,15 +10,15 @@ use Rattle.mote_words.proofs.command_line.parse.Goals as goal
 
 pub returns-clause-matches : goal.returns-clause-matches
 returns-clause-matches c =
-    let is_program : app_of c.in_ok-command.command ≡ program = c.in_ok-command.ensures in
+    let is_program : app_of c.in_ok-command.command ≡ program c.args.program.name.now = c.in_ok-command.ensures in
     IfOk-weaker c.try_get_matches_from.result _ _
-    (λ matches exact. (exact (ap is_simple is_program ∙ program_is_simple)).0
-    ∙ (ap (λ app. matches_of app (texts c.args.words.now)) is_program ∙ sym (rows_in_is (texts c.args.words.now))))
+    (λ matches exact. (exact (ap is_simple is_program ∙ program_is_simple c.args.program.name.now)).0
+    ∙ (ap (λ app. matches_of app (texts c.args.words.now)) is_program ∙ sym (rows_in_is c.args.program.name.now (texts c.args.words.now))))
     c.try_get_matches_from.ensures.matches
 
 pub returns-clause-faults : goal.returns-clause-faults
 returns-clause-faults c =
-    let is_program : app_of c.in_ok-command.command ≡ program = c.in_ok-command.ensures in
+    let is_program : app_of c.in_ok-command.command ≡ program c.args.program.name.now = c.in_ok-command.ensures in
     subst (λ kinds. FailsBy kinds c.try_get_matches_from.result)
-    (ap (λ app. fault_of app (texts c.args.words.now)) is_program ∙ sym (faults_in_is (texts c.args.words.now)))
-    (c.try_get_matches_from.ensures.kinds (ap is_simple_and_free is_program ∙ program_is_free))
+    (ap (λ app. fault_of app (texts c.args.words.now)) is_program ∙ sym (faults_in_is c.args.program.name.now (texts c.args.words.now)))
+    (c.try_get_matches_from.ensures.kinds (ap is_simple_and_free is_program ∙ program_is_free c.args.program.name.now))

@@ -5,10 +5,10 @@ use Rattle.mote_words.proofs.Matches.{named_read}
 use Rattle.mote_words.proofs.words.read_words.Goals as goal
 
 pub returns-clause-named : goal.returns-clause-named
-returns-clause-named c =
+returns-clause-named g c =
     let read = c.in_ok-matches.ensures.matches in
-    named_read (texts c.args.words.now) _ _ _ _ _ _
-    (c.in_ok-applications.ensures.applications ∙ ap (λ rows. applications_of (names_of rows)) read)
+    named_read g.T.FromName.by_name (texts c.args.words.now) _ _ _ _ _ _
+    (c.in_ok-applications.ensures.applications ∙ ap (λ rows. applications_of g.T.FromName.by_name (names_of rows)) read)
     (c.size_in.ensures ∙ ap (size_of (codes "mmem")) read)
     (c.size_in-2.ensures ∙ ap (size_of (codes "heap")) read)
     (c.number_in.ensures ∙ ap (number_of (codes "quota")) read)

@@ -1,11 +1,10 @@
 //! Why the program ends before its run, or in the middle of it.
 
 ghost use Rattle.std.specs.Prelude.{◌≡◌};
-ghost use Rattle.mote.specs.Statuses as statuses;
-ghost use Rattle.mote.specs.Statuses.{status_of_failure, status_of_outcome};
+ghost use Rattle.mote_shell.specs.Statuses as statuses;
+ghost use Rattle.mote_shell.specs.Statuses.{status_of_failure, status_of_outcome};
 
-use mote_run::End;
-use mote_run::run::RunFault;
+use mote_text::script::End;
 use mote_types::fault::BootFault;
 use mote_words::{ParserText, Refusal};
 use std::alloc::{AllocError, AllocFailed};
@@ -52,26 +51,26 @@ impl Failure<'_> {
 }
 
 impl fmt::Display for Failure<'_> {
-    ghost use Rattle.mote.specs.Statuses.{failure_text};
+    ghost use Rattle.mote_shell.specs.Statuses.{failure_text};
 
     ghost output = { failure_text };
 
     fn fmt<W: fmt::Write>(&self, f: &mut fmt::Formatter<W>) -> fmt::Result {
         match self {
-            Failure::NotText => f.write_str("mote: a word is not text"),
+            Failure::NotText => f.write_str("a word is not text"),
             Failure::Request(text) | Failure::Words(text) => write!(f, "{text}"),
-            Failure::NoApplication(name) => write!(f, "mote: no application {name}"),
-            Failure::TooManyApplications => f.write_str("mote: too many applications"),
-            Failure::BadSizes => f.write_str("mote: bad sizes"),
-            Failure::OutOfMemory => f.write_str("mote: out of memory"),
-            Failure::Read => f.write_str("mote: read failed"),
-            Failure::Write => f.write_str("mote: write failed"),
+            Failure::NoApplication(name) => write!(f, "no application {name}"),
+            Failure::TooManyApplications => f.write_str("too many applications"),
+            Failure::BadSizes => f.write_str("bad sizes"),
+            Failure::OutOfMemory => f.write_str("out of memory"),
+            Failure::Read => f.write_str("read failed"),
+            Failure::Write => f.write_str("write failed"),
         }
     }
 }
 
 impl<T: Drop> From<AllocFailed<T>> for Failure<'_> {
-    ghost use Rattle.mote.specs.declared.failure.Failure.TheVariants.{OutOfMemory};
+    ghost use Rattle.mote_shell.specs.declared.failure.Failure.TheVariants.{OutOfMemory};
 
     ghost from_gives = { λ _ failure. failure ≡ OutOfMemory };
 
@@ -81,7 +80,7 @@ impl<T: Drop> From<AllocFailed<T>> for Failure<'_> {
 }
 
 impl From<AllocError> for Failure<'_> {
-    ghost use Rattle.mote.specs.declared.failure.Failure.TheVariants.{OutOfMemory};
+    ghost use Rattle.mote_shell.specs.declared.failure.Failure.TheVariants.{OutOfMemory};
 
     ghost from_gives = { λ _ failure. failure ≡ OutOfMemory };
 
@@ -91,7 +90,7 @@ impl From<AllocError> for Failure<'_> {
 }
 
 impl<'a> From<Refusal<'a>> for Failure<'a> {
-    ghost use Rattle.mote.specs.Statuses.{failure_in_words};
+    ghost use Rattle.mote_shell.specs.Statuses.{failure_in_words};
 
     ghost from_gives = { λ refusal failure. failure ≡ failure_in_words refusal };
 
@@ -107,7 +106,7 @@ impl<'a> From<Refusal<'a>> for Failure<'a> {
 }
 
 impl From<BootFault> for Failure<'_> {
-    ghost use Rattle.mote.specs.Statuses.{failure_at_boot};
+    ghost use Rattle.mote_shell.specs.Statuses.{failure_at_boot};
 
     ghost from_gives = { λ fault failure. failure ≡ failure_at_boot fault };
 
@@ -115,19 +114,6 @@ impl From<BootFault> for Failure<'_> {
         match fault {
             BootFault::BadSizes => Failure::BadSizes,
             BootFault::Memory => Failure::OutOfMemory,
-        }
-    }
-}
-
-impl From<RunFault> for Failure<'_> {
-    ghost use Rattle.mote.specs.Statuses.{failure_in_run};
-
-    ghost from_gives = { λ fault failure. failure ≡ failure_in_run fault };
-
-    fn from(fault: RunFault) -> Self {
-        match fault {
-            RunFault::Read => Failure::Read,
-            RunFault::Write => Failure::Write,
         }
     }
 }

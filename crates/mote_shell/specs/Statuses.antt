@@ -1,10 +1,9 @@
 -- The statuses that the program exits with, and what it tells on standard error.
-use Rattle.std.specs.Prelude.{◌≡◌, ◌⊎◌, ⊤, ℕ, List, ◌++◌, codes, Option, Some, None, Result, Ok, Err}
+use Rattle.std.specs.Prelude.{◌≡◌, ◌⊎◌, ℕ, List, ◌++◌, codes, Option, Some, None, option_map, Result, Ok, Err}
 use Rattle.mote_types.specs.declared.fault.BootFault.{BootFault}
 use Rattle.mote_text.specs.declared.script.End.{End}
-use Rattle.mote_run.specs.declared.run.RunFault.{RunFault}
 use Rattle.mote_words.specs.declared.refusal.Refusal.{Refusal}
-use Rattle.mote.specs.declared.failure.Failure.{Failure}
+use Rattle.mote_shell.specs.declared.failure.Failure.{Failure}
 
 abbrev pub status_of_end : End → ℕ
 status_of_end End.Finished = 0
@@ -28,29 +27,32 @@ abbrev pub status_of_outcome : Result End Failure → ℕ
 status_of_outcome (Ok end) = status_of_end end
 status_of_outcome (Err failure) = status_of_failure failure
 
--- how a run that was begun can fail
-abbrev pub IsRunFailure : Failure → Type 0
-IsRunFailure Failure.Read = ⊤
-IsRunFailure Failure.Write = ⊤
-IsRunFailure Failure.OutOfMemory = ⊤
-IsRunFailure _ = ⊥
-
 -- what an outcome comes to once a text that the words ask for was written, or that failed: all else stays
 abbrev pub IsShown : Result End Failure → Result End Failure → Type 0
 IsShown (Err (Failure.Request text)) result = (result ≡ Err (Failure.Request text)) ⊎ (result ≡ Err Failure.Write)
 IsShown outcome result = result ≡ outcome
 
--- the line on standard error, without its end; the parser's texts are its own
+-- what is told of a failure; the parser's texts are its own
 abbrev pub failure_text : Failure → Option (List ℕ)
 failure_text (Failure.Request text) = None
 failure_text (Failure.Words text) = None
-failure_text Failure.Read = Some (codes "mote: read failed")
-failure_text Failure.Write = Some (codes "mote: write failed")
-failure_text Failure.NotText = Some (codes "mote: a word is not text")
-failure_text (Failure.NoApplication name) = Some (codes "mote: no application " ++ name.now)
-failure_text Failure.TooManyApplications = Some (codes "mote: too many applications")
-failure_text Failure.BadSizes = Some (codes "mote: bad sizes")
-failure_text Failure.OutOfMemory = Some (codes "mote: out of memory")
+failure_text Failure.Read = Some (codes "read failed")
+failure_text Failure.Write = Some (codes "write failed")
+failure_text Failure.NotText = Some (codes "a word is not text")
+failure_text (Failure.NoApplication name) = Some (codes "no application " ++ name.now)
+failure_text Failure.TooManyApplications = Some (codes "too many applications")
+failure_text Failure.BadSizes = Some (codes "bad sizes")
+failure_text Failure.OutOfMemory = Some (codes "out of memory")
+
+-- the status with which a program ends that came to this outcome
+pub record IsStatusOf (outcome : Result End Failure) (status : ℕ) : Type 0 where
+  pub shown : Result End Failure
+  pub is_shown : IsShown outcome shown
+  pub is_status : status ≡ status_of_outcome shown
+
+-- the line on standard error, without its end: the program's name stands in front
+abbrev pub told_text : List ℕ → Failure → Option (List ℕ)
+told_text program failure = option_map (λ text. program ++ codes ": " ++ text) (failure_text failure)
 
 abbrev pub failure_in_words : Refusal → Failure
 failure_in_words (Refusal.Request text) = Failure.Request text
@@ -62,7 +64,3 @@ failure_in_words Refusal.OutOfMemory = Failure.OutOfMemory
 abbrev pub failure_at_boot : BootFault → Failure
 failure_at_boot BootFault.BadSizes = Failure.BadSizes
 failure_at_boot BootFault.Memory = Failure.OutOfMemory
-
-abbrev pub failure_in_run : RunFault → Failure
-failure_in_run RunFault.Read = Failure.Read
-failure_in_run RunFault.Write = Failure.Write
