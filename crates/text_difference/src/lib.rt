@@ -1,0 +1,126 @@
+//! Where a text differs from the one that was wanted: the first line that does, to be read by a person.
+#![tactic(auto)]
+
+ghost use Rattle.std.specs.Prelude.{◌≡◌, ◌≢◌, ◌≤◌, length, OnOk, OnErr};
+
+#[cfg(test)]
+mod tests;
+
+use std::fmt;
+
+/// How many of the lines before are shown.
+const LINES_BEFORE: usize = 3;
+
+/// The first line at which a text differs from the one that was wanted.
+#[derive(Clone, Copy, Drop)]
+pub struct Difference<'a> {
+    /// The lines before it, which both texts have, with their line ends.
+    pub before: &'a [u8],
+    /// The line that was wanted, with its line end; empty where the wanted text has ended.
+    pub wanted: &'a [u8],
+    /// The line that stands in its place.
+    pub found: &'a [u8],
+}
+
+/// How many bytes two texts have in common from their beginning on.
+fn common_length(wanted: &[u8], found: &[u8]) -> usize
+    ensures wanted { result ≤ length wanted.now }
+    ensures found { result ≤ length found.now }
+{
+    let most = wanted.len().min(found.len());
+    for place in 0..most {
+        if wanted[place] != found[place] {
+            return place;
+        }
+    }
+    most
+}
+
+/// Where the line begins that this text ends in.
+fn last_line_begins(text: &[u8]) -> usize
+    ensures { result ≤ length text.now }
+{
+    match text.iter().rposition(|byte| *byte == b'\n') {
+        Some(end) => end + 1,
+        None => 0,
+    }
+}
+
+/// The line of a text that begins at this place, with its line end if it has one.
+fn line_at(text: &[u8], place: usize) -> &[u8]
+    requires { place ≤ length text.now }
+{
+    let rest = &text[place..];
+    match rest.iter().position(|byte| *byte == b'\n') {
+        Some(end) => &rest[..=end],
+        None => rest,
+    }
+}
+
+/// Compares a text with the one that was wanted.
+///
+/// # Errors
+///
+/// The first line that differs, exactly where the texts do.
+pub fn compare<'a>(wanted: &'a [u8], found: &'a [u8]) -> Result<(), Difference<'a>>
+    ensures same { OnOk result (wanted.entry.now ≡ found.entry.now) }
+    ensures differs { OnErr result (wanted.entry.now ≢ found.entry.now) }
+{
+    if wanted == found {
+        return Ok(());
+    }
+    let common = common_length(wanted, found);
+    let place = last_line_begins(&wanted[..common]);
+    Err(Difference {
+        before: &wanted[..place],
+        wanted: line_at(wanted, place),
+        found: line_at(found, place),
+    })
+}
+
+/// Writes a line under its number.
+fn write_line<W: fmt::Write>(f: &mut fmt::Formatter<W>, title: &str, line: &[u8]) -> fmt::Result {
+    match str::from_utf8(line) {
+        Ok("") => writeln!(f, "{title}  nothing more"),
+        Ok(text) => match text.strip_suffix('\n') {
+            Some(text) => writeln!(f, "{title}  {text}"),
+            None => writeln!(f, "{title}  {text} (and no line end)"),
+        },
+        Err(_) => writeln!(f, "{title}  {line:?}, which is no text"),
+    }
+}
+
+impl Difference<'_> {
+    /// The number of the line, from 1 on.
+    pub fn number(&self) -> usize {
+        let ends = self.before.iter().filter(|byte| **byte == b'\n').count();
+        ends.saturating_add(1)
+    }
+}
+
+impl fmt::Display for Difference<'_> {
+    /// The number of the line, three lines before it, and both lines, as a person reads them.
+    fn fmt<W: fmt::Write>(&self, f: &mut fmt::Formatter<W>) -> fmt::Result {
+        let number = self.number();
+        writeln!(f, "line {number} of the transcript differs")?;
+        let first = number.saturating_sub(LINES_BEFORE);
+        for (index, line) in self
+            .before
+            .split_inclusive(|byte| *byte == b'\n')
+            .enumerate()
+        {
+            if index.saturating_add(1) >= first {
+                write_line(f, "        ", line)?;
+            }
+        }
+        write_line(f, "wanted: ", self.wanted)?;
+        write_line(f, "found:  ", self.found)
+    }
+}
+
+impl fmt::Debug for Difference<'_> {
+    /// As it is displayed, so that a test that fails with it can be read.
+    fn fmt<W: fmt::Write>(&self, f: &mut fmt::Formatter<W>) -> fmt::Result {
+        fmt::Display::fmt(self, f)
+    }
+}
