@@ -56,7 +56,8 @@ impl Model for Scheduler {
 impl Scheduler {
     /// The scheduler of a mote with so many applications, 0 to 16, which are still to be started.
     ///
-    /// The event queue is all that takes memory: 32 places. Where memory is refused there is no scheduler.
+    /// The event queue and the stack of open work are all that takes memory: 32 and 48 places. Where memory is refused there is
+    /// no scheduler.
     pub fn new(alloc: Global, applications: u8) -> Result<Scheduler, AllocError>
         requires { applications ≤ 16 }
         ensures { IfOk result (λ s. s ≡ awaiting_nothing (at_boot applications)) }
@@ -66,7 +67,7 @@ impl Scheduler {
         for number in FIRST_APPLICATION..FIRST_APPLICATION + applications {
             starts.push(number);
         }
-        let mut stack = Stack::new();
+        let mut stack = Stack::new(alloc)?;
         stack.push(Frame::Boot(Walk::over(starts)));
         let fields = SchedulerFields {
             applications,

@@ -1,5 +1,5 @@
 //! The stack of open work.
-ghost use Rattle.std.specs.Prelude.{◌≡◌, ◌<◌, ◌==◌, [], ◌∷◌, false, length, drop, reverse, slice_get, option_copied, option_map};
+ghost use Rattle.std.specs.Prelude.{◌≡◌, ◌<◌, ◌==◌, [], ◌∷◌, false, length, drop, reverse, slice_get, option_copied, option_map, IfOk};
 ghost use Rattle.mote_types.specs.declared.event.Pid.{Pid as At};
 ghost use Rattle.mote_types.specs.declared.event.Stimulus.{Stimulus as Told};
 ghost use Rattle.mote_types.specs.declared.reply.Reply.{Reply as Answered};
@@ -10,7 +10,7 @@ use crate::frame::{First, Frame};
 use crate::process_list::ProcessList;
 use mote_types::event::{Pid, Stimulus};
 use mote_types::reply::Reply;
-use std::array;
+use std::alloc::{AllocError, Global};
 use std::marker::Model;
 
 /// How many frames a `Stack` holds.
@@ -18,10 +18,11 @@ const PLACES: usize = 48;
 
 /// The frames of open work. That a push finds room is proved at each push (`specs/Code/Nesting.antt`).
 ///
-/// No `ArrayVec`: that writes a blank frame over each one that it drops.
+/// They lie on the heap, so that a scheduler that is moved, as at boot, takes none of them along. Their number stands apart: a
+/// frame that is dropped is left as it lies, and one that is pushed takes the place of such a one.
 #[derive(Drop)]
 pub struct Stack {
-    frames: [Frame; PLACES],
+    frames: Vec<Frame>,
     len: usize,
 }
 
@@ -31,9 +32,9 @@ impl Model for Stack {
 
     ghost Value = { List Frame };
 
-    ghost view = { λ s. reverse (take s.len s.frames) };
+    ghost view = { λ s. reverse (take s.len s.frames.items) };
 
-    ghost invariant = { λ s. (s.len ≤ 48) × (length s.frames ≡ 48) };
+    ghost invariant = { λ s. (s.len ≤ 48) × (length s.frames.items ≡ 48) };
 }
 
 // The work on the topmost frame, which is the last of these.
@@ -126,14 +127,15 @@ fn begin_answer(told: &mut Stimulus)
 }
 
 impl Stack {
-    /// No open work.
-    pub fn new() -> Stack
-        ensures { result ≡ [] }
+    /// No open work. The room for its frames is all that takes memory.
+    pub fn new(alloc: Global) -> Result<Stack, AllocError>
+        ensures { IfOk result (λ stack. stack ≡ []) }
     {
-        Stack {
-            frames: array::from_fn(|_| Frame::default()),
-            len: 0,
+        let mut frames = Vec::with_capacity(alloc, PLACES)?;
+        for place in 0..PLACES {
+            frames.push(Frame::default())?;
         }
+        Ok(Stack { frames, len: 0 })
     }
 
     /// Puts a frame on top.
@@ -171,7 +173,7 @@ impl Stack {
         ensures value { option_map (λ (p : At). p.0) result ≡ part.on_top None (part.marked_of processes.now) self.old }
         ensures left { self.new ≡ part.changed_top (part.past_marked processes.now) self.old }
     {
-        next_marked_in(&mut self.frames[..self.len], processes)
+        next_marked_in(self.frames.slice_mut(..self.len), processes)
     }
 
     /// The walk on top goes on behind its next process, which is answered.
@@ -179,7 +181,7 @@ impl Stack {
         ensures value { option_map (λ (p : At). p.0) result ≡ part.on_top None part.next_of self.old }
         ensures left { self.new ≡ part.changed_top part.advanced self.old }
     {
-        advance_in(&mut self.frames[..self.len])
+        advance_in(self.frames.slice_mut(..self.len))
     }
 
     /// The poll round of the delivery on top is done from now on. Answers whether it wasn't yet.
@@ -187,7 +189,7 @@ impl Stack {
         ensures value { result ≡ part.on_top false part.wants_polls self.old }
         ensures left { self.new ≡ part.changed_top part.polled self.old }
     {
-        begin_polls_in(&mut self.frames[..self.len])
+        begin_polls_in(self.frames.slice_mut(..self.len))
     }
 
     /// The next receiver of the broadcast on top has its turn behind a poll round, unless one has it.
@@ -195,7 +197,7 @@ impl Stack {
         ensures value { result ≡ part.on_top false part.has_receiver self.old }
         ensures left { self.new ≡ part.changed_top part.with_receiver self.old }
     {
-        begin_receiver_in(&mut self.frames[..self.len])
+        begin_receiver_in(self.frames.slice_mut(..self.len))
     }
 
     /// The receiver of the broadcast on top that is given the event next, which it is told.
@@ -204,7 +206,7 @@ impl Stack {
         ensures told { told.new ≡ part.on_top told.old (part.told_by told.old) self.old }
         ensures left { self.new ≡ part.changed_top part.past_receiver self.old }
     {
-        pass_receiver_in(&mut self.frames[..self.len], told)
+        pass_receiver_in(self.frames.slice_mut(..self.len), told)
     }
 
     /// The broadcast on top, if it is of an event with another code than these, goes on past the kernel's processes that
@@ -212,7 +214,7 @@ impl Stack {
     pub fn pass_kernel_receivers(&mut self, codes: &[u8])
         ensures { self.new ≡ part.changed_top (part.past_kernel_receivers codes.now) self.old }
     {
-        pass_kernel_receivers_in(&mut self.frames[..self.len], codes)
+        pass_kernel_receivers_in(self.frames.slice_mut(..self.len), codes)
     }
 
     /// Whether the process that leaves, on top, is given EXIT, which it is once.
@@ -220,7 +222,7 @@ impl Stack {
         ensures value { result ≡ part.on_top false part.exits_of self.old }
         ensures left { self.new ≡ part.changed_top part.past_exit self.old }
     {
-        take_exit_in(&mut self.frames[..self.len])
+        take_exit_in(self.frames.slice_mut(..self.len))
     }
 
     /// Whether something is done before the reply on top.
@@ -238,7 +240,7 @@ impl Stack {
         ensures value { result ≡ part.on_top Before.Nothing part.first_of self.old }
         ensures left { self.new ≡ part.changed_top part.past_first self.old }
     {
-        take_first_in(&mut self.frames[..self.len])
+        take_first_in(self.frames.slice_mut(..self.len))
     }
 
     /// The reply on top is put into the place, and its frame is dropped.
