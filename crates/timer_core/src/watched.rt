@@ -94,6 +94,21 @@ impl WatchedTable {
         self.table.disarm_callbacks(pid);
     }
 
+    /// As `first_due`, from the moment on before which nothing is due.
+    // Out of the way of what is frequent: most ticks come before it.
+    #[inline(never)]
+    fn look_for_due(&mut self, clock: u64) -> Option<Timer>
+        ensures first { result ≡ first_due clock self.old }
+        ensures named { IfSome result IsNamed }
+        ensures kept { self.new ≡ self.old }
+    {
+        let first = self.table.first_due(clock);
+        if first.is_none() {
+            self.due_from = self.table.earliest_deadline();
+        }
+        first
+    }
+
     /// The first on the list whose deadline has come.
     #[inline]
     pub(crate) fn first_due(&mut self, clock: u64) -> Option<Timer>
@@ -104,10 +119,6 @@ impl WatchedTable {
         if clock < self.due_from {
             return None;
         }
-        let first = self.table.first_due(clock);
-        if first.is_none() {
-            self.due_from = self.table.earliest_deadline();
-        }
-        first
+        self.look_for_due(clock)
     }
 }
