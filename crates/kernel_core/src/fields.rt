@@ -101,7 +101,7 @@ impl KernelFields {
         self.work += 1;
         turn.pid = pid;
         turn.origin = origin;
-        turn.call = ask(apps, pid, &turn.stimulus);
+        ask(apps, pid, &turn.stimulus, &mut turn.call);
         self.carry_out(pid, &turn.call);
         true
     }

@@ -1,13 +1,12 @@
 //! An application that blinks.
 
-ghost use Rattle.std.specs.Prelude.{◌≡◌, false};
+ghost use Rattle.std.specs.Prelude.{◌≡◌, ◌≤◌, false, length};
 ghost use Rattle.mote_apps.specs.Blink.{blink_says, light_text};
 
-use app_kit::chunk_of;
+use crate::calls::put_print;
 use mote_types::app::App;
 use mote_types::call::Call;
 use mote_types::event::{Event, INIT, Stimulus, TIMER};
-use mote_types::reply::Chunk;
 
 /// The ticks between two changes of the light.
 const INTERVAL: u32 = 10;
@@ -23,10 +22,11 @@ pub struct Blink {
 }
 
 /// The bytes that tell whether the light is on.
-fn make_text(lit: bool) -> Chunk
-    ensures { result.items ≡ light_text lit }
+fn text_of(lit: bool) -> &'static [u8]
+    ensures value { result.now ≡ light_text lit }
+    ensures few { length result.now ≤ 64 }
 {
-    chunk_of(if lit { b"on\n" } else { b"off\n" })
+    if lit { b"on\n" } else { b"off\n" }
 }
 
 impl Blink {
@@ -45,21 +45,27 @@ impl App for Blink {
     ghost says = { blink_says };
 
     fn turn(&mut self, stimulus: &Stimulus) -> Call {
+        let mut call = Call::Wait;
+        self.turn_into(stimulus, &mut call);
+        call
+    }
+
+    fn turn_into(&mut self, stimulus: &Stimulus, call: &mut Call) {
         match stimulus {
             Stimulus::Event(Event { code: INIT, .. }) => {
                 *self = Blink::new();
-                Call::TimerSet(0, INTERVAL)
+                *call = Call::TimerSet(0, INTERVAL);
             }
             Stimulus::Event(Event { code: TIMER, .. }) => {
                 self.lit = !self.lit;
                 self.printed = true;
-                Call::Print(make_text(self.lit))
+                put_print(call, text_of(self.lit));
             }
             Stimulus::Answer(_) if self.printed => {
                 self.printed = false;
-                Call::TimerReset(0)
+                *call = Call::TimerReset(0);
             }
-            _ => Call::Wait,
+            _ => *call = Call::Wait,
         }
     }
 }

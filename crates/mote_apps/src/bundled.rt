@@ -61,13 +61,19 @@ impl App for Bundled {
     ghost says = { bundled_says };
 
     fn turn(&mut self, stimulus: &Stimulus) -> Call {
+        let mut call = Call::Wait;
+        self.turn_into(stimulus, &mut call);
+        call
+    }
+
+    fn turn_into(&mut self, stimulus: &Stimulus, call: &mut Call) {
         match self {
-            Bundled::Hello(hello) => hello.turn(stimulus),
-            Bundled::Blink(blink) => blink.turn(stimulus),
-            Bundled::Echo(echo) => echo.turn(stimulus),
-            Bundled::Relay(relay) => relay.turn(stimulus),
-            Bundled::Churn(churn) => churn.turn(stimulus),
-            Bundled::Ping(ping) => ping.turn(stimulus),
+            Bundled::Hello(hello) => hello.turn_into(stimulus, call),
+            Bundled::Blink(blink) => blink.turn_into(stimulus, call),
+            Bundled::Echo(echo) => echo.turn_into(stimulus, call),
+            Bundled::Relay(relay) => relay.turn_into(stimulus, call),
+            Bundled::Churn(churn) => churn.turn_into(stimulus, call),
+            Bundled::Ping(ping) => ping.turn_into(stimulus, call),
         }
     }
 }

@@ -4,7 +4,7 @@ ghost use Rattle.std.specs.Prelude.{◌≡◌, ◌≤◌, [], length, take, drop
 ghost use Rattle.mote_types.specs.declared.call.Call.{Call};
 ghost use Rattle.mote_apps.specs.Echo.{echo_says};
 
-use app_kit::chunk_of;
+use crate::calls::put_print;
 use mote_types::app::App;
 use mote_types::call::Call;
 use mote_types::event::{Event, Payload, SERIAL_LINE, Stimulus};
@@ -31,24 +31,24 @@ impl Echo {
 
     /// A line has come in.
     #[tactic(auto, using(std::proofs::lemmas::List::take_min, crate::proofs::Fronts::drop_min))]
-    fn begin(&mut self, line: &[u8]) -> Call
+    fn begin(&mut self, line: &[u8], call: &mut Call)
         requires { length line.now ≤ 127 }
-        ensures call { result ≡ Call.Print (record { items = take 64 line.now }) }
+        ensures call { call.new ≡ Call.Print (record { items = take 64 line.now }) }
         ensures state { self.new ≡ record { rest = record { items = drop 64 line.now } } }
     {
         let (front, rest) = line.split_at(CHUNK.min(line.len()));
         // In place: a chunk of its own would be moved here whole, even where nothing is left.
         self.rest.clear();
         let _ = self.rest.try_extend_from_slice(rest);
-        Call::Print(chunk_of(front))
+        put_print(call, front);
     }
 
     /// Prints the rest of the line.
-    fn go_on(&mut self) -> Call
-        ensures call { result ≡ Call.Print self.old.rest }
+    fn go_on(&mut self, call: &mut Call)
+        ensures call { call.new ≡ Call.Print self.old.rest }
         ensures state { self.new ≡ record { rest = record { items = [] } } }
     {
-        Call::Print(self.rest.take())
+        *call = Call::Print(self.rest.take());
     }
 }
 
@@ -56,15 +56,21 @@ impl App for Echo {
     ghost says = { echo_says };
 
     fn turn(&mut self, stimulus: &Stimulus) -> Call {
+        let mut call = Call::Wait;
+        self.turn_into(stimulus, &mut call);
+        call
+    }
+
+    fn turn_into(&mut self, stimulus: &Stimulus, call: &mut Call) {
         match stimulus {
             Stimulus::Event(
                 Event {
                     code: SERIAL_LINE,
                     payload: Payload::Line(line),
                 },
-            ) => self.begin(line.as_slice()),
-            Stimulus::Answer(_) if !self.rest.is_empty() => self.go_on(),
-            _ => Call::Wait,
+            ) => self.begin(line.as_slice(), call),
+            Stimulus::Answer(_) if !self.rest.is_empty() => self.go_on(call),
+            _ => *call = Call::Wait,
         }
     }
 }

@@ -4,7 +4,7 @@ ghost use Rattle.std.specs.Prelude.{◌≡◌};
 ghost use Rattle.mote_apps.specs.Relay.{relay_says, step_at};
 ghost use Rattle.mote_apps.specs.declared.relay.Stage.{Stage};
 
-use app_kit::chunk_of;
+use crate::calls::put_write;
 use mote_types::app::App;
 use mote_types::call::Call;
 use mote_types::event::{Event, INIT, PACKET, Payload, Stimulus};
@@ -57,42 +57,42 @@ impl Relay {
     }
 
     /// Goes on to the next stage after an answer, by the call that leads to it.
-    fn step(&mut self, reply: &Reply) -> Call
-        ensures call { result ≡ (step_at self.old.stage self.old.len reply.now).1 }
+    fn step(&mut self, reply: &Reply, call: &mut Call)
+        ensures call { call.new ≡ (step_at self.old.stage self.old.len reply.now).1 }
         ensures state { self.new ≡ record self.old { stage = (step_at self.old.stage self.old.len reply.now).0 } }
     {
         match (self.stage, reply) {
             (Stage::Allocating, Reply::Done) => {
                 self.stage = Stage::ReadingFront;
-                Call::PacketRead(0, self.len.min(CHUNK))
+                *call = Call::PacketRead(0, self.len.min(CHUNK));
             }
             (Stage::ReadingFront, Reply::Bytes(bytes)) => {
                 self.stage = Stage::WritingFront;
-                Call::MmemWrite(0, 0, chunk_of(bytes.as_slice()))
+                put_write(call, 0, bytes.as_slice());
             }
             (Stage::WritingFront, Reply::Done) if self.len > CHUNK => {
                 self.stage = Stage::ReadingRest;
-                Call::PacketRead(u32::from(CHUNK), self.len - CHUNK)
+                *call = Call::PacketRead(u32::from(CHUNK), self.len - CHUNK);
             }
             (Stage::ReadingRest, Reply::Bytes(bytes)) => {
                 self.stage = Stage::WritingRest;
-                Call::MmemWrite(0, u32::from(CHUNK), chunk_of(bytes.as_slice()))
+                put_write(call, u32::from(CHUNK), bytes.as_slice());
             }
             (Stage::WritingFront | Stage::WritingRest, Reply::Done) => {
                 self.stage = Stage::Sending;
-                Call::PacketSend(0)
+                *call = Call::PacketSend(0);
             }
             (Stage::Allocating | Stage::Freeing, _) => {
                 self.stage = Stage::Finishing;
-                Call::PacketDone
+                *call = Call::PacketDone;
             }
             (Stage::Finishing | Stage::Idle, _) => {
                 self.stage = Stage::Idle;
-                Call::Wait
+                *call = Call::Wait;
             }
             _ => {
                 self.stage = Stage::Freeing;
-                Call::MmemFree(0)
+                *call = Call::MmemFree(0);
             }
         }
     }
@@ -102,10 +102,16 @@ impl App for Relay {
     ghost says = { relay_says };
 
     fn turn(&mut self, stimulus: &Stimulus) -> Call {
+        let mut call = Call::Wait;
+        self.turn_into(stimulus, &mut call);
+        call
+    }
+
+    fn turn_into(&mut self, stimulus: &Stimulus, call: &mut Call) {
         match stimulus {
             Stimulus::Event(Event { code: INIT, .. }) => {
                 self.stage = Stage::Idle;
-                Call::PacketOpen
+                *call = Call::PacketOpen;
             }
             Stimulus::Event(
                 Event {
@@ -115,10 +121,10 @@ impl App for Relay {
             ) if *n >= 1 && *n <= 127 => {
                 self.len = *n as u8;
                 self.stage = Stage::Allocating;
-                Call::MmemAlloc(0, *n)
+                *call = Call::MmemAlloc(0, *n);
             }
-            Stimulus::Answer(reply) => self.step(reply),
-            _ => Call::Wait,
+            Stimulus::Answer(reply) => self.step(reply, call),
+            _ => *call = Call::Wait,
         }
     }
 }

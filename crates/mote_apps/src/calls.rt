@@ -1,0 +1,33 @@
+//! Calls with bytes, put into a lent place.
+
+ghost use Rattle.std.specs.Prelude.{◌≡◌, ◌≤◌, length};
+ghost use Rattle.mote_types.specs.declared.call.Call as call_of;
+
+use mote_types::call::Call;
+use mote_types::reply::Chunk;
+
+/// Puts the call that prints these bytes into a place, where the bytes are put at once.
+// A function of its own, since it has room for bytes, which is cleared at its entry.
+#[inline(never)]
+pub(crate) fn put_print(call: &mut Call, bytes: &[u8])
+    requires { length bytes.now ≤ 64 }
+    ensures { call.new ≡ call_of.Call.Print (record { items = bytes.now }) }
+{
+    *call = Call::Print(Chunk::new());
+    if let Call::Print(chunk) = call {
+        let _ = chunk.try_extend_from_slice(bytes);
+    }
+}
+
+/// Puts the call that writes these bytes into managed block 0, from a place of it on, into a place.
+// Likewise.
+#[inline(never)]
+pub(crate) fn put_write(call: &mut Call, at: u32, bytes: &[u8])
+    requires { length bytes.now ≤ 64 }
+    ensures { call.new ≡ call_of.Call.MmemWrite 0 at (record { items = bytes.now }) }
+{
+    *call = Call::MmemWrite(0, at, Chunk::new());
+    if let Call::MmemWrite(_, _, chunk) = call {
+        let _ = chunk.try_extend_from_slice(bytes);
+    }
+}
