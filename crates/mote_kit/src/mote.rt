@@ -16,7 +16,7 @@ use mote_run::run::run;
 use mote_types::app::App;
 use mote_types::device::{ByteSink, ByteSource};
 use mote_types::fault::DeviceFault;
-use node_memory::Sizes;
+pub use node_memory::Sizes;
 use std::alloc::Global;
 use std::marker::{Brand, PhantomData};
 

@@ -1,12 +1,13 @@
 -- What the application says that beats by an event timer. Its state is whether the answer to its print is awaited.
-use Rattle.std.specs.Prelude.{ℕ, Bool, true, false, List, [], ◌∷◌, ◌==◌, if◌then◌else◌}
+use Rattle.std.specs.Prelude.{ℕ, Bool, true, false, List, Option, Some, None, bytes_eq, codes, ◌==◌, if◌then◌else◌}
 use Rattle.mote_types.specs.declared.call.Call.{Call}
 use Rattle.mote_types.specs.declared.event.Stimulus.{Stimulus}
-use Rattle.mote_types.specs.declared.event.TheConstants.{INIT, TIMER}
+use Rattle.mote_types.specs.EventNumbers.{INIT, TIMER}
+use Rattle.template_app.specs.declared.beat.Beat.{Beat}
 
--- 'beat' and a line end
+-- what it prints
 abbrev pub beat_text : List ℕ
-beat_text = 98 ∷ 101 ∷ 97 ∷ 116 ∷ 10 ∷ []
+beat_text = codes "beat\n"
 
 -- At its start it sets its timer. Each time that the timer runs out it prints, and then resets the timer
 abbrev pub beat_answer : Bool → Stimulus → Call
@@ -24,3 +25,7 @@ beat_next printed (Stimulus.Event event) =
     else printed
 beat_next printed (Stimulus.Answer reply) = false
 beat_next printed (Stimulus.Callback timer) = printed
+
+-- the program's one application, as it is before its first turn
+abbrev pub by_name : List ℕ → Option Beat
+by_name name = if bytes_eq name (codes "beat") then Some (record { printed = false }) else None

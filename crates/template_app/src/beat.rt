@@ -2,12 +2,12 @@
 
 ghost use Rattle.std.specs.Prelude.{◌≡◌, false};
 ghost use Rattle.mote_types.specs.Applications.{fold_says};
-ghost use Rattle.template_app.specs.Beat.{beat_answer, beat_next, beat_text};
+ghost use Rattle.template_app.specs.Beat.{beat_answer, beat_next, by_name};
 
+use mote_kit::{FromName, chunk_of};
 use mote_types::app::App;
 use mote_types::call::Call;
 use mote_types::event::{Event, INIT, Stimulus, TIMER};
-use mote_types::reply::Chunk;
 
 /// The ticks between two beats.
 const INTERVAL: u32 = 10;
@@ -19,20 +19,28 @@ pub struct Beat {
     printed: bool,
 }
 
-/// The bytes of a beat.
-fn make_text() -> Chunk
-    ensures { result.items ≡ beat_text }
-{
-    let mut text = Chunk::new();
-    let _ = text.try_extend_from_slice(b"beat\n");
-    text
-}
-
 impl Beat {
     pub fn new() -> Self
         ensures { result ≡ record { printed = false } }
     {
         Beat { printed: false }
+    }
+}
+
+impl Default for Beat {
+    fn default() -> Self {
+        Beat::new()
+    }
+}
+
+impl FromName for Beat {
+    ghost by_name = { by_name };
+
+    fn from_name(name: &str) -> Option<Self> {
+        match name {
+            "beat" => Some(Beat::new()),
+            _ => None,
+        }
     }
 }
 
@@ -47,7 +55,7 @@ impl App for Beat {
             }
             Stimulus::Event(Event { code: TIMER, .. }) => {
                 self.printed = true;
-                Call::Print(make_text())
+                Call::Print(chunk_of(b"beat\n"))
             }
             Stimulus::Answer(_) if self.printed => {
                 self.printed = false;

@@ -1,4 +1,4 @@
-//! A template to copy: an application of your own, and a program that runs it from standard input to standard output.
+//! A template to copy: an application of your own, and a program that runs it by its name.
 #![tactic(auto)]
 
 mod beat;
@@ -6,23 +6,24 @@ mod beat;
 mod tests;
 
 use beat::Beat;
-use mote_kit::boxes;
-use mote_kit::fault::MoteFault;
-use mote_kit::mote::{DEFAULT_SIZES, run_boxes};
-use mote_kit::stream::{Input, Output};
-use std::io;
+use mote_shell::{Failure, Program, after_help, exit_code, run_named};
+use std::process::ExitCode;
 
-fn main(rt: HostRuntime) -> Result<(), MoteFault> {
-    let mut boxes = boxes![rt.alloc(); Beat::new()];
-    let mut source = Input::new(rt.reader());
-    let mut sink = Output::new(io::writer(&rt));
-    run_boxes(
-        rt.alloc(),
-        DEFAULT_SIZES,
-        boxes.as_mut_slice(),
-        &mut source,
-        &mut sink,
-        false,
-    )?;
-    Ok(())
+const PROGRAM: Program = Program {
+    name: "template_app",
+    version: "0.1.0",
+    after_help: after_help!(
+        "  beat     prints 'beat' every 10 ticks",
+        "which prints 'beat' at the clock's tick 10:
+  printf 'tick 10\\n' | template_app beat"
+    ),
+};
+
+/// What the program does, and the status that it exits with.
+fn work(rt: &HostRuntime) -> Result<u8, Failure<'static>> {
+    run_named!(rt, PROGRAM, Beat)
+}
+
+fn main(rt: HostRuntime) -> ExitCode {
+    exit_code(&rt, PROGRAM, work(&rt))
 }
