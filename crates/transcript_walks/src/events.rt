@@ -1,7 +1,8 @@
 //! Posted events, by a walk over the lines of a transcript.
 
-use crate::turns::{LastCalls, Turn, ends, is_input, number, turn_of};
+use crate::turns::{LastCalls, ends, is_input, number};
 use std::alloc::{AllocError, Global};
+use transcript_lines::{Origin, Turn, read_turn};
 
 /// The events that were accepted for an application, and how many of them it was given.
 #[derive(Drop)]
@@ -86,7 +87,7 @@ fn is_kept(inboxes: &mut Inboxes<'_>, turn: &Turn<'_>) -> bool {
         return false;
     };
     inbox.has_ended = inbox.has_ended || ends(turn);
-    let is_posted = turn.origin == "event" && !is_of_kernel(turn.stimulus);
+    let is_posted = turn.origin == Origin::Event && !is_of_kernel(turn.stimulus);
     inbox.has_ended || !is_posted || inbox.gives_next(turn.stimulus)
 }
 
@@ -104,7 +105,7 @@ pub fn arrive_in_order(
         if is_input(line) && !inboxes.are_all_given() {
             return Ok(false);
         }
-        let Some(turn) = turn_of(line) else {
+        let Some(turn) = read_turn(line) else {
             continue;
         };
         match last_calls.answered(&turn) {

@@ -1,7 +1,8 @@
 //! Managed and heap blocks, by a walk over the lines of a transcript.
 
-use crate::turns::{LastCalls, Turn, number, turn_of};
+use crate::turns::{LastCalls, number};
 use std::alloc::{AllocError, Global};
+use transcript_lines::{Turn, read_turn};
 
 /// A live block; its bytes are kept as two hex digits each.
 #[derive(Drop)]
@@ -205,7 +206,7 @@ pub fn is_own(alloc: Global, transcript: &str) -> Result<bool, AllocError> {
         if !is_rightly_sent(&mut blocks, last_turn, line) {
             return Ok(false);
         }
-        let Some(turn) = turn_of(line) else {
+        let Some(turn) = read_turn(line) else {
             continue;
         };
         last_turn = Some(turn);

@@ -1,7 +1,8 @@
 //! Event timers, by a walk over the lines of a transcript.
 
-use crate::turns::{LastCalls, Turn, ends, is_input, number, turn_of};
+use crate::turns::{LastCalls, ends, is_input, number};
 use std::alloc::{AllocError, Global};
+use transcript_lines::{Turn, read_turn};
 
 /// A timer of an application.
 #[derive(Clone, Copy, Drop)]
@@ -136,7 +137,7 @@ pub fn are_kept(alloc: Global, applications: usize, transcript: &str) -> Result<
             return Ok(false);
         }
         clock = clock.saturating_add(ticks(line));
-        if let Some(turn) = turn_of(line) {
+        if let Some(turn) = read_turn(line) {
             let call = last_calls.answered(&turn);
             if !is_kept(timers.as_mut_slice(), clock, &turn, call) {
                 return Ok(false);

@@ -1,28 +1,7 @@
-//! The turns that the lines of a transcript tell.
+//! What the walks read of the turns.
 
 use std::mem;
-
-/// A line `PID ORIGIN STIMULUS -> CALL`.
-#[derive(Clone, Copy, Drop)]
-pub(crate) struct Turn<'a> {
-    pub(crate) pid: usize,
-    pub(crate) origin: &'a str,
-    pub(crate) stimulus: &'a str,
-    pub(crate) call: &'a str,
-}
-
-/// The turn that a line tells, if it tells one.
-pub(crate) fn turn_of(line: &str) -> Option<Turn<'_>> {
-    let (told, call) = line.split_once(" -> ")?;
-    let (pid, told) = told.split_once(' ')?;
-    let (origin, stimulus) = told.split_once(' ')?;
-    Some(Turn {
-        pid: number(pid)?,
-        origin,
-        stimulus,
-        call,
-    })
-}
+use transcript_lines::{Origin, Turn};
 
 /// The number that is written so.
 pub(crate) fn number(text: &str) -> Option<usize> {
@@ -54,7 +33,7 @@ impl<'a> LastCalls<'a> {
     pub(crate) fn answered(&mut self, turn: &Turn<'a>) -> Option<&'a str> {
         let last = self.calls.get_mut(turn.pid)?;
         let call = mem::replace(last, turn.call);
-        if turn.origin == "answer" {
+        if turn.origin == Origin::Answer {
             Some(call)
         } else {
             None

@@ -1,0 +1,155 @@
+//! The words of the command line.
+
+use crate::failure::Failure;
+use clap::builder::ValueParser;
+use clap::{Arg, ArgAction, ArgMatches, Command, Error, value_parser};
+use std::alloc::{AllocError, Global};
+
+/// The version of the program.
+const VERSION: &str = "0.1.0";
+
+/// How many applications a mote may have.
+const MOST_APPLICATIONS: usize = 16;
+
+const ABOUT: &str = "\
+Draws the picture of a run.
+
+Reads a transcript, as the program mote writes it, from standard input, and
+writes one SVG to standard output, to be opened in any browser. The other words
+are those that mote was given, since a transcript tells neither names nor sizes.";
+
+const AFTER_HELP: &str = "\
+Exit status:
+  0     the picture was written, or this text or the version was printed
+  2     a line is no line of a transcript: nothing is written
+  5, 6  standard input can't be read, standard output can't be written
+  64    the words name no mote
+  70    memory was refused
+
+Example:
+  mote relay < relay.script | mote_picture relay > relay.svg";
+
+/// What the words name.
+#[derive(Drop)]
+pub struct Named<'a> {
+    pub names: Vec<&'a str>,
+    pub from: u64,
+    pub to: u64,
+    pub unfolded: bool,
+}
+
+fn number_option<'a>(
+    alloc: Global,
+    name: &'a str,
+    numbers: ValueParser<'a>,
+    help: &'a str,
+) -> Arg<'a> {
+    Arg::new(alloc, name)
+        .long(name)
+        .value_name("N")
+        .value_parser(numbers)
+        .help(help)
+}
+
+fn flag<'a>(alloc: Global, name: &'a str, help: &'a str) -> Arg<'a> {
+    Arg::new(alloc, name)
+        .long(name)
+        .action(ArgAction::SetTrue)
+        .help(help)
+}
+
+/// The options that mote takes too.
+fn with_sizes<'a>(alloc: Global, command: Command<'a>) -> Result<Command<'a>, AllocError> {
+    let mmem = "Bytes of managed memory, a multiple of 4 from 4 to 65536";
+    let heap = "Bytes of heap memory, a multiple of 4 from 20 to 65536";
+    let quota =
+        "Bytes of managed memory for each application and for the frames, a multiple of 4 from 4 to 65536";
+    let header = "Bytes of a header in heap memory, 16 or 8";
+    command
+        .arg(number_option(alloc, "mmem", value_parser!(u32).range(4..=65_536), mmem).default_value(
+            "4096",
+        ))?
+        .arg(number_option(
+            alloc,
+            "heap",
+            value_parser!(u32).range(20..=65_536),
+            heap,
+        ).default_value("4096"))?
+        .arg(number_option(alloc, "quota", value_parser!(u32).range(4..=65_536), quota))?
+        .arg(number_option(alloc, "header", value_parser!(u32), header).default_value("16"))
+}
+
+/// The command line as the parser is told it.
+fn command<'a>(alloc: Global) -> Result<Command<'a>, AllocError> {
+    let command = Command::new(alloc, "mote_picture")
+        .version(VERSION)
+        .about(ABOUT)
+        .after_help(AFTER_HELP);
+    let names = Arg::new(alloc, "APP")
+        .num_args(0..)
+        .help("Names of applications, none to sixteen, repeats allowed");
+    let from = "Shows the run from this clock on";
+    let to = "Shows the run up to this clock";
+    with_sizes(alloc, command)?
+        .arg(number_option(alloc, "from", value_parser!(u64), from).default_value("0"))?
+        .arg(number_option(alloc, "to", value_parser!(u64), to))?
+        .arg(flag(alloc, "unfolded", "Gives each line a row of its own"))?
+        .arg(names)
+}
+
+fn parse<'a>(alloc: Global, words: &'a [&'a str]) -> Result<ArgMatches<'a>, Error> {
+    let command = command(alloc)?;
+    command.try_get_matches_from(words)
+}
+
+/// Whether the option's number is a multiple of 4, or there is none.
+fn is_even_size(matches: &ArgMatches<'_>, option: &str) -> bool {
+    match matches.get_one::<u32>(option) {
+        Some(size) => size % 4 == 0,
+        None => true,
+    }
+}
+
+fn are_sizes(matches: &ArgMatches<'_>) -> bool {
+    let header = matches.get_one::<u32>("header");
+    is_even_size(matches, "mmem")
+        && is_even_size(matches, "heap")
+        && is_even_size(matches, "quota")
+        && (header == Some(16) || header == Some(8))
+}
+
+/// What the words name. The first word is the program's name.
+///
+/// # Errors
+///
+/// What the parser finds in the words, then more than sixteen names, then sizes that no mote has, or want of memory.
+pub fn read_words<'a>(alloc: Global, words: &'a [&'a str]) -> Result<Named<'a>, Failure> {
+    let matches = parse(alloc, words)?;
+    let mut names = Vec::new(alloc);
+    if let Some(found) = matches.get_strs("APP") {
+        for name in found {
+            names.push(*name)?;
+        }
+    }
+    if names.len() > MOST_APPLICATIONS {
+        return Err(Failure::TooManyApplications);
+    }
+    if !are_sizes(&matches) {
+        return Err(Failure::BadSizes);
+    }
+    Ok(Named {
+        names,
+        from: matches.get_one::<u64>("from").unwrap_or(0),
+        to: matches.get_one::<u64>("to").unwrap_or(u64::MAX),
+        unfolded: matches.get_flag("unfolded"),
+    })
+}
+
+/// What stands above the picture: the words.
+pub fn title_of(alloc: Global, words: &[&str]) -> Result<String, AllocError> {
+    let mut title = String::from_str(alloc, "mote")?;
+    for word in words.iter().skip(1) {
+        write!(title, " {word}")?;
+    }
+    Ok(title)
+}

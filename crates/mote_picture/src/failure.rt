@@ -1,0 +1,91 @@
+//! Why the program draws nothing.
+
+use clap::Error;
+use clap::error::ErrorKind;
+use run_picture::Unreadable;
+use std::alloc::{AllocError, AllocFailed};
+use std::fmt;
+
+/// What the program tells in place of a picture.
+#[derive(Drop)]
+pub enum Failure {
+    /// A word is not text in UTF-8.
+    NotText,
+    /// The words ask for the help or the version: the text of it.
+    Request(Error),
+    /// The parser refuses the words: its text.
+    Words(Error),
+    TooManyApplications,
+    /// A size is no multiple of 4, or a header has other than 16 or 8 bytes.
+    BadSizes,
+    /// The line of this number is no line of a transcript.
+    NoLine(u64),
+    OutOfMemory,
+    Read,
+    Write,
+}
+
+impl Failure {
+    /// The status that the program exits with.
+    pub fn status(&self) -> u8 {
+        match self {
+            Failure::Request(_) => 0,
+            Failure::NoLine(_) => 2,
+            Failure::Read => 5,
+            Failure::Write => 6,
+            Failure::NotText
+            | Failure::Words(_)
+            | Failure::TooManyApplications
+            | Failure::BadSizes => 64,
+            Failure::OutOfMemory => 70,
+        }
+    }
+}
+
+impl fmt::Display for Failure {
+    fn fmt<W: fmt::Write>(&self, f: &mut fmt::Formatter<W>) -> fmt::Result {
+        match self {
+            Failure::NotText => f.write_str("mote_picture: a word is not text"),
+            Failure::Request(text) | Failure::Words(text) => write!(f, "{text}"),
+            Failure::TooManyApplications => f.write_str("mote_picture: too many applications"),
+            Failure::BadSizes => f.write_str("mote_picture: bad sizes"),
+            Failure::NoLine(number) => {
+                write!(f, "mote_picture: line {number} is no line of a transcript")
+            }
+            Failure::OutOfMemory => f.write_str("mote_picture: out of memory"),
+            Failure::Read => f.write_str("mote_picture: read failed"),
+            Failure::Write => f.write_str("mote_picture: write failed"),
+        }
+    }
+}
+
+impl<T: Drop> From<AllocFailed<T>> for Failure {
+    fn from(_error: AllocFailed<T>) -> Self {
+        Failure::OutOfMemory
+    }
+}
+
+impl From<AllocError> for Failure {
+    fn from(_error: AllocError) -> Self {
+        Failure::OutOfMemory
+    }
+}
+
+impl From<Unreadable> for Failure {
+    fn from(why: Unreadable) -> Self {
+        match why {
+            Unreadable::NoLine(number) => Failure::NoLine(number),
+            Unreadable::OutOfMemory => Failure::OutOfMemory,
+        }
+    }
+}
+
+impl From<Error> for Failure {
+    fn from(error: Error) -> Self {
+        match error.kind() {
+            ErrorKind::OutOfMemory => Failure::OutOfMemory,
+            ErrorKind::DisplayHelp | ErrorKind::DisplayVersion => Failure::Request(error),
+            _ => Failure::Words(error),
+        }
+    }
+}

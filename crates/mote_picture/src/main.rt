@@ -1,0 +1,94 @@
+//! Draws the picture of a run: a transcript comes from standard input, one SVG goes to standard output.
+#![tactic(auto)]
+
+mod command_line;
+mod failure;
+
+use command_line::{read_words, title_of};
+use failure::Failure;
+use run_picture::{Settings, draw, lines_of};
+use std::io::{Read, Write};
+use std::process::ExitCode;
+use std::{env, io};
+
+/// The words of the command line, the program's name first.
+fn words_of<R: AllocGlobal + env::Env>(rt: &R) -> Result<Vec<String>, Failure> {
+    let arguments = env::args(rt).map_err(|error| match error.kind() {
+        io::ErrorKind::OutOfMemory => Failure::OutOfMemory,
+        _ => Failure::NotText,
+    })?;
+    let mut words = Vec::new(rt.alloc());
+    for word in arguments {
+        words.push(word)?;
+    }
+    Ok(words)
+}
+
+/// All bytes of standard input.
+fn read_all<R: AllocGlobal + io::Input>(rt: &R) -> Result<Vec<u8>, Failure> {
+    let mut bytes = Vec::new(rt.alloc());
+    let mut reader = rt.reader();
+    match reader.read_to_end(&mut bytes) {
+        Ok(_) => Ok(bytes),
+        Err(error) if error.kind() == io::ErrorKind::OutOfMemory => Err(Failure::OutOfMemory),
+        Err(_) => Err(Failure::Read),
+    }
+}
+
+/// Writes a picture to standard output.
+fn write_all<R: Print>(rt: &R, picture: &[u8]) -> Result<(), Failure> {
+    let mut writer = io::writer(rt);
+    match writer.write_all(picture) {
+        Ok(()) => Ok(()),
+        Err(_) => Err(Failure::Write),
+    }
+}
+
+/// Draws what the words ask for. Nothing is written before all lines are read.
+fn draw_picture<R: AllocGlobal + io::Input + Print>(rt: &R, words: &[&str]) -> Result<(), Failure> {
+    let alloc = rt.alloc();
+    let named = read_words(alloc, words)?;
+    let title = title_of(alloc, words)?;
+    let bytes = read_all(rt)?;
+    let lines = lines_of(alloc, bytes.as_slice())?;
+    let settings = Settings {
+        title: title.as_str(),
+        names: named.names.as_slice(),
+        from: named.from,
+        to: named.to,
+        unfolded: named.unfolded,
+    };
+    let picture = draw(alloc, lines.as_slice(), &settings)?;
+    write_all(rt, picture.as_slice())
+}
+
+/// Writes what there is to tell in place of a picture, and answers the status that the program exits with.
+fn tell<R: Print + Eprint>(rt: &R, failure: &Failure) -> u8 {
+    let told = match failure {
+        Failure::Request(_) => rt.print(failure),
+        Failure::Words(_) => rt.eprint(failure),
+        _ => rt.eprintln(failure),
+    };
+    match (failure, told) {
+        (Failure::Request(_), Err(_)) => 6,
+        _ => failure.status(),
+    }
+}
+
+fn work<R: AllocGlobal + env::Env + io::Input + Print + Eprint>(rt: &R) -> Result<(), u8> {
+    let words = words_of(rt).map_err(|failure| tell(rt, &failure))?;
+    let mut texts = Vec::new(rt.alloc());
+    for word in words.as_slice() {
+        if texts.push(word.as_str()).is_err() {
+            return Err(tell(rt, &Failure::OutOfMemory));
+        }
+    }
+    draw_picture(rt, texts.as_slice()).map_err(|failure| tell(rt, &failure))
+}
+
+fn main(rt: HostRuntime) -> ExitCode {
+    match work(&rt) {
+        Ok(()) => ExitCode::from(0),
+        Err(status) => ExitCode::from(status),
+    }
+}

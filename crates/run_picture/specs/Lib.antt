@@ -1,0 +1,5 @@
+pub mod Markup
+pub mod Names
+pub mod Parts
+pub mod Rows
+pub mod Titles

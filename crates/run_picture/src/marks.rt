@@ -1,0 +1,335 @@
+//! What the lines of a transcript tell together: activations, lives, and what was given at once.
+
+use crate::row::Row;
+use std::alloc::{AllocError, Global};
+use transcript_lines::{Input, Line, Note, Origin, Turn, read_line, read_turn};
+
+/// Processes have numbers below this one.
+pub(crate) const PROCESSES: usize = 20;
+
+/// An activation of a process, from a row to a row.
+#[derive(Clone, Copy, Drop)]
+pub(crate) struct Activation {
+    pub(crate) pid: usize,
+    pub(crate) first: usize,
+    pub(crate) last: usize,
+}
+
+/// A process from its INIT to its end, where that came.
+#[derive(Clone, Copy, Drop)]
+pub(crate) struct Life {
+    pub(crate) pid: usize,
+    pub(crate) first: usize,
+    pub(crate) end: Option<usize>,
+}
+
+/// What one process gave another at once, in a row.
+#[derive(Clone, Copy, Drop)]
+pub(crate) struct Gift {
+    pub(crate) from: usize,
+    pub(crate) to: usize,
+    pub(crate) row: usize,
+}
+
+/// Numbers of a run.
+#[derive(Clone, Copy, Default, Drop)]
+pub(crate) struct Tally {
+    pub(crate) inputs: u64,
+    pub(crate) turns: u64,
+    pub(crate) printed: usize,
+    pub(crate) sent: u64,
+    pub(crate) lost: u64,
+    pub(crate) refused: u64,
+}
+
+/// What the rows tell together.
+#[derive(Drop)]
+pub(crate) struct Marks {
+    /// The clock before the first row.
+    pub(crate) start: u64,
+    /// The clock at each row's end.
+    pub(crate) clocks: Vec<u64>,
+    /// For each row the number of the line with the answer to its call, from 0 on.
+    pub(crate) answers: Vec<Option<usize>>,
+    pub(crate) activations: Vec<Activation>,
+    pub(crate) lives: Vec<Life>,
+    pub(crate) gifts: Vec<Gift>,
+    pub(crate) tally: Tally,
+    /// One more than the greatest number of a process that took a turn.
+    pub(crate) processes: usize,
+}
+
+/// A call that isn't answered yet: its row, and the number of its line.
+#[derive(Clone, Copy, Drop)]
+struct Awaited {
+    row: usize,
+    number: usize,
+}
+
+/// A process as the lines so far leave it.
+#[derive(Clone, Copy, Drop)]
+struct Process {
+    /// The row of its INIT, while it lives.
+    born: Option<usize>,
+    /// The row where its activation began, and the last one of its turns.
+    begun: usize,
+    last: usize,
+    awaited: Option<Awaited>,
+}
+
+/// A walk over the lines.
+#[derive(Drop)]
+struct Walk {
+    clock: u64,
+    processes: [Process; PROCESSES],
+    /// The processes in an activation, the innermost last.
+    active: Vec<usize>,
+    marks: Marks,
+}
+
+impl Walk {
+    fn new(alloc: Global) -> Self {
+        let process = Process {
+            born: None,
+            begun: 0,
+            last: 0,
+            awaited: None,
+        };
+        Walk {
+            clock: 0,
+            processes: [process; PROCESSES],
+            active: Vec::new(alloc),
+            marks: Marks {
+                start: 0,
+                clocks: Vec::new(alloc),
+                answers: Vec::new(alloc),
+                activations: Vec::new(alloc),
+                lives: Vec::new(alloc),
+                gifts: Vec::new(alloc),
+                tally: Tally::default(),
+                processes: 0,
+            },
+        }
+    }
+
+    fn count_input(&mut self, input: &Input<'_>) {
+        let tally = &mut self.marks.tally;
+        tally.inputs = tally.inputs.saturating_add(1);
+        if let Input::Tick(ticks) = *input {
+            self.clock = self.clock.saturating_add(ticks);
+        }
+    }
+
+    fn count_note(&mut self, note: &Note<'_>) {
+        let tally = &mut self.marks.tally;
+        match note {
+            Note::Lost(_) => tally.lost = tally.lost.saturating_add(1),
+            Note::Sent(_) => tally.sent = tally.sent.saturating_add(1),
+        }
+    }
+
+    /// A process ends in a row.
+    fn end_life(&mut self, pid: usize, row: usize) -> Result<(), AllocError> {
+        let Some(process) = self.processes.get_mut(pid) else {
+            return Ok(());
+        };
+        if let Some(first) = process.born.take() {
+            let end = Some(row);
+            self.marks.lives.push(Life { pid, first, end })?;
+        }
+        Ok(())
+    }
+
+    /// A process is told the answer to its call, in the line of that number.
+    fn take_answer(
+        &mut self,
+        lines: &[&str],
+        turn: &Turn<'_>,
+        number: usize,
+    ) -> Result<(), AllocError> {
+        let Some(process) = self.processes.get_mut(turn.pid) else {
+            return Ok(());
+        };
+        let Some(awaited) = process.awaited.take() else {
+            return Ok(());
+        };
+        if let Some(answer) = self.marks.answers.get_mut(awaited.row) {
+            *answer = Some(number);
+        }
+        if turn.stimulus.starts_with("refused ") {
+            let tally = &mut self.marks.tally;
+            tally.refused = tally.refused.saturating_add(1);
+            return Ok(());
+        }
+        match lines.get(awaited.number) {
+            Some(line) => self.carry_out(line, awaited.row),
+            None => Ok(()),
+        }
+    }
+
+    /// The call of a line was accepted that was made in a row.
+    fn carry_out(&mut self, line: &str, row: usize) -> Result<(), AllocError> {
+        let Some(turn) = read_turn(line) else {
+            return Ok(());
+        };
+        let (word, rest) = turn.call.split_once(' ').unwrap_or((turn.call, ""));
+        match word {
+            "print" => {
+                let tally = &mut self.marks.tally;
+                let bytes = rest.len() / 2;
+                tally.printed = tally.printed.saturating_add(bytes);
+                Ok(())
+            }
+            "kill" => match rest.parse::<usize>() {
+                Ok(pid) => self.end_life(pid, row),
+                Err(_) => Ok(()),
+            },
+            _ => Ok(()),
+        }
+    }
+
+    /// A process's activation begins in a row.
+    fn begin(&mut self, turn: &Turn<'_>, row: usize) -> Result<(), AllocError> {
+        if turn.origin == Origin::Synch {
+            if let Some(from) = self.active.last() {
+                let from = *from;
+                let to = turn.pid;
+                self.marks.gifts.push(Gift { from, to, row })?;
+            }
+        }
+        self.active.push(turn.pid)?;
+        if let Some(process) = self.processes.get_mut(turn.pid) {
+            process.begun = row;
+            if turn.stimulus.starts_with("129 ") {
+                process.born = Some(row);
+            }
+        }
+        Ok(())
+    }
+
+    /// All activations that are still open end: no more is heard of them.
+    fn rest(&mut self) -> Result<(), AllocError> {
+        for pid in self.active.as_slice() {
+            let pid = *pid;
+            if let Some(process) = self.processes.get(pid) {
+                let (first, last) = (process.begun, process.last);
+                self.marks
+                    .activations
+                    .push(Activation { pid, first, last })?;
+            }
+        }
+        self.active.clear();
+        Ok(())
+    }
+
+    /// A process's activation ends in a row.
+    fn end(&mut self, pid: usize, row: usize) -> Result<(), AllocError> {
+        self.active.retain(|active| *active != pid);
+        if let Some(process) = self.processes.get(pid) {
+            let first = process.begun;
+            let last = row;
+            self.marks
+                .activations
+                .push(Activation { pid, first, last })?;
+        }
+        Ok(())
+    }
+
+    /// A turn in a row, told by the line of that number.
+    fn take_turn(
+        &mut self,
+        lines: &[&str],
+        turn: &Turn<'_>,
+        row: usize,
+        number: usize,
+    ) -> Result<(), AllocError> {
+        let tally = &mut self.marks.tally;
+        tally.turns = tally.turns.saturating_add(1);
+        self.marks.processes = self.marks.processes.max(turn.pid.saturating_add(1));
+        if turn.origin == Origin::Answer {
+            self.take_answer(lines, turn, number)?;
+        }
+        if turn.origin != Origin::Answer || !self.active.as_slice().contains(&turn.pid) {
+            self.begin(turn, row)?;
+        }
+        self.take_call(turn, Awaited { row, number })
+    }
+
+    /// What a process calls.
+    fn take_call(&mut self, turn: &Turn<'_>, call: Awaited) -> Result<(), AllocError> {
+        let row = call.row;
+        if let Some(process) = self.processes.get_mut(turn.pid) {
+            process.last = row;
+            process.awaited = Some(call);
+        }
+        match turn.call {
+            "wait" => self.end(turn.pid, row),
+            "exit" => {
+                self.end(turn.pid, row)?;
+                self.end_life(turn.pid, row)
+            }
+            _ => Ok(()),
+        }
+    }
+
+    /// The line of that number, in a row.
+    fn take_line(&mut self, lines: &[&str], row: usize, number: usize) -> Result<(), AllocError> {
+        let Some(line) = lines.get(number) else {
+            return Ok(());
+        };
+        match read_line(line) {
+            Some(Line::Input(input)) => {
+                self.rest()?;
+                self.count_input(&input);
+            }
+            Some(Line::Note(note)) => self.count_note(&note),
+            Some(Line::Turn(turn)) => return self.take_turn(lines, &turn, row, number),
+            Some(Line::Ending(_)) | None => {}
+        }
+        Ok(())
+    }
+
+    /// What came before the first row shows in no row.
+    fn forget_rows(&mut self) {
+        self.marks.activations.clear();
+        self.marks.lives.clear();
+        self.marks.gifts.clear();
+        self.marks.start = self.clock;
+    }
+
+    /// The lines of a row.
+    fn take_row(&mut self, lines: &[&str], row: &Row, place: usize) -> Result<(), AllocError> {
+        self.marks.answers.push(None)?;
+        for number in row.first..row.first.saturating_add(row.count) {
+            self.take_line(lines, place, number)?;
+        }
+        self.marks.clocks.push(self.clock)?;
+        Ok(())
+    }
+
+    /// What is still going on goes on to the end.
+    fn finish(mut self) -> Result<Marks, AllocError> {
+        self.rest()?;
+        for (pid, process) in self.processes.iter().enumerate() {
+            if let Some(first) = process.born {
+                let end = None;
+                self.marks.lives.push(Life { pid, first, end })?;
+            }
+        }
+        Ok(self.marks)
+    }
+}
+
+/// What rows of a transcript tell together, with what the lines before them left.
+pub(crate) fn marks_of(alloc: Global, lines: &[&str], rows: &[Row]) -> Result<Marks, AllocError> {
+    let mut walk = Walk::new(alloc);
+    let first = rows.first().map_or(lines.len(), |row| row.first);
+    for number in 0..first {
+        walk.take_line(lines, 0, number)?;
+    }
+    walk.forget_rows();
+    for (place, row) in rows.iter().enumerate() {
+        walk.take_row(lines, row, place)?;
+    }
+    walk.finish()
+}

@@ -1,0 +1,98 @@
+//! Where the parts of a picture stand.
+
+use crate::pen::Place;
+
+/// The height of a row.
+pub(crate) const ROW: usize = 17;
+
+/// Where the clock's numbers end.
+pub(crate) const CLOCK: usize = 84;
+
+/// Where the lanes begin.
+const LANES: usize = 126;
+
+/// The room for what rows tell in words.
+const WORDS: usize = 420;
+
+/// The least width of a picture.
+const LEAST_WIDTH: usize = 760;
+
+/// The places of the parts of a picture.
+#[derive(Clone, Copy, Drop)]
+pub(crate) struct Page {
+    /// How many processes have a lane: 4, 5, ..
+    pub(crate) lanes: usize,
+    pub(crate) rows: usize,
+    /// Where the first row begins.
+    pub(crate) top: usize,
+    /// The width of a lane.
+    pub(crate) lane: usize,
+}
+
+impl Page {
+    pub(crate) fn new(lanes: usize, rows: usize, top: usize) -> Self {
+        let lane = match lanes {
+            0..=5 => 64,
+            6..=9 => 44,
+            _ => 30,
+        };
+        Page {
+            lanes,
+            rows,
+            top,
+            lane,
+        }
+    }
+
+    /// Where a row begins.
+    pub(crate) fn top_of(&self, row: usize) -> usize {
+        row.saturating_mul(ROW).saturating_add(self.top)
+    }
+
+    /// Where the words of a row stand.
+    pub(crate) fn base_of(&self, row: usize) -> usize {
+        self.top_of(row).saturating_add(12)
+    }
+
+    /// Where the rows end.
+    pub(crate) fn bottom(&self) -> usize {
+        self.top_of(self.rows)
+    }
+
+    /// The middle of a process's lane.
+    pub(crate) fn lane_of(&self, pid: usize) -> usize {
+        let number = pid.saturating_sub(4);
+        number
+            .saturating_mul(self.lane)
+            .saturating_add(self.lane / 2)
+            .saturating_add(LANES)
+    }
+
+    /// Where the words of the rows begin.
+    pub(crate) fn words(&self) -> usize {
+        self.lanes
+            .saturating_mul(self.lane)
+            .saturating_add(LANES + 14)
+    }
+
+    /// Where the words of the rows end.
+    pub(crate) fn words_end(&self) -> usize {
+        self.words().saturating_add(WORDS)
+    }
+
+    pub(crate) fn width(&self) -> usize {
+        self.words_end().saturating_add(20).max(LEAST_WIDTH)
+    }
+
+    pub(crate) fn height(&self) -> usize {
+        self.bottom().saturating_add(30)
+    }
+
+    /// The place of a row's words, so far from the left of all words.
+    pub(crate) fn words_of(&self, row: usize, indent: usize) -> Place {
+        Place {
+            left: self.words().saturating_add(indent),
+            top: self.base_of(row),
+        }
+    }
+}

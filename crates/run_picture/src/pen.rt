@@ -1,0 +1,108 @@
+//! Shapes and texts that are put into a picture, each with what it tells when it is pointed at.
+
+use crate::markup::{Content, Element};
+use crate::names::{Attribute, Tag};
+use std::alloc::{AllocError, Global};
+
+/// Where something stands, in units of a pixel, from the left and from above.
+#[derive(Clone, Copy, Drop)]
+pub(crate) struct Place {
+    pub(crate) left: usize,
+    pub(crate) top: usize,
+}
+
+/// A rectangle.
+#[derive(Clone, Copy, Drop)]
+pub(crate) struct Area {
+    pub(crate) place: Place,
+    pub(crate) width: usize,
+    pub(crate) height: usize,
+}
+
+/// The element that is shown when another one is pointed at.
+pub(crate) fn title_element(alloc: Global, title: &str) -> Result<Element, AllocError> {
+    Element::new(alloc, Tag::Title).saying(title)
+}
+
+/// A rectangle of a class.
+pub(crate) fn area_element(alloc: Global, class: &str, area: Area) -> Result<Element, AllocError> {
+    Element::new(alloc, Tag::Rect)
+        .with(Attribute::Class, class)?
+        .with_number(Attribute::Left, area.place.left)?
+        .with_number(Attribute::Top, area.place.top)?
+        .with_number(Attribute::Width, area.width)?
+        .with_number(Attribute::Height, area.height)
+}
+
+/// A text's element, with nothing inside.
+pub(crate) fn text_element(alloc: Global, place: Place) -> Result<Element, AllocError> {
+    Element::new(alloc, Tag::Text)
+        .with_number(Attribute::Left, place.left)?
+        .with_number(Attribute::Top, place.top)
+}
+
+/// A text's element, with words of a class behind what it says.
+pub(crate) fn with_span(
+    alloc: Global,
+    element: Element,
+    class: &str,
+    words: &str,
+) -> Result<Element, AllocError> {
+    if words.is_empty() {
+        return Ok(element);
+    }
+    let span = Element::new(alloc, Tag::Span)
+        .with(Attribute::Class, class)?
+        .saying(words)?;
+    element.holding(&span)
+}
+
+/// Draws into content. A class says how something looks, as the picture's style has it. A title may be empty: then nothing is
+/// told.
+#[derive(Drop)]
+pub(crate) struct Pen {
+    pub(crate) alloc: Global,
+    pub(crate) content: Content,
+}
+
+impl Pen {
+    pub(crate) fn new(alloc: Global) -> Self {
+        Pen {
+            alloc,
+            content: Content::new(alloc),
+        }
+    }
+
+    fn put(&mut self, element: Element, title: &str) -> Result<(), AllocError> {
+        if title.is_empty() {
+            return self.content.hold(&element);
+        }
+        let title = title_element(self.alloc, title)?;
+        self.content.hold(&element.holding(&title)?)
+    }
+
+    pub(crate) fn area(&mut self, class: &str, area: Area, title: &str) -> Result<(), AllocError> {
+        let element = area_element(self.alloc, class, area)?;
+        self.put(element, title)
+    }
+
+    /// A line by the commands of a path.
+    pub(crate) fn line(
+        &mut self,
+        class: &str,
+        commands: &str,
+        title: &str,
+    ) -> Result<(), AllocError> {
+        let element = Element::new(self.alloc, Tag::Path)
+            .with(Attribute::Class, class)?
+            .with(Attribute::Commands, commands)?;
+        self.put(element, title)
+    }
+
+    pub(crate) fn text(&mut self, class: &str, place: Place, text: &str) -> Result<(), AllocError> {
+        let element = text_element(self.alloc, place)?
+            .with(Attribute::Class, class)?
+            .saying(text)?;
+        self.content.hold(&element)
+    }
+}

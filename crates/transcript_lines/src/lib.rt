@@ -1,0 +1,10 @@
+//! The lines of a transcript, read in the forms of `docs/transcript.md`: one reader for whoever reads transcripts. It promises
+//! that it is safe and ends, and that what it answers stands in the line.
+#![tactic(auto)]
+
+mod forms;
+pub mod line;
+pub mod turn;
+
+pub use line::{Ending, Input, Line, Note, read_line};
+pub use turn::{Origin, Turn, read_turn};

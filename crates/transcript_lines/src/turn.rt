@@ -1,0 +1,151 @@
+//! The turns that lines tell.
+
+ghost use Rattle.std.specs.Prelude.{◌≤◌, ◌<◌, IfSome};
+
+use crate::forms::{Form, first_word, have_forms, number};
+
+/// Where a stimulus comes from.
+#[derive(Clone, Copy, PartialEq, Eq, Drop)]
+pub enum Origin {
+    /// The event queue.
+    Event,
+    /// A call that gives at once.
+    Synch,
+    /// A poll round.
+    Poll,
+    /// A callback timer.
+    Callback,
+    /// The call of the process before.
+    Answer,
+}
+
+/// A line `PID ORIGIN STIMULUS -> CALL`.
+#[derive(Clone, Copy, Drop)]
+pub struct Turn<'a> {
+    pub pid: usize,
+    pub origin: Origin,
+    /// The words of the stimulus.
+    pub stimulus: &'a str,
+    /// The words of the call.
+    pub call: &'a str,
+}
+
+fn origin_of(word: &str) -> Option<Origin> {
+    match word {
+        "event" => Some(Origin::Event),
+        "synch" => Some(Origin::Synch),
+        "poll" => Some(Origin::Poll),
+        "callback" => Some(Origin::Callback),
+        "answer" => Some(Origin::Answer),
+        _ => None,
+    }
+}
+
+/// Whether the words are an answer.
+fn is_reply(text: &str) -> bool {
+    let (word, rest) = first_word(text);
+    match word {
+        "done" => rest.is_none(),
+        "refused" | "num" | "wide" => have_forms(rest, &[Form::Number]),
+        "flag" => have_forms(rest, &[Form::Flag]),
+        "bytes" => have_forms(rest, &[Form::Bytes]),
+        "stats" => have_forms(rest, &[Form::Number; 5]),
+        _ => false,
+    }
+}
+
+/// Whether the words are a stimulus of that origin.
+fn is_stimulus(origin: Origin, text: &str) -> bool {
+    match origin {
+        Origin::Event | Origin::Synch => have_forms(Some(text), &[Form::Number, Form::Payload]),
+        Origin::Poll => text == "130 -",
+        Origin::Callback => number(text).is_some(),
+        Origin::Answer => is_reply(text),
+    }
+}
+
+/// Whether the words are a call on processes, events, timers or the serial line.
+fn is_plain_call(word: &str, rest: Option<&str>) -> bool {
+    match word {
+        "wait" | "exit" | "clock" | "alloc-event" => rest.is_none(),
+        "poll"
+        | "start"
+        | "kill"
+        | "is-running"
+        | "timer-stop"
+        | "timer-reset"
+        | "timer-restart"
+        | "timer-expired"
+        | "callback-stop" => have_forms(rest, &[Form::Number]),
+        "timer-set" | "callback-set" => have_forms(rest, &[Form::Number; 2]),
+        "broadcast" => have_forms(rest, &[Form::Number, Form::Payload]),
+        "post" | "post-synch" => have_forms(rest, &[Form::Number, Form::Number, Form::Payload]),
+        "print" => have_forms(rest, &[Form::Bytes]),
+        _ => false,
+    }
+}
+
+/// Whether the words are a call on managed memory, the heap or frames.
+fn is_memory_call(word: &str, rest: Option<&str>) -> bool {
+    match word {
+        "mmem-avail" | "heap-stats" | "packet-open" | "packet-done" | "packet-count" => {
+            rest.is_none()
+        }
+        "mmem-free" | "heap-free" | "packet-send" => have_forms(rest, &[Form::Number]),
+        "mmem-alloc" | "mmem-copy" | "heap-alloc" | "heap-realloc" | "packet-read" => {
+            have_forms(rest, &[Form::Number; 2])
+        }
+        "mmem-read" | "heap-read" => have_forms(rest, &[Form::Number; 3]),
+        "mmem-write" | "heap-write" => {
+            have_forms(rest, &[Form::Number, Form::Number, Form::Bytes])
+        }
+        _ => false,
+    }
+}
+
+/// Whether the words are a call on pools and their lists.
+fn is_pool_call(word: &str, rest: Option<&str>) -> bool {
+    match word {
+        "memb-alloc" | "memb-num-free" | "list-pop" | "list-chop" | "list-head" | "list-length" =>
+            have_forms(rest, &[Form::Number]),
+        "memb-free" | "list-add" | "list-push" | "list-remove" | "list-next" => {
+            have_forms(rest, &[Form::Number; 2])
+        }
+        "list-insert" => have_forms(rest, &[Form::Number; 3]),
+        "memb-read" => have_forms(rest, &[Form::Number; 4]),
+        "memb-write" => {
+            have_forms(
+                rest,
+                &[Form::Number, Form::Number, Form::Number, Form::Bytes],
+            )
+        }
+        _ => false,
+    }
+}
+
+/// Whether the words are a call.
+fn is_call(text: &str) -> bool {
+    let (word, rest) = first_word(text);
+    is_plain_call(word, rest) || is_memory_call(word, rest) || is_pool_call(word, rest)
+}
+
+/// The turn that a line tells, if it tells one: a process from 4 to 19, what it was told, and its call.
+pub fn read_turn(line: &str) -> Option<Turn<'_>>
+    ensures process { IfSome result (λ turn. (4 ≤ turn.pid) × (turn.pid < 20)) }
+{
+    let (told, call) = line.split_once(" -> ")?;
+    let (pid, told) = told.split_once(' ')?;
+    let (origin, stimulus) = told.split_once(' ')?;
+    let pid = number(pid).filter(|pid| (4..20).contains(pid))?;
+    let origin = origin_of(origin)?;
+    if is_stimulus(origin, stimulus) && is_call(call) {
+        Some(Turn {
+            pid: pid as usize,
+            origin,
+            stimulus,
+            call,
+        })
+    } else {
+        None
+    }
+}
