@@ -268,7 +268,7 @@ fn check(rt: &impl Abort, entry: Entry, text: &str) {
     check_text(rt, line.as_slice(), text);
 }
 
-/// Those that runs have are in `worked_runs`.
+/// Those that runs have are in `scenario`.
 #[test]
 fn lines_of_entries_that_no_run_has(rt: HostRuntime) {
     let event = Event {

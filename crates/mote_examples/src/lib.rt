@@ -1,5 +1,5 @@
 //! Worked examples of devices, of scripts, and of transcripts that break a law, as tests over memory. The crate has no code of
-//! its own. Whole runs with their transcripts are the data of `worked_runs`.
+//! its own. Whole runs with their transcripts are the data of `scenario`.
 #![tactic(auto)]
 
 #[cfg(test)]

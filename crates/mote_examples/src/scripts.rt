@@ -1,4 +1,4 @@
-//! Scripts: which lines have no form, and how long a line may be. More are in `worked_runs`.
+//! Scripts: which lines have no form, and how long a line may be. More are in `scenario`.
 
 use mote_kit::mote::{DEFAULT_SIZES, run_script};
 use mote_run::End;

@@ -3,7 +3,7 @@ use Rattle.mote_types.specs.Applications.{Says}
 use Rattle.mote_types.specs.declared.call.Call.{Call}
 use Rattle.mote_apps.specs.Bundled.{bundled_says}
 use Rattle.mote_apps.specs.Steps.{steps_says}
-use Rattle.worked_runs.specs.declared.applications.Application.{Application}
+use Rattle.scenario.specs.declared.applications.Application.{Application}
 
 abbrev pub application_says : Application → Says
 application_says (Application.Named named) = bundled_says named

@@ -1,9 +1,10 @@
 //! The applications of a run: those that have a name, and lists of calls.
 
-ghost use Rattle.worked_runs.specs.Applications.{application_says};
+ghost use Rattle.scenario.specs.Applications.{application_says};
 
 use crate::calls::call_of;
-use crate::words::{Words, number_of};
+use crate::fault::Fault;
+use crate::words::number_of;
 use mote_apps::bundled::Bundled;
 use mote_apps::steps::Steps;
 use mote_types::app::App;
@@ -35,42 +36,48 @@ impl App for Application {
 
 impl Application {
     /// The application of this name: one of the mote's, or `clock-watcher`.
-    pub(crate) fn named(name: &str) -> Self {
+    pub(crate) fn named(name: &str) -> Result<Self, Fault<'_>> {
         match Bundled::named(name) {
-            Some(application) => Application::Named(application),
-            None => Application::ClockWatcher,
+            Some(application) => Ok(Application::Named(application)),
+            None if name == "clock-watcher" => Ok(Application::ClockWatcher),
+            None => Err(Fault::NoApplication(name)),
         }
     }
 
     /// The application that goes through the calls of this text, 128 at most. A comma parts them, and a number in front of
     /// a call says that it is made so often.
-    pub(crate) fn listed(text: &str) -> Self {
+    pub(crate) fn listed(text: &str) -> Result<Self, Fault<'_>> {
         let mut calls = array::from_fn(|_| Call::Wait);
         let mut place = 0usize;
-        for call in text.split(", ") {
-            place = put_call(&mut calls, place, call);
+        if !text.is_empty() {
+            for call in text.split(", ") {
+                place = put_call(&mut calls, place, call)?;
+            }
         }
-        Application::Listed(Steps::new(calls))
+        Ok(Application::Listed(Steps::new(calls)))
     }
 }
 
 /// Puts a call into the list, from a place on, as often as the number in front of it says. The answer is the place behind.
-fn put_call(calls: &mut [Call], place: usize, text: &str) -> usize {
-    let (count, call) = counted(text);
+fn put_call<'a>(calls: &mut [Call], place: usize, text: &'a str) -> Result<usize, Fault<'a>> {
+    let (count, call) = counted(text)?;
     let mut end = place;
     for _ in 0..count {
-        if end < calls.len() {
-            calls[end] = call_of(&Words::of(call));
-            end += 1;
+        if end >= calls.len() {
+            return Err(Fault::TooManyCalls);
         }
+        calls[end] = call_of(call)?;
+        end += 1;
     }
-    end
+    Ok(end)
 }
 
 /// A text without the number in front of it, where it has one, and that number; else 1.
-pub(crate) fn counted(text: &str) -> (u32, &str) {
+fn counted(text: &str) -> Result<(u32, &str), Fault<'_>> {
     match text.split_once(' ') {
-        Some((count, rest)) if number_of(count) > 0 => (number_of(count), rest),
-        _ => (1, text),
+        Some((count, rest)) if count.starts_with(|c: char| c.is_ascii_digit()) => {
+            Ok((number_of(count, 1, 128)?, rest))
+        }
+        _ => Ok((1, text)),
     }
 }

@@ -1,0 +1,91 @@
+//! The command line: its words, and the text that tells what the program does.
+
+use clap::{Arg, ArgAction, ArgMatches, Command, Error};
+use std::alloc::{AllocError, Global};
+
+/// The version of the program.
+const VERSION: &str = "0.1.0";
+
+const ABOUT: &str = "\
+Carries out what files tell: runs of applications on a simulated Contiki-NG node.
+
+Where a file has a run's transcript, the run is compared with it, and the first
+line that differs is shown. Where it has none, the transcript is written.";
+
+const AFTER_HELP: &str = "\
+The lines of a file:
+  # ...           a comment
+  == NAME         one more run; a file with no such line is one run
+  app NAME        one more application: hello, blink, echo, relay, churn, ping,
+                  or clock-watcher, which asks for the clock at every turn
+  calls CALL, ..  one more application, which makes these calls, 128 at most,
+                  and then waits; '3 clock' is three calls
+  mmem N, heap N, quota N, header N
+                  sizes in bytes, as the options of mote
+  quiet           the transcript is a quiet one
+  tick N, serial HEX, frame HEX
+                  one more line of the script
+  text hello      the same for these bytes and a line end on the serial line
+  at N            ticks up to clock N
+  script LINE     any line of the script; last LINE: its last, with no line end
+  ends END        how the run ends: finished, halted, too long, bad line N or
+                  bad sizes; else as the transcript's last line shows
+  times N LINE    a line of the script or the transcript, N times
+  4 ..., > ...    and all else that mote writes: the transcript
+
+Exit status:
+  0   each run came out as its file says, or was written
+  1   some run did not, or came to no end
+  2   a file has no form: nothing was run
+  6   standard output can't be written
+  64  the words are no use
+  70  memory was refused";
+
+/// What the words ask for.
+#[derive(Drop)]
+pub(crate) struct Request<'a> {
+    matches: ArgMatches<'a>,
+}
+
+impl<'a> Request<'a> {
+    /// What words ask for, of which the first is the program's name.
+    ///
+    /// # Errors
+    ///
+    /// What the parser finds in the words: a mistake, or that they ask for the help or the version.
+    pub(crate) fn of(alloc: Global, words: &'a [&'a str]) -> Result<Self, Error> {
+        let command = command(alloc)?;
+        let matches = command.try_get_matches_from(words)?;
+        Ok(Request { matches })
+    }
+
+    /// The paths of the files. The parser lets no words through that have none.
+    pub(crate) fn paths(&self) -> Option<&[&'a str]> {
+        self.matches.get_strs("FILE")
+    }
+
+    /// Whether each run is carried out in pieces too.
+    pub(crate) fn is_thorough(&self) -> bool {
+        self.matches.get_flag("thorough")
+    }
+}
+
+/// The command line as the parser is told it.
+fn command<'a>(alloc: Global) -> Result<Command<'a>, AllocError> {
+    let files = Arg::new(alloc, "FILE")
+        .num_args(1..)
+        .required(true)
+        .help("Files that tell of runs");
+    let thorough = Arg::new(alloc, "thorough")
+        .long("thorough")
+        .action(ArgAction::SetTrue)
+        .help(
+            "Carries out each run with a transcript in fifteen kinds of pieces too, and walks over its lines",
+        );
+    Command::new(alloc, "scenario")
+        .version(VERSION)
+        .about(ABOUT)
+        .after_help(AFTER_HELP)
+        .arg(thorough)?
+        .arg(files)
+}

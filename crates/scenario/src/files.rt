@@ -1,0 +1,207 @@
+//! The files that words name: reading them, looking whether they have a form, and carrying out what they tell.
+
+ghost use Rattle.std.specs.Prelude.{◌<◌};
+
+use crate::fault::Fault;
+use crate::parts::{Part, parts_of};
+use crate::run::{WHOLE, Widths, comes_out, keeps_laws, outcome_of};
+use crate::scenario::{Misread, Scenario};
+use std::alloc::{AllocError, Global};
+use std::rt::Files;
+use std::{fs, io};
+
+/// A file that was read.
+#[derive(Drop)]
+pub(crate) struct ScenarioFile<'a> {
+    path: &'a str,
+    text: String,
+}
+
+/// What a file's runs came to.
+#[derive(Drop)]
+struct Count {
+    /// How many runs the file says the outcome of, and how many came out so.
+    told: u32,
+    as_told: u32,
+    /// How often they came out so in pieces.
+    in_pieces: u32,
+    /// How many came to no end, of those that the file says nothing of.
+    endless: u32,
+}
+
+/// Why a file can't be read.
+fn reason(kind: io::ErrorKind) -> &'static str {
+    match kind {
+        io::ErrorKind::NotFound => "no such file",
+        io::ErrorKind::InvalidData => "not text",
+        io::ErrorKind::IsADirectory => "a folder",
+        _ => "it can't be read",
+    }
+}
+
+impl<'a> ScenarioFile<'a> {
+    /// The file of this path, if it can be read. Where it can't, the reason is told on standard error.
+    pub(crate) fn read<R: AllocGlobal + Files + Eprint>(
+        rt: &R,
+        path: &'a str,
+    ) -> io::Result<Option<Self>> {
+        match fs::read_to_string(rt, path) {
+            Ok(text) => Ok(Some(ScenarioFile { path, text })),
+            Err(error) if error.kind() == io::ErrorKind::OutOfMemory => Err(error),
+            Err(error) => {
+                let _ = eprintln!(rt; "scenario: {path}: {}", reason(error.kind()));
+                Ok(None)
+            }
+        }
+    }
+
+    /// Whether each line has a form. Where one has none, the first is told on standard error.
+    pub(crate) fn has_form<R: AllocGlobal + Eprint>(&self, rt: &R) -> Result<bool, AllocError> {
+        let Err(misread) = look(rt.alloc(), self.text.as_str()) else {
+            return Ok(true);
+        };
+        if matches!(misread.fault, Fault::OutOfMemory) {
+            return Err(AllocError);
+        }
+        let _ = eprintln!(rt;
+            "scenario: {}: line {}: {}",
+            self.path, misread.line, misread.fault
+        );
+        Ok(false)
+    }
+}
+
+/// Looks whether each line of a file has a form.
+fn look(alloc: Global, text: &str) -> Result<(), Misread<'_>> {
+    for part in parts_of(alloc, text)? {
+        Scenario::of(alloc, part)?;
+    }
+    Ok(())
+}
+
+impl ScenarioFile<'_> {
+    /// Carries out all runs of the file, and tells what came of them. Answers whether all came out as the file says.
+    pub(crate) fn carry_out<R: AllocGlobal + Print + Eprint>(
+        &self,
+        rt: &R,
+        thorough: bool,
+    ) -> io::Result<bool> {
+        let Ok(parts) = parts_of(rt.alloc(), self.text.as_str()) else {
+            return Ok(false);
+        };
+        let mut count = Count {
+            told: 0,
+            as_told: 0,
+            in_pieces: 0,
+            endless: 0,
+        };
+        for part in parts {
+            self.carry_part_out(rt, part, thorough, &mut count)?;
+        }
+        self.tell(rt, thorough, &count)
+    }
+
+    /// How a run is called in what is told of it.
+    fn name_of(&self, alloc: Global, part: Part<'_>) -> Result<String, AllocError> {
+        match part.name {
+            Some(name) => format!(in alloc; "{}: {name}", self.path),
+            None => String::from_str(alloc, self.path),
+        }
+    }
+
+    fn carry_part_out<R: AllocGlobal + Print + Eprint>(
+        &self,
+        rt: &R,
+        part: Part<'_>,
+        thorough: bool,
+        count: &mut Count,
+    ) -> io::Result<()> {
+        let Ok(mut scenario) = Scenario::of(rt.alloc(), part) else {
+            return Ok(());
+        };
+        let name = self.name_of(rt.alloc(), part)?;
+        if !scenario.is_told() {
+            let has_ended = show(rt, part.name, name.as_str(), &mut scenario)?;
+            count.endless = count.endless.saturating_add(u32::from(!has_ended));
+            return Ok(());
+        }
+        count.told = count.told.saturating_add(1);
+        let keeps = !thorough || keeps_laws(rt, name.as_str(), &scenario)?;
+        let comes = comes_out(rt, name.as_str(), scenario, WHOLE)?;
+        count.as_told = count.as_told.saturating_add(u32::from(keeps && comes));
+        if thorough {
+            let held = count_cuts(rt, name.as_str(), part)?;
+            count.in_pieces = count.in_pieces.saturating_add(held);
+        }
+        Ok(())
+    }
+
+    /// Tells how many runs came out as the file says. Answers whether all did.
+    fn tell<R: Print>(&self, rt: &R, thorough: bool, count: &Count) -> io::Result<bool> {
+        let Count {
+            told,
+            as_told,
+            in_pieces,
+            endless,
+        } = count;
+        if thorough {
+            println!(rt;
+                "{}: {as_told} of {told} runs as told, {in_pieces} in pieces",
+                self.path
+            )?;
+        } else if *told > 0 {
+            println!(rt; "{}: {as_told} of {told} runs as told", self.path)?;
+        }
+        let are_cut = !thorough || *in_pieces == told.saturating_mul(15);
+        Ok(as_told == told && are_cut && *endless == 0)
+    }
+}
+
+/// Writes the transcript of a run that the file says nothing of, below its name where it has one. Answers whether it came
+/// to an end; where it did not, the reason is told on standard error.
+fn show<R: AllocGlobal + Print + Eprint>(
+    rt: &R,
+    title: Option<&str>,
+    name: &str,
+    scenario: &mut Scenario<'_>,
+) -> io::Result<bool> {
+    let outcome = outcome_of(rt.alloc(), scenario, WHOLE)?;
+    if let Some(title) = title {
+        println!(rt; "== {title}")?;
+    }
+    rt.print(str::from_utf8(outcome.transcript.as_slice()).unwrap_or(""))?;
+    let has_ended = outcome.end.as_str() != "bad sizes";
+    if !has_ended {
+        let _ = eprintln!(rt; "scenario: {name}: bad sizes");
+    }
+    Ok(has_ended)
+}
+
+/// How many of three sinks, which take few bytes at a time, get the transcript as the file has it, where a read gives so
+/// many bytes at most.
+fn count_sinks<R: AllocGlobal + Print>(
+    rt: &R,
+    name: &str,
+    part: Part<'_>,
+    given: usize,
+) -> io::Result<u32>
+    requires { 0 < given }
+{
+    let mut held = 0u32;
+    for taken in [1, 5, usize::MAX] {
+        if let Ok(scenario) = Scenario::of(rt.alloc(), part) {
+            let comes = comes_out(rt, name, scenario, Widths { given, taken })?;
+            held = held.saturating_add(u32::from(comes));
+        }
+    }
+    Ok(held)
+}
+
+/// How often a run comes out as its file says, of fifteen times in which script and transcript are cut in other pieces.
+fn count_cuts<R: AllocGlobal + Print>(rt: &R, name: &str, part: Part<'_>) -> io::Result<u32> {
+    let mut held = 0u32;
+    for given in [1, 2, 3, 7, 4_096] {
+        held = held.saturating_add(count_sinks(rt, name, part, given)?);
+    }
+    Ok(held)
+}

@@ -1,0 +1,123 @@
+//! The script of a run, line by line, and the clock that it comes to.
+
+use crate::fault::Fault;
+use mote_text::script::read_input;
+use mote_types::entry::Input;
+use std::alloc::{AllocError, Global};
+
+/// How many bytes a line on the serial line has without its end, where it comes in at once.
+const LONGEST_TEXT: usize = 255;
+
+/// A script that grows.
+#[derive(Drop)]
+pub(crate) struct Inputs {
+    pub(crate) script: String,
+    /// The ticks of its lines in all.
+    clock: u64,
+    /// Whether its last line stands there, which has no line end.
+    has_ended: bool,
+}
+
+impl Inputs {
+    pub(crate) fn new(alloc: Global) -> Self {
+        Inputs {
+            script: String::new(alloc),
+            clock: 0,
+            has_ended: false,
+        }
+    }
+
+    /// Appends the line of the script that a line of a file says, so often.
+    ///
+    /// # Errors
+    ///
+    /// `UnknownWord` where the line says none.
+    pub(crate) fn read_line<'a>(
+        &mut self,
+        alloc: Global,
+        count: u32,
+        line: &'a str,
+    ) -> Result<(), Fault<'a>> {
+        let (word, rest) = line.split_once(' ').unwrap_or((line, ""));
+        match word {
+            "script" => self.push(count, rest),
+            "tick" | "serial" | "frame" if input_of(line).is_some() => self.push(count, line),
+            "tick" | "serial" | "frame" => Err(Fault::NoScriptLine(line)),
+            "text" => self.push(count, serial_line(alloc, rest)?.as_str()),
+            _ => Err(Fault::UnknownWord(word)),
+        }
+    }
+
+    /// Appends a line so often.
+    fn push<'a>(&mut self, count: u32, line: &str) -> Result<(), Fault<'a>> {
+        if self.has_ended {
+            return Err(Fault::ScriptHasEnded);
+        }
+        let ticks = ticks_of(line).saturating_mul(u64::from(count));
+        self.clock = self.clock.saturating_add(ticks);
+        push_lines(&mut self.script, count, line)?;
+        Ok(())
+    }
+
+    /// Appends the script's last line, with no line end.
+    pub(crate) fn end_with<'a>(&mut self, line: &str) -> Result<(), Fault<'a>> {
+        if self.has_ended {
+            return Err(Fault::ScriptHasEnded);
+        }
+        self.has_ended = true;
+        self.script.push_str(line)?;
+        Ok(())
+    }
+
+    /// Appends the ticks that are left up to this clock, and nothing where it stands there.
+    pub(crate) fn go_on_to<'a>(&mut self, alloc: Global, word: &'a str) -> Result<(), Fault<'a>> {
+        let Ok(clock) = word.parse::<u64>() else {
+            return Err(Fault::NoClock(word));
+        };
+        let Some(left) = clock.checked_sub(self.clock) else {
+            return Err(Fault::ClockIsPast(self.clock));
+        };
+        match u32::try_from(left) {
+            Ok(0) => Ok(()),
+            Ok(left) => self.push(1, format!(in alloc; "tick {left}")?.as_str()),
+            Err(_) => Err(Fault::ClockIsFar),
+        }
+    }
+}
+
+/// The input that a line of a script is, if it is one.
+fn input_of(line: &str) -> Option<Input> {
+    let mut input = Input::Tick(0);
+    match read_input(line.as_bytes(), &mut input) {
+        Ok(true) => Some(input),
+        _ => None,
+    }
+}
+
+/// The ticks of a line of a script.
+fn ticks_of(line: &str) -> u64 {
+    match input_of(line) {
+        Some(Input::Tick(ticks)) => u64::from(ticks),
+        _ => 0,
+    }
+}
+
+/// The line of a script by which this text and a line end come in on the serial line.
+fn serial_line<'a>(alloc: Global, text: &str) -> Result<String, Fault<'a>> {
+    if text.len() > LONGEST_TEXT {
+        return Err(Fault::LongText);
+    }
+    let mut line = String::from_str(alloc, "serial ")?;
+    line.push_str(hex::encode(alloc, text.as_bytes())?.as_str())?;
+    line.push_str("0a")?;
+    Ok(line)
+}
+
+/// Appends a line so often.
+pub(crate) fn push_lines(text: &mut String, count: u32, line: &str) -> Result<(), AllocError> {
+    for _ in 0..count {
+        text.push_str(line)?;
+        text.push('\n')?;
+    }
+    Ok(())
+}

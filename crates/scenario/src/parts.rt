@@ -1,0 +1,86 @@
+//! The runs of a file: where the text of each begins.
+
+use crate::fault::Fault;
+use crate::scenario::Misread;
+use std::alloc::{AllocError, Global};
+
+/// What stands in front of a run's name.
+const HEAD: &str = "== ";
+
+/// The part of a file that tells of one run.
+#[derive(Clone, Copy, Drop)]
+pub(crate) struct Part<'a> {
+    /// The run's name, where the file gives it one.
+    pub(crate) name: Option<&'a str>,
+    /// The number of the first line below the name.
+    pub(crate) first_line: usize,
+    pub(crate) lines: &'a str,
+}
+
+/// The parts of a file's text.
+///
+/// # Errors
+///
+/// A line above the first run that is neither empty nor a comment.
+pub(crate) fn parts_of<'a>(alloc: Global, text: &'a str) -> Result<Vec<Part<'a>>, Misread<'a>> {
+    let Some((above, runs)) = parted(text) else {
+        return Ok(whole_part(alloc, text)?);
+    };
+    look_above(above)?;
+    let line = line_ends_in(text).saturating_sub(line_ends_in(runs));
+    Ok(named_parts(alloc, line.saturating_add(1), runs)?)
+}
+
+/// A text with no heads is one run.
+fn whole_part<'a>(alloc: Global, text: &'a str) -> Result<Vec<Part<'a>>, AllocError> {
+    let mut parts = Vec::new(alloc);
+    parts.push(Part {
+        name: None,
+        first_line: 1,
+        lines: text,
+    })?;
+    Ok(parts)
+}
+
+/// The parts of a text that begins behind the first head, which stands in the line of this number.
+fn named_parts<'a>(alloc: Global, line: usize, text: &'a str) -> Result<Vec<Part<'a>>, AllocError> {
+    let mut parts = Vec::new(alloc);
+    let mut line = line;
+    for part in text.split("\n== ") {
+        let (name, lines) = part.split_once('\n').unwrap_or((part, ""));
+        let first_line = line.saturating_add(1);
+        parts.push(Part {
+            name: Some(name),
+            first_line,
+            lines,
+        })?;
+        line = first_line.saturating_add(line_ends_in(part));
+    }
+    Ok(parts)
+}
+
+/// What stands above the first head, and what behind it, where the text has one.
+fn parted(text: &str) -> Option<(&str, &str)> {
+    match text.strip_prefix(HEAD) {
+        Some(runs) => Some(("", runs)),
+        None => text.split_once("\n== "),
+    }
+}
+
+/// How many lines end in a text.
+fn line_ends_in(text: &str) -> usize {
+    text.bytes().filter(|byte| *byte == b'\n').count()
+}
+
+/// Above the first run a file has comments and empty lines alone.
+fn look_above(text: &str) -> Result<(), Misread<'_>> {
+    for (index, line) in text.lines().enumerate() {
+        if !line.is_empty() && !line.starts_with('#') {
+            return Err(Misread {
+                line: index.saturating_add(1),
+                fault: Fault::AboveTheFirstRun,
+            });
+        }
+    }
+    Ok(())
+}

@@ -1,0 +1,41 @@
+//! How the program ends.
+
+/// How the program ends.
+#[derive(Clone, Copy, Drop)]
+pub(crate) enum Status {
+    /// Each run came out as its file says, or was written; or the words asked for no more than a text.
+    AsTold,
+    /// Some run did not come out as its file says, or came to no end.
+    Differs,
+    /// A file has no form or can't be read, and nothing was run.
+    NoForm,
+    Write,
+    NotText,
+    /// The parser refuses the words.
+    Words,
+    OutOfMemory,
+}
+
+impl Status {
+    /// The number that the program exits with.
+    pub(crate) fn number(self) -> u8 {
+        match self {
+            Status::AsTold => 0,
+            Status::Differs => 1,
+            Status::NoForm => 2,
+            Status::Write => 6,
+            Status::NotText | Status::Words => 64,
+            Status::OutOfMemory => 70,
+        }
+    }
+
+    /// What is told on standard error at the end, where nothing was told before.
+    pub(crate) fn reason(self) -> Option<&'static str> {
+        match self {
+            Status::Write => Some("write failed"),
+            Status::NotText => Some("a word is not text"),
+            Status::OutOfMemory => Some("out of memory"),
+            Status::AsTold | Status::Differs | Status::NoForm | Status::Words => None,
+        }
+    }
+}
