@@ -5,6 +5,7 @@ use mote_kit::boxes;
 use mote_kit::mote::{DEFAULT_SIZES, run_script};
 use mote_run::End;
 use std::test::Fail;
+use text_difference::compare;
 
 #[test]
 fn beats_every_ten_ticks(rt: HostRuntime) -> Result<(), Fail> {
@@ -32,7 +33,7 @@ fn beats_every_ten_ticks(rt: HostRuntime) -> Result<(), Fail> {
 4 answer done -> timer-reset 0
 4 answer done -> wait
 ";
-    assert_eq!(rt; str::from_utf8(ran.transcript.as_slice())?, transcript);
+    compare(transcript.as_bytes(), ran.transcript.as_slice())?;
     assert_eq!(rt; ran.end, End::Finished);
     Ok(())
 }
