@@ -135,13 +135,13 @@ fn draw_told(
     others: &str,
 ) -> Result<Element, AllocError> {
     if turn.origin == Origin::Answer {
-        return with_span(alloc, element, "g", "   ↳ ");
+        return with_span(alloc, element, "g", "   ↳ ");
     }
-    let who = format!(in alloc; "{}{others}  ", turn.pid)?;
+    let who = format!(in alloc; "{}{others}  ", turn.pid)?;
     let element = with_span(alloc, element, "b", who.as_str())?;
     let mut told = String::new(alloc);
     push_told(alloc, &mut told, turn)?;
-    told.push_str(" → ")?;
+    told.push_str(" → ")?;
     with_span(alloc, element, "g", told.as_str())
 }
 

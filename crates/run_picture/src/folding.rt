@@ -69,11 +69,11 @@ fn row_in_front(lines: &[&str], first: usize) -> Row
     ensures some { 0 < result.count }
     ensures there { result.count ≤ length lines.now }
 {
-    if is_tick(lines[0]) {
-        let count = ticks_in_front(lines).max(1);
+    let ticks = ticks_in_front(lines);
+    if ticks > 1 {
         return Row {
             first,
-            count,
+            count: ticks,
             show: Show::Ticks,
         };
     }

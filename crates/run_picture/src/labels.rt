@@ -146,14 +146,14 @@ pub(crate) fn refusal_in(answer: &str) -> Option<&str> {
 /// Appends an answer behind its call.
 pub(crate) fn push_answer(alloc: Global, out: &mut String, answer: &str) -> Result<(), AllocError> {
     if let Some(number) = refusal_in(answer) {
-        return write!(out, "  ✗ {} ({number})", reason(number));
+        return write!(out, "  ✗ {} ({number})", reason(number));
     }
     match answer.split_once(' ') {
         Some(("bytes", digits)) => {
-            out.push_str("  = ")?;
+            out.push_str("  = ")?;
             push_bytes(alloc, out, digits)
         }
-        Some((_, value)) => write!(out, "  = {value}"),
+        Some((_, value)) => write!(out, "  = {value}"),
         None => Ok(()),
     }
 }

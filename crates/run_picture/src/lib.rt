@@ -15,6 +15,8 @@ pub mod picture;
 pub mod reading;
 pub mod row;
 mod style;
+mod timer_lines;
+mod timers;
 
 pub use picture::{Settings, draw, rows_of};
 pub use reading::{Unreadable, lines_of};

@@ -1,6 +1,7 @@
 //! What the lines of a transcript tell together: activations, lives, and what was given at once.
 
 use crate::row::Row;
+use crate::timers::{Arming, Moment, Timers};
 use std::alloc::{AllocError, Global};
 use transcript_lines::{Input, Line, Note, Origin, Turn, read_line, read_turn};
 
@@ -54,6 +55,7 @@ pub(crate) struct Marks {
     pub(crate) activations: Vec<Activation>,
     pub(crate) lives: Vec<Life>,
     pub(crate) gifts: Vec<Gift>,
+    pub(crate) armings: Vec<Arming>,
     pub(crate) tally: Tally,
     /// One more than the greatest number of a process that took a turn.
     pub(crate) processes: usize,
@@ -84,21 +86,23 @@ struct Walk {
     processes: [Process; PROCESSES],
     /// The processes in an activation, the innermost last.
     active: Vec<usize>,
+    timers: Timers,
     marks: Marks,
 }
 
 impl Walk {
-    fn new(alloc: Global) -> Self {
+    fn new(alloc: Global) -> Result<Self, AllocError> {
         let process = Process {
             born: None,
             begun: 0,
             last: 0,
             awaited: None,
         };
-        Walk {
+        Ok(Walk {
             clock: 0,
             processes: [process; PROCESSES],
             active: Vec::new(alloc),
+            timers: Timers::new(alloc)?,
             marks: Marks {
                 start: 0,
                 clocks: Vec::new(alloc),
@@ -106,10 +110,11 @@ impl Walk {
                 activations: Vec::new(alloc),
                 lives: Vec::new(alloc),
                 gifts: Vec::new(alloc),
+                armings: Vec::new(alloc),
                 tally: Tally::default(),
                 processes: 0,
             },
-        }
+        })
     }
 
     fn count_input(&mut self, input: &Input<'_>) {
@@ -184,7 +189,11 @@ impl Walk {
                 Ok(pid) => self.end_life(pid, row),
                 Err(_) => Ok(()),
             },
-            _ => Ok(()),
+            _ => {
+                let clock = self.clock;
+                self.timers
+                    .carry_out(turn.pid, turn.call, Moment { row, clock })
+            }
         }
     }
 
@@ -197,6 +206,8 @@ impl Walk {
                 self.marks.gifts.push(Gift { from, to, row })?;
             }
         }
+        let clock = self.clock;
+        self.timers.tell(turn, Moment { row, clock })?;
         self.active.push(turn.pid)?;
         if let Some(process) = self.processes.get_mut(turn.pid) {
             process.begun = row;
@@ -294,6 +305,7 @@ impl Walk {
         self.marks.activations.clear();
         self.marks.lives.clear();
         self.marks.gifts.clear();
+        self.timers.armings.clear();
         self.marks.start = self.clock;
     }
 
@@ -316,13 +328,14 @@ impl Walk {
                 self.marks.lives.push(Life { pid, first, end })?;
             }
         }
+        self.marks.armings = self.timers.finish()?;
         Ok(self.marks)
     }
 }
 
 /// What rows of a transcript tell together, with what the lines before them left.
 pub(crate) fn marks_of(alloc: Global, lines: &[&str], rows: &[Row]) -> Result<Marks, AllocError> {
-    let mut walk = Walk::new(alloc);
+    let mut walk = Walk::new(alloc)?;
     let first = rows.first().map_or(lines.len(), |row| row.first);
     for number in 0..first {
         walk.take_line(lines, 0, number)?;

@@ -14,6 +14,7 @@ use crate::names::{Attribute, Tag};
 use crate::page::Page;
 use crate::pen::Pen;
 use crate::row::Row;
+use crate::timer_lines::draw_timers;
 use std::alloc::{AllocError, Global};
 use transcript_lines::{Ending, Input, Line, read_line};
 
@@ -129,6 +130,7 @@ fn draw_content(
     draw_head(&mut pen, page, settings.title, tally.as_str())?;
     draw_lanes(&mut pen, page, settings.names)?;
     draw_lives(&mut pen, page, marks.lives.as_slice())?;
+    draw_timers(&mut pen, page, marks.armings.as_slice())?;
     draw_activations(&mut pen, page, marks.activations.as_slice())?;
     draw_gifts(&mut pen, page, marks.gifts.as_slice())?;
     draw_words(&mut pen, page, lines, rows, marks)?;

@@ -2,7 +2,8 @@
 
 /// The style of a picture, without the colours of the processes: of texts `b` bold, `g` grey, `m` of one width, `p` printed, `r`
 /// refused, `h` the head, `e` ended where it stands, `c` in the middle; of grounds `i` an input, `t` a turn or a note, `x` an
-/// end; of lines `l` a life, `k` its end, `a` what was given at once, `d` dots.
+/// end; of lines `l` a life, `k` its end, `a` what was given at once, `o` a timer, with `q` a callback timer, `y` one told late,
+/// `d` dots.
 pub(crate) const STYLE: &str = "\
 svg{font:11px 'DejaVu Sans',Verdana,sans-serif}\
 text{fill:#222;white-space:pre;pointer-events:none}\
@@ -22,6 +23,9 @@ text{fill:#222;white-space:pre;pointer-events:none}\
 .l{fill:none;stroke-width:1.2;opacity:.55}\
 .k{fill:none;stroke-width:3}\
 .a{fill:none;stroke:#444;stroke-width:1.3;opacity:.7}\
+.o{fill:none;stroke-width:2}\
+.q{stroke-dasharray:3 2}\
+.y{stroke:#c01818}\
 .d{fill:none;stroke:#ccc;stroke-dasharray:1 4}";
 
 /// The colours of the processes 4, 5, ..

@@ -1,0 +1,222 @@
+//! Event timers and callback timers, each from the row where it is armed to the row where it is told.
+
+use std::alloc::{AllocError, Global};
+use transcript_lines::{Origin, Turn};
+
+/// How many event timers a process has.
+const EVENT_TIMERS: usize = 8;
+
+/// How many timers a process has: behind the event timers stand the callback timers.
+const TIMERS: usize = 12;
+
+/// How many timers all processes have, those of the kernel too.
+const CELLS: usize = 240;
+
+/// A timer as the lines so far leave it: the row where it was armed last, and whether it still is.
+#[derive(Clone, Copy, Drop)]
+struct Cell {
+    row: usize,
+    start: u64,
+    interval: u64,
+    is_armed: bool,
+}
+
+const UNUSED: Cell = Cell {
+    row: 0,
+    start: 0,
+    interval: 0,
+    is_armed: false,
+};
+
+impl Cell {
+    /// The clock at which the timer is due.
+    fn due(&self) -> u64 {
+        self.start.saturating_add(self.interval)
+    }
+}
+
+/// An arming of a timer, from a row to the row where it ended, if it did.
+#[derive(Clone, Copy, Drop)]
+pub(crate) struct Arming {
+    pub(crate) pid: usize,
+    /// The timer's number; those of the callback timers begin behind those of the event timers.
+    pub(crate) timer: usize,
+    pub(crate) first: usize,
+    pub(crate) last: Option<usize>,
+    /// The clock at which it was due.
+    pub(crate) due: u64,
+    /// The clock at which it was told, where it was and not stopped or set anew.
+    pub(crate) told: Option<u64>,
+}
+
+/// When something comes about: in which row, and at which clock.
+#[derive(Clone, Copy, Drop)]
+pub(crate) struct Moment {
+    pub(crate) row: usize,
+    pub(crate) clock: u64,
+}
+
+/// The timers of all processes.
+#[derive(Drop)]
+pub(crate) struct Timers {
+    cells: Vec<Cell>,
+    pub(crate) armings: Vec<Arming>,
+}
+
+impl Timers {
+    pub(crate) fn new(alloc: Global) -> Result<Self, AllocError> {
+        Ok(Timers {
+            cells: vec![in alloc; UNUSED; CELLS]?,
+            armings: Vec::new(alloc),
+        })
+    }
+
+    fn cell(&mut self, pid: usize, timer: usize) -> Option<&mut Cell> {
+        let place = pid.saturating_mul(TIMERS).saturating_add(timer);
+        self.cells.as_mut_slice().get_mut(place)
+    }
+
+    /// A timer's arming ends, if it is armed.
+    fn end(
+        &mut self,
+        pid: usize,
+        timer: usize,
+        row: usize,
+        told: Option<u64>,
+    ) -> Result<(), AllocError> {
+        let Some(cell) = self.cell(pid, timer) else {
+            return Ok(());
+        };
+        let armed = *cell;
+        cell.is_armed = false;
+        if armed.is_armed {
+            self.armings.push(Arming {
+                pid,
+                timer,
+                first: armed.row,
+                last: Some(row),
+                due: armed.due(),
+                told,
+            })?;
+        }
+        Ok(())
+    }
+
+    /// A timer is armed from a start on.
+    fn arm(
+        &mut self,
+        pid: usize,
+        timer: usize,
+        row: usize,
+        start: u64,
+        interval: u64,
+    ) -> Result<(), AllocError> {
+        self.end(pid, timer, row, None)?;
+        if let Some(cell) = self.cell(pid, timer) {
+            *cell = Cell {
+                row,
+                start,
+                interval,
+                is_armed: true,
+            };
+        }
+        Ok(())
+    }
+
+    /// What an accepted call does to the caller's timers.
+    pub(crate) fn carry_out(
+        &mut self,
+        pid: usize,
+        call: &str,
+        moment: Moment,
+    ) -> Result<(), AllocError> {
+        let Moment { row, clock } = moment;
+        let mut words = call.split(' ');
+        let word = words.next().unwrap_or("");
+        let timer = number_of(words.next()) as usize;
+        let interval = number_of(words.next());
+        let callback = timer.saturating_add(EVENT_TIMERS);
+        let before = match self.cell(pid, timer) {
+            Some(cell) => *cell,
+            None => UNUSED,
+        };
+        match word {
+            "timer-set" => self.arm(pid, timer, row, clock, interval),
+            "timer-restart" => self.arm(pid, timer, row, clock, before.interval),
+            "timer-reset" => self.arm(pid, timer, row, before.due(), before.interval),
+            "timer-stop" => self.end(pid, timer, row, None),
+            "callback-set" => self.arm(pid, callback, row, clock, interval),
+            "callback-stop" => self.end(pid, callback, row, None),
+            _ => Ok(()),
+        }
+    }
+
+    /// A process is told something, which may be that its timer ran out.
+    pub(crate) fn tell(&mut self, turn: &Turn<'_>, moment: Moment) -> Result<(), AllocError> {
+        let Moment { row, clock } = moment;
+        let timer = match turn.origin {
+            Origin::Event => turn.stimulus.strip_prefix("136 "),
+            Origin::Callback => Some(turn.stimulus),
+            _ => None,
+        };
+        let Some(timer) = timer else {
+            return Ok(());
+        };
+        let number = number_of(Some(timer)) as usize;
+        let number = match turn.origin {
+            Origin::Callback => number.saturating_add(EVENT_TIMERS),
+            _ => number,
+        };
+        let is_due = match self.cell(turn.pid, number) {
+            Some(cell) => cell.is_armed && cell.due() <= clock,
+            None => false,
+        };
+        if is_due {
+            self.end(turn.pid, number, row, Some(clock))
+        } else {
+            Ok(())
+        }
+    }
+
+    /// What is still armed stays so to the end.
+    pub(crate) fn finish(mut self) -> Result<Vec<Arming>, AllocError> {
+        let mut pid: usize = 0;
+        let mut timer: usize = 0;
+        for cell in self.cells.as_slice() {
+            if cell.is_armed {
+                self.armings.push(Arming {
+                    pid,
+                    timer,
+                    first: cell.row,
+                    last: None,
+                    due: cell.due(),
+                    told: None,
+                })?;
+            }
+            timer = timer.saturating_add(1);
+            if timer >= TIMERS {
+                timer = 0;
+                pid = pid.saturating_add(1);
+            }
+        }
+        Ok(self.armings)
+    }
+}
+
+/// Whether an arming's timer is a callback timer.
+pub(crate) fn is_callback(timer: usize) -> bool {
+    timer >= EVENT_TIMERS
+}
+
+/// The number of a callback timer among its kind, or of an event timer.
+pub(crate) fn number_in_kind(timer: usize) -> usize {
+    timer % EVENT_TIMERS
+}
+
+/// The number of a word, or 0.
+fn number_of(word: Option<&str>) -> u64 {
+    match word {
+        Some(word) => word.parse::<u64>().unwrap_or(0),
+        None => 0,
+    }
+}
