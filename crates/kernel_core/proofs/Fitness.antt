@@ -4,14 +4,14 @@ use Rattle.std.proofs.lemmas.List.Elements.{All-append, All-nil, All-cons, All-h
 use Rattle.std.specs.Prelude.{map, ◌==◌}
 use Rattle.process_core.specs.Agenda.{Queued}
 use Rattle.kernel_core.specs.Code.Carrying.{event_carrying}
-use Rattle.timer_core.specs.Armings.{Armings, is_present_arming, present_arming}
+use Rattle.timer_core.specs.Code.Armings.{Armings, is_present_arming, present_arming}
 use Rattle.kernel_core.specs.Code.Draws.{IsFit, HasFitEvents}
 use Rattle.kernel_core.specs.Expiries.{struck_if, strike_out}
 use Rattle.kernel_core.specs.Code.View.{is_struck, machine_of}
 use Rattle.kernel_core.specs.Calls.{is_callback_timer}
 use Rattle.kernel_core.specs.Machine.{with_timers}
 use Rattle.kernel_core.specs.declared.fields.KernelFields.{KernelFields}
-use Rattle.timer_core.specs.NumberedTimers.{NumberedTimers}
+use Rattle.timer_core.specs.Code.NumberedTimers.{NumberedTimers}
 
 -- a number that was drawn stays one
 pub fit_later : (old new : ℕ) (event : Queued ℕ) → old ≤ new → IsFit old event → IsFit new event

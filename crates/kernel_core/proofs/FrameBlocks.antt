@@ -8,10 +8,10 @@ use Rattle.std.proofs.lemmas.Map.Keys.{IsDistinct-head}
 use Rattle.mote_types.specs.declared.call.Call.{Call}
 use Rattle.device_core.specs.declared.frame.Frame.{Frame}
 use Rattle.mote_types.specs.BlockNames.{number_of}
-use Rattle.node_memory.specs.Frames.{frame_block, frame_in, frame_taken, frame_dropped}
+use Rattle.node_memory.specs.Frames.{frame_in, frame_taken, frame_dropped}
 use Rattle.node_memory.specs.Memory.{Memory, fresh_memory}
 use Rattle.node_memory.specs.declared.sizes.Sizes.{Sizes}
-use Rattle.node_memory.specs.Separation.{BlockName, LeavesOthers, changed_block}
+use Rattle.node_memory.specs.Separation.{BlockName, LeavesOthers, changed_block, frame_block}
 use Rattle.heap_core.specs.HeapStore.{HeapStore, allocated, reallocated}
 use Rattle.node_memory.specs.HeapCalls.{alloc_refusal, realloc_refusal}
 use Rattle.mmem_core.specs.ManagedStore.{with_block}

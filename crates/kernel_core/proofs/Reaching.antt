@@ -5,7 +5,7 @@ use Rattle.process_core.specs.Agenda.{Item, Job}
 use Rattle.kernel_core.specs.Code.Carrying.{job_carrying, carrying}
 use Rattle.process_core.specs.SchedulerView.{SchedulerView}
 use Rattle.process_core.specs.Scheduler.{ComesTo}
-use Rattle.timer_core.specs.Armings.{Armings}
+use Rattle.timer_core.specs.Code.Armings.{Armings}
 use Rattle.kernel_core.specs.declared.fields.KernelFields.{KernelFields}
 use Rattle.kernel_core.specs.declared.unshown.Unshown.{Unshown}
 use Rattle.kernel_core.specs.Machine.{Machine, shown_first}

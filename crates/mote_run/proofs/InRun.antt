@@ -4,7 +4,7 @@ use Rattle.std.specs.Prelude.{Some, None, Ok, Err}
 use Rattle.std.proofs.lemmas.List.{append-nil}
 use Rattle.mote_types.specs.Applications.{Applications}
 use Rattle.mote_types.specs.declared.entry.Input.{Input}
-use Rattle.mote_text.specs.Lines.{unfinished_after, with_end}
+use Rattle.mote_text.specs.Code.Lines.{unfinished_after, with_end}
 use Rattle.mote_text.specs.Script.{inputs, read_line, script_limit}
 use Rattle.mote_text.specs.declared.lines.Taken.{Taken}
 use Rattle.mote_text.specs.declared.script.BadLine.{BadLine}

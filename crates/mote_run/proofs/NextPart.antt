@@ -7,7 +7,7 @@ use Rattle.mote_types.specs.declared.entry.Input.{Input}
 use Rattle.mote_text.specs.declared.lines.Taken.{Taken}
 use Rattle.mote_text.specs.declared.script.BadLine.{BadLine}
 use Rattle.mote_text.specs.declared.script.End.{End}
-use Rattle.mote_text.specs.Lines.{GoesOnAt, has_no_end, unfinished_after, with_end}
+use Rattle.mote_text.specs.Code.Lines.{GoesOnAt, has_no_end, unfinished_after, with_end}
 use Rattle.mote_text.specs.Script.{inputs, line_limit, read_line, script_limit}
 use Rattle.mote_text.proofs.Reading.{Before, Gives, another_byte, line_of_input, line_of_no_form, line_of_nothing, line_too_long, script_limit_is, script_too_long}
 use Rattle.mote_run.specs.Code.Reading.{GoesOn, TakenPart, number_after, said}

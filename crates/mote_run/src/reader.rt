@@ -1,8 +1,9 @@
 //! What the lines of a script say, as its bytes come.
 
 ghost use Rattle.std.specs.Prelude.{◌≡◌, ◌≢◌, ◌<◌, ◌≤◌, ◌+◌, ◌-◌, ◌^◌, true, length, IfOk, OnErr, OnOk};
-ghost use Rattle.mote_text.specs.Lines.{has_no_end, nothing_taken, unfinished};
-ghost use Rattle.mote_text.specs.Script.{line_limit, line_said, read_line};
+ghost use Rattle.mote_text.specs.Code.Lines.{has_no_end, nothing_taken, unfinished};
+ghost use Rattle.mote_text.specs.Script.{line_limit, read_line};
+ghost use Rattle.mote_text.specs.Code.LineAnswers.{line_said};
 ghost use Rattle.mote_text.specs.declared.lines.Taken.{Taken as Stopped};
 ghost use Rattle.mote_run.specs.Code.Reading.{HasFrameLine, ReadPart};
 

@@ -1,7 +1,7 @@
 //! A script as far as it was read and used.
 
 ghost use Rattle.std.specs.Prelude.{◌≡◌, ◌≢◌, ◌<◌, ◌≤◌, ◌+◌, [], true, length, IfOk, OnOk};
-ghost use Rattle.mote_text.specs.Lines.{has_no_end, nothing_taken, unfinished};
+ghost use Rattle.mote_text.specs.Code.Lines.{has_no_end, nothing_taken, unfinished};
 ghost use Rattle.mote_text.specs.declared.lines.Taken.{Taken as Stopped};
 ghost use Rattle.mote_run.specs.Code.Reading.{HasFrameLine, Took};
 

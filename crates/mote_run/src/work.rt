@@ -2,7 +2,7 @@
 
 ghost use Rattle.std.specs.Prelude.{◌≡◌, ◌≢◌, ◌<◌, ◌≤◌, ◌+◌, ◌-◌, ◌*◌, ◌^◌, ◌==◌, ◌↔◌, [], ℕ, Bool, List, true, false, length, None, IfOk, IfSome, OnOk, OnErr, IfErr, IsErrOf};
 ghost use Rattle.mote_types.specs.Applications.{Applications, says_of};
-ghost use Rattle.mote_text.specs.Lines.{has_no_end, unfinished};
+ghost use Rattle.mote_text.specs.Code.Lines.{has_no_end, unfinished};
 ghost use Rattle.mote_text.specs.declared.lines.Taken.{Taken as Stopped};
 ghost use Rattle.kernel_core.specs.declared.config.Config.{Config};
 ghost use Rattle.kernel_core.specs.Machine.{booted};

@@ -5,7 +5,7 @@ use Rattle.std.proofs.lemmas.Bool.Decides.{nat_tests}
 use Rattle.std.proofs.lemmas.List.{take_all}
 use Rattle.std.proofs.lemmas.List.Folds.{list_all-append}
 use Rattle.memchr.specs.Find.{Nowhere, Passes, is_byte}
-use Rattle.mote_text.specs.Lines.{has_no_end, GoesOnAt}
+use Rattle.mote_text.specs.Code.Lines.{has_no_end, GoesOnAt}
 
 pub no_end_append : (bytes more : List ℕ) → has_no_end bytes ≡ true → has_no_end more ≡ true → has_no_end (bytes ++ more) ≡ true
 no_end_append bytes more none nor = list_all-append (λ byte. not (byte == 10)) bytes more ∙ rw (none, nor) refl

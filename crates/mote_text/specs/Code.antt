@@ -1,1 +1,3 @@
 pub mod CallWords
+pub mod LineAnswers
+pub mod Lines

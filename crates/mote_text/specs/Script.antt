@@ -1,5 +1,5 @@
 -- A script: its lines, the inputs that they stand for, and how it ends.
-use Rattle.std.specs.Prelude.{ℕ, ◌+◌, ◌*◌, ◌^◌, Bool, true, false, not, ◌&&◌, ◌||◌, List, [], ◌∷◌, ◌++◌, length, take, drop, slice_index, codes, bytes_eq, Option, Some, None, option_map, option_and_then, if◌then◌else◌, ◌==◌, nat_le, nat_lt, Result, Ok, Err}
+use Rattle.std.specs.Prelude.{ℕ, ◌+◌, ◌*◌, ◌^◌, Bool, not, ◌&&◌, ◌||◌, List, [], ◌∷◌, ◌++◌, length, take, drop, slice_index, codes, bytes_eq, Option, Some, None, option_map, option_and_then, if◌then◌else◌, ◌==◌, nat_le, nat_lt}
 use Rattle.std.specs.Char.{is_ascii_digit}
 use Rattle.std.specs.List.{list_all, slice_split}
 use Rattle.std.specs.Option.{option_or}
@@ -65,17 +65,6 @@ read_line line =
     if nat_lt line_limit (length line) then None
     else if says_nothing line then Some None
     else option_map (λ input. Some input) (read_words line)
-
--- what an answer says of a place: it holds a value, or none
-
-abbrev pub some_if : {A : Type 0} → Bool → A → Option A
-some_if true value = Some value
-some_if false value = None
-
--- of a line: an input in the place, or nothing. None, where it has no form
-abbrev pub line_said : Result Bool BadLine → Input → Option (Option Input)
-line_said (Ok is_input) input = Some (some_if is_input input)
-line_said (Err fault) input = None
 
 -- the lines of a script
 

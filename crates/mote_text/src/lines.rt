@@ -1,7 +1,7 @@
 //! The lines of a script, whose bytes come in pieces.
 
 ghost use Rattle.std.specs.Prelude.{◌≡◌, ◌≢◌, ◌<◌, ◌≤◌, ◌+◌, ◌↔◌, ◌++◌, [], ◌∷◌, true, length, take, None, IfSome};
-ghost use Rattle.mote_text.specs.Lines.{nothing_taken, unfinished, unfinished_after, with_end, has_no_end, GoesOnAt};
+ghost use Rattle.mote_text.specs.Code.Lines.{nothing_taken, unfinished, unfinished_after, with_end, has_no_end, GoesOnAt};
 ghost use Rattle.mote_text.specs.Script.{line_limit};
 ghost use Rattle.mote_text.specs.declared.lines.Taken.{Taken as Stopped};
 
@@ -32,7 +32,7 @@ pub struct Lines {
 
 impl Model for Lines {
     ghost use Rattle.std.specs.Prelude.{◌≡◌, ◌≤◌, true, length};
-    ghost use Rattle.mote_text.specs.Lines.{LinesView, has_no_end};
+    ghost use Rattle.mote_text.specs.Code.Lines.{LinesView, has_no_end};
     ghost use Rattle.mote_text.specs.Script.{line_limit};
 
     ghost Value = { LinesView };

@@ -4,7 +4,8 @@ ghost use Rattle.std.specs.Prelude.{◌≡◌, ◌≤◌, ◌&&◌, ◌^◌, fal
 ghost use Rattle.std.specs.Char.{is_ascii_digit};
 ghost use Rattle.std.specs.List.{list_all};
 ghost use Rattle.std.specs.Str.Parse.{digits_value};
-ghost use Rattle.mote_text.specs.Script.{line_said, read_bytes, read_frame, read_line, read_number, read_serial, read_tick, some_if};
+ghost use Rattle.mote_text.specs.Script.{read_bytes, read_frame, read_line, read_number, read_serial, read_tick};
+ghost use Rattle.mote_text.specs.Code.LineAnswers.{line_said, some_if};
 
 use arrayvec::ArrayVec;
 use mote_types::entry::Input;

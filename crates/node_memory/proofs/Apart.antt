@@ -20,8 +20,8 @@ use Rattle.memb_core.specs.Separation as pools
 use Rattle.memb_core.proofs.Blocks.{get_or-blocks}
 use Rattle.node_memory.specs.declared.listed_pool.ListedPool.{ListedPool}
 use Rattle.node_memory.specs.Code.Layout.{IsLaidOut, LieBehind, end_of}
-use Rattle.node_memory.specs.ListedPools.{PoolWithLists, seen, unused_pool_of}
-use Rattle.node_memory.specs.Placed.{Layout, placed, contents_of}
+use Rattle.node_memory.specs.ListedPools.{PoolWithLists, unused_pool_of}
+use Rattle.node_memory.specs.Placed.{Layout, placed, contents_of, seen}
 use Rattle.node_memory.specs.Separation.{BlockName, IsBlockName, block_named, extent_in_pool, extent_named, header_of, IsReadFrom, BlocksLieApart}
 
 -- parts of spans that lie one behind the other

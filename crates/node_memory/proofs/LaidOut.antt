@@ -25,9 +25,9 @@ use Rattle.memb_core.specs.PoolBytes as pools
 use Rattle.memb_core.specs.PoolBytes.{pool_of}
 use Rattle.memb_core.proofs.Callers.{pool_of-elsewhere, list_of-elsewhere, AreLinked-elsewhere}
 use Rattle.node_memory.specs.declared.listed_pool.ListedPool.{ListedPool}
-use Rattle.node_memory.specs.ListedPools.{PoolWithLists, seen, unused_pool_of}
+use Rattle.node_memory.specs.ListedPools.{PoolWithLists, unused_pool_of}
 use Rattle.node_memory.specs.Code.Layout.{LieBehind, IsLaidOut, end_of}
-use Rattle.node_memory.specs.Placed.{Layout, contents_of, placed}
+use Rattle.node_memory.specs.Placed.{Layout, contents_of, placed, seen}
 use Rattle.node_memory.specs.Memory.{Memory, with_pool, with_managed, with_heap}
 use Rattle.node_memory.specs.Ask.{Asked, ask_pool_of}
 use Rattle.node_memory.specs.PoolCalls.{PoolAsked, ask_pool}

@@ -9,7 +9,8 @@ use Rattle.memb_core.specs.BlockLists.{has_number, holder_of, head_of, tail_of, 
 use Rattle.memb_core.specs.Links.{list_of, AreLinked, LeavesOthers}
 use Rattle.memb_core.specs.PoolBytes.{pool_of}
 use Rattle.node_memory.specs.declared.listed_pool.ListedPool.{ListedPool}
-use Rattle.node_memory.specs.ListedPools.{PoolWithLists, list_in, with_list, with_blocks, seen}
+use Rattle.node_memory.specs.ListedPools.{PoolWithLists, list_in, with_list, with_blocks}
+use Rattle.node_memory.specs.Placed.{seen}
 use Rattle.node_memory.specs.Code.ListCalls.{is_holder}
 
 abbrev pub listed_of : PoolTable → ListHeads → ListedPool

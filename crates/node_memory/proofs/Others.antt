@@ -15,7 +15,6 @@ use Rattle.mote_types.specs.BlockNames.{IsName, number_of}
 use Rattle.mmem_core.specs.ManagedStore.{bytes_of, with_block}
 use Rattle.node_memory.specs.Ask as asking
 use Rattle.node_memory.specs.Ask.{Asked, MayAsk, ask}
-use Rattle.node_memory.specs.Frames.{frame_block}
 use Rattle.node_memory.specs.ListedPools.{PoolWithLists, list_in, list_named, with_list, with_blocks, unused_pool_of}
 use Rattle.heap_core.specs.HeapStore as heap_store
 use Rattle.heap_core.specs.HeapStore.{HeapStore}
@@ -26,7 +25,7 @@ use Rattle.node_memory.specs.ManagedCalls as managed_calls
 use Rattle.node_memory.specs.ManagedCalls.{is_handle, alloc_refusal, copy_refusal}
 use Rattle.node_memory.specs.Memory.{Memory, pool_in, with_pool, with_managed, with_heap}
 use Rattle.node_memory.specs.PoolCalls.{PoolAsked, ask_pool, unless_refused, done, number_or, free_refusal, write_refusal, member_refusal}
-use Rattle.node_memory.specs.Separation.{BlockName, block_named, LeavesOthers, changed_block}
+use Rattle.node_memory.specs.Separation.{BlockName, block_named, LeavesOthers, changed_block, frame_block}
 
 -- an element that is set is read back, or nothing changed there
 get-set : {X : Type 0} (xs : List X) (k j : ℕ) (x d : X) → (get_or (set xs k x) j d ≡ get_or xs j d) ⊎ ((j ≡ k) × (get_or (set xs k x) j d ≡ x))

@@ -14,9 +14,9 @@ use Rattle.heap_core.specs.Separation.{live_block}
 use Rattle.memb_core.specs.BlockPool as pools
 use Rattle.memb_core.specs.Separation as places_in_pool
 use Rattle.node_memory.specs.declared.listed_pool.ListedPool.{ListedPool}
-use Rattle.node_memory.specs.ListedPools.{PoolWithLists, seen}
+use Rattle.node_memory.specs.ListedPools.{PoolWithLists}
 use Rattle.node_memory.specs.Memory.{Memory}
-use Rattle.node_memory.specs.Placed.{PlacedMemory, contents_of, placed}
+use Rattle.node_memory.specs.Placed.{PlacedMemory, contents_of, placed, seen}
 use Rattle.node_memory.specs.Separation.{BlockName, extent_in_pool, extent_named, StaysInPlace, lacks_place, LeavesAll}
 use Rattle.node_memory.proofs.LaidOut.{layout_of}
 

@@ -4,15 +4,10 @@ use Rattle.mote_types.specs.declared.refusal.Refusal.{Refusal}
 use Rattle.mmem_core.specs.ManagedStore.{ManagedStore, block_of, bytes_of, with_block, freed}
 use Rattle.node_memory.specs.ManagedCalls.{is_handle, is_live}
 use Rattle.node_memory.specs.Memory.{Memory, with_managed}
-use Rattle.node_memory.specs.Separation.{BlockName}
 
 -- process 3 holds the frames
 abbrev pub frame_holder : ℕ
 frame_holder = 3
-
--- the block of the frame in that slot
-abbrev pub frame_block : ℕ → BlockName
-frame_block slot = BlockName.Managed frame_holder slot
 
 -- the bytes of the frame in that slot, if it holds one
 abbrev pub frame_in : ℕ → Memory → Option (List ℕ)

@@ -2,10 +2,7 @@
 use Rattle.std.specs.Prelude.{ℕ, ◌%◌, Bool, ◌||◌, List, [], if◌then◌else◌, ◌==◌}
 use Rattle.memb_core.specs.BlockPool.{BlockPool, unused_pool}
 use Rattle.memb_core.specs.BlockLists.{has_number}
-use Rattle.memb_core.specs.Links.{list_of}
-use Rattle.memb_core.specs.PoolBytes.{pool_of}
 use Rattle.memb_core.specs.declared.list_name.ListName.{ListName}
-use Rattle.node_memory.specs.declared.listed_pool.ListedPool.{ListedPool}
 
 pub record PoolWithLists : Type 0 where
   pub pool : BlockPool
@@ -38,12 +35,3 @@ is_linked b s = has_number b s.first || has_number b s.second
 -- lists 2 k and 2 k + 1 are the first and the second one of pool k
 abbrev pub list_named : ℕ → ListName
 list_named l = if l % 2 == 0 then ListName.First else ListName.Second
-
--- what a pool and its lists show with these bytes of the arena
-abbrev pub seen : ListedPool → List ℕ → PoolWithLists
-seen listed bytes =
-    record {
-      pool = pool_of listed.pool bytes;
-      first = list_of ListName.First listed.lists listed.pool bytes;
-      second = list_of ListName.Second listed.lists listed.pool bytes;
-    }

@@ -3,8 +3,11 @@ use Rattle.std.specs.Prelude.{ℕ, ◌+◌, List, map}
 use Rattle.mmem_core.specs.Table.{Table, store_of}
 use Rattle.heap_core.specs.declared.region.Region.{Region}
 use Rattle.heap_core.specs.HeapBytes.{heap_of}
+use Rattle.memb_core.specs.Links.{list_of}
+use Rattle.memb_core.specs.PoolBytes.{pool_of}
+use Rattle.memb_core.specs.declared.list_name.ListName.{ListName}
 use Rattle.node_memory.specs.declared.listed_pool.ListedPool.{ListedPool}
-use Rattle.node_memory.specs.ListedPools.{seen}
+use Rattle.node_memory.specs.ListedPools.{PoolWithLists}
 use Rattle.node_memory.specs.Memory.{Memory}
 
 -- the arena's bytes, and what is kept beside them: where the blocks lie, and which are live
@@ -13,6 +16,15 @@ pub record Layout : Type 0 where
   pub heap : Region
   pub pools : List ListedPool
   pub bytes : List ℕ
+
+-- what a pool and its lists show with these bytes of the arena
+abbrev pub seen : ListedPool → List ℕ → PoolWithLists
+seen listed bytes =
+    record {
+      pool = pool_of listed.pool bytes;
+      first = list_of ListName.First listed.lists listed.pool bytes;
+      second = list_of ListName.Second listed.lists listed.pool bytes;
+    }
 
 -- what the bytes stand for
 abbrev pub contents_of : Layout → Memory

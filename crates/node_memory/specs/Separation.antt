@@ -19,6 +19,7 @@ use Rattle.heap_core.specs.Separation.{live_block}
 use Rattle.memb_core.specs.PoolBytes.{pool_of}
 use Rattle.memb_core.specs.Separation as places_in_pool
 use Rattle.node_memory.specs.declared.listed_pool.ListedPool.{ListedPool}
+use Rattle.node_memory.specs.Frames.{frame_holder}
 use Rattle.node_memory.specs.Memory.{Memory, pool_in}
 use Rattle.node_memory.specs.Placed.{Layout, PlacedMemory}
 
@@ -30,6 +31,10 @@ pub data BlockName : Type 0 where
   Heap : ℕ → ℕ → BlockName
   -- that pool's block
   Pooled : ℕ → ℕ → BlockName
+
+-- the block of the frame in that slot
+abbrev pub frame_block : ℕ → BlockName
+frame_block slot = BlockName.Managed frame_holder slot
 
 -- processes 3 to 19 have handles 0 to 15, and as many blocks in the heap
 abbrev pub IsBlockName : BlockName → Type 0

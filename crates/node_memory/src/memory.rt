@@ -2,7 +2,8 @@
 
 ghost use Rattle.std.specs.Prelude.{◌≡◌, ◌↔◌, ◌≤◌, ◌+◌, ◌*◌, true, false, length, map, sum_by, Some, IfOk, IsErrOf};
 ghost use Rattle.node_memory.specs.Memory.{usable_sizes};
-ghost use Rattle.node_memory.specs.ListedPools.{seen, unused_pool_of};
+ghost use Rattle.node_memory.specs.ListedPools.{unused_pool_of};
+ghost use Rattle.node_memory.specs.Placed.{seen};
 ghost use Rattle.node_memory.specs.Code.Layout.{LieBehind};
 ghost use Rattle.node_memory.specs.Sizes.{are_sizes};
 ghost use Rattle.node_memory.specs.Ask as asking;

@@ -3,7 +3,7 @@ use Rattle.std.proofs.Common.{◌≡◌, ◌≢◌, ℕ, zero, suc, ◌+◌, ◌
 use Rattle.std.proofs.lemmas.Bool.{ne_eqb, cases_eq}
 use Rattle.std.proofs.lemmas.List.{length-set, get_or-set_same, get_or-set_other}
 use Rattle.std.proofs.lemmas.List.Elements.{All-set, All-get_or, All-replicate}
-use Rattle.timer_core.specs.Armings.{Armings, no_armings, callback_place, present_arming, is_present_arming, renumbered, all_renumbered}
+use Rattle.timer_core.specs.Code.Armings.{Armings, no_armings, callback_place, present_arming, is_present_arming, renumbered, all_renumbered}
 use Rattle.timer_core.specs.Code.Numbered.{IsNumbered}
 
 pub numbered_at_boot : IsNumbered no_armings

@@ -2,8 +2,8 @@
 use Rattle.std.proofs.Common.{ℕ, ◌≤◌, ◌<◌}
 use Rattle.mote_types.specs.declared.event.Pid.{Pid}
 use Rattle.timer_core.specs.declared.due.Due.{Due}
-use Rattle.timer_core.specs.Armings.{Armings}
-use Rattle.timer_core.specs.NumberedTimers.{IsDue}
+use Rattle.timer_core.specs.Code.Armings.{Armings}
+use Rattle.timer_core.specs.Code.NumberedTimers.{IsDue}
 
 -- it is an application's
 owned : (armings : Armings) (p : Pid) (t : ℕ) → IsDue armings (Due.Timer p t) → (4 ≤ p.0) × (p.0 ≤ 19) × (t < 8)

@@ -1,6 +1,8 @@
 -- What the code keeps true of its own parts.
+pub mod Armings
 pub mod Links
 pub mod Neighbours
 pub mod Numbered
+pub mod NumberedTimers
 pub mod Places
 pub mod Watched

@@ -1,7 +1,7 @@
 //! The arming numbers of the callback timers.
 
 ghost use Rattle.std.specs.Prelude.{◌≡◌, ◌<◌, ◌≤◌, ◌^◌, ℕ, false};
-ghost use Rattle.timer_core.specs.Armings.{no_armings, callback_place, present_arming, is_present_arming, renumbered, all_renumbered};
+ghost use Rattle.timer_core.specs.Code.Armings.{no_armings, callback_place, present_arming, is_present_arming, renumbered, all_renumbered};
 ghost use Rattle.timer_core.specs.Names.{IsNamed};
 ghost use Rattle.timer_core.specs.declared.timer.Timer.{Timer};
 
@@ -19,7 +19,7 @@ pub(crate) struct ArmingNumbers {
 }
 
 impl Model for ArmingNumbers {
-    ghost use Rattle.timer_core.specs.Armings.{Armings};
+    ghost use Rattle.timer_core.specs.Code.Armings.{Armings};
     ghost use Rattle.timer_core.specs.Code.Numbered.{IsNumbered};
 
     ghost Value = { Armings };

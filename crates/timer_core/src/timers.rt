@@ -4,9 +4,9 @@ ghost use Rattle.std.specs.Prelude.{◌≡◌, ◌<◌, ◌≤◌, ◌+◌, ◌^
 ghost use Rattle.std.specs.Option.{option_map};
 ghost use Rattle.mote_types.specs.declared.refusal.Refusal.{Refusal};
 ghost use Rattle.timer_core.specs.declared.timer.Timer.{Timer};
-ghost use Rattle.timer_core.specs.Armings.{present_arming, is_present_arming, renumbered, all_renumbered};
+ghost use Rattle.timer_core.specs.Code.Armings.{present_arming, is_present_arming, renumbered, all_renumbered};
 ghost use Rattle.timer_core.specs.Names.{IsNamed};
-ghost use Rattle.timer_core.specs.NumberedTimers.{at_boot, due_of, IsDue};
+ghost use Rattle.timer_core.specs.Code.NumberedTimers.{at_boot, due_of, IsDue};
 ghost use Rattle.timer_core.specs.Timers.{is_armed, set_timer, restart_timer, reset_timer, can_reset, stop_timer, first_due, without_first_due, without_event_timers, without_callback_timers};
 
 use crate::due::Due;
@@ -32,7 +32,7 @@ pub struct Timers {
 }
 
 impl Model for Timers {
-    ghost use Rattle.timer_core.specs.NumberedTimers.{NumberedTimers};
+    ghost use Rattle.timer_core.specs.Code.NumberedTimers.{NumberedTimers};
 
     ghost Value = { NumberedTimers };
 

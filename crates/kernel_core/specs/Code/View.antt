@@ -20,7 +20,7 @@ use Rattle.kernel_core.specs.Run.{Answers, GoesSilently, one_step, job_done, wor
 use Rattle.kernel_core.specs.Code.Cost.{present}
 use Rattle.kernel_core.specs.Mote.{Mote}
 use Rattle.kernel_core.specs.Code.Draws.{HasFitEvents, debt}
-use Rattle.timer_core.specs.Armings.{Armings, is_present_arming}
+use Rattle.timer_core.specs.Code.Armings.{Armings, is_present_arming}
 
 -- an expiry was struck out where its arming number isn't the present one
 abbrev pub is_struck : Armings → ℕ → ℕ → ℕ → Bool

@@ -5,7 +5,7 @@ use Rattle.mote_types.specs.Applications.{Applications}
 use Rattle.mote_types.specs.Entries.{is_halt}
 use Rattle.mote_types.specs.declared.entry.Entry.{Entry}
 use Rattle.mote_types.specs.declared.entry.Input.{Input}
-use Rattle.mote_text.specs.Lines.{has_no_end}
+use Rattle.mote_text.specs.Code.Lines.{has_no_end}
 use Rattle.mote_text.specs.Script.{line_limit}
 use Rattle.mote_text.specs.Transcript.{final_line}
 use Rattle.mote_text.specs.declared.script.End.{End}

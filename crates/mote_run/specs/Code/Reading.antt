@@ -4,8 +4,9 @@ use Rattle.mote_types.specs.declared.entry.Entry.{Entry}
 use Rattle.mote_types.specs.declared.entry.Input.{Input}
 use Rattle.mote_text.specs.declared.script.BadLine.{BadLine}
 use Rattle.mote_text.specs.EntryText.{entry_line}
-use Rattle.mote_text.specs.Lines.{GoesOnAt, has_no_end, unfinished_after, with_end}
-use Rattle.mote_text.specs.Script.{line_limit, line_said, read_line, script_limit}
+use Rattle.mote_text.specs.Code.Lines.{GoesOnAt, has_no_end, unfinished_after, with_end}
+use Rattle.mote_text.specs.Script.{line_limit, read_line, script_limit}
+use Rattle.mote_text.specs.Code.LineAnswers.{line_said}
 use Rattle.mote_text.specs.declared.lines.Taken.{Taken}
 use Rattle.mote_run.specs.declared.reader.LineInput.{LineInput}
 

@@ -1,6 +1,6 @@
 use Rattle.std.proofs.Common.{◌≡◌, ◌≢◌, ◌≤◌, ◌+◌, ◌*◌, ◌-◌, ◌^◌, length, true, false}
 use Rattle.mote_types.specs.Applications.{says_of}
-use Rattle.mote_text.specs.Lines.{has_no_end, unfinished}
+use Rattle.mote_text.specs.Code.Lines.{has_no_end, unfinished}
 use Rattle.mote_text.specs.declared.lines.Taken.{Taken}
 use Rattle.kernel_core.specs.declared.config.Config.{Config}
 use Rattle.kernel_core.specs.Machine.{booted}

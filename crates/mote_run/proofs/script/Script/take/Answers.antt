@@ -1,6 +1,6 @@
 use Rattle.std.proofs.Common.{◌≤◌, ◌-◌, length, take, arith}
 use Rattle.std.proofs.lemmas.List.{length-drop, length-take}
-use Rattle.mote_text.specs.Lines.{unfinished}
+use Rattle.mote_text.specs.Code.Lines.{unfinished}
 use Rattle.mote_run.proofs.NextPart.{endless_after, goes_on, number_small, some_used, took}
 use Rattle.mote_run.proofs.script.Script.take.Goals as goal
 

@@ -1,9 +1,9 @@
 use Rattle.std.proofs.Common.{ap, sym, ◌∙◌, subst}
 use Rattle.std.specs.Prelude.{None, Some}
-use Rattle.node_memory.specs.Frames.{frame_block, frame_dropped}
+use Rattle.node_memory.specs.Frames.{frame_dropped}
 use Rattle.node_memory.specs.Memory.{Memory}
 use Rattle.node_memory.specs.Placed.{PlacedMemory}
-use Rattle.node_memory.specs.Separation.{LeavesOthers}
+use Rattle.node_memory.specs.Separation.{LeavesOthers, frame_block}
 use Rattle.node_memory.proofs.LaidOut.{after-managed, managed-changed}
 use Rattle.node_memory.proofs.Others.{leaves-frame}
 use Rattle.node_memory.proofs.memory.NodeMemory.drop_frame.Goals as goal

@@ -1,10 +1,10 @@
 use Rattle.std.proofs.Common.{rules, ◌≡◌, ap, sym, ◌∙◌, subst}
 use Rattle.std.specs.Prelude.{Some}
 use Rattle.mmem_core.specs.ManagedStore.{shortage}
-use Rattle.node_memory.specs.Frames.{frame_block, frame_taken}
+use Rattle.node_memory.specs.Frames.{frame_taken}
 use Rattle.node_memory.specs.Memory.{Memory}
 use Rattle.node_memory.specs.Placed.{PlacedMemory}
-use Rattle.node_memory.specs.Separation.{LeavesOthers}
+use Rattle.node_memory.specs.Separation.{LeavesOthers, frame_block}
 use Rattle.node_memory.proofs.FrameBlocks.{after-frame, frame-changed}
 use Rattle.node_memory.proofs.Others.{leaves-frame}
 use Rattle.node_memory.proofs.Refused.{none-then, shortage-of-before}

@@ -1,5 +1,5 @@
 use Rattle.std.proofs.Common.{◌∙◌, ap}
-use Rattle.timer_core.specs.Armings.{Armings, present_arming}
+use Rattle.timer_core.specs.Code.Armings.{Armings, present_arming}
 use Rattle.timer_core.proofs.ArmingLemmas.{renumbered_others}
 use Rattle.timer_core.proofs.numbers.ArmingNumbers.renew.Goals as goal
 
