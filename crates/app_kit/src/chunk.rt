@@ -1,6 +1,6 @@
 //! The bytes of one read, write or print, and how they are put together.
 
-ghost use Rattle.std.specs.Prelude.{◌≡◌, ◌≤◌, ◌+◌, ◌++◌, ◌↔◌, true, length, take, decimal, bytes_eq};
+ghost use Rattle.std.specs.Prelude.{◌≡◌, ◌≤◌, ◌+◌, ◌++◌, ◌↔◌, [], ◌∷◌, true, length, take, decimal, bytes_eq};
 
 use itoa::Buffer;
 use mote_types::reply::Chunk;
@@ -35,6 +35,16 @@ pub fn push_decimal(chunk: &mut Chunk, number: u32)
     ensures few { length chunk.new.items ≤ length chunk.old.items + 10 }
 {
     push_bytes(chunk, Buffer::new().format(number).as_bytes());
+}
+
+/// This number in decimal and a line end, as for a print: 25 gives the bytes of `25\n`.
+pub fn number_line(number: u32) -> Chunk
+    ensures { result.items ≡ decimal number ++ 10 ∷ [] }
+{
+    let mut chunk = Chunk::new();
+    push_decimal(&mut chunk, number);
+    push_bytes(&mut chunk, b"\n");
+    chunk
 }
 
 /// Whether these are the same bytes, as a command from the serial line and its name.

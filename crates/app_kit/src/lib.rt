@@ -6,6 +6,6 @@ pub mod chunk;
 pub mod from_name;
 pub mod window;
 
-pub use chunk::{chunk_of, push_bytes, push_decimal, same_bytes};
+pub use chunk::{chunk_of, number_line, push_bytes, push_decimal, same_bytes};
 pub use from_name::FromName;
 pub use window::push_latest;

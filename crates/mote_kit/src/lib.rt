@@ -6,7 +6,9 @@ pub mod mote;
 pub mod script;
 pub mod transcript;
 
-pub use app_kit::{FromName, chunk_of, push_bytes, push_decimal, push_latest, same_bytes};
+pub use app_kit::{
+    FromName, chunk_of, number_line, push_bytes, push_decimal, push_latest, same_bytes,
+};
 pub use mote_streams as stream;
 pub use mote_types::app::App;
 
