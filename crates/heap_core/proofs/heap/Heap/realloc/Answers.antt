@@ -1,8 +1,9 @@
-use Rattle.std.proofs.Common.{rules, ◌≡◌, ℕ, ◌≤◌, slice_set, length, Some, None, refl, sym, ap, ◌∙◌, subst}
+use Rattle.std.proofs.Common.{rules, ◌≡◌, ℕ, ◌≤◌, List, slice_set, length, Some, None, refl, sym, ap, ◌∙◌, subst}
 use Rattle.std.specs.Prelude.{Option, filter}
 use Rattle.std.specs.Option.{option_map}
 use Rattle.std.proofs.lemmas.Bool.{lt-ltb, false≢true}
 use Rattle.mote_types.specs.Bytes.{resized}
+use Rattle.heap_core.specs.declared.chunk.Chunk.{Chunk}
 use Rattle.heap_core.specs.declared.chunk.Place.{Place}
 use Rattle.heap_core.specs.declared.region.Region.{Region}
 use Rattle.heap_core.specs.HeapStore.{Block, HeapStore, block_at, find_block, with_block, without_block, place, room_in_place, reallocated}
@@ -10,6 +11,7 @@ use Rattle.heap_core.specs.HeapBytes.{heap_of, IsLaidOut}
 use Rattle.heap_core.specs.Layout.{chunks_of, store_of}
 use Rattle.heap_core.specs.FreeList.{unnamed, FreedLinked}
 use Rattle.heap_core.specs.Places.{ArePlaced}
+use Rattle.heap_core.specs.Code.Links.{KeepsFreed}
 use Rattle.heap_core.specs.Code.Walks.{place_in_chunk, at_place, bytes_in_chunk, block_in_chunk, without_place}
 use Rattle.heap_core.proofs.Blocks.{count}
 use Rattle.heap_core.proofs.Blocks.{elsewhere as by_place}
@@ -20,167 +22,144 @@ use Rattle.heap_core.proofs.Moves.{in_place, elsewhere, nowhere, named_after}
 use Rattle.heap_core.proofs.Places.{placed_there, placed_moved, has_same}
 use Rattle.heap_core.proofs.Stored.{stored}
 use Rattle.heap_core.proofs.heap.Heap.realloc.Goals as goal
+use Rattle.heap_core.proofs.heap.Heap.realloc.Goals.{After-live_chunk-chunk}
 
 elim_none : (o : Option Place) → None ≡ option_map (λ (target : Place). target.at) o → o ≡ None
 elim_none None e = refl
 elim_none (Some target) e = absurd (cc)
 
+-- the heap was joined, and the block's chunk found
+module _ (c : After-live_chunk-chunk) where
+  abbrev heap : Region
+  heap = c.join.new.self
+
+  abbrev B : List ℕ
+  B = c.join.new.arena.bytes
+
+  abbrev store : HeapStore
+  store = store_of heap B
+
+  abbrev chunk : Chunk
+  chunk = c.live_chunk-chunk.result
+
+  abbrev name : ℕ
+  name = c.number_of-name.result
+
+  abbrev n : ℕ
+  n = c.args.n
+
+  abbrev after : HeapStore → Option HeapStore
+  after h = reallocated c.args.key.0.0 c.args.key.1 n h
+
+  -- the heap with the block at another place
+  abbrev put : Place → HeapStore
+  put target = with_block (block_at target name (resized n (bytes_in_chunk heap.header B heap.span.at chunk))) (without_place chunk.at store)
+
+  all : heap_of heap B ≡ store
+  all = plain heap B c.join.ensures.joins.freed c.join.ensures.none
+
+  joined : IsLaidOut heap B
+  joined =
+      let A = c.args.arena.now.bytes in
+      joined_laid c.self.inside.region heap c.args.arena.now c.join.new.arena (subst (λ (r : Region). IsLaidOut r A) (sym c.self.view_is) c.requires.laid_out) c.join.ensures.joins
+
+  found : find_block name store ≡ Some (block_in_chunk heap.header B heap.span.at name chunk)
+  found = ap (find_block name) (sym all) ∙ c.live_chunk-chunk.ensures.block
+
+  left : without_place chunk.at store ≡ without_block name store
+  left = without_place_is heap B (stored heap B joined) chunk name c.number_of-name.ensures.within c.live_chunk-chunk.ensures.owned
+
+  named : (new : HeapStore) → after store ≡ Some new → (other : ℕ) → count other new.blocks ≤ 1
+  named new is = named_after heap B store chunk c.args.key.0.0 c.args.key.1 name n left c.number_of-name.ensures.number found (λ other. subst (λ (k : HeapStore). count other k.blocks ≤ 1) all (joined.named other)) new is
+
+  -- what comes of the joined heap comes of the one before
+  told : (o : Option HeapStore) → after store ≡ o → after (heap_of c.args.self.now c.args.arena.now.bytes) ≡ o
+  told o is =
+      let A = c.args.arena.now.bytes in
+      subst (λ (r : Region). after (heap_of r A) ≡ o) c.self.view_is (ap after (sym c.join.ensures.joins.blocks ∙ all) ∙ is)
+
+  moved : (new : HeapStore) → room_in_place (place_in_chunk heap.header chunk) n store ≡ None → option_map put (place n store) ≡ Some new → after store ≡ Some new
+  moved new none is = elsewhere heap B store chunk c.args.key.0.0 c.args.key.1 name n left c.number_of-name.ensures.number found new none is
+
+  record Stayed (room : ℕ) (new : Region) (B' : List ℕ) : Type 0 where
+    pub freed : FreedLinked new B'
+    pub is : heap_of new B' ≡ put (at_place chunk.at room)
+    pub done : after store ≡ Some (heap_of new B')
+
+  stayed : (room : ℕ) (new : Region) (B' : List ℕ) → room_in_place (place_in_chunk heap.header chunk) n store ≡ Some room → KeepsFreed heap new → store_of new B' ≡ put (at_place chunk.at room) → Stayed room new B'
+  stayed room new B' chosen kept block =
+      let j = c.join.ensures in
+      let freed : FreedLinked new B' =
+      freed_none heap new B B' j.joins.freed j.none kept
+      (ap (λ (k : HeapStore). length (unnamed k.blocks)) block
+      ∙ placed_unnamed (block_at (at_place chunk.at room) name (resized n (bytes_in_chunk heap.header B heap.span.at chunk))) (filter (by_place chunk.at) store.blocks) (lt-ltb name 272 c.number_of-name.ensures.within)
+      ∙ none_unnamed (by_place chunk.at) store.blocks (j.joins.freed.all ∙ j.none)) in
+      let is = plain new B' freed (kept.freed ∙ j.none) ∙ block in
+      record { freed = freed; is = is; done = in_place heap B store chunk c.args.key.0.0 c.args.key.1 name n left c.number_of-name.ensures.number found room (heap_of new B') chosen is }
+
 pub returns-in_default-clause-block : goal.returns-in_default-clause-block
 unfolding chunks_of
 returns-in_default-clause-block c =
-    let was = c.self.inside.region in let A = c.args.arena.now.bytes in let name = c.number_of-name.result in let chunk = c.live_chunk-chunk.result in let n = c.args.n in let p = c.args.key.0.0 in let h = c.args.key.1 in
-    let j = c.join.ensures in let heap = c.join.new.self in let B = c.join.new.arena.bytes in let store = store_of heap B in
-    let laid : IsLaidOut was A = subst (λ (r : Region). IsLaidOut r A) (sym c.self.view_is) c.requires.laid_out in
-    let joined = joined_laid was heap c.args.arena.now c.join.new.arena laid j.joins in
-    let s = stored heap B joined in let small = c.number_of-name.ensures.within in let o = c.live_chunk-chunk.ensures.owned in
-    let all : heap_of heap B ≡ store = plain heap B j.joins.freed j.none in
-    let same : store ≡ heap_of was A = sym all ∙ j.joins.blocks in
-    let found : find_block name store ≡ Some (block_in_chunk heap.header B heap.span.at name chunk) = ap (find_block name) (sym all) ∙ c.live_chunk-chunk.ensures.block in
-    let left : without_place chunk.at store ≡ without_block name store = without_place_is heap B s chunk name small o in
-    let named : (other : ℕ) → count other store.blocks ≤ 1 = λ other. subst (λ (k : HeapStore). count other k.blocks ≤ 1) all (joined.named other) in
-    let none : room_in_place (place_in_chunk heap.header chunk) n store ≡ None = sym c.room_in_place.ensures ∙ c.in_default.is in
-    let new = heap_of c.relocate.new.self c.relocate.new.arena.bytes in
-    let is : reallocated p h n store ≡ Some new = elsewhere heap B store chunk p h name n left c.number_of-name.ensures.number found new none c.in_ok-at.ensures.block in
-    subst (λ (r : Region). reallocated p h n (heap_of r A) ≡ Some new) c.self.view_is (ap (reallocated p h n) (sym same) ∙ is)
+    let k = (goal.at.returns-in_default-clause-block c).After-live_chunk-chunk in let new = heap_of c.relocate.new.self c.relocate.new.arena.bytes in
+    told k (Some new) (moved k new (sym c.room_in_place.ensures ∙ c.in_default.is) c.in_ok-at.ensures.block)
 
 pub returns-in_default-clause-laid_out : goal.returns-in_default-clause-laid_out
 unfolding chunks_of
 returns-in_default-clause-laid_out c =
-    let was = c.self.inside.region in let A = c.args.arena.now.bytes in let name = c.number_of-name.result in let chunk = c.live_chunk-chunk.result in let n = c.args.n in let p = c.args.key.0.0 in let h = c.args.key.1 in
-    let j = c.join.ensures in let heap = c.join.new.self in let B = c.join.new.arena.bytes in let store = store_of heap B in
-    let laid : IsLaidOut was A = subst (λ (r : Region). IsLaidOut r A) (sym c.self.view_is) c.requires.laid_out in
-    let joined = joined_laid was heap c.args.arena.now c.join.new.arena laid j.joins in
-    let s = stored heap B joined in let small = c.number_of-name.ensures.within in let o = c.live_chunk-chunk.ensures.owned in
-    let all : heap_of heap B ≡ store = plain heap B j.joins.freed j.none in
-    let same : store ≡ heap_of was A = sym all ∙ j.joins.blocks in
-    let found : find_block name store ≡ Some (block_in_chunk heap.header B heap.span.at name chunk) = ap (find_block name) (sym all) ∙ c.live_chunk-chunk.ensures.block in
-    let left : without_place chunk.at store ≡ without_block name store = without_place_is heap B s chunk name small o in
-    let named : (other : ℕ) → count other store.blocks ≤ 1 = λ other. subst (λ (k : HeapStore). count other k.blocks ≤ 1) all (joined.named other) in
-    let none : room_in_place (place_in_chunk heap.header chunk) n store ≡ None = sym c.room_in_place.ensures ∙ c.in_default.is in
-    let new = heap_of c.relocate.new.self c.relocate.new.arena.bytes in
-    let is : reallocated p h n store ≡ Some new = elsewhere heap B store chunk p h name n left c.number_of-name.ensures.number found new none c.in_ok-at.ensures.block in
-    let m = c.in_ok-at.ensures in
+    let k = (goal.at.returns-in_default-clause-laid_out c).After-live_chunk-chunk in let new = heap_of c.relocate.new.self c.relocate.new.arena.bytes in
+    let m = c.in_ok-at.ensures in let heap = c.join.new.self in let B = c.join.new.arena.bytes in let store = store_of heap B in
+    let bytes = resized c.args.n (bytes_in_chunk heap.header B heap.span.at c.live_chunk-chunk.result) in let name = c.number_of-name.result in
     record {
       chunks = has_same c.relocate.new.self _ c.relocate.new.arena.bytes refl refl refl m.chunks;
-      named = named_after heap B store chunk p h name n left c.number_of-name.ensures.number found named new is;
+      named = named k new (moved k new (sym c.room_in_place.ensures ∙ c.in_default.is) m.block);
       places =
           subst (λ places. ArePlaced (slice_set places name (Some c.in_ok-at.at)) new) (sym c.relocate.ensures.places)
-          (placed_moved heap.places store new (place n store) c.in_ok-at.at name (resized n (bytes_in_chunk heap.header B heap.span.at chunk)) small (sym m.at)
-          (ap (λ rest. option_map (λ (target : Place). with_block (block_at target name (resized n (bytes_in_chunk heap.header B heap.span.at chunk))) rest) (place n store)) (sym left) ∙ m.block)
-          s.places);
+          (placed_moved heap.places store new (place c.args.n store) c.in_ok-at.at name bytes c.number_of-name.ensures.within (sym m.at)
+          (ap (λ rest. option_map (λ (target : Place). with_block (block_at target name bytes) rest) (place c.args.n store)) (sym (left k)) ∙ m.block)
+          (stored heap B (joined k)).places);
       gaps = record { linked = m.gaps.linked; count = m.gaps.count };
       freed = record { list = m.freed.list; linked = m.freed.linked; count = m.freed.count; all = m.freed.all };
     }
 
 pub returns-clause-block : goal.returns-clause-block
 returns-clause-block c =
-    let was = c.self.inside.region in let A = c.args.arena.now.bytes in let name = c.number_of-name.result in let chunk = c.live_chunk-chunk.result in let n = c.args.n in let p = c.args.key.0.0 in let h = c.args.key.1 in
-    let j = c.join.ensures in let heap = c.join.new.self in let B = c.join.new.arena.bytes in let store = store_of heap B in
-    let laid : IsLaidOut was A = subst (λ (r : Region). IsLaidOut r A) (sym c.self.view_is) c.requires.laid_out in
-    let joined = joined_laid was heap c.args.arena.now c.join.new.arena laid j.joins in
-    let s = stored heap B joined in let small = c.number_of-name.ensures.within in let o = c.live_chunk-chunk.ensures.owned in
-    let all : heap_of heap B ≡ store = plain heap B j.joins.freed j.none in
-    let same : store ≡ heap_of was A = sym all ∙ j.joins.blocks in
-    let found : find_block name store ≡ Some (block_in_chunk heap.header B heap.span.at name chunk) = ap (find_block name) (sym all) ∙ c.live_chunk-chunk.ensures.block in
-    let left : without_place chunk.at store ≡ without_block name store = without_place_is heap B s chunk name small o in
-    let named : (other : ℕ) → count other store.blocks ≤ 1 = λ other. subst (λ (k : HeapStore). count other k.blocks ≤ 1) all (joined.named other) in
-    let after = c.resize.new.self in let B' = c.resize.new.arena.bytes in let new = heap_of after B' in
-    let bytes = resized n (bytes_in_chunk heap.header B heap.span.at chunk) in let block = block_at (at_place chunk.at c.in-Some.room) name bytes in
-    let freed : FreedLinked after B' =
-    freed_none heap after B B' j.joins.freed j.none c.resize.ensures.kept
-    (ap (λ (k : HeapStore). length (unnamed k.blocks)) c.resize.ensures.block ∙ placed_unnamed block (filter (by_place chunk.at) store.blocks) (lt-ltb name 272 small) ∙ none_unnamed (by_place chunk.at) store.blocks (j.joins.freed.all ∙ j.none)) in
-    let is : new ≡ with_block block (without_place chunk.at store) = plain after B' freed (c.resize.ensures.kept.freed ∙ j.none) ∙ c.resize.ensures.block in
-    let done : reallocated p h n store ≡ Some new = in_place heap B store chunk p h name n left c.number_of-name.ensures.number found c.in-Some.room new (sym c.in-Some.ensures) is in
-    subst (λ (r : Region). reallocated p h n (heap_of r A) ≡ Some new) c.self.view_is (ap (reallocated p h n) (sym same) ∙ done)
+    let k = (goal.at.returns-clause-block c).After-live_chunk-chunk in
+    told k (Some (heap_of c.resize.new.self c.resize.new.arena.bytes)) (stayed k c.in-Some.room c.resize.new.self c.resize.new.arena.bytes (sym c.in-Some.ensures) c.resize.ensures.kept c.resize.ensures.block).done
 
 pub returns-clause-laid_out : goal.returns-clause-laid_out
 returns-clause-laid_out c =
-    let was = c.self.inside.region in let A = c.args.arena.now.bytes in let name = c.number_of-name.result in let chunk = c.live_chunk-chunk.result in let n = c.args.n in let p = c.args.key.0.0 in let h = c.args.key.1 in
-    let j = c.join.ensures in let heap = c.join.new.self in let B = c.join.new.arena.bytes in let store = store_of heap B in
-    let laid : IsLaidOut was A = subst (λ (r : Region). IsLaidOut r A) (sym c.self.view_is) c.requires.laid_out in
-    let joined = joined_laid was heap c.args.arena.now c.join.new.arena laid j.joins in
-    let s = stored heap B joined in let small = c.number_of-name.ensures.within in let o = c.live_chunk-chunk.ensures.owned in
-    let all : heap_of heap B ≡ store = plain heap B j.joins.freed j.none in
-    let same : store ≡ heap_of was A = sym all ∙ j.joins.blocks in
-    let found : find_block name store ≡ Some (block_in_chunk heap.header B heap.span.at name chunk) = ap (find_block name) (sym all) ∙ c.live_chunk-chunk.ensures.block in
-    let left : without_place chunk.at store ≡ without_block name store = without_place_is heap B s chunk name small o in
-    let named : (other : ℕ) → count other store.blocks ≤ 1 = λ other. subst (λ (k : HeapStore). count other k.blocks ≤ 1) all (joined.named other) in
-    let after = c.resize.new.self in let B' = c.resize.new.arena.bytes in let new = heap_of after B' in
-    let bytes = resized n (bytes_in_chunk heap.header B heap.span.at chunk) in let block = block_at (at_place chunk.at c.in-Some.room) name bytes in
-    let freed : FreedLinked after B' =
-    freed_none heap after B B' j.joins.freed j.none c.resize.ensures.kept
-    (ap (λ (k : HeapStore). length (unnamed k.blocks)) c.resize.ensures.block ∙ placed_unnamed block (filter (by_place chunk.at) store.blocks) (lt-ltb name 272 small) ∙ none_unnamed (by_place chunk.at) store.blocks (j.joins.freed.all ∙ j.none)) in
-    let is : new ≡ with_block block (without_place chunk.at store) = plain after B' freed (c.resize.ensures.kept.freed ∙ j.none) ∙ c.resize.ensures.block in
-    let done : reallocated p h n store ≡ Some new = in_place heap B store chunk p h name n left c.number_of-name.ensures.number found c.in-Some.room new (sym c.in-Some.ensures) is in
+    let k = (goal.at.returns-clause-laid_out c).After-live_chunk-chunk in let heap = c.join.new.self in let B = c.join.new.arena.bytes in let chunk = c.live_chunk-chunk.result in
+    let new = heap_of c.resize.new.self c.resize.new.arena.bytes in let bytes = resized c.args.n (bytes_in_chunk heap.header B heap.span.at chunk) in let name = c.number_of-name.result in
+    let s = stayed k c.in-Some.room c.resize.new.self c.resize.new.arena.bytes (sym c.in-Some.ensures) c.resize.ensures.kept c.resize.ensures.block in
     record {
       chunks = c.resize.ensures.chunks;
-      named = named_after heap B store chunk p h name n left c.number_of-name.ensures.number found named new done;
+      named = named k new s.done;
       places =
           subst (λ places. ArePlaced places new) (sym c.resize.ensures.kept.places)
-          (placed_there heap.places store new (at_place chunk.at c.in-Some.room) name bytes
-          (ap (option_map (λ (other : Block). other.at)) found)
-          (is ∙ ap (with_block block) left)
-          s.places);
+          (placed_there heap.places (store_of heap B) new (at_place chunk.at c.in-Some.room) name bytes
+          (ap (option_map (λ (other : Block). other.at)) (found k))
+          (s.is ∙ ap (with_block (block_at (at_place chunk.at c.in-Some.room) name bytes)) (left k))
+          (stored heap B (joined k)).places);
       gaps = c.resize.ensures.gaps;
-      freed = freed;
+      freed = s.freed;
     }
 
 pub returns-in_err-at-clause-refused : goal.returns-in_err-at-clause-refused
 returns-in_err-at-clause-refused c =
-    let was = c.self.inside.region in let A = c.args.arena.now.bytes in let name = c.number_of-name.result in let chunk = c.live_chunk-chunk.result in let n = c.args.n in let p = c.args.key.0.0 in let h = c.args.key.1 in
-    let j = c.join.ensures in let heap = c.join.new.self in let B = c.join.new.arena.bytes in let store = store_of heap B in
-    let laid : IsLaidOut was A = subst (λ (r : Region). IsLaidOut r A) (sym c.self.view_is) c.requires.laid_out in
-    let joined = joined_laid was heap c.args.arena.now c.join.new.arena laid j.joins in
-    let s = stored heap B joined in let small = c.number_of-name.ensures.within in let o = c.live_chunk-chunk.ensures.owned in
-    let all : heap_of heap B ≡ store = plain heap B j.joins.freed j.none in
-    let same : store ≡ heap_of was A = sym all ∙ j.joins.blocks in
-    let found : find_block name store ≡ Some (block_in_chunk heap.header B heap.span.at name chunk) = ap (find_block name) (sym all) ∙ c.live_chunk-chunk.ensures.block in
-    let left : without_place chunk.at store ≡ without_block name store = without_place_is heap B s chunk name small o in
-    let named : (other : ℕ) → count other store.blocks ≤ 1 = λ other. subst (λ (k : HeapStore). count other k.blocks ≤ 1) all (joined.named other) in
-    let none : room_in_place (place_in_chunk heap.header chunk) n store ≡ None = sym c.room_in_place.ensures ∙ c.in_default.is in
-    let refused : place n store ≡ None = (let e = c.from_residual.ensures in elim_none (place n store) (c.in_err-at.ensures.at)) in
-    let is : reallocated p h n (heap_of c.args.self.now A) ≡ None =
-    subst (λ (r : Region). reallocated p h n (heap_of r A) ≡ None) c.self.view_is (ap (reallocated p h n) (sym same) ∙ nowhere heap B store chunk p h name n left c.number_of-name.ensures.number found none refused) in
+    let k = (goal.at.returns-in_err-at-clause-refused c).After-live_chunk-chunk in let heap = c.join.new.self in let B = c.join.new.arena.bytes in let store = store_of heap B in
+    let is = told k None (nowhere heap B store c.live_chunk-chunk.result c.args.key.0.0 c.args.key.1 c.number_of-name.result c.args.n (left k) c.number_of-name.ensures.number (found k) (sym c.room_in_place.ensures ∙ c.in_default.is) (elim_none (place c.args.n store) c.in_err-at.ensures.at)) in
     let e = c.from_residual.ensures in
     (λ _. is, λ _. rw e (search rules))
 
 pub returns-in_default-clause-refused : goal.returns-in_default-clause-refused
 unfolding chunks_of
 returns-in_default-clause-refused c =
-    let was = c.self.inside.region in let A = c.args.arena.now.bytes in let name = c.number_of-name.result in let chunk = c.live_chunk-chunk.result in let n = c.args.n in let p = c.args.key.0.0 in let h = c.args.key.1 in
-    let j = c.join.ensures in let heap = c.join.new.self in let B = c.join.new.arena.bytes in let store = store_of heap B in
-    let laid : IsLaidOut was A = subst (λ (r : Region). IsLaidOut r A) (sym c.self.view_is) c.requires.laid_out in
-    let joined = joined_laid was heap c.args.arena.now c.join.new.arena laid j.joins in
-    let s = stored heap B joined in let small = c.number_of-name.ensures.within in let o = c.live_chunk-chunk.ensures.owned in
-    let all : heap_of heap B ≡ store = plain heap B j.joins.freed j.none in
-    let same : store ≡ heap_of was A = sym all ∙ j.joins.blocks in
-    let found : find_block name store ≡ Some (block_in_chunk heap.header B heap.span.at name chunk) = ap (find_block name) (sym all) ∙ c.live_chunk-chunk.ensures.block in
-    let left : without_place chunk.at store ≡ without_block name store = without_place_is heap B s chunk name small o in
-    let named : (other : ℕ) → count other store.blocks ≤ 1 = λ other. subst (λ (k : HeapStore). count other k.blocks ≤ 1) all (joined.named other) in
-    let none : room_in_place (place_in_chunk heap.header chunk) n store ≡ None = sym c.room_in_place.ensures ∙ c.in_default.is in
-    let new = heap_of c.relocate.new.self c.relocate.new.arena.bytes in
-    let is : reallocated p h n store ≡ Some new = elsewhere heap B store chunk p h name n left c.number_of-name.ensures.number found new none c.in_ok-at.ensures.block in
-    let some : reallocated p h n (heap_of c.args.self.now A) ≡ Some new = subst (λ (r : Region). reallocated p h n (heap_of r A) ≡ Some new) c.self.view_is (ap (reallocated p h n) (sym same) ∙ is) in
+    let k = (goal.at.returns-in_default-clause-refused c).After-live_chunk-chunk in let new = heap_of c.relocate.new.self c.relocate.new.arena.bytes in
+    let some = told k (Some new) (moved k new (sym c.room_in_place.ensures ∙ c.in_default.is) c.in_ok-at.ensures.block) in
     (λ k. absurd (false≢true (sym k)), λ none. absurd (let two : None ≡ Some new = sym none ∙ some in cc))
 
 pub returns-clause-refused : goal.returns-clause-refused
 returns-clause-refused c =
-    let was = c.self.inside.region in let A = c.args.arena.now.bytes in let name = c.number_of-name.result in let chunk = c.live_chunk-chunk.result in let n = c.args.n in let p = c.args.key.0.0 in let h = c.args.key.1 in
-    let j = c.join.ensures in let heap = c.join.new.self in let B = c.join.new.arena.bytes in let store = store_of heap B in
-    let laid : IsLaidOut was A = subst (λ (r : Region). IsLaidOut r A) (sym c.self.view_is) c.requires.laid_out in
-    let joined = joined_laid was heap c.args.arena.now c.join.new.arena laid j.joins in
-    let s = stored heap B joined in let small = c.number_of-name.ensures.within in let o = c.live_chunk-chunk.ensures.owned in
-    let all : heap_of heap B ≡ store = plain heap B j.joins.freed j.none in
-    let same : store ≡ heap_of was A = sym all ∙ j.joins.blocks in
-    let found : find_block name store ≡ Some (block_in_chunk heap.header B heap.span.at name chunk) = ap (find_block name) (sym all) ∙ c.live_chunk-chunk.ensures.block in
-    let left : without_place chunk.at store ≡ without_block name store = without_place_is heap B s chunk name small o in
-    let named : (other : ℕ) → count other store.blocks ≤ 1 = λ other. subst (λ (k : HeapStore). count other k.blocks ≤ 1) all (joined.named other) in
-    let after = c.resize.new.self in let B' = c.resize.new.arena.bytes in let new = heap_of after B' in
-    let bytes = resized n (bytes_in_chunk heap.header B heap.span.at chunk) in let block = block_at (at_place chunk.at c.in-Some.room) name bytes in
-    let freed : FreedLinked after B' =
-    freed_none heap after B B' j.joins.freed j.none c.resize.ensures.kept
-    (ap (λ (k : HeapStore). length (unnamed k.blocks)) c.resize.ensures.block ∙ placed_unnamed block (filter (by_place chunk.at) store.blocks) (lt-ltb name 272 small) ∙ none_unnamed (by_place chunk.at) store.blocks (j.joins.freed.all ∙ j.none)) in
-    let is : new ≡ with_block block (without_place chunk.at store) = plain after B' freed (c.resize.ensures.kept.freed ∙ j.none) ∙ c.resize.ensures.block in
-    let done : reallocated p h n store ≡ Some new = in_place heap B store chunk p h name n left c.number_of-name.ensures.number found c.in-Some.room new (sym c.in-Some.ensures) is in
-    let some : reallocated p h n (heap_of c.args.self.now A) ≡ Some new = subst (λ (r : Region). reallocated p h n (heap_of r A) ≡ Some new) c.self.view_is (ap (reallocated p h n) (sym same) ∙ done) in
+    let k = (goal.at.returns-clause-refused c).After-live_chunk-chunk in let new = heap_of c.resize.new.self c.resize.new.arena.bytes in
+    let some = told k (Some new) (stayed k c.in-Some.room c.resize.new.self c.resize.new.arena.bytes (sym c.in-Some.ensures) c.resize.ensures.kept c.resize.ensures.block).done in
     (λ k. absurd (false≢true (sym k)), λ none. absurd (let two : None ≡ Some new = sym none ∙ some in cc))
