@@ -1,5 +1,5 @@
 -- A live chunk that is laid into a hole, and the holes that there are.
-use Rattle.std.proofs.Common.{◌≡◌, ◌≢◌, ℕ, ◌+◌, ◌-◌, ◌≤◌, ◌⊎◌, inl, inr, List, [], ◌∷◌, ◌++◌, length, Some, None, refl, sym, ap, ◌∙◌, subst, arith}
+use Rattle.std.proofs.Common.{◌≡◌, ◌≢◌, ℕ, ◌+◌, ◌-◌, ◌≤◌, ◌<◌, ◌⊎◌, inl, inr, List, [], ◌∷◌, ◌++◌, length, Some, None, refl, sym, ap, ◌∙◌, subst, arith}
 use Rattle.std.specs.Prelude.{Option, IfSome, filter}
 use Rattle.std.proofs.lemmas.Bool.{cases_eq}
 use Rattle.std.proofs.lemmas.List.{append-nil}
@@ -12,14 +12,14 @@ use Rattle.heap_core.specs.HeapStore.{Block, HeapStore, placed, block_at, with_b
 use Rattle.heap_core.specs.Chunks.{shortest, least_len, Tell, BeginsLive, IsWhole, AreJoined, with_chunk, blocks_in}
 use Rattle.heap_core.specs.Code.Holes.{Hole, Fits, Leaves, Laid, Free}
 use Rattle.heap_core.specs.Layout.{chunks_of, HasChunks, store_of}
-use Rattle.heap_core.specs.FreeList.{LinkedTo, gaps_among, LiveIn}
+use Rattle.heap_core.specs.FreeList.{LinkedTo, gaps_among, LiveIn, GapsLinked}
 use Rattle.heap_core.specs.Code.Links.{gap_count, gap_below, gap_from, Relinked}
-use Rattle.heap_core.specs.Code.Walks.{chunks_behind, GapAt, Owned, laid, front_gap, place_in_chunk, bytes_in_chunk, LeavesGap, IsWholeRoom}
+use Rattle.heap_core.specs.Code.Walks.{chunks_behind, GapAt, Owned, laid, front_gap, place_in_chunk, at_place, bytes_in_chunk, LeavesGap, IsWholeRoom}
 use Rattle.heap_core.proofs.Beside.{room_is, Taken, taken, front_gap_whole}
 use Rattle.heap_core.proofs.Blocks.{blocks_between, placed_behind, placed_front, elsewhere}
 use Rattle.heap_core.proofs.Gaps.{none_in_front}
 use Rattle.heap_core.proofs.Lengths.{lengths, needed}
-use Rattle.heap_core.proofs.Lists.{gaps_counted, count_some, count_none, gap_first, live_first, Ends, ends_of, IsGapOf, last_stands, list_kept}
+use Rattle.heap_core.proofs.Lists.{gaps_counted, count_some, count_none, gap_first, live_first, ends_of, IsGapOf, last_stands, list_kept}
 use Rattle.heap_core.proofs.Members.{In, in_of, in_left, in_right, in_cases, stands_of, in_told, in_without, live_exchanged, apart_from_gap}
 use Rattle.heap_core.proofs.Releases.{r, end_below, left_apart}
 use Rattle.heap_core.proofs.Splice.{Spliced, spliced, joined_swap, joined_behind, whole_at, laid_all, laid_some}
@@ -100,93 +100,130 @@ module _ (heap new : Region) (B B' : List ℕ) (live : Chunk) (before mid behind
     kept = λ other h. record { stands = stands_of other (chunks_of new B') (subst (In other) (sym there.is) (stays other h)); live = h.live };
   }
 
--- bytes are written into a hole, behind a header
-module _ (heap : Region) (B B' : List ℕ) (at end n : ℕ) (hole : Hole heap B at end) (changes : ChangesOnly (heap.span.at + at + heap.header) n B B') (side : (end ≡ heap.footprint) ⊎ (at + heap.header + n ≤ end)) where
-  abbrev h : ℕ
-  h = heap.span.at
-
-  above : (hole.behind ≡ []) ⊎ (at + heap.header + n ≤ end)
-  above = elim side [ inl e ↦ inl (ended heap.header B h end heap.footprint hole.behind hole.back (omega (arith, e))) | inr f ↦ inr f ]
-
-  pub back : Tell heap.header B' h end heap.footprint hole.behind
-  back = elim above [
-    | inl none ↦ subst (Tell heap.header B' h end heap.footprint) (sym none) (subst (Tell heap.header B h end heap.footprint) none hole.back)
-    | inr f ↦ told_frame heap.header B B' h (h + at + heap.header) n changes end heap.footprint hole.behind (inr (omega arith)) hole.back
-  ]
-
-  unfoldable pub hole_after : Hole heap B' at end
-  hole_after = record {
-    before = hole.before;
-    behind = hole.behind;
-    within = omega (arith, changes.size, hole.within);
-    front = told_frame heap.header B B' h (h + at + heap.header) n changes 0 at hole.before (inl (omega arith)) hole.front;
-    back = back;
-    joined = hole.joined;
-    joined_behind = hole.joined_behind;
-    begins = hole.begins;
-  }
-
-  pub before_after : blocks_in heap.header B' h hole.before ≡ blocks_in heap.header B h hole.before
-  before_after = blocks_frame heap.header B B' h (h + at + heap.header) n changes 0 at hole.before (inl (omega arith)) hole.front
-
-  pub behind_after : blocks_in heap.header B' h hole.behind ≡ blocks_in heap.header B h hole.behind
-  behind_after = elim above [
-    | inl none ↦ ap (blocks_in heap.header B' h) none ∙ sym (ap (blocks_in heap.header B h) none)
-    | inr f ↦ blocks_frame heap.header B B' h (h + at + heap.header) n changes end heap.footprint hole.behind (inr (omega arith)) hole.back
-  ]
-
 -- a chunk that fits is as long as it needs
 pub fits_least : (heap : Region) (live : Chunk) (end : ℕ) → Fits heap live end → least_len heap.header live ≤ live.len
 fits_least heap live end fits = omega (arith, fits.room, fits.whole.0, (lengths heap).least)
 
--- a block's bytes end where the hole does, or before that
-pub below : (heap : Region) (at room n end : ℕ) → Leaves heap (at + (heap.header + room)) end → n ≤ room → (end ≡ heap.footprint) ⊎ (at + heap.header + n ≤ end)
-below heap at room n end rest fits = elim rest [ inl e ↦ inl e | inr f ↦ elim f [ inl all ↦ inr (omega (arith, fits)) | inr some ↦ inr (omega (arith, fits, some.0)) ] ]
+-- bytes for a block of n bytes: what stands there goes, and so many gaps with it; these blocks stay
+pub record Room (heap : Region) (B : List ℕ) (target : Place) (end n taken : ℕ) (olds : List Block) : Type 0 where
+  pub hole : Hole heap B target.at end
+  pub gone : List Chunk
+  pub is : chunks_of heap B ≡ hole.before ++ (gone ++ hole.behind)
+  pub count : length (gaps_among gone) ≡ taken
+  pub inside : target.at + (heap.header + target.room) ≤ heap.span.len
+  pub rest : Leaves heap (target.at + (heap.header + target.room)) end
+  pub whole : IsWholeRoom heap.header target.room
+  pub enough : n ≤ target.room
+  pub blocks : olds ≡ blocks_in heap.header B heap.span.at hole.before ++ blocks_in heap.header B heap.span.at hole.behind
+  pub kept : (other : Chunk) → LiveIn other (chunks_of heap B) → other.at ≢ target.at → LiveIn other (hole.before ++ hole.behind)
 
--- a block that is laid into a hole is one more
-module _ (heap new : Region) (B B1 B2 : List ℕ) (target : Place) (name n end : ℕ) (hole : Hole heap B target.at end)
-    (changes : ChangesOnly (heap.span.at + target.at + heap.header) n B B1) (rest : Leaves heap (target.at + (heap.header + target.room)) end) (room : n ≤ target.room)
-    (first link : Option ℕ) (laid : Laid heap new B1 B2 (record { at = target.at; len = heap.header + target.room; owner = Some name; size = n; link = None }) hole.before hole.behind first link) where
+-- the block was laid there
+pub record Put (heap new : Region) (B B1 B2 : List ℕ) (target : Place) (name n taken : ℕ) (olds : List Block) (below : Option Chunk) (first : Option ℕ) : Type 0 where
+  pub chunks : HasChunks new B2
+  pub last : IfSome below (IsGapOf (chunks_of new B2))
+  pub count : new.gaps ≡ length (gaps_among (chunks_of new B2)) + taken
+  pub linked : (after : Region) (B3 : List ℕ) → new.lowest ≡ heap.lowest → Relinked new after B2 B3 below first → LinkedTo after.lowest (chunks_of after B3) None
+  pub block : (ws : List ℕ) → bytes_in_chunk heap.header B1 heap.span.at (record { at = target.at; len = heap.header + target.room; owner = Some name; size = n; link = None }) ≡ ws → new.span ≡ heap.span → new.header ≡ heap.header
+      → store_of new B2 ≡ with_block (block_at target name ws) (record { size = heap.span.len; header = heap.header; blocks = olds })
+  pub kept : (other : Chunk) → LiveIn other (chunks_of heap B) → other.at ≢ target.at → LiveIn other (chunks_of new B2)
+
+module _ (heap : Region) (B : List ℕ) (target : Place) (end n taken : ℕ) (olds : List Block) (r : Room heap B target end n taken olds) (name : ℕ) where
   abbrev s : ℕ
   s = heap.span.at
 
   abbrev live : Chunk
   live = record { at = target.at; len = heap.header + target.room; owner = Some name; size = n; link = None }
 
-  abbrev xs : List Block
-  xs = blocks_in heap.header B s hole.before
+  pub fits : name < 272 → Fits heap live end
+  fits small = record { inside = r.inside; rest = r.rest; room = omega (arith, r.enough); whole = (r.whole.0, omega (arith, r.whole.1, (lengths heap).whole)); owner = small; link = refl }
 
-  abbrev ys : List Block
-  ys = blocks_in heap.header B s hole.behind
+  -- its bytes are written first
+  module _ (B1 : List ℕ) (changes : ChangesOnly (s + target.at + heap.header) n B B1) where
+    above : (r.hole.behind ≡ []) ⊎ (target.at + heap.header + n ≤ end)
+    above = elim r.rest [
+      | inl e ↦ inl (ended heap.header B s end heap.footprint r.hole.behind r.hole.back (omega (arith, e)))
+      | inr f ↦ elim f [ inl all ↦ inr (omega (arith, r.enough)) | inr some ↦ inr (omega (arith, r.enough, some.0)) ]
+    ]
 
-  abbrev under : (end ≡ heap.footprint) ⊎ (target.at + heap.header + n ≤ end)
-  under = below heap target.at target.room n end rest room
+    back : Tell heap.header B1 s end heap.footprint r.hole.behind
+    back = elim above [
+      | inl none ↦ subst (Tell heap.header B1 s end heap.footprint) (sym none) (subst (Tell heap.header B s end heap.footprint) none r.hole.back)
+      | inr f ↦ told_frame heap.header B B1 s (s + target.at + heap.header) n changes end heap.footprint r.hole.behind (inr (omega arith)) r.hole.back
+    ]
 
-  in_front : (block : Block) → block.at ≡ target.at → placed block ys ≡ block ∷ ys
-  in_front block at = elim under [
-    | inl e ↦
-        let none = ended heap.header B s end heap.footprint hole.behind hole.back (omega (arith, e)) in
-        subst (λ l. placed block (blocks_in heap.header B s l) ≡ block ∷ blocks_in heap.header B s l) (sym none) refl
-    | inr f ↦ placed_front end heap.footprint block ys (blocks_between heap.header B s end heap.footprint hole.behind hole.back) (omega (arith, at))
-  ]
+    pub into : Hole heap B1 target.at end
+    into = record {
+      before = r.hole.before;
+      behind = r.hole.behind;
+      within = omega (arith, changes.size, r.hole.within);
+      front = told_frame heap.header B B1 s (s + target.at + heap.header) n changes 0 target.at r.hole.before (inl (omega arith)) r.hole.front;
+      back = back;
+      joined = r.hole.joined;
+      joined_behind = r.hole.joined_behind;
+      begins = r.hole.begins;
+    }
 
-  pub put_block : (ws : List ℕ) (olds : List Block) → bytes_in_chunk heap.header B1 s live ≡ ws → olds ≡ xs ++ ys → new.span ≡ heap.span → new.header ≡ heap.header
-      → store_of new B2 ≡ with_block (block_at target name ws) (record { size = heap.span.len; header = heap.header; blocks = olds })
-  put_block ws olds fresh are span header =
-      let block = block_at target name ws in
-      let same : heap.header + target.room - heap.header ≡ target.room = omega arith in
-      let put : placed block (xs ++ ys) ≡ xs ++ (block ∷ ys) =
-      placed_behind 0 target.at block xs ys (blocks_between heap.header B s 0 target.at hole.before hole.front) (omega arith) ∙ ap (λ l. xs ++ l) (in_front block refl) in
-      ap (λ size. let h : HeapStore = record { size = size; header = new.header; blocks = blocks_in new.header B2 new.span.at (chunks_of new B2) } in h) (ap (λ (k : Span). k.len) span)
-      ∙ ap (λ header. let h : HeapStore = record { size = heap.span.len; header = header; blocks = blocks_in new.header B2 new.span.at (chunks_of new B2) } in h) header
-      ∙ ap (λ blocks. let h : HeapStore = record { size = heap.span.len; header = heap.header; blocks = blocks } in h)
-      (laid.blocks
-      ∙ ap (λ l. l ++ with_chunk heap.header B1 s live (Some name) (blocks_in heap.header B1 s hole.behind)) (before_after heap B B1 target.at end n hole changes under)
-      ∙ ap (λ l. xs ++ with_chunk heap.header B1 s live (Some name) l) (behind_after heap B B1 target.at end n hole changes under)
-      ∙ ap (λ bytes. xs ++ ((let k : Block = record { name = name; at = target.at; room = heap.header + target.room - heap.header; bytes = bytes } in k) ∷ ys)) fresh
-      ∙ ap (λ m. xs ++ ((let k : Block = record { name = name; at = target.at; room = m; bytes = ws } in k) ∷ ys)) same
-      ∙ sym put
-      ∙ sym (ap (placed block) are))
+    behind_after : blocks_in heap.header B1 s r.hole.behind ≡ blocks_in heap.header B s r.hole.behind
+    behind_after = elim above [
+      | inl none ↦ ap (blocks_in heap.header B1 s) none ∙ sym (ap (blocks_in heap.header B s) none)
+      | inr f ↦ blocks_frame heap.header B B1 s (s + target.at + heap.header) n changes end heap.footprint r.hole.behind (inr (omega arith)) r.hole.back
+    ]
+
+    abbrev xs : List Block
+    xs = blocks_in heap.header B s r.hole.before
+
+    abbrev ys : List Block
+    ys = blocks_in heap.header B s r.hole.behind
+
+    in_front : (block : Block) → block.at ≡ target.at → placed block ys ≡ block ∷ ys
+    in_front block at = elim above [
+      | inl none ↦ subst (λ l. placed block (blocks_in heap.header B s l) ≡ block ∷ blocks_in heap.header B s l) (sym none) refl
+      | inr f ↦ placed_front end heap.footprint block ys (blocks_between heap.header B s end heap.footprint r.hole.behind r.hole.back) (omega (arith, at))
+    ]
+
+    pub put : HasChunks heap B → GapsLinked heap B → (new : Region) (B2 : List ℕ) (last : Option Chunk) (first link : Option ℕ) → Laid heap new B1 B2 live into.before into.behind first link
+        → last ≡ gap_below target.at (gaps_among (chunks_of heap B)) → link ≡ gap_from end (gaps_among (chunks_of heap B)) → Put heap new B B1 B2 target name n taken olds last first
+    unfolding into
+    put has g new B2 last first link laid at_last at_link =
+        let before = r.hole.before in let behind = r.hole.behind in
+        let ends = ends_of heap B target.at end before r.gone behind has g.linked r.is r.hole.front r.hole.back in
+        record {
+          chunks = laid.chunks;
+          last = last_stands last before (laid.mid ++ behind) (chunks_of new B2) (at_last ∙ ends.last) laid.is;
+          count = omega (arith, g.count, r.count, laid.count, ap (λ l. length (gaps_among l)) r.is, gaps_counted before r.gone behind, ap (λ l. length (gaps_among l)) laid.is, gaps_counted before laid.mid behind);
+          linked = λ after B3 same relinked. list_kept new after B2 B3 heap.lowest first link last target.at end (chunks_of heap B) before laid.mid behind ends same laid.is at_last at_link laid.linked relinked;
+          block = λ ws fresh span header. (
+              let block = block_at target name ws in
+              let same : heap.header + target.room - heap.header ≡ target.room = omega arith in
+              let placed_there : placed block (xs ++ ys) ≡ xs ++ (block ∷ ys) =
+              placed_behind 0 target.at block xs ys (blocks_between heap.header B s 0 target.at before r.hole.front) (omega arith) ∙ ap (λ l. xs ++ l) (in_front block refl) in
+              ap (λ size. let h : HeapStore = record { size = size; header = new.header; blocks = blocks_in new.header B2 new.span.at (chunks_of new B2) } in h) (ap (λ (k : Span). k.len) span)
+              ∙ ap (λ header. let h : HeapStore = record { size = heap.span.len; header = header; blocks = blocks_in new.header B2 new.span.at (chunks_of new B2) } in h) header
+              ∙ ap (λ blocks. let h : HeapStore = record { size = heap.span.len; header = heap.header; blocks = blocks } in h)
+              (laid.blocks
+              ∙ ap (λ l. l ++ with_chunk heap.header B1 s live (Some name) (blocks_in heap.header B1 s behind)) (blocks_frame heap.header B B1 s (s + target.at + heap.header) n changes 0 target.at before (inl (omega arith)) r.hole.front)
+              ∙ ap (λ l. xs ++ with_chunk heap.header B1 s live (Some name) l) behind_after
+              ∙ ap (λ bytes. xs ++ ((let k : Block = record { name = name; at = target.at; room = heap.header + target.room - heap.header; bytes = bytes } in k) ∷ ys)) fresh
+              ∙ ap (λ m. xs ++ ((let k : Block = record { name = name; at = target.at; room = m; bytes = ws } in k) ∷ ys)) same
+              ∙ sym placed_there
+              ∙ sym (ap (placed block) r.blocks)));
+          kept = λ other h far. laid.kept other (r.kept other h far);
+        }
+
+-- a place that was found for it
+pub free_room : (heap : Region) (B : List ℕ) (target : Place) (end n : ℕ) (free : Free heap B target end) → n ≤ target.room → Room heap B target end n (gap_count (end - target.at)) (store_of heap B).blocks
+free_room heap B target end n free enough = record {
+  hole = free.hole;
+  gone = free.mid;
+  is = free.is;
+  count = free.count;
+  inside = free.inside;
+  rest = free.rest;
+  whole = free.whole;
+  enough = enough;
+  blocks = free.blocks;
+  kept = λ other live far. free.kept other live;
+}
 
 -- the top gap, and a gap below it
 module _ (heap : Region) (B : List ℕ) (has : HasChunks heap B) (target : Place) where
@@ -266,57 +303,15 @@ module _ (heap : Region) (B : List ℕ) (has : HasChunks heap B) (chunk : Chunk)
   own_behind : AreJoined heap.header own.behind
   own_behind = (joined_behind heap.header own.before (chunk ∷ own.behind) own_joined).2
 
-  pub gap_same : (gap : ℕ) → gap ≡ front_gap (chunks_behind heap B (chunk.at + chunk.len)) → gap ≡ front_gap own.behind
-  gap_same gap is = is ∙ ap front_gap (behind_is heap B chunk own)
-
-  pub own_gone : List Chunk
-  own_gone = (r heap B has chunk own owns).gone
-
-  pub own_count : (gap : ℕ) → gap ≡ front_gap own.behind → length (gaps_among (chunk ∷ own_gone)) ≡ gap_count gap
-  unfolding own_gone
-  own_count gap gap_is = ap length (live_first chunk name own_gone o.owner) ∙ (r heap B has chunk own owns).count ∙ ap gap_count (sym gap_is)
-
-  module _ (gap : ℕ) (gap_is : gap ≡ front_gap own.behind) where
+  module _ (gap : ℕ) (gap_is : gap ≡ front_gap (chunks_behind heap B (chunk.at + chunk.len))) where
     abbrev end : ℕ
     end = chunk.at + chunk.len + gap
 
+    gap_same : gap ≡ front_gap own.behind
+    gap_same = gap_is ∙ ap front_gap (behind_is heap B chunk own)
+
     pub own_end : end ≤ heap.footprint
-    own_end = omega (arith, gap_is, end_below heap B has chunk own owns)
-
-    unfoldable pub own_hole : Hole heap B chunk.at end
-    own_hole =
-        let rest = r heap B has chunk own owns in
-        let was : AreJoined heap.header (own.before ++ (chunk ∷ own.behind)) = subst (AreJoined heap.header) own.is has.joined in
-        record {
-          before = own.before;
-          behind = rest.post;
-          within = has.within;
-          front = own.front;
-          back = subst (λ k. Tell heap.header B heap.span.at (chunk.at + chunk.len + k) heap.footprint rest.post) (sym gap_is) rest.told;
-          joined = λ chunks begins joined. joined_swap heap.header own.before (chunk ∷ own.behind) chunks (λ _. begins) was joined;
-          joined_behind = rest.joined;
-          begins = elim rest.begins [ inl none ↦ inl none.0 | inr first ↦ inr first ];
-        }
-
-    pub own_is : chunks_of heap B ≡ own_hole.before ++ ((chunk ∷ own_gone) ++ own_hole.behind)
-    unfolding own_hole own_gone
-    own_is = own.is ∙ ap (λ l. own.before ++ (chunk ∷ l)) (r heap B has chunk own owns).was
-
-    pub own_others : (other : Chunk) → LiveIn other (chunks_of heap B) → other.at ≢ chunk.at → LiveIn other (own_hole.before ++ own_hole.behind)
-    unfolding own_hole
-    own_others other h far =
-        let rest = r heap B has chunk own owns in
-        let all = own.before ++ rest.post in
-        record {
-          stands = stands_of other all
-              (in_without other chunk own.before rest.gone rest.post h.live far rest.free
-              (subst (In other) (own.is ∙ ap (λ l. own.before ++ (chunk ∷ l)) rest.was) (in_of other (chunks_of heap B) h.stands)));
-          live = h.live;
-        }
-
-    pub own_blocks : filter (elsewhere chunk.at) (blocks_in heap.header B heap.span.at (chunks_of heap B)) ≡ blocks_in heap.header B heap.span.at own_hole.before ++ blocks_in heap.header B heap.span.at own_hole.behind
-    unfolding own_hole
-    own_blocks = left_apart heap B has chunk own owns ∙ ap (λ l. blocks_in heap.header B heap.span.at own.before ++ l) (r heap B has chunk own owns).blocks
+    own_end = omega (arith, gap_same, end_below heap B has chunk own owns)
 
     module _ (n room : ℕ) (some : 1 ≤ n) (chosen : room_in_place (place_in_chunk heap.header chunk) n (store_of heap B) ≡ Some room) where
       abbrev least : ℕ
@@ -329,45 +324,48 @@ module _ (heap : Region) (B : List ℕ) (has : HasChunks heap B) (chunk : Chunk)
           k.most (needed heap n some).whole (omega (arith, own_whole.0, own_whole.1, k.whole, k.room)) (front_gap_whole heap.header own.behind own_behind)
           (sym (room_is heap B chunk n own has owns) ∙ chosen)
 
-      pub own_room : n ≤ room
-      own_room = omega (arith, known.enough, (needed heap n some).enough)
-
-      pub own_rest : Leaves heap (chunk.at + (heap.header + room)) end
+      own_rest : Leaves heap (chunk.at + (heap.header + room)) end
       own_rest = elim (cases_eq (chunk.at + chunk.len) heap.footprint) [
         | inl last ↦ inl (omega (arith, last, own_end))
         | inr more ↦ inr (elim (known.below more) [
-          | inl e ↦ inl (omega (arith, own.enough, gap_is))
-          | inr less ↦ inr (omega (arith, own.enough, gap_is, less.0), omega (arith, own.enough, gap_is, less.0, less.1))
+          | inl e ↦ inl (omega (arith, own.enough, gap_same))
+          | inr less ↦ inr (omega (arith, own.enough, gap_same, less.0), omega (arith, own.enough, gap_same, less.0, less.1))
         ])
       ]
 
-      pub own_live : IsWhole heap.header (record { at = chunk.at; len = heap.header + room; owner = Some name; size = n; link = None })
-      own_live = (omega (arith, known.whole.0), omega (arith, known.whole.1, (lengths heap).whole))
-
-      pub own_inside : chunk.at + (heap.header + room) ≤ heap.span.len
+      own_inside : chunk.at + (heap.header + room) ≤ heap.span.len
       own_inside = elim (cases_eq (chunk.at + chunk.len) heap.footprint) [
         | inl last ↦ omega (arith, known.on_top last, own.enough, last, heap.inside)
         | inr more ↦ elim own_rest [
-          | inl e ↦ elim (known.below more) [ inl f ↦ omega (arith, own.enough, gap_is, own_end, heap.inside) | inr f ↦ omega (arith, own.enough, gap_is, own_end, heap.inside, f.0) ]
+          | inl e ↦ elim (known.below more) [ inl f ↦ omega (arith, own.enough, gap_same, own_end, heap.inside) | inr f ↦ omega (arith, own.enough, gap_same, own_end, heap.inside, f.0) ]
           | inr f ↦ elim f [ inl e ↦ omega (arith, own_end, heap.inside) | inr less ↦ omega (arith, own_end, heap.inside, less.0) ]
         ]
       ]
 
--- the list of the gaps after a chunk was laid into a hole
-module _ (heap new : Region) (B B1 B2 : List ℕ) (live : Chunk) (at end : ℕ) (hole : Hole heap B at end) (gone : List Chunk) (is : chunks_of heap B ≡ hole.before ++ (gone ++ hole.behind)) (has : HasChunks heap B)
-    (were : LinkedTo heap.lowest (chunks_of heap B) None) (last : Option Chunk) (first link : Option ℕ) (laid : Laid heap new B1 B2 live hole.before hole.behind first link)
-    (at_last : last ≡ gap_below at (gaps_among (chunks_of heap B))) (at_link : link ≡ gap_from end (gaps_among (chunks_of heap B))) where
-  ends : Ends heap.lowest at end (chunks_of heap B) hole.before hole.behind
-  ends = ends_of heap B at end hole.before gone hole.behind has were is hole.front hole.back
-
-  -- how many gaps it has now, and how many it had in the hole
-  pub count_laid : (taken : ℕ) → heap.gaps ≡ length (gaps_among (chunks_of heap B)) → length (gaps_among gone) ≡ taken → new.gaps ≡ length (gaps_among (chunks_of new B2)) + taken
-  count_laid taken count went =
-      omega (arith, count, went, laid.count, ap (λ l. length (gaps_among l)) is, gaps_counted hole.before gone hole.behind, ap (λ l. length (gaps_among l)) laid.is, gaps_counted hole.before laid.mid hole.behind)
-
-  pub last_laid : IfSome last (IsGapOf (chunks_of new B2))
-  last_laid = last_stands last hole.before (laid.mid ++ hole.behind) (chunks_of new B2) (at_last ∙ ends.last) laid.is
-
-  pub list_laid : (after : Region) (B3 : List ℕ) → new.lowest ≡ heap.lowest → Relinked new after B2 B3 last first → LinkedTo after.lowest (chunks_of after B3) None
-  list_laid after B3 same relinked =
-      list_kept new after B2 B3 heap.lowest first link last at end (chunks_of heap B) hole.before laid.mid hole.behind ends same laid.is at_last at_link laid.linked relinked
+      pub own_room : Room heap B (at_place chunk.at room) end n (gap_count gap) (filter (elsewhere chunk.at) (store_of heap B).blocks)
+      own_room =
+          let behind = r heap B has chunk own owns in let was = own.is ∙ ap (λ l. own.before ++ (chunk ∷ l)) behind.was in let left = own.before ++ behind.post in
+          record {
+            hole = record {
+              before = own.before;
+              behind = behind.post;
+              within = has.within;
+              front = own.front;
+              back = subst (λ k. Tell heap.header B heap.span.at (chunk.at + chunk.len + k) heap.footprint behind.post) (sym gap_same) behind.told;
+              joined = λ chunks begins joined. joined_swap heap.header own.before (chunk ∷ own.behind) chunks (λ _. begins) own_joined joined;
+              joined_behind = behind.joined;
+              begins = elim behind.begins [ inl none ↦ inl none.0 | inr first ↦ inr first ];
+            };
+            gone = chunk ∷ behind.gone;
+            is = was;
+            count = ap length (live_first chunk name behind.gone o.owner) ∙ behind.count ∙ ap gap_count (sym gap_same);
+            inside = own_inside;
+            rest = own_rest;
+            whole = known.whole;
+            enough = omega (arith, known.enough, (needed heap n some).enough);
+            blocks = left_apart heap B has chunk own owns ∙ ap (λ l. blocks_in heap.header B heap.span.at own.before ++ l) behind.blocks;
+            kept = λ other h far. record {
+              stands = stands_of other left (in_without other chunk own.before behind.gone behind.post h.live far behind.free (subst (In other) was (in_of other (chunks_of heap B) h.stands)));
+              live = h.live;
+            };
+          }

@@ -1,57 +1,64 @@
-use Rattle.std.proofs.Common.{ℕ, length, ◌≡◌, ◌+◌, ◌<◌, ◌∷◌, Some, None, refl, sym, subst, ◌∙◌, arith}
+use Rattle.std.proofs.Common.{ℕ, List, ◌+◌, ◌<◌, refl, sym, subst, ◌∙◌, arith}
 use Rattle.std.specs.Prelude.{IfSome, filter}
 use Rattle.mote_types.specs.Bytes.{resized}
-use Rattle.heap_core.specs.Layout.{chunks_of, store_of}
-use Rattle.heap_core.specs.FreeList.{gaps_among}
-use Rattle.heap_core.specs.Code.Links.{gap_count}
 use Rattle.heap_core.specs.declared.chunk.Chunk.{Chunk}
+use Rattle.heap_core.specs.declared.region.Region.{Region}
+use Rattle.heap_core.specs.HeapStore.{Block}
+use Rattle.heap_core.specs.HeapBytes.{KeepsToSpan}
+use Rattle.heap_core.specs.Layout.{chunks_of, store_of}
+use Rattle.heap_core.specs.Code.Links.{gap_count}
 use Rattle.heap_core.specs.Code.Walks.{at_place, bytes_in_chunk}
 use Rattle.heap_core.proofs.Blocks.{elsewhere}
 use Rattle.heap_core.proofs.Callers.{KeepsToSpan-then}
-use Rattle.heap_core.proofs.Holes.{below, hole_after, put_block, own, gap_same, own_end, own_hole, own_gone, own_is, own_others, own_blocks, last_laid, list_laid, count_laid, own_count, own_room, own_rest, own_live, own_inside}
+use Rattle.heap_core.proofs.Holes.{Room, Put, fits, into, put, own, own_end, own_room}
 use Rattle.heap_core.proofs.Lists.{gap_from_small, gaps_few, kept_then}
 use Rattle.heap_core.proofs.Places.{has_same}
 use Rattle.heap_core.proofs.Told.{changes_more}
 use Rattle.heap_core.proofs.region.Region.resize.Goals as goal
-use Rattle.heap_core.proofs.region.Region.resize.Goals.{After-gap_count}
+use Rattle.heap_core.proofs.region.Region.resize.Goals.{After-gap_behind-gap, After-lay-first}
+
+abbrev blocks : Region → List ℕ → Chunk → List Block
+blocks heap B chunk = filter (elsewhere chunk.at) (store_of heap B).blocks
+
+-- the bytes that the block has once it is resized
+room : (c : After-gap_behind-gap)
+    → Room c.args.self.now c.args.arena.now.bytes (at_place c.args.chunk.at c.args.room) (c.args.chunk.at + c.args.chunk.len + c.gap_behind-gap.result) c.args.n (gap_count c.gap_behind-gap.result) (blocks c.args.self.now c.args.arena.now.bytes c.args.chunk)
+room c = own_room c.args.self.now c.args.arena.now.bytes c.requires.chunks c.args.chunk c.args.name c.requires.owned c.gap_behind-gap.result c.gap_behind-gap.ensures c.args.n c.args.room c.requires.some c.requires.room
+
+-- it was laid there
+laid : (c : After-lay-first)
+    → Put c.args.self.now c.lay-first.new.self c.args.arena.now.bytes c.clear.new.arena.bytes c.lay-first.new.arena.bytes (at_place c.args.chunk.at c.args.room) c.args.name c.args.n (gap_count c.gap_behind-gap.result) (blocks c.args.self.now c.args.arena.now.bytes c.args.chunk)
+    c.gaps_beside-beside.result.below c.lay-first.result
+laid c =
+    let heap = c.args.self.now in let B = c.args.arena.now.bytes in let name = c.args.name in let B1 = c.clear.new.arena.bytes in let changes = c.clear.ensures.others in
+    let r = own_room heap B c.requires.chunks c.args.chunk name c.requires.owned c.gap_behind-gap.result c.gap_behind-gap.ensures c.args.n c.args.room c.requires.some c.requires.room in
+    put heap B _ _ _ _ _ r name B1 changes c.requires.chunks c.requires.gaps c.lay-first.new.self c.lay-first.new.arena.bytes c.gaps_beside-beside.result.below c.lay-first.result c.link_behind-link.result
+    (c.lay-first.ensures.laid (into heap B _ _ _ _ _ r name B1 changes)) c.gaps_beside-beside.ensures.below c.link_behind-link.ensures
 
 pub overflow_add-end : goal.overflow_add-end
 overflow_add-end c =
-    let heap = c.args.self.now in let B = c.args.arena.now.bytes in let chunk = c.args.chunk in let has = c.requires.chunks in let o = c.requires.owned in
-    omega (arith, (own heap B has chunk c.args.name o).fits, heap.inside, heap.small)
+    let heap = c.args.self.now in
+    omega (arith, (own heap c.args.arena.now.bytes c.requires.chunks c.args.chunk c.args.name c.requires.owned).fits, heap.inside, heap.small)
 
 pub overflow_add-end-2 : goal.overflow_add-end-2
 overflow_add-end-2 c =
-    let heap = c.args.self.now in let B = c.args.arena.now.bytes in let chunk = c.args.chunk in let has = c.requires.chunks in let o = c.requires.owned in
-    let gap = c.gap_behind-gap.result in let gap_is = gap_same heap B has chunk c.args.name o gap c.gap_behind-gap.ensures in
-    omega (arith, own_end heap B has chunk c.args.name o gap gap_is, heap.inside, heap.small)
+    let heap = c.args.self.now in
+    omega (arith, own_end heap c.args.arena.now.bytes c.requires.chunks c.args.chunk c.args.name c.requires.owned c.gap_behind-gap.result c.gap_behind-gap.ensures, heap.inside, heap.small)
 
 pub overflow_add-live : goal.overflow_add-live
-overflow_add-live c =
-    let heap = c.args.self.now in let B = c.args.arena.now.bytes in let chunk = c.args.chunk in let has = c.requires.chunks in let o = c.requires.owned in
-    let gap = c.gap_behind-gap.result in let gap_is = gap_same heap B has chunk c.args.name o gap c.gap_behind-gap.ensures in
-    omega (arith, own_inside heap B has chunk c.args.name o gap gap_is c.args.n c.args.room c.requires.some c.requires.room, heap.small)
+overflow_add-live c = let heap = c.args.self.now in omega (arith, (room (goal.at.overflow_add-live c).After-gap_behind-gap).inside, heap.small)
 
 pub clear-requires-clause-inside : goal.clear-requires-clause-inside
-clear-requires-clause-inside c =
-    let heap = c.args.self.now in let B = c.args.arena.now.bytes in let chunk = c.args.chunk in let has = c.requires.chunks in let o = c.requires.owned in
-    let gap = c.gap_behind-gap.result in let gap_is = gap_same heap B has chunk c.args.name o gap c.gap_behind-gap.ensures in
-    omega (arith, own_inside heap B has chunk c.args.name o gap gap_is c.args.n c.args.room c.requires.some c.requires.room, own_room heap B has chunk c.args.name o gap gap_is c.args.n c.args.room c.requires.some c.requires.room)
+clear-requires-clause-inside c = let r = room (goal.at.clear-requires-clause-inside c).After-gap_behind-gap in omega (arith, r.inside, r.enough)
 
 pub clear-requires-clause-before : goal.clear-requires-clause-before
 clear-requires-clause-before c =
-    let heap = c.args.self.now in let B = c.args.arena.now.bytes in let chunk = c.args.chunk in let has = c.requires.chunks in let o = c.requires.owned in
-    let a = own heap B has chunk c.args.name o in
+    let heap = c.args.self.now in let a = own heap c.args.arena.now.bytes c.requires.chunks c.args.chunk c.args.name c.requires.owned in
     omega (arith, a.fits, a.enough, heap.inside)
 
 pub lay-first-requires-clause-hole : goal.lay-first-requires-clause-hole
 lay-first-requires-clause-hole c =
-    let heap = c.args.self.now in let B = c.args.arena.now.bytes in let chunk = c.args.chunk in let has = c.requires.chunks in let o = c.requires.owned in let name = c.args.name in
-    let gap = c.gap_behind-gap.result in let gap_is = gap_same heap B has chunk name o gap c.gap_behind-gap.ensures in
-    let end = chunk.at + chunk.len + gap in let room = own_room heap B has chunk name o gap gap_is c.args.n c.args.room c.requires.some c.requires.room in let rest = own_rest heap B has chunk name o gap gap_is c.args.n c.args.room c.requires.some c.requires.room in
-    let own = own_hole heap B has chunk name o gap gap_is in let gone = chunk ∷ own_gone heap B has chunk name o in let is = own_is heap B has chunk name o gap gap_is in
-    let hole = hole_after heap B c.clear.new.arena.bytes chunk.at end c.args.n own c.clear.ensures.others (below heap chunk.at c.args.room c.args.n end rest room) in
-    hole
+    into c.args.self.now c.args.arena.now.bytes _ _ _ _ _ (room (goal.at.lay-first-requires-clause-hole c).After-gap_behind-gap) c.args.name c.clear.new.arena.bytes c.clear.ensures.others
 
 pub lay-first-requires-clause-link : goal.lay-first-requires-clause-link
 lay-first-requires-clause-link c =
@@ -60,101 +67,41 @@ lay-first-requires-clause-link c =
     (gap_from_small heap.header c.args.arena.now.bytes heap.span.at (c.args.chunk.at + c.args.chunk.len + c.gap_behind-gap.result) heap.footprint 65536 (chunks_of heap c.args.arena.now.bytes) c.requires.chunks.told (omega (arith, heap.inside, heap.small)))
 
 pub lay-first-requires-clause-fits : goal.lay-first-requires-clause-fits
-lay-first-requires-clause-fits c =
-    let heap = c.args.self.now in let B = c.args.arena.now.bytes in let chunk = c.args.chunk in let has = c.requires.chunks in let o = c.requires.owned in
-    let gap = c.gap_behind-gap.result in let gap_is = gap_same heap B has chunk c.args.name o gap c.gap_behind-gap.ensures in
-    let room = own_room heap B has chunk c.args.name o gap gap_is c.args.n c.args.room c.requires.some c.requires.room in
-    record {
-      inside = own_inside heap B has chunk c.args.name o gap gap_is c.args.n c.args.room c.requires.some c.requires.room;
-      rest = own_rest heap B has chunk c.args.name o gap gap_is c.args.n c.args.room c.requires.some c.requires.room;
-      room = omega (arith, room);
-      whole = own_live heap B has chunk c.args.name o gap gap_is c.args.n c.args.room c.requires.some c.requires.room;
-      owner = c.requires.name;
-      link = refl;
-    }
+lay-first-requires-clause-fits c = fits c.args.self.now c.args.arena.now.bytes _ _ _ _ _ (room (goal.at.lay-first-requires-clause-fits c).After-gap_behind-gap) c.args.name c.requires.name
 
-abbrev live_of : ℕ → ℕ → ℕ → ℕ → ℕ → Chunk
-live_of header at room name n = record { at = at; len = header + room; owner = Some name; size = n; link = None }
+pub lay-first-requires-clause-few : goal.lay-first-requires-clause-few
+lay-first-requires-clause-few c =
+    let heap = c.args.self.now in
+    omega (arith, gaps_few heap c.args.arena.now.bytes c.requires.chunks c.requires.gaps.linked, c.requires.gaps.count, heap.inside, heap.small)
 
 pub link_below-requires-clause-chunks : goal.link_below-requires-clause-chunks
-link_below-requires-clause-chunks c =
-    let heap = c.args.self.now in let B = c.args.arena.now.bytes in let chunk = c.args.chunk in let has = c.requires.chunks in let o = c.requires.owned in let name = c.args.name in
-    let gap = c.gap_behind-gap.result in let gap_is = gap_same heap B has chunk name o gap c.gap_behind-gap.ensures in
-    let end = chunk.at + chunk.len + gap in let room = own_room heap B has chunk name o gap gap_is c.args.n c.args.room c.requires.some c.requires.room in let rest = own_rest heap B has chunk name o gap gap_is c.args.n c.args.room c.requires.some c.requires.room in
-    let own = own_hole heap B has chunk name o gap gap_is in let gone = chunk ∷ own_gone heap B has chunk name o in let is = own_is heap B has chunk name o gap gap_is in
-    let hole = hole_after heap B c.clear.new.arena.bytes chunk.at end c.args.n own c.clear.ensures.others (below heap chunk.at c.args.room c.args.n end rest room) in
-    let laid = c.lay-first.ensures.laid hole in
-    laid.chunks
+link_below-requires-clause-chunks c = (laid (goal.at.link_below-requires-clause-chunks c).After-lay-first).chunks
 
 pub link_below-requires-clause-before : goal.link_below-requires-clause-before
-unfolding hole_after
-link_below-requires-clause-before c =
-    let heap = c.args.self.now in let B = c.args.arena.now.bytes in let chunk = c.args.chunk in let has = c.requires.chunks in let o = c.requires.owned in let name = c.args.name in
-    let gap = c.gap_behind-gap.result in let gap_is = gap_same heap B has chunk name o gap c.gap_behind-gap.ensures in
-    let end = chunk.at + chunk.len + gap in let room = own_room heap B has chunk name o gap gap_is c.args.n c.args.room c.requires.some c.requires.room in let rest = own_rest heap B has chunk name o gap gap_is c.args.n c.args.room c.requires.some c.requires.room in
-    let own = own_hole heap B has chunk name o gap gap_is in let gone = chunk ∷ own_gone heap B has chunk name o in let is = own_is heap B has chunk name o gap gap_is in
-    let hole = hole_after heap B c.clear.new.arena.bytes chunk.at end c.args.n own c.clear.ensures.others (below heap chunk.at c.args.room c.args.n end rest room) in
-    let laid = c.lay-first.ensures.laid hole in
-    last_laid heap c.lay-first.new.self B c.clear.new.arena.bytes c.lay-first.new.arena.bytes (live_of heap.header chunk.at c.args.room name c.args.n) chunk.at end own gone is has c.requires.gaps.linked c.gaps_beside-beside.result.below c.lay-first.result c.link_behind-link.result laid c.gaps_beside-beside.ensures.below c.link_behind-link.ensures
-
--- how many gaps there are once the block is laid, and the one that was behind it
-counted : (c : After-gap_count) → c.link_below.new.self.gaps ≡ length (gaps_among (chunks_of c.link_below.new.self c.link_below.new.arena.bytes)) + gap_count c.gap_behind-gap.result
-unfolding hole_after
-counted c =
-    let heap = c.args.self.now in let B = c.args.arena.now.bytes in let chunk = c.args.chunk in let has = c.requires.chunks in let o = c.requires.owned in let name = c.args.name in
-    let gap = c.gap_behind-gap.result in let gap_is = gap_same heap B has chunk name o gap c.gap_behind-gap.ensures in
-    let end = chunk.at + chunk.len + gap in let room = own_room heap B has chunk name o gap gap_is c.args.n c.args.room c.requires.some c.requires.room in let rest = own_rest heap B has chunk name o gap gap_is c.args.n c.args.room c.requires.some c.requires.room in
-    let own = own_hole heap B has chunk name o gap gap_is in let gone = chunk ∷ own_gone heap B has chunk name o in let is = own_is heap B has chunk name o gap gap_is in
-    let hole = hole_after heap B c.clear.new.arena.bytes chunk.at end c.args.n own c.clear.ensures.others (below heap chunk.at c.args.room c.args.n end rest room) in
-    let laid = c.lay-first.ensures.laid hole in
-    omega (
-      arith,
-      c.link_below.ensures.count.0,
-      c.link_below.ensures.count.1,
-      count_laid heap c.lay-first.new.self B c.clear.new.arena.bytes c.lay-first.new.arena.bytes (live_of heap.header chunk.at c.args.room name c.args.n) chunk.at end own gone is has c.requires.gaps.linked c.gaps_beside-beside.result.below c.lay-first.result c.link_behind-link.result laid c.gaps_beside-beside.ensures.below c.link_behind-link.ensures (gap_count gap) c.requires.gaps.count (own_count heap B has chunk name o gap gap_is),
-    )
+link_below-requires-clause-before c = (laid (goal.at.link_below-requires-clause-before c).After-lay-first).last
 
 pub overflow_sub-self : goal.overflow_sub-self
-overflow_sub-self c = omega (arith, counted c, c.gap_count.ensures)
+overflow_sub-self c = omega (arith, c.link_below.ensures.count.0, c.link_below.ensures.count.1, (laid (goal.at.overflow_sub-self c).After-lay-first).count, c.gap_count.ensures)
 
 pub returns-clause-gaps : goal.returns-clause-gaps
-unfolding hole_after chunks_of
+unfolding chunks_of
 returns-clause-gaps c =
-    let heap = c.args.self.now in let B = c.args.arena.now.bytes in let chunk = c.args.chunk in let has = c.requires.chunks in let o = c.requires.owned in let name = c.args.name in
-    let gap = c.gap_behind-gap.result in let gap_is = gap_same heap B has chunk name o gap c.gap_behind-gap.ensures in
-    let end = chunk.at + chunk.len + gap in let room = own_room heap B has chunk name o gap gap_is c.args.n c.args.room c.requires.some c.requires.room in let rest = own_rest heap B has chunk name o gap gap_is c.args.n c.args.room c.requires.some c.requires.room in
-    let own = own_hole heap B has chunk name o gap gap_is in let gone = chunk ∷ own_gone heap B has chunk name o in let is = own_is heap B has chunk name o gap gap_is in
-    let hole = hole_after heap B c.clear.new.arena.bytes chunk.at end c.args.n own c.clear.ensures.others (below heap chunk.at c.args.room c.args.n end rest room) in
-    let laid = c.lay-first.ensures.laid hole in
-    record { linked = list_laid heap c.lay-first.new.self B c.clear.new.arena.bytes c.lay-first.new.arena.bytes (live_of heap.header chunk.at c.args.room name c.args.n) chunk.at end own gone is has c.requires.gaps.linked c.gaps_beside-beside.result.below c.lay-first.result c.link_behind-link.result laid c.gaps_beside-beside.ensures.below c.link_behind-link.ensures c.link_below.new.self c.link_below.new.arena.bytes c.lay-first.ensures.lowest c.link_below.ensures.linked; count = omega (arith, counted c.before, c.gap_count.ensures) }
+    let l = laid (goal.at.returns-clause-gaps c).After-lay-first in
+    record { linked = l.linked c.link_below.new.self c.link_below.new.arena.bytes c.lay-first.ensures.lowest c.link_below.ensures.linked; count = omega (arith, c.link_below.ensures.count.0, c.link_below.ensures.count.1, l.count, c.gap_count.ensures) }
 
 pub returns-clause-others : goal.returns-clause-others
-unfolding hole_after chunks_of
-returns-clause-others c other h far =
-    let heap = c.args.self.now in let B = c.args.arena.now.bytes in let chunk = c.args.chunk in let has = c.requires.chunks in let o = c.requires.owned in let name = c.args.name in
-    let gap = c.gap_behind-gap.result in let gap_is = gap_same heap B has chunk name o gap c.gap_behind-gap.ensures in
-    let end = chunk.at + chunk.len + gap in let room = own_room heap B has chunk name o gap gap_is c.args.n c.args.room c.requires.some c.requires.room in let rest = own_rest heap B has chunk name o gap gap_is c.args.n c.args.room c.requires.some c.requires.room in
-    let own = own_hole heap B has chunk name o gap gap_is in let gone = chunk ∷ own_gone heap B has chunk name o in let is = own_is heap B has chunk name o gap gap_is in
-    let hole = hole_after heap B c.clear.new.arena.bytes chunk.at end c.args.n own c.clear.ensures.others (below heap chunk.at c.args.room c.args.n end rest room) in
-    let laid = c.lay-first.ensures.laid hole in
-    c.link_below.ensures.stands other (laid.kept other (own_others heap B has chunk name o gap gap_is other h far))
+unfolding chunks_of
+returns-clause-others c other h far = c.link_below.ensures.stands other ((laid (goal.at.returns-clause-others c).After-lay-first).kept other h far)
 
 pub returns-clause-chunks : goal.returns-clause-chunks
 unfolding chunks_of
 returns-clause-chunks c = has_same c.link_below.new.self _ c.link_below.new.arena.bytes refl refl refl c.link_below.ensures.chunks
 
 pub returns-clause-block : goal.returns-clause-block
-unfolding hole_after chunks_of
+unfolding chunks_of
 returns-clause-block c =
-    let heap = c.args.self.now in let B = c.args.arena.now.bytes in let chunk = c.args.chunk in let has = c.requires.chunks in let o = c.requires.owned in let name = c.args.name in
-    let gap = c.gap_behind-gap.result in let gap_is = gap_same heap B has chunk name o gap c.gap_behind-gap.ensures in
-    let end = chunk.at + chunk.len + gap in let room = own_room heap B has chunk name o gap gap_is c.args.n c.args.room c.requires.some c.requires.room in let rest = own_rest heap B has chunk name o gap gap_is c.args.n c.args.room c.requires.some c.requires.room in
-    let own = own_hole heap B has chunk name o gap gap_is in let gone = chunk ∷ own_gone heap B has chunk name o in let is = own_is heap B has chunk name o gap gap_is in
-    let hole = hole_after heap B c.clear.new.arena.bytes chunk.at end c.args.n own c.clear.ensures.others (below heap chunk.at c.args.room c.args.n end rest room) in
-    let laid = c.lay-first.ensures.laid hole in
     c.link_below.ensures.block
-    ∙ put_block heap c.lay-first.new.self B c.clear.new.arena.bytes c.lay-first.new.arena.bytes (at_place chunk.at c.args.room) name c.args.n end own c.clear.ensures.others rest room c.lay-first.result c.link_behind-link.result laid
-    (resized c.args.n (bytes_in_chunk heap.header B heap.span.at chunk)) (filter (elsewhere chunk.at) (store_of heap B).blocks) c.clear.ensures.bytes (own_blocks heap B has chunk name o gap gap_is) c.lay-first.ensures.rest.span c.lay-first.ensures.rest.header
+    ∙ (laid (goal.at.returns-clause-block c).After-lay-first).block (resized c.args.n (bytes_in_chunk c.args.self.now.header c.args.arena.now.bytes c.args.self.now.span.at c.args.chunk)) c.clear.ensures.bytes c.lay-first.ensures.rest.span c.lay-first.ensures.rest.header
 
 pub returns-clause-kept : goal.returns-clause-kept
 returns-clause-kept c =
@@ -163,25 +110,12 @@ returns-clause-kept c =
 
 pub returns-clause-rest : goal.returns-clause-rest
 returns-clause-rest c =
-    let heap = c.args.self.now in let B = c.args.arena.now.bytes in let chunk = c.args.chunk in let has = c.requires.chunks in let o = c.requires.owned in let name = c.args.name in
-    let gap = c.gap_behind-gap.result in let gap_is = gap_same heap B has chunk name o gap c.gap_behind-gap.ensures in
-    let end = chunk.at + chunk.len + gap in let room = own_room heap B has chunk name o gap gap_is c.args.n c.args.room c.requires.some c.requires.room in let rest = own_rest heap B has chunk name o gap gap_is c.args.n c.args.room c.requires.some c.requires.room in
-    let own = own_hole heap B has chunk name o gap gap_is in let gone = chunk ∷ own_gone heap B has chunk name o in let is = own_is heap B has chunk name o gap gap_is in
-    let hole = hole_after heap B c.clear.new.arena.bytes chunk.at end c.args.n own c.clear.ensures.others (below heap chunk.at c.args.room c.args.n end rest room) in
-    let inside = own_inside heap B has chunk name o gap gap_is c.args.n c.args.room c.requires.some c.requires.room in
-    let k = KeepsToSpan-then heap c.lay-first.new.self c.link_below.new.self c.args.arena.now c.lay-first.new.arena c.link_below.new.arena
-    (KeepsToSpan-then heap heap c.lay-first.new.self c.args.arena.now c.clear.new.arena c.lay-first.new.arena
-    (record {
+    let heap = c.args.self.now in let A = c.args.arena.now in let r = room (goal.at.returns-clause-rest c).After-gap_behind-gap in
+    let cleared : KeepsToSpan heap heap A c.clear.new.arena = record {
       span = refl;
       header = refl;
       carved = c.clear.ensures.carved;
-      bytes = changes_more (heap.span.at + chunk.at + heap.header) c.args.n heap.span.at heap.span.len B c.clear.new.arena.bytes c.clear.ensures.others (omega arith) (omega (arith, inside, room));
-    })
-    c.lay-first.ensures.rest)
-    c.link_below.ensures.rest in
+      bytes = changes_more (heap.span.at + c.args.chunk.at + heap.header) c.args.n heap.span.at heap.span.len A.bytes c.clear.new.arena.bytes c.clear.ensures.others (omega arith) (omega (arith, r.inside, r.enough));
+    } in
+    let k = KeepsToSpan-then heap c.lay-first.new.self c.link_below.new.self A c.lay-first.new.arena c.link_below.new.arena (KeepsToSpan-then heap heap c.lay-first.new.self A c.clear.new.arena c.lay-first.new.arena cleared c.lay-first.ensures.rest) c.link_below.ensures.rest in
     record { span = k.span; header = k.header; carved = k.carved; bytes = k.bytes }
-
-pub lay-first-requires-clause-few : goal.lay-first-requires-clause-few
-lay-first-requires-clause-few c =
-    let heap = c.args.self.now in
-    omega (arith, gaps_few heap c.args.arena.now.bytes c.requires.chunks c.requires.gaps.linked, c.requires.gaps.count, heap.inside, heap.small)
