@@ -6,7 +6,7 @@ use Rattle.heap_core.specs.declared.region.Region.{Region}
 use Rattle.heap_core.specs.HeapStore.{HeapStore, has_name, gaps}
 use Rattle.heap_core.specs.HeapBytes.{heap_of, IsLaidOut}
 use Rattle.heap_core.specs.Code.Joins.{Joins}
-use Rattle.heap_core.specs.Layout.{chunks_of, HasChunks}
+use Rattle.heap_core.specs.Layout.{chunks_of, store_of, HasChunks}
 use Rattle.heap_core.specs.FreeList.{GapsLinked, FreedLinked}
 use Rattle.heap_core.specs.Places.{ArePlaced}
 use Rattle.heap_core.proofs.Freed.{plain}
@@ -20,6 +20,10 @@ linked_is heap B has list freed none =
     ∙ ap length (gaps_are heap.header B heap.span.at 0 heap.footprint all has.told has.joined)
     ∙ sym (list.count ∙ gaps_many all) in
     omega (arith, many, none)
+
+-- all its chunks that are no gaps are the live blocks from before
+pub joined_is : (old new : Region) (before after : Contents) → Joins old new before after → new.freed ≡ 0 → store_of new after.bytes ≡ heap_of old before.bytes
+joined_is old new before after joins none = sym (plain new after.bytes joins.freed none) ∙ joins.blocks
 
 pub joined_laid : (old new : Region) (before after : Contents) → IsLaidOut old before.bytes → Joins old new before after → IsLaidOut new after.bytes
 joined_laid old new before after laid joins = record {

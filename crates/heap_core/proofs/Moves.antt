@@ -1,8 +1,7 @@
 -- The heap after a block was resized.
-use Rattle.std.proofs.Common.{◌≡◌, ℕ, ◌≤◌, inl, inr, List, Some, None, not, sym, ap, ◌∙◌, arith}
+use Rattle.std.proofs.Common.{◌≡◌, ℕ, ◌≤◌, List, Some, None, not, sym, ap, ◌∙◌, subst, arith}
 use Rattle.std.specs.Prelude.{Option, filter}
 use Rattle.std.specs.Option.{option_map, option_map_or, option_or}
-use Rattle.std.proofs.lemmas.Bool.{cases_eq}
 use Rattle.mote_types.specs.BlockNames.{number_of}
 use Rattle.mote_types.specs.Bytes.{resized}
 use Rattle.heap_core.specs.declared.chunk.Chunk.{Chunk}
@@ -11,23 +10,15 @@ use Rattle.heap_core.specs.declared.region.Region.{Region}
 use Rattle.heap_core.specs.HeapStore.{Block, HeapStore, has_name, find_block, place, place_of, room_in_place, new_place, moved, resized_block, reallocated, block_at, with_block, without_block}
 use Rattle.heap_core.specs.Code.Walks.{block_in_chunk, place_in_chunk, at_place, without_place, bytes_in_chunk}
 use Rattle.heap_core.proofs.Blocks.{count}
-use Rattle.heap_core.proofs.Names.{count_placed, count_other, count_filter, count_at_most, count_unnamed}
+use Rattle.heap_core.proofs.Names.{named_with, count_filter, count_unnamed}
 
 named_moved : (store : HeapStore) (block : Block) (n : ℕ) → ((other : ℕ) → count other store.blocks ≤ 1) → (o : Option Place) (new : HeapStore) → option_map (λ place. moved place block n store) o ≡ Some new → (other : ℕ) → count other new.blocks ≤ 1
 named_moved store block n named None new e other = absurd (cc)
 named_moved store block n named (Some place) new e other =
     let is : moved place block n store ≡ new = cc in
     let unnamed = λ (k : Block). not (has_name block.name k) in
-    let left = filter unnamed store.blocks in
-    let fresh = block_at place block.name (resized n block.bytes) in
-    let all = count_placed other fresh left in
-    let same = ap (λ (k : HeapStore). count other k.blocks) is in
-    elim (cases_eq block.name other) [
-      | inl e ↦
-          let none : count other left ≡ 0 = ap (λ k. count k left) (sym e) ∙ count_unnamed block.name store.blocks in
-          omega (arith, count_at_most other fresh left)
-      | inr ne ↦ omega (arith, count_other other fresh left ne, count_filter other unnamed store.blocks, named other)
-    ]
+    subst (λ (k : HeapStore). count other k.blocks ≤ 1) is
+    (named_with other (block_at place block.name (resized n block.bytes)) (filter unnamed store.blocks) (count_unnamed block.name store.blocks) (omega (arith, count_filter other unnamed store.blocks, named other)))
 
 module _ (heap : Region) (B : List ℕ) (store : HeapStore) (chunk : Chunk) (p h name n : ℕ) (left_is : without_place chunk.at store ≡ without_block name store)
     (same : name ≡ number_of p h) (found : find_block name store ≡ Some (block_in_chunk heap.header B heap.span.at name chunk)) where

@@ -2,7 +2,7 @@
 use Rattle.std.proofs.Common.{◌≡◌, ◌≢◌, ℕ, suc, ◌+◌, ◌≤◌, inl, inr, Bool, false, true, not, List, [], ◌∷◌, ◌++◌, length, eqb, ltb, refl, sym, ap, ◌∙◌, subst, arith}
 use Rattle.std.specs.Prelude.{Option, Some, None, IsSome, filter, find, map, if◌then◌else◌}
 use Rattle.std.specs.Option.{option_map}
-use Rattle.std.proofs.lemmas.Bool.{cases_Bool, eqb-true, eqb-false, false≢true}
+use Rattle.std.proofs.lemmas.Bool.{cases_Bool, cases_eq, eqb-true, eqb-false, false≢true}
 use Rattle.std.proofs.lemmas.List.{length-append}
 use Rattle.std.proofs.lemmas.List.Elements.{filter-append}
 use Rattle.heap_core.specs.declared.chunk.Chunk.{Chunk}
@@ -77,13 +77,13 @@ count_first name block xs e = elim (cases_Bool (eqb block.name name)) [
   | inr miss ↦ absurd (eqb-false block.name name miss e)
 ]
 
-pub count_at_most : (name : ℕ) (block : Block) (xs : List Block) → count name (block ∷ xs) ≤ 1 + count name xs
+count_at_most : (name : ℕ) (block : Block) (xs : List Block) → count name (block ∷ xs) ≤ 1 + count name xs
 count_at_most name block xs = elim (cases_Bool (eqb block.name name)) [
   | inl hit ↦ rw hit (omega arith)
   | inr miss ↦ rw miss (omega arith)
 ]
 
-pub count_other : (name : ℕ) (block : Block) (xs : List Block) → block.name ≢ name → count name (block ∷ xs) ≡ count name xs
+count_other : (name : ℕ) (block : Block) (xs : List Block) → block.name ≢ name → count name (block ∷ xs) ≡ count name xs
 count_other name block xs ne = elim (cases_Bool (eqb block.name name)) [
   | inl hit ↦ absurd (ne (eqb-true block.name name hit))
   | inr miss ↦ rw miss refl
@@ -101,11 +101,18 @@ count_more name x xs ys e = elim (cases_Bool (eqb x.name name)) [
   | inr miss ↦ rw miss e
 ]
 
-pub count_placed : (name : ℕ) (block : Block) (xs : List Block) → count name (placed block xs) ≡ count name (block ∷ xs)
+count_placed : (name : ℕ) (block : Block) (xs : List Block) → count name (placed block xs) ≡ count name (block ∷ xs)
 count_placed name block [] = refl
 count_placed name block (other ∷ xs) = elim (cases_Bool (ltb block.at other.at)) [
   | inl near ↦ rw near refl
   | inr far ↦ rw far (count_more name other (placed block xs) (block ∷ xs) (count_placed name block xs) ∙ count_swap name other block xs)
+]
+
+-- one more of a name that has none
+pub named_with : (name : ℕ) (block : Block) (xs : List Block) → count block.name xs ≡ 0 → count name xs ≤ 1 → count name (placed block xs) ≤ 1
+named_with name block xs none few = elim (cases_eq block.name name) [
+  | inl e ↦ omega (arith, count_placed name block xs, count_at_most name block xs, ap (λ k. count k xs) (sym e) ∙ none)
+  | inr ne ↦ omega (arith, count_placed name block xs, count_other name block xs ne, few)
 ]
 
 pub count_none : (name : ℕ) (xs : List Block) → find (has_name name) xs ≡ None → count name xs ≡ 0
