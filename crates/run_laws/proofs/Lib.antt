@@ -3,6 +3,7 @@ pub mod timer_deadlines
 pub mod Alone
 pub mod Caller
 pub mod Callers
+pub mod Changes
 pub mod Costs
 mod Examples
 pub mod Heap

@@ -1,0 +1,158 @@
+-- What a kernel process does with an event is a chain of a few changes: what each of them keeps, all of it keeps.
+use Rattle.std.proofs.Common.{◌≡◌, ℕ, zero, suc, Bool, true, false, ◌&&◌, ◌||◌, List, refl, arith}
+use Rattle.std.specs.Prelude.{Option, Some, None, if◌then◌else◌, ◌==◌}
+use Rattle.std.proofs.lemmas.Bool.Decides.{nat_tests}
+use Rattle.mote_types.specs.declared.event.Event.{Event}
+use Rattle.mote_types.specs.EventNumbers.{POLL, EXITED, CONTINUE, SERIAL_LINE, PACKET}
+use Rattle.mote_types.specs.Codes.{plain_event, number_event}
+use Rattle.process_core.specs.Agenda.{Queued}
+use Rattle.process_core.specs.Scheduler.{has_room}
+use Rattle.timer_core.specs.declared.timer.Timer.{Timer}
+use Rattle.timer_core.specs.Timers.{first_due}
+use Rattle.device_core.specs.SerialLine.{SerialLine, next_line, after_line}
+use Rattle.device_core.specs.declared.frame.Frame.{Frame}
+use Rattle.device_core.specs.PacketQueue.{PacketQueue, unannounced, with_announced, forgotten}
+use Rattle.kernel_core.specs.Machine.{Machine, with_event, with_serial, free_places, mark}
+use Rattle.kernel_core.specs.KernelProcesses.{serve}
+use Rattle.kernel_core.specs.PacketProcess.{announce_to, announce_next, announce, has_news, forget_receiver, packet}
+use Rattle.kernel_core.specs.Repeating.{times}
+use Rattle.kernel_core.specs.SerialProcess.{line_event, broadcast_line, post_continue, line_served, serve_line, line_count, empty_ring, serial_line_polled, serial_line}
+use Rattle.kernel_core.specs.TimerProcesses.{post_expiry, post_first_due, post_due, is_any_due, exited_application, forget_event_timers, forget_callback_timers, etimer, ctimer}
+
+-- what kernel processes post, but for timers that run out
+abbrev pub is_notice : Queued Bool → Bool
+is_notice (Queued.To q event) = (q == 2 && event.code == CONTINUE) || event.code == PACKET
+is_notice (Queued.ToAll event) = event.code == SERIAL_LINE
+is_notice (Queued.Expiry q c x) = false
+
+-- its devices are in this state
+abbrev pub with_devices : SerialLine → Bool → PacketQueue → Machine → Machine
+with_devices serial is_waiting packets m = record m { serial = serial; is_serial_waiting = is_waiting; packets = packets }
+
+-- R holds of each change that process q may make where it is given the event, and of chains
+pub record Changes (R : Machine → Machine → Type 0) (q : ℕ) (event : Event) : Type 0 where
+  pub same : (m : Machine) → R m m
+  pub chained : (a b c : Machine) → R a b → R b c → R a c
+  pub expired : (timer : Timer) (m : Machine) → first_due m.clock m.timers ≡ Some timer → R m (post_expiry (Some timer) m)
+  pub timers_gone : (n : ℕ) (m : Machine) → (q == 0) ≡ true → (event.code == EXITED) ≡ true → exited_application event.payload ≡ Some n
+      → R m (forget_event_timers (Some n) m)
+  pub callbacks_gone : (n : ℕ) (m : Machine) → R m (forget_callback_timers (Some n) m)
+  pub posted : (notice : Queued Bool) (m : Machine) → is_notice notice ≡ true → R m (with_event notice m)
+  pub devices : (serial : SerialLine) (is_waiting : Bool) (packets : PacketQueue) (m : Machine) → packets.frames ≡ m.packets.frames
+      → R m (with_devices serial is_waiting packets m)
+  pub marked : (n : ℕ) (m : Machine) → R m (mark n m)
+
+pub times-keeps : (P : Machine → Type 0) (change : Machine → Machine) → ((m : Machine) → P m → P (change m)) → (n : ℕ) (m : Machine) → P m → P (times n change m)
+unfolding times
+times-keeps P change keeps zero m h = h
+times-keeps P change keeps (suc n) m h = times-keeps P change keeps n (change m) (keeps m h)
+
+module _ (R : Machine → Machine → Type 0) (q : ℕ) (event : Event) (changes : Changes R q event) where
+  either : (old : Machine) (test : Bool) (x y : Machine) → R old x → R old y → R old (if test then x else y)
+  either old true x y h k = h
+  either old false x y h k = k
+
+  repeated : (change : Machine → Machine) → ((m : Machine) → R m (change m)) → (n : ℕ) (m : Machine) → R m (times n change m)
+  repeated change keeps n m = times-keeps (R m) change (λ x h. changes.chained m x (change x) h (keeps x)) n m (changes.same m)
+
+  -- it may be marked to look again
+  again : (old m : Machine) (test : Bool) (n : ℕ) → R old m → R old (if test then mark n m else m)
+  again old m test n h = either old test (mark n m) m (changes.chained old m (mark n m) h (changes.marked n m)) h
+
+  first_due-changes : (m : Machine) → R m (post_first_due m)
+  first_due-changes m = go (first_due m.clock m.timers) refl
+    where
+      go : (o : Option Timer) → first_due m.clock m.timers ≡ o → R m (post_expiry o m)
+      go None e = changes.same m
+      go (Some timer) e = changes.expired timer m e
+
+  -- a notice after a change of the devices
+  noticed : (notice : Queued Bool) (serial : SerialLine) (is_waiting : Bool) (packets : PacketQueue) (m : Machine) → is_notice notice ≡ true
+      → packets.frames ≡ m.packets.frames → R m (with_event notice (with_devices serial is_waiting packets m))
+  noticed notice serial is_waiting packets m n e =
+      let a : Machine = with_devices serial is_waiting packets m in
+      changes.chained m a (with_event notice a) (changes.devices serial is_waiting packets m e) (changes.posted notice a n)
+
+  line-changes : (m : Machine) → R m (serve_line m)
+  line-changes m = either m m.is_serial_waiting m (line_served (next_line m.serial) taken) (changes.same m) (go (next_line m.serial))
+    where
+      taken : Machine
+      taken = with_serial (after_line m.serial) m
+
+      first : R m taken
+      first = changes.devices (after_line m.serial) m.is_serial_waiting m.packets m refl
+
+      continued : (b : Machine) → R b (post_continue b)
+      continued b =
+          either b (has_room b.scheduler) (with_event (Queued.To 2 (plain_event CONTINUE)) (record b { is_serial_waiting = true })) b
+          (noticed (Queued.To 2 (plain_event CONTINUE)) b.serial true b.packets b refl refl) (changes.same b)
+
+      go : (o : Option (List ℕ)) → R m (line_served o taken)
+      go None = first
+      go (Some line) =
+          let b : Machine = broadcast_line line taken in
+          let told : R taken b = either taken (has_room taken.scheduler) (with_event (Queued.ToAll (line_event line)) taken) taken (changes.posted (Queued.ToAll (line_event line)) taken refl) (changes.same taken) in
+          changes.chained m b (post_continue b) (changes.chained m taken b first told) (continued b)
+
+  next-changes : (m : Machine) → R m (announce_next m)
+  next-changes m = go m.packets.receiver (unannounced m.packets)
+    where
+      go : (o : Option ℕ) (f : Option Frame) → R m (announce_to o f m)
+      go (Some receiver) (Some frame) =
+          noticed (Queued.To receiver (number_event PACKET frame.len)) m.serial m.is_serial_waiting (with_announced m.packets) m (grind (arith, nat_tests)) refl
+      go None f = changes.same m
+      go (Some receiver) None = changes.same m
+
+  etimer-changes : (m : Machine) → (q == 0) ≡ true → R m (etimer event m)
+  etimer-changes m z =
+      let after : Machine = times (free_places m) post_first_due m in
+      either m (event.code == POLL) (post_due m) _
+      (again m after (is_any_due after) 0 (repeated post_first_due first_due-changes (free_places m) m)) (told (event.code == EXITED) refl)
+    where
+      gone : (o : Option ℕ) → exited_application event.payload ≡ o → (event.code == EXITED) ≡ true → R m (forget_event_timers o m)
+      gone None e k = changes.same m
+      gone (Some n) e k = changes.timers_gone n m z k e
+
+      told : (b : Bool) → (event.code == EXITED) ≡ b → R m (if b then forget_event_timers (exited_application event.payload) m else m)
+      told true e = gone (exited_application event.payload) refl e
+      told false e = changes.same m
+
+  ctimer-changes : (m : Machine) → R m (ctimer event m)
+  ctimer-changes m = either m (event.code == EXITED) _ m (gone (exited_application event.payload)) (changes.same m)
+    where
+      gone : (o : Option ℕ) → R m (forget_callback_timers o m)
+      gone None = changes.same m
+      gone (Some n) = changes.callbacks_gone n m
+
+  serial_line-changes : (m : Machine) → R m (serial_line event m)
+  serial_line-changes m =
+      let a : Machine = record m { is_serial_waiting = false } in
+      either m (event.code == POLL) (serial_line_polled m) _ (either m m.is_serial_waiting m (empty_ring m) (changes.same m) (emptied m))
+      (either m (event.code == CONTINUE) (empty_ring a) m (changes.chained m a (empty_ring a) (changes.devices m.serial false m.packets m refl) (emptied a)) (changes.same m))
+    where
+      emptied : (x : Machine) → R x (empty_ring x)
+      emptied x = repeated serve_line line-changes (suc (line_count x.serial)) x
+
+  packet-changes : (m : Machine) → R m (packet event m)
+  packet-changes m =
+      let after : Machine = times (free_places m) announce_next m in
+      either m (event.code == POLL) (announce m) _
+      (again m after (has_news after.packets) 3 (repeated announce_next next-changes (free_places m) m))
+      (either m (event.code == EXITED) _ m (gone (exited_application event.payload)) (changes.same m))
+    where
+      gone : (o : Option ℕ) → R m (forget_receiver o m)
+      gone None = changes.same m
+      gone (Some n) = changes.devices m.serial m.is_serial_waiting (forgotten n m.packets) m (grind arith)
+
+  serve-changes : (m : Machine) → R m (serve q event m)
+  serve-changes m = go (q == 0) refl
+    where
+      go : (b : Bool) → (q == 0) ≡ b → R m (if b then etimer event m else if q == 1 then ctimer event m
+          else if q == 2 then serial_line event m else if q == 3 then packet event m else m)
+      go true e = etimer-changes m e
+      go false e =
+          either m (q == 1) (ctimer event m) _ (ctimer-changes m)
+          (either m (q == 2) (serial_line event m) _ (serial_line-changes m) (either m (q == 3) (packet event m) m (packet-changes m) (changes.same m)))
+
+pub of_changes : {R : Machine → Machine → Type 0} {q : ℕ} {event : Event} → Changes R q event → (m : Machine) → R m (serve q event m)
+of_changes {R = R} {q = q} {event = event} changes m = serve-changes R q event changes m
