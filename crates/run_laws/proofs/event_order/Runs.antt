@@ -17,7 +17,7 @@ use Rattle.run_laws.specs.EventLaws.{IsAtRest}
 use Rattle.kernel_core.specs.Inputs.{effect, fed}
 use Rattle.kernel_core.specs.Run.{Answers, StepMade, Running, Runs, ComesToRest, silent, one_step, job_done, within_limit, is_still, is_at_rest, after_step, after_steps, answers_after, gone_on, at_start, with_input}
 use Rattle.run_laws.proofs.event_order.Shape.{is_note}
-use Rattle.run_laws.proofs.event_order.Serving.{serve-served}
+use Rattle.run_laws.proofs.Untouched.{serve-untouched}
 
 -- what a step shows
 
@@ -62,7 +62,7 @@ job_kind answers (Some (Job.ShowEntry entry)) m after live still note = shown en
 job_kind answers (Some (Job.CallBack q c true)) m after live still note = silent_kind m after live still
 job_kind answers (Some (Job.CallBack q c false)) m after live still note = silent_kind m _ live still
 job_kind answers (Some (Job.Serve q event)) m after live still note =
-    silent_kind m (serve q event after) live ((serve-served 4 refl q event after).halted ∙ still)
+    silent_kind m (serve q event after) live ((serve-untouched q event after).halted ∙ still)
 job_kind answers (Some (Job.TakeTurn q origin stimulus)) m after live still note =
     limit_kind m after _ live
     (record { halts = rw live (call-halted (answers q stimulus) q (record after { work = after.work + 1 }) ∙ still); inputs = refl })

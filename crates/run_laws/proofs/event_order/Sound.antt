@@ -20,6 +20,7 @@ use Rattle.run_laws.proofs.event_order.Tally.{Known, nothing_known, told, accept
 use Rattle.run_laws.proofs.event_order.Shape.{is_note, is_ordered, seats, stands, waiting_in, waits, queued, FrontAgrees}
 use Rattle.run_laws.proofs.event_order.Items.{with_agenda, carried-ordered, carried-stands, is_silent, holds-append}
 use Rattle.run_laws.proofs.event_order.Waiting.{all_waiting, carried-waiting}
+use Rattle.run_laws.proofs.Untouched.{serve-untouched}
 use Rattle.run_laws.proofs.event_order.Serving.{serve-served}
 use Rattle.run_laws.proofs.event_order.Steps.{is_quiet_item}
 use Rattle.run_laws.proofs.event_order.After.{after-ordered, after-stands, after-waits, after-queued}
@@ -168,11 +169,12 @@ alike_sound p X old new e f g h =
 
 pub served_sound : (p : ℕ) (X : List Entry) (q : ℕ) (event : Event) (m : Machine) → nat_le 4 p ≡ true → SoundFree p m.scheduler X → SoundFree p (serve q event m).scheduler X
 served_sound p X q event m a h =
+    let same = (serve-untouched q event m).agenda in
     let k = serve-served p a q event m in
     record {
-      ordered = rw (k.agenda) h.ordered;
-      place = λ alive. rw (k.agenda, k.places) (h.place alive);
-      tally = λ alive known. rw (k.agenda, k.events) (h.tally alive known);
+      ordered = rw same h.ordered;
+      place = λ alive. rw (same, k.places) (h.place alive);
+      tally = λ alive known. rw (same, k.events) (h.tally alive known);
     }
 
 pub callback_sound : (p : ℕ) (X : List Entry) (q c : ℕ) (s : Scheduler Bool) → SoundFree p s X → SoundFree p (in_front (Item.Give q Origin.Callback (Stimulus.Callback c) ∷ []) s) X
