@@ -24,7 +24,7 @@ use Rattle.run_laws.proofs.event_order.Tally.{is_turn, ended-more, ends_in}
 use Rattle.run_laws.proofs.event_order.Items.{with_agenda, facing}
 use Rattle.run_laws.proofs.timer_deadlines.Ledgers.{Ledger, ledger_after, own_turn_or, turns_or, told_reply, told-front, turns-turn, turns-other, turns-none, fold-append}
 use Rattle.run_laws.proofs.event_order.Sound.{Sound}
-use Rattle.run_laws.proofs.timer_deadlines.Timed.{serve-fair}
+use Rattle.run_laws.proofs.Untouched.{serve-untouched}
 use Rattle.run_laws.proofs.timer_deadlines.Moves.{own_timer, FrontIs, Setting, after-moves}
 use Rattle.run_laws.proofs.timer_deadlines.EarlyRuns.{no_reply_front}
 use Rattle.run_laws.proofs.event_order.Steps.{is_quiet_item, carried, turn_entry}
@@ -115,7 +115,7 @@ pub heeded-serve : (p t : ℕ) (X : List Entry) (q : ℕ) (origin : Origin) (eve
     → Heeded p t (facing (Item.Give q origin (of_event event) ∷ items) m) X → HeededFree p t (facing items m) X → HeededFree p t (serve q event (facing items m)) X
 heeded-serve p t X q origin event items m old h =
     let n : Machine = facing items m in
-    let same : (serve q event n).scheduler.agenda ≡ items = (serve-fair p t q event n).agenda in
+    let same : (serve q event n).scheduler.agenda ≡ items = (serve-untouched q event n).agenda in
     record {
       farewell = λ alive spared. rw same (h.farewell alive (rw same at spared));
       kept = λ alive spared k armed.

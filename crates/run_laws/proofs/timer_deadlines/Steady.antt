@@ -23,6 +23,7 @@ use Rattle.run_laws.specs.TimerLaws.{clock_after}
 use Rattle.kernel_core.specs.Inputs.{effect, frame_held, frame_refusal, held_unless_lost}
 use Rattle.run_laws.proofs.timer_deadlines.Ledgers.{fold-append}
 use Rattle.run_laws.proofs.event_order.Items.{with_agenda, facing}
+use Rattle.run_laws.proofs.Untouched.{serve-untouched}
 use Rattle.run_laws.proofs.timer_deadlines.Timed.{is_no_timer, plain-more, plain-struck, serve-fair}
 use Rattle.run_laws.proofs.timer_deadlines.Timing.{cell_names}
 use Rattle.run_laws.proofs.timer_deadlines.Moves.{after-clock, after-names}
@@ -72,7 +73,7 @@ steady-serve q event m X h =
       clock = fair.clock ∙ h.clock;
       names = fair.names ∙ h.names;
       plain = fair.plain h.plain;
-      regular = rw fair.agenda h.regular;
+      regular = rw ((serve-untouched q event m).agenda) h.regular;
     }
 
 -- a turn
