@@ -1,5 +1,5 @@
 -- Nobody is told that p ended while p goes on.
-use Rattle.std.proofs.Common.{◌≡◌, ℕ, zero, suc, Bool, true, false, not, ◌&&◌, ◌||◌, List, [], ◌∷◌, ◌++◌, refl, ◌∙◌, arith, append_assoc}
+use Rattle.std.proofs.Common.{◌≡◌, ℕ, Bool, true, false, not, ◌&&◌, ◌||◌, List, [], ◌∷◌, ◌++◌, refl, ◌∙◌, arith, append_assoc}
 use Rattle.std.specs.Prelude.{Option, Some, None, map, drop, slice_get, if◌then◌else◌, ◌==◌}
 use Rattle.std.specs.List.{list_all, list_any}
 use Rattle.std.proofs.lemmas.Bool.Decides.{nat_tests}
@@ -9,27 +9,21 @@ use Rattle.mote_types.specs.declared.refusal.Refusal.{Refusal}
 use Rattle.mote_types.specs.declared.event.Stimulus.{Stimulus}
 use Rattle.mote_types.specs.declared.event.Event.{Event}
 use Rattle.mote_types.specs.declared.event.Origin.{Origin}
-use Rattle.mote_types.specs.EventNumbers.{INIT, POLL, EXITED, CONTINUE, PACKET}
+use Rattle.mote_types.specs.EventNumbers.{INIT, POLL, EXITED}
 use Rattle.mote_types.specs.Codes.{plain_event, number_event}
 use Rattle.process_core.specs.declared.state.State.{State}
 use Rattle.process_core.specs.Agenda.{Queued, Item}
 use Rattle.process_core.specs.Processes.{numbers, without, is_ending}
 use Rattle.process_core.specs.Requests.{farewells, killed_by, kill_refusal, synch_refusal, given_in_turn}
-use Rattle.process_core.specs.Scheduler.{Scheduler, carried_out, delivery, first_event, of_event, in_front, state_in, put_in_state, has_room}
+use Rattle.process_core.specs.Scheduler.{Scheduler, carried_out, delivery, first_event, of_event, in_front, state_in, put_in_state}
 use Rattle.timer_core.specs.declared.timer.Timer.{Timer}
-use Rattle.timer_core.specs.Timers.{first_due}
-use Rattle.device_core.specs.SerialLine.{next_line, after_line}
-use Rattle.device_core.specs.PacketQueue.{unannounced}
-use Rattle.device_core.specs.declared.frame.Frame.{Frame}
-use Rattle.kernel_core.specs.Machine.{Machine, scheduled, with_event, with_serial, free_places, mark}
+use Rattle.kernel_core.specs.Machine.{Machine, scheduled}
 use Rattle.kernel_core.specs.Calls.{after_call, unless_refused, event_of, is_callback_timer}
 use Rattle.kernel_core.specs.Expiries.{struck_if}
 use Rattle.kernel_core.specs.KernelProcesses.{serve}
-use Rattle.kernel_core.specs.PacketProcess.{announce_to, announce_next, announce, has_news, forget_receiver, packet}
-use Rattle.kernel_core.specs.Repeating.{times}
-use Rattle.kernel_core.specs.SerialProcess.{line_event, broadcast_line, post_continue, line_served, serve_line, line_count, empty_ring, serial_line_polled, serial_line_continued, serial_line}
-use Rattle.kernel_core.specs.TimerProcesses.{expiry_of, post_expiry, post_first_due, post_due, is_any_due, exited_application, forget_event_timers, forget_callback_timers, etimer, ctimer}
+use Rattle.kernel_core.specs.TimerProcesses.{expiry_of}
 use Rattle.run_laws.specs.TimerLaws.{is_number}
+use Rattle.run_laws.proofs.Changes.{Changes, of_changes, is_notice}
 use Rattle.run_laws.proofs.event_order.Tally.{ends_in}
 use Rattle.run_laws.proofs.event_order.Shape.{is_give_exit, is_exit_turn, to_all}
 use Rattle.run_laws.proofs.event_order.Items.{with_agenda}
@@ -97,78 +91,27 @@ after-events call q m h = grind (arith, h)
 abbrev Clean : Machine → Type 0
 Clean m = list_all is_no_exited m.scheduler.events ≡ true
 
-times-clean : (change : Machine → Machine) → ((m : Machine) → Clean m → Clean (change m)) → (n : ℕ) (m : Machine) → Clean m → Clean (times n change m)
-unfolding times
-times-clean change keeps zero m h = h
-times-clean change keeps (suc n) m h = times-clean change keeps n (change m) (keeps m h)
-
 expiry-clean : (timer : Timer) → is_no_exited (expiry_of timer) ≡ true
 expiry-clean timer = grind (arith, nat_tests)
 
-first_due-clean : (m : Machine) → Clean m → Clean (post_first_due m)
-first_due-clean m h = go (first_due m.clock m.timers)
-  where
-    go : (o : Option Timer) → Clean (post_expiry o m)
-    go None = h
-    go (Some timer) = events-more m.scheduler.events (expiry_of timer) (expiry-clean timer) h
-
-either : (test : Bool) (x y : Machine) → Clean x → Clean y → Clean (if test then x else y)
-either true x y h k = h
-either false x y h k = k
-
-broadcast-clean : (line : List ℕ) (m : Machine) → Clean m → Clean (broadcast_line line m)
-broadcast-clean line m h = either (has_room m.scheduler) (with_event (Queued.ToAll (line_event line)) m) m (events-more m.scheduler.events (Queued.ToAll (line_event line)) refl h) h
-
-continue-clean : (m : Machine) → Clean m → Clean (post_continue m)
-continue-clean m h =
-    either (has_room m.scheduler) (with_event (Queued.To 2 (plain_event CONTINUE)) (record m { is_serial_waiting = true })) m
-    (events-more m.scheduler.events (Queued.To 2 (plain_event CONTINUE)) refl h) h
-
-line-clean : (m : Machine) → Clean m → Clean (serve_line m)
-line-clean m h = either m.is_serial_waiting m (line_served (next_line m.serial) (with_serial (after_line m.serial) m)) h (go (next_line m.serial))
-  where
-    go : (o : Option (List ℕ)) → Clean (line_served o (with_serial (after_line m.serial) m))
-    go None = h
-    go (Some line) =
-        let a : Machine = with_serial (after_line m.serial) m in
-        continue-clean (broadcast_line line a) (broadcast-clean line a h)
-
-next-clean : (m : Machine) → Clean m → Clean (announce_next m)
-next-clean m h = go m.packets.receiver (unannounced m.packets)
-  where
-    go : (o : Option ℕ) (f : Option Frame) → Clean (announce_to o f m)
-    go (Some receiver) (Some frame) = events-more m.scheduler.events (Queued.To receiver (number_event PACKET frame.len)) refl h
-    go None f = h
-    go (Some receiver) None = h
+notice-clean : (notice : Queued Bool) → is_notice notice ≡ true → is_no_exited notice ≡ true
+notice-clean notice n = grind (arith, nat_tests, n)
 
 pub serve-events : (q : ℕ) (event : Event) (m : Machine) → Clean m → Clean (serve q event m)
-serve-events q event m h =
-    let due : Machine = times (free_places m) post_first_due m in
-    let posted = times-clean post_first_due first_due-clean (free_places m) m h in
-    let news : Machine = times (free_places m) announce_next m in
-    let told = times-clean announce_next next-clean (free_places m) m h in
-    either (q == 0) (etimer event m) _
-    (either (event.code == POLL) (post_due m) _ (either (is_any_due due) (mark 0 due) due posted posted)
-    (either (event.code == EXITED) _ m (timers_gone (exited_application event.payload)) h))
-    (either (q == 1) (ctimer event m) _ (either (event.code == EXITED) _ m (callbacks_gone (exited_application event.payload)) h)
-    (either (q == 2) (serial_line event m) _
-    (either (event.code == POLL) (serial_line_polled m) _ (either m.is_serial_waiting m (empty_ring m) h (times-clean serve_line line-clean (suc (line_count m.serial)) m h))
-    (either (event.code == CONTINUE) (serial_line_continued m) m (times-clean serve_line line-clean (suc (line_count m.serial)) (record m { is_serial_waiting = false }) h) h))
-    (either (q == 3) (packet event m) m
-    (either (event.code == POLL) (announce m) _ (either (has_news news.packets) (mark 3 news) news told told)
-    (either (event.code == EXITED) _ m (receiver_gone (exited_application event.payload)) h)) h)))
+serve-events q event = of_changes changes
   where
-    timers_gone : (o : Option ℕ) → Clean (forget_event_timers o m)
-    timers_gone None = h
-    timers_gone (Some n) = h
-
-    callbacks_gone : (o : Option ℕ) → Clean (forget_callback_timers o m)
-    callbacks_gone None = h
-    callbacks_gone (Some n) = events-struck (λ r c. r == n) m.scheduler.events ∙ h
-
-    receiver_gone : (o : Option ℕ) → Clean (forget_receiver o m)
-    receiver_gone None = h
-    receiver_gone (Some n) = h
+    changes : Changes (λ old new. Clean old → Clean new) q event
+    changes =
+        record {
+          same = λ m h. h;
+          chained = λ a b c f g h. g (f h);
+          expired = λ timer m e. events-more m.scheduler.events (expiry_of timer) (expiry-clean timer);
+          timers_gone = λ n m z k e h. h;
+          callbacks_gone = λ n m h. events-struck (λ r c. r == n) m.scheduler.events ∙ h;
+          posted = λ notice m n. events-more m.scheduler.events notice (notice-clean notice n);
+          devices = λ serial is_waiting packets m e h. h;
+          marked = λ n m h. h;
+        }
 
 -- an item
 
