@@ -1,26 +1,25 @@
 -- While a timer is due, etimer is marked or its POLL is on the agenda.
-use Rattle.std.proofs.Common.{◌≡◌, ℕ, zero, suc, Bool, true, false, not, ◌&&◌, ◌||◌, List, [], ◌∷◌, refl, ◌∙◌, arith}
-use Rattle.std.specs.Prelude.{Option, Some, None, is_some, find, filter, if◌then◌else◌, ◌==◌}
+use Rattle.std.proofs.Common.{◌≡◌, ℕ, Bool, true, false, not, ◌&&◌, ◌||◌, List, [], ◌∷◌, refl, ◌∙◌, arith}
+use Rattle.std.specs.Prelude.{Some, is_some, find, filter, if◌then◌else◌, ◌==◌}
 use Rattle.std.specs.List.{list_any}
 use Rattle.std.proofs.lemmas.Bool.Decides.{nat_tests}
 use Rattle.mote_types.specs.declared.event.Stimulus.{Stimulus}
 use Rattle.mote_types.specs.declared.event.Event.{Event}
 use Rattle.mote_types.specs.declared.event.Origin.{Origin}
-use Rattle.mote_types.specs.EventNumbers.{POLL, EXITED, CONTINUE}
+use Rattle.mote_types.specs.EventNumbers.{POLL}
 use Rattle.process_core.specs.declared.state.State.{State}
 use Rattle.process_core.specs.Agenda.{Item}
 use Rattle.process_core.specs.declared.process.Process.{Process}
 use Rattle.process_core.specs.Processes.{is_process, is_marked, with_state, with_mark, without}
 use Rattle.process_core.specs.Scheduler.{Scheduler, carried_out, in_front}
 use Rattle.timer_core.specs.declared.timer.Timer.{Timer}
-use Rattle.timer_core.specs.Names.{is_event_timer_of, is_callback_timer_of}
-use Rattle.timer_core.specs.Timers.{Timers, is_due, without_callback_timers}
-use Rattle.kernel_core.specs.Machine.{Machine, scheduled, with_timers, free_places, mark}
+use Rattle.timer_core.specs.Names.{is_timer, is_event_timer_of, is_callback_timer_of}
+use Rattle.timer_core.specs.Timers.{Timers, is_due, stop_timer, without_callback_timers}
+use Rattle.kernel_core.specs.Machine.{Machine, scheduled, with_event, with_timers, free_places, mark}
 use Rattle.kernel_core.specs.KernelProcesses.{serve}
-use Rattle.kernel_core.specs.PacketProcess.{announce_next, announce, has_news, forget_receiver, packet}
 use Rattle.kernel_core.specs.Repeating.{times}
-use Rattle.kernel_core.specs.SerialProcess.{serve_line, line_count, empty_ring, serial_line_polled, serial_line_continued, serial_line}
-use Rattle.kernel_core.specs.TimerProcesses.{post_first_due, post_due, is_any_due, exited_application, forget_event_timers, forget_callback_timers, ctimer}
+use Rattle.kernel_core.specs.TimerProcesses.{post_expiry, post_first_due, post_due, is_any_due, forget_callback_timers}
+use Rattle.run_laws.proofs.Changes.{Changes, of_changes, with_devices, times-keeps}
 use Rattle.run_laws.proofs.event_order.Items.{with_agenda, facing}
 use Rattle.run_laws.proofs.timer_deadlines.Fronts.{any-append, carried-any}
 use Rattle.run_laws.proofs.timer_deadlines.Timed.{any-filter}
@@ -118,38 +117,8 @@ watched-front xs m h = record { home = h.home; due = λ d. grind (arith, h.due d
 
 -- a kernel process
 
-pub record Unmoved (old new : Machine) : Type 0 where
-  pub agenda : new.scheduler.agenda ≡ old.scheduler.agenda
-  pub processes : new.scheduler.processes ≡ old.scheduler.processes
-  pub clock : new.clock ≡ old.clock
-
-pub times-unmoved : (change : Machine → Machine) → ((m : Machine) → Unmoved m (change m)) → (n : ℕ) (m : Machine) → Unmoved m (times n change m)
-unfolding times
-times-unmoved change keeps zero m = record { agenda = refl; processes = refl; clock = refl }
-times-unmoved change keeps (suc n) m =
-    let first = keeps m in
-    let rest = times-unmoved change keeps n (change m) in
-    record { agenda = rest.agenda ∙ first.agenda; processes = rest.processes ∙ first.processes; clock = rest.clock ∙ first.clock }
-
-pub times-timers : (change : Machine → Machine) → ((m : Machine) → (change m).timers ≡ m.timers) → (n : ℕ) (m : Machine) → (times n change m).timers ≡ m.timers
-unfolding times
-times-timers change keeps zero m = refl
-times-timers change keeps (suc n) m = times-timers change keeps n (change m) ∙ keeps m
-
-pub first_due-unmoved : (m : Machine) → Unmoved m (post_first_due m)
-first_due-unmoved m = record { agenda = grind arith; processes = grind arith; clock = grind arith }
-
-pub line-unmoved : (m : Machine) → Unmoved m (serve_line m)
-line-unmoved m = record { agenda = grind arith; processes = grind arith; clock = grind arith }
-
-pub line-timers : (m : Machine) → (serve_line m).timers ≡ m.timers
-line-timers m = grind arith
-
-pub next-unmoved : (m : Machine) → Unmoved m (announce_next m)
-next-unmoved m = record { agenda = grind arith; processes = grind arith; clock = grind arith }
-
-pub next-timers : (m : Machine) → (announce_next m).timers ≡ m.timers
-next-timers m = grind arith
+first_due-processes : (m : Machine) → (post_first_due m).scheduler.processes ≡ m.scheduler.processes
+first_due-processes m = grind arith
 
 some-find : (test : Timer → Bool) (xs : List Timer) → is_some (find test xs) ≡ list_any test xs
 some-find test [] = refl
@@ -167,7 +136,7 @@ watched-due m home = go (is_any_due after) (some-find (is_due after.clock after.
     after = times (free_places m) post_first_due m
 
     still : is_home after.scheduler.processes ≡ true
-    still = rw ((times-unmoved post_first_due first_due-unmoved (free_places m) m).processes) home
+    still = times-keeps (λ x. is_home x.scheduler.processes ≡ true) post_first_due (λ x h. rw (first_due-processes x) h) (free_places m) m home
 
     go : (b : Bool) → b ≡ is_timer_due after.clock after.timers → Watched (if b then mark 0 after else after)
     go true e = record { home = home-with_mark 0 true after.scheduler.processes ∙ still; due = λ d. rw (marks-home after.scheduler.processes still) refl }
@@ -198,71 +167,34 @@ pub dropped : (keep : Timer → Bool) (m : Machine) → Watched m → Watched (r
 dropped keep m h =
     lesser m (record m { timers = record m.timers { armed = filter keep m.timers.armed } }) refl (any-filter (is_due m.clock m.timers) keep m.timers.armed) (λ k. k) (λ k. k) h
 
-lines-watched : (n : ℕ) (m : Machine) → Watched m → Watched (times n serve_line m)
-lines-watched n m h =
-    let u = times-unmoved serve_line line-unmoved n m in
-    alike m (times n serve_line m) u.agenda u.processes (times-timers serve_line line-timers n m) u.clock h
-
-announced-watched : (n : ℕ) (m : Machine) → Watched m → Watched (times n announce_next m)
-announced-watched n m h =
-    let u = times-unmoved announce_next next-unmoved n m in
-    alike m (times n announce_next m) u.agenda u.processes (times-timers announce_next next-timers n m) u.clock h
-
 -- an item that isn't etimer's POLL is gone
 pub without_item : (item : Item) (items : List Item) (m : Machine) → is_etimer_poll item ≡ false → Watched (facing (item ∷ items) m) → Watched (facing items m)
 without_item item items m n h = record { home = h.home; due = λ d. grind (arith, n, h.due d) }
 
-either : (test : Bool) (x y : Machine) → Watched x → Watched y → Watched (if test then x else y)
-either true x y h k = h
-either false x y h k = k
-
-packet-watched : (event : Event) (n : Machine) → Watched n → Watched (packet event n)
-packet-watched event n w =
-    let after : Machine = times (free_places n) announce_next n in
-    let told = announced-watched (free_places n) n w in
-    either (event.code == POLL) (announce n) _ (either (has_news after.packets) (mark 3 after) after (marked_too 3 after told) told)
-    (either (event.code == EXITED) _ n (forgotten (exited_application event.payload)) w)
-  where
-    forgotten : (o : Option ℕ) → Watched (forget_receiver o n)
-    forgotten None = w
-    forgotten (Some q) = alike n (forget_receiver (Some q) n) refl refl refl refl w
-
-serial_line-watched : (event : Event) (n : Machine) → Watched n → Watched (serial_line event n)
-serial_line-watched event n w =
-    let a : Machine = record n { is_serial_waiting = false } in
-    either (event.code == POLL) (serial_line_polled n) _ (either n.is_serial_waiting n (empty_ring n) w (lines-watched (suc (line_count n.serial)) n w))
-    (either (event.code == CONTINUE) (serial_line_continued n) n (lines-watched (suc (line_count a.serial)) a (alike n a refl refl refl refl w)) w)
-
-ctimer-watched : (event : Event) (n : Machine) → Watched n → Watched (ctimer event n)
-ctimer-watched event n w = either (event.code == EXITED) _ n (forgotten (exited_application event.payload)) w
-  where
-    forgotten : (o : Option ℕ) → Watched (forget_callback_timers o n)
-    forgotten None = w
-    forgotten (Some q) =
-        let a : Machine = with_timers (without_callback_timers q n.timers) n in
-        alike a (forget_callback_timers (Some q) n) refl refl refl refl (dropped (λ timer. not (is_callback_timer_of q timer)) n w)
-
-forgotten-watched : (o : Option ℕ) (n : Machine) → Watched n → Watched (forget_event_timers o n)
-forgotten-watched None n w = w
-forgotten-watched (Some q) n w = dropped (λ timer. not (is_event_timer_of q timer)) n w
+changes-watched : (q : ℕ) (event : Event) → Changes (λ old new. Watched old → Watched new) q event
+changes-watched q event =
+    record {
+      same = λ m h. h;
+      chained = λ a b c f g h. g (f h);
+      expired = λ timer m e h.
+          let a : Machine = with_timers (stop_timer timer m.timers) m in
+          alike a (post_expiry (Some timer) m) refl refl refl refl (dropped (λ other. not (is_timer timer other)) m h);
+      timers_gone = λ n m z k e. dropped (λ timer. not (is_event_timer_of n timer)) m;
+      callbacks_gone = λ n m h.
+          let a : Machine = with_timers (without_callback_timers n m.timers) m in
+          alike a (forget_callback_timers (Some n) m) refl refl refl refl (dropped (λ timer. not (is_callback_timer_of n timer)) m h);
+      posted = λ notice m n. alike m (with_event notice m) refl refl refl refl;
+      devices = λ serial is_waiting packets m e. alike m (with_devices serial is_waiting packets m) refl refl refl refl;
+      marked = marked_too;
+    }
 
 pub watched-serve : (q : ℕ) (origin : Origin) (event : Event) (items : List Item) (m : Machine) → Watched (facing (Item.Give q origin (Stimulus.Event event) ∷ items) m)
     → Watched (serve q event (facing items m))
-watched-serve q origin event items m h = go (q == 0) (event.code == POLL) refl refl
+watched-serve q origin event items m h = go (q == 0 && event.code == POLL) refl
   where
-    others : Watched (facing items m) → Watched (if q == 1 then ctimer event (facing items m) else if q == 2 then serial_line event (facing items m)
-        else if q == 3 then packet event (facing items m) else facing items m)
-    others w =
-        either (q == 1) (ctimer event (facing items m)) _ (ctimer-watched event (facing items m) w)
-        (either (q == 2) (serial_line event (facing items m)) _ (serial_line-watched event (facing items m) w)
-        (either (q == 3) (packet event (facing items m)) (facing items m) (packet-watched event (facing items m) w) w))
-
-    go : (zero poll : Bool) → (q == 0) ≡ zero → (event.code == POLL) ≡ poll → Watched
-        (if zero then (if poll then post_due (facing items m) else if event.code == EXITED then forget_event_timers (exited_application event.payload) (facing items m) else facing items m)
-        else if q == 1 then ctimer event (facing items m) else if q == 2 then serial_line event (facing items m)
-        else if q == 3 then packet event (facing items m) else facing items m)
-    go true true e f = watched-due (facing items m) h.home
-    go true false e f =
-        let w = without_item (Item.Give q origin (Stimulus.Event event)) items m (grind (arith, e, f)) h in
-        either (event.code == EXITED) _ (facing items m) (forgotten-watched (exited_application event.payload) (facing items m) w) w
-    go false poll e f = others (without_item (Item.Give q origin (Stimulus.Event event)) items m (grind (arith, e)) h)
+    go : (b : Bool) → (q == 0 && event.code == POLL) ≡ b → Watched (serve q event (facing items m))
+    go true e =
+        let etimer : (q == 0) ≡ true = grind (arith, e) in
+        let polled : (event.code == POLL) ≡ true = grind (arith, e) in
+        rw (etimer, polled) (watched-due (facing items m) h.home)
+    go false e = of_changes (changes-watched q event) (facing items m) (without_item (Item.Give q origin (Stimulus.Event event)) items m e h)
