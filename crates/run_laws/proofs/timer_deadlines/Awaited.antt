@@ -1,32 +1,26 @@
 -- A TIMER event that p waits for isn't lost on its way, and a timer leaves the list for one.
-use Rattle.std.proofs.Common.{◌≡◌, ℕ, zero, suc, Bool, true, false, not, ◌&&◌, ◌||◌, List, [], ◌∷◌, ◌++◌, refl, ◌∙◌, arith}
-use Rattle.std.specs.Prelude.{Option, Some, None, map, filter, drop, slice_get, if◌then◌else◌, ◌==◌, nat_le}
+use Rattle.std.proofs.Common.{◌≡◌, ℕ, Bool, true, false, not, ◌&&◌, ◌||◌, List, [], ◌∷◌, ◌++◌, refl, ◌∙◌, arith}
+use Rattle.std.specs.Prelude.{Some, map, filter, drop, slice_get, if◌then◌else◌, ◌==◌, nat_le}
 use Rattle.std.specs.List.{list_any}
 use Rattle.std.proofs.lemmas.Bool.Decides.{nat_tests}
 use Rattle.mote_types.specs.declared.event.Stimulus.{Stimulus}
 use Rattle.mote_types.specs.declared.event.Event.{Event}
 use Rattle.mote_types.specs.declared.event.Origin.{Origin}
 use Rattle.mote_types.specs.declared.event.Payload.{Payload}
-use Rattle.mote_types.specs.EventNumbers.{POLL, EXITED, CONTINUE, PACKET}
-use Rattle.mote_types.specs.Codes.{plain_event, number_event}
+use Rattle.mote_types.specs.EventNumbers.{EXITED}
 use Rattle.process_core.specs.declared.state.State.{State}
 use Rattle.process_core.specs.Agenda.{Queued, Item}
 use Rattle.process_core.specs.Processes.{numbers, is_running, is_kernel_process}
-use Rattle.process_core.specs.Scheduler.{Scheduler, carried_out, delivery, of_event, in_front, state_in, put_in_state, has_room}
+use Rattle.process_core.specs.Scheduler.{Scheduler, carried_out, delivery, of_event, in_front, state_in, put_in_state}
 use Rattle.timer_core.specs.declared.timer.Timer.{Timer}
 use Rattle.timer_core.specs.Names.{event_timer, is_timer, is_event_timer_of, is_callback_timer_of}
-use Rattle.timer_core.specs.Timers.{is_armed, stop_timer, first_due, without_callback_timers}
-use Rattle.device_core.specs.SerialLine.{next_line, after_line}
-use Rattle.device_core.specs.PacketQueue.{unannounced, with_announced}
-use Rattle.device_core.specs.declared.frame.Frame.{Frame}
-use Rattle.kernel_core.specs.Machine.{Machine, with_event, with_timers, with_packets, with_serial, free_places, mark}
+use Rattle.timer_core.specs.Timers.{is_armed, stop_timer, without_callback_timers}
+use Rattle.kernel_core.specs.Machine.{Machine, with_event, with_timers}
 use Rattle.kernel_core.specs.Expiries.{struck_if, strike_out}
 use Rattle.kernel_core.specs.KernelProcesses.{serve}
-use Rattle.kernel_core.specs.PacketProcess.{announce_to, announce_next, announce, has_news, forget_receiver, packet}
-use Rattle.kernel_core.specs.Repeating.{times}
-use Rattle.kernel_core.specs.SerialProcess.{line_event, broadcast_line, post_continue, line_served, serve_line, line_count, empty_ring, serial_line_polled, serial_line_continued, serial_line}
-use Rattle.kernel_core.specs.TimerProcesses.{expiry_of, post_expiry, post_first_due, post_due, is_any_due, exited_application, forget_event_timers, forget_callback_timers}
+use Rattle.kernel_core.specs.TimerProcesses.{expiry_of, post_expiry, exited_application}
 use Rattle.run_laws.specs.TimerLaws.{is_number, is_timer_event}
+use Rattle.run_laws.proofs.Changes.{Changes, of_changes}
 use Rattle.run_laws.proofs.event_order.Shape.{is_from_queue, is_ordered, stands, to_all}
 use Rattle.run_laws.proofs.event_order.Items.{with_agenda}
 use Rattle.run_laws.proofs.event_order.Waiting.{given-running}
@@ -105,63 +99,23 @@ carried-expected p t item items s a n o k h = grind (arith, h)
 abbrev pub Held : ℕ → ℕ → Bool → Machine → Type 0
 Held p t g m = (is_armed (event_timer p t) m.timers || (is_expected p t m.scheduler || g)) ≡ true
 
-times-held : (p t : ℕ) (g : Bool) (change : Machine → Machine) → ((m : Machine) → Held p t g m → Held p t g (change m)) → (n : ℕ) (m : Machine) → Held p t g m
-    → Held p t g (times n change m)
-unfolding times
-times-held p t g change keeps zero m h = h
-times-held p t g change keeps (suc n) m h = times-held p t g change keeps n (change m) (keeps m h)
-
 posted-held : (p t : ℕ) (g : Bool) (event : Queued Bool) (m : Machine) → Held p t g m → Held p t g (with_event event m)
 posted-held p t g event m h = grind (arith, h, any-more (queues p t) m.scheduler.events event)
 
-module _ (p t : ℕ) (g : Bool) where
-  either : (test : Bool) (x y : Machine) → Held p t g x → Held p t g y → Held p t g (if test then x else y)
-  either true x y h k = h
-  either false x y h k = k
-
-  first_due-held : (m : Machine) → Held p t g m → Held p t g (post_first_due m)
-  first_due-held m h = go (first_due m.clock m.timers)
-    where
-      posted : (timer : Timer) (b : Bool) → is_timer (event_timer p t) timer ≡ b → Held p t g (post_expiry (Some timer) m)
-      posted timer true e =
-          let same : timer ≡ event_timer p t = that_timer p t timer e in
-          let waits : list_any (queues p t) (m.scheduler.events ++ expiry_of timer ∷ []) ≡ true =
-          any-last (queues p t) m.scheduler.events (expiry_of timer) (rw same (grind (arith, nat_tests))) in
-          grind (arith, waits)
-      posted timer false e =
-          let off : Machine = with_timers (stop_timer timer m.timers) m in
-          let kept : is_armed (event_timer p t) (stop_timer timer m.timers) ≡ is_armed (event_timer p t) m.timers =
-          stopped-other (event_timer p t) timer m.timers.armed (symm timer (event_timer p t) ∙ e) in
-          posted-held p t g (expiry_of timer) off (rw kept h)
-
-      go : (o : Option Timer) → Held p t g (post_expiry o m)
-      go None = h
-      go (Some timer) = posted timer (is_timer (event_timer p t) timer) refl
-
-  broadcast-held : (line : List ℕ) (m : Machine) → Held p t g m → Held p t g (broadcast_line line m)
-  broadcast-held line m h = either (has_room m.scheduler) (with_event (Queued.ToAll (line_event line)) m) m (posted-held p t g (Queued.ToAll (line_event line)) m h) h
-
-  continue-held : (m : Machine) → Held p t g m → Held p t g (post_continue m)
-  continue-held m h =
-      let a : Machine = record m { is_serial_waiting = true } in
-      either (has_room m.scheduler) (with_event (Queued.To 2 (plain_event CONTINUE)) a) m (posted-held p t g (Queued.To 2 (plain_event CONTINUE)) a h) h
-
-  line-held : (m : Machine) → Held p t g m → Held p t g (serve_line m)
-  line-held m h = either m.is_serial_waiting m (line_served (next_line m.serial) (with_serial (after_line m.serial) m)) h (go (next_line m.serial))
-    where
-      go : (o : Option (List ℕ)) → Held p t g (line_served o (with_serial (after_line m.serial) m))
-      go None = h
-      go (Some line) =
-          let a : Machine = with_serial (after_line m.serial) m in
-          continue-held (broadcast_line line a) (broadcast-held line a h)
-
-  next-held : (m : Machine) → Held p t g m → Held p t g (announce_next m)
-  next-held m h = go m.packets.receiver (unannounced m.packets)
-    where
-      go : (o : Option ℕ) (f : Option Frame) → Held p t g (announce_to o f m)
-      go (Some receiver) (Some frame) = posted-held p t g (Queued.To receiver (number_event PACKET frame.len)) (with_packets (with_announced m.packets) m) h
-      go None f = h
-      go (Some receiver) None = h
+expired-held : (p t : ℕ) (g : Bool) (timer : Timer) (m : Machine) → Held p t g m → Held p t g (post_expiry (Some timer) m)
+expired-held p t g timer m h = go (is_timer (event_timer p t) timer) refl
+  where
+    go : (b : Bool) → is_timer (event_timer p t) timer ≡ b → Held p t g (post_expiry (Some timer) m)
+    go true e =
+        let same : timer ≡ event_timer p t = that_timer p t timer e in
+        let waits : list_any (queues p t) (m.scheduler.events ++ expiry_of timer ∷ []) ≡ true =
+        any-last (queues p t) m.scheduler.events (expiry_of timer) (rw same (grind (arith, nat_tests))) in
+        grind (arith, waits)
+    go false e =
+        let off : Machine = with_timers (stop_timer timer m.timers) m in
+        let kept : is_armed (event_timer p t) (stop_timer timer m.timers) ≡ is_armed (event_timer p t) m.timers =
+        stopped-other (event_timer p t) timer m.timers.armed (symm timer (event_timer p t) ∙ e) in
+        posted-held p t g (expiry_of timer) off (rw kept h)
 
 kept-filter : (test keep : Timer → Bool) (xs : List Timer) → ((x : Timer) → test x ≡ true → keep x ≡ true) → list_any test (filter keep xs) ≡ list_any test xs
 kept-filter test keep [] k = refl
@@ -192,58 +146,28 @@ queues-struck p t test (Queued.Expiry q c x ∷ events) = queues-struck p t test
 pub struck-held : (p t : ℕ) (g : Bool) (test : ℕ → ℕ → Bool) (m : Machine) → Held p t g m → Held p t g (strike_out test m)
 struck-held p t g test m h = rw (queues-struck p t test m.scheduler.events) h
 
--- the timers of another process are forgotten
-forgotten-held : (p t : ℕ) (g : Bool) (payload : Payload) (m : Machine) → is_number p payload ≡ false → Held p t g m → Held p t g (forget_event_timers (exited_application payload) m)
-forgotten-held p t g (Payload.Num n) m e h = go (nat_le 4 n && nat_le n 19)
-  where
-    go : (b : Bool) → Held p t g (forget_event_timers (if b then Some n else None) m)
-    go true = filter-held p t g (λ timer. not (is_event_timer_of n timer)) m (λ x k. spares-others p t n x e k) h
-    go false = h
-forgotten-held p t g Payload.Empty m e h = h
-forgotten-held p t g (Payload.Line line) m e h = h
+exited-other : (p n : ℕ) (payload : Payload) → exited_application payload ≡ Some n → is_number p payload ≡ false → (n == p) ≡ false
+exited-other p n payload e f = grind (arith, nat_tests, e, f)
 
 -- an event that is no farewell to p
 pub serve-held : (p t : ℕ) (g : Bool) (q : ℕ) (origin : Origin) (event : Event) (m : Machine) → is_farewell p (Item.Give q origin (of_event event)) ≡ false
     → Held p t g m → Held p t g (serve q event m)
-serve-held p t g q origin event m n h = go (q == 0) (event.code == EXITED) refl refl
+serve-held p t g q origin event m none = of_changes changes m
   where
-    posted : Held p t g (post_due m)
-    posted =
-        let due : Machine = times (free_places m) post_first_due m in
-        let k = times-held p t g post_first_due (first_due-held p t g) (free_places m) m h in
-        either p t g (is_any_due due) (mark 0 due) due k k
+    other : (n : ℕ) → (q == 0) ≡ true → (event.code == EXITED) ≡ true → exited_application event.payload ≡ Some n → (n == p) ≡ false
+    other n z k e = exited-other p n event.payload e (grind (arith, none, z, k))
 
-    callbacks_gone : (o : Option ℕ) → Held p t g (forget_callback_timers o m)
-    callbacks_gone None = h
-    callbacks_gone (Some r) =
-        let a : Machine = with_timers (without_callback_timers r m.timers) m in
-        struck-held p t g (λ x c. x == r) a (filter-held p t g (λ timer. not (is_callback_timer_of r timer)) m (λ x k. spares-events p t r x k) h)
-
-    receiver_gone : (o : Option ℕ) → Held p t g (forget_receiver o m)
-    receiver_gone None = h
-    receiver_gone (Some r) = h
-
-    rung : Held p t g (serial_line event m)
-    rung =
-        either p t g (event.code == POLL) (serial_line_polled m) _ (either p t g m.is_serial_waiting m (empty_ring m) h (times-held p t g serve_line (line-held p t g) (suc (line_count m.serial)) m h))
-        (either p t g (event.code == CONTINUE) (serial_line_continued m) m
-        (times-held p t g serve_line (line-held p t g) (suc (line_count m.serial)) (record m { is_serial_waiting = false }) h) h)
-
-    told : Held p t g (packet event m)
-    told =
-        let news : Machine = times (free_places m) announce_next m in
-        let k = times-held p t g announce_next (next-held p t g) (free_places m) m h in
-        either p t g (event.code == POLL) (announce m) _ (either p t g (has_news news.packets) (mark 3 news) news k k)
-        (either p t g (event.code == EXITED) _ m (receiver_gone (exited_application event.payload)) h)
-
-    go : (zero exited : Bool) → (q == 0) ≡ zero → (event.code == EXITED) ≡ exited → Held p t g
-        (if zero then (if event.code == POLL then post_due m else if exited then forget_event_timers (exited_application event.payload) m else m)
-        else if q == 1 then (if exited then forget_callback_timers (exited_application event.payload) m else m)
-        else if q == 2 then serial_line event m else if q == 3 then packet event m else m)
-    go true true e f =
-        let other : is_number p event.payload ≡ false = grind (arith, n, e, f) in
-        either p t g (event.code == POLL) (post_due m) _ posted (forgotten-held p t g event.payload m other h)
-    go true false e f = either p t g (event.code == POLL) (post_due m) m posted h
-    go false exited e f =
-        either p t g (q == 1) _ _ (either p t g exited (forget_callback_timers (exited_application event.payload) m) m (callbacks_gone (exited_application event.payload)) h)
-        (either p t g (q == 2) (serial_line event m) _ rung (either p t g (q == 3) (packet event m) m told h))
+    changes : Changes (λ old new. Held p t g old → Held p t g new) q event
+    changes =
+        record {
+          same = λ m h. h;
+          chained = λ a b c f g h. g (f h);
+          expired = λ timer m e. expired-held p t g timer m;
+          timers_gone = λ n m z k e. filter-held p t g (λ timer. not (is_event_timer_of n timer)) m (λ x. spares-others p t n x (other n z k e));
+          callbacks_gone = λ n m h.
+              let a : Machine = with_timers (without_callback_timers n m.timers) m in
+              struck-held p t g (λ x c. x == n) a (filter-held p t g (λ timer. not (is_callback_timer_of n timer)) m (spares-events p t n) h);
+          posted = λ notice m n. posted-held p t g notice m;
+          devices = λ serial is_waiting packets m e h. h;
+          marked = λ n m h. h;
+        }
