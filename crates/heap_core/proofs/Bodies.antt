@@ -110,11 +110,11 @@ module _ (heap : Region) (B : List ℕ) (laid : IsStored heap B) (chunk : Chunk)
     is_named_owner : is_a_name chunk.owner ≡ true
     is_named_owner = ap is_a_name o.owner ∙ lt-ltb name 272 small
 
-    pub body_spliced : Spliced heap B B' a.before (chunk ∷ []) a.behind
+    pub body_spliced : Spliced heap heap B B' a.before (chunk ∷ []) a.behind
     body_spliced =
         let len : chunk.at + chunk.len - chunk.at ≡ chunk.len = omega arith in
         let all : ChangesOnly (b + chunk.at) chunk.len B B' = changes_more (b + chunk.at + heap.header) (chunk.len - heap.header) (b + chunk.at) chunk.len B B' changes (omega arith) (omega (arith, a.enough)) in
-        spliced heap B B' chunk.at (chunk.at + chunk.len) a.before (chunk ∷ []) a.behind laid.chunks.within
+        spliced heap heap B B' chunk.at (chunk.at + chunk.len) a.before (chunk ∷ []) a.behind refl refl laid.chunks.within
         (subst (λ k. ChangesOnly (b + chunk.at) k B B') (sym len) all) a.front
         (told_body heap.header B B' b chunk.at (chunk.at + chunk.len) (chunk.len - heap.header) chunk [] heap.header_least is_named_owner changes (omega (arith, a.enough)) (a.here, a.enough, refl))
         a.back (subst (AreJoined heap.header) a.is laid.chunks.joined)
@@ -130,7 +130,7 @@ module _ (heap : Region) (B : List ℕ) (laid : IsStored heap B) (chunk : Chunk)
         let new : blocks_in heap.header B' b (chunk ∷ []) ≡ over block ∷ [] =
         ap (λ o. with_chunk heap.header B' b chunk o []) o.owner
         ∙ ap (λ bytes. (let k : Block = record { name = name; at = chunk.at; room = chunk.len - heap.header; bytes = bytes } in k) ∷ []) read in
-        body_spliced.blocks
+        ap (λ (h : HeapStore). h.blocks) body_spliced.store
         ∙ ap (λ l. xs ++ (l ++ ys)) new
         ∙ sym (ap (map change) all_are
         ∙ map-append change xs (block ∷ ys)

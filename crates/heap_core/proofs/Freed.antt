@@ -171,9 +171,9 @@ module _ (heap : Region) (B : List ℕ) (has : HasChunks heap B) where
       later : AreJoined heap.header (chunk ∷ at.behind)
       later = joined_behind heap.header at.before (chunk ∷ at.behind) was
 
-      pub set : Spliced heap B B' at.before (aside ∷ []) at.behind
+      pub set : Spliced heap heap B B' at.before (aside ∷ []) at.behind
       set =
-          spliced heap B B' chunk.at (chunk.at + chunk.len) at.before (aside ∷ []) at.behind has.within
+          spliced heap heap B B' chunk.at (chunk.at + chunk.len) at.before (aside ∷ []) at.behind refl refl has.within
           (changes_more (heap.span.at + chunk.at) 12 (heap.span.at + chunk.at) (chunk.at + chunk.len - chunk.at) B B' changes (omega arith) (omega (arith, at.enough)))
           at.front (told, at.enough, refl) at.back
           (joined_swap heap.header at.before (chunk ∷ at.behind) (aside ∷ at.behind) (λ live. freed_live) was ((λ none. absurd (freed_live none)), later.1, later.2))
@@ -183,7 +183,7 @@ module _ (heap : Region) (B : List ℕ) (has : HasChunks heap B) where
 
       set_blocks : (store_of heap B').blocks ≡ xs ++ (k ∷ ys)
       unfolding k
-      set_blocks = set.blocks
+      set_blocks = ap (λ (h : HeapStore). h.blocks) set.store
 
       pub set_named : filter is_named (store_of heap B').blocks ≡ filter (elsewhere chunk.at) (filter is_named (store_of heap B).blocks)
       unfolding k

@@ -4,7 +4,6 @@ use Rattle.std.specs.Prelude.{Option, IfSome, filter}
 use Rattle.std.proofs.lemmas.Bool.{cases_eq}
 use Rattle.std.proofs.lemmas.List.{append-nil}
 use Rattle.arena_core.specs.Outside.{ChangesOnly}
-use Rattle.arena_core.specs.declared.span.Span.{Span}
 use Rattle.heap_core.specs.declared.chunk.Chunk.{Chunk}
 use Rattle.heap_core.specs.declared.chunk.Place.{Place}
 use Rattle.heap_core.specs.declared.region.Region.{Region}
@@ -20,7 +19,7 @@ use Rattle.heap_core.proofs.Blocks.{blocks_between, placed_behind, placed_front,
 use Rattle.heap_core.proofs.Gaps.{none_in_front}
 use Rattle.heap_core.proofs.Lengths.{lengths, needed}
 use Rattle.heap_core.proofs.Lists.{gaps_counted, count_some, count_none, gap_first, live_first, ends_of, IsGapOf, last_stands, list_kept}
-use Rattle.heap_core.proofs.Members.{In, in_of, in_left, in_right, in_cases, stands_of, in_told, in_without, live_exchanged, apart_from_gap}
+use Rattle.heap_core.proofs.Members.{In, in_of, stands_of, in_told, in_without, live_exchanged, apart_from_gap}
 use Rattle.heap_core.proofs.Releases.{r, end_below, left_apart}
 use Rattle.heap_core.proofs.Splice.{Spliced, spliced, joined_swap, joined_behind, whole_at, laid_all, laid_some}
 use Rattle.heap_core.proofs.Standing.{Around, around, behind_is}
@@ -63,28 +62,8 @@ module _ (heap new : Region) (B B' : List ℕ) (live : Chunk) (before mid behind
     (changes : ChangesOnly (heap.span.at + live.at) (y - live.at) B B') (front : Tell heap.header B heap.span.at 0 live.at before)
     (told : Tell heap.header B' heap.span.at live.at y mid) (back : Tell heap.header B heap.span.at y new.footprint behind) (joined : AreJoined heap.header (before ++ (mid ++ behind)))
     (blocks : (ys : List Block) → blocks_in heap.header B' heap.span.at mid ++ ys ≡ with_chunk heap.header B heap.span.at live live.owner ys) where
-  abbrev b : ℕ
-  b = heap.span.at
-
-  start : new.span.at ≡ b
-  start = ap (λ (s : Span). s.at) same
-
-  to_new : (C : List ℕ) (p q : ℕ) (l : List Chunk) → Tell heap.header C b p q l → Tell new.header C new.span.at p q l
-  to_new C p q l told = subst (λ k. Tell k C new.span.at p q l) (sym same_header) (subst (λ k. Tell heap.header C k p q l) (sym start) told)
-
-  there : Spliced new B B' before mid behind
-  there =
-      let len = ap (λ (s : Span). s.len) same in let start' = start in
-      spliced new B B' live.at y before mid behind (omega (arith, within))
-      (subst (λ k. ChangesOnly (k + live.at) (y - live.at) B B') (sym start) changes)
-      (to_new B 0 live.at before front) (to_new B' live.at y mid told) (to_new B y new.footprint behind back)
-      (subst (λ k. AreJoined k (before ++ (mid ++ behind))) (sym same_header) joined)
-
-  stays : (other : Chunk) → LiveIn other (before ++ behind) → In other (before ++ (mid ++ behind))
-  stays other h = elim (in_cases other before behind (in_of other (before ++ behind) h.stands)) [
-    | inl early ↦ in_left other before (mid ++ behind) early
-    | inr later ↦ in_right other before (mid ++ behind) (in_right other mid behind later)
-  ]
+  there : Spliced heap new B B' before mid behind
+  there = spliced heap new B B' live.at y before mid behind same same_header within changes front told back joined
 
   pub laid_between : (first link : Option ℕ) → LinkedTo first mid link → new.gaps ≡ heap.gaps + length (gaps_among mid) → Laid heap new B B' live before behind first link
   laid_between first link linked count = record {
@@ -93,11 +72,9 @@ module _ (heap new : Region) (B B' : List ℕ) (live : Chunk) (before mid behind
     linked = linked;
     count = count;
     chunks = there.has;
-    blocks = there.blocks
-        ∙ ap (λ k. blocks_in k B new.span.at before ++ (blocks_in k B' new.span.at mid ++ blocks_in k B new.span.at behind)) same_header
-        ∙ ap (λ k. blocks_in heap.header B k before ++ (blocks_in heap.header B' k mid ++ blocks_in heap.header B k behind)) start
-        ∙ ap (λ l. blocks_in heap.header B b before ++ l) (blocks (blocks_in heap.header B b behind));
-    kept = λ other h. record { stands = stands_of other (chunks_of new B') (subst (In other) (sym there.is) (stays other h)); live = h.live };
+    store = there.store
+        ∙ ap (λ l. let h : HeapStore = record { size = heap.span.len; header = heap.header; blocks = blocks_in heap.header B heap.span.at before ++ l } in h) (blocks (blocks_in heap.header B heap.span.at behind));
+    kept = there.kept;
   }
 
 -- a chunk that fits is as long as it needs
@@ -123,7 +100,7 @@ pub record Put (heap new : Region) (B B1 B2 : List ℕ) (target : Place) (name n
   pub last : IfSome below (IsGapOf (chunks_of new B2))
   pub count : new.gaps ≡ length (gaps_among (chunks_of new B2)) + taken
   pub linked : (after : Region) (B3 : List ℕ) → new.lowest ≡ heap.lowest → Relinked new after B2 B3 below first → LinkedTo after.lowest (chunks_of after B3) None
-  pub block : (ws : List ℕ) → bytes_in_chunk heap.header B1 heap.span.at (record { at = target.at; len = heap.header + target.room; owner = Some name; size = n; link = None }) ≡ ws → new.span ≡ heap.span → new.header ≡ heap.header
+  pub block : (ws : List ℕ) → bytes_in_chunk heap.header B1 heap.span.at (record { at = target.at; len = heap.header + target.room; owner = Some name; size = n; link = None }) ≡ ws
       → store_of new B2 ≡ with_block (block_at target name ws) (record { size = heap.span.len; header = heap.header; blocks = olds })
   pub kept : (other : Chunk) → LiveIn other (chunks_of heap B) → other.at ≢ target.at → LiveIn other (chunks_of new B2)
 
@@ -192,16 +169,14 @@ module _ (heap : Region) (B : List ℕ) (target : Place) (end n taken : ℕ) (ol
           last = last_stands last before (laid.mid ++ behind) (chunks_of new B2) (at_last ∙ ends.last) laid.is;
           count = omega (arith, g.count, r.count, laid.count, ap (λ l. length (gaps_among l)) r.is, gaps_counted before r.gone behind, ap (λ l. length (gaps_among l)) laid.is, gaps_counted before laid.mid behind);
           linked = λ after B3 same relinked. list_kept new after B2 B3 heap.lowest first link last target.at end (chunks_of heap B) before laid.mid behind ends same laid.is at_last at_link laid.linked relinked;
-          block = λ ws fresh span header. (
+          block = λ ws fresh. (
               let block = block_at target name ws in
               let same : heap.header + target.room - heap.header ≡ target.room = omega arith in
               let placed_there : placed block (xs ++ ys) ≡ xs ++ (block ∷ ys) =
               placed_behind 0 target.at block xs ys (blocks_between heap.header B s 0 target.at before r.hole.front) (omega arith) ∙ ap (λ l. xs ++ l) (in_front block refl) in
-              ap (λ size. let h : HeapStore = record { size = size; header = new.header; blocks = blocks_in new.header B2 new.span.at (chunks_of new B2) } in h) (ap (λ (k : Span). k.len) span)
-              ∙ ap (λ header. let h : HeapStore = record { size = heap.span.len; header = header; blocks = blocks_in new.header B2 new.span.at (chunks_of new B2) } in h) header
+              laid.store
               ∙ ap (λ blocks. let h : HeapStore = record { size = heap.span.len; header = heap.header; blocks = blocks } in h)
-              (laid.blocks
-              ∙ ap (λ l. l ++ with_chunk heap.header B1 s live (Some name) (blocks_in heap.header B1 s behind)) (blocks_frame heap.header B B1 s (s + target.at + heap.header) n changes 0 target.at before (inl (omega arith)) r.hole.front)
+              (ap (λ l. l ++ with_chunk heap.header B1 s live (Some name) (blocks_in heap.header B1 s behind)) (blocks_frame heap.header B B1 s (s + target.at + heap.header) n changes 0 target.at before (inl (omega arith)) r.hole.front)
               ∙ ap (λ l. xs ++ with_chunk heap.header B1 s live (Some name) l) behind_after
               ∙ ap (λ bytes. xs ++ ((let k : Block = record { name = name; at = target.at; room = heap.header + target.room - heap.header; bytes = bytes } in k) ∷ ys)) fresh
               ∙ ap (λ m. xs ++ ((let k : Block = record { name = name; at = target.at; room = m; bytes = ws } in k) ∷ ys)) same

@@ -5,17 +5,16 @@ use Rattle.std.proofs.lemmas.List.{append_assoc, length-append}
 use Rattle.std.proofs.lemmas.List.Elements.{filter-append, All-nil, All-cons}
 use Rattle.std.proofs.lemmas.Bool.{eq-eqb}
 use Rattle.arena_core.specs.Outside.{ChangesOnly}
-use Rattle.arena_core.specs.declared.span.Span.{Span}
 use Rattle.heap_core.specs.declared.chunk.Chunk.{Chunk}
 use Rattle.heap_core.specs.declared.region.Region.{Region}
 use Rattle.heap_core.specs.HeapStore.{Block, HeapStore}
 use Rattle.heap_core.specs.Chunks.{shortest, chunk_at, Tell, BeginsLive, AreJoined, with_chunk, blocks_in}
-use Rattle.heap_core.specs.Layout.{chunks_of, HasChunks, store_of}
-use Rattle.heap_core.specs.FreeList.{gaps_among, LiveIn}
-use Rattle.heap_core.specs.Code.Links.{gap_count, Exchanged}
-use Rattle.heap_core.specs.Code.Walks.{free_behind, free_from, gap_of, front_gap, without_place}
+use Rattle.heap_core.specs.Layout.{chunks_of, HasChunks}
+use Rattle.heap_core.specs.FreeList.{gaps_among, LinkedTo, LiveIn}
+use Rattle.heap_core.specs.Code.Links.{gap_count, Cleared}
+use Rattle.heap_core.specs.Code.Walks.{free_behind, free_from, gap_of, front_gap}
 use Rattle.heap_core.proofs.Lists.{gaps_append, gaps_counted, count_some, count_none, gap_first, live_first, link_gap}
-use Rattle.heap_core.proofs.Members.{In, in_of, in_left, in_right, in_cases, in_without, in_skip, stands_of}
+use Rattle.heap_core.proofs.Members.{In, in_of, in_without, in_skip, stands_of}
 use Rattle.heap_core.proofs.Told.{place_told, told_le, blocks_append, owner_cases, changes_more}
 use Rattle.heap_core.proofs.Gaps.{none_in_front}
 use Rattle.heap_core.proofs.Blocks.{blocks_between, elsewhere, filter_elsewhere}
@@ -229,59 +228,30 @@ module _ (heap : Region) (B : List ℕ) (has : HasChunks heap B) (chunk : Chunk)
       (in_without other chunk (f.pre ++ f.gone) r.gone r.post h.live far r.free
       (subst (In other) (a.is ∙ ap (λ l. l ++ (chunk ∷ a.behind)) f.was ∙ ap (λ l. (f.pre ++ f.gone) ++ (chunk ∷ l)) r.was) (in_of other (chunks_of heap B) h.stands))))
 
+  -- gaps that come in their place
+  cleared : (new : Region) (B' : List ℕ) (mid : List Chunk) (first link : Option ℕ) → Spliced heap new B B' f.pre mid r.post → blocks_in heap.header B' b mid ≡ [] → LinkedTo first mid link → new.gaps ≡ length (gaps_among (chunks_of heap B)) + length (gaps_among mid)
+      → Cleared heap new B B' chunk from end first link
+  cleared new B' mid first link s none linked count =
+      let behind : end - (chunk.at + chunk.len) ≡ front_gap a.behind = omega arith in
+      record {
+        chunks = s.has;
+        count = omega (arith, count, were_counted, ap (λ l. length (gaps_among l)) s.is, gaps_counted f.pre mid r.post, ap gap_count behind);
+        block = s.store ∙ ap (λ blocks. let h : HeapStore = record { size = heap.span.len; header = heap.header; blocks = blocks } in h) (ap (λ l. blocks_in heap.header B b f.pre ++ (l ++ blocks_in heap.header B b r.post)) none ∙ sym left);
+        others = λ other h far. s.kept other (record { stands = stands_of other (f.pre ++ r.post) (stay other h far); live = h.live });
+        exchanged = record { before = f.pre; gone = f.gone ++ (chunk ∷ r.gone); mid = mid; behind = r.post; was = went; is = s.is; front = f.told; back = r.told; linked = linked };
+      }
+
   -- nothing lies behind it: the top gap takes it
-  module _ (heap' : Region) (same : heap'.span ≡ heap.span) (same_header : heap'.header ≡ heap.header) (new_end : heap'.footprint ≡ from) (last : end ≡ heap.footprint) where
-    start : heap'.span.at ≡ b
-    start = ap (λ (s : Span). s.at) same
-
-    none_behind : r.post ≡ []
-    none_behind = elim r.begins [
-      | inl e ↦ e.0
-      | inr begins ↦ ended heap.header B b end heap.footprint r.post r.told (omega (arith, last))
-    ]
-
-    pub top_spliced : Spliced heap' B B f.pre [] []
-    top_spliced =
-        let span_len = ap (λ (s : Span). s.len) same in
-        spliced heap' B B from from f.pre [] [] (omega (arith, has.within, start, span_len))
-        (record { size = refl; others = λ i n apart. refl })
-        (subst (λ k. Tell k B heap'.span.at 0 from f.pre) (sym same_header) (subst (λ k. Tell heap.header B k 0 from f.pre) (sym start) f.told)) refl (sym new_end)
-        (subst (λ k. AreJoined k (f.pre ++ [])) (sym same_header) (f.joined was_joined [] tt))
-
-    top_is : chunks_of heap' B ≡ f.pre ++ ([] ++ r.post)
-    top_is = top_spliced.is ∙ ap (λ l. f.pre ++ l) (sym none_behind)
-
-    pub top_stays : (other : Chunk) → LiveIn other (chunks_of heap B) → other.at ≢ chunk.at → LiveIn other (chunks_of heap' B)
-    top_stays other h far = record { stands = stands_of other (chunks_of heap' B) (subst (In other) (sym top_is) (stay other h far)); live = h.live }
-
-    pub top_exchanged : (p q : ℕ) (link : Option ℕ) → p ≡ from → q ≡ end → Exchanged heap heap' B B p q link link
-    top_exchanged p q link e g = record {
-      before = f.pre;
-      gone = f.gone ++ (chunk ∷ r.gone);
-      mid = [];
-      behind = r.post;
-      was = went;
-      is = top_is;
-      front = subst (λ k. Tell heap.header B b 0 k f.pre) (sym e) f.told;
-      back = subst (λ k. Tell heap.header B b k heap.footprint r.post) (sym g) r.told;
-      linked = refl;
-    }
-
-    pub top_counted : (p q : ℕ) → p ≡ from → q ≡ end → length (gaps_among (chunks_of heap B)) ≡ length (gaps_among (chunks_of heap' B)) + (gap_count (chunk.at - p) + gap_count (q - (chunk.at + chunk.len)))
-    top_counted p q e g =
-        let behind : q - (chunk.at + chunk.len) ≡ front_gap a.behind = omega (arith, g) in
-        omega (arith, were_counted, ap (λ l. length (gaps_among l)) top_is, gaps_counted f.pre [] r.post, ap (λ k. gap_count (chunk.at - k)) e, ap gap_count behind)
-
-    pub top_released : store_of heap' B ≡ without_place chunk.at (store_of heap B)
-    top_released =
-        ap (λ size. let h : HeapStore = record { size = size; header = heap'.header; blocks = blocks_in heap'.header B heap'.span.at (chunks_of heap' B) } in h) (ap (λ (s : Span). s.len) same)
-        ∙ ap (λ header. let h : HeapStore = record { size = heap.span.len; header = header; blocks = blocks_in heap'.header B heap'.span.at (chunks_of heap' B) } in h) same_header
-        ∙ ap (λ blocks. let h : HeapStore = record { size = heap.span.len; header = heap.header; blocks = blocks } in h)
-        (top_spliced.blocks
-        ∙ ap (λ k. blocks_in k B heap'.span.at f.pre ++ []) same_header
-        ∙ ap (λ k. blocks_in heap.header B k f.pre ++ []) start
-        ∙ ap (λ l. blocks_in heap.header B b f.pre ++ blocks_in heap.header B b l) (sym none_behind)
-        ∙ sym left)
+  pub cleared_top : (new : Region) (link : Option ℕ) → new.span ≡ heap.span → new.header ≡ heap.header → new.footprint ≡ from → new.gaps ≡ length (gaps_among (chunks_of heap B)) → end ≡ heap.footprint → Cleared heap new B B chunk from end link link
+  cleared_top new link span header top count last =
+      let none : r.post ≡ [] = elim r.begins [
+        | inl e ↦ e.0
+        | inr begins ↦ ended heap.header B b end heap.footprint r.post r.told (omega (arith, last))
+      ] in
+      cleared new B [] link link
+      (spliced heap new B B from from f.pre [] r.post span header has.within (record { size = refl; others = λ i n apart. refl }) f.told refl
+      (subst (Tell heap.header B b from new.footprint) (sym none) (sym top)) (f.joined was_joined r.post r.joined))
+      refl refl (omega (arith, count))
 
   -- else it becomes a gap, which is whole
   gap_whole : (shortest heap.header ≤ end - from) × ((end - from) % 4 ≡ 0)
@@ -295,44 +265,17 @@ module _ (heap : Region) (B : List ℕ) (has : HasChunks heap B) (chunk : Chunk)
   abbrev gap : Option ℕ → Chunk
   gap link = record { at = from; len = end - from; owner = None; size = 0; link = link }
 
-  module _ (link : Option ℕ) (B' : List ℕ) (told : chunk_at B' b from ≡ gap link) (changes : ChangesOnly (b + from) 12 B B') (more : end ≢ heap.footprint) where
-    pub gap_spliced : Spliced heap B B' f.pre (gap link ∷ []) r.post
-    gap_spliced =
-        let below = from_below in
-        let begins : BeginsLive r.post = elim r.begins [
-          | inl e ↦ absurd (more (subst (Tell heap.header B b end heap.footprint) e.0 r.told))
-          | inr begins ↦ begins
-        ] in
-        spliced heap B B' from end f.pre (gap link ∷ []) r.post has.within
-        (changes_more (b + from) 12 (b + from) (end - from) B B' changes (omega arith) (omega (arith, a.enough)))
-        f.told (told, omega (arith, a.enough), omega arith) r.told
-        (f.joined was_joined (gap link ∷ r.post) ((λ none. begins), (omega (arith, gap_whole), omega (arith, gap_whole)), r.joined))
-
-    pub gap_released : store_of heap B' ≡ without_place chunk.at (store_of heap B)
-    gap_released =
-        ap (λ blocks. let h : HeapStore = record { size = heap.span.len; header = heap.header; blocks = blocks } in h) (gap_spliced.blocks ∙ sym left)
-
-    pub gap_stays : (other : Chunk) → LiveIn other (chunks_of heap B) → other.at ≢ chunk.at → LiveIn other (chunks_of heap B')
-    gap_stays other h far = record {
-      stands = stands_of other (chunks_of heap B') (subst (In other) (sym gap_spliced.is)
-          (elim (in_cases other f.pre r.post (stay other h far)) [ inl early ↦ in_left other f.pre (gap link ∷ r.post) early | inr later ↦ in_right other f.pre (gap link ∷ r.post) (inr later) ]));
-      live = h.live;
-    }
-
-    pub gap_counted : (p q : ℕ) → p ≡ from → q ≡ end → length (gaps_among (chunks_of heap B)) + 1 ≡ length (gaps_among (chunks_of heap B')) + (gap_count (chunk.at - p) + gap_count (q - (chunk.at + chunk.len)))
-    gap_counted p q e g =
-        let behind : q - (chunk.at + chunk.len) ≡ front_gap a.behind = omega (arith, g) in
-        omega (arith, were_counted, ap (λ l. length (gaps_among l)) gap_spliced.is, gaps_counted f.pre (gap link ∷ []) r.post, ap (λ k. gap_count (chunk.at - k)) e, ap gap_count behind)
-
-    pub gap_exchanged : (p q : ℕ) → p ≡ from → q ≡ end → Exchanged heap heap B B' p q (Some p) link
-    gap_exchanged p q e g = record {
-      before = f.pre;
-      gone = f.gone ++ (chunk ∷ r.gone);
-      mid = gap link ∷ [];
-      behind = r.post;
-      was = went;
-      is = gap_spliced.is;
-      front = subst (λ k. Tell heap.header B b 0 k f.pre) (sym e) f.told;
-      back = subst (λ k. Tell heap.header B b k heap.footprint r.post) (sym g) r.told;
-      linked = link_gap (Some p) link (gap link) [] refl (ap Some e) refl;
-    }
+  pub cleared_gap : (new : Region) (B' : List ℕ) (link : Option ℕ) → new.span ≡ heap.span → new.header ≡ heap.header → new.footprint ≡ heap.footprint → new.gaps ≡ length (gaps_among (chunks_of heap B)) + 1
+      → chunk_at B' b from ≡ gap link → ChangesOnly (b + from) 12 B B' → end ≢ heap.footprint → Cleared heap new B B' chunk from end (Some from) link
+  cleared_gap new B' link span header top count told changes more =
+      let low = from_below in
+      let begins : BeginsLive r.post = elim r.begins [
+        | inl e ↦ absurd (more (subst (Tell heap.header B b end heap.footprint) e.0 r.told))
+        | inr begins ↦ begins
+      ] in
+      cleared new B' (gap link ∷ []) (Some from) link
+      (spliced heap new B B' from end f.pre (gap link ∷ []) r.post span header has.within
+      (changes_more (b + from) 12 (b + from) (end - from) B B' changes (omega arith) (omega (arith, a.enough)))
+      f.told (told, omega (arith, a.enough), omega arith) (subst (λ k. Tell heap.header B b end k r.post) (sym top) r.told)
+      (f.joined was_joined (gap link ∷ r.post) ((λ none. begins), (omega (arith, gap_whole), omega (arith, gap_whole)), r.joined)))
+      refl (link_gap (Some from) link (gap link) [] refl refl refl) count

@@ -31,10 +31,10 @@ module _ (heap : Region) (B B' : List ℕ) (gap : Chunk) (first : Option ℕ) (h
     was : AreJoined heap.header (here.before ++ (gap ∷ here.behind))
     was = subst (AreJoined heap.header) here.is has.joined
 
-    pub relinked : Spliced heap B B' here.before (new ∷ []) here.behind
+    pub relinked : Spliced heap heap B B' here.before (new ∷ []) here.behind
     relinked =
         let a = here in
-        spliced heap B B' gap.at (gap.at + gap.len) a.before (new ∷ []) a.behind has.within
+        spliced heap heap B B' gap.at (gap.at + gap.len) a.before (new ∷ []) a.behind refl refl has.within
         (changes_more (b + gap.at) 12 (b + gap.at) (gap.at + gap.len - gap.at) B B' changes (omega arith) (omega (arith, a.enough)))
         a.front (told, a.enough, refl) a.back
         (joined_swap heap.header a.before (gap ∷ a.behind) (new ∷ a.behind) (λ live. live) was (joined_behind heap.header a.before (gap ∷ a.behind) was))
@@ -42,9 +42,9 @@ module _ (heap : Region) (B B' : List ℕ) (gap : Chunk) (first : Option ℕ) (h
     pub relinked_store : store_of heap B' ≡ store_of heap B
     relinked_store =
         let a = here in
-        ap (λ blocks. let h : HeapStore = record { size = heap.span.len; header = heap.header; blocks = blocks } in h)
-        (relinked.blocks
-        ∙ ap (λ l. blocks_in heap.header B b a.before ++ (l ++ blocks_in heap.header B b a.behind)) (none_in_front heap.header B' b new [] free)
+        relinked.store
+        ∙ ap (λ blocks. let h : HeapStore = record { size = heap.span.len; header = heap.header; blocks = blocks } in h)
+        (ap (λ l. blocks_in heap.header B b a.before ++ (l ++ blocks_in heap.header B b a.behind)) (none_in_front heap.header B' b new [] free)
         ∙ sym (ap (blocks_in heap.header B b) a.is ∙ blocks_append heap.header B b a.before (gap ∷ a.behind) ∙ ap (λ l. blocks_in heap.header B b a.before ++ l) (none_in_front heap.header B b gap (blocks_in heap.header B b a.behind) free)))
 
     pub relinked_count : length (gaps_among (chunks_of heap B')) ≡ length (gaps_among (chunks_of heap B))

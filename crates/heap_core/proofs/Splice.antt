@@ -3,11 +3,15 @@ use Rattle.std.proofs.Common.{◌≡◌, ℕ, ◌+◌, ◌-◌, ◌≤◌, ◌<�
 use Rattle.std.specs.Prelude.{Option, None}
 use Rattle.std.proofs.lemmas.Bool.{lt-ltb, le-ltb}
 use Rattle.arena_core.specs.Outside.{ChangesOnly}
+use Rattle.arena_core.specs.declared.span.Span.{Span}
 use Rattle.heap_core.specs.declared.chunk.Chunk.{Chunk}
 use Rattle.heap_core.specs.declared.region.Region.{Region}
+use Rattle.heap_core.specs.HeapStore.{HeapStore}
 use Rattle.heap_core.specs.Chunks.{chunks_from, Tell, BeginsLive, IsWhole, AreJoined, blocks_in}
-use Rattle.heap_core.specs.Layout.{chunks_of, HasChunks}
+use Rattle.heap_core.specs.Layout.{chunks_of, store_of, HasChunks}
+use Rattle.heap_core.specs.FreeList.{LiveIn}
 use Rattle.heap_core.specs.Code.Walks.{laid}
+use Rattle.heap_core.proofs.Members.{In, in_of, in_left, in_right, in_cases, stands_of}
 use Rattle.heap_core.proofs.Told.{told_le, told_append, told_frame, blocks_frame, blocks_append, walked}
 
 -- joined chunks stay joined where what comes after a gap still begins with a live one
@@ -38,34 +42,49 @@ pub laid_some : (live : Chunk) (len : ℕ) (link : Option ℕ) → live.len < le
 laid_some live len link h = let some : ltb live.len len ≡ true = lt-ltb live.len len h in rw some refl
 
 -- some chunks stand between others, whose headers and bytes did not change
-pub record Spliced (heap : Region) (B B' : List ℕ) (before mid behind : List Chunk) : Type 0 where
-  pub has : HasChunks heap B'
-  pub is : chunks_of heap B' ≡ before ++ (mid ++ behind)
-  pub blocks : blocks_in heap.header B' heap.span.at (chunks_of heap B') ≡ blocks_in heap.header B heap.span.at before ++ (blocks_in heap.header B' heap.span.at mid ++ blocks_in heap.header B heap.span.at behind)
+pub record Spliced (old new : Region) (B B' : List ℕ) (before mid behind : List Chunk) : Type 0 where
+  pub has : HasChunks new B'
+  pub is : chunks_of new B' ≡ before ++ (mid ++ behind)
+  pub store : store_of new B'
+      ≡ record { size = old.span.len; header = old.header; blocks = blocks_in old.header B old.span.at before ++ (blocks_in old.header B' old.span.at mid ++ blocks_in old.header B old.span.at behind) }
+  pub kept : (other : Chunk) → LiveIn other (before ++ behind) → LiveIn other (chunks_of new B')
 
-pub spliced : (heap : Region) (B B' : List ℕ) (x y : ℕ) (before mid behind : List Chunk) → heap.span.at + heap.span.len ≤ length B
-    → ChangesOnly (heap.span.at + x) (y - x) B B' → Tell heap.header B heap.span.at 0 x before → Tell heap.header B' heap.span.at x y mid → Tell heap.header B heap.span.at y heap.footprint behind
-    → AreJoined heap.header (before ++ (mid ++ behind)) → Spliced heap B B' before mid behind
+pub spliced : (old new : Region) (B B' : List ℕ) (x y : ℕ) (before mid behind : List Chunk) → new.span ≡ old.span → new.header ≡ old.header → old.span.at + old.span.len ≤ length B
+    → ChangesOnly (old.span.at + x) (y - x) B B' → Tell old.header B old.span.at 0 x before → Tell old.header B' old.span.at x y mid → Tell old.header B old.span.at y new.footprint behind
+    → AreJoined old.header (before ++ (mid ++ behind)) → Spliced old new B B' before mid behind
 unfolding chunks_of
-spliced heap B B' x y before mid behind within changes front told back joined =
-    let b = heap.span.at in let header = heap.header in
+spliced old new B B' x y before mid behind span same within changes front told back joined =
+    let b = old.span.at in let header = old.header in let end = new.footprint in let l = before ++ (mid ++ behind) in
     let le = told_le header B' b x y mid told in
+    let chunks = λ (s : Span). chunks_from end B' s.at 0 end in
+    let store = λ (s : Span) (k : ℕ). (let h : HeapStore = record { size = s.len; header = k; blocks = blocks_in k B' s.at (chunks s) } in h) in
     let front' : Tell header B' b 0 x before = told_frame header B B' b (b + x) (y - x) changes 0 x before (inl (omega arith)) front in
-    let back' : Tell header B' b y heap.footprint behind = told_frame header B B' b (b + x) (y - x) changes y heap.footprint behind (inr (omega arith)) back in
-    let all : Tell header B' b 0 heap.footprint (before ++ (mid ++ behind)) =
-    told_append header B' b 0 x heap.footprint before (mid ++ behind) front' (told_append header B' b x y heap.footprint mid behind told back') in
-    let is : chunks_from heap.footprint B' b 0 heap.footprint ≡ before ++ (mid ++ behind) =
-    walked header heap.footprint B' b 0 heap.footprint (before ++ (mid ++ behind)) all (omega arith) in
+    let back' : Tell header B' b y end behind = told_frame header B B' b (b + x) (y - x) changes y end behind (inr (omega arith)) back in
+    let all : Tell header B' b 0 end l = told_append header B' b 0 x end before (mid ++ behind) front' (told_append header B' b x y end mid behind told back') in
+    let here : chunks_from end B' b 0 end ≡ l = walked header end B' b 0 end l all (omega arith) in
+    let is : chunks_from end B' new.span.at 0 end ≡ l = subst (λ (s : Span). chunks s ≡ l) (sym span) here in
     record {
       has = record {
-        within = omega (arith, changes.size, within);
-        told = subst (Tell header B' b 0 heap.footprint) (sym is) all;
-        joined = subst (AreJoined header) (sym is) joined;
+        within = subst (λ (s : Span). s.at + s.len ≤ length B') (sym span) (omega (arith, changes.size, within));
+        told = subst (λ k. Tell k B' new.span.at 0 end (chunks new.span)) (sym same)
+            (subst (λ (s : Span). Tell header B' s.at 0 end (chunks s)) (sym span) (subst (Tell header B' b 0 end) (sym here) all));
+        joined = subst (λ k. AreJoined k (chunks new.span)) (sym same) (subst (AreJoined header) (sym is) joined);
       };
       is = is;
-      blocks = ap (blocks_in header B' b) is
+      store = ap (λ s. store s new.header) span
+          ∙ ap (store old.span) same
+          ∙ ap (λ blocks. let h : HeapStore = record { size = old.span.len; header = header; blocks = blocks } in h)
+          (ap (blocks_in header B' b) here
           ∙ blocks_append header B' b before (mid ++ behind)
           ∙ ap (λ l. blocks_in header B' b before ++ l) (blocks_append header B' b mid behind)
           ∙ ap (λ l. l ++ (blocks_in header B' b mid ++ blocks_in header B' b behind)) (blocks_frame header B B' b (b + x) (y - x) changes 0 x before (inl (omega arith)) front)
-          ∙ ap (λ l. blocks_in header B b before ++ (blocks_in header B' b mid ++ l)) (blocks_frame header B B' b (b + x) (y - x) changes y heap.footprint behind (inr (omega arith)) back);
+          ∙ ap (λ l. blocks_in header B b before ++ (blocks_in header B' b mid ++ l)) (blocks_frame header B B' b (b + x) (y - x) changes y end behind (inr (omega arith)) back));
+      kept = λ other h. record {
+        stands = stands_of other (chunks_from end B' new.span.at 0 end) (subst (In other) (sym is)
+            (elim (in_cases other before behind (in_of other (before ++ behind) h.stands)) [
+              | inl early ↦ in_left other before (mid ++ behind) early
+              | inr later ↦ in_right other before (mid ++ behind) (in_right other mid behind later)
+            ]));
+        live = h.live;
+      };
     }

@@ -15,7 +15,7 @@ use arena_core::Arena;
 impl Region {
     ghost use Rattle.heap_core.specs.declared.chunk.Chunk.{Chunk as OfChunks};
     ghost use Rattle.heap_core.specs.Layout.{chunks_of, store_of, HasChunks};
-    ghost use Rattle.heap_core.specs.Code.Links.{gap_count, gap_below, gap_from, Relinked, Exchanged, KeepsFreed};
+    ghost use Rattle.heap_core.specs.Code.Links.{gap_count, gap_below, gap_from, Relinked, Cleared, KeepsFreed};
     ghost use Rattle.heap_core.specs.Code.Holes.{Hole, Fits, Laid, Free};
     ghost use Rattle.heap_core.specs.HeapBytes.{heap_of, KeepsToSpan};
     ghost use Rattle.heap_core.specs.Code.Joins.{Joins};
@@ -163,11 +163,7 @@ impl Region {
         requires link { IfSome link (λ place. place < 65536) }
         requires count { self.old.gaps ≡ length (gaps_among (chunks_of self.old arena.old.bytes)) }
         requires few { self.old.gaps < 65535 }
-        ensures chunks { HasChunks self.new arena.new.bytes }
-        ensures count { self.new.gaps ≡ length (gaps_among (chunks_of self.new arena.new.bytes)) + (gap_count (chunk.at - from) + gap_count (end - (chunk.at + chunk.len))) }
-        ensures block { store_of self.new arena.new.bytes ≡ without_place chunk.at (store_of self.old arena.old.bytes) }
-        ensures others { (other : OfChunks) → LiveIn other (chunks_of self.old arena.old.bytes) → other.at ≢ chunk.at → LiveIn other (chunks_of self.new arena.new.bytes) }
-        ensures exchanged { Exchanged self.old self.new arena.old.bytes arena.new.bytes from end result link }
+        ensures cleared { Cleared self.old self.new arena.old.bytes arena.new.bytes chunk from end result link }
         ensures kept { KeepsFreed self.old self.new }
         ensures lowest { self.new.lowest ≡ self.old.lowest }
         ensures first { IfSome result (λ place. place < 65536) }

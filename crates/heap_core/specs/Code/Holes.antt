@@ -4,7 +4,7 @@ use Rattle.heap_core.specs.declared.chunk.Chunk.{Chunk}
 use Rattle.heap_core.specs.declared.chunk.Place.{Place}
 use Rattle.heap_core.specs.declared.region.Region.{Region}
 use Rattle.heap_core.specs.Chunks.{Tell, BeginsLive, IsWhole, AreJoined, with_chunk, blocks_in}
-use Rattle.heap_core.specs.Layout.{chunks_of, HasChunks}
+use Rattle.heap_core.specs.Layout.{chunks_of, store_of, HasChunks}
 use Rattle.heap_core.specs.FreeList.{LinkedTo, gaps_among, LiveIn}
 use Rattle.heap_core.specs.Code.Links.{gap_count}
 use Rattle.heap_core.specs.Code.Walks.{LeavesGap, IsWholeRoom}
@@ -41,9 +41,9 @@ pub record Laid (heap new : Region) (bytes new_bytes : List ℕ) (live : Chunk) 
   pub linked : LinkedTo first mid link
   pub count : new.gaps ≡ heap.gaps + length (gaps_among mid)
   pub chunks : HasChunks new new_bytes
-  pub blocks :
-      blocks_in new.header new_bytes new.span.at (chunks_of new new_bytes)
-      ≡ blocks_in heap.header bytes heap.span.at before ++ with_chunk heap.header bytes heap.span.at live live.owner (blocks_in heap.header bytes heap.span.at behind)
+  pub store :
+      store_of new new_bytes
+      ≡ record { size = heap.span.len; header = heap.header; blocks = blocks_in heap.header bytes heap.span.at before ++ with_chunk heap.header bytes heap.span.at live live.owner (blocks_in heap.header bytes heap.span.at behind) }
   pub kept : (other : Chunk) → LiveIn other (before ++ behind) → LiveIn other (chunks_of new new_bytes)
 
 -- a place in a gap or in the top gap, free up to that end

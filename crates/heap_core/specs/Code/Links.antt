@@ -1,10 +1,11 @@
 -- Where the free list leads, and what a change of it leaves.
-use Rattle.std.specs.Prelude.{◌≡◌, ℕ, zero, suc, ◌+◌, ◌≤◌, List, [], ◌∷◌, ◌++◌, fold, Option, Some, None, is_none, if◌then◌else◌, ◌==◌, nat_lt, nat_le}
+use Rattle.std.specs.Prelude.{◌≡◌, ◌≢◌, ℕ, zero, suc, ◌+◌, ◌-◌, ◌≤◌, List, [], ◌∷◌, ◌++◌, length, fold, Option, Some, None, is_none, if◌then◌else◌, ◌==◌, nat_lt, nat_le}
 use Rattle.heap_core.specs.declared.chunk.Chunk.{Chunk}
 use Rattle.heap_core.specs.declared.region.Region.{Region}
 use Rattle.heap_core.specs.Chunks.{chunk_at, Tell}
-use Rattle.heap_core.specs.FreeList.{gaps_among, LinkedTo}
-use Rattle.heap_core.specs.Layout.{chunks_of}
+use Rattle.heap_core.specs.FreeList.{gaps_among, LinkedTo, LiveIn}
+use Rattle.heap_core.specs.Layout.{chunks_of, store_of, HasChunks}
+use Rattle.heap_core.specs.Code.Walks.{without_place}
 
 -- how many gaps that many free bytes are
 abbrev pub gap_count : ℕ → ℕ
@@ -64,6 +65,14 @@ pub record Exchanged (old new : Region) (bytes new_bytes : List ℕ) (from end :
   pub front : Tell old.header bytes old.span.at 0 from before
   pub back : Tell old.header bytes old.span.at end old.footprint behind
   pub linked : LinkedTo first mid link
+
+-- a chunk and the gaps beside it, from one place to another, became one gap or a part of the top gap. The gaps that they were are still counted
+pub record Cleared (old new : Region) (bytes new_bytes : List ℕ) (chunk : Chunk) (from end : ℕ) (first link : Option ℕ) : Type 0 where
+  pub chunks : HasChunks new new_bytes
+  pub count : new.gaps ≡ length (gaps_among (chunks_of new new_bytes)) + (gap_count (chunk.at - from) + gap_count (end - (chunk.at + chunk.len)))
+  pub block : store_of new new_bytes ≡ without_place chunk.at (store_of old bytes)
+  pub others : (other : Chunk) → LiveIn other (chunks_of old bytes) → other.at ≢ chunk.at → LiveIn other (chunks_of new new_bytes)
+  pub exchanged : Exchanged old new bytes new_bytes from end first link
 
 -- what is kept beside the gaps stays
 pub record KeepsFreed (old new : Region) : Type 0 where

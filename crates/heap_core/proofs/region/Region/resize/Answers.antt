@@ -101,7 +101,7 @@ pub returns-clause-block : goal.returns-clause-block
 unfolding chunks_of
 returns-clause-block c =
     c.link_below.ensures.block
-    ∙ (laid (goal.at.returns-clause-block c).After-lay-first).block (resized c.args.n (bytes_in_chunk c.args.self.now.header c.args.arena.now.bytes c.args.self.now.span.at c.args.chunk)) c.clear.ensures.bytes c.lay-first.ensures.rest.span c.lay-first.ensures.rest.header
+    ∙ (laid (goal.at.returns-clause-block c).After-lay-first).block (resized c.args.n (bytes_in_chunk c.args.self.now.header c.args.arena.now.bytes c.args.self.now.span.at c.args.chunk)) c.clear.ensures.bytes
 
 pub returns-clause-kept : goal.returns-clause-kept
 returns-clause-kept c =
