@@ -8,8 +8,8 @@ use Rattle.heap_core.specs.declared.region.Region.{Region}
 use Rattle.heap_core.specs.HeapStore.{HeapStore}
 use Rattle.heap_core.specs.Chunks.{chunk_at, Tell, AreJoined, blocks_in}
 use Rattle.heap_core.specs.Layout.{chunks_of, store_of, HasChunks}
-use Rattle.heap_core.specs.FreeList.{LinkedTo, gaps_among, Stands, LiveIn}
-use Rattle.heap_core.specs.Code.Links.{last_of}
+use Rattle.heap_core.specs.FreeList.{LinkedTo, gaps_among, Stands}
+use Rattle.heap_core.specs.Code.Links.{last_of, LinkChanged}
 use Rattle.heap_core.proofs.Gaps.{none_in_front}
 use Rattle.heap_core.proofs.Lists.{gaps_counted, gap_first, linked_append, linked_again, last_gap}
 use Rattle.heap_core.proofs.Members.{live_exchanged}
@@ -31,7 +31,7 @@ module _ (heap : Region) (B B' : List ℕ) (gap : Chunk) (first : Option ℕ) (h
     was : AreJoined heap.header (here.before ++ (gap ∷ here.behind))
     was = subst (AreJoined heap.header) here.is has.joined
 
-    pub relinked : Spliced heap heap B B' here.before (new ∷ []) here.behind
+    relinked : Spliced heap heap B B' here.before (new ∷ []) here.behind
     relinked =
         let a = here in
         spliced heap heap B B' gap.at (gap.at + gap.len) a.before (new ∷ []) a.behind refl refl has.within
@@ -39,7 +39,7 @@ module _ (heap : Region) (B B' : List ℕ) (gap : Chunk) (first : Option ℕ) (h
         a.front (told, a.enough, refl) a.back
         (joined_swap heap.header a.before (gap ∷ a.behind) (new ∷ a.behind) (λ live. live) was (joined_behind heap.header a.before (gap ∷ a.behind) was))
 
-    pub relinked_store : store_of heap B' ≡ store_of heap B
+    relinked_store : store_of heap B' ≡ store_of heap B
     relinked_store =
         let a = here in
         relinked.store
@@ -47,7 +47,7 @@ module _ (heap : Region) (B B' : List ℕ) (gap : Chunk) (first : Option ℕ) (h
         (ap (λ l. blocks_in heap.header B b a.before ++ (l ++ blocks_in heap.header B b a.behind)) (none_in_front heap.header B' b new [] free)
         ∙ sym (ap (blocks_in heap.header B b) a.is ∙ blocks_append heap.header B b a.before (gap ∷ a.behind) ∙ ap (λ l. blocks_in heap.header B b a.before ++ l) (none_in_front heap.header B b gap (blocks_in heap.header B b a.behind) free)))
 
-    pub relinked_count : length (gaps_among (chunks_of heap B')) ≡ length (gaps_among (chunks_of heap B))
+    relinked_count : length (gaps_among (chunks_of heap B')) ≡ length (gaps_among (chunks_of heap B))
     relinked_count =
         ap (λ l. length (gaps_among l)) relinked.is
         ∙ gaps_counted here.before (new ∷ []) here.behind
@@ -56,11 +56,8 @@ module _ (heap : Region) (B B' : List ℕ) (gap : Chunk) (first : Option ℕ) (h
         ∙ sym (gaps_counted here.before (gap ∷ []) here.behind)
         ∙ sym (ap (λ l. length (gaps_among l)) here.is)
 
-    pub relinked_stands : (other : Chunk) → LiveIn other (chunks_of heap B) → LiveIn other (chunks_of heap B')
-    relinked_stands other h = live_exchanged other gap here.before (new ∷ []) here.behind (chunks_of heap B) (chunks_of heap B') free here.is relinked.is h
-
     -- the last gap among the first chunks is that one
-    pub relinked_list : (before behind : List Chunk) (end : Option ℕ) → chunks_of heap B ≡ before ++ behind → last_of (gaps_among before) ≡ Some gap → LinkedTo heap.lowest before end → LinkedTo first behind None
+    relinked_list : (before behind : List Chunk) (end : Option ℕ) → chunks_of heap B ≡ before ++ behind → last_of (gaps_among before) ≡ Some gap → LinkedTo heap.lowest before end → LinkedTo first behind None
         → LinkedTo heap.lowest (chunks_of heap B') None
     relinked_list before behind end is last linked later =
         let l = last_gap gap before last in
@@ -74,3 +71,13 @@ module _ (heap : Region) (B B' : List ℕ) (gap : Chunk) (first : Option ℕ) (h
         subst (λ k. LinkedTo heap.lowest k None)
         (sym (relinked.is ∙ ap (λ k. k ++ (new ∷ here.behind)) front ∙ ap (λ k. l.before ++ (new ∷ k)) back ∙ sym (append_assoc l.before (new ∷ l.behind) behind)))
         (linked_append heap.lowest first None (l.before ++ (new ∷ l.behind)) behind again later)
+
+    pub link_changed : LinkChanged heap heap B B' (Some gap) first
+    link_changed = record {
+      chunks = relinked.has;
+      block = relinked_store;
+      stands = λ other h. live_exchanged other gap here.before (new ∷ []) here.behind (chunks_of heap B) (chunks_of heap B') free here.is relinked.is h;
+      linked = λ before behind end is last linked later. relinked_list before behind end is (sym last) linked later;
+      gaps = refl;
+      count = relinked_count;
+    }

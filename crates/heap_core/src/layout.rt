@@ -15,7 +15,7 @@ use arena_core::Arena;
 impl Region {
     ghost use Rattle.heap_core.specs.declared.chunk.Chunk.{Chunk as OfChunks};
     ghost use Rattle.heap_core.specs.Layout.{chunks_of, store_of, HasChunks};
-    ghost use Rattle.heap_core.specs.Code.Links.{gap_count, gap_below, gap_from, Relinked, Cleared, KeepsFreed};
+    ghost use Rattle.heap_core.specs.Code.Links.{gap_count, gap_below, gap_from, LinkChanged, Cleared, KeepsFreed};
     ghost use Rattle.heap_core.specs.Code.Holes.{Hole, Fits, Laid, Free};
     ghost use Rattle.heap_core.specs.HeapBytes.{heap_of, KeepsToSpan};
     ghost use Rattle.heap_core.specs.Code.Joins.{Joins};
@@ -69,11 +69,7 @@ impl Region {
         requires chunks { HasChunks self.old arena.old.bytes }
         requires before { IfSome before (λ gap. Stands gap (chunks_of self.old arena.old.bytes) × (gap.owner ≡ None)) }
         requires first { IfSome first (λ place. place < 65536) }
-        ensures chunks { HasChunks self.new arena.new.bytes }
-        ensures block { store_of self.new arena.new.bytes ≡ store_of self.old arena.old.bytes }
-        ensures stands { (other : OfChunks) → LiveIn other (chunks_of self.old arena.old.bytes) → LiveIn other (chunks_of self.new arena.new.bytes) }
-        ensures linked { Relinked self.old self.new arena.old.bytes arena.new.bytes before first }
-        ensures count { (self.new.gaps ≡ self.old.gaps) × (length (gaps_among (chunks_of self.new arena.new.bytes)) ≡ length (gaps_among (chunks_of self.old arena.old.bytes))) }
+        ensures relinked { LinkChanged self.old self.new arena.old.bytes arena.new.bytes before first }
         ensures kept { KeepsFreed self.old self.new }
         ensures rest { KeepsToSpan self.old self.new arena.old arena.new }
     {

@@ -54,6 +54,15 @@ Relinked old new bytes new_bytes last first =
     (before behind : List Chunk) (end : Option ℕ) → chunks_of old bytes ≡ before ++ behind → last ≡ last_of (gaps_among before)
     → LinkedTo old.lowest before end → LinkedTo first behind None → LinkedTo new.lowest (chunks_of new new_bytes) None
 
+-- the gaps are linked so, and every chunk stays
+pub record LinkChanged (old new : Region) (bytes new_bytes : List ℕ) (last : Option Chunk) (first : Option ℕ) : Type 0 where
+  pub chunks : HasChunks new new_bytes
+  pub block : store_of new new_bytes ≡ store_of old bytes
+  pub stands : (other : Chunk) → LiveIn other (chunks_of old bytes) → LiveIn other (chunks_of new new_bytes)
+  pub linked : Relinked old new bytes new_bytes last first
+  pub gaps : new.gaps ≡ old.gaps
+  pub count : length (gaps_among (chunks_of new new_bytes)) ≡ length (gaps_among (chunks_of old bytes))
+
 -- the chunks between two places of these, which become what is linked from first to link
 pub record Exchanged (old new : Region) (bytes new_bytes : List ℕ) (from end : ℕ) (first link : Option ℕ) : Type 0 where
   pub before : List Chunk

@@ -42,18 +42,12 @@ module _ (c : After-live_chunk-chunk) where
   abbrev chunk : Chunk
   chunk = c.live_chunk-chunk.result
 
-  abbrev name : ℕ
-  name = c.number_of-name.result
-
-  abbrev n : ℕ
-  n = c.args.n
-
   abbrev after : HeapStore → Option HeapStore
-  after h = reallocated c.args.key.0.0 c.args.key.1 n h
+  after h = reallocated c.args.key.0.0 c.args.key.1 c.args.n h
 
   -- the heap with the block at another place
   abbrev put : Place → HeapStore
-  put target = with_block (block_at target name (resized n (bytes_in_chunk heap.header B heap.span.at chunk))) (without_place chunk.at store)
+  put target = with_block (block_at target c.number_of-name.result (resized c.args.n (bytes_in_chunk heap.header B heap.span.at chunk))) (without_place chunk.at store)
 
   all : heap_of heap B ≡ store
   all = plain heap B c.join.ensures.joins.freed c.join.ensures.none
@@ -63,14 +57,14 @@ module _ (c : After-live_chunk-chunk) where
       let A = c.args.arena.now.bytes in
       joined_laid c.self.inside.region heap c.args.arena.now c.join.new.arena (subst (λ (r : Region). IsLaidOut r A) (sym c.self.view_is) c.requires.laid_out) c.join.ensures.joins
 
-  found : find_block name store ≡ Some (block_in_chunk heap.header B heap.span.at name chunk)
-  found = ap (find_block name) (sym all) ∙ c.live_chunk-chunk.ensures.block
+  found : find_block c.number_of-name.result store ≡ Some (block_in_chunk heap.header B heap.span.at c.number_of-name.result chunk)
+  found = ap (find_block c.number_of-name.result) (sym all) ∙ c.live_chunk-chunk.ensures.block
 
-  left : without_place chunk.at store ≡ without_block name store
-  left = without_place_is heap B (stored heap B joined) chunk name c.number_of-name.ensures.within c.live_chunk-chunk.ensures.owned
+  left : without_place chunk.at store ≡ without_block c.number_of-name.result store
+  left = without_place_is heap B (stored heap B joined) chunk c.number_of-name.result c.number_of-name.ensures.within c.live_chunk-chunk.ensures.owned
 
   named : (new : HeapStore) → after store ≡ Some new → (other : ℕ) → count other new.blocks ≤ 1
-  named new is = named_after heap B store chunk c.args.key.0.0 c.args.key.1 name n left c.number_of-name.ensures.number found (λ other. subst (λ (k : HeapStore). count other k.blocks ≤ 1) all (joined.named other)) new is
+  named new is = named_after heap B store chunk c.args.key.0.0 c.args.key.1 c.number_of-name.result c.args.n left c.number_of-name.ensures.number found (λ other. subst (λ (k : HeapStore). count other k.blocks ≤ 1) all (joined.named other)) new is
 
   -- what comes of the joined heap comes of the one before
   told : (o : Option HeapStore) → after store ≡ o → after (heap_of c.args.self.now c.args.arena.now.bytes) ≡ o
@@ -78,24 +72,24 @@ module _ (c : After-live_chunk-chunk) where
       let A = c.args.arena.now.bytes in
       subst (λ (r : Region). after (heap_of r A) ≡ o) c.self.view_is (ap after (sym c.join.ensures.joins.blocks ∙ all) ∙ is)
 
-  moved : (new : HeapStore) → room_in_place (place_in_chunk heap.header chunk) n store ≡ None → option_map put (place n store) ≡ Some new → after store ≡ Some new
-  moved new none is = elsewhere heap B store chunk c.args.key.0.0 c.args.key.1 name n left c.number_of-name.ensures.number found new none is
+  moved : (new : HeapStore) → room_in_place (place_in_chunk heap.header chunk) c.args.n store ≡ None → option_map put (place c.args.n store) ≡ Some new → after store ≡ Some new
+  moved new none is = elsewhere heap B store chunk c.args.key.0.0 c.args.key.1 c.number_of-name.result c.args.n left c.number_of-name.ensures.number found new none is
 
   record Stayed (room : ℕ) (new : Region) (B' : List ℕ) : Type 0 where
     pub freed : FreedLinked new B'
     pub is : heap_of new B' ≡ put (at_place chunk.at room)
     pub done : after store ≡ Some (heap_of new B')
 
-  stayed : (room : ℕ) (new : Region) (B' : List ℕ) → room_in_place (place_in_chunk heap.header chunk) n store ≡ Some room → KeepsFreed heap new → store_of new B' ≡ put (at_place chunk.at room) → Stayed room new B'
+  stayed : (room : ℕ) (new : Region) (B' : List ℕ) → room_in_place (place_in_chunk heap.header chunk) c.args.n store ≡ Some room → KeepsFreed heap new → store_of new B' ≡ put (at_place chunk.at room) → Stayed room new B'
   stayed room new B' chosen kept block =
       let j = c.join.ensures in
       let freed : FreedLinked new B' =
       freed_none heap new B B' j.joins.freed j.none kept
       (ap (λ (k : HeapStore). length (unnamed k.blocks)) block
-      ∙ placed_unnamed (block_at (at_place chunk.at room) name (resized n (bytes_in_chunk heap.header B heap.span.at chunk))) (filter (by_place chunk.at) store.blocks) (lt-ltb name 272 c.number_of-name.ensures.within)
+      ∙ placed_unnamed (block_at (at_place chunk.at room) c.number_of-name.result (resized c.args.n (bytes_in_chunk heap.header B heap.span.at chunk))) (filter (by_place chunk.at) store.blocks) (lt-ltb c.number_of-name.result 272 c.number_of-name.ensures.within)
       ∙ none_unnamed (by_place chunk.at) store.blocks (j.joins.freed.all ∙ j.none)) in
       let is = plain new B' freed (kept.freed ∙ j.none) ∙ block in
-      record { freed = freed; is = is; done = in_place heap B store chunk c.args.key.0.0 c.args.key.1 name n left c.number_of-name.ensures.number found room (heap_of new B') chosen is }
+      record { freed = freed; is = is; done = in_place heap B store chunk c.args.key.0.0 c.args.key.1 c.number_of-name.result c.args.n left c.number_of-name.ensures.number found room (heap_of new B') chosen is }
 
 pub returns-in_default-clause-block : goal.returns-in_default-clause-block
 unfolding chunks_of

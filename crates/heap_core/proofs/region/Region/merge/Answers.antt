@@ -29,4 +29,4 @@ pub returns-clause-linked : goal.returns-clause-linked
 returns-clause-linked c =
     list_exchanged c.args.self.now c.clear_away-first-2.new.self c.args.arena.now.bytes c.clear_away-first-2.new.arena.bytes c.args.from c.args.end c.requires.chunks c.requires.gaps.linked
     c.gap_below-before.result c.clear_away-first-2.result c.args.link c.clear_away-first-2.ensures.cleared.exchanged c.gap_below-before.ensures c.requires.link
-    c.link_below.new.self c.link_below.new.arena.bytes c.clear_away-first-2.ensures.lowest c.link_below.ensures.linked
+    c.link_below.new.self c.link_below.new.arena.bytes c.clear_away-first-2.ensures.lowest c.link_below.ensures.relinked.linked

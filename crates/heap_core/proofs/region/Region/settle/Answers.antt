@@ -55,22 +55,22 @@ pub link_below-requires-clause-before : goal.link_below-requires-clause-before
 link_below-requires-clause-before c = (laid (goal.at.link_below-requires-clause-before c).After-lay-first).last
 
 pub overflow_sub-self : goal.overflow_sub-self
-overflow_sub-self c = omega (arith, c.link_below.ensures.count.0, c.link_below.ensures.count.1, (laid (goal.at.overflow_sub-self c).After-lay-first).count, c.gap_count.ensures)
+overflow_sub-self c = omega (arith, c.link_below.ensures.relinked.gaps, c.link_below.ensures.relinked.count, (laid (goal.at.overflow_sub-self c).After-lay-first).count, c.gap_count.ensures)
 
 pub returns-clause-gaps : goal.returns-clause-gaps
 unfolding chunks_of
 returns-clause-gaps c =
     let l = laid (goal.at.returns-clause-gaps c).After-lay-first in
-    record { linked = l.linked c.link_below.new.self c.link_below.new.arena.bytes c.lay-first.ensures.lowest c.link_below.ensures.linked; count = omega (arith, c.link_below.ensures.count.0, c.link_below.ensures.count.1, l.count, c.gap_count.ensures) }
+    record { linked = l.linked c.link_below.new.self c.link_below.new.arena.bytes c.lay-first.ensures.lowest c.link_below.ensures.relinked.linked; count = omega (arith, c.link_below.ensures.relinked.gaps, c.link_below.ensures.relinked.count, l.count, c.gap_count.ensures) }
 
 pub returns-clause-chunks : goal.returns-clause-chunks
 unfolding chunks_of
-returns-clause-chunks c = has_same c.link_below.new.self _ c.link_below.new.arena.bytes refl refl refl c.link_below.ensures.chunks
+returns-clause-chunks c = has_same c.link_below.new.self _ c.link_below.new.arena.bytes refl refl refl c.link_below.ensures.relinked.chunks
 
 pub returns-clause-block : goal.returns-clause-block
 unfolding chunks_of
 returns-clause-block c =
-    c.link_below.ensures.block
+    c.link_below.ensures.relinked.block
     ∙ (laid (goal.at.returns-clause-block c).After-lay-first).block (resized c.args.n (bytes_given c.args.self.now.header c.args.arena.now.bytes c.args.self.now.span.at c.args.source)) c.give_bytes.ensures.bytes
 
 pub returns-clause-stands : goal.returns-clause-stands
@@ -78,7 +78,7 @@ unfolding chunks_of
 returns-clause-stands c other h =
     let heap = c.args.self.now in
     let far : other.at ≢ c.args.target.at = λ e. elim (c.free_end-end.ensures.free.apart other h) [ inl low ↦ absurd (omega (arith, e, low, heap.header_least)) | inr high ↦ absurd (omega (arith, e, high, heap.header_least)) ] in
-    c.link_below.ensures.stands other ((laid (goal.at.returns-clause-stands c).After-lay-first).kept other h far)
+    c.link_below.ensures.relinked.stands other ((laid (goal.at.returns-clause-stands c).After-lay-first).kept other h far)
 
 pub returns-clause-kept : goal.returns-clause-kept
 returns-clause-kept c =
