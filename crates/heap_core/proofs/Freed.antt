@@ -3,21 +3,23 @@ use Rattle.std.proofs.Common.{◌≡◌, ◌≢◌, ℕ, suc, ◌+◌, ◌-◌, 
 use Rattle.std.specs.Prelude.{Option, Some, None, IfSome, filter, map}
 use Rattle.std.proofs.lemmas.Bool.{cases_Bool, ltb-true, lt-ltb, le-ltb, false≢true}
 use Rattle.std.proofs.lemmas.List.{length-append}
-use Rattle.std.proofs.lemmas.List.Elements.{filter-append}
+use Rattle.std.proofs.lemmas.List.Elements.{filter-append, All-nil}
 use Rattle.arena_core.specs.Outside.{ChangesOnly}
+use Rattle.arena_core.specs.declared.span.Span.{Span}
 use Rattle.heap_core.specs.declared.chunk.Chunk.{Chunk}
 use Rattle.heap_core.specs.declared.region.Region.{Region}
 use Rattle.heap_core.specs.HeapStore.{Block, HeapStore, placed}
 use Rattle.heap_core.specs.HeapBytes.{heap_of}
-use Rattle.heap_core.specs.Chunks.{FREED, is_a_name, chunk_at, AreJoined, with_chunk, blocks_in, is_named}
+use Rattle.heap_core.specs.Chunks.{FREED, is_a_name, chunk_at, Tell, AreJoined, with_chunk, blocks_in, is_named}
 use Rattle.heap_core.specs.Layout.{chunks_of, store_of, HasChunks}
-use Rattle.heap_core.specs.FreeList.{gaps_among, LinkedTo, NoneAt, AreFreed, unnamed, FreedLinked, Stands, LiveIn}
+use Rattle.heap_core.specs.FreeList.{gaps_among, LinkedTo, NoneAt, AreFreed, unnamed, GapsLinked, FreedLinked, Stands, LiveIn}
+use Rattle.heap_core.specs.Code.Joins.{Aside}
 use Rattle.heap_core.specs.Code.Links.{KeepsFreed}
 use Rattle.heap_core.specs.Code.Walks.{block_in_chunk}
 use Rattle.heap_core.proofs.Blocks.{elsewhere}
 use Rattle.heap_core.proofs.Gaps.{many}
 use Rattle.heap_core.proofs.Lists.{gaps_append, live_first, linked_parted, linked_live, link_live, linked_append}
-use Rattle.heap_core.proofs.Members.{In, in_of, in_left, in_right, in_cases, stands_of, in_told}
+use Rattle.heap_core.proofs.Members.{In, in_of, in_right, in_without, stands_of, in_told}
 use Rattle.heap_core.proofs.Releases.{left_apart}
 use Rattle.heap_core.proofs.Splice.{Spliced, spliced, joined_swap, joined_behind}
 use Rattle.heap_core.proofs.Standing.{Around, around}
@@ -157,62 +159,42 @@ module _ (heap : Region) (B : List ℕ) (has : HasChunks heap B) where
         ap (λ l. length (unnamed l)) other_blocks ∙ sym (ap (λ l. length (unnamed l)) all_blocks ∙ ap length (filtered (λ k. not (is_named k)) [] block gone))
 
     -- it is set aside
-    module _ (small : name < 272) (B' : List ℕ) (told : chunk_at B' heap.span.at chunk.at ≡ (let k : Chunk = record { at = chunk.at; len = chunk.len; owner = Some FREED; size = chunk.size; link = heap.newest } in k))
-        (changes : ChangesOnly (heap.span.at + chunk.at) 12 B B') where
+    module _ (small : name < 272) (new : Region) (B' : List ℕ) (span : new.span ≡ heap.span) (header : new.header ≡ heap.header) (footprint : new.footprint ≡ heap.footprint)
+        (told : chunk_at B' heap.span.at chunk.at ≡ (let k : Chunk = record { at = chunk.at; len = chunk.len; owner = Some FREED; size = chunk.size; link = heap.newest } in k)) (changes : ChangesOnly (heap.span.at + chunk.at) 12 B B') where
       abbrev aside : Chunk
       aside = record { at = chunk.at; len = chunk.len; owner = Some FREED; size = chunk.size; link = heap.newest }
 
       freed_live : aside.owner ≢ None
       freed_live none = absurd (let two : Some FREED ≡ None = none in cc)
 
-      was : AreJoined heap.header (at.before ++ (chunk ∷ at.behind))
-      was = subst (AreJoined heap.header) at.is has.joined
-
-      later : AreJoined heap.header (chunk ∷ at.behind)
-      later = joined_behind heap.header at.before (chunk ∷ at.behind) was
-
-      pub set : Spliced heap heap B B' at.before (aside ∷ []) at.behind
+      set : Spliced heap new B B' at.before (aside ∷ []) at.behind
       set =
-          spliced heap heap B B' chunk.at (chunk.at + chunk.len) at.before (aside ∷ []) at.behind refl refl has.within
+          let was : AreJoined heap.header (at.before ++ (chunk ∷ at.behind)) = subst (AreJoined heap.header) at.is has.joined in
+          let later = joined_behind heap.header at.before (chunk ∷ at.behind) was in
+          spliced heap new B B' chunk.at (chunk.at + chunk.len) at.before (aside ∷ []) at.behind span header has.within
           (changes_more (heap.span.at + chunk.at) 12 (heap.span.at + chunk.at) (chunk.at + chunk.len - chunk.at) B B' changes (omega arith) (omega (arith, at.enough)))
-          at.front (told, at.enough, refl) at.back
+          at.front (told, at.enough, refl) (subst (λ k. Tell heap.header B heap.span.at (chunk.at + chunk.len) k at.behind) (sym footprint) at.back)
           (joined_swap heap.header at.before (chunk ∷ at.behind) (aside ∷ at.behind) (λ live. freed_live) was ((λ none. absurd (freed_live none)), later.1, later.2))
 
       k : Block
       k = block_in_chunk heap.header B' heap.span.at FREED aside
 
-      set_blocks : (store_of heap B').blocks ≡ xs ++ (k ∷ ys)
+      set_blocks : (store_of new B').blocks ≡ xs ++ (k ∷ ys)
       unfolding k
       set_blocks = ap (λ (h : HeapStore). h.blocks) set.store
 
-      pub set_named : filter is_named (store_of heap B').blocks ≡ filter (elsewhere chunk.at) (filter is_named (store_of heap B).blocks)
+      set_named : filter is_named (store_of new B').blocks ≡ filter (elsewhere chunk.at) (filter is_named (store_of heap B).blocks)
       unfolding k
-      set_named =
-          ap (filter is_named) set_blocks
-          ∙ filtered is_named [] k refl
-          ∙ ap (filter is_named) (sym other_blocks)
-          ∙ filter_swap is_named (elsewhere chunk.at) (store_of heap B).blocks
+      set_named = ap (filter is_named) set_blocks ∙ filtered is_named [] k refl ∙ ap (filter is_named) (sym other_blocks) ∙ filter_swap is_named (elsewhere chunk.at) (store_of heap B).blocks
 
-      pub set_unnamed : length (unnamed (store_of heap B').blocks) ≡ 1 + length (unnamed (store_of heap B).blocks)
+      set_unnamed : length (unnamed (store_of new B').blocks) ≡ 1 + length (unnamed (store_of heap B).blocks)
       unfolding k
-      set_unnamed =
-          ap (λ l. length (unnamed l)) set_blocks
-          ∙ counted (λ j. not (is_named j)) k refl
-          ∙ ap (λ l. 1 + length (unnamed l)) (sym other_blocks)
-          ∙ ap (λ n. 1 + n) (unnamed_kept small)
+      set_unnamed = ap (λ l. length (unnamed l)) set_blocks ∙ counted (λ j. not (is_named j)) k refl ∙ ap (λ l. 1 + length (unnamed l)) (sym other_blocks) ∙ ap (λ n. 1 + n) (unnamed_kept small)
 
-      others : (other : Chunk) → LiveIn other T → other.at ≢ chunk.at → LiveIn other (chunks_of heap B')
-      others other h far = record {
-        stands = stands_of other (chunks_of heap B') (subst (In other) (sym set.is) (
-            elim (in_cases other at.before (chunk ∷ at.behind) (subst (In other) at.is (in_of other T h.stands))) [
-              | inl early ↦ in_left other at.before (aside ∷ at.behind) early
-              | inr rest ↦ elim rest [
-                | inl same ↦ absurd (far (sym (ap (λ (j : Chunk). j.at) same)))
-                | inr last ↦ in_right other at.before (aside ∷ at.behind) (inr last)
-              ]
-            ]));
-        live = h.live;
-      }
+      others : (other : Chunk) → LiveIn other T → other.at ≢ chunk.at → LiveIn other (chunks_of new B')
+      others other h far =
+          let left = in_without other chunk at.before [] at.behind h.live far (All-nil (λ (c : Chunk). c.owner ≡ None)) (subst (In other) at.is (in_of other T h.stands)) in
+          set.kept other (record { stands = stands_of other (at.before ++ at.behind) left; live = h.live })
 
       none_there : (head : Option ℕ) (list : List Chunk) → AreFreed T head list → NoneAt chunk.at list
       none_there head [] h = tt
@@ -225,29 +207,40 @@ module _ (heap : Region) (B : List ℕ) (has : HasChunks heap B) where
         none_there d.link list h.4,
       )
 
-      pub set_freed : (f : FreedLinked heap B) → AreFreed (chunks_of heap B') (Some chunk.at) (aside ∷ f.list)
-      set_freed f =
-          let none = none_there heap.newest f.list f.linked in (
-            refl,
-            record { stands = stands_of aside (chunks_of heap B') (subst (In aside) (sym set.is) (in_right aside at.before (aside ∷ at.behind) (inl refl))); live = freed_live },
-            refl,
-            none,
-            freed_moved T (chunks_of heap B') heap.newest f.list chunk.at none others f.linked,
-          )
-
-      pub set_gaps : gaps_among (chunks_of heap B') ≡ gaps_among T
+      set_gaps : gaps_among (chunks_of new B') ≡ gaps_among T
       set_gaps =
           ap gaps_among set.is
           ∙ gaps_append at.before (aside ∷ at.behind)
           ∙ ap (λ l. gaps_among at.before ++ l) (sym (live_first chunk name at.behind owner))
           ∙ sym (ap gaps_among at.is ∙ gaps_append at.before (chunk ∷ at.behind))
 
-      pub set_linked : LinkedTo heap.lowest T None → LinkedTo heap.lowest (chunks_of heap B') None
+      set_linked : LinkedTo heap.lowest T None → LinkedTo heap.lowest (chunks_of new B') None
       set_linked linked =
           let p = linked_parted heap.lowest None at.before (chunk ∷ at.behind) (subst (λ l. LinkedTo heap.lowest l None) at.is linked) in
           subst (λ l. LinkedTo heap.lowest l None) (sym set.is)
           (linked_append heap.lowest p.mid None at.before (aside ∷ at.behind) p.front
           (link_live p.mid None FREED aside at.behind refl (linked_live p.mid None name chunk at.behind owner p.back)))
+
+      pub set_aside : new.newest ≡ Some chunk.at → new.freed ≡ heap.freed + 1 → new.lowest ≡ heap.lowest → new.gaps ≡ heap.gaps → GapsLinked heap B → FreedLinked heap B → Aside heap new B B' chunk
+      set_aside newest freed lowest gaps g f = record {
+        chunks = set.has;
+        block = ap (λ (s : Span). let h : HeapStore = record { size = s.len; header = new.header; blocks = filter is_named (store_of new B').blocks } in h) span
+            ∙ ap (λ k. let h : HeapStore = record { size = heap.span.len; header = k; blocks = filter is_named (store_of new B').blocks } in h) header
+            ∙ ap (λ blocks. let h : HeapStore = record { size = heap.span.len; header = heap.header; blocks = blocks } in h) set_named;
+        gaps = record { linked = subst (λ head. LinkedTo head (chunks_of new B') None) (sym lowest) (set_linked g.linked); count = gaps ∙ g.count ∙ sym (ap length set_gaps) };
+        freed = record {
+          list = aside ∷ f.list;
+          linked = (
+            newest,
+            record { stands = stands_of aside (chunks_of new B') (subst (In aside) (sym set.is) (in_right aside at.before (aside ∷ at.behind) (inl refl))); live = freed_live },
+            refl,
+            none_there heap.newest f.list f.linked,
+            freed_moved T (chunks_of new B') heap.newest f.list chunk.at (none_there heap.newest f.list f.linked) others f.linked,
+          );
+          count = omega (arith, f.count, freed);
+          all = omega (arith, f.all, set_unnamed, freed);
+        };
+      }
 
 -- a block with a name is put among the others
 pub placed_unnamed : (block : Block) (xs : List Block) → is_named block ≡ true → length (unnamed (placed block xs)) ≡ length (unnamed xs)

@@ -18,7 +18,7 @@ impl Region {
     ghost use Rattle.heap_core.specs.Code.Links.{gap_count, gap_below, gap_from, LinkChanged, Cleared, KeepsFreed};
     ghost use Rattle.heap_core.specs.Code.Holes.{Hole, Fits, Laid, Free};
     ghost use Rattle.heap_core.specs.HeapBytes.{heap_of, KeepsToSpan};
-    ghost use Rattle.heap_core.specs.Code.Joins.{Joins};
+    ghost use Rattle.heap_core.specs.Code.Joins.{Aside, Joins};
 
     /// Writes a live chunk's header at the front of the free bytes up to `end`. What it leaves of them becomes a gap, which is
     /// linked to the next one, or a part of the top gap. Answers the place of the gap that the one before is to be linked to.
@@ -268,10 +268,7 @@ impl Region {
         requires live { is_a_name chunk.owner ≡ true }
         requires gaps { GapsLinked self.old arena.old.bytes }
         requires freed { FreedLinked self.old arena.old.bytes }
-        ensures chunks { HasChunks self.new arena.new.bytes }
-        ensures block { heap_of self.new arena.new.bytes ≡ without_place chunk.at (heap_of self.old arena.old.bytes) }
-        ensures gaps { GapsLinked self.new arena.new.bytes }
-        ensures freed { FreedLinked self.new arena.new.bytes }
+        ensures aside { Aside self.old self.new arena.old.bytes arena.new.bytes chunk }
         ensures places { self.new.places ≡ self.old.places }
         ensures counts { (self.new.freed ≡ self.old.freed + 1) × (self.new.gaps ≡ self.old.gaps) }
         ensures rest { KeepsToSpan self.old self.new arena.old arena.new }

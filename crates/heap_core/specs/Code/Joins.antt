@@ -1,10 +1,19 @@
--- What joining the chunks that were freed with the gaps beside them keeps.
-use Rattle.std.specs.Prelude.{◌≡◌}
+-- What setting a chunk aside keeps, and what joining those that were freed with the gaps beside them keeps.
+use Rattle.std.specs.Prelude.{◌≡◌, ℕ, List}
 use Rattle.arena_core.specs.Contents.{Contents}
+use Rattle.heap_core.specs.declared.chunk.Chunk.{Chunk}
 use Rattle.heap_core.specs.declared.region.Region.{Region}
 use Rattle.heap_core.specs.HeapBytes.{heap_of, KeepsToSpan}
 use Rattle.heap_core.specs.Layout.{HasChunks}
 use Rattle.heap_core.specs.FreeList.{GapsLinked, FreedLinked}
+use Rattle.heap_core.specs.Code.Walks.{without_place}
+
+-- a block's chunk was set aside: the other blocks stay
+pub record Aside (old new : Region) (bytes new_bytes : List ℕ) (chunk : Chunk) : Type 0 where
+  pub chunks : HasChunks new new_bytes
+  pub block : heap_of new new_bytes ≡ without_place chunk.at (heap_of old bytes)
+  pub gaps : GapsLinked new new_bytes
+  pub freed : FreedLinked new new_bytes
 
 -- every block stays, and its place, its room and its bytes
 pub record Joins (old new : Region) (before after : Contents) : Type 0 where

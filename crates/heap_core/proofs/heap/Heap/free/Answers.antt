@@ -22,7 +22,7 @@ returns-clause-block c =
     let heap = c.self.inside.region in let B = c.args.arena.now.bytes in let chunk = c.live_chunk-chunk.result in
     let laid : IsLaidOut heap B = subst (λ (r : Region). IsLaidOut r B) (sym c.self.view_is) c.requires.laid_out in
     subst (λ (r : Region). heap_of c.set_aside.new.self c.set_aside.new.arena.bytes ≡ freed c.args.key.0.0 c.args.key.1 (heap_of r B)) c.self.view_is
-    (c.set_aside.ensures.block
+    (c.set_aside.ensures.aside.block
     ∙ live_without_place heap B (stored heap B laid) chunk c.number_of-name.result c.number_of-name.ensures.within c.live_chunk-chunk.ensures.owned
     ∙ ap (λ k. without_block k (heap_of heap B)) c.number_of-name.ensures.number)
 
@@ -38,14 +38,14 @@ returns-clause-laid_out c =
     let laid : IsLaidOut heap B = subst (λ (r : Region). IsLaidOut r B) (sym c.self.view_is) c.requires.laid_out in
     let mid = heap_of c.set_aside.new.self c.set_aside.new.arena.bytes in let s = c.set_aside.ensures in
     let named : (name : ℕ) → count name mid.blocks ≤ 1 =
-    λ name. omega (arith, ap (λ (h : HeapStore). count name h.blocks) s.block, count_filter name (elsewhere chunk.at) (heap_of heap B).blocks, laid.named name) in
-    let is : mid ≡ without_block number (heap_of heap B) = s.block ∙ live_without_place heap B (stored heap B laid) chunk number c.number_of-name.ensures.within c.live_chunk-chunk.ensures.owned in
+    λ name. omega (arith, ap (λ (h : HeapStore). count name h.blocks) s.aside.block, count_filter name (elsewhere chunk.at) (heap_of heap B).blocks, laid.named name) in
+    let is : mid ≡ without_block number (heap_of heap B) = s.aside.block ∙ live_without_place heap B (stored heap B laid) chunk number c.number_of-name.ensures.within c.live_chunk-chunk.ensures.owned in
     let places : ArePlaced (slice_set c.set_aside.new.self.places number None) mid =
     subst (λ places. ArePlaced (slice_set places number None) mid) (sym s.places) (placed_less heap.places (heap_of heap B) mid number c.number_of-name.ensures.within is laid.places) in
     record {
-      chunks = has_same c.set_aside.new.self _ c.set_aside.new.arena.bytes refl refl refl s.chunks;
+      chunks = has_same c.set_aside.new.self _ c.set_aside.new.arena.bytes refl refl refl s.aside.chunks;
       named = named;
       places = places;
-      gaps = record { linked = s.gaps.linked; count = s.gaps.count };
-      freed = record { list = s.freed.list; linked = s.freed.linked; count = s.freed.count; all = s.freed.all };
+      gaps = record { linked = s.aside.gaps.linked; count = s.aside.gaps.count };
+      freed = record { list = s.aside.freed.list; linked = s.aside.freed.linked; count = s.aside.freed.count; all = s.aside.freed.all };
     }

@@ -47,7 +47,7 @@ returns-clause-block c =
     ap (λ (h : HeapStore). length (unnamed h.blocks)) c.settle.ensures.block ∙ placed_unnamed block xs (lt-ltb c.args.name 272 c.requires.name) ∙ c.requires.freed.all ∙ c.requires.joined in
     let blocks : filter is_named (store_of mid M).blocks ≡ placed block xs = all_named (store_of mid M).blocks none ∙ ap (λ (h : HeapStore). h.blocks) c.settle.ensures.block in
     ap (option_map (λ (p : Place). with_block (block_at p c.args.name (resized n (bytes_in_chunk heap.header B b chunk))) (without_place chunk.at (store_of heap B)))) (sym c.in_ok-target.ensures)
-    ∙ ap Some (sym (c.set_aside.ensures.block
+    ∙ ap Some (sym (c.set_aside.ensures.aside.block
     ∙ ap (λ blocks. let h : HeapStore = record { size = mid.span.len; header = mid.header; blocks = filter (elsewhere chunk.at) blocks } in h) blocks
     ∙ ap (λ size. let h : HeapStore = record { size = size; header = mid.header; blocks = filter (elsewhere chunk.at) (placed block xs) } in h) (ap (λ (h : HeapStore). h.size) c.settle.ensures.block)
     ∙ ap (λ header. let h : HeapStore = record { size = heap.span.len; header = header; blocks = filter (elsewhere chunk.at) (placed block xs) } in h) (ap (λ (h : HeapStore). h.header) c.settle.ensures.block)
