@@ -76,7 +76,7 @@ gap_at_end heap B chunk a has live =
     ]
 
 -- which room there is where a block is
-abbrev choice : ℕ → ℕ → ℕ → ℕ → ℕ → ℕ → Option ℕ
+abbrev pub choice : ℕ → ℕ → ℕ → ℕ → ℕ → ℕ → Option ℕ
 choice least room end top_at top gap =
     if leb least room then Some (room_taken least room)
     else if eqb end top_at then (if leb least (room + top) then Some least else None)

@@ -18,7 +18,7 @@ impl Region {
     ghost use Rattle.heap_core.specs.Code.Links.{gap_count, gap_below, gap_from, LinkChanged, Cleared, KeepsFreed};
     ghost use Rattle.heap_core.specs.Code.Holes.{Hole, Fits, Laid, Free};
     ghost use Rattle.heap_core.specs.HeapBytes.{heap_of, KeepsToSpan};
-    ghost use Rattle.heap_core.specs.Code.Joins.{Aside, Joins};
+    ghost use Rattle.heap_core.specs.Code.Joins.{Changed, Aside, Joins};
 
     /// Writes a live chunk's header at the front of the free bytes up to `end`. What it leaves of them becomes a gap, which is
     /// linked to the next one, or a part of the top gap. Answers the place of the gap that the one before is to be linked to.
@@ -229,12 +229,7 @@ impl Region {
         requires stands { Stands chunk (chunks_of self.old arena.old.bytes) }
         requires live { chunk.owner ≢ None }
         requires gaps { GapsLinked self.old arena.old.bytes }
-        ensures chunks { HasChunks self.new arena.new.bytes }
-        ensures block { store_of self.new arena.new.bytes ≡ without_place chunk.at (store_of self.old arena.old.bytes) }
-        ensures others { (other : OfChunks) → LiveIn other (chunks_of self.old arena.old.bytes) → other.at ≢ chunk.at → LiveIn other (chunks_of self.new arena.new.bytes) }
-        ensures gaps { GapsLinked self.new arena.new.bytes }
-        ensures kept { KeepsFreed self.old self.new }
-        ensures rest { KeepsToSpan self.old self.new arena.old arena.new }
+        ensures { Changed self.old self.new arena.old arena.new chunk.at (without_place chunk.at (store_of self.old arena.old.bytes)) }
     {
         let beside = self.gaps_beside(arena, chunk.at);
         let from = self.free_before(arena, chunk, beside.below);
@@ -294,12 +289,7 @@ impl Region {
         requires some { 1 ≤ n }
         requires room { room_in_place (place_in_chunk self.old.header chunk) n (store_of self.old arena.old.bytes) ≡ Some room }
         requires gaps { GapsLinked self.old arena.old.bytes }
-        ensures gaps { GapsLinked self.new arena.new.bytes }
-        ensures others { (other : OfChunks) → LiveIn other (chunks_of self.old arena.old.bytes) → other.at ≢ chunk.at → LiveIn other (chunks_of self.new arena.new.bytes) }
-        ensures chunks { HasChunks self.new arena.new.bytes }
-        ensures block { store_of self.new arena.new.bytes ≡ with_block (block_at (at_place chunk.at room) name (resized n (bytes_in_chunk self.old.header arena.old.bytes self.old.span.at chunk))) (without_place chunk.at (store_of self.old arena.old.bytes)) }
-        ensures kept { KeepsFreed self.old self.new }
-        ensures rest { KeepsToSpan self.old self.new arena.old arena.new }
+        ensures { Changed self.old self.new arena.old arena.new chunk.at (with_block (block_at (at_place chunk.at room) name (resized n (bytes_in_chunk self.old.header arena.old.bytes self.old.span.at chunk))) (without_place chunk.at (store_of self.old arena.old.bytes))) }
     {
         let beside = self.gaps_beside(arena, chunk.at);
         let gap = self.gap_behind(arena, chunk);

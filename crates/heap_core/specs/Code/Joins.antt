@@ -1,12 +1,23 @@
 -- What setting a chunk aside keeps, and what joining those that were freed with the gaps beside them keeps.
-use Rattle.std.specs.Prelude.{◌≡◌, ℕ, List}
+use Rattle.std.specs.Prelude.{◌≡◌, ◌≢◌, ℕ, List}
 use Rattle.arena_core.specs.Contents.{Contents}
 use Rattle.heap_core.specs.declared.chunk.Chunk.{Chunk}
 use Rattle.heap_core.specs.declared.region.Region.{Region}
+use Rattle.heap_core.specs.HeapStore.{HeapStore}
 use Rattle.heap_core.specs.HeapBytes.{heap_of, KeepsToSpan}
-use Rattle.heap_core.specs.Layout.{HasChunks}
-use Rattle.heap_core.specs.FreeList.{GapsLinked, FreedLinked}
+use Rattle.heap_core.specs.Layout.{chunks_of, store_of, HasChunks}
+use Rattle.heap_core.specs.FreeList.{LiveIn, GapsLinked, FreedLinked}
+use Rattle.heap_core.specs.Code.Links.{KeepsFreed}
 use Rattle.heap_core.specs.Code.Walks.{without_place}
+
+-- what stood at a place became something else, and the chunks that are no gaps are these blocks: every other live chunk stays
+pub record Changed (old new : Region) (before after : Contents) (at : ℕ) (store : HeapStore) : Type 0 where
+  pub chunks : HasChunks new after.bytes
+  pub gaps : GapsLinked new after.bytes
+  pub block : store_of new after.bytes ≡ store
+  pub others : (other : Chunk) → LiveIn other (chunks_of old before.bytes) → other.at ≢ at → LiveIn other (chunks_of new after.bytes)
+  pub kept : KeepsFreed old new
+  pub rest : KeepsToSpan old new before after
 
 -- a block's chunk was set aside: the other blocks stay
 pub record Aside (old new : Region) (bytes new_bytes : List ℕ) (chunk : Chunk) : Type 0 where

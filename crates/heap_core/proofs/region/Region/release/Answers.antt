@@ -50,21 +50,18 @@ counted c =
 pub overflow_sub-self : goal.overflow_sub-self
 overflow_sub-self c = omega (arith, counted c, c.gap_count.ensures, c.gap_count-2.ensures)
 
-pub returns-clause-chunks : goal.returns-clause-chunks
+pub returns : goal.returns
 unfolding chunks_of
-returns-clause-chunks c = has_same c.merge.new.self _ c.merge.new.arena.bytes refl refl refl c.merge.ensures.chunks
-
-pub returns-clause-gaps : goal.returns-clause-gaps
-unfolding chunks_of
-returns-clause-gaps c = record { linked = c.merge.ensures.linked; count = omega (arith, counted c.before, c.gap_count.ensures, c.gap_count-2.ensures) }
-
-pub returns-clause-block : goal.returns-clause-block
-unfolding chunks_of
-returns-clause-block c = c.merge.ensures.block
-
-pub returns-clause-others : goal.returns-clause-others
-unfolding chunks_of
-returns-clause-others c other h far = c.merge.ensures.others other h far
+returns c =
+    let m = c.merge.ensures in
+    record {
+      chunks = has_same c.merge.new.self _ c.merge.new.arena.bytes refl refl refl m.chunks;
+      gaps = record { linked = m.linked; count = omega (arith, counted (goal.at.returns c).After-gap_count-2, c.gap_count.ensures, c.gap_count-2.ensures) };
+      block = m.block;
+      others = m.others;
+      kept = record { places = m.kept.places; newest = m.kept.newest; freed = m.kept.freed };
+      rest = record { span = m.rest.span; header = m.rest.header; carved = m.rest.carved; bytes = m.rest.bytes };
+    }
 
 pub merge-requires-clause-few : goal.merge-requires-clause-few
 merge-requires-clause-few c =

@@ -83,39 +83,24 @@ link_below-requires-clause-before c = (laid (goal.at.link_below-requires-clause-
 pub overflow_sub-self : goal.overflow_sub-self
 overflow_sub-self c = omega (arith, c.link_below.ensures.relinked.gaps, c.link_below.ensures.relinked.count, (laid (goal.at.overflow_sub-self c).After-lay-first).count, c.gap_count.ensures)
 
-pub returns-clause-gaps : goal.returns-clause-gaps
+pub returns : goal.returns
 unfolding chunks_of
-returns-clause-gaps c =
-    let l = laid (goal.at.returns-clause-gaps c).After-lay-first in
-    record { linked = l.linked c.link_below.new.self c.link_below.new.arena.bytes c.lay-first.ensures.lowest c.link_below.ensures.relinked.linked; count = omega (arith, c.link_below.ensures.relinked.gaps, c.link_below.ensures.relinked.count, l.count, c.gap_count.ensures) }
-
-pub returns-clause-others : goal.returns-clause-others
-unfolding chunks_of
-returns-clause-others c other h far = c.link_below.ensures.relinked.stands other ((laid (goal.at.returns-clause-others c).After-lay-first).kept other h far)
-
-pub returns-clause-chunks : goal.returns-clause-chunks
-unfolding chunks_of
-returns-clause-chunks c = has_same c.link_below.new.self _ c.link_below.new.arena.bytes refl refl refl c.link_below.ensures.relinked.chunks
-
-pub returns-clause-block : goal.returns-clause-block
-unfolding chunks_of
-returns-clause-block c =
-    c.link_below.ensures.relinked.block
-    ∙ (laid (goal.at.returns-clause-block c).After-lay-first).block (resized c.args.n (bytes_in_chunk c.args.self.now.header c.args.arena.now.bytes c.args.self.now.span.at c.args.chunk)) c.clear.ensures.bytes
-
-pub returns-clause-kept : goal.returns-clause-kept
-returns-clause-kept c =
-    let k = kept_then c.args.self.now c.lay-first.new.self c.link_below.new.self c.lay-first.ensures.kept c.link_below.ensures.kept in
-    record { places = k.places; newest = k.newest; freed = k.freed }
-
-pub returns-clause-rest : goal.returns-clause-rest
-returns-clause-rest c =
-    let heap = c.args.self.now in let A = c.args.arena.now in let r = room (goal.at.returns-clause-rest c).After-gap_behind-gap in
+returns c =
+    let heap = c.args.self.now in let A = c.args.arena.now in let mid = c.lay-first.new.self in let new = c.link_below.new.self in let last = c.link_below.new.arena in
+    let r = room (goal.at.returns c).After-gap_behind-gap in let l = laid (goal.at.returns c).After-lay-first in let linked = c.link_below.ensures.relinked in
     let cleared : KeepsToSpan heap heap A c.clear.new.arena = record {
       span = refl;
       header = refl;
       carved = c.clear.ensures.carved;
       bytes = changes_more (heap.span.at + c.args.chunk.at + heap.header) c.args.n heap.span.at heap.span.len A.bytes c.clear.new.arena.bytes c.clear.ensures.others (omega arith) (omega (arith, r.inside, r.enough));
     } in
-    let k = KeepsToSpan-then heap c.lay-first.new.self c.link_below.new.self A c.lay-first.new.arena c.link_below.new.arena (KeepsToSpan-then heap heap c.lay-first.new.self A c.clear.new.arena c.lay-first.new.arena cleared c.lay-first.ensures.rest) c.link_below.ensures.rest in
-    record { span = k.span; header = k.header; carved = k.carved; bytes = k.bytes }
+    let k = KeepsToSpan-then heap mid new A c.lay-first.new.arena last (KeepsToSpan-then heap heap mid A c.clear.new.arena c.lay-first.new.arena cleared c.lay-first.ensures.rest) c.link_below.ensures.rest in
+    let f = kept_then heap mid new c.lay-first.ensures.kept c.link_below.ensures.kept in
+    record {
+      chunks = has_same new _ last.bytes refl refl refl linked.chunks;
+      gaps = record { linked = l.linked new last.bytes c.lay-first.ensures.lowest linked.linked; count = omega (arith, linked.gaps, linked.count, l.count, c.gap_count.ensures) };
+      block = linked.block ∙ l.block (resized c.args.n (bytes_in_chunk heap.header A.bytes heap.span.at c.args.chunk)) c.clear.ensures.bytes;
+      others = λ other h far. linked.stands other (l.kept other h far);
+      kept = record { places = f.places; newest = f.newest; freed = f.freed };
+      rest = record { span = k.span; header = k.header; carved = k.carved; bytes = k.bytes };
+    }
