@@ -1,6 +1,7 @@
 pub mod event_order
 pub mod timer_deadlines
 pub mod Alone
+pub mod Arrivals
 pub mod Caller
 pub mod Callers
 pub mod Changes

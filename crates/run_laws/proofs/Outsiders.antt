@@ -1,6 +1,6 @@
 -- Nobody takes a turn but the applications of the mote.
-use Rattle.std.proofs.Common.{◌≡◌, ℕ, zero, suc, ◌+◌, ◌≤◌, Bool, true, false, not, List, [], ◌∷◌, ◌++◌, refl, ◌∙◌, sym, arith, subst, cond}
-use Rattle.std.specs.Prelude.{Option, Some, None, ◌==◌, if◌then◌else◌, map, option_to_list, length, nat_le}
+use Rattle.std.proofs.Common.{◌≡◌, ℕ, zero, suc, ◌+◌, ◌≤◌, Bool, true, false, not, List, [], ◌∷◌, ◌++◌, refl, ◌∙◌, arith}
+use Rattle.std.specs.Prelude.{Some, ◌==◌, map, nat_le}
 use Rattle.std.specs.List.{list_all, range_with_len}
 use Rattle.std.proofs.lemmas.Bool.Decides.{nat_tests}
 use Rattle.mote_types.specs.declared.call.Call.{Call}
@@ -8,23 +8,27 @@ use Rattle.mote_types.specs.declared.event.Origin.{Origin}
 use Rattle.mote_types.specs.declared.event.Stimulus.{Stimulus}
 use Rattle.mote_types.specs.declared.entry.Entry.{Entry}
 use Rattle.mote_types.specs.declared.entry.Input.{Input}
-use Rattle.mote_types.specs.declared.refusal.Refusal.{Refusal}
+use Rattle.mote_types.specs.declared.event.Event.{Event}
 use Rattle.mote_types.specs.Applications.{Applications}
-use Rattle.device_core.specs.PacketQueue.{free_slot}
 use Rattle.process_core.specs.declared.state.State.{State}
 use Rattle.process_core.specs.Agenda.{Item, Job}
 use Rattle.process_core.specs.Processes.{state_of, numbers, is_application}
-use Rattle.process_core.specs.Scheduler.{Scheduler, worked, worked_at, job, job_at, job_of_item, carried_out, delivery, first_event, in_front, wants_round}
+use Rattle.process_core.specs.Scheduler.{Scheduler, job_at, carried_out, delivery, first_event, in_front}
 use Rattle.kernel_core.specs.declared.config.Config.{Config}
-use Rattle.kernel_core.specs.Machine.{Machine, scheduled, is_bootable}
+use Rattle.kernel_core.specs.Machine.{Machine, is_bootable}
 use Rattle.kernel_core.specs.Calls.{after_call}
-use Rattle.kernel_core.specs.Inputs.{fed, frame_arrived, frame_held, frame_refusal, held_unless_lost}
-use Rattle.kernel_core.specs.Run.{Answers, StepMade, Running, Runs, one_step, job_done, with_more_work, turn_taken, silent, answers_after, after_step, at_start, with_input}
-use Rattle.run_laws.proofs.event_order.Items.{with_agenda}
+use Rattle.kernel_core.specs.Inputs.{effect}
+use Rattle.kernel_core.specs.KernelProcesses.{serve}
+use Rattle.kernel_core.specs.Run.{Running, Runs, with_more_work, at_start}
+use Rattle.run_laws.proofs.Arrivals.{effect-keeps}
+use Rattle.run_laws.proofs.event_order.Items.{with_agenda, facing}
+use Rattle.run_laws.proofs.event_order.Runs.{AtEach, each-more, at_each}
+use Rattle.run_laws.proofs.event_order.Shape.{is_note}
+use Rattle.run_laws.proofs.event_order.Steps.{Cases, law_of, turn_entry}
+use Rattle.run_laws.proofs.event_order.Tally.{is_turn}
 use Rattle.run_laws.proofs.timer_deadlines.Fronts.{all-append, all-mapped, all-delivered, after-all}
 use Rattle.run_laws.proofs.Marks.{state_of-with_other, state_of-with_mark, state_of-without, state_of-without_other}
 use Rattle.run_laws.proofs.Untouched.{serve-untouched}
-use Rattle.run_laws.proofs.Whole.{run-keeps}
 
 -- p is no kernel process, and no application either
 module _ (p : ℕ) (high : nat_le 4 p ≡ true) where
@@ -40,7 +44,7 @@ module _ (p : ℕ) (high : nat_le 4 p ≡ true) where
   keeps_out (Item.Turn q origin stimulus) = not (q == p)
   keeps_out (Item.Start q) = not (q == p)
   keeps_out (Item.GiveExit q) = not (q == p)
-  keeps_out (Item.Show entry) = is_others entry
+  keeps_out (Item.Show entry) = is_note entry
   keeps_out _ = true
 
   record IsOut (s : Scheduler Bool) : Type 0 where
@@ -90,15 +94,17 @@ module _ (p : ℕ) (high : nat_le 4 p ≡ true) where
   carried_out-applications : (item : Item) (s : Scheduler Bool) → (carried_out item s).applications ≡ s.applications
   carried_out-applications item s = grind arith
 
-  carried_out-out : (item : Item) (items : List Item) (s : Scheduler Bool) → s.agenda ≡ item ∷ items → IsOut s → IsOut (carried_out item (with_agenda items s))
-  carried_out-out item items s e h =
-      let all : list_all keeps_out (item ∷ items) ≡ true = rw e at h.agenda in
-      let one : keeps_out item ≡ true = grind (arith, all) in
-      let rest : list_all keeps_out items ≡ true = grind (arith, all) in
+  -- the rest of the agenda
+  without_item : (item : Item) (items : List Item) (s : Scheduler Bool) → IsOut (with_agenda (item ∷ items) s) → IsOut (with_agenda items s)
+  without_item item items s h = record { stranger = h.stranger; absent = h.absent; agenda = grind (arith, h.agenda) }
+
+  carried_out-out : (item : Item) (items : List Item) (s : Scheduler Bool) → IsOut (with_agenda (item ∷ items) s) → IsOut (carried_out item (with_agenda items s))
+  carried_out-out item items s h =
+      let one : keeps_out item ≡ true = grind (arith, h.agenda) in
       record {
         stranger = rw (carried_out-applications item (with_agenda items s)) h.stranger;
         absent = carried_out-state item items s one h.absent;
-        agenda = carried_out-agenda item items s one h.absent rest;
+        agenda = carried_out-agenda item items s one h.absent (without_item item items s h).agenda;
       }
 
   -- a call
@@ -143,105 +149,55 @@ module _ (p : ℕ) (high : nat_le 4 p ≡ true) where
 
   -- a step
 
-  record OutNext (step : StepMade) : Type 0 where
-    others : list_all is_others (option_to_list step.1) ≡ true
-    out : IsOut step.0.scheduler
+  only_notes : (agenda : List Item) (s : Scheduler Bool) (entry : Entry) → list_all keeps_out agenda ≡ true → job_at agenda s ≡ Some (Job.ShowEntry entry) → is_note entry ≡ true
+  only_notes [] s entry h e = absurd (grind (arith, e))
+  only_notes (item ∷ items) s entry h e = grind (arith, h, e)
 
-  limited : (b : Bool) (m : Machine) (step : StepMade) → IsOut m.scheduler → OutNext step
-      → OutNext (cond b (record m { is_halted = true }, Some Entry.Halt) step)
-  limited true m step h k = record { others = refl; out = h }
-  limited false m step h k = k
+  -- these items in front
+  in_front-out : (xs : List Item) (s : Scheduler Bool) → list_all keeps_out xs ≡ true → IsOut s → IsOut (in_front xs s)
+  in_front-out xs s k h = record { stranger = h.stranger; absent = h.absent; agenda = all-append keeps_out xs s.agenda k h.agenda }
 
-  -- the job is none of p's
-  abbrev spares : Option (Job Bool) → Bool
-  spares (Some (Job.TakeTurn q origin stimulus)) = not (q == p)
-  spares (Some (Job.ShowEntry entry)) = is_others entry
-  spares _ = true
-
-  job-out : (answers : Answers) (todo : Option (Job Bool)) (m : Machine) → spares todo ≡ true → IsOut m.scheduler → OutNext (job_done answers todo m)
-  job-out answers (Some (Job.TakeTurn q origin stimulus)) m k h =
-      let other : (q == p) ≡ false = grind (arith, k) in
-      limited (m.work == 10000) m (turn_taken q origin stimulus (answers q stimulus) m) h
-      (record { others = grind (arith, other); out = call-out (answers q stimulus) q (with_more_work m) other h })
-  job-out answers (Some (Job.Serve q event)) m k h =
+  served-out : (q : ℕ) (event : Event) (m : Machine) → IsOut m.scheduler → IsOut (serve q event m).scheduler
+  served-out q event m h =
       let kept = serve-untouched q event m in
-      record {
-        others = refl;
-        out = record { stranger = rw kept.applications h.stranger; absent = kept.states p ∙ h.absent; agenda = rw kept.agenda h.agenda };
-      }
-  job-out answers (Some (Job.CallBack q c true)) m k h = record { others = refl; out = h }
-  job-out answers (Some (Job.CallBack q c false)) m k h =
-      record { others = refl; out = record { stranger = h.stranger; absent = h.absent; agenda = h.agenda } }
-  job-out answers (Some (Job.ShowEntry entry)) m k h = record { others = grind (arith, k); out = h }
-  job-out answers (Some Job.Round) m k h = limited (m.work == 10000) m (silent (with_more_work m)) h (record { others = refl; out = h })
-  job-out answers (Some Job.Rest) m k h = record { others = refl; out = h }
-  job-out answers None m k h = record { others = refl; out = h }
+      record { stranger = rw kept.applications h.stranger; absent = kept.states p ∙ h.absent; agenda = rw kept.agenda h.agenda }
 
-  spares-item : (item : Item) (s : Scheduler Bool) → keeps_out item ≡ true → spares (job_of_item item s) ≡ true
-  spares-item (Item.Turn q origin stimulus) s k = k
-  spares-item (Item.Show entry) s k = k
-  spares-item (Item.Give q origin (Stimulus.Event event)) s k = grind arith
-  spares-item Item.Deliver s k = grind arith
-  spares-item item s k = refl
-
-  out-at : (answers : Answers) (agenda : List Item) (m : Machine) → m.scheduler.agenda ≡ agenda → IsOut m.scheduler
-      → OutNext (job_done answers (job_at agenda m.scheduler) (scheduled (worked_at agenda) m))
-  out-at answers [] m e h = go (wants_round m.scheduler)
-    where
-      go : (b : Bool) → OutNext (job_done answers (Some (if b then Job.Round else Job.Rest)) (scheduled (λ s. if b then in_front (Item.Polls ∷ Item.Deliver ∷ []) s else s) m))
-      go true = job-out answers (Some Job.Round) (scheduled (in_front (Item.Polls ∷ Item.Deliver ∷ [])) m) refl (record { stranger = h.stranger; absent = h.absent; agenda = h.agenda })
-      go false = job-out answers (Some Job.Rest) m refl h
-  out-at answers (item ∷ items) m e h =
-      let all : list_all keeps_out (item ∷ items) ≡ true = rw e at h.agenda in
-      let one : keeps_out item ≡ true = grind (arith, all) in
-      job-out answers (job_of_item item m.scheduler) (scheduled (worked_at (item ∷ items)) m) (spares-item item m.scheduler one)
-      (carried_out-out item items m.scheduler e h)
-
-  step-out : (answers : Answers) (m : Machine) → IsOut m.scheduler → OutNext (one_step answers m)
-  step-out answers m h = go m.is_halted
-    where
-      go : (b : Bool) → OutNext (cond b (silent m) (job_done answers (job m.scheduler) (scheduled worked m)))
-      go true = record { others = refl; out = h }
-      go false = out-at answers m.scheduler.agenda m refl h
+  effect-out : (input : Input) (m : Machine) → IsOut m.scheduler → IsOut (effect input m).scheduler
+  effect-out input m h =
+      effect-keeps IsOut input m h (λ q. record { stranger = h.stranger; absent = state_of-with_mark p q true m.scheduler.processes ∙ h.absent; agenda = h.agenda })
+      (λ note. in_front-out (Item.Show (Entry.Note note) ∷ []) m.scheduler refl h)
 
   -- the run
 
-  record Out (r : Running) : Type 0 where
-    others : list_all is_others r.entries ≡ true
-    out : IsOut r.machine.scheduler
+  abbrev Out : Machine → List Entry → Type 0
+  Out m X = IsOut m.scheduler
 
-  after-out : (says : Applications) (r : Running) → Out r → Out (after_step says r)
-  after-out says r h =
-      let step = one_step (answers_after says r.entries) r.machine in
-      let goes = step-out (answers_after says r.entries) r.machine h.out in
-      record { others = others-append r.entries (option_to_list step.1) h.others goes.others; out = goes.out }
-    where
-      others-append : (xs ys : List Entry) → list_all is_others xs ≡ true → list_all is_others ys ≡ true → list_all is_others (xs ++ ys) ≡ true
-      others-append xs ys h k = all-append is_others xs ys h k
+  abbrev IsOthers : List Entry → Entry → Type 0
+  IsOthers before entry = is_others entry ≡ true
 
-  fed-out : (input : Input) (r : Running) → Out r → Out (with_input input r)
-  fed-out input r h = record { others = h.others; out = fed_scheduler input r.machine h.out }
-    where
-      arrived : (bytes : List ℕ) (m : Machine) → IsOut m.scheduler → IsOut (frame_arrived bytes m).scheduler
-      arrived bytes m h = arrives (frame_refusal (length bytes) m)
-        where
-          held : (o : Option ℕ) → IsOut (frame_held o bytes m).scheduler
-          held None = h
-          held (Some slot) =
-              record { stranger = h.stranger; absent = state_of-with_mark p 3 true m.scheduler.processes ∙ h.absent; agenda = h.agenda }
+  other_turn : (q : ℕ) (origin : Origin) (stimulus : Stimulus) (items : List Item) (m : Machine) → IsOut (with_agenda (Item.Turn q origin stimulus ∷ items) m.scheduler) → (q == p) ≡ false
+  other_turn q origin stimulus items m h = grind (arith, h.agenda)
 
-          arrives : (o : Option Refusal) → IsOut (held_unless_lost o bytes m).scheduler
-          arrives (Some refusal) = record { stranger = h.stranger; absent = h.absent; agenda = h.agenda }
-          arrives None = held (free_slot m.packets)
+  other_entry : (entry : Entry) → is_turn entry ≡ false → is_others entry ≡ true
+  other_entry entry n = grind (arith, n)
 
-      fed_scheduler : (input : Input) (m : Machine) → IsOut m.scheduler → IsOut (fed input m).scheduler
-      fed_scheduler (Input.Tick n) m h =
-          record { stranger = h.stranger; absent = state_of-with_mark p 0 true m.scheduler.processes ∙ h.absent; agenda = h.agenda }
-      fed_scheduler (Input.Serial bytes) m h =
-          record { stranger = h.stranger; absent = state_of-with_mark p 2 true m.scheduler.processes ∙ h.absent; agenda = h.agenda }
-      fed_scheduler (Input.Frame bytes) m h =
-          let k = arrived bytes.items (record m { work = 0 }) h in
-          record { stranger = k.stranger; absent = k.absent; agenda = k.agenda }
+  out_cases : Cases Out Out (AtEach IsOthers)
+  out_cases =
+      record {
+        notes = λ m X h entry e. only_notes m.scheduler.agenda m.scheduler entry h.agenda e;
+        free = λ m X h. h;
+        carried = λ m X item items n s h. carried_out-out item items m.scheduler h;
+        served = λ m X q origin event items k h. served-out q event (facing items m) (without_item (Item.Give q origin (Stimulus.Event event)) items m.scheduler h);
+        called_back = λ m X q c h. in_front-out (Item.Give q Origin.Callback (Stimulus.Callback c) ∷ []) m.scheduler refl h;
+        round = λ m X h. record { stranger = h.stranger; absent = h.absent; agenda = refl };
+        turn = λ m X items q origin stimulus call h.
+            call-out call q (with_more_work (facing items m)) (other_turn q origin stimulus items m h) (without_item (Item.Turn q origin stimulus) items m.scheduler h);
+        told = λ m X items q origin stimulus call h i. each-more IsOthers X (turn_entry q origin stimulus call) i (rw (other_turn q origin stimulus items m h) refl);
+        shown = λ m X items note h. without_item (Item.Show (Entry.Note note)) items m.scheduler h;
+        noted = λ m X items note h i. each-more IsOthers X (Entry.Note note) i refl;
+        other = λ X e n k i. each-more IsOthers X e i (other_entry e n);
+        input = λ input m X h. effect-out input (record m { work = 0 }) h;
+      }
 
   starts-out : (n from : ℕ) → from + n ≤ p → list_all keeps_out (map (λ q. Item.Start q) (range_with_len from n)) ≡ true
   starts-out zero from h = refl
@@ -250,21 +206,14 @@ module _ (p : ℕ) (high : nat_le 4 p ≡ true) where
       let few : (from + 1) + n ≤ p = omega (arith, h) in
       rw other (starts-out n (from + 1) few)
 
-  boot-out : (c : Config) → is_application c.apps p ≡ false → Out (at_start c)
+  boot-out : (c : Config) → is_application c.apps p ≡ false → IsOut (at_start c).machine.scheduler
   boot-out c out =
       let far : 4 + c.apps ≤ p = grind (arith, nat_tests, high, out) in
-      record {
-        others = refl;
-        out = record { stranger = out; absent = grind (arith, nat_tests, high); agenda = starts-out c.apps 4 far };
-      }
+      record { stranger = out; absent = grind (arith, nat_tests, high); agenda = starts-out c.apps 4 far }
 
   run-out : (c : Config) (says : Applications) (inputs : List Input) (after : Running) → Runs says (at_start c) inputs after
-      → is_application c.apps p ≡ false → Out after
-  run-out c says inputs after runs out = run-keeps Out says (after-out says) fed-out inputs (at_start c) after runs (boot-out c out)
-
-  behind : (before later : List Entry) (entry : Entry) → list_all is_others (before ++ entry ∷ later) ≡ true → is_others entry ≡ true
-  behind [] later entry h = grind (arith, h)
-  behind (x ∷ before) later entry h = behind before later entry (grind (arith, h))
+      → is_application c.apps p ≡ false → AtEach IsOthers after.entries
+  run-out c says inputs after runs out = at_each Out IsOthers (law_of Out Out (AtEach IsOthers) out_cases) c says inputs after runs (boot-out c out)
 
 -- so each turn is one of the processes 4 to 19, where the mote boots
 pub turns-low : (c : Config) (says : Applications) (inputs : List Input) (after : Running) → Runs says (at_start c) inputs after → is_bootable c ≡ true
@@ -278,7 +227,5 @@ turns-low c says inputs after runs boots before later p origin stimulus call spl
         let high : nat_le 4 p ≡ true = grind (arith, nat_tests, e) in
         let out : is_application c.apps p ≡ false = grind (arith, nat_tests, boots, e) in
         let entry = Entry.Turn (record { 0 = p }) origin stimulus call in
-        let all : list_all (is_others p high) (before ++ entry ∷ later) ≡ true =
-        subst (λ (es : List Entry). list_all (is_others p high) es ≡ true) (sym split) (run-out p high c says inputs after runs out).others in
-        let other : is_others p high entry ≡ true = behind p high before later entry all in
+        let other : is_others p high entry ≡ true = run-out p high c says inputs after runs out before later entry split in
         absurd (grind (arith, nat_tests, other))

@@ -131,7 +131,8 @@ sound_cases p a =
       turn = λ m X items q origin stimulus call h. turn_sound p X (with_more_work (facing items m)) q origin stimulus call h;
       told = λ m X items q origin stimulus call h i. turn_order p X m.scheduler items q origin stimulus call h;
       shown = λ m X items note h. shown_sound p X items note m.scheduler h;
-      other = order-other p;
+      noted = λ m X items note h. order-other p X (Entry.Note note) refl;
+      other = λ X e n k. order-other p X e n;
       input = λ input m X h.
           let woken : Machine = record m { work = 0 } in
           sound-other p X (Entry.Input input) (effect input woken).scheduler refl (effect-sound p X input woken h);

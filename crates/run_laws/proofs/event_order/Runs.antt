@@ -137,6 +137,20 @@ inputs-fed Q X fed all here = λ before later input e. go before input (mid_spli
     go before input (inl k) = subst Q (sym k.0) here
     go before input (inr k) = all before k.0 input k.1
 
+-- R holds of each entry, behind those before it
+abbrev pub AtEach : (List Entry → Entry → Type 0) → List Entry → Type 0
+AtEach R X = (before later : List Entry) (e : Entry) → before ++ e ∷ later ≡ X → R before e
+
+pub each-none : (R : List Entry → Entry → Type 0) → AtEach R []
+each-none R = λ before later e h. absurd (not_nil before e later h)
+
+pub each-more : (R : List Entry → Entry → Type 0) (X : List Entry) (e : Entry) → AtEach R X → R X e → AtEach R (X ++ e ∷ [])
+each-more R X e all new = λ before later a h. go before a (mid_split X before later a e h)
+  where
+    go : (before : List Entry) (a : Entry) → ((before ≡ X) × (a ≡ e)) ⊎ ((rest : List Entry) × (before ++ a ∷ rest ≡ X)) → R before a
+    go before a (inl k) = rw (k.0, k.1) new
+    go before a (inr k) = all before k.0 a k.1
+
 -- what is kept
 
 -- I holds of the machine and the entries while it isn't halted, and P of the entries always
@@ -319,3 +333,10 @@ pub at_prefixes : (I : Machine → List Entry → Type 0) (P : List Entry → Ty
     → I (at_start c).machine [] → P [] → Prefixes P after.entries
 at_prefixes I P law c says inputs after runs first none =
     (run-good I P (λ _. Unit {0}) law (λ m X e h. tt) c says inputs after runs first none).good.prefixes
+
+-- R holds of each entry
+pub at_each : (I : Machine → List Entry → Type 0) (R : List Entry → Entry → Type 0) → Law I (AtEach R)
+    → (c : Config) (says : Applications) (inputs : List Input) (after : Running) → Runs says (at_start c) inputs after
+    → I (at_start c).machine [] → AtEach R after.entries
+at_each I R law c says inputs after runs first =
+    at_prefixes I (AtEach R) law c says inputs after runs first (each-none R) after.entries [] (append-nil after.entries)

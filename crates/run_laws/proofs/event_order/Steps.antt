@@ -59,7 +59,9 @@ pub record Cases (I J : Machine → List Entry → Type 0) (P : List Entry → T
       → I (facing (Item.Turn q origin stimulus ∷ items) m) X → P X → P (X ++ turn_entry q origin stimulus call ∷ [])
   pub shown : (m : Machine) (X : List Entry) (items : List Item) (note : Note)
       → I (facing (Item.Show (Entry.Note note) ∷ items) m) X → I (facing items m) (X ++ Entry.Note note ∷ [])
-  pub other : (X : List Entry) (e : Entry) → is_turn e ≡ false → P X → P (X ++ e ∷ [])
+  pub noted : (m : Machine) (X : List Entry) (items : List Item) (note : Note)
+      → I (facing (Item.Show (Entry.Note note) ∷ items) m) X → P X → P (X ++ Entry.Note note ∷ [])
+  pub other : (X : List Entry) (e : Entry) → is_turn e ≡ false → is_note e ≡ false → P X → P (X ++ e ∷ [])
   pub input : (input : Input) (m : Machine) (X : List Entry) → I m X → I (effect input (record m { work = 0 })) (X ++ Entry.Input input ∷ [])
 
 module _ (I J : Machine → List Entry → Type 0) (P : List Entry → Type 0) (cases : Cases I J P) where
@@ -75,7 +77,7 @@ module _ (I J : Machine → List Entry → Type 0) (P : List Entry → Type 0) (
   limit_kept X m step i h = go (m.work == 10000)
     where
       go : (b : Bool) → Kept I P X (if b then (record m { is_halted = true }, Some Entry.Halt) else step)
-      go true = record { holds = λ live. absurd (grind (arith, live)); shown = cases.other X Entry.Halt refl i }
+      go true = record { holds = λ live. absurd (grind (arith, live)); shown = cases.other X Entry.Halt refl refl i }
       go false = h
 
   quiet_kept : (X : List Entry) (item : Item) (items : List Item) (m : Machine) → is_quiet_item item ≡ true → is_served item ≡ false → P X
@@ -109,7 +111,7 @@ module _ (I J : Machine → List Entry → Type 0) (P : List Entry → Type 0) (
   shown_kept X m (Entry.Turn pid origin stimulus call) items i n h = absurd (grind (arith, n))
   shown_kept X m (Entry.Input input) items i n h = absurd (grind (arith, n))
   shown_kept X m Entry.Halt items i n h = absurd (grind (arith, n))
-  shown_kept X m (Entry.Note note) items i n h = record { holds = λ live. cases.shown m X items note h; shown = cases.other X (Entry.Note note) refl i }
+  shown_kept X m (Entry.Note note) items i n h = record { holds = λ live. cases.shown m X items note h; shown = cases.noted m X items note h i }
 
   at_agenda : (X : List Entry) (agenda : List Item) (m : Machine) → m.scheduler.agenda ≡ agenda → I m X → I (facing agenda m) X
   at_agenda X agenda m e h = subst (λ a. I (facing a m) X) e h
@@ -159,7 +161,7 @@ module _ (I J : Machine → List Entry → Type 0) (P : List Entry → Type 0) (
         step = one_step_kept;
         notes = cases.notes;
         input = λ input m X h i. cases.input input m X h;
-        shown = λ input X i. cases.other X (Entry.Input input) refl i;
+        shown = λ input X i. cases.other X (Entry.Input input) refl refl i;
       }
 
 pub law_of : (I J : Machine → List Entry → Type 0) (P : List Entry → Type 0) → Cases I J P → Law I P

@@ -146,7 +146,8 @@ timely_cases p t low high =
       turn = λ m X items q origin stimulus call h. turn_timely p t low high X m items q origin stimulus call h;
       told = λ m X items q origin stimulus call h i. turn_early p t low high X m items q origin stimulus call h;
       shown = λ m X items note h. shown_timely p t X m items note h;
-      other = timely-other p t;
+      noted = λ m X items note h. timely-other p t X (Entry.Note note) refl;
+      other = λ X e n k. timely-other p t X e n;
       input = effect_timely p t;
     }
 

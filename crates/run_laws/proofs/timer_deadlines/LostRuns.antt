@@ -202,7 +202,8 @@ module _ (p t : ℕ) (low : nat_le 4 p ≡ true) (high : nat_lt p 20 ≡ true) w
         turn = attended-turn;
         told = λ m X items q origin stimulus call h i. tt;
         shown = attended-shown;
-        other = λ X e n i. tt;
+        noted = λ m X items note h i. tt;
+        other = λ X e n k i. tt;
         input = attended-input;
       }
 

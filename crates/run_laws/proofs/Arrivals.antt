@@ -1,0 +1,27 @@
+-- What an input does to the scheduler: a process is marked, or the note of a lost frame is in front.
+use Rattle.std.proofs.Common.{ℕ, Bool, [], ◌∷◌, length}
+use Rattle.std.specs.Prelude.{Option, Some, None}
+use Rattle.mote_types.specs.declared.entry.Entry.{Entry}
+use Rattle.mote_types.specs.declared.entry.Input.{Input}
+use Rattle.mote_types.specs.declared.entry.Note.{Note}
+use Rattle.mote_types.specs.declared.refusal.Refusal.{Refusal}
+use Rattle.device_core.specs.PacketQueue.{free_slot}
+use Rattle.process_core.specs.Agenda.{Item}
+use Rattle.process_core.specs.Scheduler.{Scheduler, marked, in_front}
+use Rattle.kernel_core.specs.Machine.{Machine}
+use Rattle.kernel_core.specs.Inputs.{effect, frame_held, frame_refusal, held_unless_lost}
+
+-- what holds of the scheduler, and outlasts both
+pub effect-keeps : (P : Scheduler Bool → Type 0) (input : Input) (m : Machine) → P m.scheduler → ((q : ℕ) → P (marked q m.scheduler))
+    → ((note : Note) → P (in_front (Item.Show (Entry.Note note) ∷ []) m.scheduler)) → P (effect input m).scheduler
+effect-keeps P (Input.Tick n) m h marks shows = marks 0
+effect-keeps P (Input.Serial bytes) m h marks shows = marks 2
+effect-keeps P (Input.Frame bytes) m h marks shows = arrives (frame_refusal (length bytes.items) m)
+  where
+    held : (o : Option ℕ) → P (frame_held o bytes.items m).scheduler
+    held None = h
+    held (Some slot) = marks 3
+
+    arrives : (o : Option Refusal) → P (held_unless_lost o bytes.items m).scheduler
+    arrives (Some refusal) = shows (Note.Lost refusal)
+    arrives None = held (free_slot m.packets)
