@@ -13,7 +13,7 @@ use Rattle.kernel_core.specs.Inputs.{effect, frame_held, frame_refusal, held_unl
 
 -- what holds of the scheduler, and outlasts both
 pub effect-keeps : (P : Scheduler Bool → Type 0) (input : Input) (m : Machine) → P m.scheduler → ((q : ℕ) → P (marked q m.scheduler))
-    → ((note : Note) → P (in_front (Item.Show (Entry.Note note) ∷ []) m.scheduler)) → P (effect input m).scheduler
+    → ((refusal : Refusal) → P (in_front (Item.Show (Entry.Note (Note.Lost refusal)) ∷ []) m.scheduler)) → P (effect input m).scheduler
 effect-keeps P (Input.Tick n) m h marks shows = marks 0
 effect-keeps P (Input.Serial bytes) m h marks shows = marks 2
 effect-keeps P (Input.Frame bytes) m h marks shows = arrives (frame_refusal (length bytes.items) m)
@@ -23,5 +23,5 @@ effect-keeps P (Input.Frame bytes) m h marks shows = arrives (frame_refusal (len
     held (Some slot) = marks 3
 
     arrives : (o : Option Refusal) → P (held_unless_lost o bytes.items m).scheduler
-    arrives (Some refusal) = shows (Note.Lost refusal)
+    arrives (Some refusal) = shows refusal
     arrives None = held (free_slot m.packets)

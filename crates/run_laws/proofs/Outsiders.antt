@@ -8,6 +8,7 @@ use Rattle.mote_types.specs.declared.event.Origin.{Origin}
 use Rattle.mote_types.specs.declared.event.Stimulus.{Stimulus}
 use Rattle.mote_types.specs.declared.entry.Entry.{Entry}
 use Rattle.mote_types.specs.declared.entry.Input.{Input}
+use Rattle.mote_types.specs.declared.entry.Note.{Note}
 use Rattle.mote_types.specs.declared.event.Event.{Event}
 use Rattle.mote_types.specs.Applications.{Applications}
 use Rattle.process_core.specs.declared.state.State.{State}
@@ -165,7 +166,7 @@ module _ (p : ℕ) (high : nat_le 4 p ≡ true) where
   effect-out : (input : Input) (m : Machine) → IsOut m.scheduler → IsOut (effect input m).scheduler
   effect-out input m h =
       effect-keeps IsOut input m h (λ q. record { stranger = h.stranger; absent = state_of-with_mark p q true m.scheduler.processes ∙ h.absent; agenda = h.agenda })
-      (λ note. in_front-out (Item.Show (Entry.Note note) ∷ []) m.scheduler refl h)
+      (λ refusal. in_front-out (Item.Show (Entry.Note (Note.Lost refusal)) ∷ []) m.scheduler refl h)
 
   -- the run
 
