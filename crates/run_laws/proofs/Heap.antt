@@ -1,5 +1,5 @@
 -- Heap memory: what each call keeps of a process's blocks, and so what a whole run shows of them.
-use Rattle.std.proofs.Common.{◌≡◌, ℕ, Bool, true, false, List, [], refl, ◌∙◌, sym, ap, arith, subst}
+use Rattle.std.proofs.Common.{◌≡◌, ℕ, Bool, true, false, List, [], refl, ◌∙◌, sym, ap, arith, subst, append-nil}
 use Rattle.std.specs.Prelude.{Option, Some, None, ◌==◌, if◌then◌else◌}
 use Rattle.std.proofs.lemmas.Bool.Decides.{nat_tests}
 use Rattle.mote_types.specs.declared.call.Call.{Call}
@@ -214,8 +214,8 @@ boot-has p c = record { own = λ k h. go h (is_heap_block h) }
 
 pub every-heap : (c : Config) (says : Applications) (inputs : List Input) (after : Running) → Runs says (at_start c) inputs after → EveryCall heap_kind after.entries
 every-heap c says inputs after runs before p origin stimulus call reply few has =
-    let kept = run-told (accepted heap_after) (KindLaw heap_kind) (HasHeap p) p (heap-laws p) at_first c says inputs after runs (boot-has p c) in
-    let law = call-law (accepted heap_after) (KindLaw heap_kind) (HasHeap p) p at_first after.entries before origin stimulus call reply kept.well has in
+    let well = run-told (accepted heap_after) (KindLaw heap_kind) (HasHeap p) p (heap-laws p) at_first c says inputs after runs (boot-has p c) after.entries [] (append-nil after.entries) in
+    let law = call-law (accepted heap_after) (KindLaw heap_kind) (HasHeap p) p at_first after.entries before origin stimulus call reply well has in
     subst (λ (blocks : Blocks). KindLaw heap_kind blocks call reply) (sym (blocks-told heap_after p (up_to_call before p origin stimulus call))) law
 
 module _ (c : Config) (says : Applications) (inputs : List Input) (after : Running) (runs : Runs says (at_start c) inputs after) where

@@ -30,7 +30,7 @@ use Rattle.run_laws.proofs.Managed.{HasBlocks, managed-laws, boot-has, one_reply
 use Rattle.run_laws.proofs.Marks.{marks, due}
 use Rattle.run_laws.proofs.Stores.{own_blocks, changes_managed, alloc-change, free-change, write-change, copy-change}
 use Rattle.run_laws.proofs.Told.{Told, told, answered, LawAt, Laws}
-use Rattle.run_laws.proofs.Whole.{WellTold, law-of, well-front, run-told}
+use Rattle.run_laws.proofs.Whole.{WellTold, law-of, run-told}
 
 -- a call on managed memory is told what memory answers
 asks : (call : Call) (p : ℕ) (m : Machine) → is_managed_call call ≡ true → after_call call p m ≡ asked_of_memory call p m
@@ -199,8 +199,7 @@ pub alone-so-far : (c : Config) (says : Applications) (inputs : List Input) (aft
 alone-so-far c says inputs after runs boots quota p before later e named split =
     let few : p ≤ 19 = grind (arith, nat_tests, boots, named) in
     let start : Told Memory = record { now = private_memory quota; last = None } in
-    let kept = run-told (own_after quota p) (AsAlone quota p) (IsLikeOwn quota p) p (isolated-laws quota p few) start c says inputs after runs (boot-like quota p c e) in
-    let well = well-front (own_after quota p) (AsAlone quota p) (IsLikeOwn quota p) p start before later (rw split kept.well) in
+    let well = run-told (own_after quota p) (AsAlone quota p) (IsLikeOwn quota p) p (isolated-laws quota p few) start c says inputs after runs (boot-like quota p c e) before later split in
     replied quota p before 0 start well
 
 pub all-alone : (c : Config) (says : Applications) (inputs : List Input) (after : Running) → Runs says (at_start c) inputs after

@@ -1,5 +1,5 @@
 -- Managed memory: what each call keeps of a process's blocks, and so what a whole run shows of them.
-use Rattle.std.proofs.Common.{◌≡◌, ℕ, zero, suc, ◌≤◌, Bool, true, false, List, [], ◌∷◌, ◌++◌, length, refl, ◌∙◌, sym, ap, arith, subst, get_or}
+use Rattle.std.proofs.Common.{◌≡◌, ℕ, zero, suc, ◌≤◌, Bool, true, false, List, [], ◌∷◌, ◌++◌, length, refl, ◌∙◌, sym, ap, arith, subst, get_or, append-nil}
 use Rattle.std.specs.Prelude.{Option, Some, None, ◌==◌, if◌then◌else◌, nat_le, drop, slice_get, replicate}
 use Rattle.std.specs.List.{list_all}
 use Rattle.std.specs.Option.{option_map}
@@ -311,8 +311,8 @@ boot-has p c = record { size = refl; slots = refl; own = λ k h. go h (is_handle
 
 pub every-managed : (c : Config) (says : Applications) (inputs : List Input) (after : Running) → Runs says (at_start c) inputs after → EveryCall managed_kind after.entries
 every-managed c says inputs after runs before p origin stimulus call reply few has =
-    let kept = run-told (accepted managed_after) (KindLaw managed_kind) (HasBlocks p) p (managed-laws p few) at_first c says inputs after runs (boot-has p c) in
-    let law = call-law (accepted managed_after) (KindLaw managed_kind) (HasBlocks p) p at_first after.entries before origin stimulus call reply kept.well has in
+    let well = run-told (accepted managed_after) (KindLaw managed_kind) (HasBlocks p) p (managed-laws p few) at_first c says inputs after runs (boot-has p c) after.entries [] (append-nil after.entries) in
+    let law = call-law (accepted managed_after) (KindLaw managed_kind) (HasBlocks p) p at_first after.entries before origin stimulus call reply well has in
     subst (λ (blocks : Blocks). KindLaw managed_kind blocks call reply) (sym (blocks-told managed_after p (up_to_call before p origin stimulus call))) law
 
 module _ (c : Config) (says : Applications) (inputs : List Input) (after : Running) (runs : Runs says (at_start c) inputs after) where

@@ -67,11 +67,11 @@ carried_out-show : (p : ℕ) (entry : Entry) (s : Scheduler Bool)
     → Kept p (Item.Show entry ∷ s.agenda) s.processes (carried_out (Item.Show entry) s)
 carried_out-show p entry s h = record { is_fit = grind (arith); same_due = grind (arith) }
 
-abbrev pub is_turn : Item → Bool
-is_turn (Item.Turn p origin stimulus) = true
-is_turn _ = false
+abbrev pub is_turn_item : Item → Bool
+is_turn_item (Item.Turn p origin stimulus) = true
+is_turn_item _ = false
 
-pub carried_out-kept : (p : ℕ) (item : Item) (s : Scheduler Bool) → is_turn item ≡ false
+pub carried_out-kept : (p : ℕ) (item : Item) (s : Scheduler Bool) → is_turn_item item ≡ false
     → fit (idle p s.processes) (marks p (item ∷ s.agenda)) ≡ true
     → Kept p (item ∷ s.agenda) s.processes (carried_out item s)
 carried_out-kept p (Item.Start q) s n h = carried_out-start p q s h

@@ -1,16 +1,18 @@
 -- Over a whole run.
 use Rattle.std.proofs.Common.{◌≡◌, ℕ, zero, suc, ◌+◌, ◌≤◌, Bool, true, false, not, List, [], ◌∷◌, ◌++◌, refl, ◌∙◌, sym, arith, subst, append_assoc}
-use Rattle.std.specs.Prelude.{Option, Some, None, ◌==◌, if◌then◌else◌, map, option_to_list, length, find, nat_le}
+use Rattle.std.specs.Prelude.{Option, Some, None, ◌==◌, if◌then◌else◌, map, length, find, nat_le}
 use Rattle.std.specs.List.{list_all, range_with_len}
 use Rattle.std.proofs.lemmas.Bool.Decides.{nat_tests}
 use Rattle.std.proofs.lemmas.List.Sums.{fold-append}
 use Rattle.mote_types.specs.declared.call.Call.{Call}
 use Rattle.mote_types.specs.declared.reply.Reply.{Reply}
 use Rattle.mote_types.specs.declared.refusal.Refusal.{Refusal}
+use Rattle.mote_types.specs.declared.event.Event.{Event}
 use Rattle.mote_types.specs.declared.event.Origin.{Origin}
 use Rattle.mote_types.specs.declared.event.Stimulus.{Stimulus}
 use Rattle.mote_types.specs.declared.entry.Entry.{Entry}
 use Rattle.mote_types.specs.declared.entry.Input.{Input}
+use Rattle.mote_types.specs.declared.entry.Note.{Note}
 use Rattle.mote_types.specs.Applications.{Applications}
 use Rattle.device_core.specs.declared.frame.Frame.{Frame}
 use Rattle.device_core.specs.PacketQueue.{PacketQueue, is_held, free_slot}
@@ -18,33 +20,24 @@ use Rattle.node_memory.specs.Memory.{Memory}
 use Rattle.process_core.specs.Agenda.{Item}
 use Rattle.process_core.specs.Processes.{state_of}
 use Rattle.kernel_core.specs.declared.config.Config.{Config}
-use Rattle.kernel_core.specs.Inputs.{fed, frame_arrived, frame_held, frame_refusal, held_unless_lost}
+use Rattle.process_core.specs.Scheduler.{Scheduler}
+use Rattle.kernel_core.specs.Calls.{after_call}
+use Rattle.kernel_core.specs.Inputs.{effect, frame_held, frame_refusal, held_unless_lost}
+use Rattle.kernel_core.specs.KernelProcesses.{serve}
 use Rattle.kernel_core.specs.Machine.{Machine, booted}
-use Rattle.kernel_core.specs.Run.{Running, Runs, ComesToRest, one_step, answers_after, after_step, after_steps, at_start, with_input}
+use Rattle.kernel_core.specs.Run.{Running, Runs, with_more_work, at_start}
 use Rattle.run_laws.specs.OwnTurns.{reply_of, reply_in, HasCall, up_to_call}
 use Rattle.run_laws.proofs.Marks.{marks, state_of-with_mark}
-use Rattle.run_laws.proofs.Told.{Told, told, told_any, told_all, answered, Fine, FineAny, LawAt, Laws, Now, step-told}
-
--- what each step keeps, a run keeps
-module _ (P : Running → Type 0) (says : Applications) (step : (r : Running) → P r → P (after_step says r)) where
-  pub after_steps-keeps : (n : ℕ) (r : Running) → P r → P (after_steps says n r)
-  after_steps-keeps zero r h = h
-  after_steps-keeps (suc n) r h = after_steps-keeps n (after_step says r) (step r h)
-
-  pub rest-keeps : (old new : Running) → ComesToRest says old new → P old → P new
-  rest-keeps old new (n, goes, still) h = subst P goes (after_steps-keeps n old h)
-
-  input-keeps : (input : Input) (inputs : List Input) (rested new : Running) → ((r : Running) → P r → P (with_input input r)) → P rested
-      → (rested.machine.is_halted ≡ true → new ≡ rested) → (P (with_input input rested) → rested.machine.is_halted ≡ false → P new)
-      → (b : Bool) → rested.machine.is_halted ≡ b → P new
-  input-keeps input inputs rested new feeds h stop go true e = subst P (sym (stop e)) h
-  input-keeps input inputs rested new feeds h stop go false e = go (feeds rested h) e
-
-  pub run-keeps : ((input : Input) (r : Running) → P r → P (with_input input r)) → (inputs : List Input) (old new : Running) → Runs says old inputs new → P old → P new
-  run-keeps feeds [] old new runs h = rest-keeps old new runs h
-  run-keeps feeds (input ∷ inputs) old new (rested, rests, stop, go) h =
-      input-keeps input inputs rested new (feeds input) (rest-keeps old rested rests h) stop
-      (λ k live. run-keeps feeds inputs (with_input input rested) new (go live) k) rested.machine.is_halted refl
+use Rattle.run_laws.proofs.Arrivals.{effect-keeps}
+use Rattle.run_laws.proofs.Silent.{is_turn_item}
+use Rattle.run_laws.proofs.Told.{Told, told, told_all, answered, Fine, LawAt, Laws, Now, Turned, same-now, carried-now, served-now, called_back-now, turn-step}
+use Rattle.run_laws.proofs.Untouched.{serve-untouched}
+use Rattle.run_laws.proofs.event_order.Items.{facing}
+use Rattle.run_laws.proofs.event_order.Runs.{Prefixes, at_prefixes}
+use Rattle.run_laws.proofs.event_order.Steps.{Cases, law_of, carried, kernel_carried, turn_entry, is_quiet_item}
+use Rattle.run_laws.proofs.event_order.Tally.{is_turn}
+use Rattle.run_laws.proofs.timer_deadlines.Fronts.{all-mapped}
+use Rattle.run_laws.proofs.timer_deadlines.Regular.{is_regular, carried-regular, after-regular, regular-note}
 
 -- a slot is one of 0 to 7
 found : (test : ℕ → Bool) (ns : List ℕ) (slot : ℕ) → list_all (λ n. nat_le n 15) ns ≡ true → find test ns ≡ Some slot → slot ≤ 15
@@ -72,76 +65,117 @@ module _ {S : Type 0} (next : Call → Reply → S → S) (Law : S → Call → 
   well-after t [] ys h = h
   well-after t (x ∷ xs) ys h = well-after (told next p t x) xs ys h.1
 
-  pub well-front : (t : Told S) (xs ys : List Entry) → WellTold t (xs ++ ys) → WellTold t xs
-  well-front t [] ys h = tt
-  well-front t (x ∷ xs) ys h = (h.0, well-front (told next p t x) xs ys h.1)
+  -- what it was told so far, and that kernel processes take no turn
+  pub record Holds (start : Told S) (m : Machine) (X : List Entry) : Type 0 where
+    pub regular : list_all is_regular m.scheduler.agenda ≡ true
+    pub now : Now next Law Rel p (told_all next p start X) m
 
-  well-any : (t : Told S) (o : Option Entry) → FineAny Law p t o → WellTold t (option_to_list o)
-  well-any t (Some entry) h = (h, tt)
-  well-any t None h = tt
+  -- an entry that is no turn tells it nothing
+  told-other : (start : Told S) (X : List Entry) (e : Entry) → is_turn e ≡ false → told_all next p start (X ++ e ∷ []) ≡ told_all next p start X
+  told-other start X e n = fold-append (told next p) start X (e ∷ []) ∙ grind (arith, n)
 
-  told-any : (t : Told S) (o : Option Entry) → told_all next p t (option_to_list o) ≡ told_any next p t o
-  told-any t (Some entry) = refl
-  told-any t None = refl
+  well-more : (start : Told S) (X : List Entry) (e : Entry) → WellTold start X → Fine Law p (told_all next p start X) e → WellTold start (X ++ e ∷ [])
+  well-more start X e h k = well-append start X (e ∷ []) h (k, tt)
 
-  pub record Keeps (start : Told S) (r : Running) : Type 0 where
-    pub well : WellTold start r.entries
-    pub now : r.machine.is_halted ≡ false → Now next Law Rel p (told_all next p start r.entries) r.machine
+  well-other : (start : Told S) (X : List Entry) (e : Entry) → is_turn e ≡ false → WellTold start X → WellTold start (X ++ e ∷ [])
+  well-other start X e n h = well-more start X e h (fine e n)
+    where
+      fine : (e : Entry) → is_turn e ≡ false → Fine Law p (told_all next p start X) e
+      fine (Entry.Turn pid origin stimulus call) n = absurd (grind (arith, n))
+      fine (Entry.Input input) n = tt
+      fine (Entry.Note note) n = tt
+      fine Entry.Halt n = tt
 
-  pub step-keeps : Laws next Law Rel p → (start : Told S) (says : Applications) (r : Running) → Keeps start r → Keeps start (after_step says r)
-  step-keeps laws start says r h =
-      let answers = answers_after says r.entries in
-      let goes = step-told next Law Rel p laws answers (told_all next p start r.entries) r.machine h.now in
-      let step = one_step answers r.machine in
-      let same : told_all next p start (r.entries ++ option_to_list step.1) ≡ told_any next p (told_all next p start r.entries) step.1 =
-      fold-append (told next p) start r.entries (option_to_list step.1) ∙ told-any (told_all next p start r.entries) step.1 in
+  not_turn : (item : Item) → is_quiet_item item ≡ true → is_turn_item item ≡ false
+  not_turn item n = grind (arith, n)
+
+  carried-holds : (start : Told S) (item : Item) (items : List Item) (m : Machine) (X : List Entry) → is_turn_item item ≡ false → Holds start (facing (item ∷ items) m) X
+      → Holds start (carried item items m) X
+  carried-holds start item items m X n h =
+      record { regular = carried-regular item items m.scheduler h.regular; now = carried-now next Law Rel p item items (told_all next p start X) m n h.now }
+
+  served-holds : (start : Told S) (q : ℕ) (event : Event) (m : Machine) (X : List Entry) → Holds start m X → Holds start (serve q event m) X
+  served-holds start q event m X h =
+      record { regular = rw ((serve-untouched q event m).agenda) h.regular; now = served-now next Law Rel p q event (told_all next p start X) m h.now }
+
+  turned : Laws next Law Rel p → (start : Told S) (m : Machine) (X : List Entry) (items : List Item) (q : ℕ) (origin : Origin) (stimulus : Stimulus) (call : Call)
+      → Holds start (facing (Item.Turn q origin stimulus ∷ items) m) X
+      → Turned next Law Rel p (told_all next p start X) (turn_entry q origin stimulus call) (after_call call q (with_more_work (facing items m)))
+  turned laws start m X items q origin stimulus call h =
+      turn-step next Law Rel p laws (q == p) call q origin stimulus items (told_all next p start X) m refl h.now
+
+  turn-holds : Laws next Law Rel p → (start : Told S) (m : Machine) (X : List Entry) (items : List Item) (q : ℕ) (origin : Origin) (stimulus : Stimulus) (call : Call)
+      → Holds start (facing (Item.Turn q origin stimulus ∷ items) m) X
+      → Holds start (after_call call q (with_more_work (facing items m))) (X ++ turn_entry q origin stimulus call ∷ [])
+  turn-holds laws start m X items q origin stimulus call h =
+      let high : nat_le 4 q ≡ true = grind (arith, h.regular) in
+      let rest : list_all is_regular items ≡ true = grind (arith, h.regular) in
       record {
-        well = well-append start r.entries (option_to_list step.1) h.well (well-any (told_all next p start r.entries) step.1 goes.fine);
-        now = λ e. subst (λ (t : Told S). Now next Law Rel p t step.0) (sym same) (goes.now e);
+        regular = after-regular call q (with_more_work (facing items m)) high rest;
+        now = rw (fold-append (told next p) start X (turn_entry q origin stimulus call ∷ [])) ((turned laws start m X items q origin stimulus call h).now);
       }
 
-  record Fed (old new : Machine) : Type 0 where
-    agenda : marks p new.scheduler.agenda ≡ marks p old.scheduler.agenda
-    state : state_of p new.scheduler.processes ≡ state_of p old.scheduler.processes
-    halted : new.is_halted ≡ old.is_halted
-    rel : (s : S) → Rel old.memory old.packets.frames s → Rel new.memory new.packets.frames s
+  shown-holds : (start : Told S) (m : Machine) (X : List Entry) (items : List Item) (note : Note) → Holds start (facing (Item.Show (Entry.Note note) ∷ items) m) X
+      → Holds start (facing items m) (X ++ Entry.Note note ∷ [])
+  shown-holds start m X items note h =
+      let k = carried-holds start (Item.Show (Entry.Note note)) items m X refl h in
+      record { regular = k.regular; now = rw (told-other start X (Entry.Note note) refl) k.now }
 
-  frame-kept : Laws next Law Rel p → (bytes : List ℕ) (m : Machine) → Fed m (frame_arrived bytes m)
-  frame-kept laws bytes m = arrives (frame_refusal (length bytes) m)
+  -- what an input brings
+  effect-rel : Laws next Law Rel p → (input : Input) (m : Machine) (s : S) → Rel m.memory m.packets.frames s → Rel (effect input m).memory (effect input m).packets.frames s
+  effect-rel laws (Input.Tick n) m s h = h
+  effect-rel laws (Input.Serial bytes) m s h = h
+  effect-rel laws (Input.Frame bytes) m s h = arrives (frame_refusal (length bytes.items) m)
     where
-      held : (o : Option ℕ) → free_slot m.packets ≡ o → Fed m (frame_held o bytes m)
-      held None e = record { agenda = refl; state = refl; halted = refl; rel = λ s h. h }
-      held (Some slot) e =
-          record {
-            agenda = refl;
-            state = state_of-with_mark p 3 true m.scheduler.processes;
-            halted = refl;
-            rel = λ s h. laws.frame slot (length bytes) bytes m.memory m.packets.frames s (slot_low m.packets slot e) h;
-          }
+      held : (o : Option ℕ) → free_slot m.packets ≡ o → Rel (frame_held o bytes.items m).memory (frame_held o bytes.items m).packets.frames s
+      held None e = h
+      held (Some slot) e = laws.frame slot (length bytes.items) bytes.items m.memory m.packets.frames s (slot_low m.packets slot e) h
 
-      arrives : (o : Option Refusal) → Fed m (held_unless_lost o bytes m)
-      arrives (Some refusal) = record { agenda = refl; state = refl; halted = refl; rel = λ s h. h }
+      arrives : (o : Option Refusal) → Rel (held_unless_lost o bytes.items m).memory (held_unless_lost o bytes.items m).packets.frames s
+      arrives (Some refusal) = h
       arrives None = held (free_slot m.packets) refl
 
-  fed-kept : Laws next Law Rel p → (input : Input) (m : Machine) → Fed m (fed input m)
-  fed-kept laws (Input.Tick n) m = record { agenda = refl; state = state_of-with_mark p 0 true m.scheduler.processes; halted = refl; rel = λ s h. h }
-  fed-kept laws (Input.Serial bytes) m = record { agenda = refl; state = state_of-with_mark p 2 true m.scheduler.processes; halted = refl; rel = λ s h. h }
-  fed-kept laws (Input.Frame bytes) m =
-      let kept = frame-kept laws bytes.items (record m { work = 0 }) in
-      record { agenda = kept.agenda; state = kept.state; halted = kept.halted; rel = kept.rel }
+  record Alike (old new : Scheduler Bool) : Type 0 where
+    marks_are : marks p new.agenda ≡ marks p old.agenda
+    state : state_of p new.processes ≡ state_of p old.processes
 
-  pub fed-keeps : Laws next Law Rel p → (start : Told S) (input : Input) (r : Running) → Keeps start r → Keeps start (with_input input r)
-  fed-keeps laws start input r h =
-      let kept = fed-kept laws input r.machine in
+  effect-alike : (input : Input) (m : Machine) → Alike m.scheduler (effect input m).scheduler
+  effect-alike input m =
+      effect-keeps (λ s. Alike m.scheduler s) input m (record { marks_are = refl; state = refl })
+      (λ q. record { marks_are = refl; state = state_of-with_mark p q true m.scheduler.processes }) (λ refusal. record { marks_are = refl; state = refl })
+
+  input-holds : Laws next Law Rel p → (start : Told S) (input : Input) (m : Machine) (X : List Entry) → Holds start m X
+      → Holds start (effect input (record m { work = 0 })) (X ++ Entry.Input input ∷ [])
+  input-holds laws start input m X h =
+      let woken : Machine = record m { work = 0 } in
+      let kept = effect-alike input woken in
       record {
-        well = h.well;
-        now = λ e.
-            let old = h.now (sym kept.halted ∙ e) in
-            record {
-              is_fit = rw (kept.agenda, kept.state) old.is_fit;
-              law = rw kept.agenda old.law;
-              rel = rw kept.agenda (kept.rel _ old.rel);
-            };
+        regular = effect-keeps (λ s. list_all is_regular s.agenda ≡ true) input woken h.regular (λ q. h.regular) (λ refusal. h.regular);
+        now = rw (told-other start X (Entry.Input input) refl)
+            (record {
+              is_fit = rw (kept.marks_are, kept.state) h.now.is_fit;
+              law = rw kept.marks_are h.now.law;
+              rel = rw kept.marks_are (effect-rel laws input woken _ h.now.rel);
+            });
+      }
+
+  pub told_cases : Laws next Law Rel p → (start : Told S) → Cases (Holds start) (Holds start) (WellTold start)
+  told_cases laws start =
+      record {
+        notes = λ m X h entry e. regular-note m.scheduler.agenda m.scheduler entry h.regular e;
+        free = λ m X h. h;
+        carried = λ m X item items n s h. carried-holds start item items m X (not_turn item n) h;
+        served = λ m X q origin event items k h.
+            let given = carried-holds start (Item.Give q origin (Stimulus.Event event)) items m X refl h in
+            served-holds start q event (facing items m) X (subst (λ n. Holds start n X) (kernel_carried q origin (Stimulus.Event event) items m k) given);
+        called_back = λ m X q c h. record { regular = h.regular; now = called_back-now next Law Rel p q c (told_all next p start X) m h.now };
+        round = λ m X h. record { regular = refl; now = same-now next Law Rel p (told_all next p start X) (facing [] m) (with_more_work (facing (Item.Polls ∷ Item.Deliver ∷ []) m)) h.now h.now.is_fit refl refl refl };
+        turn = turn-holds laws start;
+        told = λ m X items q origin stimulus call h i. well-more start X (turn_entry q origin stimulus call) i ((turned laws start m X items q origin stimulus call h).fine);
+        shown = shown-holds start;
+        noted = λ m X items note h i. well-other start X (Entry.Note note) refl i;
+        other = λ X e n k i. well-other start X e n i;
+        input = input-holds laws start;
       }
 
   marks-starts : (n from : ℕ) → marks p (map (λ q. Item.Start q) (range_with_len from n)) ≡ []
@@ -162,19 +196,18 @@ module _ {S : Type 0} (next : Call → Reply → S → S) (Law : S → Call → 
       go None = h
       go (Some call) = h
 
-  pub boot-keeps : (start : Told S) (c : Config) → Rel (booted c).memory [] start.now → Keeps start (at_start c)
-  boot-keeps start c rel =
+  pub boot-holds : (start : Told S) (c : Config) → Rel (booted c).memory [] start.now → Holds start (at_start c).machine []
+  boot-holds start c rel =
+      let none : marks p (booted c).scheduler.agenda ≡ [] = marks-starts c.apps 4 in
       record {
-        well = tt;
-        now = λ _.
-            let none : marks p (booted c).scheduler.agenda ≡ [] = marks-starts c.apps 4 in
-            record { is_fit = rw none; law = rw none (nothing-law start); rel = rw none (nothing-rel start (booted c).memory [] rel) };
+        regular = all-mapped is_regular (λ n. Item.Start n) (range_with_len 4 c.apps) (λ n. refl);
+        now = record { is_fit = rw none; law = rw none (nothing-law start); rel = rw none (nothing-rel start (booted c).memory [] rel) };
       }
 
   pub run-told : Laws next Law Rel p → (start : Told S) (c : Config) (says : Applications) (inputs : List Input) (after : Running)
-      → Runs says (at_start c) inputs after → Rel (booted c).memory [] start.now → Keeps start after
+      → Runs says (at_start c) inputs after → Rel (booted c).memory [] start.now → Prefixes (WellTold start) after.entries
   run-told laws start c says inputs after runs rel =
-      run-keeps (λ r. Keeps start r) says (step-keeps laws start says) (fed-keeps laws start) inputs (at_start c) after runs (boot-keeps start c rel)
+      at_prefixes (Holds start) (WellTold start) (law_of (Holds start) (Holds start) (WellTold start) (told_cases laws start)) c says inputs after runs (boot-holds start c rel) tt
 
   -- the first answer behind a call is what the law says
   pub law-of : (later : List Entry) (t : Told S) (call : Call) (reply : Reply) → t.last ≡ Some call → reply_in p later ≡ Some reply → WellTold t later
