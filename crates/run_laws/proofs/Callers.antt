@@ -1,10 +1,9 @@
 -- Every note of a packet that was sent comes behind the turn that sends it.
-use Rattle.std.proofs.Common.{◌≡◌, ℕ, zero, suc, ◌+◌, ◌≤◌, Bool, true, false, not, ◌&&◌, ◌||◌, List, [], ◌∷◌, ◌++◌, refl, ◌∙◌, sym, ap, arith, subst, append_assoc, ◌⊎◌, inl, inr}
-use Rattle.std.specs.Prelude.{Option, Some, None, fold, map, flat_map}
+use Rattle.std.proofs.Common.{◌≡◌, ℕ, ◌≤◌, Bool, true, false, not, ◌&&◌, ◌||◌, List, [], ◌∷◌, ◌++◌, refl, ◌∙◌, sym, ap, arith, subst, append_assoc, ◌⊎◌, inl, inr}
+use Rattle.std.specs.Prelude.{Some, fold, map}
 use Rattle.std.proofs.lemmas.List.Sums.{fold-append}
-use Rattle.std.specs.List.{list_any, range_with_len}
+use Rattle.std.specs.List.{list_any, list_all, range_with_len}
 use Rattle.mote_types.specs.declared.call.Call.{Call}
-use Rattle.mote_types.specs.declared.event.Event.{Event}
 use Rattle.mote_types.specs.declared.event.Origin.{Origin}
 use Rattle.mote_types.specs.declared.event.Stimulus.{Stimulus}
 use Rattle.mote_types.specs.EventNumbers.{EXITED}
@@ -13,7 +12,7 @@ use Rattle.mote_types.specs.declared.entry.Note.{Note}
 use Rattle.mote_types.specs.declared.entry.Input.{Input}
 use Rattle.mote_types.specs.Codes.{number_event}
 use Rattle.mote_types.specs.Applications.{Applications}
-use Rattle.process_core.specs.Agenda.{Item, Job, Queued}
+use Rattle.process_core.specs.Agenda.{Item, Job}
 use Rattle.process_core.specs.Processes.{numbers, without}
 use Rattle.process_core.specs.Requests.{farewells}
 use Rattle.process_core.specs.Scheduler.{Scheduler, job_at, carried_out, delivery, first_event}
@@ -35,6 +34,7 @@ use Rattle.run_laws.proofs.event_order.Runs.{AtEach, each-more, at_each}
 use Rattle.run_laws.proofs.event_order.Shape.{is_note}
 use Rattle.run_laws.proofs.event_order.Steps.{Cases, law_of, is_quiet_item, turn_entry}
 use Rattle.run_laws.proofs.event_order.Tally.{is_turn}
+use Rattle.run_laws.proofs.timer_deadlines.Fronts.{all-append, all-mapped, all-delivered}
 
 abbrev pub is_sent : Entry → Bool
 is_sent (Entry.Note (Note.Sent bytes)) = true
@@ -49,8 +49,7 @@ is_plain (Item.Show entry) = not (is_sent entry) && is_note entry
 is_plain _ = true
 
 abbrev all_plain : List Item → Bool
-all_plain [] = true
-all_plain (item ∷ items) = is_plain item && all_plain items
+all_plain items = list_all is_plain items
 
 -- notes of packets are at the front, and only behind a call that sends
 abbrev leads : Bool → List Item → Bool
@@ -69,32 +68,17 @@ plain-leads sends (Item.Polls ∷ items) h = h
 plain-leads sends (Item.PollOne q ∷ items) h = h
 plain-leads sends (Item.Deliver ∷ items) h = h
 
-plain-gives : (origin : Origin) (stimulus : Stimulus) (ns : List ℕ) (items : List Item) → all_plain (map (λ q. Item.Give q origin stimulus) ns ++ items) ≡ all_plain items
-plain-gives origin stimulus [] items = refl
-plain-gives origin stimulus (n ∷ ns) items = plain-gives origin stimulus ns items
-
-plain-polls : (ns : List ℕ) (items : List Item) → all_plain (map (λ q. Item.PollOne q) ns ++ items) ≡ all_plain items
-plain-polls [] items = refl
-plain-polls (n ∷ ns) items = plain-polls ns items
-
-plain-broadcast : (event : Event) (ns : List ℕ) (items : List Item)
-    → all_plain (flat_map (λ q. Item.Polls ∷ Item.Give q Origin.Event (Stimulus.Event event) ∷ []) ns ++ items) ≡ all_plain items
-plain-broadcast event [] items = refl
-plain-broadcast event (n ∷ ns) items = plain-broadcast event ns items
-
-plain-delivery : (ns : List ℕ) (event : Option (Queued Bool)) (items : List Item) → all_plain (delivery ns event ++ items) ≡ all_plain items
-plain-delivery ns (Some (Queued.To q event)) items = refl
-plain-delivery ns (Some (Queued.ToAll event)) items = plain-broadcast event ns items
-plain-delivery ns (Some (Queued.Expiry q c struck)) items = refl
-plain-delivery ns None items = refl
-
-plain-farewells : (p : ℕ) (s : Scheduler Bool) (rest agenda : List Item) → all_plain ((farewells p s ++ rest) ++ agenda) ≡ all_plain (rest ++ agenda)
-plain-farewells p s rest agenda =
-    rw (append_assoc) (plain-gives Origin.Synch (Stimulus.Event (number_event EXITED p)) (numbers (without p s.processes)) (rest ++ agenda))
+plain-farewells : (p : ℕ) (s : Scheduler Bool) (rest agenda : List Item) → all_plain (rest ++ agenda) ≡ true → all_plain ((farewells p s ++ rest) ++ agenda) ≡ true
+plain-farewells p s rest agenda h =
+    let told = all-mapped is_plain (λ q. Item.Give q Origin.Synch (Stimulus.Event (number_event EXITED p))) (numbers (without p s.processes)) (λ q. refl) in
+    rw (append_assoc) (all-append is_plain (farewells p s) (rest ++ agenda) told h)
 
 carried_out-plain : (item : Item) (s : Scheduler Bool) → all_plain s.agenda ≡ true → all_plain (carried_out item s).agenda ≡ true
-carried_out-plain Item.Polls s h = grind (arith, h, plain-polls (numbers s.processes) s.agenda)
-carried_out-plain Item.Deliver s h = plain-delivery (numbers s.processes) (first_event s) s.agenda ∙ h
+carried_out-plain Item.Polls s h =
+    let polls = all-mapped is_plain (λ n. Item.PollOne n) (numbers s.processes) (λ n. refl) in
+    grind (arith, h, all-append is_plain (map (λ n. Item.PollOne n) (numbers s.processes)) s.agenda polls)
+carried_out-plain Item.Deliver s h =
+    all-append is_plain (delivery (numbers s.processes) (first_event s)) s.agenda (all-delivered is_plain (numbers s.processes) (first_event s) refl (λ n stimulus. refl)) h
 carried_out-plain item s h = grind (arith, h)
 
 after_call-leads : (call : Call) (p : ℕ) (m : Machine) → all_plain m.scheduler.agenda ≡ true
@@ -115,10 +99,6 @@ sends_all entries = fold sends_after false entries
 -- a note of a packet comes behind a call that sends
 abbrev Sends : List Entry → Entry → Type 0
 Sends before entry = is_sent entry ≡ true → sends_all before ≡ true
-
-plain-starts : (n from : ℕ) → all_plain (map (λ q. Item.Start q) (range_with_len from n)) ≡ true
-plain-starts zero from = refl
-plain-starts (suc n) from = plain-starts n (from + 1)
 
 abbrev Led : Machine → List Entry → Type 0
 Led m X = leads (sends_all X) m.scheduler.agenda ≡ true
@@ -165,7 +145,7 @@ led_cases =
 
 led : (c : Config) (says : Applications) (inputs : List Input) (after : Running) → Runs says (at_start c) inputs after → AtEach Sends after.entries
 led c says inputs after runs =
-    at_each Led Sends (law_of Led Plain (AtEach Sends) led_cases) c says inputs after runs (plain-leads false (booted c).scheduler.agenda (plain-starts c.apps 4))
+    at_each Led Sends (law_of Led Plain (AtEach Sends) led_cases) c says inputs after runs (plain-leads false (booted c).scheduler.agenda (all-mapped is_plain (λ q. Item.Start q) (range_with_len 4 c.apps) (λ q. refl)))
 
 -- no turn yet, after one that sends; or one of these
 abbrev Found : Bool → List Entry → Type 0

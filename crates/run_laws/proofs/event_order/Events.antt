@@ -1,24 +1,23 @@
 -- The events given to an application are those accepted for it, in order, in every run.
 use Rattle.std.proofs.Common.{◌≡◌, ℕ, zero, suc, ◌+◌, Bool, true, false, List, [], ◌∷◌, ◌++◌, length, refl, ap, ◌∙◌, sym, subst, arith, append-nil}
-use Rattle.std.specs.Prelude.{Option, Some, None, map, nat_le, nat_lt}
+use Rattle.std.specs.Prelude.{map, nat_le, nat_lt}
 use Rattle.std.specs.List.{list_any, range_with_len}
 use Rattle.std.proofs.lemmas.Bool.Decides.{nat_tests}
 use Rattle.mote_types.specs.declared.event.Stimulus.{Stimulus}
-use Rattle.mote_types.specs.declared.refusal.Refusal.{Refusal}
 use Rattle.mote_types.specs.declared.entry.Input.{Input}
 use Rattle.mote_types.specs.declared.entry.Note.{Note}
 use Rattle.mote_types.specs.declared.entry.Entry.{Entry}
 use Rattle.mote_types.specs.Applications.{Applications}
 use Rattle.process_core.specs.Agenda.{Queued, Item}
-use Rattle.process_core.specs.Scheduler.{Scheduler, at_boot, in_front}
-use Rattle.device_core.specs.PacketQueue.{free_slot}
+use Rattle.process_core.specs.Scheduler.{Scheduler, at_boot, in_front, marked}
 use Rattle.process_core.specs.Idle.{is_empty, is_idle}
 use Rattle.process_core.specs.Processes.{is_application}
 use Rattle.kernel_core.specs.declared.config.Config.{Config}
 use Rattle.kernel_core.specs.Machine.{Machine}
 use Rattle.run_laws.specs.EventLaws.{has_ended}
 use Rattle.run_laws.specs.EventLaws.{given_events, accepted_events}
-use Rattle.kernel_core.specs.Inputs.{effect, frame_held, frame_refusal, held_unless_lost}
+use Rattle.kernel_core.specs.Inputs.{effect}
+use Rattle.run_laws.proofs.Arrivals.{effect-keeps}
 use Rattle.kernel_core.specs.Run.{Running, Runs, at_start, with_more_work}
 use Rattle.run_laws.specs.EventLaws.{InOrderFor, NoLostEventFor}
 use Rattle.run_laws.proofs.event_order.Tally.{nothing_known, accepted_with-none}
@@ -73,17 +72,9 @@ shown-sound p X note s h =
     }
 
 pub effect-sound : (p : ℕ) (X : List Entry) (input : Input) (m : Machine) → Sound p m.scheduler X → Sound p (effect input m).scheduler X
-effect-sound p X (Input.Tick n) m h = alike_sound p X m.scheduler (effect (Input.Tick n) m).scheduler refl (seats-with_mark p 0 true m.scheduler.processes) refl h
-effect-sound p X (Input.Serial bytes) m h = alike_sound p X m.scheduler (effect (Input.Serial bytes) m).scheduler refl (seats-with_mark p 2 true m.scheduler.processes) refl h
-effect-sound p X (Input.Frame bytes) m h = arrives (frame_refusal (length bytes.items) m)
-  where
-    held : (o : Option ℕ) → Sound p (frame_held o bytes.items m).scheduler X
-    held None = h
-    held (Some slot) = alike_sound p X m.scheduler (frame_held (Some slot) bytes.items m).scheduler refl (seats-with_mark p 3 true m.scheduler.processes) refl h
-
-    arrives : (o : Option Refusal) → Sound p (held_unless_lost o bytes.items m).scheduler X
-    arrives (Some refusal) = shown-sound p X (Note.Lost refusal) m.scheduler h
-    arrives None = held (free_slot m.packets)
+effect-sound p X input m h =
+    effect-keeps (λ s. Sound p s X) input m h (λ q. alike_sound p X m.scheduler (marked q m.scheduler) refl (seats-with_mark p q true m.scheduler.processes) refl h)
+    (λ refusal. shown-sound p X (Note.Lost refusal) m.scheduler h)
 
 -- at rest
 

@@ -40,6 +40,7 @@ use Rattle.run_laws.proofs.timer_deadlines.Early.{turn_setting, Timely, Free, Is
 use Rattle.run_laws.proofs.timer_deadlines.EarlyRuns.{timely_cases, boot_timely, has_timers}
 use Rattle.run_laws.proofs.event_order.Runs.{at_rest}
 use Rattle.run_laws.proofs.event_order.Steps.{Cases, law_of, is_quiet_item, is_served, carried, kernel_carried, turn_entry}
+use Rattle.run_laws.proofs.Arrivals.{effect-keeps}
 use Rattle.run_laws.proofs.timer_deadlines.Watched.{Watched, is_timer_due, without_item, watched-carried, watched-front, watched-serve}
 use Rattle.run_laws.proofs.timer_deadlines.WatchedCalls.{watched-turn, watched-input, watched-boot, rest-not_due}
 use Rattle.run_laws.proofs.timer_deadlines.Farewells.{is_no_exited, is_doomed, is_farewell, carried-events, after-events, serve-events}
@@ -167,26 +168,13 @@ module _ (p t : ℕ) (low : nat_le 4 p ≡ true) (high : nat_lt p 20 ≡ true) w
           heeded-other p t X (Entry.Input (Input.Frame bytes)) m (held_unless_lost (Some refusal) bytes.items (record m { work = 0 })) refl (λ d. d) refl (λ k f. f) refl refl h
       arrives None = held (free_slot m.packets)
 
-  input-clean : (input : Input) (m : Machine) → list_all is_no_exited m.scheduler.events ≡ true → list_all is_no_exited (effect input (record m { work = 0 })).scheduler.events ≡ true
-  input-clean (Input.Tick n) m h = h
-  input-clean (Input.Serial bytes) m h = h
-  input-clean (Input.Frame bytes) m h = arrives (frame_refusal (length bytes.items) (record m { work = 0 }))
-    where
-      held : (o : Option ℕ) → list_all is_no_exited (frame_held o bytes.items (record m { work = 0 })).scheduler.events ≡ true
-      held None = h
-      held (Some slot) = h
-
-      arrives : (o : Option Refusal) → list_all is_no_exited (held_unless_lost o bytes.items (record m { work = 0 })).scheduler.events ≡ true
-      arrives (Some refusal) = h
-      arrives None = held (free_slot m.packets)
-
   attended-input : (input : Input) (m : Machine) (X : List Entry) → Attended p t m X → Attended p t (effect input (record m { work = 0 })) (X ++ Entry.Input input ∷ [])
   attended-input input m X h =
       record {
         timely = timely.input input m X h.timely;
         sound = sound.input input m X h.sound;
         watched = watched-input input m h.watched;
-        clean = input-clean input m h.clean;
+        clean = effect-keeps (λ s. list_all is_no_exited s.events ≡ true) input (record m { work = 0 }) h.clean (λ q. h.clean) (λ refusal. h.clean);
         heeded = heeded-input input m X h.heeded;
       }
 
