@@ -59,14 +59,7 @@ leads sends items = all_plain items
 plain-leads : (sends : Bool) (items : List Item) → all_plain items ≡ true → leads sends items ≡ true
 plain-leads sends [] h = refl
 plain-leads sends (Item.Show entry ∷ items) h = grind (arith, h, plain-leads sends items)
-plain-leads sends (Item.Start q ∷ items) h = h
-plain-leads sends (Item.Give q origin stimulus ∷ items) h = h
-plain-leads sends (Item.Turn q origin stimulus ∷ items) h = h
-plain-leads sends (Item.GiveExit q ∷ items) h = h
-plain-leads sends (Item.Remove q ∷ items) h = h
-plain-leads sends (Item.Polls ∷ items) h = h
-plain-leads sends (Item.PollOne q ∷ items) h = h
-plain-leads sends (Item.Deliver ∷ items) h = h
+plain-leads sends (item ∷ items) h = h
 
 plain-farewells : (p : ℕ) (s : Scheduler Bool) (rest agenda : List Item) → all_plain (rest ++ agenda) ≡ true → all_plain ((farewells p s ++ rest) ++ agenda) ≡ true
 plain-farewells p s rest agenda h =

@@ -138,13 +138,7 @@ sound-free p s X h = record { ordered = h.ordered; place = h.place; tally = λ a
 no_reply_front : (known : Known) (item : Item) (items : List Item) → is_quiet_item item ≡ true → FrontAgrees known (item ∷ items)
 no_reply_front known (Item.Turn q origin stimulus) items n = absurd (grind (arith, n))
 no_reply_front known (Item.Show entry) items n = absurd (grind (arith, n))
-no_reply_front known (Item.Start q) items n = tt
-no_reply_front known (Item.Give q origin stimulus) items n = tt
-no_reply_front known (Item.GiveExit q) items n = tt
-no_reply_front known (Item.Remove q) items n = tt
-no_reply_front known Item.Polls items n = tt
-no_reply_front known (Item.PollOne q) items n = tt
-no_reply_front known Item.Deliver items n = tt
+no_reply_front known item items n = tt
 
 pub carried_sound : (p : ℕ) (X : List Entry) (item : Item) (items : List Item) (s : Scheduler Bool) → nat_le 4 p ≡ true → is_quiet_item item ≡ true
     → Sound p (with_agenda (item ∷ items) s) X → SoundFree p (carried_out item (with_agenda items s)) X

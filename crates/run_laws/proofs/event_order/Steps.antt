@@ -142,11 +142,7 @@ module _ (I J : Machine → List Entry → Type 0) (P : List Entry → Type 0) (
   step_kept X answers (Item.Deliver ∷ items) m e i h =
       deliver_kept X answers (first_event m.scheduler) (carried Item.Deliver items m) i
       (cases.carried m X Item.Deliver items refl refl (at_agenda X (Item.Deliver ∷ items) m e h))
-  step_kept X answers (Item.Start q ∷ items) m e i h = quiet_kept X (Item.Start q) items m refl refl i (at_agenda X (Item.Start q ∷ items) m e h)
-  step_kept X answers (Item.GiveExit q ∷ items) m e i h = quiet_kept X (Item.GiveExit q) items m refl refl i (at_agenda X (Item.GiveExit q ∷ items) m e h)
-  step_kept X answers (Item.Remove q ∷ items) m e i h = quiet_kept X (Item.Remove q) items m refl refl i (at_agenda X (Item.Remove q ∷ items) m e h)
-  step_kept X answers (Item.Polls ∷ items) m e i h = quiet_kept X Item.Polls items m refl refl i (at_agenda X (Item.Polls ∷ items) m e h)
-  step_kept X answers (Item.PollOne q ∷ items) m e i h = quiet_kept X (Item.PollOne q) items m refl refl i (at_agenda X (Item.PollOne q ∷ items) m e h)
+  step_kept X answers (item ∷ items) m e i h = quiet_kept X item items m refl refl i (at_agenda X (item ∷ items) m e h)
 
   one_step_kept : (answers : Answers) (m : Machine) (X : List Entry) → I m X → P X → Kept I P X (one_step answers m)
   one_step_kept answers m X h i = go m.is_halted

@@ -36,19 +36,11 @@ use Rattle.run_laws.proofs.event_order.Runs.{at_prefixes}
 use Rattle.run_laws.proofs.event_order.Steps.{Cases, law_of, is_quiet_item, carried, kernel_carried}
 use Rattle.run_laws.proofs.timer_deadlines.Early.{timer_ledger, Balances, Timely, Free, timely-free, IsTimely, ledger-other, timely-other, less-balanced, later-balanced, turn_timely, turn_early}
 
--- an item that is neither a turn nor shown
-
--- no reply is in front
+-- an item that is neither a turn nor shown: no reply is in front
 pub no_reply_front : (p : ℕ) (k : Option Reply) (item : Item) (items : List Item) → is_quiet_item item ≡ true → FrontIs p k (item ∷ items)
 no_reply_front p k (Item.Turn q origin stimulus) items n = absurd (grind (arith, n))
 no_reply_front p k (Item.Show entry) items n = absurd (grind (arith, n))
-no_reply_front p k (Item.Start q) items n = tt
-no_reply_front p k (Item.Give q origin stimulus) items n = tt
-no_reply_front p k (Item.GiveExit q) items n = tt
-no_reply_front p k (Item.Remove q) items n = tt
-no_reply_front p k Item.Polls items n = tt
-no_reply_front p k (Item.PollOne q) items n = tt
-no_reply_front p k Item.Deliver items n = tt
+no_reply_front p k item items n = tt
 
 free-carried : (p t : ℕ) (X : List Entry) (item : Item) (items : List Item) (m : Machine) → is_quiet_item item ≡ true
     → Timely p t (facing (item ∷ items) m) X → Free p t (carried item items m) X
