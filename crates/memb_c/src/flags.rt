@@ -1,0 +1,32 @@
+//! Flags, whatever they tell of.
+
+ghost use Rattle.std.specs.Prelude.{◌≡◌, ◌==◌, not, false, length, filter, replicate, slice_index_or};
+ghost use Rattle.std.specs.List.{position};
+
+/// Unsets each flag.
+pub fn unset_all(flags: &mut [bool])
+    ensures { flags.new ≡ replicate (length flags.old) false }
+{
+    flags.fill(false);
+}
+
+/// Whether the flag at this place is set. Where there is none it is not.
+pub fn is_set(flags: &[bool], place: usize) -> bool
+    ensures { result ≡ slice_index_or flags.now place false }
+{
+    flags.get(place).copied().unwrap_or(false)
+}
+
+/// The place of the first flag that is not set.
+pub fn first_unset(flags: &[bool]) -> Option<usize>
+    ensures { result ≡ position not flags.now }
+{
+    flags.iter().position(|flag| !*flag)
+}
+
+/// How many flags are not set.
+pub fn count_unset(flags: &[bool]) -> usize
+    ensures { result ≡ length (filter not flags.now) }
+{
+    flags.iter().filter(|flag| !**flag).count()
+}
