@@ -1,0 +1,103 @@
+-- What the application says that averages measurements.
+use Rattle.std.specs.Prelude.{ℕ, ◌+◌, ◌/◌, ◌++◌, List, [], ◌∷◌, drop, replicate, sum, min, Option, Some, None, bytes_eq, codes, decimal, nat_lt, ◌==◌, if◌then◌else◌}
+use Rattle.mote_types.specs.declared.call.Call.{Call}
+use Rattle.mote_types.specs.declared.event.Event.{Event}
+use Rattle.mote_types.specs.declared.event.Payload.{Payload}
+use Rattle.mote_types.specs.declared.event.Stimulus.{Stimulus}
+use Rattle.mote_types.specs.declared.reply.Reply.{Reply}
+use Rattle.mote_types.specs.EventNumbers.{INIT, PACKET, SERIAL_LINE}
+use Rattle.template_averager.specs.declared.averager.Averager.{Averager}
+use Rattle.template_averager.specs.declared.averager.Stage.{Stage}
+
+-- nothing was measured
+abbrev pub fresh : Averager
+fresh = record { table = replicate 8 0; count = 0; stage = Stage.Idle }
+
+-- the average of the last eight, or of as many as there were
+abbrev pub average_of : Averager → ℕ
+average_of averager = if averager.count == 0 then 0 else sum averager.table / min averager.count 8
+
+-- the count after one more
+abbrev pub counted : ℕ → ℕ
+counted count = if nat_lt count 4294967295 then count + 1 else count
+
+-- one more measurement
+abbrev pub measured : ℕ → Averager → Averager
+measured byte averager = record averager { table = drop 1 averager.table ++ byte ∷ []; count = counted averager.count }
+
+-- the print of a number and a line end
+abbrev pub number_print : ℕ → Call
+number_print n = Call.Print (record { items = decimal n ++ 10 ∷ [] })
+
+-- a line from the serial line is a command
+abbrev pub command_answer : Averager → List ℕ → Call
+command_answer averager line =
+    if bytes_eq line (codes "show") then number_print (average_of averager)
+    else if bytes_eq line (codes "count") then number_print averager.count
+    else if bytes_eq line (codes "clear") then Call.Print (record { items = codes "cleared\n" })
+    else Call.Wait
+
+abbrev pub command_next : Averager → List ℕ → Averager
+command_next averager line = if bytes_eq line (codes "clear") then fresh else averager
+
+abbrev pub payload_answer : Averager → Payload → Call
+payload_answer averager (Payload.Line line) = command_answer averager line.items
+payload_answer averager _ = Call.Wait
+
+abbrev pub payload_next : Averager → Payload → Averager
+payload_next averager (Payload.Line line) = command_next averager line.items
+payload_next averager _ = averager
+
+-- At its start it becomes the receiver of frames. Of each frame it reads the first byte
+abbrev pub event_answer : Averager → Event → Call
+event_answer averager event =
+    if event.code == INIT then Call.PacketOpen
+    else if event.code == PACKET then Call.PacketRead 0 1
+    else if event.code == SERIAL_LINE then payload_answer averager event.payload
+    else Call.Wait
+
+abbrev pub event_next : Averager → Event → Averager
+event_next averager event =
+    if event.code == INIT then fresh
+    else if event.code == PACKET then record averager { stage = Stage.Reading }
+    else if event.code == SERIAL_LINE then payload_next averager event.payload
+    else averager
+
+-- The byte goes into the table, the frame is given back, and the average is printed. A frame with no byte is given back
+abbrev pub stage_answer : Averager → Stage → Call
+stage_answer averager Stage.Idle = Call.Wait
+stage_answer averager Stage.Reading = Call.PacketDone
+stage_answer averager Stage.Taken = number_print (average_of averager)
+
+abbrev pub reply_answer : Averager → Reply → Call
+reply_answer averager reply = stage_answer averager averager.stage
+
+abbrev pub read_next : Averager → List ℕ → Averager
+read_next averager [] = record averager { stage = Stage.Idle }
+read_next averager (byte ∷ bytes) = record (measured byte averager) { stage = Stage.Taken }
+
+abbrev pub reading_next : Averager → Reply → Averager
+reading_next averager (Reply.Bytes bytes) = read_next averager bytes.items
+reading_next averager _ = record averager { stage = Stage.Idle }
+
+abbrev pub stage_next : Averager → Stage → Reply → Averager
+stage_next averager Stage.Idle reply = averager
+stage_next averager Stage.Reading reply = reading_next averager reply
+stage_next averager Stage.Taken reply = record averager { stage = Stage.Idle }
+
+abbrev pub reply_next : Averager → Reply → Averager
+reply_next averager reply = stage_next averager averager.stage reply
+
+abbrev pub averager_answer : Averager → Stimulus → Call
+averager_answer averager (Stimulus.Event event) = event_answer averager event
+averager_answer averager (Stimulus.Answer reply) = reply_answer averager reply
+averager_answer averager (Stimulus.Callback timer) = Call.Wait
+
+abbrev pub averager_next : Averager → Stimulus → Averager
+averager_next averager (Stimulus.Event event) = event_next averager event
+averager_next averager (Stimulus.Answer reply) = reply_next averager reply
+averager_next averager (Stimulus.Callback timer) = averager
+
+-- the program's one application, as it is before its first turn
+abbrev pub by_name : List ℕ → Option Averager
+by_name name = if bytes_eq name (codes "averager") then Some fresh else None
