@@ -35,6 +35,8 @@ pub struct Named<'a> {
     pub names: Vec<&'a str>,
     pub from: u64,
     pub to: u64,
+    /// The bytes of managed memory.
+    pub managed: u32,
     pub unfolded: bool,
 }
 
@@ -141,6 +143,7 @@ pub fn read_words<'a>(alloc: Global, words: &'a [&'a str]) -> Result<Named<'a>, 
         names,
         from: matches.get_one::<u64>("from").unwrap_or(0),
         to: matches.get_one::<u64>("to").unwrap_or(u64::MAX),
+        managed: matches.get_one::<u32>("mmem").unwrap_or(4096),
         unfolded: matches.get_flag("unfolded"),
     })
 }

@@ -8,6 +8,7 @@ mod head;
 mod labels;
 mod marks;
 pub mod markup;
+mod memory_columns;
 pub mod names;
 mod page;
 mod pen;

@@ -2,6 +2,7 @@
 
 use crate::row::Row;
 use crate::timers::{Arming, Moment, Timers};
+use run_memory::{Memory, Stays};
 use std::alloc::{AllocError, Global};
 use transcript_lines::{Input, Line, Note, Origin, Turn, read_line, read_turn};
 
@@ -56,6 +57,7 @@ pub(crate) struct Marks {
     pub(crate) lives: Vec<Life>,
     pub(crate) gifts: Vec<Gift>,
     pub(crate) armings: Vec<Arming>,
+    pub(crate) stays: Stays,
     pub(crate) tally: Tally,
     /// One more than the greatest number of a process that took a turn.
     pub(crate) processes: usize,
@@ -87,6 +89,7 @@ struct Walk {
     /// The processes in an activation, the innermost last.
     active: Vec<usize>,
     timers: Timers,
+    memory: Memory,
     marks: Marks,
 }
 
@@ -103,6 +106,7 @@ impl Walk {
             processes: [process; PROCESSES],
             active: Vec::new(alloc),
             timers: Timers::new(alloc)?,
+            memory: Memory::new(alloc),
             marks: Marks {
                 start: 0,
                 clocks: Vec::new(alloc),
@@ -111,24 +115,33 @@ impl Walk {
                 lives: Vec::new(alloc),
                 gifts: Vec::new(alloc),
                 armings: Vec::new(alloc),
+                stays: Stays::new(alloc),
                 tally: Tally::default(),
                 processes: 0,
             },
         })
     }
 
-    fn count_input(&mut self, input: &Input<'_>) {
+    fn take_input(&mut self, input: &Input<'_>, row: usize) -> Result<(), AllocError> {
         let tally = &mut self.marks.tally;
         tally.inputs = tally.inputs.saturating_add(1);
-        if let Input::Tick(ticks) = *input {
-            self.clock = self.clock.saturating_add(ticks);
+        match *input {
+            Input::Tick(ticks) => {
+                self.clock = self.clock.saturating_add(ticks);
+                Ok(())
+            }
+            Input::Frame(digits) => self.memory.take_frame(digits.len() / 2, row),
+            Input::Serial(_) => Ok(()),
         }
     }
 
     fn count_note(&mut self, note: &Note<'_>) {
         let tally = &mut self.marks.tally;
         match note {
-            Note::Lost(_) => tally.lost = tally.lost.saturating_add(1),
+            Note::Lost(_) => {
+                tally.lost = tally.lost.saturating_add(1);
+                self.memory.lose_frame();
+            }
             Note::Sent(_) => tally.sent = tally.sent.saturating_add(1),
         }
     }
@@ -191,6 +204,7 @@ impl Walk {
             },
             _ => {
                 let clock = self.clock;
+                self.memory.carry_out(turn.pid, turn.call, row)?;
                 self.timers
                     .carry_out(turn.pid, turn.call, Moment { row, clock })
             }
@@ -291,7 +305,7 @@ impl Walk {
         match read_line(line) {
             Some(Line::Input(input)) => {
                 self.rest()?;
-                self.count_input(&input);
+                self.take_input(&input, row)?;
             }
             Some(Line::Note(note)) => self.count_note(&note),
             Some(Line::Turn(turn)) => return self.take_turn(lines, &turn, row, number),
@@ -306,6 +320,7 @@ impl Walk {
         self.marks.lives.clear();
         self.marks.gifts.clear();
         self.timers.armings.clear();
+        self.memory.forget_rows();
         self.marks.start = self.clock;
     }
 
@@ -329,6 +344,7 @@ impl Walk {
             }
         }
         self.marks.armings = self.timers.finish()?;
+        self.marks.stays = self.memory.finish()?;
         Ok(self.marks)
     }
 }

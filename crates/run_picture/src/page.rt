@@ -17,6 +17,36 @@ const WORDS: usize = 420;
 /// The least width of a picture.
 const LEAST_WIDTH: usize = 760;
 
+/// The width of the column of managed memory.
+const MANAGED: usize = 180;
+
+/// The room between two columns.
+const BETWEEN: usize = 24;
+
+/// The widths of the columns of memory behind the words, each 0 where there is nothing to show.
+#[derive(Clone, Copy, Drop)]
+pub(crate) struct Columns {
+    pub(crate) managed: usize,
+}
+
+impl Columns {
+    /// The columns for a run in which managed memory is used, or isn't.
+    pub(crate) fn new(is_managed: bool) -> Self {
+        Columns {
+            managed: if is_managed { MANAGED } else { 0 },
+        }
+    }
+}
+
+/// The end of a column that begins there, with the room behind it.
+fn behind(left: usize, width: usize) -> usize {
+    if width == 0 {
+        left
+    } else {
+        left.saturating_add(width).saturating_add(BETWEEN)
+    }
+}
+
 /// The places of the parts of a picture.
 #[derive(Clone, Copy, Drop)]
 pub(crate) struct Page {
@@ -27,10 +57,11 @@ pub(crate) struct Page {
     pub(crate) top: usize,
     /// The width of a lane.
     pub(crate) lane: usize,
+    pub(crate) columns: Columns,
 }
 
 impl Page {
-    pub(crate) fn new(lanes: usize, rows: usize, top: usize) -> Self {
+    pub(crate) fn new(lanes: usize, rows: usize, top: usize, columns: Columns) -> Self {
         let lane = match lanes {
             0..=5 => 64,
             6..=9 => 44,
@@ -41,6 +72,7 @@ impl Page {
             rows,
             top,
             lane,
+            columns,
         }
     }
 
@@ -80,8 +112,15 @@ impl Page {
         self.words().saturating_add(WORDS)
     }
 
+    /// Where the column of managed memory begins.
+    pub(crate) fn managed_left(&self) -> usize {
+        self.words_end().saturating_add(10)
+    }
+
     pub(crate) fn width(&self) -> usize {
-        self.words_end().saturating_add(20).max(LEAST_WIDTH)
+        behind(self.managed_left(), self.columns.managed)
+            .saturating_add(10)
+            .max(LEAST_WIDTH)
     }
 
     pub(crate) fn height(&self) -> usize {

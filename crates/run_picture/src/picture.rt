@@ -10,8 +10,9 @@ use crate::grounds::grounds_of;
 use crate::head::{draw_ground, draw_head, draw_lanes, style_of, tally_text};
 use crate::marks::{Marks, marks_of};
 use crate::markup::{Content, Element};
+use crate::memory_columns::draw_managed;
 use crate::names::{Attribute, Tag};
-use crate::page::Page;
+use crate::page::{Columns, Page};
 use crate::pen::Pen;
 use crate::row::Row;
 use crate::timer_lines::draw_timers;
@@ -32,6 +33,8 @@ pub struct Settings<'a> {
     pub from: u64,
     /// The clock at the last line that is shown.
     pub to: u64,
+    /// The bytes of managed memory.
+    pub managed: u32,
     /// Whether each line has a row of its own.
     pub unfolded: bool,
 }
@@ -134,6 +137,8 @@ fn draw_content(
     draw_activations(&mut pen, page, marks.activations.as_slice())?;
     draw_gifts(&mut pen, page, marks.gifts.as_slice())?;
     draw_words(&mut pen, page, lines, rows, marks)?;
+    let managed = marks.stays.managed.as_slice();
+    draw_managed(&mut pen, page, managed, settings.managed as u64)?;
     Ok(pen.content)
 }
 
@@ -171,7 +176,8 @@ pub fn draw(alloc: Global, lines: &[&str], settings: &Settings<'_>) -> Result<Ve
         .len()
         .max(marks.processes.saturating_sub(4))
         .min(16);
-    let page = Page::new(lanes, rows.len(), TOP);
+    let columns = Columns::new(!marks.stays.managed.is_empty());
+    let page = Page::new(lanes, rows.len(), TOP, columns);
     let grounds = grounds_of(alloc, &page, lines, rows)?;
     let content = draw_content(alloc, &page, lines, rows, &marks, settings)?;
     let picture = frame_of(alloc, &page)?

@@ -3,7 +3,7 @@
 /// The style of a picture, without the colours of the processes: of texts `b` bold, `g` grey, `m` of one width, `p` printed, `r`
 /// refused, `h` the head, `e` ended where it stands, `c` in the middle; of grounds `i` an input, `t` a turn or a note, `x` an
 /// end; of lines `l` a life, `k` its end, `a` what was given at once, `o` a timer, with `q` a callback timer, `y` one told late,
-/// `d` dots.
+/// `d` dots; of memory `j` a column, `z` a block, `v` its name.
 pub(crate) const STYLE: &str = "\
 svg{font:11px 'DejaVu Sans',Verdana,sans-serif}\
 text{fill:#222;white-space:pre;pointer-events:none}\
@@ -26,7 +26,11 @@ text{fill:#222;white-space:pre;pointer-events:none}\
 .o{fill:none;stroke-width:2}\
 .q{stroke-dasharray:3 2}\
 .y{stroke:#c01818}\
-.d{fill:none;stroke:#ccc;stroke-dasharray:1 4}";
+.d{fill:none;stroke:#ccc;stroke-dasharray:1 4}\
+.j{fill:#f7f7f7}\
+.z{stroke:#fff;stroke-width:.7}\
+.f3{fill:#777}\
+.v{fill:#fff;font-size:9px}";
 
 /// The colours of the processes 4, 5, ..
 pub(crate) const COLOURS: [&str; 16] = [
