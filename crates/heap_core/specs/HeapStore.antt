@@ -132,6 +132,10 @@ gap_at at heap = option_map_or (λ (gap : Gap). gap.len) (find (λ (gap : Gap). 
 abbrev pub place_of : Block → Place
 place_of block = record { at = block.at; room = block.room }
 
+-- where p's block lies, if it is live
+abbrev pub live_place : ℕ → ℕ → HeapStore → Option Place
+live_place p h heap = option_map place_of (find_block (number_of p h) heap)
+
 -- the room that the block at a place has once it is resized to n bytes where it is, if it can be: of its room, and of the gap
 -- that begins where it ends
 abbrev pub room_in_place : Place → ℕ → HeapStore → Option ℕ

@@ -2,8 +2,9 @@
 
 ghost use Rattle.std.specs.Prelude.{◌≡◌, ℕ, List, ◌+◌, ◌≤◌, ◌<◌, ◌↔◌, length, All, IsNone, IfNone, OnSome, IsSome, IsSomeAnd, Some, None};
 ghost use Rattle.mote_types.specs.BlockNames.{IsName};
-ghost use Rattle.heap_core.specs.HeapStore.{IsHeapSize, IsHeaderLength, empty_heap, least_room, block_of, length_of, place, allocated, freed, reallocated, with_bytes, stats_of, gaps, LieApart};
+ghost use Rattle.heap_core.specs.HeapStore.{IsHeapSize, IsHeaderLength, empty_heap, least_room, block_of, length_of, live_place, place, allocated, freed, reallocated, with_bytes, stats_of, gaps, LieApart};
 
+use crate::chunk::Place;
 use crate::region::Region;
 use arena_core::{Arena, Span};
 use mote_types::block_name::{Key, NAMES, number_of};
@@ -174,6 +175,17 @@ impl Heap {
     {
         let chunk = self.region.find(arena, number_of(key) as u32)?;
         Some(chunk.size)
+    }
+
+    /// Where a name's block lies, if it is live: its header begins at that place of the span, and its room lies behind that.
+    pub fn place_of(&self, arena: &Arena, key: Key) -> Option<Place>
+        requires named { IsName key.0.0 key.1 }
+        requires laid_out { IsLaidOut self.now arena.now.bytes }
+        ensures { result ≡ live_place key.0.0 key.1 (heap_of self.now arena.now.bytes) }
+    {
+        let chunk = self.region.find(arena, number_of(key) as u32)?;
+        let room = chunk.len.saturating_sub(self.region.header);
+        Some(Place { at: chunk.at, room })
     }
 
     /// The blocks lie in the span with their headers, one behind the other, and no two of them share a byte. Each block's bytes

@@ -16,5 +16,6 @@ mod layout;
 mod region;
 mod search;
 
+pub use chunk::Place;
 pub use heap::Heap;
 pub use mote_types::block_name::Key;
