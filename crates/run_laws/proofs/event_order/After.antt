@@ -194,33 +194,21 @@ after-queued known p call q m = other call (grind arith)
 swap : (p q : ℕ) (origin other : Origin) (stimulus next : Stimulus) (l : List State) (items : List Item) → (q == p && is_event_of_code EXIT stimulus) ≡ false
     → holds p l (Item.Turn q origin stimulus ∷ items) ≡ true → holds p l (Item.Turn q other next ∷ items) ≡ true
 swap p q origin other stimulus next [] items n h = grind arith
-swap p q origin other stimulus next (State.Absent ∷ []) items n h = grind arith
-swap p q origin other stimulus next (State.Running ∷ []) items n h = grind arith
-swap p q origin other stimulus next (State.Called ∷ []) items n h = grind arith
-swap p q origin other stimulus next (State.Leaving ∷ []) items n h = grind arith
-swap p q origin other stimulus next (State.Ending ∷ []) items n h = grind arith
+swap p q origin other stimulus next (state ∷ []) items n h = grind arith
 swap p q origin other stimulus next (_ ∷ _ ∷ _) items n h = h
 
 -- another process's turn says nothing of p
 turn_other-holds : (p q : ℕ) (origin : Origin) (stimulus : Stimulus) (l : List State) (items : List Item) → (q == p) ≡ false
     → holds p l (Item.Turn q origin stimulus ∷ items) ≡ true → holds p l items ≡ true
 turn_other-holds p q origin stimulus [] items n h = grind arith
-turn_other-holds p q origin stimulus (State.Absent ∷ []) items n h = grind arith
-turn_other-holds p q origin stimulus (State.Running ∷ []) items n h = grind arith
-turn_other-holds p q origin stimulus (State.Called ∷ []) items n h = grind arith
-turn_other-holds p q origin stimulus (State.Leaving ∷ []) items n h = grind arith
-turn_other-holds p q origin stimulus (State.Ending ∷ []) items n h = grind arith
+turn_other-holds p q origin stimulus (state ∷ []) items n h = grind arith
 turn_other-holds p q origin stimulus (_ ∷ _ ∷ _) items n h = h
 
 -- p waits
 wait-holds : (p q : ℕ) (origin : Origin) (stimulus : Stimulus) (l : List State) (items : List Item) → (q == p && is_event_of_code EXIT stimulus) ≡ false
     → holds p l (Item.Turn q origin stimulus ∷ items) ≡ true → holds p (if is_ending (first_state l) then l else put State.Running l) items ≡ true
 wait-holds p q origin stimulus [] items n h = grind arith
-wait-holds p q origin stimulus (State.Absent ∷ []) items n h = grind arith
-wait-holds p q origin stimulus (State.Running ∷ []) items n h = grind arith
-wait-holds p q origin stimulus (State.Called ∷ []) items n h = grind arith
-wait-holds p q origin stimulus (State.Leaving ∷ []) items n h = grind arith
-wait-holds p q origin stimulus (State.Ending ∷ []) items n h = grind arith
+wait-holds p q origin stimulus (state ∷ []) items n h = grind arith
 wait-holds p q origin stimulus (_ ∷ _ ∷ _) items n h = absurd (grind (arith, h))
 
 -- p is killed

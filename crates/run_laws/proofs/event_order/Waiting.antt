@@ -32,11 +32,7 @@ walk-free p (item ∷ items) h = grind (arith, h, walk-free p items)
 
 placed-running : (p : ℕ) (l : List State) (items : List Item) → list_all is_walk items ≡ true → is_placed p l items ≡ true → is_running (first_state l) ≡ true
 placed-running p [] items w h = grind (arith, walk-free p items w)
-placed-running p (State.Absent ∷ []) items w h = grind (arith, walk-free p items w)
-placed-running p (State.Running ∷ []) items w h = refl
-placed-running p (State.Called ∷ []) items w h = grind (arith, walk-free p items w)
-placed-running p (State.Leaving ∷ []) items w h = grind (arith, walk-free p items w)
-placed-running p (State.Ending ∷ []) items w h = grind (arith, walk-free p items w)
+placed-running p (state ∷ []) items w h = grind (arith, walk-free p items w)
 placed-running p (_ ∷ _ ∷ _) items w h = absurd (grind (arith, h))
 
 -- a Give of origin event finds p Running
@@ -59,10 +55,7 @@ lost p q Origin.Event stimulus items s a o h t = go (q == p) refl
     go : (same : Bool) → (q == p) ≡ same → (if same then option_to_list (posted_event Origin.Event stimulus) else []) ≡ []
     go false e = refl
     go true e = absurd (grind (arith, nat_tests, given-running p q stimulus items s e o h))
-lost p q Origin.Synch stimulus items s a o h t = grind arith
-lost p q Origin.Poll stimulus items s a o h t = grind arith
-lost p q Origin.Callback stimulus items s a o h t = grind arith
-lost p q Origin.Answer stimulus items s a o h t = grind arith
+lost p q origin stimulus items s a o h t = grind arith
 
 waits-polls : (p : ℕ) (ns : List ℕ) → waits p (map (λ n. Item.PollOne n) ns) ≡ []
 waits-polls p [] = refl

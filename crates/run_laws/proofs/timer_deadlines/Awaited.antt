@@ -78,10 +78,7 @@ given-expected p t q origin stimulus items s a o k h = go (not (is_kernel_proces
             own : (same : Bool) → (q == p) ≡ same → is_expected p t (with_agenda items s) ≡ true
             own true f = absurd (grind (arith, nat_tests, given-running p q stimulus items s f o k))
             own false f = grind (arith, h, f)
-        pick Origin.Synch o k h = h
-        pick Origin.Poll o k h = h
-        pick Origin.Callback o k h = h
-        pick Origin.Answer o k h = h
+        pick origin o k h = h
 
 pub carried-expected : (p t : ℕ) (item : Item) (items : List Item) (s : Scheduler Bool) → nat_le 4 p ≡ true → is_quiet_item item ≡ true
     → is_ordered (item ∷ items) ≡ true → stands p (with_agenda (item ∷ items) s) ≡ true
