@@ -12,10 +12,10 @@ use Rattle.mote_types.specs.declared.entry.Note.{Note}
 use Rattle.mote_types.specs.declared.entry.Input.{Input}
 use Rattle.mote_types.specs.Codes.{number_event}
 use Rattle.mote_types.specs.Applications.{Applications}
-use Rattle.process_core.specs.Agenda.{Item, Job}
+use Rattle.process_core.specs.Agenda.{Item}
 use Rattle.process_core.specs.Processes.{numbers, without}
 use Rattle.process_core.specs.Requests.{farewells}
-use Rattle.process_core.specs.Scheduler.{Scheduler, job_at, carried_out, delivery, first_event}
+use Rattle.process_core.specs.Scheduler.{Scheduler, carried_out, delivery, first_event}
 use Rattle.kernel_core.specs.declared.config.Config.{Config}
 use Rattle.kernel_core.specs.Machine.{Machine, booted, is_bootable}
 use Rattle.kernel_core.specs.Calls.{after_call}
@@ -100,10 +100,6 @@ Led m X = leads (sends_all X) m.scheduler.agenda ≡ true
 abbrev Plain : Machine → List Entry → Type 0
 Plain m X = all_plain m.scheduler.agenda ≡ true
 
-leads-note : (sends : Bool) (agenda : List Item) (s : Scheduler Bool) (entry : Entry) → leads sends agenda ≡ true → job_at agenda s ≡ Some (Job.ShowEntry entry) → is_note entry ≡ true
-leads-note sends [] s entry h e = absurd (grind (arith, e))
-leads-note sends (item ∷ items) s entry h e = grind (arith, h, e)
-
 carried_out-leads : (sends : Bool) (item : Item) (items : List Item) (s : Scheduler Bool) → is_quiet_item item ≡ true → leads sends (item ∷ items) ≡ true
     → all_plain (carried_out item (with_agenda items s)).agenda ≡ true
 carried_out-leads sends (Item.Show entry) items s n h = absurd (grind (arith, n))
@@ -118,7 +114,7 @@ led-other X e agenda n h =
 led_cases : Cases Led Plain (AtEach Sends)
 led_cases =
     record {
-      notes = λ m X h entry e. leads-note (sends_all X) m.scheduler.agenda m.scheduler entry h e;
+      notes = λ m X entry items h. grind (arith, h);
       free = λ m X h. plain-leads (sends_all X) m.scheduler.agenda h;
       carried = λ m X item items n s h. carried_out-leads (sends_all X) item items m.scheduler n h;
       served = λ m X q origin event items k h. rw ((serve-untouched q event (facing items m)).agenda) h;

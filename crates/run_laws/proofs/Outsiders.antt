@@ -1,6 +1,6 @@
 -- Nobody takes a turn but the applications of the mote.
 use Rattle.std.proofs.Common.{◌≡◌, ℕ, zero, suc, ◌+◌, ◌≤◌, Bool, true, false, not, List, [], ◌∷◌, ◌++◌, refl, ◌∙◌, arith}
-use Rattle.std.specs.Prelude.{Some, ◌==◌, map, nat_le}
+use Rattle.std.specs.Prelude.{◌==◌, map, nat_le}
 use Rattle.std.specs.List.{list_all, range_with_len}
 use Rattle.std.proofs.lemmas.Bool.Decides.{nat_tests}
 use Rattle.mote_types.specs.declared.call.Call.{Call}
@@ -12,9 +12,9 @@ use Rattle.mote_types.specs.declared.entry.Note.{Note}
 use Rattle.mote_types.specs.declared.event.Event.{Event}
 use Rattle.mote_types.specs.Applications.{Applications}
 use Rattle.process_core.specs.declared.state.State.{State}
-use Rattle.process_core.specs.Agenda.{Item, Job}
+use Rattle.process_core.specs.Agenda.{Item}
 use Rattle.process_core.specs.Processes.{state_of, numbers, is_application}
-use Rattle.process_core.specs.Scheduler.{Scheduler, job_at, carried_out, delivery, first_event, in_front}
+use Rattle.process_core.specs.Scheduler.{Scheduler, carried_out, delivery, first_event, in_front}
 use Rattle.kernel_core.specs.declared.config.Config.{Config}
 use Rattle.kernel_core.specs.Machine.{Machine, is_bootable}
 use Rattle.kernel_core.specs.Calls.{after_call}
@@ -150,10 +150,6 @@ module _ (p : ℕ) (high : nat_le 4 p ≡ true) where
 
   -- a step
 
-  only_notes : (agenda : List Item) (s : Scheduler Bool) (entry : Entry) → list_all keeps_out agenda ≡ true → job_at agenda s ≡ Some (Job.ShowEntry entry) → is_note entry ≡ true
-  only_notes [] s entry h e = absurd (grind (arith, e))
-  only_notes (item ∷ items) s entry h e = grind (arith, h, e)
-
   -- these items in front
   in_front-out : (xs : List Item) (s : Scheduler Bool) → list_all keeps_out xs ≡ true → IsOut s → IsOut (in_front xs s)
   in_front-out xs s k h = record { stranger = h.stranger; absent = h.absent; agenda = all-append keeps_out xs s.agenda k h.agenda }
@@ -185,7 +181,7 @@ module _ (p : ℕ) (high : nat_le 4 p ≡ true) where
   out_cases : Cases Out Out (AtEach IsOthers)
   out_cases =
       record {
-        notes = λ m X h entry e. only_notes m.scheduler.agenda m.scheduler entry h.agenda e;
+        notes = λ m X entry items h. grind (arith, h.agenda);
         free = λ m X h. h;
         carried = λ m X item items n s h. carried_out-out item items m.scheduler h;
         served = λ m X q origin event items k h. served-out q event (facing items m) (without_item (Item.Give q origin (Stimulus.Event event)) items m.scheduler h);

@@ -174,7 +174,7 @@ module _ (p : ℕ) (few : p ≤ 19) where
   sending_cases : Cases Sending Silent (AtEach ShownBehind)
   sending_cases =
       record {
-        notes = λ m X h. base.notes m X h.holds;
+        notes = λ m X entry items h. base.notes m X entry items h.holds;
         free = λ m X h. record { holds = h.holds; front = front_none (handle_after X) (told_after X).now m.scheduler.agenda h.none };
         carried = λ m X item items n s h.
             record { holds = base.carried m X item items n s h.holds; none = quiet_front (handle_after X) (told_after X).now item items n h.front };

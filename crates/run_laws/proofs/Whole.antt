@@ -37,7 +37,7 @@ use Rattle.run_laws.proofs.event_order.Runs.{Prefixes, at_prefixes}
 use Rattle.run_laws.proofs.event_order.Steps.{Cases, law_of, carried, kernel_carried, turn_entry, is_quiet_item}
 use Rattle.run_laws.proofs.event_order.Tally.{is_turn}
 use Rattle.run_laws.proofs.timer_deadlines.Fronts.{all-mapped}
-use Rattle.run_laws.proofs.timer_deadlines.Regular.{is_regular, carried-regular, after-regular, regular-note}
+use Rattle.run_laws.proofs.timer_deadlines.Regular.{is_regular, carried-regular, after-regular}
 
 -- a slot is one of 0 to 7
 found : (test : ℕ → Bool) (ns : List ℕ) (slot : ℕ) → list_all (λ n. nat_le n 15) ns ≡ true → find test ns ≡ Some slot → slot ≤ 15
@@ -162,7 +162,7 @@ module _ {S : Type 0} (next : Call → Reply → S → S) (Law : S → Call → 
   pub told_cases : Laws next Law Rel p → (start : Told S) → Cases (Holds start) (Holds start) (WellTold start)
   told_cases laws start =
       record {
-        notes = λ m X h entry e. regular-note m.scheduler.agenda m.scheduler entry h.regular e;
+        notes = λ m X entry items h. grind (arith, h.regular);
         free = λ m X h. h;
         carried = λ m X item items n s h. carried-holds start item items m X (not_turn item n) h;
         served = λ m X q origin event items k h.

@@ -24,7 +24,7 @@ use Rattle.run_laws.proofs.event_order.Tally.{nothing_known, accepted_with-none}
 use Rattle.run_laws.proofs.event_order.Shape.{is_ordered, seats, seats-with_mark, is_start, is_covered, waits}
 use Rattle.run_laws.proofs.event_order.Items.{holds-append, facing}
 use Rattle.run_laws.proofs.event_order.Waiting.{all_waiting}
-use Rattle.run_laws.proofs.event_order.Sound.{Sound, SoundFree, IsInOrder, sound-free, sound-other, order-other, alike_sound, shows_note, turn_order, turn_sound, carried_sound, served_sound, callback_sound, round_sound, shown_sound}
+use Rattle.run_laws.proofs.event_order.Sound.{Sound, SoundFree, IsInOrder, sound-free, sound-other, order-other, alike_sound, turn_order, turn_sound, carried_sound, served_sound, callback_sound, round_sound, shown_sound}
 use Rattle.run_laws.proofs.event_order.Runs.{Law, at_prefixes, at_rest}
 use Rattle.run_laws.proofs.event_order.Steps.{Cases, law_of, kernel_carried}
 
@@ -110,7 +110,7 @@ SoundFreeOf p m X = SoundFree p m.scheduler X
 pub sound_cases : (p : ℕ) → nat_le 4 p ≡ true → Cases (SoundOf p) (SoundFreeOf p) (IsInOrder p)
 sound_cases p a =
     record {
-      notes = λ m X h entry e. shows_note m.scheduler.agenda m.scheduler entry h.ordered e;
+      notes = λ m X entry items h. grind (arith, h.ordered);
       free = λ m X h. sound-free p m.scheduler X h;
       carried = λ m X item items n s h. carried_sound p X item items m.scheduler a n h;
       served = λ m X q origin event items k h.

@@ -1,6 +1,6 @@
 -- One step keeps the invariant, and each entry keeps the order of events.
 use Rattle.std.proofs.Common.{◌≡◌, ℕ, Bool, true, false, List, [], ◌∷◌, ◌++◌, refl, ap, ◌∙◌, sym, arith, append-nil, append_assoc}
-use Rattle.std.specs.Prelude.{Some, nat_le}
+use Rattle.std.specs.Prelude.{nat_le}
 use Rattle.std.proofs.lemmas.Bool.Decides.{nat_tests}
 use Rattle.mote_types.specs.declared.call.Call.{Call}
 use Rattle.mote_types.specs.declared.event.Stimulus.{Stimulus}
@@ -8,8 +8,8 @@ use Rattle.mote_types.specs.declared.event.Origin.{Origin}
 use Rattle.mote_types.specs.declared.event.Event.{Event}
 use Rattle.mote_types.specs.declared.entry.Note.{Note}
 use Rattle.mote_types.specs.declared.entry.Entry.{Entry}
-use Rattle.process_core.specs.Agenda.{Item, Job}
-use Rattle.process_core.specs.Scheduler.{Scheduler, carried_out, in_front, job_at}
+use Rattle.process_core.specs.Agenda.{Item}
+use Rattle.process_core.specs.Scheduler.{Scheduler, carried_out, in_front}
 use Rattle.kernel_core.specs.Machine.{Machine}
 use Rattle.kernel_core.specs.Calls.{after_call}
 use Rattle.kernel_core.specs.KernelProcesses.{serve}
@@ -17,7 +17,7 @@ use Rattle.run_laws.specs.OwnTurns.{reply_of}
 use Rattle.run_laws.specs.EventLaws.{has_ended}
 use Rattle.run_laws.specs.EventLaws.{given_events, accepted_events}
 use Rattle.run_laws.proofs.event_order.Tally.{Known, nothing_known, told, accepted_with, accepted_with-none, accepted-turn, accepted-other, own_event, given_in, given-more, ends_in, ended-more, is_turn}
-use Rattle.run_laws.proofs.event_order.Shape.{is_note, is_ordered, seats, stands, waiting_in, waits, queued, FrontAgrees}
+use Rattle.run_laws.proofs.event_order.Shape.{is_ordered, seats, stands, waiting_in, waits, queued, FrontAgrees}
 use Rattle.run_laws.proofs.event_order.Items.{with_agenda, carried-ordered, carried-stands, is_silent, holds-append}
 use Rattle.run_laws.proofs.event_order.Waiting.{all_waiting, carried-waiting}
 use Rattle.run_laws.proofs.Untouched.{serve-untouched}
@@ -199,7 +199,3 @@ shown_sound p X items note s h =
       place = λ alive. carried-stands p (Item.Show (Entry.Note note)) items s refl (h.place alive);
       tally = λ alive known agrees. h.tally alive known agrees;
     })
-
-pub shows_note : (agenda : List Item) (s : Scheduler Bool) (entry : Entry) → is_ordered agenda ≡ true → job_at agenda s ≡ Some (Job.ShowEntry entry) → is_note entry ≡ true
-shows_note [] s entry o e = absurd (grind (arith, e))
-shows_note (item ∷ items) s entry o e = grind (arith, o, e)

@@ -19,7 +19,7 @@ use Rattle.kernel_core.specs.Inputs.{effect}
 use Rattle.run_laws.proofs.event_order.Tally.{is_turn}
 use Rattle.run_laws.proofs.event_order.Shape.{is_note}
 use Rattle.run_laws.proofs.event_order.Items.{with_agenda, facing}
-use Rattle.run_laws.proofs.event_order.Runs.{Law, Kept, ShowsNotes}
+use Rattle.run_laws.proofs.event_order.Runs.{Law, Kept}
 
 -- an item that is neither a turn nor shown
 abbrev pub is_quiet_item : Item → Bool
@@ -45,7 +45,7 @@ turn_entry q origin stimulus call = Entry.Turn (record { 0 = q }) origin stimulu
 
 -- I holds of each machine and its entries; J where no reply is in front; P of the entries
 pub record Cases (I J : Machine → List Entry → Type 0) (P : List Entry → Type 0) : Type 0 where
-  pub notes : (m : Machine) (X : List Entry) → I m X → ShowsNotes m
+  pub notes : (m : Machine) (X : List Entry) (entry : Entry) (items : List Item) → I (facing (Item.Show entry ∷ items) m) X → is_note entry ≡ true
   pub free : (m : Machine) (X : List Entry) → J m X → I m X
   pub carried : (m : Machine) (X : List Entry) (item : Item) (items : List Item) → is_quiet_item item ≡ true → is_served item ≡ false
       → I (facing (item ∷ items) m) X → J (carried item items m) X
@@ -136,7 +136,7 @@ module _ (I J : Machine → List Entry → Type 0) (P : List Entry → Type 0) (
       (record { holds = λ live. cases.turn m X items q origin stimulus call g; shown = cases.told m X items q origin stimulus call g i })
   step_kept X answers (Item.Show entry ∷ items) m e i h =
       let g = at_agenda X (Item.Show entry ∷ items) m e h in
-      shown_kept X m entry items i (cases.notes (facing (Item.Show entry ∷ items) m) X g entry refl) g
+      shown_kept X m entry items i (cases.notes m X entry items g) g
   step_kept X answers (Item.Give q origin stimulus ∷ items) m e i h =
       give_kept X answers q origin stimulus items m i (at_agenda X (Item.Give q origin stimulus ∷ items) m e h)
   step_kept X answers (Item.Deliver ∷ items) m e i h =
@@ -151,11 +151,19 @@ module _ (I J : Machine → List Entry → Type 0) (P : List Entry → Type 0) (
       go true = silent_kept X m i h
       go false = step_kept X answers m.scheduler.agenda m refl i h
 
+  shows_notes : (X : List Entry) (agenda : List Item) (m : Machine) → m.scheduler.agenda ≡ agenda → I m X → (entry : Entry)
+      → job_at agenda m.scheduler ≡ Some (Job.ShowEntry entry) → is_note entry ≡ true
+  shows_notes X [] m e h entry f = absurd (grind (arith, f))
+  shows_notes X (Item.Show shown ∷ items) m e h entry f =
+      let same : shown ≡ entry = cc in
+      subst (λ x. is_note x ≡ true) same (cases.notes m X shown items (at_agenda X (Item.Show shown ∷ items) m e h))
+  shows_notes X (item ∷ items) m e h entry f = absurd (grind (arith, f))
+
   cases_law : Law I P
   cases_law =
       record {
         step = one_step_kept;
-        notes = cases.notes;
+        notes = λ m X h. shows_notes X m.scheduler.agenda m refl h;
         input = λ input m X h i. cases.input input m X h;
         shown = λ input X i. cases.other X (Entry.Input input) refl refl i;
       }

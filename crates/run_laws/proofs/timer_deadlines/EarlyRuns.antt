@@ -29,7 +29,7 @@ use Rattle.run_laws.proofs.timer_deadlines.Timed.{in_wait, count_items, serve-fa
 use Rattle.run_laws.proofs.timer_deadlines.TimedItems.{carried-count}
 use Rattle.run_laws.proofs.timer_deadlines.Moves.{FrontIs}
 use Rattle.run_laws.proofs.timer_deadlines.Fronts.{all-mapped}
-use Rattle.run_laws.proofs.timer_deadlines.Regular.{is_regular, regular-note}
+use Rattle.run_laws.proofs.timer_deadlines.Regular.{is_regular}
 use Rattle.run_laws.proofs.timer_deadlines.Steady.{Steady, steady-carried, steady-front, steady-serve, steady-shown, steady-input}
 use Rattle.process_core.specs.Processes.{is_application}
 use Rattle.run_laws.proofs.event_order.Runs.{at_prefixes}
@@ -127,7 +127,7 @@ effect_timely p t (Input.Frame bytes) m X h =
 pub timely_cases : (p t : ℕ) → nat_le 4 p ≡ true → nat_lt p 20 ≡ true → Cases (Timely p t) (Free p t) (IsTimely p t)
 timely_cases p t low high =
     record {
-      notes = λ m X h entry e. regular-note m.scheduler.agenda m.scheduler entry h.steady.regular e;
+      notes = λ m X entry items h. grind (arith, h.steady.regular);
       free = timely-free p t;
       carried = λ m X item items n s h. free-carried p t X item items m n h;
       served = λ m X q origin event items k h.

@@ -27,7 +27,7 @@ use Rattle.run_laws.proofs.Changes.{Changes, of_changes, is_notice}
 use Rattle.run_laws.proofs.event_order.Tally.{ends_in}
 use Rattle.run_laws.proofs.event_order.Shape.{is_give_exit, is_exit_turn, to_all}
 use Rattle.run_laws.proofs.event_order.Items.{with_agenda}
-use Rattle.run_laws.proofs.timer_deadlines.Fronts.{none-mapped, carried-any, after-any}
+use Rattle.run_laws.proofs.timer_deadlines.Fronts.{none-mapped, carried-any, after-any, all-more, all-struck}
 use Rattle.run_laws.proofs.event_order.After.{told_all}
 use Rattle.run_laws.proofs.event_order.Steps.{is_quiet_item, turn_entry}
 
@@ -62,30 +62,14 @@ any-both test (x ∷ xs) ys h k = grind (arith, h, any-both test xs ys)
 
 -- the queue
 
-pub events-more : (xs : List (Queued Bool)) (event : Queued Bool) → is_no_exited event ≡ true → list_all is_no_exited xs ≡ true → list_all is_no_exited (xs ++ event ∷ []) ≡ true
-events-more [] event n h = grind (arith, n)
-events-more (x ∷ xs) event n h = grind (arith, n, h, events-more xs event)
-
 events-struck : (test : ℕ → ℕ → Bool) (events : List (Queued Bool)) → list_all is_no_exited (map (struck_if test) events) ≡ list_all is_no_exited events
-events-struck test [] = refl
-events-struck test (Queued.To q event ∷ events) = rw (events-struck test events) refl
-events-struck test (Queued.ToAll event ∷ events) = rw (events-struck test events) refl
-events-struck test (Queued.Expiry q c x ∷ events) = events-struck test events
-
-pub carried-events : (item : Item) (items : List Item) (s : Scheduler Bool) → list_all is_no_exited s.events ≡ true
-    → list_all is_no_exited (carried_out item (with_agenda items s)).events ≡ true
-carried-events Item.Deliver items s h = dropped s.events h
-  where
-    dropped : (events : List (Queued Bool)) → list_all is_no_exited events ≡ true → list_all is_no_exited (drop 1 events) ≡ true
-    dropped [] h = refl
-    dropped (event ∷ events) h = grind (arith, h)
-carried-events item items s h = grind (arith, h)
+events-struck test events = all-struck is_no_exited test (λ event. grind arith) events
 
 pub after-events : (call : Call) (q : ℕ) (m : Machine) → list_all is_no_exited m.scheduler.events ≡ true → list_all is_no_exited (after_call call q m).scheduler.events ≡ true
 after-events (Call.CallbackSet c interval) q m h = grind (arith, h, events-struck (is_callback_timer q c) m.scheduler.events)
 after-events (Call.CallbackStop c) q m h = grind (arith, h, events-struck (is_callback_timer q c) m.scheduler.events)
-after-events (Call.Post r code payload) q m h = grind (arith, nat_tests, h, events-more)
-after-events (Call.Broadcast code payload) q m h = grind (arith, nat_tests, h, events-more)
+after-events (Call.Post r code payload) q m h = grind (arith, nat_tests, h, all-more is_no_exited)
+after-events (Call.Broadcast code payload) q m h = grind (arith, nat_tests, h, all-more is_no_exited)
 after-events call q m h = grind (arith, h)
 
 abbrev Clean : Machine → Type 0
@@ -105,10 +89,10 @@ serve-events q event = of_changes changes
         record {
           same = λ m h. h;
           chained = λ a b c f g h. g (f h);
-          expired = λ timer m e. events-more m.scheduler.events (expiry_of timer) (expiry-clean timer);
+          expired = λ timer m e. all-more is_no_exited m.scheduler.events (expiry_of timer) (expiry-clean timer);
           timers_gone = λ n m z k e h. h;
           callbacks_gone = λ n m h. events-struck (λ r c. r == n) m.scheduler.events ∙ h;
-          posted = λ notice m n. events-more m.scheduler.events notice (notice-clean notice n);
+          posted = λ notice m n. all-more is_no_exited m.scheduler.events notice (notice-clean notice n);
           devices = λ serial is_waiting packets m e h. h;
           marked = λ n m h. h;
         }

@@ -1,6 +1,6 @@
 -- A call or an item leaves what is on the agenda, and puts in front of it what passes a test.
 use Rattle.std.proofs.Common.{◌≡◌, ℕ, Bool, true, false, List, [], ◌∷◌, ◌++◌, refl, arith, append_assoc}
-use Rattle.std.specs.Prelude.{Option, Some, None, map, if◌then◌else◌}
+use Rattle.std.specs.Prelude.{Option, Some, None, drop, map, if◌then◌else◌}
 use Rattle.std.specs.List.{list_all, list_any}
 use Rattle.mote_types.specs.declared.call.Call.{Call}
 use Rattle.mote_types.specs.declared.reply.Reply.{Reply}
@@ -18,6 +18,7 @@ use Rattle.process_core.specs.Requests.{farewells, killed_by, kill_refusal, star
 use Rattle.process_core.specs.Scheduler.{Scheduler, of_event, delivery, carried_out, first_event, state_in, in_front, put_in_state}
 use Rattle.kernel_core.specs.Machine.{Machine, scheduled}
 use Rattle.kernel_core.specs.Calls.{after_call, unless_refused}
+use Rattle.kernel_core.specs.Expiries.{struck_if}
 use Rattle.run_laws.proofs.event_order.Items.{with_agenda}
 use Rattle.run_laws.proofs.event_order.After.{is_plain_call, call-front, told_all}
 
@@ -45,6 +46,25 @@ all-delivered test ns (Some (Queued.To q event)) p g = rw (g q (of_event event))
 all-delivered test ns (Some (Queued.Expiry q c x)) p g = refl
 all-delivered test [] (Some (Queued.ToAll event)) p g = refl
 all-delivered test (n ∷ ns) (Some (Queued.ToAll event)) p g = rw (p, g n (of_event event)) (all-delivered test ns (Some (Queued.ToAll event)) p g)
+
+-- what waits in the queue
+
+pub all-more : (keep : Queued Bool → Bool) (xs : List (Queued Bool)) (event : Queued Bool) → keep event ≡ true → list_all keep xs ≡ true → list_all keep (xs ++ event ∷ []) ≡ true
+all-more keep xs event n h = all-append keep xs (event ∷ []) h (rw n refl)
+
+pub all-struck : (keep : Queued Bool → Bool) (test : ℕ → ℕ → Bool) → ((event : Queued Bool) → keep (struck_if test event) ≡ keep event) → (events : List (Queued Bool))
+    → list_all keep (map (struck_if test) events) ≡ list_all keep events
+all-struck keep test same [] = refl
+all-struck keep test same (event ∷ events) = rw (same event, all-struck keep test same events) refl
+
+pub carried-queue : (keep : Queued Bool → Bool) (item : Item) (items : List Item) (s : Scheduler Bool) → list_all keep s.events ≡ true
+    → list_all keep (carried_out item (with_agenda items s)).events ≡ true
+carried-queue keep Item.Deliver items s h = dropped s.events h
+  where
+    dropped : (events : List (Queued Bool)) → list_all keep events ≡ true → list_all keep (drop 1 events) ≡ true
+    dropped [] h = refl
+    dropped (event ∷ events) h = grind (arith, h)
+carried-queue keep item items s h = grind (arith, h)
 
 -- an item
 

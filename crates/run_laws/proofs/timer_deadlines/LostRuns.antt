@@ -33,7 +33,7 @@ use Rattle.run_laws.proofs.event_order.Items.{facing}
 use Rattle.run_laws.proofs.timer_deadlines.Ledgers.{blank, turns_or}
 use Rattle.run_laws.proofs.event_order.Sound.{Sound, SoundFree, IsInOrder, sound-free}
 use Rattle.run_laws.proofs.event_order.Events.{SoundOf, SoundFreeOf, sound_cases, boot-sound, nothing_on, nothing_queued}
-use Rattle.run_laws.proofs.timer_deadlines.Fronts.{none-mapped}
+use Rattle.run_laws.proofs.timer_deadlines.Fronts.{none-mapped, carried-queue}
 use Rattle.run_laws.proofs.timer_deadlines.Timed.{that_timer}
 use Rattle.run_laws.proofs.timer_deadlines.Moves.{own_timer, FrontIs}
 use Rattle.run_laws.proofs.timer_deadlines.Early.{turn_setting, Timely, Free, IsTimely, timely-free}
@@ -43,7 +43,7 @@ use Rattle.run_laws.proofs.event_order.Steps.{Cases, law_of, is_quiet_item, is_s
 use Rattle.run_laws.proofs.Arrivals.{effect-keeps}
 use Rattle.run_laws.proofs.timer_deadlines.Watched.{Watched, is_timer_due, without_item, watched-carried, watched-front, watched-serve}
 use Rattle.run_laws.proofs.timer_deadlines.WatchedCalls.{watched-turn, watched-input, watched-boot, rest-not_due}
-use Rattle.run_laws.proofs.timer_deadlines.Farewells.{is_no_exited, is_doomed, is_farewell, carried-events, after-events, serve-events}
+use Rattle.run_laws.proofs.timer_deadlines.Farewells.{is_no_exited, is_doomed, is_farewell, after-events, serve-events}
 use Rattle.run_laws.proofs.timer_deadlines.Awaited.{is_expected}
 use Rattle.run_laws.proofs.timer_deadlines.Attended.{Heeded, HeededFree, heeded-free, heeded-carried, heeded-serve, heeded-turn, heeded-other, standing_of, standing-none, fresh_standing, agree-fold}
 
@@ -89,7 +89,7 @@ module _ (p t : ℕ) (low : nat_le 4 p ≡ true) (high : nat_lt p 20 ≡ true) w
         timely = timely.carried m X item items n s h.timely;
         sound = sound.carried m X item items n s h.sound;
         watched = watched-carried item items m n s (grind (arith, h.timely.steady.regular)) h.watched;
-        clean = carried-events item items m.scheduler h.clean;
+        clean = carried-queue is_no_exited item items m.scheduler h.clean;
         heeded = heeded-carried p t X item items m low n h.sound h.clean h.heeded;
       }
 
@@ -181,7 +181,7 @@ module _ (p t : ℕ) (low : nat_le 4 p ≡ true) (high : nat_lt p 20 ≡ true) w
   attended_cases : Cases (Attended p t) (AttendedFree p t) Anything
   attended_cases =
       record {
-        notes = λ m X h. timely.notes m X h.timely;
+        notes = λ m X entry items h. timely.notes m X entry items h.timely;
         free = attended-free p t;
         carried = attended-carried;
         served = attended-served;

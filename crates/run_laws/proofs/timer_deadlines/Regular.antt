@@ -1,13 +1,12 @@
 -- The kernel's own processes take no turn and never leave, and only notes are shown.
-use Rattle.std.proofs.Common.{◌≡◌, ℕ, Bool, true, List, [], ◌∷◌, refl, arith}
-use Rattle.std.specs.Prelude.{Some, map, nat_le}
+use Rattle.std.proofs.Common.{◌≡◌, ℕ, Bool, true, List, ◌∷◌, refl, arith}
+use Rattle.std.specs.Prelude.{map, nat_le}
 use Rattle.std.specs.List.{list_all}
 use Rattle.std.proofs.lemmas.Bool.Decides.{nat_tests}
 use Rattle.mote_types.specs.declared.call.Call.{Call}
-use Rattle.mote_types.specs.declared.entry.Entry.{Entry}
-use Rattle.process_core.specs.Agenda.{Item, Job}
+use Rattle.process_core.specs.Agenda.{Item}
 use Rattle.process_core.specs.Processes.{numbers, is_application}
-use Rattle.process_core.specs.Scheduler.{Scheduler, delivery, carried_out, first_event, job_at}
+use Rattle.process_core.specs.Scheduler.{Scheduler, delivery, carried_out, first_event}
 use Rattle.kernel_core.specs.Machine.{Machine}
 use Rattle.kernel_core.specs.Calls.{after_call}
 use Rattle.run_laws.proofs.event_order.Shape.{is_note}
@@ -50,8 +49,3 @@ after-regular call q m a h =
       leave = a;
     })
     h
-
--- only notes are shown
-pub regular-note : (agenda : List Item) (s : Scheduler Bool) (entry : Entry) → list_all is_regular agenda ≡ true → job_at agenda s ≡ Some (Job.ShowEntry entry) → is_note entry ≡ true
-regular-note [] s entry o e = absurd (grind (arith, e))
-regular-note (item ∷ items) s entry o e = grind (arith, o, e)

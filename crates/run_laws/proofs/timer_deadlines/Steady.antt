@@ -24,7 +24,8 @@ use Rattle.kernel_core.specs.Inputs.{effect, frame_held, frame_refusal, held_unl
 use Rattle.run_laws.proofs.timer_deadlines.Ledgers.{fold-append}
 use Rattle.run_laws.proofs.event_order.Items.{with_agenda, facing}
 use Rattle.run_laws.proofs.Untouched.{serve-untouched}
-use Rattle.run_laws.proofs.timer_deadlines.Timed.{is_no_timer, plain-more, plain-struck, serve-fair}
+use Rattle.run_laws.proofs.timer_deadlines.Fronts.{all-more, carried-queue}
+use Rattle.run_laws.proofs.timer_deadlines.Timed.{is_no_timer, plain-struck, serve-fair}
 use Rattle.run_laws.proofs.timer_deadlines.Timing.{cell_names}
 use Rattle.run_laws.proofs.timer_deadlines.Moves.{after-clock, after-names}
 use Rattle.run_laws.proofs.timer_deadlines.Regular.{is_regular, carried-regular, after-regular}
@@ -41,22 +42,13 @@ clock-more X e = fold-append (λ clock entry. clock + ticks_in entry) 0 X (e ∷
 
 -- an item
 
-carried-plain : (item : Item) (items : List Item) (s : Scheduler Bool) → list_all is_no_timer s.events ≡ true
-    → list_all is_no_timer (carried_out item (with_agenda items s)).events ≡ true
-carried-plain Item.Deliver items s h = dropped s.events h
-  where
-    dropped : (events : List (Queued Bool)) → list_all is_no_timer events ≡ true → list_all is_no_timer (drop 1 events) ≡ true
-    dropped [] h = refl
-    dropped (event ∷ events) h = grind (arith, h)
-carried-plain item items s h = grind (arith, h)
-
 pub steady-carried : (item : Item) (items : List Item) (m : Machine) (X : List Entry) → Steady (facing (item ∷ items) m) X
     → Steady (record m { scheduler = carried_out item (with_agenda items m.scheduler) }) X
 steady-carried item items m X h =
     record {
       clock = h.clock;
       names = h.names;
-      plain = carried-plain item items m.scheduler h.plain;
+      plain = carried-queue is_no_timer item items m.scheduler h.plain;
       regular = carried-regular item items m.scheduler h.regular;
     }
 
@@ -81,8 +73,8 @@ steady-serve q event m X h =
 after-plain : (call : Call) (q : ℕ) (m : Machine) → list_all is_no_timer m.scheduler.events ≡ true → list_all is_no_timer (after_call call q m).scheduler.events ≡ true
 after-plain (Call.CallbackSet c interval) q m h = grind (arith, h, plain-struck (is_callback_timer q c) m.scheduler.events)
 after-plain (Call.CallbackStop c) q m h = grind (arith, h, plain-struck (is_callback_timer q c) m.scheduler.events)
-after-plain (Call.Post r code payload) q m h = grind (arith, nat_tests, h, plain-more)
-after-plain (Call.Broadcast code payload) q m h = grind (arith, nat_tests, h, plain-more)
+after-plain (Call.Post r code payload) q m h = grind (arith, nat_tests, h, all-more is_no_timer)
+after-plain (Call.Broadcast code payload) q m h = grind (arith, nat_tests, h, all-more is_no_timer)
 after-plain call q m h = grind (arith, h)
 
 pub steady-turn : (q : ℕ) (origin : Origin) (stimulus : Stimulus) (call : Call) (m : Machine) (X : List Entry) → nat_le 4 q ≡ true → Steady m X

@@ -17,6 +17,7 @@ use Rattle.kernel_core.specs.KernelProcesses.{serve}
 use Rattle.kernel_core.specs.TimerProcesses.{expiry_of, post_expiry}
 use Rattle.run_laws.specs.TimerLaws.{is_timer_event}
 use Rattle.run_laws.proofs.Changes.{Changes, of_changes, is_notice}
+use Rattle.run_laws.proofs.timer_deadlines.Fronts.{all-more, all-struck}
 use Rattle.run_laws.proofs.timer_deadlines.Ledgers.{Ledger, one_if}
 use Rattle.run_laws.proofs.timer_deadlines.Timing.{cell_names, stopped-own, stopped-other, symm}
 
@@ -140,17 +141,13 @@ expiry_count p t timer = grind (arith, nat_tests)
 expiry_plain : (timer : Timer) → is_no_timer (expiry_of timer) ≡ true
 expiry_plain timer = grind arith
 
-pub plain-more : (xs : List (Queued Bool)) (event : Queued Bool) → is_no_timer event ≡ true → list_all is_no_timer xs ≡ true → list_all is_no_timer (xs ++ event ∷ []) ≡ true
-plain-more [] event n h = grind (arith, n)
-plain-more (x ∷ xs) event n h = grind (arith, n, h, plain-more xs event)
-
 -- a due timer of p is posted, and is off the list
 expired-fair : (p t : ℕ) (timer : Timer) (m : Machine) → first_due m.clock m.timers ≡ Some timer → Fair p t m (post_expiry (Some timer) m)
 expired-fair p t timer m e =
     record {
       clock = refl;
       names = refl;
-      plain = λ h. plain-more m.scheduler.events (expiry_of timer) (expiry_plain timer) h;
+      plain = λ h. all-more is_no_timer m.scheduler.events (expiry_of timer) (expiry_plain timer) h;
       balanced = λ ledger k. posted (is_timer (event_timer p t) timer) refl ledger k;
     }
   where
@@ -187,7 +184,7 @@ post-fair p t event m z n =
     record {
       clock = refl;
       names = refl;
-      plain = λ h. plain-more m.scheduler.events event n h;
+      plain = λ h. all-more is_no_timer m.scheduler.events event n h;
       balanced = λ ledger k.
           let same : count_events p t (m.scheduler.events ++ event ∷ []) ≡ count_events p t m.scheduler.events =
           count_events-more p t m.scheduler.events event ∙ rw z (omega arith) in
@@ -207,10 +204,7 @@ count-struck p t test (Queued.ToAll event ∷ events) = rw (count-struck p t tes
 count-struck p t test (Queued.Expiry q c x ∷ events) = rw (count-struck p t test events) refl
 
 pub plain-struck : (test : ℕ → ℕ → Bool) (events : List (Queued Bool)) → list_all is_no_timer (map (struck_if test) events) ≡ list_all is_no_timer events
-plain-struck test [] = refl
-plain-struck test (Queued.To q event ∷ events) = plain-struck test events
-plain-struck test (Queued.ToAll event ∷ events) = rw (plain-struck test events) refl
-plain-struck test (Queued.Expiry q c x ∷ events) = plain-struck test events
+plain-struck test events = all-struck is_no_timer test (λ event. grind arith) events
 
 dropped-fair : (p t : ℕ) (keep : Timer → Bool) (m : Machine) → Fair p t m (record m { timers = record m.timers { armed = filter keep m.timers.armed } })
 dropped-fair p t keep m =
