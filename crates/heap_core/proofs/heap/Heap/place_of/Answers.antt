@@ -3,10 +3,9 @@ use Rattle.std.specs.Prelude.{Option, find}
 use Rattle.std.specs.Option.{option_map}
 use Rattle.mote_types.specs.BlockNames.{number_of}
 use Rattle.heap_core.specs.declared.chunk.Chunk.{Chunk}
-use Rattle.heap_core.specs.declared.chunk.Place.{Place}
 use Rattle.heap_core.specs.declared.region.Region.{Region}
-use Rattle.heap_core.specs.HeapStore.{Block, has_name, place_of, live_place}
-use Rattle.heap_core.specs.HeapBytes.{heap_of, IsLaidOut}
+use Rattle.heap_core.specs.HeapStore.{has_name, place_of, live_place}
+use Rattle.heap_core.specs.HeapBytes.{heap_of}
 use Rattle.heap_core.specs.Chunks.{blocks_in}
 use Rattle.heap_core.specs.Layout.{chunks_of}
 use Rattle.heap_core.specs.Code.Walks.{at_place, block_in_chunk, place_in_chunk}
