@@ -7,7 +7,6 @@ use Rattle.std.specs.Result.{result_ok}
 use Rattle.std.specs.Str.Parse.{digits_value}
 use Rattle.hex.specs.Hex.{decode_of}
 use Rattle.mote_types.specs.declared.entry.Input.{Input}
-use Rattle.mote_text.specs.declared.script.BadLine.{BadLine}
 use Rattle.mote_text.specs.declared.script.End.{End}
 
 -- a decimal number

@@ -1,12 +1,12 @@
 -- The scheduler at boot.
-use Rattle.std.proofs.Common.{◌≡◌, ℕ, zero, suc, ◌+◌, ◌<◌, ◌≤◌, Bool, true, false, List, [], ◌∷◌, ◌++◌, refl, arith, eqb, None, add-one}
+use Rattle.std.proofs.Common.{◌≡◌, ℕ, zero, suc, ◌+◌, ◌<◌, ◌≤◌, Bool, true, false, [], ◌∷◌, ◌++◌, refl, arith, eqb, None, add-one}
 use Rattle.std.specs.List.{range_with_len}
 use Rattle.std.proofs.lemmas.Bool.Decides.{nat_tests}
 use Rattle.process_core.specs.declared.scheduler_fields.SchedulerFields.{SchedulerFields}
-use Rattle.process_core.specs.declared.frame.Frame.{Frame}
+use Rattle.process_core.specs.declared.frame.Base.{Base}
 use Rattle.process_core.specs.Processes.{at_first, state_of}
 use Rattle.process_core.specs.declared.state.State.{State}
-use Rattle.process_core.specs.declared.awaited.Awaited.{Awaited}
+use Rattle.process_core.specs.declared.front.Front.{Front}
 use Rattle.process_core.specs.Code.Nesting.{is_one_of, IsSound}
 use Rattle.process_core.specs.Code.SchedulerFields.{IsInOrder}
 
@@ -40,16 +40,16 @@ first_known n (suc (suc zero)) h = omega arith
 first_known n (suc (suc (suc zero))) h = omega arith
 first_known n (suc (suc (suc (suc p)))) h = absurd (h (none_beyond (suc (suc (suc (suc p)))) (omega arith)))
 
-pub order_at_boot : (d : SchedulerFields) (starts : List ℕ) → d.applications ≤ 16 → starts ≡ range_with_len 4 d.applications
-    → d.processes ≡ at_first → d.stack ≡ Frame.Boot starts ∷ [] → d.events.capacity ≡ 32 → d.next_event ≡ 140 → d.awaited ≡ Awaited.Nothing → IsInOrder d
-order_at_boot d starts few is_range list stack room next idle =
-    record { sound = rw (list, stack, idle) sound; bare = rw idle tt; room = room; few = few; numbers = omega arith }
+pub order_at_boot : (d : SchedulerFields) → d.applications ≤ 16 → d.walk ≡ range_with_len 4 d.applications → d.processes ≡ at_first
+    → d.stack.items ≡ [] → d.base ≡ Base.Boot → d.events.capacity ≡ 32 → d.next_event ≡ 140 → d.front ≡ Front.Nothing → IsInOrder d
+order_at_boot d few is_range list stack boot room next idle =
+    record { sound = rw (list, stack, idle) sound; starts = rw idle tt; boots = rw (boot, is_range) (λ p h. below_range p 4 d.applications h); room = room; few = few; numbers = omega arith }
   where
-    sound : IsSound d.applications at_first (Frame.Boot starts ∷ []) None
+    sound : IsSound d.applications at_first [] None
     sound =
         record {
           mote = record { kernel = first_run; known = first_known d.applications };
-          nested = ((refl, λ p h. below_range p 4 d.applications (rw is_range at h)), tt);
+          nested = tt;
           answers = λ p h. absurd (cc);
           leaves = λ p h. absurd (cc);
           at_turn = tt;

@@ -1,97 +1,118 @@
--- The kernel's processes that come next are passed on the stack as on the agenda.
-use Rattle.std.proofs.Common.{◌≡◌, ℕ, Bool, true, false, List, [], ◌∷◌, ◌++◌, refl, sym, ◌∙◌, Some, None}
-use Rattle.std.specs.Prelude.{if◌then◌else◌}
+-- The kernel's processes that come next are passed in the base's walk as on the agenda.
+use Rattle.std.proofs.Common.{◌≡◌, ℕ, Bool, true, false, ◌&&◌, List, [], ◌∷◌, ◌++◌, refl, sym, ◌∙◌, ap}
+use Rattle.std.specs.Prelude.{if◌then◌else◌, flat_map, reverse}
 use Rattle.mote_types.specs.declared.event.Event.{Event}
+use Rattle.mote_types.specs.declared.reply.Reply.{Reply}
 use Rattle.process_core.specs.declared.scheduler_fields.SchedulerFields.{SchedulerFields}
-use Rattle.process_core.specs.declared.frame.First.{First}
+use Rattle.process_core.specs.declared.frame.Base.{Base}
 use Rattle.process_core.specs.declared.frame.Frame.{Frame}
+use Rattle.process_core.specs.declared.front.Front.{Front}
+use Rattle.process_core.specs.Idle.{is_empty}
 use Rattle.process_core.specs.KernelReceivers.{behind_kernel_receivers, is_other_than}
 use Rattle.process_core.specs.Processes.{is_kernel_process}
-use Rattle.process_core.specs.Code.Frames.{changed_top, on_top, has_receiver, from_application, past_kernel_receivers}
-use Rattle.process_core.specs.OpenWork.{agenda_of, receiver_items}
-use Rattle.process_core.specs.Code.Nesting.{IsNested, LiesOn, answering_in, leaving_in}
-use Rattle.process_core.specs.Code.SchedulerFields.{IsInOrder}
-use Rattle.process_core.proofs.Order.{order_same, with_top}
+use Rattle.process_core.specs.Code.SchedulerFields.{IsInOrder, BootsKnown}
+use Rattle.process_core.specs.Code.Walks.{from_application, is_broadcast, receiver_is_next}
+use Rattle.process_core.specs.OpenWork.{agenda_of, base_items, front_items, items_of, poll_items, receiver_items}
+use Rattle.process_core.proofs.LonePoll.{both, empty_list}
+use Rattle.process_core.proofs.NothingLeft.{is_empty_frames}
 
--- of the receivers of such an event the first application is left, and those behind it
-abbrev left : Bool → List ℕ → List ℕ
-left same walk = if same then from_application walk else walk
+pub and_false : (b : Bool) → (b && false) ≡ false
+and_false true = refl
+and_false false = refl
 
-receivers_behind : (codes : List ℕ) (event : Event) (walk : List ℕ) → (same : Bool) → is_other_than codes event.code ≡ same
-    → behind_kernel_receivers codes (receiver_items event walk ++ []) ≡ receiver_items event (left same walk) ++ []
-receivers_behind codes event [] true e = refl
-receivers_behind codes event [] false e = refl
-receivers_behind codes event (p ∷ walk) same e =
-    split (is_kernel_process p) refl same e (receivers_behind codes event walk same e)
-  where
-    split : (kernel : Bool) → is_kernel_process p ≡ kernel → (same : Bool) → is_other_than codes event.code ≡ same
-        → behind_kernel_receivers codes (receiver_items event walk ++ []) ≡ receiver_items event (left same walk) ++ []
-        → behind_kernel_receivers codes (receiver_items event (p ∷ walk) ++ [])
-        ≡ receiver_items event (left same (p ∷ walk)) ++ []
-    split true k true e later = rw (k, e) later
-    split true k false e later = rw (k, e) refl
-    split false k true e later = rw k refl
-    split false k false e later = rw k refl
+module _ (codes : List ℕ) where
+  receivers_behind : (event : Event) (walk : List ℕ) (other : Bool) → is_other_than codes event.code ≡ other
+      → behind_kernel_receivers codes (receiver_items event walk) ≡ receiver_items event (if other then from_application walk else walk)
+  receivers_behind event [] true e = refl
+  receivers_behind event [] false e = refl
+  receivers_behind event (p ∷ walk) other e = split (is_kernel_process p) refl other e (receivers_behind event walk other e)
+    where
+      split : (kernel : Bool) → is_kernel_process p ≡ kernel → (other : Bool) → is_other_than codes event.code ≡ other
+          → behind_kernel_receivers codes (receiver_items event walk) ≡ receiver_items event (if other then from_application walk else walk)
+          → behind_kernel_receivers codes (receiver_items event (p ∷ walk)) ≡ receiver_items event (if other then from_application (p ∷ walk) else p ∷ walk)
+      split true k true e later = rw (k, e) later
+      split true k false e later = rw (k, e) refl
+      split false k true e later = rw k refl
+      split false k false e later = rw k refl
 
-module _ (n : ℕ) (codes : List ℕ) where
-  -- none comes next where no broadcast with a receiver lies on top
-  nothing_behind : (stack : List Frame) → IsNested n stack → on_top false has_receiver stack ≡ false
-      → behind_kernel_receivers codes (agenda_of stack) ≡ agenda_of stack
-  nothing_behind [] nested none = refl
-  nothing_behind (Frame.Boot [] ∷ below) nested none = rw nested.0.0 refl
-  nothing_behind (Frame.Boot (p ∷ walk) ∷ below) nested none = refl
-  nothing_behind (Frame.Deliver true ∷ below) nested none = refl
-  nothing_behind (Frame.Deliver false ∷ below) nested none = refl
-  nothing_behind (Frame.Callback pid number ∷ below) nested none = refl
-  nothing_behind (Frame.Broadcast (Some p) walk event ∷ below) nested none = refl
-  nothing_behind (Frame.Broadcast None [] event ∷ below) nested none = rw nested.0 refl
-  nothing_behind (Frame.Broadcast None (p ∷ walk) event ∷ below) nested none = absurd (cc)
-  nothing_behind (Frame.Polls [] ∷ below) nested none = nothing_behind below nested.1 nested.0.1
-  nothing_behind (Frame.Polls (p ∷ walk) ∷ below) nested none = refl
-  nothing_behind (Frame.Leave pid [] true ∷ below) nested none = refl
-  nothing_behind (Frame.Leave pid [] false ∷ below) nested none = refl
-  nothing_behind (Frame.Leave pid (p ∷ walk) exits ∷ below) nested none = refl
-  nothing_behind (Frame.Answer pid First.Nothing reply ∷ below) nested none = refl
-  nothing_behind (Frame.Answer pid (First.Give q event) reply ∷ below) nested none = refl
-  nothing_behind (Frame.Answer pid (First.Start q) reply ∷ below) nested none = refl
+  -- none comes next where something else does
 
-  pub passed_on_stack : (stack : List Frame) → IsNested n stack
-      → agenda_of (changed_top (past_kernel_receivers codes) stack) ≡ behind_kernel_receivers codes (agenda_of stack)
-  passed_on_stack [] nested = refl
-  passed_on_stack (Frame.Broadcast None walk event ∷ below) nested =
-      rw nested.0 (sym (receivers_behind codes event walk (is_other_than codes event.code) refl))
-  passed_on_stack (Frame.Broadcast (Some p) walk event ∷ below) nested = refl
-  passed_on_stack (Frame.Boot walk ∷ below) nested = sym (nothing_behind (Frame.Boot walk ∷ below) nested refl)
-  passed_on_stack (Frame.Deliver is_polled ∷ below) nested =
-      sym (nothing_behind (Frame.Deliver is_polled ∷ below) nested refl)
-  passed_on_stack (Frame.Callback pid number ∷ below) nested = refl
-  passed_on_stack (Frame.Polls walk ∷ below) nested = sym (nothing_behind (Frame.Polls walk ∷ below) nested refl)
-  passed_on_stack (Frame.Leave pid walk exits ∷ below) nested =
-      sym (nothing_behind (Frame.Leave pid walk exits ∷ below) nested refl)
-  passed_on_stack (Frame.Answer pid first reply ∷ below) nested =
-      sym (nothing_behind (Frame.Answer pid first reply ∷ below) nested refl)
+  nothing_in_base : (base : Base) (walk : List ℕ) (event : Event) → is_broadcast base ≡ false
+      → behind_kernel_receivers codes (base_items base walk event) ≡ base_items base walk event
+  nothing_in_base Base.Nothing walk event none = refl
+  nothing_in_base Base.Boot [] event none = refl
+  nothing_in_base Base.Boot (p ∷ walk) event none = refl
+  nothing_in_base (Base.Deliver true) walk event none = refl
+  nothing_in_base (Base.Deliver false) walk event none = refl
+  nothing_in_base (Base.Broadcast true) [] event none = refl
+  nothing_in_base (Base.Broadcast true) (p ∷ walk) event none = refl
+  nothing_in_base (Base.Broadcast false) walk event none = absurd (cc)
 
-  lies_passed : (frame : Frame) (below : List Frame) → LiesOn n frame below
-      → LiesOn n (past_kernel_receivers codes frame) below
-  lies_passed (Frame.Broadcast None walk event) below lies = lies
-  lies_passed _ below lies = lies
+  nothing_below : (polls : List ℕ) (base : Base) (walk : List ℕ) (event : Event) → (is_empty polls && is_broadcast base) ≡ false
+      → behind_kernel_receivers codes (poll_items polls ++ base_items base walk event) ≡ poll_items polls ++ base_items base walk event
+  nothing_below [] base walk event none = nothing_in_base base walk event none
+  nothing_below (p ∷ polls) base walk event none = refl
 
--- a broadcast belongs to no process
-answering_passed : (codes : List ℕ) (frame : Frame) → answering_in (past_kernel_receivers codes frame) ≡ answering_in frame
-answering_passed codes (Frame.Broadcast None walk event) = refl
-answering_passed codes _ = refl
+  nothing_behind : (stack : List Frame) (polls : List ℕ) (base : Base) (walk : List ℕ) (event : Event)
+      → (is_empty stack && (is_empty polls && is_broadcast base)) ≡ false
+      → behind_kernel_receivers codes (flat_map items_of stack ++ (poll_items polls ++ base_items base walk event))
+      ≡ flat_map items_of stack ++ (poll_items polls ++ base_items base walk event)
+  nothing_behind [] polls base walk event none = nothing_below polls base walk event none
+  nothing_behind (Frame.Leave pid [] true ∷ below) polls base walk event none = refl
+  nothing_behind (Frame.Leave pid [] false ∷ below) polls base walk event none = refl
+  nothing_behind (Frame.Leave pid (p ∷ others) exits ∷ below) polls base walk event none = refl
+  nothing_behind (Frame.Answer pid ∷ below) polls base walk event none = refl
 
-leaving_passed : (codes : List ℕ) (frame : Frame) → leaving_in (past_kernel_receivers codes frame) ≡ leaving_in frame
-leaving_passed codes (Frame.Broadcast None walk event) = refl
-leaving_passed codes _ = refl
+  nothing_next : (front : Front) (reply : Reply) (synch : Event) (stack : List Frame) (polls : List ℕ) (base : Base) (walk : List ℕ) (event : Event)
+      → (is_empty (front_items front reply synch) && (is_empty stack && (is_empty polls && is_broadcast base))) ≡ false
+      → behind_kernel_receivers codes (front_items front reply synch ++ (flat_map items_of stack ++ (poll_items polls ++ base_items base walk event)))
+      ≡ front_items front reply synch ++ (flat_map items_of stack ++ (poll_items polls ++ base_items base walk event))
+  nothing_next Front.Nothing reply synch stack polls base walk event none = nothing_behind stack polls base walk event none
+  nothing_next (Front.Call p) reply synch stack polls base walk event none = nothing_behind stack polls base walk event none
+  nothing_next (Front.Expiry p number) reply synch stack polls base walk event none = nothing_behind stack polls base walk event none
+  nothing_next (Front.Answer p) reply synch stack polls base walk event none = refl
+  nothing_next (Front.Give p) reply synch stack polls base walk event none = refl
+  nothing_next (Front.Start p) reply synch stack polls base walk event none = refl
+  nothing_next (Front.Callback p number) reply synch stack polls base walk event none = refl
 
-pub order_passed : (d : SchedulerFields) (codes : List ℕ) (new : List Frame) → IsInOrder d
-    → new ≡ changed_top (past_kernel_receivers codes) d.stack → IsInOrder (record d { stack = new })
-order_passed d codes new order e = by_stack d.stack refl
-  where
-    by_stack : (stack : List Frame) → d.stack ≡ stack → IsInOrder (record d { stack = new })
-    by_stack [] f = let same : new ≡ d.stack = (rw f at e) ∙ sym f in rw same order
-    by_stack (frame ∷ below) f =
-        order_same (record d { stack = below }) frame (past_kernel_receivers codes frame) new
-        (lies_passed d.applications codes frame below) (answering_passed codes frame) (leaving_passed codes frame) (rw f at e)
-        (with_top d frame below f order)
+  broadcasting : (base : Base) → is_broadcast base ≡ true → base ≡ Base.Broadcast false
+  broadcasting (Base.Broadcast false) h = refl
+  broadcasting (Base.Broadcast true) h = absurd (cc)
+  broadcasting Base.Nothing h = absurd (cc)
+  broadcasting Base.Boot h = absurd (cc)
+  broadcasting (Base.Deliver is_polled) h = absurd (cc)
+
+  -- a receiver comes next: nothing but the broadcast is open
+  pub receivers_open : (d : SchedulerFields) (walk : List ℕ) → receiver_is_next d ≡ true → agenda_of (record d { walk = walk }) ≡ receiver_items d.broadcast walk
+  receivers_open d walk h =
+      let first = both (is_empty (front_items d.front d.reply d.synch)) (_) h in
+      let second = both (_) (_) first.1 in
+      let third = both (is_empty d.polls) (is_broadcast d.base) second.1 in
+      let bare : reverse d.stack.items ≡ [] = empty_list (reverse d.stack.items) (is_empty_frames d.stack.items ∙ second.0) in
+      rw (empty_list (front_items d.front d.reply d.synch) first.0, bare, empty_list d.polls third.0, broadcasting d.base third.1) refl
+
+  pub passed : (d : SchedulerFields) → receiver_is_next d ≡ true → is_other_than codes d.broadcast.code ≡ true
+      → agenda_of (record d { walk = from_application d.walk }) ≡ behind_kernel_receivers codes (agenda_of d)
+  passed d next other =
+      receivers_open d (from_application d.walk) next
+      ∙ sym (ap (behind_kernel_receivers codes) (receivers_open d d.walk next) ∙ receivers_behind d.broadcast d.walk true other)
+
+  -- else none is passed
+  pub none_passed : (d : SchedulerFields) → (receiver_is_next d && is_other_than codes d.broadcast.code) ≡ false → agenda_of d ≡ behind_kernel_receivers codes (agenda_of d)
+  none_passed d h = split (receiver_is_next d) refl (is_other_than codes d.broadcast.code) refl h
+    where
+      split : (next : Bool) → receiver_is_next d ≡ next → (other : Bool) → is_other_than codes d.broadcast.code ≡ other → (next && other) ≡ false
+          → agenda_of d ≡ behind_kernel_receivers codes (agenda_of d)
+      split true n true o h = absurd (cc)
+      split true n false o h =
+          receivers_open d d.walk n ∙ sym (ap (behind_kernel_receivers codes) (receivers_open d d.walk n) ∙ receivers_behind d.broadcast d.walk false o)
+      split false n other o h =
+          sym (nothing_next d.front d.reply d.synch (reverse d.stack.items) d.polls d.base d.walk d.broadcast (rw (is_empty_frames d.stack.items) n))
+
+pub order_passed : (d : SchedulerFields) (walk : List ℕ) → receiver_is_next d ≡ true → IsInOrder d → IsInOrder (record d { walk = walk })
+order_passed d walk next order =
+    let first = both (is_empty (front_items d.front d.reply d.synch)) (_) next in
+    let second = both (_) (_) first.1 in
+    let third = both (is_empty d.polls) (is_broadcast d.base) second.1 in
+    let known : BootsKnown d.applications d.base walk = rw (broadcasting [] d.base third.1) tt in
+    record { sound = order.sound; starts = order.starts; boots = known; room = order.room; few = order.few; numbers = order.numbers }

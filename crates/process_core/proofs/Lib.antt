@@ -1,12 +1,12 @@
 pub mod Sound
 pub mod Yields
-pub mod Unpolled
+pub mod Walks
+pub mod Below
 pub mod Order
 pub mod Listed
 pub mod Boot
 pub mod Rest
 pub mod NothingLeft
-pub mod Tops
 pub mod Counting
 pub mod LonePoll
 mod Examples

@@ -7,7 +7,7 @@ use Rattle.mote_types.specs.Codes.{plain_event}
 use Rattle.process_core.specs.declared.process.Process.{Process}
 use Rattle.process_core.specs.Agenda.{Item, Job}
 use Rattle.process_core.specs.declared.queued.Queued as code
-use Rattle.process_core.specs.Code.Frames.{from_marked}
+use Rattle.process_core.specs.Code.Walks.{from_marked}
 use Rattle.process_core.specs.Code.SchedulerFields.{queued_of}
 use Rattle.process_core.specs.Code.Nesting.{is_one_of}
 use Rattle.process_core.specs.Idle.{is_empty}
@@ -16,11 +16,11 @@ use Rattle.process_core.specs.Processes.{numbers, is_marked, is_any_marked, is_k
 use Rattle.process_core.specs.Scheduler.{Scheduler, in_front}
 use Rattle.process_core.proofs.Yields.{unmarked_pass, poll_one_yields, yields_next, yields_after}
 
-empty_list : {A : Type 0} (xs : List A) → is_empty xs ≡ true → xs ≡ []
+pub empty_list : {A : Type 0} (xs : List A) → is_empty xs ≡ true → xs ≡ []
 empty_list [] h = refl
 empty_list (x ∷ xs) h = absurd (cc)
 
-both : (a b : Bool) → (a && b) ≡ true → (a ≡ true) × (b ≡ true)
+pub both : (a b : Bool) → (a && b) ≡ true → (a ≡ true) × (b ≡ true)
 both true b h = (refl, h)
 both false b h = absurd (cc)
 

@@ -1,99 +1,230 @@
 -- The parts stay in order.
-use Rattle.std.proofs.Common.{◌≡◌, ℕ, ◌+◌, ◌*◌, ◌<◌, ◌≤◌, Bool, true, false, List, [], ◌∷◌, length, refl, ap, arith, Some, None}
-use Rattle.std.specs.Prelude.{IfSome}
+use Rattle.std.proofs.Common.{◌≡◌, ℕ, ◌+◌, ◌*◌, ◌<◌, ◌≤◌, Bool, true, false, List, [], ◌∷◌, ◌++◌, length, refl, ap, arith, Option, Some, None}
+use Rattle.std.specs.Prelude.{reverse, IfSome}
+use Rattle.std.proofs.lemmas.List.{length-reverse, reverse-append}
+use Rattle.mote_types.specs.declared.event.Event.{Event}
 use Rattle.mote_types.specs.declared.event.Pid.{Pid}
 use Rattle.mote_types.specs.declared.reply.Reply.{Reply}
 use Rattle.process_core.specs.declared.scheduler_fields.SchedulerFields.{SchedulerFields}
 use Rattle.process_core.specs.declared.process.Process.{Process}
 use Rattle.process_core.specs.declared.state.State.{State}
-use Rattle.process_core.specs.declared.frame.First.{First}
+use Rattle.process_core.specs.declared.frame.Base.{Base}
 use Rattle.process_core.specs.declared.frame.Frame.{Frame}
+use Rattle.process_core.specs.declared.front.Front.{Front}
+use Rattle.process_core.specs.declared.ready.Ready.{Ready}
 use Rattle.process_core.specs.Processes.{is_ending, state_of, with_state, with_mark, without, IsApplication}
-use Rattle.process_core.specs.Code.Nesting.{IsSound, LiesOn, answering_in, leaving_in, IsKnown, has_ended, answering}
+use Rattle.process_core.specs.Code.Nesting.{IsSound, IsAtTurn, has_ended, answering}
 use Rattle.process_core.specs.Requests.{is_in_activation}
-use Rattle.process_core.specs.declared.awaited.Awaited.{Awaited}
-use Rattle.process_core.specs.Code.SchedulerFields.{IsInOrder, with_frame, turn_in, callback_in}
+use Rattle.process_core.specs.Code.SchedulerFields.{IsInOrder, IsOrdered, BootsKnown, StartsKnown, active_in, turn_in, front_after, scheduler_behind, scheduler_of}
+use Rattle.process_core.specs.OpenWork.{front_items}
 use Rattle.process_core.proofs.Sound as sound
 
-pub few_frames : (d : SchedulerFields) → IsInOrder d → length d.stack ≤ 2 * d.applications + 2
-few_frames d order = sound.length-le_from_sound d.applications d.processes d.stack (turn_in d.awaited) order.sound
+-- a frame that is pushed is the topmost one
+pub pushed : (frames : List Frame) (f : Frame) → reverse (frames ++ f ∷ []) ≡ f ∷ reverse frames
+pushed frames f = reverse-append frames (f ∷ [])
 
--- the stack has room for fourteen more frames at any time
-pub room_on_stack : (d : SchedulerFields) → IsInOrder d → length d.stack ≤ 34
-room_on_stack d order = omega (arith, few_frames d order, order.few)
+-- the stack has room for two more frames at any time
+pub few_frames : (d : SchedulerFields) (stack : List Frame) → IsOrdered d stack → length stack ≤ 2 * d.applications
+few_frames d stack order = sound.length-le_from_sound d.applications d.processes stack (active_in d.front) order.sound
 
--- the topmost frame apart
-pub with_top : (d : SchedulerFields) (f : Frame) (below : List Frame) → d.stack ≡ f ∷ below → IsInOrder d → IsInOrder (with_frame f (record d { stack = below }))
-with_top d f below e order =
-    record { sound = rw e at order.sound; bare = rw e at order.bare; room = order.room; few = order.few; numbers = order.numbers }
+pub few_items : (d : SchedulerFields) → IsInOrder d → length d.stack.items ≤ 2 * d.applications
+few_items d order = omega (arith, few_frames d (reverse d.stack.items) order, length-reverse d.stack.items)
 
--- where a frame is on the stack no expiry was answered just now
-never_bare : (awaited : Awaited) (f : Frame) (below new : List Frame)
-    → IfSome (callback_in awaited) (λ _. f ∷ below ≡ []) → IfSome (callback_in awaited) (λ _. new ≡ [])
-never_bare Awaited.Nothing f below new h = tt
-never_bare (Awaited.Call p) f below new h = tt
-never_bare (Awaited.Callback p number) f below new h = absurd (cc)
+pub room_on_stack : (d : SchedulerFields) → IsInOrder d → length d.stack.items ≤ 32
+room_on_stack d order =
+    omega (arith, few_items d order, order.few)
 
-idle_sound : (d : SchedulerFields) → IsInOrder d → d.awaited ≡ Awaited.Nothing → IsSound d.applications d.processes d.stack None
-idle_sound d order idle = rw idle at order.sound
+-- and for one more than it had before this one was taken from it
+pub room_below : (d : SchedulerFields) (f : Frame) → IsOrdered d (f ∷ reverse d.stack.items) → length d.stack.items ≤ 31
+room_below d f order = omega (arith, few_frames d (f ∷ reverse d.stack.items) order, length-reverse d.stack.items, order.few)
+
+idle_sound : (d : SchedulerFields) (stack : List Frame) → IsOrdered d stack → d.front ≡ Front.Nothing → IsSound d.applications d.processes stack None
+idle_sound d stack order idle = rw idle at order.sound
 
 pub order_marked : (d : SchedulerFields) (new : List Process) (p : ℕ) (marked : Bool) → IsInOrder d
     → new ≡ with_mark p marked d.processes → IsInOrder (record d { processes = new })
 order_marked d new p marked order e =
-    record { sound = rw e (sound.sound-marked d.applications d.processes d.stack (turn_in d.awaited) p marked order.sound); bare = order.bare; room = order.room; few = order.few; numbers = order.numbers }
+    record {
+      sound = rw e (sound.sound-marked d.applications d.processes (reverse d.stack.items) (active_in d.front) p marked order.sound);
+      starts = order.starts;
+      boots = order.boots;
+      room = order.room;
+      few = order.few;
+      numbers = order.numbers;
+    }
 
-pub order_started : (d : SchedulerFields) (new : List Process) (p : ℕ) → IsInOrder d → d.awaited ≡ Awaited.Nothing → p < 4 + d.applications → state_of p d.processes ≡ State.Absent
+pub order_started : (d : SchedulerFields) (new : List Process) (p : ℕ) → IsInOrder d → d.front ≡ Front.Nothing → p < 4 + d.applications → state_of p d.processes ≡ State.Absent
     → new ≡ record { number = p; state = State.Running; marked = false } ∷ d.processes → IsInOrder (record d { processes = new })
 order_started d new p order idle known absent e =
-    record { sound = rw (e, idle) (sound.sound-started d.applications d.processes d.stack p (idle_sound d order idle) known absent); bare = order.bare; room = order.room; few = order.few; numbers = order.numbers }
+    record {
+      sound = rw (e, idle) (sound.sound-started d.applications d.processes (reverse d.stack.items) p (idle_sound d (reverse d.stack.items) order idle) known absent);
+      starts = order.starts;
+      boots = order.boots;
+      room = order.room;
+      few = order.few;
+      numbers = order.numbers;
+    }
 
--- a frame gives way to another one of its kind
-pub order_same : (d : SchedulerFields) (f g : Frame) (new : List Frame) → (LiesOn d.applications f d.stack → LiesOn d.applications g d.stack) → answering_in g ≡ answering_in f → leaving_in g ≡ leaving_in f
-    → new ≡ g ∷ d.stack → IsInOrder (with_frame f d) → IsInOrder (record d { stack = new })
-order_same d f g new lies a l e order =
-    record { sound = rw e (sound.sound-same d.applications d.processes d.stack (turn_in d.awaited) f g lies a l order.sound); bare = never_bare d.awaited f d.stack new order.bare; room = order.room; few = order.few; numbers = order.numbers }
+-- p, which runs, is given a stimulus
+pub order_given : (d : SchedulerFields) (p : Pid) (new : List Process) → IsInOrder d → d.front ≡ Front.Nothing → 4 ≤ p.0
+    → state_of p.0 d.processes ≡ State.Running → new ≡ with_state p.0 State.Called d.processes
+    → IsInOrder (record d { processes = new; front = Front.Call p })
+order_given d p new order idle application runs e =
+    record {
+      sound = rw e (sound.sound-given d.applications d.processes (reverse d.stack.items) p (idle_sound d (reverse d.stack.items) order idle) application runs);
+      starts = tt;
+      boots = order.boots;
+      room = order.room;
+      few = order.few;
+      numbers = order.numbers;
+    }
 
-pub order_base : (d : SchedulerFields) (f : Frame) (new : List Frame) → LiesOn d.applications f d.stack → answering_in f ≡ [] → leaving_in f ≡ [] → d.awaited ≡ Awaited.Nothing
-    → new ≡ f ∷ d.stack → IsInOrder d → IsInOrder (record d { stack = new })
-order_base d f new lies a l idle e order =
-    record { sound = rw (e, idle) (sound.sound-base d.applications d.processes d.stack f lies a l (idle_sound d order idle)); bare = rw idle tt; room = order.room; few = order.few; numbers = order.numbers }
+-- boot goes on behind p
+pub order_booting : (d : SchedulerFields) (p : ℕ) (later : List ℕ) → d.base ≡ Base.Boot → d.walk ≡ p ∷ later → IsInOrder d
+    → (p < 4 + d.applications) × IsInOrder (record d { walk = later })
+order_booting d p later boots e order =
+    let known : BootsKnown d.applications Base.Boot (p ∷ later) = rw (boots, e) at order.boots in (
+      known p (grind (arith, sound.is_first p)),
+      record {
+        sound = order.sound;
+        starts = order.starts;
+        boots = rw boots (λ q h. known q (grind (arith, h)));
+        room = order.room;
+        few = order.few;
+        numbers = order.numbers;
+      },
+    )
 
-pub order_removed : (d : SchedulerFields) (q : Pid) (walk : List ℕ) (exits : Bool) (new : List Process) → d.awaited ≡ Awaited.Nothing
-    → new ≡ without q.0 d.processes → IsInOrder (with_frame (Frame.Leave q walk exits) d) → IsInOrder (record d { processes = new })
+-- ---- the topmost frame is taken from the stack
+
+pub order_taken : (d : SchedulerFields) (p : Pid) → d.front ≡ Front.Nothing → IsOrdered d (Frame.Answer p ∷ reverse d.stack.items)
+    → IsInOrder (record d { front = Front.Call p })
+order_taken d p idle order =
+    record {
+      sound = sound.sound-taken d.applications d.processes (reverse d.stack.items) p (idle_sound d (Frame.Answer p ∷ reverse d.stack.items) order idle);
+      starts = tt;
+      boots = order.boots;
+      room = order.room;
+      few = order.few;
+      numbers = order.numbers;
+    }
+
+pub order_removed : (d : SchedulerFields) (q : Pid) (walk : List ℕ) (exits : Bool) (new : List Process) → d.front ≡ Front.Nothing
+    → new ≡ without q.0 d.processes → IsOrdered d (Frame.Leave q walk exits ∷ reverse d.stack.items) → IsInOrder (record d { processes = new })
 order_removed d q walk exits new idle e order =
     record {
-      sound = rw (e, idle) (sound.sound-removed d.applications d.processes d.stack q walk exits (idle_sound (with_frame (Frame.Leave q walk exits) d) order idle));
-      bare = never_bare d.awaited (Frame.Leave q walk exits) d.stack d.stack order.bare;
+      sound = rw (e, idle) (sound.sound-removed d.applications d.processes (reverse d.stack.items) q walk exits (idle_sound d (Frame.Leave q walk exits ∷ reverse d.stack.items) order idle));
+      starts = order.starts;
+      boots = order.boots;
       room = order.room;
       few = order.few;
       numbers = order.numbers;
     }
 
-pub order_exiting : (d : SchedulerFields) (q : Pid) (walk later : List ℕ) (exits still : Bool) (list : List Process) (stack : List Frame) → d.awaited ≡ Awaited.Nothing
-    → list ≡ with_state q.0 State.Ending d.processes → stack ≡ Frame.Leave q later still ∷ d.stack
-    → IsInOrder (with_frame (Frame.Leave q walk exits) d) → IsInOrder (record d { processes = list; stack = stack; awaited = Awaited.Call q })
+-- the others that are to be told that q has ended
+pub order_telling : (d : SchedulerFields) (q : Pid) (walk later : List ℕ) (exits : Bool) (stack : List Frame) → stack ≡ d.stack.items ++ Frame.Leave q later exits ∷ []
+    → IsOrdered d (Frame.Leave q walk exits ∷ reverse d.stack.items) → IsInOrder (record d { stack = record { items = stack } })
+order_telling d q walk later exits stack e order =
+    record {
+      sound = rw (e, pushed d.stack.items (Frame.Leave q later exits)) (again (active_in d.front) order.sound);
+      starts = order.starts;
+      boots = order.boots;
+      room = order.room;
+      few = order.few;
+      numbers = order.numbers;
+    }
+  where
+    turn_same : (t : Option Pid) → IfSome t (λ p. IsAtTurn d.processes (Frame.Leave q walk exits ∷ reverse d.stack.items) p.0)
+        → IfSome t (λ p. IsAtTurn d.processes (Frame.Leave q later exits ∷ reverse d.stack.items) p.0)
+    turn_same None h = tt
+    turn_same (Some p) h = record { active = h.active; apart = h.apart }
+
+    again : (t : Option Pid) → IsSound d.applications d.processes (Frame.Leave q walk exits ∷ reverse d.stack.items) t
+        → IsSound d.applications d.processes (Frame.Leave q later exits ∷ reverse d.stack.items) t
+    again t s = record { mote = s.mote; nested = s.nested; answers = s.answers; leaves = s.leaves; at_turn = turn_same t s.at_turn }
+
+pub order_exiting : (d : SchedulerFields) (q : Pid) (walk later : List ℕ) (exits still : Bool) (list : List Process) (stack : List Frame) → d.front ≡ Front.Nothing
+    → list ≡ with_state q.0 State.Ending d.processes → stack ≡ d.stack.items ++ Frame.Leave q later still ∷ []
+    → IsOrdered d (Frame.Leave q walk exits ∷ reverse d.stack.items) → IsInOrder (record d { processes = list; stack = record { items = stack }; front = Front.Call q })
 order_exiting d q walk later exits still list stack idle e f order =
     record {
-      sound = rw (e, f) (sound.sound-exiting d.applications d.processes d.stack q walk later exits still (idle_sound (with_frame (Frame.Leave q walk exits) d) order idle));
-      bare = tt;
+      sound =
+          rw (e, f, pushed d.stack.items (Frame.Leave q later still))
+          (sound.sound-exiting d.applications d.processes (reverse d.stack.items) q walk later exits still (idle_sound d (Frame.Leave q walk exits ∷ reverse d.stack.items) order idle));
+      starts = tt;
+      boots = order.boots;
       room = order.room;
       few = order.few;
       numbers = order.numbers;
     }
 
--- ---- calls of the process at turn
+-- ---- what the layer above tells
 
-turn_sound : (d : SchedulerFields) (p : Pid) → IsInOrder d → turn_in d.awaited ≡ Some p → IsSound d.applications d.processes d.stack (Some p)
-turn_sound d p order e = rw e at order.sound
+turn_sound : (d : SchedulerFields) (p : Pid) → IsInOrder d → turn_in d.front ≡ Some p → IsSound d.applications d.processes (reverse d.stack.items) (Some p)
+turn_sound d p order e = called d.front e order.sound
+  where
+    called : (front : Front) → turn_in front ≡ Some p → IsSound d.applications d.processes (reverse d.stack.items) (active_in front)
+        → IsSound d.applications d.processes (reverse d.stack.items) (Some p)
+    called (Front.Call q) e s = rw e at s
+    called Front.Nothing e s = absurd (cc)
+    called (Front.Expiry q number) e s = absurd (cc)
+    called (Front.Answer q) e s = absurd (cc)
+    called (Front.Give q) e s = absurd (cc)
+    called (Front.Start q) e s = absurd (cc)
+    called (Front.Callback q number) e s = absurd (cc)
 
-pub order_answered : (d : SchedulerFields) (p : Pid) (first : First) (reply : Reply) (new : List Frame) → IsInOrder d → turn_in d.awaited ≡ Some p → IsKnown d.applications first
-    → new ≡ Frame.Answer p first reply ∷ d.stack → IsInOrder (record d { stack = new; awaited = Awaited.Nothing })
-order_answered d p first reply new order e known f =
-    record { sound = rw f (sound.sound-answered d.applications d.processes d.stack p first reply (turn_sound d p order e) known); bare = tt; room = order.room; few = order.few; numbers = order.numbers }
+-- while a call is awaited nothing comes first
+pub no_front : (front : Front) (p : Pid) (reply : Reply) (synch : Event) → turn_in front ≡ Some p → front_items front reply synch ≡ []
+no_front (Front.Call q) p reply synch e = refl
+no_front Front.Nothing p reply synch e = absurd (cc)
+no_front (Front.Expiry q number) p reply synch e = absurd (cc)
+no_front (Front.Answer q) p reply synch e = absurd (cc)
+no_front (Front.Give q) p reply synch e = absurd (cc)
+no_front (Front.Start q) p reply synch e = absurd (cc)
+no_front (Front.Callback q number) p reply synch e = absurd (cc)
 
-pub order_quiet : (d : SchedulerFields) → IsInOrder d → IsInOrder (record d { awaited = Awaited.Nothing })
-order_quiet d order =
-    record { sound = sound.sound-quiet d.applications d.processes d.stack (turn_in d.awaited) order.sound; bare = tt; room = order.room; few = order.few; numbers = order.numbers }
+-- nor after a job, or a step that is none
+pub behind_is_all : (d : SchedulerFields) (ready : Option Ready) → d.front ≡ front_after ready → scheduler_behind d ≡ scheduler_of d
+behind_is_all d ready e = rw (e, nothing_after ready) refl
+  where
+    nothing_after : (r : Option Ready) → front_items (front_after r) d.reply d.synch ≡ []
+    nothing_after None = refl
+    nothing_after (Some (Ready.Give p origin)) = refl
+    nothing_after (Some (Ready.Serve p)) = refl
+    nothing_after (Some (Ready.Callback p number arming)) = refl
+    nothing_after (Some Ready.Round) = refl
+    nothing_after (Some Ready.Rest) = refl
+
+-- the process at turn is answered
+pub order_answered : (d : SchedulerFields) (p : Pid) (reply : Reply) → IsInOrder d → turn_in d.front ≡ Some p → IsInOrder (record d { reply = reply; front = Front.Answer p })
+order_answered d p reply order e =
+    record { sound = turn_sound d p order e; starts = tt; boots = order.boots; room = order.room; few = order.few; numbers = order.numbers }
+
+-- its call was accepted, and this comes first
+pub order_accepted : (d : SchedulerFields) (p : Pid) (front : Front) (synch : Event) (stack : List Frame) → IsInOrder d → turn_in d.front ≡ Some p
+    → active_in front ≡ None → StartsKnown d.applications front → stack ≡ d.stack.items ++ Frame.Answer p ∷ []
+    → IsInOrder (record d { stack = record { items = stack }; synch = synch; front = front })
+order_accepted d p front synch stack order e none known f =
+    record {
+      sound = rw (f, pushed d.stack.items (Frame.Answer p), none) (sound.sound-answered d.applications d.processes (reverse d.stack.items) p (turn_sound d p order e));
+      starts = known;
+      boots = order.boots;
+      room = order.room;
+      few = order.few;
+      numbers = order.numbers;
+    }
+
+-- nothing is awaited any more
+pub order_quiet : (d : SchedulerFields) (front : Front) → IsInOrder d → active_in front ≡ None → StartsKnown d.applications front → IsInOrder (record d { front = front })
+order_quiet d front order none known =
+    record {
+      sound = rw none (sound.sound-quiet d.applications d.processes (reverse d.stack.items) (active_in d.front) order.sound);
+      starts = known;
+      boots = order.boots;
+      room = order.room;
+      few = order.few;
+      numbers = order.numbers;
+    }
 
 stays_here : (state : State) → is_in_activation state ≡ true → (state ≡ State.Ending → ⊥) → has_ended state ≡ false
 stays_here State.Called a n = refl
@@ -105,47 +236,53 @@ stays_here State.Leaving a n = absurd (cc)
 present : (state : State) → is_in_activation state ≡ true → state ≡ State.Absent → ⊥
 present state a e = let n = ap is_in_activation e in cc
 
-pub order_waited : (d : SchedulerFields) (p : Pid) (new : List Process) → IsInOrder d → turn_in d.awaited ≡ Some p
+pub order_waited : (d : SchedulerFields) (p : Pid) (new : List Process) → IsInOrder d → turn_in d.front ≡ Some p
     → (state_of p.0 d.processes ≡ State.Ending → ⊥) → new ≡ with_state p.0 State.Running d.processes
-    → IsInOrder (record d { processes = new; awaited = Awaited.Nothing })
+    → IsInOrder (record d { processes = new; front = Front.Nothing })
 order_waited d p new order e stays f =
     let s = turn_sound d p order e in
     record {
-      sound = rw f (sound.sound-waited d.applications d.processes d.stack p s (stays_here (state_of p.0 d.processes) s.at_turn.active stays));
-      bare = tt;
+      sound = rw f (sound.sound-waited d.applications d.processes (reverse d.stack.items) p s (stays_here (state_of p.0 d.processes) s.at_turn.active stays));
+      starts = tt;
+      boots = order.boots;
       room = order.room;
       few = order.few;
       numbers = order.numbers;
     }
 
-pub order_exited : (d : SchedulerFields) (p : Pid) (walk : List ℕ) (exits : Bool) (list : List Process) (stack : List Frame) → IsInOrder d → turn_in d.awaited ≡ Some p
-    → (state_of p.0 d.processes ≡ State.Ending → ⊥) → list ≡ with_state p.0 State.Leaving d.processes → stack ≡ Frame.Leave p walk exits ∷ d.stack
-    → IsInOrder (record d { processes = list; stack = stack; awaited = Awaited.Nothing })
+pub order_exited : (d : SchedulerFields) (p : Pid) (walk : List ℕ) (exits : Bool) (list : List Process) (stack : List Frame) → IsInOrder d → turn_in d.front ≡ Some p
+    → (state_of p.0 d.processes ≡ State.Ending → ⊥) → list ≡ with_state p.0 State.Leaving d.processes → stack ≡ d.stack.items ++ Frame.Leave p walk exits ∷ []
+    → IsInOrder (record d { processes = list; stack = record { items = stack }; front = Front.Nothing })
 order_exited d p walk exits list stack order e stays f g =
     let s = turn_sound d p order e in
+    let below = reverse d.stack.items in
     record {
       sound =
-          rw (f, g) (sound.sound-left d.applications d.processes d.stack p walk exits (sound.sound-quiet d.applications d.processes d.stack (Some p) s) (sound.application_at_turn d.applications d.processes d.stack p s) s.at_turn.apart
+          rw (f, g, pushed d.stack.items (Frame.Leave p walk exits))
+          (sound.sound-left d.applications d.processes below p walk exits (sound.sound-quiet d.applications d.processes below (Some p) s) (sound.application_at_turn d.applications d.processes below p s) s.at_turn.apart
           (stays_here (state_of p.0 d.processes) s.at_turn.active stays) (present (state_of p.0 d.processes) s.at_turn.active));
-      bare = tt;
+      starts = tt;
+      boots = order.boots;
       room = order.room;
       few = order.few;
       numbers = order.numbers;
     }
 
-pub order_killed : (d : SchedulerFields) (p q : Pid) (reply : Reply) (walk : List ℕ) (list : List Process) (middle stack : List Frame) → IsInOrder d → turn_in d.awaited ≡ Some p
+pub order_killed : (d : SchedulerFields) (p q : Pid) (walk : List ℕ) (list : List Process) (middle stack : List Frame) → IsInOrder d → turn_in d.front ≡ Some p
     → IsApplication d.applications q.0 → state_of q.0 d.processes ≡ State.Running → list ≡ with_state q.0 State.Leaving d.processes
-    → middle ≡ Frame.Answer p First.Nothing reply ∷ d.stack → stack ≡ Frame.Leave q walk true ∷ middle
-    → IsInOrder (record d { processes = list; stack = stack; awaited = Awaited.Nothing })
-order_killed d p q reply walk list middle stack order e known runs f m g =
-    let below = Frame.Answer p First.Nothing reply ∷ d.stack in
-    let s = sound.sound-answered d.applications d.processes d.stack p First.Nothing reply (turn_sound d p order e) tt in
+    → middle ≡ d.stack.items ++ Frame.Answer p ∷ [] → stack ≡ middle ++ Frame.Leave q walk true ∷ []
+    → IsInOrder (record d { processes = list; stack = record { items = stack }; front = Front.Nothing })
+order_killed d p q walk list middle stack order e known runs f m g =
+    let below = Frame.Answer p ∷ reverse d.stack.items in
+    let s = sound.sound-answered d.applications d.processes (reverse d.stack.items) p (turn_sound d p order e) in
     record {
       sound =
-          rw (f, g, m) (sound.sound-left d.applications d.processes below q walk true s known
+          rw (f, g, pushed middle (Frame.Leave q walk true), m, pushed d.stack.items (Frame.Answer p))
+          (sound.sound-left d.applications d.processes below q walk true s known
           (sound.none_in is_in_activation d.processes (answering below) q.0 s.answers (ap is_in_activation runs))
           (ap has_ended runs) (λ a. cc));
-      bare = tt;
+      starts = tt;
+      boots = order.boots;
       room = order.room;
       few = order.few;
       numbers = order.numbers;

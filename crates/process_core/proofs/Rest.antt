@@ -1,10 +1,12 @@
 -- Where nothing is left to be done.
 use Rattle.std.proofs.Common.{◌≡◌, ℕ, zero, suc, ◌<◌, Bool, true, false, List, [], ◌∷◌, ◌++◌, refl, sym, ◌∙◌, ap, arith, Option, Some, None}
-use Rattle.std.specs.Prelude.{if◌then◌else◌, not, ◌&&◌, is_some, map}
+use Rattle.std.specs.Prelude.{if◌then◌else◌, not, ◌&&◌, is_some, map, flat_map, reverse}
 use Rattle.std.specs.List.{list_any}
 use Rattle.process_core.specs.declared.frame.Frame.{Frame}
-use Rattle.process_core.specs.declared.frame.First.{First}
-use Rattle.process_core.specs.OpenWork.{items_of, agenda_of, receiver_items, exit_items}
+use Rattle.process_core.specs.declared.frame.Base.{Base}
+use Rattle.process_core.specs.declared.front.Front.{Front}
+use Rattle.process_core.specs.declared.scheduler_fields.SchedulerFields.{SchedulerFields}
+use Rattle.process_core.specs.OpenWork.{front_items, items_of, poll_items, base_items, agenda_of, receiver_items, exit_items}
 use Rattle.std.proofs.lemmas.List.Folds.{list_any-append}
 use Rattle.std.proofs.lemmas.Bool.Decides.{nat_tests}
 use Rattle.mote_types.specs.declared.event.Event.{Event}
@@ -12,6 +14,7 @@ use Rattle.mote_types.specs.declared.event.Origin.{Origin}
 use Rattle.mote_types.specs.EventNumbers.{EXITED}
 use Rattle.mote_types.specs.Codes.{number_event}
 use Rattle.mote_types.specs.declared.event.Stimulus.{Stimulus}
+use Rattle.mote_types.specs.declared.reply.Reply.{Reply}
 use Rattle.process_core.specs.Processes.{is_kernel_process, is_on_list, is_running, is_any_marked, is_marked}
 use Rattle.process_core.specs.Agenda.{Queued, Item, Job}
 use Rattle.process_core.specs.Scheduler.{Scheduler, job, worked, worked_at, job_at, job_of_item, job_of_event, job_of_give, first_event, wants_round, settled, ComesTo, carried_out, state_in, is_shown, of_event}
@@ -164,23 +167,40 @@ none_shown_to_receivers event [] = refl
 none_shown_to_receivers event (p ∷ ps) = none_shown_to_receivers event ps
 
 unshown_in : (frame : Frame) → list_any is_shown (items_of frame) ≡ false
-unshown_in (Frame.Boot walk) = none_shown walk (λ p. Item.Start p) (λ p. refl)
-unshown_in (Frame.Deliver true) = refl
-unshown_in (Frame.Deliver false) = refl
-unshown_in (Frame.Callback pid number) = refl
-unshown_in (Frame.Broadcast None walk event) = none_shown_to_receivers event walk
-unshown_in (Frame.Broadcast (Some p) walk event) = none_shown_to_receivers event walk
-unshown_in (Frame.Polls walk) = none_shown walk (λ p. Item.PollOne p) (λ p. refl)
 unshown_in (Frame.Leave pid walk true) =
     shown_in_either (map (λ q. Item.Give q Origin.Synch (of_event (number_event EXITED pid.0))) walk) (exit_items true pid.0)
     (none_shown walk (λ q. Item.Give q Origin.Synch (of_event (number_event EXITED pid.0))) (λ q. refl)) refl
 unshown_in (Frame.Leave pid walk false) =
     shown_in_either (map (λ q. Item.Give q Origin.Synch (of_event (number_event EXITED pid.0))) walk) (exit_items false pid.0)
     (none_shown walk (λ q. Item.Give q Origin.Synch (of_event (number_event EXITED pid.0))) (λ q. refl)) refl
-unshown_in (Frame.Answer pid First.Nothing reply) = refl
-unshown_in (Frame.Answer pid (First.Give q event) reply) = refl
-unshown_in (Frame.Answer pid (First.Start q) reply) = refl
+unshown_in (Frame.Answer pid) = refl
 
-pub unshown : (stack : List Frame) → list_any is_shown (agenda_of stack) ≡ false
-unshown [] = refl
-unshown (frame ∷ below) = shown_in_either (items_of frame) (agenda_of below) (unshown_in frame) (unshown below)
+unshown_on : (stack : List Frame) → list_any is_shown (flat_map items_of stack) ≡ false
+unshown_on [] = refl
+unshown_on (frame ∷ below) = shown_in_either (items_of frame) (flat_map items_of below) (unshown_in frame) (unshown_on below)
+
+unshown_first : (front : Front) (reply : Reply) (synch : Event) → list_any is_shown (front_items front reply synch) ≡ false
+unshown_first Front.Nothing reply synch = refl
+unshown_first (Front.Call p) reply synch = refl
+unshown_first (Front.Expiry p number) reply synch = refl
+unshown_first (Front.Answer p) reply synch = refl
+unshown_first (Front.Give p) reply synch = refl
+unshown_first (Front.Start p) reply synch = refl
+unshown_first (Front.Callback p number) reply synch = refl
+
+unshown_below : (base : Base) (walk : List ℕ) (event : Event) → list_any is_shown (base_items base walk event) ≡ false
+unshown_below Base.Nothing walk event = refl
+unshown_below Base.Boot walk event = none_shown walk (λ p. Item.Start p) (λ p. refl)
+unshown_below (Base.Deliver true) walk event = refl
+unshown_below (Base.Deliver false) walk event = refl
+unshown_below (Base.Broadcast false) walk event = none_shown_to_receivers event walk
+unshown_below (Base.Broadcast true) [] event = refl
+unshown_below (Base.Broadcast true) (p ∷ walk) event = none_shown_to_receivers event walk
+
+pub unshown : (d : SchedulerFields) → list_any is_shown (agenda_of d) ≡ false
+unshown d =
+    let stack = flat_map items_of (reverse d.stack.items) in
+    let base = base_items d.base d.walk d.broadcast in
+    shown_in_either (front_items d.front d.reply d.synch) (stack ++ (poll_items d.polls ++ base)) (unshown_first d.front d.reply d.synch)
+    (shown_in_either stack (poll_items d.polls ++ base) (unshown_on (reverse d.stack.items))
+    (shown_in_either (poll_items d.polls) base (none_shown d.polls (λ p. Item.PollOne p) (λ p. refl)) (unshown_below d.base d.walk d.broadcast)))

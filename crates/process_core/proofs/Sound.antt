@@ -6,25 +6,18 @@ use Rattle.std.specs.List.{IsDistinct, AllByRecursion}
 use Rattle.std.proofs.lemmas.Bool.Decides.{nat_tests}
 use Rattle.std.proofs.lemmas.Map.Steps.{length-le_from_distinct_below}
 use Rattle.mote_types.specs.declared.event.Pid.{Pid}
-use Rattle.mote_types.specs.declared.reply.Reply.{Reply}
 use Rattle.process_core.specs.declared.process.Process.{Process}
 use Rattle.process_core.specs.declared.state.State.{State}
-use Rattle.process_core.specs.declared.frame.First.{First}
 use Rattle.process_core.specs.declared.frame.Frame.{Frame}
 use Rattle.process_core.specs.Processes.{state_of, with_state, with_mark, without, IsApplication, IsOfMote}
 use Rattle.process_core.specs.Requests.{is_in_activation}
-use Rattle.process_core.specs.Code.Nesting.{IsKnown, answering, leaving, answering_in, leaving_in, is_one_of, LiesOn, IsNested, has_ended, AreIn, IsAtTurn, IsSound}
+use Rattle.process_core.specs.Code.Nesting.{answering, leaving, is_one_of, IsNested, has_ended, AreIn, IsAtTurn, IsSound}
 
--- the frames that belong to no process are at most two
-short : (n : ℕ) (stack : List Frame) → IsNested n stack → length stack ≤ 2 + length (answering stack) + length (leaving stack)
-short n [] h = omega arith
-short n (Frame.Answer pid first reply ∷ below) h = omega (arith, short n below h.1)
-short n (Frame.Leave pid walk exits ∷ below) h = omega (arith, short n below h.1)
-short n (Frame.Polls walk ∷ below) h = omega (arith, h.0.0)
-short n (Frame.Boot walk ∷ below) h = omega (arith, ap length h.0.0)
-short n (Frame.Deliver is_polled ∷ below) h = omega (arith, ap length h.0)
-short n (Frame.Callback pid number ∷ below) h = omega (arith, ap length h.0)
-short n (Frame.Broadcast next walk event ∷ below) h = omega (arith, ap length h.0)
+-- each frame is one of these
+short : (stack : List Frame) → length stack ≤ length (answering stack) + length (leaving stack)
+short [] = omega arith
+short (Frame.Answer pid ∷ below) = omega (arith, short below)
+short (Frame.Leave pid walk exits ∷ below) = omega (arith, short below)
 
 pub or_false : (a b : Bool) → (a || b) ≡ false → (a ≡ false) × (b ≡ false)
 or_false true b e = absurd (cc)
@@ -132,17 +125,17 @@ mote_changed n p old new application same mote =
     split q present true e = let range = application_range n p application in rw (same_number p q e) range.1
     split q present false e = mote.known q (λ a. present (same q e ∙ a))
 
-answering_apart : (n : ℕ) (stack : List Frame) → IsNested n stack → IsDistinct eqb (answering stack)
+answering_apart : (stack : List Frame) → IsNested stack → IsDistinct eqb (answering stack)
 unfolding IsDistinct
-answering_apart n [] h = tt
-answering_apart n (Frame.Answer pid first reply ∷ below) h = (none_from_is_one_of pid.0 (answering below) h.0.0, answering_apart n below h.1)
-answering_apart n (frame ∷ below) h = answering_apart n below h.1
+answering_apart [] h = tt
+answering_apart (Frame.Answer pid ∷ below) h = (none_from_is_one_of pid.0 (answering below) h.0, answering_apart below h.1)
+answering_apart (Frame.Leave pid walk exits ∷ below) h = answering_apart below h.1
 
-leaving_apart : (n : ℕ) (stack : List Frame) → IsNested n stack → IsDistinct eqb (leaving stack)
+leaving_apart : (stack : List Frame) → IsNested stack → IsDistinct eqb (leaving stack)
 unfolding IsDistinct
-leaving_apart n [] h = tt
-leaving_apart n (Frame.Leave pid walk exits ∷ below) h = (none_from_is_one_of pid.0 (leaving below) h.0.1, leaving_apart n below h.1)
-leaving_apart n (frame ∷ below) h = leaving_apart n below h.1
+leaving_apart [] h = tt
+leaving_apart (Frame.Answer pid ∷ below) h = leaving_apart below h.1
+leaving_apart (Frame.Leave pid walk exits ∷ below) h = (none_from_is_one_of pid.0 (leaving below) h.0.1, leaving_apart below h.1)
 
 not_zero_to_three : (n : ℕ) (xs : List ℕ) → ((p : ℕ) → is_one_of p xs ≡ true → IsApplication n p) → (p : ℕ) → p < 4 → is_one_of p xs ≡ false
 not_zero_to_three n xs are p low = not_true (is_one_of p xs) (λ h. let a = application_range n p (are p h) in absurd (omega (arith, a.0, low)))
@@ -173,38 +166,40 @@ few_applications n xs distinct are =
         split true e = let low : p < 4 = grind (arith, nat_tests, e) in omega arith
         split false e = let a = application_range n p (are p (beyond (grind (arith, nat_tests, e)) h)) in omega (arith, a.1)
 
--- two frames for each application, and two more
+-- two frames for each application
 pub length-le_from_sound : (n : ℕ) (processes : List Process) (stack : List Frame) (turn : Option Pid)
-    → IsSound n processes stack turn → length stack ≤ 2 * n + 2
+    → IsSound n processes stack turn → length stack ≤ 2 * n
 length-le_from_sound n processes stack turn sound =
-    let a = few_applications n (answering stack) (answering_apart n stack sound.nested)
+    let a = few_applications n (answering stack) (answering_apart stack sound.nested)
     (λ p h. application_in is_in_activation n processes p sound.mote (sound.answers p h) refl refl) in
-    let l = few_applications n (leaving stack) (leaving_apart n stack sound.nested)
+    let l = few_applications n (leaving stack) (leaving_apart stack sound.nested)
     (λ p h. application_in has_ended n processes p sound.mote (sound.leaves p h) refl refl) in
-    omega (arith, short n stack sound.nested, a, l)
+    omega (arith, short stack, a, l)
 
 -- ---- what each call and each step makes of the stack
 
-pub sound-answered : (n : ℕ) (list : List Process) (stack : List Frame) (pid : Pid) (first : First) (reply : Reply)
-    → IsSound n list stack (Some pid) → IsKnown n first → IsSound n list (Frame.Answer pid first reply ∷ stack) None
-sound-answered n list stack pid first reply s known =
+-- p's call was accepted
+pub sound-answered : (n : ℕ) (list : List Process) (stack : List Frame) (pid : Pid)
+    → IsSound n list stack (Some pid) → IsSound n list (Frame.Answer pid ∷ stack) None
+sound-answered n list stack pid s =
     record {
       mote = s.mote;
-      nested = ((s.at_turn.apart, known), s.nested);
+      nested = (s.at_turn.apart, s.nested);
       answers = one_more is_in_activation list (answering stack) pid.0 s.answers s.at_turn.active;
       leaves = s.leaves;
       at_turn = tt;
     }
 
-pub sound-taken : (n : ℕ) (list : List Process) (stack : List Frame) (pid : Pid) (first : First) (reply : Reply)
-    → IsSound n list (Frame.Answer pid first reply ∷ stack) None → IsSound n list stack (Some pid)
-sound-taken n list stack pid first reply s =
+-- and is answered
+pub sound-taken : (n : ℕ) (list : List Process) (stack : List Frame) (pid : Pid)
+    → IsSound n list (Frame.Answer pid ∷ stack) None → IsSound n list stack (Some pid)
+sound-taken n list stack pid s =
     record {
       mote = s.mote;
       nested = s.nested.1;
       answers = one_less is_in_activation list (answering stack) pid.0 s.answers;
       leaves = s.leaves;
-      at_turn = record { active = s.answers pid.0 (grind (arith, is_first pid.0)); apart = s.nested.0.0 };
+      at_turn = record { active = s.answers pid.0 (grind (arith, is_first pid.0)); apart = s.nested.0 };
     }
 
 -- the process at turn is an application
@@ -355,30 +350,3 @@ sound-marked n list stack turn p marked s =
     still : (t : Option Pid) → IfSome t (λ q. IsAtTurn list stack q.0) → IfSome t (λ q. IsAtTurn (with_mark p marked list) stack q.0)
     still None h = tt
     still (Some q) h = record { active = ap is_in_activation (state_marked p q.0 marked list) ∙ h.active; apart = h.apart }
-
--- a frame gives way to another one of its kind
-pub sound-same : (n : ℕ) (list : List Process) (stack : List Frame) (turn : Option Pid) (f g : Frame)
-    → (LiesOn n f stack → LiesOn n g stack) → answering_in g ≡ answering_in f → leaving_in g ≡ leaving_in f
-    → IsSound n list (f ∷ stack) turn → IsSound n list (g ∷ stack) turn
-sound-same n list stack turn f g lies a l s =
-    record {
-      mote = s.mote;
-      nested = (lies s.nested.0, s.nested.1);
-      answers = rw a s.answers;
-      leaves = rw l s.leaves;
-      at_turn = turn_same turn s.at_turn;
-    }
-  where
-    turn_same : (t : Option Pid) → IfSome t (λ p. IsAtTurn list (f ∷ stack) p.0) → IfSome t (λ p. IsAtTurn list (g ∷ stack) p.0)
-    turn_same None h = tt
-    turn_same (Some p) h = record { active = h.active; apart = rw a h.apart }
-
-pub sound-base : (n : ℕ) (list : List Process) (stack : List Frame) (f : Frame) → LiesOn n f stack → answering_in f ≡ [] → leaving_in f ≡ []
-    → IsSound n list stack None → IsSound n list (f ∷ stack) None
-sound-base n list stack f lies a l s =
-    record { mote = s.mote; nested = (lies, s.nested); answers = rw a s.answers; leaves = rw l s.leaves; at_turn = tt }
-
-pub sound-popped : (n : ℕ) (list : List Process) (stack : List Frame) (f : Frame) → answering_in f ≡ [] → leaving_in f ≡ []
-    → IsSound n list (f ∷ stack) None → IsSound n list stack None
-sound-popped n list stack f a l s =
-    record { mote = s.mote; nested = s.nested.1; answers = rw a at s.answers; leaves = rw l at s.leaves; at_turn = tt }

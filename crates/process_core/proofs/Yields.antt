@@ -7,9 +7,8 @@ use Rattle.circular_buffer.specs.Buffer.{Buffer}
 use Rattle.mote_types.specs.declared.event.Pid.{Pid}
 use Rattle.process_core.specs.declared.scheduler_fields.SchedulerFields.{SchedulerFields}
 use Rattle.process_core.specs.declared.queued.Queued as code
-use Rattle.process_core.specs.Code.SchedulerFields.{scheduler_of, queued_of}
-use Rattle.process_core.specs.declared.frame.Frame.{Frame}
-use Rattle.process_core.specs.Code.Frames.{from_marked}
+use Rattle.process_core.specs.Code.SchedulerFields.{scheduler_behind, queued_of}
+use Rattle.process_core.specs.Code.Walks.{from_marked}
 use Rattle.mote_types.specs.declared.event.Event.{Event}
 use Rattle.mote_types.specs.declared.event.Origin.{Origin}
 use Rattle.mote_types.specs.EventNumbers.{INIT, POLL}
@@ -124,30 +123,8 @@ drop_queued (x ∷ xs) = refl
 -- the event at the front is for one process
 pub deliver_to_yields : (d : SchedulerFields) (rest : Buffer code.Queued) (p : Pid) (event : Event) (next : Option (Job ℕ)) (after : Scheduler ℕ)
     → Some (code.Queued.To p event) ≡ slice_get d.events.items 0 → rest ≡ record { items = drop 1 d.events.items; capacity = d.events.capacity }
-    → Yields (in_front (Item.Give p.0 Origin.Event (of_event event) ∷ []) (scheduler_of (record d { events = rest }))) next after
-    → Yields (in_front (Item.Deliver ∷ []) (scheduler_of d)) next after
+    → Yields (in_front (Item.Give p.0 Origin.Event (of_event event) ∷ []) (scheduler_behind (record d { events = rest }))) next after
+    → Yields (in_front (Item.Deliver ∷ []) (scheduler_behind d)) next after
 deliver_to_yields d rest p event next after first left y =
-    deliver_yields (scheduler_of d) p.0 event next after (first_queued d.events.items (code.Queued.To p event) first)
+    deliver_yields (scheduler_behind d) p.0 event next after (first_queued d.events.items (code.Queued.To p event) first)
     (rw drop_queued (rw left at y))
-
--- the poll round comes to its next marked process
-pub polls_yield : (d : SchedulerFields) (walk later : List ℕ) (below : List Frame) (p : ℕ) (next : Option (Job ℕ)) (after : Scheduler ℕ)
-    → d.stack ≡ Frame.Polls walk ∷ below → from_marked d.processes walk ≡ p ∷ later
-    → Yields (in_front (Item.PollOne p ∷ []) (scheduler_of (record d { stack = Frame.Polls later ∷ below }))) next after
-    → Yields (scheduler_of d) next after
-polls_yield d walk later below p next after e first y =
-    let s = scheduler_of (record d { stack = below }) in
-    let start : scheduler_of d ≡ in_front (map (λ q. Item.PollOne q) walk) s = rw e refl in
-    rw start (
-    yields_after (in_front (map (λ q. Item.PollOne q) walk) s) (in_front (map (λ q. Item.PollOne q) (from_marked d.processes walk)) s) next after
-    (unmarked_pass s walk) (rw first y)
-    )
-
--- none is marked any more
-pub polls_end : (d : SchedulerFields) (walk : List ℕ) (below : List Frame)
-    → d.stack ≡ Frame.Polls walk ∷ below → from_marked d.processes walk ≡ [] → Yields (scheduler_of d) None (scheduler_of (record d { stack = below }))
-polls_end d walk below e none =
-    let s = scheduler_of (record d { stack = below }) in
-    let start : scheduler_of d ≡ in_front (map (λ q. Item.PollOne q) walk) s = rw e refl in
-    let passed = unmarked_pass s walk in
-    rw start (rw none at passed)

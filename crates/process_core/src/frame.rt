@@ -1,62 +1,35 @@
 //! The pieces of open work.
 
-ghost use Rattle.std.specs.Prelude.{◌≡◌, option_map};
-ghost use Rattle.mote_types.specs.declared.event.Pid.{Pid as At};
+ghost use Rattle.std.specs.Prelude.{◌≡◌};
+ghost use Rattle.mote_types.specs.declared.event.Stimulus.{Stimulus as Told};
 ghost use Rattle.mote_types.specs.declared.reply.Reply.{Reply as Answered};
-ghost use Rattle.process_core.specs.Code.Frames as part;
 ghost use Rattle.process_core.specs.Scheduler.{of_event};
 
-use crate::process_list::ProcessList;
 use crate::walk::Walk;
 use arrayvec::ArrayVec;
 use mote_types::event::{Event, Payload, Pid, Stimulus};
 use mote_types::reply::{Chunk, Reply};
-use std::mem;
 
-/// What a call does before it is answered.
-#[derive(Drop)]
-pub enum First {
-    Nothing,
-    /// A synchronous post: this process is given the event.
-    Give(Pid, Event),
-    /// This process is started.
-    Start(Pid),
-}
-
-/// A piece of open work: a frame of the stack, which stands for the items of the agenda that are left of it.
+/// Work within activations: a frame of the stack, which stands for the items of the agenda that are left of it.
 #[derive(Drop)]
 pub enum Frame {
-    /// The applications that boot is still to start.
-    Boot(Walk),
-    /// The first event is to be delivered, perhaps after a poll round.
-    Deliver {
-        is_polled: bool,
-    },
-    /// An expiry counts: the process is to be given the callback.
-    Callback {
-        pid: Pid,
-        number: u8,
-    },
-    /// The receivers that are still to be given an event, one of which is next: its poll round was begun.
-    Broadcast {
-        next: Option<Pid>,
-        walk: Walk,
-        event: Event,
-    },
-    /// The rest of a poll round.
-    Polls(Walk),
     /// A process that has ended: the others that are still to be told so, and whether it is then given EXIT.
-    Leave {
-        pid: Pid,
-        walk: Walk,
-        exits: bool,
-    },
-    /// A process within its activation, which waits for the reply to its call.
-    Answer {
-        pid: Pid,
-        first: First,
-        reply: Reply,
-    },
+    Leave { pid: Pid, walk: Walk, exits: bool },
+    /// A process within its activation, whose call was accepted and is answered Done.
+    Answer(Pid),
+}
+
+/// What is done where no process is within an activation and no poll round goes on.
+#[derive(Clone, Copy, Drop)]
+pub enum Base {
+    Nothing,
+    /// The applications of the walk are to be started.
+    Boot,
+    /// The first event is to be delivered, perhaps after a poll round.
+    Deliver { is_polled: bool },
+    /// The receivers of the walk are to be given the event that is broadcast, each after a poll round, which the next one's
+    /// may be done with.
+    Broadcast { is_polled: bool },
 }
 
 /// Tells an event, which stays where it lies, without taking memory. The bytes of a line are put where they are to lie.
@@ -118,123 +91,24 @@ fn put_reply(place: &mut Reply, reply: &Reply)
     }
 }
 
-impl Frame {
-    /// The next process of a poll round that is marked. The round goes on behind it.
-    pub(crate) fn next_marked(&mut self, processes: &ProcessList) -> Option<Pid>
-        ensures value { option_map (λ (p : At). p.0) result ≡ part.marked_of processes.now self.old }
-        ensures left { self.new ≡ part.past_marked processes.now self.old }
-    {
-        match self {
-            Frame::Polls(walk) => walk.next_marked(processes),
-            _ => None,
-        }
-    }
+// Makes the place one for an answer. A function of its own, since it has room for what it puts there, which is cleared
+// at its entry.
+fn begin_answer(told: &mut Stimulus)
+    ensures { told.new ≡ Told.Answer Answered.Done }
+{
+    *told = Stimulus::Answer(Reply::Done);
+}
 
-    /// The next process that boot starts, or that is told that another one has ended.
-    pub(crate) fn advance(&mut self) -> Option<Pid>
-        ensures value { option_map (λ (p : At). p.0) result ≡ part.next_of self.old }
-        ensures left { self.new ≡ part.advanced self.old }
-    {
-        match self {
-            Frame::Boot(walk) => walk.advance(),
-            Frame::Leave { walk, .. } => walk.advance(),
-            _ => None,
-        }
+/// Tells a reply, which stays where it lies.
+pub(crate) fn tell_reply(told: &mut Stimulus, reply: &Reply)
+    ensures { told.new ≡ Told.Answer reply.now }
+{
+    // A stimulus that is an answer keeps its place, so that the reply alone is moved.
+    if !matches!(told, Stimulus::Answer(_)) {
+        begin_answer(told);
     }
-
-    /// A delivery's poll round is done from now on. Answers whether it wasn't yet.
-    pub(crate) fn begin_polls(&mut self) -> bool
-        ensures value { result ≡ part.wants_polls self.old }
-        ensures left { self.new ≡ part.polled self.old }
-    {
-        match self {
-            Frame::Deliver { is_polled } => !mem::replace(is_polled, true),
-            _ => false,
-        }
-    }
-
-    /// The next receiver of a broadcast has its turn behind a poll round, unless one has it. Answers whether it is so.
-    pub(crate) fn begin_receiver(&mut self) -> bool
-        ensures value { result ≡ part.has_receiver self.old }
-        ensures left { self.new ≡ part.with_receiver self.old }
-    {
-        match self {
-            Frame::Broadcast { next, walk, .. } => {
-                if next.is_some() {
-                    return false;
-                }
-                *next = walk.advance();
-                next.is_some()
-            }
-            _ => false,
-        }
-    }
-
-    /// The receiver that is given the event next, which it is told.
-    pub(crate) fn pass_receiver(&mut self, told: &mut Stimulus) -> Option<Pid>
-        ensures value { option_map (λ (p : At). p.0) result ≡ part.receiver_of self.old }
-        ensures told { told.new ≡ part.told_by told.old self.old }
-        ensures left { self.new ≡ part.past_receiver self.old }
-    {
-        match self {
-            Frame::Broadcast { next, walk, event } => {
-                let receiver = match next.take() {
-                    Some(pid) => Some(pid),
-                    None => walk.advance(),
-                };
-                if receiver.is_some() {
-                    tell(told, event);
-                }
-                receiver
-            }
-            _ => None,
-        }
-    }
-
-    /// Whether a process that leaves is given EXIT, which it is once.
-    pub(crate) fn take_exit(&mut self) -> bool
-        ensures value { result ≡ part.exits_of self.old }
-        ensures left { self.new ≡ part.past_exit self.old }
-    {
-        match self {
-            Frame::Leave { exits, .. } => mem::replace(exits, false),
-            _ => false,
-        }
-    }
-
-    /// Whether something is done before the reply.
-    pub(crate) fn has_first(&self) -> bool
-        ensures { result ≡ part.has_first self.now }
-    {
-        match self {
-            Frame::Answer {
-                first: First::Nothing,
-                ..
-            } => false,
-            Frame::Answer { .. } => true,
-            _ => false,
-        }
-    }
-
-    /// What is done before the reply, which is done once.
-    pub(crate) fn take_first(&mut self) -> First
-        ensures value { result ≡ part.first_of self.old }
-        ensures left { self.new ≡ part.past_first self.old }
-    {
-        match self {
-            Frame::Answer { first, .. } => mem::replace(first, First::Nothing),
-            _ => First::Nothing,
-        }
-    }
-
-    /// The reply is put into the place.
-    pub(crate) fn tell_reply(&self, place: &mut Reply)
-        ensures { place.new ≡ part.reply_of self.now }
-    {
-        match self {
-            Frame::Answer { reply, .. } => put_reply(place, reply),
-            _ => *place = Reply::Done,
-        }
+    if let Stimulus::Answer(place) = told {
+        put_reply(place, reply);
     }
 }
 
@@ -243,6 +117,6 @@ impl Default for Frame {
     ghost is_default = { λ _. Unit {0} };
 
     fn default() -> Self {
-        Frame::Deliver { is_polled: false }
+        Frame::Answer(Pid(0))
     }
 }

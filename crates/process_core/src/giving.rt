@@ -1,18 +1,19 @@
 //! How a stimulus comes to a process.
 
-ghost use Rattle.std.specs.Prelude.{◌≡◌, ◌≤◌, ◌<◌, ◌+◌, ◌∷◌, [], None, false, option_map, length};
+ghost use Rattle.std.specs.Prelude.{◌≡◌, ◌<◌, ◌+◌, ◌∷◌, [], option_map, IfNone};
 ghost use Rattle.mote_types.specs.Codes as codes;
 ghost use Rattle.process_core.specs.Agenda.{Item};
-ghost use Rattle.process_core.specs.Code.Frames.{has_receiver, on_top, weight};
+ghost use Rattle.process_core.specs.Code.Weights.{weight};
 ghost use Rattle.process_core.specs.SchedulerView.{job_of};
 ghost use Rattle.process_core.specs.Told.{job_told};
-ghost use Rattle.process_core.specs.Code.SchedulerFields.{scheduler_of, awaited_after, HoldsEvent, IsInOrder};
+ghost use Rattle.process_core.specs.Code.SchedulerFields.{scheduler_behind, front_after, HoldsEvent, IsInOrder};
 ghost use Rattle.process_core.specs.Scheduler.{in_front};
 ghost use Rattle.process_core.specs.Code.Yields.{Yields};
-ghost use Rattle.process_core.specs.declared.awaited.Awaited.{Awaited};
+ghost use Rattle.process_core.specs.declared.frame.Base.{Base};
+ghost use Rattle.process_core.specs.declared.front.Front.{Front};
 
-use crate::awaited::Awaited;
-use crate::frame::{Frame, tell};
+use crate::frame::{Base, tell};
+use crate::front::Front;
 use crate::queued::Queued;
 use crate::ready::Ready;
 use crate::scheduler_fields::SchedulerFields;
@@ -33,13 +34,13 @@ impl SchedulerFields {
     /// Gives the process the stimulus that it is to be told.
     pub fn give(&mut self, pid: Pid, origin: Origin, told: &Stimulus) -> Option<Ready>
         requires order { IsInOrder self.old }
-        requires idle { self.old.awaited ≡ Awaited.Nothing }
-        ensures yields { Yields (in_front (Item.Give pid.0 origin told.now ∷ []) (scheduler_of self.old))
-            (option_map (λ r. job_of (job_told r told.now)) result) (scheduler_of self.new) }
+        requires idle { self.old.front ≡ Front.Nothing }
+        ensures yields { Yields (in_front (Item.Give pid.0 origin told.now ∷ []) (scheduler_behind self.old))
+            (option_map (λ r. job_of (job_told r told.now)) result) (scheduler_behind self.new) }
         ensures told { HoldsEvent result told.now }
-        ensures awaited { self.new.awaited ≡ awaited_after result }
+        ensures front { self.new.front ≡ front_after result }
         ensures order { IsInOrder self.new }
-        ensures same { self.new.stack ≡ self.old.stack }
+        ensures kept { self.new ≡ record self.old { processes = self.new.processes; front = self.new.front } }
     {
         if pid.0 < FIRST_APPLICATION {
             return match told {
@@ -50,7 +51,7 @@ impl SchedulerFields {
         match self.processes.state_of(pid) {
             State::Running => {
                 self.processes.set_state(pid, State::Called);
-                self.awaited = Awaited::Call(pid);
+                self.front = Front::Call(pid);
                 Some(Ready::Give { pid, origin })
             }
             _ => None,
@@ -61,13 +62,13 @@ impl SchedulerFields {
     pub fn start_one(&mut self, pid: Pid, told: &mut Stimulus) -> Option<Ready>
         requires known { pid.0 < 4 + self.old.applications }
         requires order { IsInOrder self.old }
-        requires idle { self.old.awaited ≡ Awaited.Nothing }
-        ensures yields { Yields (in_front (Item.Start pid.0 ∷ []) (scheduler_of self.old))
-            (option_map (λ r. job_of (job_told r told.new)) result) (scheduler_of self.new) }
+        requires idle { self.old.front ≡ Front.Nothing }
+        ensures yields { Yields (in_front (Item.Start pid.0 ∷ []) (scheduler_behind self.old))
+            (option_map (λ r. job_of (job_told r told.new)) result) (scheduler_behind self.new) }
         ensures told { HoldsEvent result told.new }
-        ensures awaited { self.new.awaited ≡ awaited_after result }
+        ensures front { self.new.front ≡ front_after result }
         ensures order { IsInOrder self.new }
-        ensures same { self.new.stack ≡ self.old.stack }
+        ensures kept { self.new ≡ record self.old { processes = self.new.processes; front = self.new.front } }
     {
         match self.processes.state_of(pid) {
             State::Absent => {
@@ -82,13 +83,13 @@ impl SchedulerFields {
     /// A poll round comes to this process.
     pub fn poll_one(&mut self, pid: Pid, told: &mut Stimulus) -> Option<Ready>
         requires order { IsInOrder self.old }
-        requires idle { self.old.awaited ≡ Awaited.Nothing }
-        ensures yields { Yields (in_front (Item.PollOne pid.0 ∷ []) (scheduler_of self.old))
-            (option_map (λ r. job_of (job_told r told.new)) result) (scheduler_of self.new) }
+        requires idle { self.old.front ≡ Front.Nothing }
+        ensures yields { Yields (in_front (Item.PollOne pid.0 ∷ []) (scheduler_behind self.old))
+            (option_map (λ r. job_of (job_told r told.new)) result) (scheduler_behind self.new) }
         ensures told { HoldsEvent result told.new }
-        ensures awaited { self.new.awaited ≡ awaited_after result }
+        ensures front { self.new.front ≡ front_after result }
         ensures order { IsInOrder self.new }
-        ensures same { self.new.stack ≡ self.old.stack }
+        ensures kept { self.new ≡ record self.old { processes = self.new.processes; front = self.new.front } }
     {
         if !self.processes.is_marked(pid) {
             return None;
@@ -98,34 +99,19 @@ impl SchedulerFields {
         self.give(pid, Origin::Poll, told)
     }
 
-    /// Begins a poll round, if any process is marked.
-    pub fn poll_marked(&mut self)
-        requires order { IsInOrder self.old }
-        requires idle { self.old.awaited ≡ Awaited.Nothing }
-        requires low { length self.old.stack ≤ 1 }
-        requires begun { on_top false has_receiver self.old.stack ≡ false }
-        ensures yields { Yields (in_front (Item.Polls ∷ []) (scheduler_of self.old)) None (scheduler_of self.new) }
-        ensures awaited { self.new.awaited ≡ Awaited.Nothing }
-        ensures order { IsInOrder self.new }
-        ensures grows { weight self.new.stack ≤ weight self.old.stack + 21 }
-    {
-        if self.processes.is_any_marked() {
-            let walk = self.processes.walk();
-            self.stack.push(Frame::Polls(walk));
-        }
-    }
-
     /// Delivers the first event.
     pub fn deliver(&mut self, told: &mut Stimulus) -> Option<Ready>
         requires order { IsInOrder self.old }
-        requires idle { self.old.awaited ≡ Awaited.Nothing }
-        requires bare { self.old.stack ≡ [] }
-        ensures yields { Yields (in_front (Item.Deliver ∷ []) (scheduler_of self.old))
-            (option_map (λ r. job_of (job_told r told.new)) result) (scheduler_of self.new) }
+        requires idle { self.old.front ≡ Front.Nothing }
+        requires bare { self.old.stack.items ≡ [] }
+        requires unpolled { self.old.polls ≡ [] }
+        requires nothing { self.old.base ≡ Base.Nothing }
+        ensures yields { Yields (in_front (Item.Deliver ∷ []) (scheduler_behind self.old))
+            (option_map (λ r. job_of (job_told r told.new)) result) (scheduler_behind self.new) }
         ensures told { HoldsEvent result told.new }
-        ensures awaited { self.new.awaited ≡ awaited_after result }
+        ensures front { self.new.front ≡ front_after result }
         ensures order { IsInOrder self.new }
-        ensures grows { weight self.new.stack ≤ weight self.old.stack + 1281 }
+        ensures falls { IfNone result (weight self.new < weight self.old + 1300) }
     {
         // An event for one process is told where it lies, with fewer moves than a place of the queue has room for.
         if let Some(Queued::To(pid, event)) = self.events.front() {
@@ -142,7 +128,7 @@ impl SchedulerFields {
                     arming,
                 },
             ) => {
-                self.awaited = Awaited::Callback { pid, number };
+                self.front = Front::Expiry { pid, number };
                 Some(Ready::Callback {
                     pid,
                     number,
@@ -150,12 +136,9 @@ impl SchedulerFields {
                 })
             }
             Some(Queued::ToAll(event)) => {
-                let walk = self.processes.walk();
-                self.stack.push(Frame::Broadcast {
-                    next: None,
-                    walk,
-                    event,
-                });
+                self.walk = self.processes.walk();
+                self.broadcast = event;
+                self.base = Base::Broadcast { is_polled: false };
                 None
             }
             _ => None,

@@ -1,45 +1,51 @@
 //! Whether anything is left to be done.
 ghost use Rattle.std.specs.Prelude.{◌≡◌, is_some};
-ghost use Rattle.std.specs.List.{list_all};
-ghost use Rattle.process_core.specs.OpenWork.{items_of, agenda_of};
+ghost use Rattle.process_core.specs.OpenWork.{agenda_of, base_items, front_items};
 ghost use Rattle.process_core.specs.Idle.{is_empty};
 ghost use Rattle.process_core.specs.SchedulerView.{is_at_rest};
+ghost use Rattle.process_core.specs.Code.SchedulerFields.{scheduler_of};
+ghost use Rattle.mote_types.specs.declared.event.Event.{Event};
+ghost use Rattle.mote_types.specs.declared.reply.Reply.{Reply};
 
-use crate::awaited::Awaited;
-use crate::frame::Frame;
+use crate::frame::Base;
+use crate::front::Front;
 use crate::scheduler::Scheduler;
-use crate::stack::Stack;
+use crate::scheduler_fields::SchedulerFields;
+use crate::walk::Walk;
 
-impl Frame {
-    #[tactic(auto, using(crate::proofs::NothingLeft::deliver_has_more, crate::proofs::NothingLeft::leave_has_more, crate::proofs::NothingLeft::answer_has_more, crate::proofs::NothingLeft::is_empty_map, crate::proofs::NothingLeft::is_empty_receivers))]
-    /// Whether a piece of open work has nothing left to be done.
-    fn is_over(&self) -> bool
-        ensures { result ≡ is_empty (items_of self.now) }
+impl Front {
+    /// Whether nothing is to be done first.
+    pub(crate) fn is_over(&self) -> bool
+        ensures { (reply : Reply) (synch : Event) → result ≡ is_empty (front_items self.now reply synch) }
+    {
+        matches!(self, Front::Nothing | Front::Call(_) | Front::Expiry { .. })
+    }
+}
+
+impl Base {
+    #[tactic(auto, using(crate::proofs::NothingLeft::deliver_has_more, crate::proofs::NothingLeft::is_empty_map, crate::proofs::NothingLeft::is_empty_broadcast))]
+    /// Whether nothing is left to be done, where the walk is this.
+    fn is_over(&self, walk: &Walk) -> bool
+        ensures { (event : Event) → result ≡ is_empty (base_items self.now walk.now event) }
     {
         match self {
-            Frame::Boot(walk) | Frame::Polls(walk) => walk.is_over(),
-            Frame::Broadcast { next, walk, .. } => next.is_none() && walk.is_over(),
-            Frame::Deliver { .. } => false,
-            Frame::Callback { .. } => false,
-            Frame::Leave { .. } => false,
-            Frame::Answer { .. } => false,
+            Base::Nothing => true,
+            Base::Boot | Base::Broadcast { .. } => walk.is_over(),
+            Base::Deliver { .. } => false,
         }
     }
 }
 
-fn are_over(frames: &[Frame]) -> bool
-    ensures { result ≡ list_all (λ frame. is_empty (items_of frame)) frames.now }
-{
-    frames.iter().all(|frame| frame.is_over())
-}
-
-impl Stack {
-    #[tactic(auto, using(crate::proofs::NothingLeft::over_where_all_are))]
+impl SchedulerFields {
+    #[tactic(auto, using(crate::proofs::NothingLeft::is_empty_agenda))]
     /// Whether no open work has anything left to be done.
     pub fn is_over(&self) -> bool
         ensures { result ≡ is_empty (agenda_of self.now) }
     {
-        are_over(self.frames())
+        self.front.is_over()
+            && self.stack.is_empty()
+            && self.polls.is_over()
+            && self.base.is_over(&self.walk)
     }
 }
 
@@ -48,7 +54,7 @@ impl Scheduler {
     fn is_awaiting_call(&self) -> bool
         ensures { result ≡ is_some self.now.turn }
     {
-        matches!(self.fields.awaited, Awaited::Call(_))
+        matches!(self.fields.front, Front::Call(_))
     }
 
     /// Whether `next` could be called and would answer Rest: no call is awaited, no work is open, no process is marked
@@ -57,7 +63,7 @@ impl Scheduler {
         ensures { result ≡ is_at_rest self.now }
     {
         !self.is_awaiting_call()
-            && self.fields.stack.is_over()
+            && self.fields.is_over()
             && !self.fields.processes.is_any_marked()
             && self.fields.events.is_empty()
     }

@@ -1,8 +1,8 @@
 //! The scheduler of a mote: processes, the event queue, and the agenda of what is still to be done.
 #![tactic(auto)]
 
-mod awaited;
 pub mod frame;
+mod front;
 mod giving;
 mod idle;
 pub mod job;
@@ -18,7 +18,6 @@ mod receivers;
 mod requests;
 pub mod scheduler;
 mod scheduler_fields;
-mod stack;
 mod state;
 mod steps;
 mod turns;

@@ -18,7 +18,7 @@ impl Scheduler {
     {
         self.fields.processes.is_only_marked(pid)
             && self.fields.events.is_empty()
-            && self.fields.stack.is_over()
+            && self.fields.is_over()
     }
 
     /// Takes the mark of a process away, as a poll round does that comes to it.

@@ -1,28 +1,23 @@
 //! The processes of the kernel that are to be given a broadcast next.
 
-ghost use Rattle.std.specs.Prelude.{◌≡◌};
-ghost use Rattle.process_core.specs.Code.Frames as part;
-ghost use Rattle.process_core.specs.KernelReceivers.{kernel_receivers_passed};
+ghost use Rattle.std.specs.Prelude.{◌≡◌, ℕ, List, true, false};
+ghost use Rattle.process_core.specs.KernelReceivers.{behind_kernel_receivers, kernel_receivers_passed};
+ghost use Rattle.process_core.specs.OpenWork.{agenda_of, receiver_items};
+ghost use Rattle.process_core.specs.Code.Walks.{receiver_is_next};
 
-use crate::frame::Frame;
+use crate::frame::Base;
 use crate::scheduler::Scheduler;
+use crate::scheduler_fields::SchedulerFields;
 
-impl Frame {
-    /// A broadcast of an event with another code than these goes on past the kernel's processes that come next, unless the
-    /// turn of one was begun.
-    pub(crate) fn pass_kernel_receivers(&mut self, codes: &[u8])
-        ensures { self.new ≡ part.past_kernel_receivers codes.now self.old }
+impl SchedulerFields {
+    /// Whether a receiver of a broadcast comes next, with a poll round before it.
+    fn receiver_is_next(&self) -> bool
+        ensures { result ≡ receiver_is_next self.now }
     {
-        if let Frame::Broadcast {
-            next: None,
-            walk,
-            event,
-        } = self
-        {
-            if !codes.contains(&event.code) {
-                walk.pass_kernel_processes();
-            }
-        }
+        self.front.is_over()
+            && self.stack.is_empty()
+            && self.polls.is_over()
+            && matches!(self.base, Base::Broadcast { is_polled: false })
     }
 }
 
@@ -34,8 +29,11 @@ impl Scheduler {
     pub fn pass_kernel_receivers(&mut self, codes: &[u8])
         ensures { self.new ≡ record self.old { state = kernel_receivers_passed codes.now self.old.state } }
     {
-        if !self.fields.processes.is_any_marked() {
-            self.fields.stack.pass_kernel_receivers(codes);
+        if !self.fields.processes.is_any_marked()
+            && self.fields.receiver_is_next()
+            && !codes.contains(&self.fields.broadcast.code)
+        {
+            self.fields.walk.pass_kernel_processes();
         }
     }
 }

@@ -6,13 +6,12 @@ ghost use Rattle.process_core.specs.Requests as request;
 ghost use Rattle.process_core.specs.Scheduler.{marked, state_in};
 ghost use Rattle.process_core.specs.SchedulerView.{awaiting_nothing};
 
-use crate::awaited::Awaited;
-use crate::frame::{First, Frame};
+use crate::frame::Frame;
+use crate::front::Front;
 use crate::scheduler::Scheduler;
 use crate::state::State;
 use mote_types::event::{Event, FIRST_APPLICATION, Pid, is_reserved};
 use mote_types::refusal::Refusal;
-use mote_types::reply::Reply;
 
 impl Scheduler {
     /// Whether it is an application of this mote.
@@ -104,12 +103,9 @@ impl Scheduler {
         if is_reserved(event.code) {
             return Err(Refusal::Reserved);
         }
-        self.fields.stack.push(Frame::Answer {
-            pid: caller,
-            first: First::Give(receiver, event),
-            reply: Reply::Done,
-        });
-        self.fields.awaited = Awaited::Nothing;
+        self.fields.stack.push(Frame::Answer(caller));
+        self.fields.synch = event;
+        self.fields.front = Front::Give(receiver);
         Ok(())
     }
 
@@ -127,12 +123,8 @@ impl Scheduler {
         }
         match self.fields.processes.state_of(pid) {
             State::Absent => {
-                self.fields.stack.push(Frame::Answer {
-                    pid: caller,
-                    first: First::Start(pid),
-                    reply: Reply::Done,
-                });
-                self.fields.awaited = Awaited::Nothing;
+                self.fields.stack.push(Frame::Answer(caller));
+                self.fields.front = Front::Start(pid);
                 Ok(())
             }
             _ => Err(Refusal::Already),
@@ -158,17 +150,13 @@ impl Scheduler {
             State::Running => {
                 let walk = self.fields.processes.walk_others(pid);
                 self.fields.processes.set_state(pid, State::Leaving);
-                self.fields.stack.push(Frame::Answer {
-                    pid: caller,
-                    first: First::Nothing,
-                    reply: Reply::Done,
-                });
+                self.fields.stack.push(Frame::Answer(caller));
                 self.fields.stack.push(Frame::Leave {
                     pid,
                     walk,
                     exits: true,
                 });
-                self.fields.awaited = Awaited::Nothing;
+                self.fields.front = Front::Nothing;
                 Ok(())
             }
         }

@@ -1,6 +1,6 @@
 //! The scheduler of a mote: its processes, its event queue, and the agenda of what is still to be done.
 
-ghost use Rattle.std.specs.Prelude.{◌≡◌, ◌≤◌, ◌<◌, ◌+◌, ◌*◌, None, IfOk, IfSome, [], true, false, length, reverse};
+ghost use Rattle.std.specs.Prelude.{◌≡◌, ◌≤◌, ◌<◌, ◌+◌, ◌*◌, None, IfOk, IfSome, [], true, false, length};
 ghost use Rattle.mote_types.specs.declared.event.Event.{Event};
 ghost use Rattle.mote_types.specs.declared.event.Pid.{Pid};
 ghost use Rattle.mote_types.specs.declared.event.Stimulus.{Stimulus as Told};
@@ -13,17 +13,19 @@ ghost use Rattle.process_core.specs.Told.{job_told};
 ghost use Rattle.process_core.specs.declared.job.Job as ready;
 ghost use Rattle.process_core.specs.declared.ready.Ready.{Ready as Answer};
 
-use crate::awaited::Awaited;
-use crate::frame::Frame;
+use crate::frame::Base;
+use crate::front::Front;
+use crate::giving::plain_event;
 use crate::job::Job;
 use crate::numbers::Numbers;
 use crate::process_list::ProcessList;
 use crate::ready::{Ready, job_told};
 use crate::scheduler_fields::SchedulerFields;
-use crate::stack::Stack;
 use crate::walk::Walk;
+use arrayvec::ArrayVec;
 use circular_buffer::HeapCircularBuffer;
 use mote_types::event::{FIRST_APPLICATION, FIRST_FREE, Stimulus};
+use mote_types::reply::Reply;
 use std::alloc::{AllocError, Global};
 use std::marker::Model;
 
@@ -56,8 +58,7 @@ impl Model for Scheduler {
 impl Scheduler {
     /// The scheduler of a mote with so many applications, 0 to 16, which are still to be started.
     ///
-    /// The event queue and the stack of open work are all that takes memory: 32 and 48 places. Where memory is refused there is
-    /// no scheduler.
+    /// The event queue is all that takes memory: 32 places. Where memory is refused there is no scheduler.
     pub fn new(alloc: Global, applications: u8) -> Result<Scheduler, AllocError>
         requires { applications ≤ 16 }
         ensures { IfOk result (λ s. s ≡ awaiting_nothing (at_boot applications)) }
@@ -67,15 +68,19 @@ impl Scheduler {
         for number in FIRST_APPLICATION..FIRST_APPLICATION + applications {
             starts.push(number);
         }
-        let mut stack = Stack::new(alloc)?;
-        stack.push(Frame::Boot(Walk::over(starts)));
         let fields = SchedulerFields {
             applications,
             processes: ProcessList::new(),
             events,
-            stack,
             next_event: FIRST_FREE as u16,
-            awaited: Awaited::Nothing,
+            front: Front::Nothing,
+            reply: Reply::Done,
+            synch: plain_event(0),
+            stack: ArrayVec::new(),
+            polls: Walk::none(),
+            base: Base::Boot,
+            walk: Walk::over(starts),
+            broadcast: plain_event(0),
         };
         Ok(Scheduler { fields })
     }
@@ -118,27 +123,23 @@ impl Scheduler {
         ensures applications { self.new.state.applications ≡ self.old.state.applications }
         ensures standing { IsWellFormed self.new.state }
     {
-        self.fields.awaited = Awaited::Nothing;
-        let ready = 'open: loop {
-            if self.fields.stack.is_empty() {
-                break 'open self.fields.begin_round();
-            }
-            if let Some(ready) = self.fields.resume(told) {
-                break 'open ready;
-            }
+        let ready = match self.fields.take_front(told) {
+            Some(ready) => ready,
+            None => self.fields.work_on(told),
         };
         // Nothing is done: the call tells the proof what is always true of a process list, for the clause `standing`.
         self.fields.processes.each_is_once();
         ready
     }
 
-    /// The open work: the frames that the agenda is kept in, the undermost first. There are at most two for each
-    /// application and two more, so that a stack of 48 never runs over.
-    pub fn open_work(&self) -> &[Frame]
-        ensures agenda { agenda_of (reverse result.now) ≡ self.now.state.agenda }
-        ensures few { length result.now ≤ 2 * self.now.state.applications + 2 }
-        ensures bound { length result.now ≤ 48 }
+    #[tactic(auto, using(crate::proofs::Order::few_items, crate::proofs::Order::room_on_stack))]
+    /// The open work: the parts that the agenda is kept in. There are at most two frames for each application, so that a
+    /// stack of 34 never runs over.
+    pub fn open_work(&self) -> &SchedulerFields
+        ensures agenda { agenda_of result.now ≡ self.now.state.agenda }
+        ensures few { length result.now.stack.items ≤ 2 * self.now.state.applications }
+        ensures bound { length result.now.stack.items ≤ 32 }
     {
-        self.fields.stack.frames()
+        &self.fields
     }
 }

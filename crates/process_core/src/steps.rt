@@ -1,80 +1,81 @@
 //! How open work is done.
 
-ghost use Rattle.std.specs.Prelude.{◌≡◌, ◌<◌, [], None, Some, length, option_map};
+ghost use Rattle.std.specs.Prelude.{◌≡◌, ◌<◌, [], ◌∷◌, Some, IfNone, option_map, reverse};
 ghost use Rattle.mote_types.specs.declared.event.Stimulus.{Stimulus as Told};
-ghost use Rattle.process_core.specs.Code.Frames.{weight, IsBoot, IsDelivery, IsPollRound, IsBroadcast, IsFarewell, IsAnswer};
+ghost use Rattle.process_core.specs.Code.Weights.{weight, weight_over};
 ghost use Rattle.process_core.specs.SchedulerView.{job_of};
 ghost use Rattle.process_core.specs.Told.{job_told};
-ghost use Rattle.process_core.specs.Code.SchedulerFields.{scheduler_of, awaited_after, HoldsEvent, IsInOrder};
+ghost use Rattle.process_core.specs.Code.SchedulerFields.{scheduler_of, scheduler_behind, scheduler_over, front_after, HoldsEvent, IsInOrder, IsOrdered};
 ghost use Rattle.process_core.specs.Code.Yields.{Yields};
-ghost use Rattle.process_core.specs.declared.awaited.Awaited.{Awaited};
+ghost use Rattle.process_core.specs.declared.front.Front.{Front};
+ghost use Rattle.process_core.specs.declared.frame.Base.{Base};
 ghost use Rattle.process_core.specs.declared.frame.Frame.{Frame};
 
-use crate::awaited::Awaited;
-use crate::frame::{First, Frame};
+use crate::frame::{Base, Frame, tell, tell_reply};
+use crate::front::Front;
 use crate::giving::plain_event;
 use crate::ready::Ready;
 use crate::scheduler_fields::SchedulerFields;
 use crate::state::State;
+use crate::walk::Walk;
 use mote_types::event::{self, Event, Origin, Payload, Pid, Stimulus};
+use mote_types::reply::Reply;
 
 impl SchedulerFields {
-    // The next application is started.
-    fn resume_boot(&mut self, told: &mut Stimulus) -> Option<Ready>
-        requires top { IsBoot self.old.stack }
+    /// What was told since the last job comes first.
+    pub fn take_front(&mut self, told: &mut Stimulus) -> Option<Ready>
         requires order { IsInOrder self.old }
-        requires idle { self.old.awaited ≡ Awaited.Nothing }
         ensures yields { Yields (scheduler_of self.old)
-            (option_map (λ r. job_of (job_told r told.new)) result) (scheduler_of self.new) }
+            (option_map (λ r. job_of (job_told r told.new)) result) (scheduler_behind self.new) }
         ensures told { HoldsEvent result told.new }
-        ensures awaited { self.new.awaited ≡ awaited_after result }
+        ensures front { self.new.front ≡ front_after result }
         ensures order { IsInOrder self.new }
-        ensures falls { weight self.new.stack < weight self.old.stack }
     {
-        match self.stack.advance() {
-            Some(pid) => self.start_one(pid, told),
-            None => {
-                self.stack.drop_top();
-                None
+        let front = self.front;
+        self.front = Front::Nothing;
+        match front {
+            Front::Answer(pid) => {
+                tell_reply(told, &self.reply);
+                self.front = Front::Call(pid);
+                Some(Ready::Give {
+                    pid,
+                    origin: Origin::Answer,
+                })
             }
-        }
-    }
-
-    // The poll round comes to the next process that is marked.
-    fn resume_polls(&mut self, told: &mut Stimulus) -> Option<Ready>
-        requires top { IsPollRound self.old.stack }
-        requires order { IsInOrder self.old }
-        requires idle { self.old.awaited ≡ Awaited.Nothing }
-        ensures yields { Yields (scheduler_of self.old)
-            (option_map (λ r. job_of (job_told r told.new)) result) (scheduler_of self.new) }
-        ensures told { HoldsEvent result told.new }
-        ensures awaited { self.new.awaited ≡ awaited_after result }
-        ensures order { IsInOrder self.new }
-        ensures falls { weight self.new.stack < weight self.old.stack }
-    {
-        match self.stack.next_marked(&self.processes) {
-            Some(pid) => self.poll_one(pid, told),
-            None => {
-                self.stack.drop_top();
-                None
+            Front::Give(pid) => {
+                tell(told, &self.synch);
+                self.give(pid, Origin::Synch, told)
             }
+            Front::Start(pid) => self.start_one(pid, told),
+            Front::Callback { pid, number } => {
+                *told = Stimulus::Callback(number);
+                self.give(pid, Origin::Callback, told)
+            }
+            _ => None,
         }
     }
 
     // The next process is told that this one has ended. Where all were told, it is given EXIT if it was killed, and leaves.
-    fn resume_leave(&mut self, pid: Pid, told: &mut Stimulus) -> Option<Ready>
-        requires top { IsFarewell pid self.old.stack }
-        requires order { IsInOrder self.old }
-        requires idle { self.old.awaited ≡ Awaited.Nothing }
-        ensures yields { Yields (scheduler_of self.old)
-            (option_map (λ r. job_of (job_told r told.new)) result) (scheduler_of self.new) }
+    fn resume_leave(
+        &mut self,
+        pid: Pid,
+        walk: Walk,
+        exits: bool,
+        told: &mut Stimulus,
+    ) -> Option<Ready>
+        requires order { IsOrdered self.old (Frame.Leave pid walk exits ∷ reverse self.old.stack.items) }
+        requires idle { self.old.front ≡ Front.Nothing }
+        ensures yields { Yields (scheduler_over self.old (Frame.Leave pid walk exits ∷ reverse self.old.stack.items))
+            (option_map (λ r. job_of (job_told r told.new)) result) (scheduler_behind self.new) }
         ensures told { HoldsEvent result told.new }
-        ensures awaited { self.new.awaited ≡ awaited_after result }
+        ensures front { self.new.front ≡ front_after result }
         ensures order { IsInOrder self.new }
-        ensures falls { weight self.new.stack < weight self.old.stack }
+        ensures falls { IfNone result (weight self.new < weight_over self.old (Frame.Leave pid walk exits ∷ reverse self.old.stack.items)) }
     {
-        match self.stack.advance() {
+        let mut walk = walk;
+        match walk.advance() {
             Some(other) => {
+                self.stack.push(Frame::Leave { pid, walk, exits });
                 *told = Stimulus::Event(Event {
                     code: event::EXITED,
                     payload: Payload::Num(pid.0 as u32),
@@ -82,13 +83,17 @@ impl SchedulerFields {
                 self.give(other, Origin::Synch, told)
             }
             None => {
-                if !self.stack.take_exit() {
-                    self.stack.drop_top();
+                if !exits {
                     self.processes.remove(pid);
                     return None;
                 }
+                self.stack.push(Frame::Leave {
+                    pid,
+                    walk,
+                    exits: false,
+                });
                 self.processes.set_state(pid, State::Ending);
-                self.awaited = Awaited::Call(pid);
+                self.front = Front::Call(pid);
                 *told = Stimulus::Event(plain_event(event::EXIT));
                 Some(Ready::Give {
                     pid,
@@ -98,132 +103,166 @@ impl SchedulerFields {
         }
     }
 
-    // What the call does comes first, and then the caller's turn with the reply.
-    fn resume_answer(&mut self, pid: Pid, told: &mut Stimulus) -> Option<Ready>
-        requires top { IsAnswer pid self.old.stack }
+    // The next application is started.
+    fn resume_boot(&mut self, told: &mut Stimulus) -> Option<Ready>
+        requires boots { self.old.base ≡ Base.Boot }
+        requires bare { self.old.stack.items ≡ [] }
+        requires unpolled { self.old.polls ≡ [] }
         requires order { IsInOrder self.old }
-        requires idle { self.old.awaited ≡ Awaited.Nothing }
-        ensures yields { Yields (scheduler_of self.old)
-            (option_map (λ r. job_of (job_told r told.new)) result) (scheduler_of self.new) }
+        requires idle { self.old.front ≡ Front.Nothing }
+        ensures yields { Yields (scheduler_behind self.old)
+            (option_map (λ r. job_of (job_told r told.new)) result) (scheduler_behind self.new) }
         ensures told { HoldsEvent result told.new }
-        ensures awaited { self.new.awaited ≡ awaited_after result }
+        ensures front { self.new.front ≡ front_after result }
         ensures order { IsInOrder self.new }
-        ensures falls { weight self.new.stack < weight self.old.stack }
+        ensures falls { IfNone result (weight self.new < weight self.old) }
     {
-        // What is done first is taken only where there is something, since it is large.
-        if !self.stack.has_first() {
-            self.stack.tell_reply(told);
-            self.awaited = Awaited::Call(pid);
-            return Some(Ready::Give {
-                pid,
-                origin: Origin::Answer,
-            });
-        }
-        match self.stack.take_first() {
-            First::Nothing => None,
-            First::Give(other, event) => {
-                *told = Stimulus::Event(event);
-                self.give(other, Origin::Synch, told)
-            }
-            First::Start(other) => self.start_one(other, told),
-        }
-    }
-
-    // A round: the poll round, and then the delivery.
-    fn resume_deliver(&mut self, told: &mut Stimulus) -> Option<Ready>
-        requires top { IsDelivery self.old.stack }
-        requires order { IsInOrder self.old }
-        requires idle { self.old.awaited ≡ Awaited.Nothing }
-        ensures yields { Yields (scheduler_of self.old)
-            (option_map (λ r. job_of (job_told r told.new)) result) (scheduler_of self.new) }
-        ensures told { HoldsEvent result told.new }
-        ensures awaited { self.new.awaited ≡ awaited_after result }
-        ensures order { IsInOrder self.new }
-        ensures falls { weight self.new.stack < weight self.old.stack }
-    {
-        if self.processes.is_any_marked() && self.stack.begin_polls() {
-            self.poll_marked();
-            return None;
-        }
-        self.stack.drop_top();
-        self.deliver(told)
-    }
-
-    // The next receiver is given the event, after a poll round.
-    fn resume_broadcast(&mut self, told: &mut Stimulus) -> Option<Ready>
-        requires top { IsBroadcast self.old.stack }
-        requires order { IsInOrder self.old }
-        requires idle { self.old.awaited ≡ Awaited.Nothing }
-        ensures yields { Yields (scheduler_of self.old)
-            (option_map (λ r. job_of (job_told r told.new)) result) (scheduler_of self.new) }
-        ensures told { HoldsEvent result told.new }
-        ensures awaited { self.new.awaited ≡ awaited_after result }
-        ensures order { IsInOrder self.new }
-        ensures falls { weight self.new.stack < weight self.old.stack }
-    {
-        if self.processes.is_any_marked() && self.stack.begin_receiver() {
-            self.poll_marked();
-            return None;
-        }
-        match self.stack.pass_receiver(told) {
-            Some(pid) => self.give(pid, Origin::Event, told),
+        match self.walk.advance() {
+            Some(pid) => self.start_one(pid, told),
             None => {
-                self.stack.drop_top();
+                self.base = Base::Nothing;
                 None
             }
         }
     }
 
-    /// The topmost frame is worked on, where it lies.
-    pub fn resume(&mut self, told: &mut Stimulus) -> Option<Ready>
-        requires open { 0 < length self.old.stack }
+    // A round: the poll round, and then the delivery.
+    fn resume_deliver(&mut self, is_polled: bool, told: &mut Stimulus) -> Option<Ready>
+        requires delivers { self.old.base ≡ Base.Deliver is_polled }
+        requires bare { self.old.stack.items ≡ [] }
+        requires unpolled { self.old.polls ≡ [] }
         requires order { IsInOrder self.old }
-        requires idle { self.old.awaited ≡ Awaited.Nothing }
-        ensures yields { Yields (scheduler_of self.old)
-            (option_map (λ r. job_of (job_told r told.new)) result) (scheduler_of self.new) }
+        requires idle { self.old.front ≡ Front.Nothing }
+        ensures yields { Yields (scheduler_behind self.old)
+            (option_map (λ r. job_of (job_told r told.new)) result) (scheduler_behind self.new) }
         ensures told { HoldsEvent result told.new }
-        ensures awaited { self.new.awaited ≡ awaited_after result }
+        ensures front { self.new.front ≡ front_after result }
         ensures order { IsInOrder self.new }
-        ensures falls { weight self.new.stack < weight self.old.stack }
+        ensures falls { IfNone result (weight self.new < weight self.old) }
     {
-        match self.stack.top() {
-            Some(Frame::Boot(_)) => self.resume_boot(told),
-            Some(Frame::Polls(_)) => self.resume_polls(told),
-            Some(Frame::Broadcast { .. }) => self.resume_broadcast(told),
-            Some(Frame::Leave { pid, .. }) => {
-                let pid = *pid;
-                self.resume_leave(pid, told)
+        if !is_polled && self.processes.is_any_marked() {
+            self.base = Base::Deliver { is_polled: true };
+            self.polls = self.processes.walk();
+            return None;
+        }
+        self.base = Base::Nothing;
+        self.deliver(told)
+    }
+
+    // The next receiver is given the event, after a poll round.
+    fn resume_broadcast(&mut self, is_polled: bool, told: &mut Stimulus) -> Option<Ready>
+        requires broadcasts { self.old.base ≡ Base.Broadcast is_polled }
+        requires bare { self.old.stack.items ≡ [] }
+        requires unpolled { self.old.polls ≡ [] }
+        requires order { IsInOrder self.old }
+        requires idle { self.old.front ≡ Front.Nothing }
+        ensures yields { Yields (scheduler_behind self.old)
+            (option_map (λ r. job_of (job_told r told.new)) result) (scheduler_behind self.new) }
+        ensures told { HoldsEvent result told.new }
+        ensures front { self.new.front ≡ front_after result }
+        ensures order { IsInOrder self.new }
+        ensures falls { IfNone result (weight self.new < weight self.old) }
+    {
+        if !is_polled && self.processes.is_any_marked() && !self.walk.is_over() {
+            self.base = Base::Broadcast { is_polled: true };
+            self.polls = self.processes.walk();
+            return None;
+        }
+        match self.walk.advance() {
+            Some(pid) => {
+                self.base = Base::Broadcast { is_polled: false };
+                tell(told, &self.broadcast);
+                self.give(pid, Origin::Event, told)
             }
-            Some(Frame::Answer { pid, .. }) => {
-                let pid = *pid;
-                self.resume_answer(pid, told)
+            None => {
+                self.base = Base::Nothing;
+                None
             }
-            Some(Frame::Deliver { .. }) => self.resume_deliver(told),
-            Some(Frame::Callback { pid, number }) => {
-                let (pid, number) = (*pid, *number);
-                self.stack.drop_top();
-                *told = Stimulus::Callback(number);
-                self.give(pid, Origin::Callback, told)
+        }
+    }
+
+    // No process is within an activation: the poll round comes to the next process that is marked, and behind it the base.
+    fn resume_below(&mut self, told: &mut Stimulus) -> Option<Ready>
+        requires bare { self.old.stack.items ≡ [] }
+        requires order { IsInOrder self.old }
+        requires idle { self.old.front ≡ Front.Nothing }
+        ensures yields { Yields (scheduler_behind self.old)
+            (option_map (λ r. job_of (job_told r told.new)) result) (scheduler_behind self.new) }
+        ensures told { HoldsEvent result told.new }
+        ensures front { self.new.front ≡ front_after result }
+        ensures order { IsInOrder self.new }
+        ensures falls { IfNone result (weight self.new < weight self.old) }
+    {
+        if let Some(pid) = self.polls.next_marked(&self.processes) {
+            return self.poll_one(pid, told);
+        }
+        match self.base {
+            Base::Nothing => Some(self.begin_round()),
+            Base::Boot => self.resume_boot(told),
+            Base::Deliver { is_polled } => self.resume_deliver(is_polled, told),
+            Base::Broadcast { is_polled } => self.resume_broadcast(is_polled, told),
+        }
+    }
+
+    /// The open work goes on, or where there is none a round begins.
+    pub fn resume(&mut self, told: &mut Stimulus) -> Option<Ready>
+        requires order { IsInOrder self.old }
+        requires idle { self.old.front ≡ Front.Nothing }
+        ensures yields { Yields (scheduler_behind self.old)
+            (option_map (λ r. job_of (job_told r told.new)) result) (scheduler_behind self.new) }
+        ensures told { HoldsEvent result told.new }
+        ensures front { self.new.front ≡ front_after result }
+        ensures order { IsInOrder self.new }
+        ensures falls { IfNone result (weight self.new < weight self.old) }
+    {
+        match self.stack.pop() {
+            Some(Frame::Leave { pid, walk, exits }) => self.resume_leave(pid, walk, exits, told),
+            Some(Frame::Answer(pid)) => {
+                tell_reply(told, &Reply::Done);
+                self.front = Front::Call(pid);
+                Some(Ready::Give {
+                    pid,
+                    origin: Origin::Answer,
+                })
             }
-            None => None,
+            None => self.resume_below(told),
+        }
+    }
+
+    /// The open work goes on up to a job.
+    pub fn work_on(&mut self, told: &mut Stimulus) -> Ready
+        requires order { IsInOrder self.old }
+        requires idle { self.old.front ≡ Front.Nothing }
+        ensures yields { Yields (scheduler_behind self.old)
+            (Some (job_of (job_told result told.new))) (scheduler_behind self.new) }
+        ensures told { HoldsEvent (Some result) told.new }
+        ensures front { self.new.front ≡ front_after (Some result) }
+        ensures order { IsInOrder self.new }
+    {
+        'open: loop {
+            if let Some(ready) = self.resume(told) {
+                break 'open ready;
+            }
         }
     }
 
     /// No work is open: a round begins, if it has anything to do.
-    pub fn begin_round(&mut self) -> Ready
+    fn begin_round(&mut self) -> Ready
         requires order { IsInOrder self.old }
-        requires idle { self.old.awaited ≡ Awaited.Nothing }
-        requires bare { self.old.stack ≡ [] }
+        requires idle { self.old.front ≡ Front.Nothing }
+        requires bare { self.old.stack.items ≡ [] }
+        requires unpolled { self.old.polls ≡ [] }
+        requires nothing { self.old.base ≡ Base.Nothing }
         ensures yields { (told : Told) →
-            Yields (scheduler_of self.old) (Some (job_of (job_told result told))) (scheduler_of self.new) }
+            Yields (scheduler_behind self.old) (Some (job_of (job_told result told))) (scheduler_behind self.new) }
         ensures told { (told : Told) → HoldsEvent (Some result) told }
-        ensures awaited { self.new.awaited ≡ awaited_after (Some result) }
+        ensures front { self.new.front ≡ front_after (Some result) }
         ensures order { IsInOrder self.new }
     {
         if !self.processes.is_any_marked() && self.events.is_empty() {
             return Ready::Rest;
         }
-        self.stack.push(Frame::Deliver { is_polled: false });
+        self.base = Base::Deliver { is_polled: false };
         Ready::Round
     }
 }

@@ -4,8 +4,8 @@ ghost use Rattle.std.specs.Prelude.{◌≡◌, Some};
 ghost use Rattle.process_core.specs.Requests as request;
 ghost use Rattle.process_core.specs.SchedulerView.{awaiting_nothing};
 
-use crate::awaited::Awaited;
-use crate::frame::{First, Frame};
+use crate::frame::Frame;
+use crate::front::Front;
 use crate::scheduler::Scheduler;
 use crate::state::State;
 use mote_types::event::Pid;
@@ -18,12 +18,8 @@ impl Scheduler {
         requires { self.old.turn ≡ Some caller }
         ensures { self.new ≡ awaiting_nothing (request.answered caller.0 reply self.old.state) }
     {
-        self.fields.stack.push(Frame::Answer {
-            pid: caller,
-            first: First::Nothing,
-            reply,
-        });
-        self.fields.awaited = Awaited::Nothing;
+        self.fields.reply = reply;
+        self.fields.front = Front::Answer(caller);
     }
 
     /// The process at turn waits: its activation ends and it runs on, unless it was told EXIT.
@@ -31,7 +27,7 @@ impl Scheduler {
         requires { self.old.turn ≡ Some caller }
         ensures { self.new ≡ awaiting_nothing (request.waited caller.0 self.old.state) }
     {
-        self.fields.awaited = Awaited::Nothing;
+        self.fields.front = Front::Nothing;
         match self.fields.processes.state_of(caller) {
             State::Ending => {}
             _ => self.fields.processes.set_state(caller, State::Running),
@@ -44,7 +40,7 @@ impl Scheduler {
         requires { self.old.turn ≡ Some caller }
         ensures { self.new ≡ awaiting_nothing (request.ended caller.0 self.old.state) }
     {
-        self.fields.awaited = Awaited::Nothing;
+        self.fields.front = Front::Nothing;
         match self.fields.processes.state_of(caller) {
             State::Ending => {}
             _ => {
@@ -64,7 +60,6 @@ impl Scheduler {
         requires { self.old.callback ≡ Some (pid, number) }
         ensures { self.new ≡ awaiting_nothing (request.called_back pid.0 number self.old.state) }
     {
-        self.fields.awaited = Awaited::Nothing;
-        self.fields.stack.push(Frame::Callback { pid, number });
+        self.fields.front = Front::Callback { pid, number };
     }
 }

@@ -1,7 +1,7 @@
 //! A walk over the process list as it stood when the walk began.
 ghost use Rattle.std.specs.Prelude.{◌≡◌, [], ◌∷◌, ◌≤◌, ◌<◌, length, drop, slice_get, option_map, MatchOption};
 ghost use Rattle.mote_types.specs.declared.event.Pid.{Pid as At};
-ghost use Rattle.process_core.specs.Code.Frames.{from_marked, from_application};
+ghost use Rattle.process_core.specs.Code.Walks.{from_application, from_marked};
 ghost use Rattle.process_core.specs.Idle.{is_empty};
 
 use crate::numbers::Numbers;
@@ -27,6 +27,13 @@ impl Model for Walk {
 }
 
 impl Walk {
+    /// A walk over no process.
+    pub fn none() -> Walk
+        ensures { result ≡ [] }
+    {
+        Walk::over(Numbers::new())
+    }
+
     /// A walk over these.
     pub fn over(numbers: Numbers) -> Walk
         ensures { result ≡ numbers.items }

@@ -1,25 +1,21 @@
 -- How frames lie on one another, which keeps the stack short.
 --
--- Frames of the kinds Boot, Deliver, Callback and Broadcast lie at the bottom alone, and a poll round lies on one of these
--- at most: so at most two frames belong to no process. Every other frame is an application's, which either waits for a
--- reply (Answer) or is on its way out (Leave), and no application has two frames of one kind. So with n applications there
--- are at most 2 * n + 2 frames.
-use Rattle.std.specs.Prelude.{◌≡◌, ℕ, ◌+◌, ◌<◌, ◌≤◌, Bool, true, false, List, [], ◌∷◌, flat_map, length, Option, IfSome, eqb}
+-- Every frame is an application's, which either waits for a reply (Answer) or is on its way out (Leave), and no application
+-- has two frames of one kind. So with n applications there are at most 2 * n frames.
+use Rattle.std.specs.Prelude.{◌≡◌, ℕ, Bool, true, false, List, [], ◌∷◌, flat_map, Option, IfSome, eqb}
 use Rattle.std.specs.List.{list_any}
 use Rattle.mote_types.specs.declared.event.Pid.{Pid}
 use Rattle.process_core.specs.declared.process.Process.{Process}
 use Rattle.process_core.specs.declared.state.State.{State}
-use Rattle.process_core.specs.declared.frame.First.{First}
 use Rattle.process_core.specs.declared.frame.Frame.{Frame}
 use Rattle.process_core.specs.Processes.{state_of, IsOfMote}
 use Rattle.process_core.specs.Requests.{is_in_activation}
-use Rattle.process_core.specs.Code.Frames.{on_top, has_receiver}
 
 abbrev pub is_one_of : ℕ → List ℕ → Bool
 is_one_of p ps = list_any (eqb p) ps
 
 abbrev pub answering_in : Frame → List ℕ
-answering_in (Frame.Answer pid first reply) = pid.0 ∷ []
+answering_in (Frame.Answer pid) = pid.0 ∷ []
 answering_in _ = []
 
 abbrev pub leaving_in : Frame → List ℕ
@@ -34,28 +30,17 @@ answering stack = flat_map answering_in stack
 abbrev pub leaving : List Frame → List ℕ
 leaving stack = flat_map leaving_in stack
 
--- a process that a caller starts is one of the mote's
-abbrev pub IsKnown : ℕ → First → Type 0
-IsKnown applications (First.Start q) = q.0 < 4 + applications
-IsKnown applications _ = Unit {0}
-
 -- what a frame may lie on
-abbrev pub LiesOn : ℕ → Frame → List Frame → Type 0
+abbrev pub LiesOn : Frame → List Frame → Type 0
 -- a process waits for one reply at a time
-LiesOn applications (Frame.Answer pid first reply) below = (is_one_of pid.0 (answering below) ≡ false) × IsKnown applications first
+LiesOn (Frame.Answer pid) below = is_one_of pid.0 (answering below) ≡ false
 -- it begins to leave when its activation is over, and leaves once
-LiesOn applications (Frame.Leave pid walk exits) below = (is_one_of pid.0 (answering below) ≡ false) × (is_one_of pid.0 (leaving below) ≡ false)
--- where it lies on a broadcast, a receiver's turn was begun with it, or no receiver is left
-LiesOn applications (Frame.Polls walk) below = (length below ≤ 1) × (on_top false has_receiver below ≡ false)
-LiesOn applications (Frame.Boot walk) below = (below ≡ []) × ((p : ℕ) → is_one_of p walk ≡ true → p < 4 + applications)
-LiesOn applications (Frame.Deliver is_polled) below = below ≡ []
-LiesOn applications (Frame.Callback pid number) below = below ≡ []
-LiesOn applications (Frame.Broadcast next walk event) below = below ≡ []
+LiesOn (Frame.Leave pid walk exits) below = (is_one_of pid.0 (answering below) ≡ false) × (is_one_of pid.0 (leaving below) ≡ false)
 
 -- each frame may lie on those below it
-abbrev pub IsNested : ℕ → List Frame → Type 0
-IsNested applications [] = Unit {0}
-IsNested applications (frame ∷ below) = LiesOn applications frame below × IsNested applications below
+abbrev pub IsNested : List Frame → Type 0
+IsNested [] = Unit {0}
+IsNested (frame ∷ below) = LiesOn frame below × IsNested below
 
 -- whether a process is on its way out
 abbrev pub has_ended : State → Bool
@@ -72,10 +57,10 @@ pub record IsAtTurn (processes : List Process) (stack : List Frame) (p : ℕ) : 
   pub active : is_in_activation (state_of p processes) ≡ true
   pub apart : is_one_of p (answering stack) ≡ false
 
--- the frames, the process list and the process at turn fit together
+-- the frames, the process list and the process that is at turn or is told a reply next fit together
 pub record IsSound (applications : ℕ) (processes : List Process) (stack : List Frame) (turn : Option Pid) : Type 0 where
   pub mote : IsOfMote applications processes
-  pub nested : IsNested applications stack
+  pub nested : IsNested stack
   pub answers : AreIn is_in_activation processes (answering stack)
   pub leaves : AreIn has_ended processes (leaving stack)
   pub at_turn : IfSome turn (λ p. IsAtTurn processes stack p.0)

@@ -1,18 +1,19 @@
 -- What the fields of the code's scheduler stand for, and what is always true of them.
-use Rattle.std.specs.Prelude.{◌≡◌, ℕ, ◌≤◌, [], ◌∷◌, map, Option, Some, None, IfSome}
+use Rattle.std.specs.Prelude.{◌≡◌, ℕ, ◌+◌, ◌<◌, ◌≤◌, true, List, map, Option, Some, None, reverse}
 use Rattle.mote_types.specs.declared.event.Pid.{Pid}
-use Rattle.process_core.specs.declared.awaited.Awaited.{Awaited}
-use Rattle.process_core.specs.declared.scheduler_fields.SchedulerFields.{SchedulerFields}
+use Rattle.process_core.specs.declared.front.Front.{Front}
+use Rattle.process_core.specs.declared.frame.Base.{Base}
 use Rattle.process_core.specs.declared.frame.Frame.{Frame}
+use Rattle.process_core.specs.declared.scheduler_fields.SchedulerFields.{SchedulerFields}
 use Rattle.process_core.specs.declared.queued.Queued as code
 use Rattle.mote_types.specs.declared.event.Event.{Event}
 use Rattle.mote_types.specs.declared.event.Stimulus.{Stimulus}
 use Rattle.process_core.specs.declared.ready.Ready.{Ready}
 use Rattle.process_core.specs.Agenda.{Queued}
-use Rattle.process_core.specs.Scheduler.{Scheduler}
+use Rattle.process_core.specs.Scheduler.{Scheduler, in_front}
 use Rattle.process_core.specs.SchedulerView.{SchedulerView}
-use Rattle.process_core.specs.OpenWork.{agenda_of}
-use Rattle.process_core.specs.Code.Nesting.{IsSound}
+use Rattle.process_core.specs.OpenWork.{front_items, behind_front}
+use Rattle.process_core.specs.Code.Nesting.{is_one_of, IsSound}
 
 abbrev pub queued_of : code.Queued → Queued ℕ
 queued_of (code.Queued.To pid event) = Queued.To pid.0 event
@@ -20,48 +21,70 @@ queued_of (code.Queued.ToAll event) = Queued.ToAll event
 queued_of (code.Queued.Expiry pid number arming) = Queued.Expiry pid.0 number arming
 
 -- the process whose call is awaited
-abbrev pub turn_in : Awaited → Option Pid
-turn_in (Awaited.Call pid) = Some pid
+abbrev pub turn_in : Front → Option Pid
+turn_in (Front.Call pid) = Some pid
 turn_in _ = None
 
+-- the process that is at turn, or is told a reply next
+abbrev pub active_in : Front → Option Pid
+active_in (Front.Call pid) = Some pid
+active_in (Front.Answer pid) = Some pid
+active_in _ = None
+
 -- the callback timer whose expiry may count
-abbrev pub callback_in : Awaited → Option (Pid × ℕ)
-callback_in (Awaited.Callback pid number) = Some (pid, number)
+abbrev pub callback_in : Front → Option (Pid × ℕ)
+callback_in (Front.Expiry pid number) = Some (pid, number)
 callback_in _ = None
 
 -- what is awaited after a job, if there is one
-abbrev pub awaited_after : Option Ready → Awaited
-awaited_after (Some (Ready.Give pid origin)) = Awaited.Call pid
-awaited_after (Some (Ready.Callback pid number arming)) = Awaited.Callback pid number
-awaited_after _ = Awaited.Nothing
+abbrev pub front_after : Option Ready → Front
+front_after (Some (Ready.Give pid origin)) = Front.Call pid
+front_after (Some (Ready.Callback pid number arming)) = Front.Expiry pid number
+front_after _ = Front.Nothing
 
 -- where a kernel process is to be served, the place that was lent holds an event
 abbrev pub HoldsEvent : Option Ready → Stimulus → Type 0
 HoldsEvent (Some (Ready.Serve pid)) told = (event : Event) × (told ≡ Stimulus.Event event)
 HoldsEvent _ told = Unit {0}
 
-abbrev pub scheduler_of : SchedulerFields → Scheduler ℕ
-scheduler_of d =
+-- the scheduler behind the front, with these frames as the stack, the topmost frame first
+abbrev pub scheduler_over : SchedulerFields → List Frame → Scheduler ℕ
+scheduler_over d stack =
     record {
       applications = d.applications;
       processes = d.processes;
       events = map queued_of d.events.items;
-      agenda = agenda_of d.stack;
+      agenda = behind_front d stack;
       next_event = d.next_event;
     }
 
-abbrev pub view_of : SchedulerFields → SchedulerView
-view_of d = record { state = scheduler_of d; turn = turn_in d.awaited; callback = callback_in d.awaited }
+abbrev pub scheduler_behind : SchedulerFields → Scheduler ℕ
+scheduler_behind d = scheduler_over d (reverse d.stack.items)
 
--- the fields fit together
-pub record IsInOrder (d : SchedulerFields) : Type 0 where
-  pub sound : IsSound d.applications d.processes d.stack (turn_in d.awaited)
-  -- an expiry is delivered at the end of a round, where no work is open
-  pub bare : IfSome (callback_in d.awaited) (λ _. d.stack ≡ [])
+abbrev pub scheduler_of : SchedulerFields → Scheduler ℕ
+scheduler_of d = in_front (front_items d.front d.reply d.synch) (scheduler_behind d)
+
+abbrev pub view_of : SchedulerFields → SchedulerView
+view_of d = record { state = scheduler_of d; turn = turn_in d.front; callback = callback_in d.front }
+
+-- a process that a caller starts is one of the mote's
+abbrev pub StartsKnown : ℕ → Front → Type 0
+StartsKnown applications (Front.Start p) = p.0 < 4 + applications
+StartsKnown applications _ = Unit {0}
+
+-- and so is each that boot starts
+abbrev pub BootsKnown : ℕ → Base → List ℕ → Type 0
+BootsKnown applications Base.Boot walk = (p : ℕ) → is_one_of p walk ≡ true → p < 4 + applications
+BootsKnown applications _ walk = Unit {0}
+
+-- the fields fit together, with these frames as the stack
+pub record IsOrdered (d : SchedulerFields) (stack : List Frame) : Type 0 where
+  pub sound : IsSound d.applications d.processes stack (active_in d.front)
+  pub starts : StartsKnown d.applications d.front
+  pub boots : BootsKnown d.applications d.base d.walk
   pub room : d.events.capacity ≡ 32
   pub few : d.applications ≤ 16
   pub numbers : d.next_event ≤ 256
 
--- the fields with one more frame on the stack
-abbrev pub with_frame : Frame → SchedulerFields → SchedulerFields
-with_frame frame d = record d { stack = frame ∷ d.stack }
+abbrev pub IsInOrder : SchedulerFields → Type 0
+IsInOrder d = IsOrdered d (reverse d.stack.items)

@@ -14,5 +14,5 @@ loop-number-preserved c =
 
 pub invariant_of-result : goal.invariant_of-result
 invariant_of-result c =
-    order_at_boot _ c.loop-number.starts.items (omega arith)
-    (c.loop-number.invariant.so_far ∙ ap (range_with_len 4) (omega arith)) (grind arith) (grind arith) (grind arith) refl refl
+    order_at_boot _ (omega arith) (c.over.ensures ∙ c.loop-number.invariant.so_far ∙ ap (range_with_len 4) (omega arith)) (grind arith) (grind arith) refl
+    (grind arith) refl refl

@@ -1,5 +1,5 @@
 use Rattle.std.proofs.Common.{sym, false}
-use Rattle.process_core.specs.Code.SchedulerFields.{scheduler_of}
+use Rattle.process_core.specs.Code.SchedulerFields.{scheduler_behind}
 use Rattle.process_core.proofs.Order.{order_marked}
 use Rattle.process_core.proofs.Yields.{poll_one_yields}
 use Rattle.process_core.proofs.scheduler_fields.SchedulerFields.poll_one.Goals as goal
@@ -11,5 +11,5 @@ give-requires-clause-order c =
 pub returns-clause-yields : goal.returns-clause-yields
 returns-clause-yields c =
     rw c.plain_event.ensures
-    (poll_one_yields (scheduler_of c.args.self.now) c.args.pid.0 _ _ (sym c.if-not-is_marked.ensures)
+    (poll_one_yields (scheduler_behind c.args.self.now) c.args.pid.0 _ _ (sym c.if-not-is_marked.ensures)
     (rw (c.set_mark.ensures, c.plain_event.ensures) at c.give.ensures.yields))

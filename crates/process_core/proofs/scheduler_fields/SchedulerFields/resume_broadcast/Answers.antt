@@ -1,17 +1,17 @@
-use Rattle.std.proofs.Common.{sym, ◌∙◌, refl}
-use Rattle.process_core.proofs.Unpolled.{IsUnpolled, receiver_not_begun, broadcast_given}
-use Rattle.process_core.specs.Code.Frames.{has_receiver}
+use Rattle.std.proofs.Common.{◌≡◌, true, false, sym, ◌∙◌}
+use Rattle.process_core.specs.Processes.{is_any_marked}
+use Rattle.process_core.proofs.Below.{received}
 use Rattle.process_core.proofs.scheduler_fields.SchedulerFields.resume_broadcast.Goals as goal
-use Rattle.process_core.proofs.scheduler_fields.SchedulerFields.resume_broadcast.Goals.{else-is_any_marked-via-then-is_any_marked+else-begin_receiver, else-is_any_marked-via-else-is_any_marked}
+use Rattle.process_core.proofs.scheduler_fields.SchedulerFields.resume_broadcast.Goals.{else-not-is_polled-via-then-not-is_polled+then-is_any_marked+else-not-is_over, else-not-is_polled-via-then-not-is_polled+else-is_any_marked, else-not-is_polled-via-else-not-is_polled}
 
 pub returns-in-Some-clause-yields : goal.returns-in-Some-clause-yields
 returns-in-Some-clause-yields c =
-    let unpolled : IsUnpolled has_receiver c.args.self.now c.else-is_any_marked.self = elim c.else-is_any_marked.branch [
-      | else-is_any_marked-via-then-is_any_marked+else-begin_receiver w ↦
-          let none = sym w.begin_receiver.ensures.value ∙ w.if-begin_receiver.false in
-          rw w.self-is record { same = rw (w.begin_receiver.ensures.left ∙ receiver_not_begun c.args.self.now.stack none) refl; ready = λ m. none }
-      | else-is_any_marked-via-else-is_any_marked w ↦
-          rw w.self-is record { same = refl; ready = λ m. absurd (cc) }
+    let unmarked : (c.args.is_polled ≡ false → is_any_marked c.args.self.now.processes ≡ false) = elim c.else-not-is_polled.branch [
+      | else-not-is_polled-via-then-not-is_polled+then-is_any_marked+else-not-is_over w ↦
+          λ e. let no : false ≡ true = rw c.in-Some.ensures at (sym w.is_over.ensures ∙ w.if-not-is_over.false) in absurd (cc)
+      | else-not-is_polled-via-then-not-is_polled+else-is_any_marked w ↦ λ e. sym w.is_any_marked.ensures ∙ w.if-is_any_marked.false
+      | else-not-is_polled-via-else-not-is_polled w ↦ λ e. absurd (cc)
     ] in
-    broadcast_given c.args.self.now c.else-is_any_marked.self c.requires.top unpolled c.in-Some.pid _ _ _ _ _
-    c.in-Some.ensures.value c.pass_receiver.ensures.told c.pass_receiver.ensures.left c.give.ensures.yields
+    rw c.tell.ensures
+    (received c.args.self.now c.args.is_polled c.in-Some.pid.0 c.advance.new.self _ _ c.requires.broadcasts c.requires.bare c.requires.unpolled c.in-Some.ensures unmarked
+    (rw c.tell.ensures at c.give.ensures.yields))

@@ -1,16 +1,13 @@
-use Rattle.std.proofs.Common.{sym, ◌∙◌, refl}
-use Rattle.process_core.proofs.Unpolled.{IsUnpolled, polls_not_begun, delivery_given}
-use Rattle.process_core.specs.Code.Frames.{wants_polls}
+use Rattle.std.proofs.Common.{◌≡◌, false, sym, ◌∙◌}
+use Rattle.process_core.specs.Processes.{is_any_marked}
+use Rattle.process_core.proofs.Below.{delivered}
 use Rattle.process_core.proofs.scheduler_fields.SchedulerFields.resume_deliver.Goals as goal
-use Rattle.process_core.proofs.scheduler_fields.SchedulerFields.resume_deliver.Goals.{else-is_any_marked-via-then-is_any_marked+else-begin_polls, else-is_any_marked-via-else-is_any_marked}
+use Rattle.process_core.proofs.scheduler_fields.SchedulerFields.resume_deliver.Goals.{else-not-is_polled-via-then-not-is_polled+else-is_any_marked, else-not-is_polled-via-else-not-is_polled}
 
 pub returns-clause-yields : goal.returns-clause-yields
 returns-clause-yields c =
-    let unpolled : IsUnpolled wants_polls c.args.self.now c.else-is_any_marked.self = elim c.else-is_any_marked.branch [
-      | else-is_any_marked-via-then-is_any_marked+else-begin_polls w ↦
-          let none = sym w.begin_polls.ensures.value ∙ w.if-begin_polls.false in
-          rw w.self-is record { same = rw (w.begin_polls.ensures.left ∙ polls_not_begun c.args.self.now.stack none) refl; ready = λ m. none }
-      | else-is_any_marked-via-else-is_any_marked w ↦
-          rw w.self-is record { same = refl; ready = λ m. absurd (cc) }
+    let unmarked : (c.args.is_polled ≡ false → is_any_marked c.args.self.now.processes ≡ false) = elim c.else-not-is_polled.branch [
+      | else-not-is_polled-via-then-not-is_polled+else-is_any_marked w ↦ λ e. sym w.is_any_marked.ensures ∙ w.if-is_any_marked.false
+      | else-not-is_polled-via-else-not-is_polled w ↦ λ e. absurd (cc)
     ] in
-    delivery_given c.args.self.now c.else-is_any_marked.self c.requires.top unpolled _ _ _ c.drop_top.ensures c.deliver.ensures.yields
+    delivered c.args.self.now c.args.is_polled _ _ c.requires.delivers c.requires.bare c.requires.unpolled unmarked c.deliver.ensures.yields

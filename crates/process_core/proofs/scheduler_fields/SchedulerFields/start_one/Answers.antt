@@ -1,5 +1,5 @@
 use Rattle.std.proofs.Common.{sym}
-use Rattle.process_core.specs.Code.SchedulerFields.{scheduler_of}
+use Rattle.process_core.specs.Code.SchedulerFields.{scheduler_behind}
 use Rattle.process_core.proofs.Order.{order_started}
 use Rattle.process_core.proofs.Yields.{start_yields}
 use Rattle.process_core.proofs.scheduler_fields.SchedulerFields.start_one.Goals as goal
@@ -11,5 +11,5 @@ give-requires-clause-order c =
 pub returns-in-Absent-clause-yields : goal.returns-in-Absent-clause-yields
 returns-in-Absent-clause-yields c =
     rw c.plain_event.ensures
-    (start_yields (scheduler_of c.args.self.now) c.args.pid.0 _ _ (sym c.in-Absent.ensures.value)
+    (start_yields (scheduler_behind c.args.self.now) c.args.pid.0 _ _ (sym c.in-Absent.ensures.value)
     (rw (c.add.ensures, c.plain_event.ensures) at c.give.ensures.yields))

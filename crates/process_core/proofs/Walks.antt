@@ -1,0 +1,38 @@
+-- What a walk comes to next.
+use Rattle.std.proofs.Common.{◌≡◌, ◌≤◌, ℕ, Bool, true, false, List, [], ◌∷◌, length, drop, refl, arith, Option, Some, None}
+use Rattle.std.specs.Prelude.{slice_get, IfNone}
+use Rattle.std.proofs.lemmas.Bool.Decides.{nat_tests}
+use Rattle.process_core.specs.declared.process.Process.{Process}
+use Rattle.process_core.specs.Processes.{is_marked}
+use Rattle.process_core.specs.Code.Walks.{from_marked}
+use Rattle.process_core.specs.Code.Nesting.{is_one_of}
+
+pub first_and_rest : {A : Type 0} (xs : List A) (x : A) → slice_get xs 0 ≡ Some x → xs ≡ x ∷ drop 1 xs
+first_and_rest [] x e = absurd (cc)
+first_and_rest (y ∷ xs) x e = let same : y ≡ x = cc in rw same refl
+
+pub none_first : {A : Type 0} (xs : List A) → slice_get xs 0 ≡ None → xs ≡ []
+none_first [] e = refl
+none_first (x ∷ xs) e = absurd (cc)
+
+pub length-from_marked : (list : List Process) (walk : List ℕ) → length (from_marked list walk) ≤ length walk
+length-from_marked list [] = omega arith
+length-from_marked list (p ∷ walk) = split (is_marked p list) refl (length-from_marked list walk)
+  where
+    split : (b : Bool) → is_marked p list ≡ b → length (from_marked list walk) ≤ length walk → length (from_marked list (p ∷ walk)) ≤ length (p ∷ walk)
+    split true e later = rw e (omega arith)
+    split false e later = rw e (omega (arith, later))
+
+-- the first of a walk is one of it, and so is each later one
+pub is_first_of : (walk : List ℕ) (p : ℕ) → slice_get walk 0 ≡ Some p → is_one_of p walk ≡ true
+is_first_of [] p e = absurd (cc)
+is_first_of (q ∷ walk) p e = let same : q ≡ p = cc in grind (arith, nat_tests, same)
+
+pub is_later_of : (walk : List ℕ) (p : ℕ) → is_one_of p (drop 1 walk) ≡ true → is_one_of p walk ≡ true
+is_later_of [] p e = e
+is_later_of (q ∷ walk) p e = grind (arith, nat_tests, e)
+
+-- what is true is true where there is none
+pub if_none : {A : Type 0} {P : Type 0} (x : Option A) → P → IfNone x P
+if_none None h = h
+if_none (Some x) h = tt

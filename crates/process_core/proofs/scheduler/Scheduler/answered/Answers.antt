@@ -1,6 +1,0 @@
-use Rattle.std.proofs.Common.{arith}
-use Rattle.process_core.proofs.Order.{room_on_stack}
-use Rattle.process_core.proofs.scheduler.Scheduler.answered.Goals as goal
-
-pub push-requires : goal.push-requires
-push-requires c = omega (arith, room_on_stack c.self.inside.fields c.self.invariant)

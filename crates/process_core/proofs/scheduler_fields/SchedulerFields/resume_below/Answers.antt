@@ -1,0 +1,46 @@
+use Rattle.std.proofs.Common.{◌≡◌, [], drop, length, sym, ap, arith, Some}
+use Rattle.process_core.specs.SchedulerView.{job_of}
+use Rattle.process_core.specs.Told.{job_told}
+use Rattle.process_core.specs.Code.SchedulerFields.{scheduler_behind}
+use Rattle.process_core.specs.Code.Walks.{from_marked}
+use Rattle.process_core.proofs.Below.{polls_yield, polls_end}
+use Rattle.process_core.proofs.Walks.{first_and_rest, none_first, length-from_marked, if_none}
+use Rattle.process_core.proofs.scheduler_fields.SchedulerFields.resume_below.Goals as goal
+
+pub returns-in-Some-clause-yields : goal.returns-in-Some-clause-yields
+returns-in-Some-clause-yields c =
+    let left = from_marked c.args.self.now.processes c.args.self.now.polls in
+    polls_yield c.args.self.now (drop 1 left) c.in-Some.pid.0 _ _ c.requires.bare (first_and_rest left c.in-Some.pid.0 (sym c.in-Some.ensures.next))
+    (rw c.in-Some.ensures.behind at c.poll_one.ensures.yields)
+
+pub returns-in-Some-clause-falls : goal.returns-in-Some-clause-falls
+returns-in-Some-clause-falls c =
+    let left = from_marked c.args.self.now.processes c.args.self.now.polls in
+    let shorter = ap length (first_and_rest left c.in-Some.pid.0 (sym c.in-Some.ensures.next)) in
+    rw (c.poll_one.ensures.kept, c.in-Some.ensures.behind)
+    (if_none c.poll_one.result (omega (arith, length-from_marked c.args.self.now.processes c.args.self.now.polls, shorter)))
+
+pub returns-in-Nothing-clause-yields : goal.returns-in-Nothing-clause-yields
+returns-in-Nothing-clause-yields c =
+    let none = none_first (from_marked c.args.self.now.processes c.args.self.now.polls) (sym c.in_default.ensures.next) in
+    let over : c.next_marked.new.self ≡ [] = rw none at c.in_default.ensures.behind in
+    polls_end c.args.self.now (Some (job_of (job_told c.begin_round.result c.args.told.now))) (scheduler_behind c.begin_round.new.self) c.requires.bare none
+    (rw over at (c.begin_round.ensures.yields c.args.told.now))
+
+pub returns-in-Boot-clause-yields : goal.returns-in-Boot-clause-yields
+returns-in-Boot-clause-yields c =
+    let none = none_first (from_marked c.args.self.now.processes c.args.self.now.polls) (sym c.in_default.ensures.next) in
+    let over : c.next_marked.new.self ≡ [] = rw none at c.in_default.ensures.behind in
+    polls_end c.args.self.now _ _ c.requires.bare none (rw over at c.resume_boot.ensures.yields)
+
+pub returns-in-Deliver-clause-yields : goal.returns-in-Deliver-clause-yields
+returns-in-Deliver-clause-yields c =
+    let none = none_first (from_marked c.args.self.now.processes c.args.self.now.polls) (sym c.in_default.ensures.next) in
+    let over : c.next_marked.new.self ≡ [] = rw none at c.in_default.ensures.behind in
+    polls_end c.args.self.now _ _ c.requires.bare none (rw over at c.resume_deliver.ensures.yields)
+
+pub returns-in-Broadcast-clause-yields : goal.returns-in-Broadcast-clause-yields
+returns-in-Broadcast-clause-yields c =
+    let none = none_first (from_marked c.args.self.now.processes c.args.self.now.polls) (sym c.in_default.ensures.next) in
+    let over : c.next_marked.new.self ≡ [] = rw none at c.in_default.ensures.behind in
+    polls_end c.args.self.now _ _ c.requires.bare none (rw over at c.resume_broadcast.ensures.yields)

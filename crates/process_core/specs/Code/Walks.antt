@@ -1,0 +1,27 @@
+-- Walks over the process list, and which comes next.
+use Rattle.std.specs.Prelude.{ℕ, Bool, true, false, ◌&&◌, ◌==◌, List, [], ◌∷◌, length, if◌then◌else◌}
+use Rattle.process_core.specs.declared.frame.Base.{Base}
+use Rattle.process_core.specs.declared.process.Process.{Process}
+use Rattle.process_core.specs.declared.scheduler_fields.SchedulerFields.{SchedulerFields}
+use Rattle.process_core.specs.Idle.{is_empty}
+use Rattle.process_core.specs.OpenWork.{front_items}
+use Rattle.process_core.specs.Processes.{is_kernel_process, is_marked}
+
+-- the rest of a walk from the first marked process on
+abbrev pub from_marked : List Process → List ℕ → List ℕ
+from_marked list [] = []
+from_marked list (p ∷ walk) = if is_marked p list then p ∷ walk else from_marked list walk
+
+-- the rest of a walk from the first application on
+abbrev pub from_application : List ℕ → List ℕ
+from_application [] = []
+from_application (p ∷ walk) = if is_kernel_process p then from_application walk else p ∷ walk
+
+abbrev pub is_broadcast : Base → Bool
+is_broadcast (Base.Broadcast false) = true
+is_broadcast _ = false
+
+-- whether a receiver of a broadcast comes next, if one is left, with a poll round before it
+abbrev pub receiver_is_next : SchedulerFields → Bool
+receiver_is_next d =
+    is_empty (front_items d.front d.reply d.synch) && ((length d.stack.items == 0) && (is_empty d.polls && is_broadcast d.base))
