@@ -1,6 +1,6 @@
 -- The clock, the names of the cells and the codes in the queue, step by step.
-use Rattle.std.proofs.Common.{◌≡◌, ℕ, ◌+◌, Bool, true, List, [], ◌∷◌, ◌++◌, length, refl, ◌∙◌, arith}
-use Rattle.std.specs.Prelude.{Option, Some, None, drop, nat_le}
+use Rattle.std.proofs.Common.{◌≡◌, ℕ, ◌+◌, true, List, [], ◌∷◌, ◌++◌, length, refl, ◌∙◌, arith}
+use Rattle.std.specs.Prelude.{Option, Some, None, nat_le}
 use Rattle.std.specs.List.{list_all}
 use Rattle.std.proofs.lemmas.Bool.Decides.{nat_tests}
 use Rattle.mote_types.specs.declared.call.Call.{Call}
@@ -11,8 +11,8 @@ use Rattle.mote_types.specs.declared.event.Origin.{Origin}
 use Rattle.mote_types.specs.declared.entry.Input.{Input}
 use Rattle.mote_types.specs.declared.entry.Note.{Note}
 use Rattle.mote_types.specs.declared.entry.Entry.{Entry}
-use Rattle.process_core.specs.Agenda.{Queued, Item}
-use Rattle.process_core.specs.Scheduler.{Scheduler, carried_out, in_front}
+use Rattle.process_core.specs.Agenda.{Item}
+use Rattle.process_core.specs.Scheduler.{carried_out, in_front}
 use Rattle.device_core.specs.PacketQueue.{free_slot}
 use Rattle.timer_core.specs.Names.{all_timers}
 use Rattle.kernel_core.specs.Machine.{Machine, scheduled}
