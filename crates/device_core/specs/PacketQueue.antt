@@ -16,6 +16,7 @@ pub record PacketQueue : Type 0 where
 abbrev pub receiver_number : Pid → ℕ
 receiver_number pid = pid.0
 
+-- no frame has come yet, and no process has asked for them
 abbrev pub no_packets : PacketQueue
 no_packets = record { frames = []; announced = 0; receiver = None }
 
@@ -37,6 +38,7 @@ with_frame slot len queue = record queue { frames = queue.frames ++ record { slo
 abbrev pub arrived : ℕ → PacketQueue → PacketQueue
 arrived len queue = option_map_or (λ slot. with_frame slot len queue) (free_slot queue) queue
 
+-- the frame that came first
 abbrev pub front : PacketQueue → Option Frame
 front queue = slice_get queue.frames 0
 
@@ -47,6 +49,7 @@ front_slot queue = option_map (λ frame. frame.slot) (front queue)
 abbrev pub unannounced : PacketQueue → Option Frame
 unannounced queue = slice_get queue.frames queue.announced
 
+-- the receiver was told of one more
 abbrev pub with_announced : PacketQueue → PacketQueue
 with_announced queue = record queue { announced = queue.announced + 1 }
 

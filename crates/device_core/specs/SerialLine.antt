@@ -11,6 +11,7 @@ pub record SerialLine : Type 0 where
   -- the beginning of a line, at most 127 bytes
   pub line : List ℕ
 
+-- no byte has come yet
 abbrev pub quiet_line : SerialLine
 quiet_line = record { ring = []; overflow = false; line = [] }
 

@@ -11,7 +11,7 @@ use Rattle.heap_core.specs.HeapStore.{gaps, gap_at, footprint, least_room, room_
 use Rattle.heap_core.specs.Chunks.{shortest, least_len, Tell, AreJoined}
 use Rattle.heap_core.specs.Layout.{chunks_of, HasChunks, store_of}
 use Rattle.heap_core.specs.Code.Walks.{gap_of, front_gap, place_in_chunk, LeavesGap, IsWholeRoom}
-use Rattle.heap_core.proofs.Told.{place_told, told_le, owner_cases}
+use Rattle.heap_core.proofs.ChunkHeaders.{place_told, told_le, owner_cases}
 use Rattle.heap_core.proofs.Gaps.{with_gap, gaps_in, gaps_are, end_is}
 use Rattle.heap_core.proofs.Standing.{Around}
 

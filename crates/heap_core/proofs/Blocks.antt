@@ -5,7 +5,7 @@ use Rattle.std.proofs.lemmas.Bool.{lt-ltb, le-ltb, ltb-true, ne_eqb, cases_Bool}
 use Rattle.heap_core.specs.declared.chunk.Chunk.{Chunk}
 use Rattle.heap_core.specs.HeapStore.{Block, placed, has_name}
 use Rattle.heap_core.specs.Chunks.{least_len, Tell, with_chunk, blocks_in}
-use Rattle.heap_core.proofs.Told.{place_told, told_le, owner_cases}
+use Rattle.heap_core.proofs.ChunkHeaders.{place_told, told_le, owner_cases}
 
 -- the blocks begin between two places
 abbrev pub Between : ℕ → ℕ → List Block → Type 0

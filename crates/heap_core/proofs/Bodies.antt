@@ -19,7 +19,7 @@ use Rattle.heap_core.specs.HeapBytes.{heap_of}
 use Rattle.heap_core.specs.Layout.{chunks_of, store_of}
 use Rattle.heap_core.proofs.Stored.{IsStored}
 use Rattle.heap_core.specs.Code.Walks.{Owned, block_in_chunk, without_place}
-use Rattle.heap_core.proofs.Told.{told_body, changes_more, blocks_append}
+use Rattle.heap_core.proofs.ChunkHeaders.{told_body, changes_more, blocks_append}
 use Rattle.heap_core.proofs.Names.{count_append, count_first, map_unnamed, filter_unnamed, keeps_name}
 use Rattle.heap_core.specs.FreeList.{unnamed}
 use Rattle.heap_core.proofs.Freed.{filter_swap, filter_map}

@@ -17,7 +17,7 @@ use Rattle.heap_core.specs.Places.{ArePlaced}
 use Rattle.heap_core.specs.HeapBytes.{heap_of, IsWithin, IsLaidOut, KeepsToSpan}
 use Rattle.heap_core.specs.Separation.{BlocksLieApart}
 use Rattle.heap_core.proofs.Separation.{blocks_lie_apart}
-use Rattle.heap_core.proofs.Told.{told_frame, blocks_frame, walked}
+use Rattle.heap_core.proofs.ChunkHeaders.{told_frame, blocks_frame, walked}
 
 pub IsWithin-kept : (old new : Region) (before after : Contents) → KeepsToSpan old new before after → IsWithin old before.bytes → IsWithin new after.bytes
 IsWithin-kept old new before after kept within =

@@ -11,7 +11,7 @@ use Rattle.heap_core.specs.Code.Links.{Cleared}
 use Rattle.heap_core.specs.Code.Walks.{chunks_before, chunks_behind, free_from, front_gap}
 use Rattle.heap_core.proofs.Releases.{from_below, end_below, cleared_top, cleared_gap}
 use Rattle.heap_core.proofs.Standing.{Around, around, before_is, behind_is}
-use Rattle.heap_core.proofs.Told.{chunk_of}
+use Rattle.heap_core.proofs.ChunkHeaders.{chunk_of}
 
 -- where the free bytes begin and end that it becomes a part of
 pub record Sides (heap : Region) (chunk : Chunk) (from end : ℕ) : Type 0 where

@@ -23,7 +23,7 @@ use Rattle.heap_core.proofs.Members.{In, in_of, in_right, in_without, stands_of,
 use Rattle.heap_core.proofs.Releases.{left_apart}
 use Rattle.heap_core.proofs.Splice.{Spliced, spliced, joined_swap, joined_behind}
 use Rattle.heap_core.proofs.Standing.{Around, around}
-use Rattle.heap_core.proofs.Told.{blocks_append, changes_more}
+use Rattle.heap_core.proofs.ChunkHeaders.{blocks_append, changes_more}
 
 pub filter_swap : (p q : Block → Bool) (xs : List Block) → filter p (filter q xs) ≡ filter q (filter p xs)
 filter_swap p q [] = refl

@@ -7,7 +7,7 @@ use Rattle.heap_core.specs.declared.chunk.Gap.{Gap}
 use Rattle.heap_core.specs.HeapStore.{Block, end_of, gap_between, gaps_from, better, best_gap}
 use Rattle.heap_core.specs.Chunks.{least_len, Tell, BeginsLive, AreJoined, with_chunk, blocks_in}
 use Rattle.heap_core.specs.FreeList.{with_free, gaps_among}
-use Rattle.heap_core.proofs.Told.{place_told, owner_cases}
+use Rattle.heap_core.proofs.ChunkHeaders.{place_told, owner_cases}
 
 abbrev pub with_gap : Chunk → Option ℕ → List Gap → List Gap
 with_gap c None gaps = record { at = c.at; len = c.len } ∷ gaps

@@ -24,7 +24,7 @@ use Rattle.heap_core.proofs.Releases.{r, end_below, left_apart}
 use Rattle.heap_core.proofs.Splice.{Spliced, spliced, joined_swap, joined_behind, whole_at, laid_all, laid_some}
 use Rattle.heap_core.proofs.Standing.{Around, around, behind_is}
 use Rattle.heap_core.proofs.Steps.{ended}
-use Rattle.heap_core.proofs.Told.{told_frame, blocks_frame, blocks_append}
+use Rattle.heap_core.proofs.ChunkHeaders.{told_frame, blocks_frame, blocks_append}
 
 -- the chunks that are laid: the live one, and what it leaves
 module _ (header : ℕ) (B B' : List ℕ) (b : ℕ) (live : Chunk) (name : ℕ) (owner : live.owner ≡ Some name) where

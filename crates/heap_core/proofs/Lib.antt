@@ -29,6 +29,6 @@ pub mod Standing
 pub mod Steps
 pub mod Stored
 pub mod Sums
-pub mod Told
+pub mod ChunkHeaders
 pub mod Walked
 pub mod WrittenHeaders

@@ -13,7 +13,7 @@ use Rattle.heap_core.specs.Code.Links.{gap_count, chunks_along, Follow, lower, h
 use Rattle.heap_core.specs.Code.Walks.{free_behind, free_from}
 use Rattle.heap_core.proofs.Standing.{Around}
 use Rattle.heap_core.proofs.Steps.{ended}
-use Rattle.heap_core.proofs.Told.{Split, place_told, told_le, told_split, owner_cases}
+use Rattle.heap_core.proofs.ChunkHeaders.{Split, place_told, told_le, told_split, owner_cases}
 
 with_free_append : (c : Chunk) (o : Option ℕ) (xs ys : List Chunk) → with_free c o (xs ++ ys) ≡ with_free c o xs ++ ys
 with_free_append c None xs ys = refl

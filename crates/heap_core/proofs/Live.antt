@@ -12,7 +12,7 @@ use Rattle.heap_core.specs.Chunks.{shortest, least_len, Tell, AreJoined, with_ch
 use Rattle.heap_core.specs.Code.Walks.{block_in_chunk}
 use Rattle.heap_core.proofs.Freed.{owner_named}
 use Rattle.heap_core.proofs.Gaps.{last_end}
-use Rattle.heap_core.proofs.Told.{place_told, told_le}
+use Rattle.heap_core.proofs.ChunkHeaders.{place_told, told_le}
 
 abbrev pub live_of : ℕ → List ℕ → ℕ → List Chunk → List Block
 live_of header B b l = filter is_named (blocks_in header B b l)

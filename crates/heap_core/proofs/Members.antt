@@ -5,7 +5,7 @@ use Rattle.std.proofs.lemmas.List.Elements.{All-head, All-tail}
 use Rattle.heap_core.specs.declared.chunk.Chunk.{Chunk}
 use Rattle.heap_core.specs.Chunks.{least_len, Tell}
 use Rattle.heap_core.specs.FreeList.{Stands, LiveIn}
-use Rattle.heap_core.proofs.Told.{place_told, told_le}
+use Rattle.heap_core.proofs.ChunkHeaders.{place_told, told_le}
 
 abbrev pub In : Chunk → List Chunk → Type 0
 In c [] = ⊥

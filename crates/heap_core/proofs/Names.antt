@@ -9,7 +9,7 @@ use Rattle.heap_core.specs.declared.chunk.Chunk.{Chunk}
 use Rattle.heap_core.specs.HeapStore.{Block, has_name, placed}
 use Rattle.heap_core.specs.Chunks.{with_chunk, blocks_in}
 use Rattle.heap_core.specs.Code.Walks.{is_owner, owned_by, Owned, block_in_chunk}
-use Rattle.heap_core.proofs.Told.{owner_cases}
+use Rattle.heap_core.proofs.ChunkHeaders.{owner_cases}
 use Rattle.heap_core.proofs.Blocks.{count}
 
 pub find_is : (header : ℕ) (B : List ℕ) (b name : ℕ) (l : List Chunk) → find (has_name name) (blocks_in header B b l) ≡ option_map (block_in_chunk header B b name) (find (owned_by name) l)

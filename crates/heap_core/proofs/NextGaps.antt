@@ -11,7 +11,7 @@ use Rattle.heap_core.specs.Code.Links.{gap_from}
 use Rattle.heap_core.specs.Code.Walks.{gap_of, front_gap}
 use Rattle.heap_core.proofs.Lists.{linked_parted, linked_gap, linked_live, ends_of}
 use Rattle.heap_core.proofs.Standing.{Around, around}
-use Rattle.heap_core.proofs.Told.{place_told, owner_cases}
+use Rattle.heap_core.proofs.ChunkHeaders.{place_told, owner_cases}
 
 -- a list that leads to these gaps begins at one place alone
 linked_same : (one other end : Option ℕ) (l : List Chunk) → LinkedTo one l end → LinkedTo other l end → one ≡ other

@@ -15,7 +15,7 @@ use Rattle.heap_core.specs.Code.Links.{gap_count, Cleared}
 use Rattle.heap_core.specs.Code.Walks.{free_behind, free_from, gap_of, front_gap}
 use Rattle.heap_core.proofs.Lists.{gaps_append, gaps_counted, count_some, count_none, gap_first, live_first, link_gap}
 use Rattle.heap_core.proofs.Members.{In, in_of, in_without, in_skip, stands_of}
-use Rattle.heap_core.proofs.Told.{place_told, told_le, blocks_append, owner_cases, changes_more}
+use Rattle.heap_core.proofs.ChunkHeaders.{place_told, told_le, blocks_append, owner_cases, changes_more}
 use Rattle.heap_core.proofs.Gaps.{none_in_front}
 use Rattle.heap_core.proofs.Blocks.{blocks_between, elsewhere, filter_elsewhere}
 use Rattle.heap_core.proofs.Splice.{Spliced, spliced, joined_behind, whole_at}

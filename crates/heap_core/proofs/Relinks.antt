@@ -15,7 +15,7 @@ use Rattle.heap_core.proofs.Lists.{gaps_counted, gap_first, linked_append, linke
 use Rattle.heap_core.proofs.Members.{live_exchanged}
 use Rattle.heap_core.proofs.Splice.{Spliced, spliced, joined_swap, joined_behind}
 use Rattle.heap_core.proofs.Standing.{Around, around, split_at, before_is, behind_is}
-use Rattle.heap_core.proofs.Told.{told_le, blocks_append, changes_more}
+use Rattle.heap_core.proofs.ChunkHeaders.{told_le, blocks_append, changes_more}
 
 module _ (heap : Region) (B B' : List ℕ) (gap : Chunk) (first : Option ℕ) (has : HasChunks heap B) (stands : Stands gap (chunks_of heap B)) (free : gap.owner ≡ None) where
   abbrev b : ℕ

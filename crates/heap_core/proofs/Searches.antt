@@ -13,7 +13,7 @@ use Rattle.heap_core.specs.FreeList.{LinkedTo}
 use Rattle.heap_core.specs.Code.Links.{Follow, gaps_from_place}
 use Rattle.heap_core.proofs.Gaps.{better_chunk, better_same, gaps_are}
 use Rattle.heap_core.proofs.Lists.{NextGap, walk_begins, next_gap, no_gap}
-use Rattle.heap_core.proofs.Told.{place_told}
+use Rattle.heap_core.proofs.ChunkHeaders.{place_told}
 
 -- the shorter one of the best gap yet, if there is one, and this one
 abbrev shorter_of : Option Gap → Chunk → Gap

@@ -16,7 +16,7 @@ use Rattle.heap_core.proofs.Bodies.{a, block_bytes}
 use Rattle.heap_core.proofs.Members.{In, in_of, in_told}
 use Rattle.heap_core.proofs.Names.{find_is, owned}
 use Rattle.heap_core.proofs.Stored.{IsStored, stored, find_named, name_small}
-use Rattle.heap_core.proofs.Told.{place_told}
+use Rattle.heap_core.proofs.ChunkHeaders.{place_told}
 
 -- of two chunks one is the other, or they lie apart
 told_apart : (header : ℕ) (B : List ℕ) (b x y : ℕ) (c d : Chunk) (l : List Chunk) → Tell header B b x y l → In c l → In d l → (c ≡ d) ⊎ ((c.at + c.len ≤ d.at) ⊎ (d.at + d.len ≤ c.at))

@@ -12,7 +12,7 @@ use Rattle.heap_core.specs.Layout.{chunks_of, store_of, HasChunks}
 use Rattle.heap_core.specs.FreeList.{LiveIn}
 use Rattle.heap_core.specs.Code.Walks.{laid}
 use Rattle.heap_core.proofs.Members.{In, in_of, in_left, in_right, in_cases, stands_of}
-use Rattle.heap_core.proofs.Told.{told_le, told_append, told_frame, blocks_frame, blocks_append, walked}
+use Rattle.heap_core.proofs.ChunkHeaders.{told_le, told_append, told_frame, blocks_frame, blocks_append, walked}
 
 -- joined chunks stay joined where what comes after a gap still begins with a live one
 begins_swap : (pre old new : List Chunk) → (BeginsLive old → BeginsLive new) → BeginsLive (pre ++ old) → BeginsLive (pre ++ new)

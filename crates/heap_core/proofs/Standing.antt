@@ -6,7 +6,7 @@ use Rattle.heap_core.specs.Chunks.{least_len, chunk_at, Tell}
 use Rattle.heap_core.specs.Layout.{chunks_of, HasChunks}
 use Rattle.heap_core.specs.FreeList.{Stands}
 use Rattle.heap_core.specs.Code.Walks.{chunks_before, chunks_behind}
-use Rattle.heap_core.proofs.Told.{place_told, told_le, told_split, walked}
+use Rattle.heap_core.proofs.ChunkHeaders.{place_told, told_le, told_split, walked}
 
 pub record Around (header : ℕ) (B : List ℕ) (b end : ℕ) (chunk : Chunk) (chunks : List Chunk) : Type 0 where
   pub before : List Chunk

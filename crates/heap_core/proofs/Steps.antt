@@ -4,7 +4,7 @@ use Rattle.heap_core.specs.declared.chunk.Chunk.{Chunk}
 use Rattle.heap_core.specs.Chunks.{least_len, chunk_at, Tell}
 use Rattle.heap_core.specs.declared.region.Region.{Region}
 use Rattle.heap_core.specs.Code.Walks.{chunks_between}
-use Rattle.heap_core.proofs.Told.{place_told, told_le, walked}
+use Rattle.heap_core.proofs.ChunkHeaders.{place_told, told_le, walked}
 
 -- the first of the chunks that a walk has still to come to, and the others
 pub record First (header : ℕ) (B : List ℕ) (b end : ℕ) (chunk : Chunk) (later : List Chunk) : Type 0 where

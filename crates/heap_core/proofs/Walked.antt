@@ -10,7 +10,7 @@ use Rattle.heap_core.specs.Layout.{chunks_of, HasChunks}
 use Rattle.heap_core.specs.FreeList.{gaps_among, LinkedTo}
 use Rattle.heap_core.specs.Code.Links.{Follow, lower, higher, gap_below, gap_from, gaps_from_place}
 use Rattle.heap_core.proofs.Lists.{gap_first, live_first, walk_begins, next_gap, no_gap, followed, NextGap}
-use Rattle.heap_core.proofs.Told.{place_told, owner_cases}
+use Rattle.heap_core.proofs.ChunkHeaders.{place_told, owner_cases}
 
 -- each of these begins at that place or above it, and above those before it
 abbrev pub Ascend : ℕ → List Chunk → Type 0

@@ -9,7 +9,7 @@ use Rattle.arena_core.specs.Outside.{ChangesOnly}
 use Rattle.arena_core.specs.Written.{written}
 use Rattle.arena_core.proofs.Ranges.{range-written, range-written_apart, changes_only}
 use Rattle.heap_core.specs.Chunks.{word_at, number_in, is_a_name, owner_in, size_in, chunk_at}
-use Rattle.heap_core.proofs.Told.{chunk_of, chunk_is, link_named, link_free, changes_then, changes_more}
+use Rattle.heap_core.proofs.ChunkHeaders.{chunk_of, chunk_is, link_named, link_free, changes_then, changes_more}
 
 -- in Y that word stands at i, and all else is as in X
 record WordPut (X Y : List ℕ) (i word : ℕ) : Type 0 where

@@ -113,6 +113,7 @@ with_block block heap = record heap { blocks = placed block heap.blocks }
 abbrev pub without_block : ℕ → HeapStore → HeapStore
 without_block name heap = record heap { blocks = filter (λ block. not (has_name name block)) heap.blocks }
 
+-- a block of these bytes, put there
 abbrev pub block_at : Place → ℕ → List ℕ → Block
 block_at place name bytes = record { name = name; at = place.at; room = place.room; bytes = bytes }
 
@@ -174,6 +175,7 @@ with_bytes p h at bytes heap =
       blocks = map (λ block. if has_name (number_of p h) block then record block { bytes = overwritten at bytes block.bytes } else block) heap.blocks;
     }
 
+-- what heap-stats answers
 abbrev pub stats_of : HeapStore → HeapStats
 stats_of heap =
     record {

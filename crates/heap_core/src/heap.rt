@@ -73,7 +73,7 @@ impl Heap {
         self.region.join(arena);
         let place = self.region.place(arena, n)?;
         let name = number_of(key);
-        self.region.settle(arena, place, name as u32, n, None);
+        self.region.put_block(arena, place, name as u32, n, None);
         self.region.places[name] = Some(place.at);
         Some(())
     }

@@ -12,7 +12,7 @@ mod chunks;
 mod gap_list;
 mod headers;
 mod heap;
-mod layout;
+mod split_and_join;
 mod region;
 mod search;
 

@@ -10,7 +10,7 @@ use Rattle.process_core.specs.Agenda.{Queued, Item, Job}
 use Rattle.process_core.specs.declared.process.Process.{Process}
 use Rattle.process_core.specs.Processes.{numbers, is_process, is_kernel_process}
 use Rattle.kernel_core.specs.Code.Cost.{starts, present, cost, costs, IsPaid}
-use Rattle.process_core.specs.Scheduler.{Scheduler, worked, job, in_front, carried_out, delivery, first_event, of_event, job_of_event, job_of_give, job_of_item, job_at, worked_at, wants_round, settled, ComesTo}
+use Rattle.process_core.specs.Scheduler.{Scheduler, after_front, job, in_front, after_item, delivery, first_event, of_event, job_of_event, job_of_give, job_of_item, job_at, after_front_of, wants_round, after_items, ComesTo}
 
 starts-append : (xs ys : List Item) → starts (xs ++ ys) ≡ starts xs + starts ys
 starts-append [] ys = omega arith
@@ -43,24 +43,24 @@ length-without keep [] = omega arith
 length-without keep (process ∷ list) = grind (arith, length-without keep list)
 
 -- no item makes more processes than it stands for
-carried_out-present : (item : Item) (s : Scheduler ℕ) → present (carried_out item s) ≤ starts (item ∷ []) + present s
-carried_out-present (Item.Start p) s = grind arith
-carried_out-present (Item.Give p origin stimulus) s = grind (arith, length-map)
-carried_out-present (Item.GiveExit p) s = grind (arith, length-map)
-carried_out-present (Item.Remove p) s = grind (arith, length-without (λ process. not (is_process p process)) s.processes)
-carried_out-present Item.Polls s = grind (arith, starts-append, starts-polls (numbers s.processes))
-carried_out-present (Item.PollOne p) s = grind (arith, length-map)
-carried_out-present Item.Deliver s = grind (arith, starts-append, starts-delivery (numbers s.processes) (first_event s))
-carried_out-present (Item.Turn p origin stimulus) s = omega arith
-carried_out-present (Item.Show entry) s = omega arith
+after_item-present : (item : Item) (s : Scheduler ℕ) → present (after_item item s) ≤ starts (item ∷ []) + present s
+after_item-present (Item.Start p) s = grind arith
+after_item-present (Item.Give p origin stimulus) s = grind (arith, length-map)
+after_item-present (Item.GiveExit p) s = grind (arith, length-map)
+after_item-present (Item.Remove p) s = grind (arith, length-without (λ process. not (is_process p process)) s.processes)
+after_item-present Item.Polls s = grind (arith, starts-append, starts-polls (numbers s.processes))
+after_item-present (Item.PollOne p) s = grind (arith, length-map)
+after_item-present Item.Deliver s = grind (arith, starts-append, starts-delivery (numbers s.processes) (first_event s))
+after_item-present (Item.Turn p origin stimulus) s = omega arith
+after_item-present (Item.Show entry) s = omega arith
 
-worked_at-present : (agenda : List Item) (s : Scheduler ℕ) → s.agenda ≡ agenda → present (worked_at agenda s) ≤ present s
-worked_at-present [] s e = grind arith
-worked_at-present (item ∷ items) s e =
-    grind (arith, carried_out-present item (record s { agenda = items }), starts-append (item ∷ []) items, e)
+after_front_of-present : (agenda : List Item) (s : Scheduler ℕ) → s.agenda ≡ agenda → present (after_front_of agenda s) ≤ present s
+after_front_of-present [] s e = grind arith
+after_front_of-present (item ∷ items) s e =
+    grind (arith, after_item-present item (record s { agenda = items }), starts-append (item ∷ []) items, e)
 
-worked-present : (s : Scheduler ℕ) → present (worked s) ≤ present s
-worked-present s = worked_at-present s.agenda s refl
+after_front-present : (s : Scheduler ℕ) → present (after_front s) ≤ present s
+after_front-present s = after_front_of-present s.agenda s refl
 
 module _ (bound : ℕ) where
   costs-nil : costs bound [] ≡ 0
@@ -96,22 +96,22 @@ module _ (bound : ℕ) where
   costs-delivery ns None h = rw costs-nil (omega arith)
 
   -- an item that is worked off costs bound a step at least
-  carried_out-costs : (item : Item) (s : Scheduler ℕ) → length s.processes ≤ bound
-      → costs bound (carried_out item s).agenda + 1 ≤ cost bound item + costs bound s.agenda
-  carried_out-costs Item.Deliver s h =
+  after_item-costs : (item : Item) (s : Scheduler ℕ) → length s.processes ≤ bound
+      → costs bound (after_item item s).agenda + 1 ≤ cost bound item + costs bound s.agenda
+  after_item-costs Item.Deliver s h =
       let listed : length (numbers s.processes) ≡ length s.processes = length-map s.processes (λ process. process.number) in
       let few : length (numbers s.processes) ≤ bound = omega (arith, listed) in
       rw (costs-append (delivery (numbers s.processes) (first_event s)) s.agenda)
       (omega (arith, costs-delivery (numbers s.processes) (first_event s) few))
-  carried_out-costs Item.Polls s h =
+  after_item-costs Item.Polls s h =
       grind (arith, costs-append (map (λ p. Item.PollOne p) (numbers s.processes)) s.agenda, costs-polls (numbers s.processes), length-map)
-  carried_out-costs (Item.Start p) s h = grind (arith, costs-cons, costs-nil)
-  carried_out-costs (Item.Give p origin stimulus) s h = grind (arith, costs-cons, costs-nil)
-  carried_out-costs (Item.Turn p origin stimulus) s h = omega arith
-  carried_out-costs (Item.GiveExit p) s h = grind (arith, costs-cons, costs-nil)
-  carried_out-costs (Item.Remove p) s h = omega arith
-  carried_out-costs (Item.PollOne p) s h = grind (arith, costs-cons, costs-nil)
-  carried_out-costs (Item.Show entry) s h = omega arith
+  after_item-costs (Item.Start p) s h = grind (arith, costs-cons, costs-nil)
+  after_item-costs (Item.Give p origin stimulus) s h = grind (arith, costs-cons, costs-nil)
+  after_item-costs (Item.Turn p origin stimulus) s h = omega arith
+  after_item-costs (Item.GiveExit p) s h = grind (arith, costs-cons, costs-nil)
+  after_item-costs (Item.Remove p) s h = omega arith
+  after_item-costs (Item.PollOne p) s h = grind (arith, costs-cons, costs-nil)
+  after_item-costs (Item.Show entry) s h = omega arith
 
   paid_round : (is_work : Bool) (s : Scheduler ℕ) → s.agenda ≡ [] →
       IsPaid bound (Some (if is_work then Job.Round else Job.Rest)) (costs bound [])
@@ -138,26 +138,26 @@ module _ (bound : ℕ) where
   paid_give p (Stimulus.Callback c) old new h = h
 
   paid_item : (item : Item) (s : Scheduler ℕ) (items : List Item) → length s.processes ≤ bound →
-      IsPaid bound (job_of_item item s) (cost bound item + costs bound items) (costs bound (carried_out item (record s { agenda = items })).agenda)
+      IsPaid bound (job_of_item item s) (cost bound item + costs bound items) (costs bound (after_item item (record s { agenda = items })).agenda)
   paid_item (Item.Give p origin stimulus) s items h =
-      paid_give p stimulus _ _ (carried_out-costs (Item.Give p origin stimulus) (record s { agenda = items }) h)
+      paid_give p stimulus _ _ (after_item-costs (Item.Give p origin stimulus) (record s { agenda = items }) h)
   paid_item Item.Deliver s items h =
       let listed : length (numbers s.processes) ≡ length s.processes = length-map s.processes (λ process. process.number) in
       paid_delivery (first_event s) items (numbers s.processes) (omega (arith, listed))
-  paid_item (Item.Turn p origin stimulus) s items h = carried_out-costs (Item.Turn p origin stimulus) (record s { agenda = items }) h
-  paid_item (Item.Show entry) s items h = carried_out-costs (Item.Show entry) (record s { agenda = items }) h
-  paid_item (Item.Start p) s items h = carried_out-costs (Item.Start p) (record s { agenda = items }) h
-  paid_item (Item.GiveExit p) s items h = carried_out-costs (Item.GiveExit p) (record s { agenda = items }) h
-  paid_item (Item.Remove p) s items h = carried_out-costs (Item.Remove p) (record s { agenda = items }) h
-  paid_item Item.Polls s items h = carried_out-costs Item.Polls (record s { agenda = items }) h
-  paid_item (Item.PollOne p) s items h = carried_out-costs (Item.PollOne p) (record s { agenda = items }) h
+  paid_item (Item.Turn p origin stimulus) s items h = after_item-costs (Item.Turn p origin stimulus) (record s { agenda = items }) h
+  paid_item (Item.Show entry) s items h = after_item-costs (Item.Show entry) (record s { agenda = items }) h
+  paid_item (Item.Start p) s items h = after_item-costs (Item.Start p) (record s { agenda = items }) h
+  paid_item (Item.GiveExit p) s items h = after_item-costs (Item.GiveExit p) (record s { agenda = items }) h
+  paid_item (Item.Remove p) s items h = after_item-costs (Item.Remove p) (record s { agenda = items }) h
+  paid_item Item.Polls s items h = after_item-costs Item.Polls (record s { agenda = items }) h
+  paid_item (Item.PollOne p) s items h = after_item-costs (Item.PollOne p) (record s { agenda = items }) h
 
   paid_at : (agenda : List Item) (s : Scheduler ℕ) → s.agenda ≡ agenda → length s.processes ≤ bound →
-      IsPaid bound (job_at agenda s) (costs bound agenda) (costs bound (worked_at agenda s).agenda)
+      IsPaid bound (job_at agenda s) (costs bound agenda) (costs bound (after_front_of agenda s).agenda)
   paid_at [] s e h = paid_round (wants_round s) s e
   paid_at (item ∷ items) s e h = rw (costs-cons item items) (paid_item item s items h)
 
-  paid : (s : Scheduler ℕ) → present s ≤ bound → IsPaid bound (job s) (costs bound s.agenda) (costs bound (worked s).agenda)
+  paid : (s : Scheduler ℕ) → present s ≤ bound → IsPaid bound (job s) (costs bound s.agenda) (costs bound (after_front s).agenda)
   paid s h = paid_at s.agenda s refl (omega arith)
 
   -- items that are no jobs cost no more than they are worth
@@ -165,16 +165,16 @@ module _ (bound : ℕ) where
     pub costs : costs bound new.agenda ≤ costs bound old.agenda
     pub present : present new ≤ present old
 
-  settled_cheaper : (n : ℕ) (s : Scheduler ℕ) → present s ≤ bound → IsCheaper s (settled n s)
-  settled_cheaper zero s h = record { costs = omega arith; present = omega arith }
-  settled_cheaper (suc n) s h = by_job (job s) refl (settled_cheaper n (worked s))
+  after_items_cheaper : (n : ℕ) (s : Scheduler ℕ) → present s ≤ bound → IsCheaper s (after_items n s)
+  after_items_cheaper zero s h = record { costs = omega arith; present = omega arith }
+  after_items_cheaper (suc n) s h = by_job (job s) refl (after_items_cheaper n (after_front s))
     where
-      by_job : (asked : Option (Job ℕ)) → job s ≡ asked → (present (worked s) ≤ bound → IsCheaper (worked s) (settled n (worked s))) →
-          IsCheaper s (settled (suc n) s)
+      by_job : (asked : Option (Job ℕ)) → job s ≡ asked → (present (after_front s) ≤ bound → IsCheaper (after_front s) (after_items n (after_front s))) →
+          IsCheaper s (after_items (suc n) s)
       by_job (Some next) e rest = rw e (record { costs = omega arith; present = omega arith })
       by_job None e rest =
-          let first : costs bound (worked s).agenda + 1 ≤ costs bound s.agenda = rw e at (paid s h) in
-          let fewer = worked-present s in
+          let first : costs bound (after_front s).agenda + 1 ≤ costs bound s.agenda = rw e at (paid s h) in
+          let fewer = after_front-present s in
           let r = rest (omega (arith, fewer, h)) in
           rw e (record { costs = omega (arith, first, r.costs); present = omega (arith, fewer, r.present) })
 
@@ -190,8 +190,8 @@ module _ (bound : ℕ) where
   pub job_is_paid : (s after : Scheduler ℕ) (next : Job ℕ) → present s ≤ bound → ComesTo s next after →
       IsPaid bound (Some next) (costs bound s.agenda) (costs bound after.agenda) × (present after ≤ present s)
   job_is_paid s after next h (n, asks, works) =
-      let r = settled_cheaper n s h in
-      let few : present (settled n s) ≤ bound = omega (arith, r.present, h) in
-      let p = rw (asks, works) at (paid (settled n s) few) in
-      let fewer = rw works at (worked-present (settled n s)) in
+      let r = after_items_cheaper n s h in
+      let few : present (after_items n s) ≤ bound = omega (arith, r.present, h) in
+      let p = rw (asks, works) at (paid (after_items n s) few) in
+      let fewer = rw works at (after_front-present (after_items n s)) in
       (paid_more next _ _ _ r.costs p, omega (arith, r.present, fewer))

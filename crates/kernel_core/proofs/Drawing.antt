@@ -14,8 +14,8 @@ use Rattle.process_core.specs.Processes.{numbers, without, is_process, is_kernel
 use Rattle.process_core.specs.Requests.{ended, killed_by}
 use Rattle.mote_types.specs.declared.reply.Reply.{Reply}
 use Rattle.std.proofs.lemmas.Map.Keys.{IsDistinct-head, IsDistinct-tail}
-use Rattle.process_core.specs.Scheduler.{Scheduler, worked, worked_at, job, job_at, job_of_item, job_of_event, carried_out, delivery, first_event, of_event, settled, ComesTo, wants_round}
-use Rattle.kernel_core.specs.Code.Draws.{draws, draws_of_event, draws_of_job, IsFit, IsFitJob}
+use Rattle.process_core.specs.Scheduler.{Scheduler, after_front, after_front_of, job, job_at, job_of_item, job_of_event, after_item, delivery, first_event, of_event, after_items, ComesTo, wants_round}
+use Rattle.kernel_core.specs.Code.Draws.{draws, draws_of_event, draws_of_job, IsQueueable, IsQueueableJob}
 
 pub draws-append : (xs ys : List Item) → draws (xs ++ ys) ≡ draws xs + draws ys
 draws-append [] ys = omega arith
@@ -44,31 +44,31 @@ draws-broadcast event [] h = refl
 draws-broadcast event (n ∷ ns) h = rw (draws_of_event-none n event h, draws-broadcast event ns h) refl
 
 -- an event that waits in the queue draws nothing
-draws-delivery : (drawn : ℕ) (ns : List ℕ) (events : List (Queued ℕ)) → All (IsFit drawn) events → draws (delivery ns (slice_get events 0)) ≡ 0
+draws-delivery : (drawn : ℕ) (ns : List ℕ) (events : List (Queued ℕ)) → All (IsQueueable drawn) events → draws (delivery ns (slice_get events 0)) ≡ 0
 draws-delivery drawn ns [] fit = refl
-draws-delivery drawn ns (Queued.To p event ∷ events) fit = rw (draws_of_event-none p event (All-head (IsFit drawn) (Queued.To p event) events fit)) refl
-draws-delivery drawn ns (Queued.ToAll event ∷ events) fit = draws-broadcast event ns (All-head (IsFit drawn) (Queued.ToAll event) events fit)
+draws-delivery drawn ns (Queued.To p event ∷ events) fit = rw (draws_of_event-none p event (All-head (IsQueueable drawn) (Queued.To p event) events fit)) refl
+draws-delivery drawn ns (Queued.ToAll event ∷ events) fit = draws-broadcast event ns (All-head (IsQueueable drawn) (Queued.ToAll event) events fit)
 draws-delivery drawn ns (Queued.Expiry p c arming ∷ events) fit = refl
 
-pub all_fit_rest : (drawn : ℕ) (events : List (Queued ℕ)) → All (IsFit drawn) events → All (IsFit drawn) (drop 1 events)
+pub all_fit_rest : (drawn : ℕ) (events : List (Queued ℕ)) → All (IsQueueable drawn) events → All (IsQueueable drawn) (drop 1 events)
 all_fit_rest drawn [] fit = fit
-all_fit_rest drawn (event ∷ events) fit = All-tail (IsFit drawn) event events fit
+all_fit_rest drawn (event ∷ events) fit = All-tail (IsQueueable drawn) event events fit
 
 module _ (drawn : ℕ) where
-  fit_carried : (item : Item) (s : Scheduler ℕ) → All (IsFit drawn) s.events → All (IsFit drawn) (carried_out item s).events
+  fit_carried : (item : Item) (s : Scheduler ℕ) → All (IsQueueable drawn) s.events → All (IsQueueable drawn) (after_item item s).events
   fit_carried Item.Deliver s fit = all_fit_rest drawn s.events fit
-  fit_carried (Item.Start p) s fit = let e : (carried_out (Item.Start p) s).events ≡ s.events = grind arith in rw e fit
-  fit_carried (Item.Give p origin stimulus) s fit = let e : (carried_out (Item.Give p origin stimulus) s).events ≡ s.events = grind arith in rw e fit
+  fit_carried (Item.Start p) s fit = let e : (after_item (Item.Start p) s).events ≡ s.events = grind arith in rw e fit
+  fit_carried (Item.Give p origin stimulus) s fit = let e : (after_item (Item.Give p origin stimulus) s).events ≡ s.events = grind arith in rw e fit
   fit_carried (Item.GiveExit p) s fit = fit
   fit_carried (Item.Remove p) s fit = fit
-  fit_carried Item.Polls s fit = let e : (carried_out Item.Polls s).events ≡ s.events = grind arith in rw e fit
-  fit_carried (Item.PollOne p) s fit = let e : (carried_out (Item.PollOne p) s).events ≡ s.events = grind arith in rw e fit
+  fit_carried Item.Polls s fit = let e : (after_item Item.Polls s).events ≡ s.events = grind arith in rw e fit
+  fit_carried (Item.PollOne p) s fit = let e : (after_item (Item.PollOne p) s).events ≡ s.events = grind arith in rw e fit
   fit_carried (Item.Turn p origin stimulus) s fit = fit
   fit_carried (Item.Show entry) s fit = fit
 
-  fit_worked_at : (agenda : List Item) (s : Scheduler ℕ) → All (IsFit drawn) s.events → All (IsFit drawn) (worked_at agenda s).events
-  fit_worked_at [] s fit = let e : (worked_at [] s).events ≡ s.events = grind arith in rw e fit
-  fit_worked_at (item ∷ items) s fit = fit_carried item (record s { agenda = items }) fit
+  fit_after_front_of : (agenda : List Item) (s : Scheduler ℕ) → All (IsQueueable drawn) s.events → All (IsQueueable drawn) (after_front_of agenda s).events
+  fit_after_front_of [] s fit = let e : (after_front_of [] s).events ≡ s.events = grind arith in rw e fit
+  fit_after_front_of (item ∷ items) s fit = fit_carried item (record s { agenda = items }) fit
 
   abbrev draws_asked : Option (Job ℕ) → ℕ
   draws_asked None = 0
@@ -81,49 +81,49 @@ module _ (drawn : ℕ) where
   no_draws_at_delivery (Queued.Expiry p c arming ∷ events) = refl
 
   -- an item draws no more than it stands for
-  carried_out-draws : (item : Item) (items : List Item) (s : Scheduler ℕ) → All (IsFit drawn) s.events
-      → draws (carried_out item (record s { agenda = items })).agenda + draws_asked (job_of_item item s) ≤ draws (item ∷ []) + draws items
-  carried_out-draws Item.Deliver items s fit =
+  after_item-draws : (item : Item) (items : List Item) (s : Scheduler ℕ) → All (IsQueueable drawn) s.events
+      → draws (after_item item (record s { agenda = items })).agenda + draws_asked (job_of_item item s) ≤ draws (item ∷ []) + draws items
+  after_item-draws Item.Deliver items s fit =
       rw (draws-append (delivery (numbers s.processes) (first_event s)) items, draws-delivery drawn (numbers s.processes) s.events fit, no_draws_at_delivery s.events)
       (omega arith)
-  carried_out-draws (Item.Start p) items s fit = grind arith
-  carried_out-draws (Item.Give p origin (Stimulus.Event event)) items s fit = grind arith
-  carried_out-draws (Item.Give p origin (Stimulus.Answer reply)) items s fit = grind arith
-  carried_out-draws (Item.Give p origin (Stimulus.Callback c)) items s fit = grind arith
-  carried_out-draws (Item.GiveExit p) items s fit = grind arith
-  carried_out-draws (Item.Remove p) items s fit = grind arith
-  carried_out-draws Item.Polls items s fit = grind (arith, draws-append (map (λ p. Item.PollOne p) (numbers s.processes)) items, draws-polls (numbers s.processes))
-  carried_out-draws (Item.PollOne p) items s fit = grind arith
-  carried_out-draws (Item.Turn p origin stimulus) items s fit = grind arith
-  carried_out-draws (Item.Show entry) items s fit = grind arith
+  after_item-draws (Item.Start p) items s fit = grind arith
+  after_item-draws (Item.Give p origin (Stimulus.Event event)) items s fit = grind arith
+  after_item-draws (Item.Give p origin (Stimulus.Answer reply)) items s fit = grind arith
+  after_item-draws (Item.Give p origin (Stimulus.Callback c)) items s fit = grind arith
+  after_item-draws (Item.GiveExit p) items s fit = grind arith
+  after_item-draws (Item.Remove p) items s fit = grind arith
+  after_item-draws Item.Polls items s fit = grind (arith, draws-append (map (λ p. Item.PollOne p) (numbers s.processes)) items, draws-polls (numbers s.processes))
+  after_item-draws (Item.PollOne p) items s fit = grind arith
+  after_item-draws (Item.Turn p origin stimulus) items s fit = grind arith
+  after_item-draws (Item.Show entry) items s fit = grind arith
 
-  worked_at-draws : (agenda : List Item) (s : Scheduler ℕ) → s.agenda ≡ agenda → All (IsFit drawn) s.events
-      → draws (worked_at agenda s).agenda + draws_asked (job_at agenda s) ≤ draws agenda
-  worked_at-draws [] s e fit = grind arith
-  worked_at-draws (item ∷ items) s e fit =
+  after_front_of-draws : (agenda : List Item) (s : Scheduler ℕ) → s.agenda ≡ agenda → All (IsQueueable drawn) s.events
+      → draws (after_front_of agenda s).agenda + draws_asked (job_at agenda s) ≤ draws agenda
+  after_front_of-draws [] s e fit = grind arith
+  after_front_of-draws (item ∷ items) s e fit =
       let split : draws (item ∷ items) ≡ draws (item ∷ []) + draws items = draws-append (item ∷ []) items in
-      let first = carried_out-draws item items s fit in
+      let first = after_item-draws item items s fit in
       omega (arith, split, first)
 
-  abbrev IsFitAsked : Option (Job ℕ) → Type 0
-  IsFitAsked None = Unit {0}
-  IsFitAsked (Some next) = IsFitJob drawn next
+  abbrev IsQueueableAsked : Option (Job ℕ) → Type 0
+  IsQueueableAsked None = Unit {0}
+  IsQueueableAsked (Some next) = IsQueueableJob drawn next
 
-  fit_delivery : (events : List (Queued ℕ)) → All (IsFit drawn) events → IsFitAsked (job_of_event (slice_get events 0))
+  fit_delivery : (events : List (Queued ℕ)) → All (IsQueueable drawn) events → IsQueueableAsked (job_of_event (slice_get events 0))
   fit_delivery [] fit = tt
   fit_delivery (Queued.To p event ∷ events) fit = tt
   fit_delivery (Queued.ToAll event ∷ events) fit = tt
-  fit_delivery (Queued.Expiry p c arming ∷ events) fit = All-head (IsFit drawn) (Queued.Expiry p c arming) events fit
+  fit_delivery (Queued.Expiry p c arming ∷ events) fit = All-head (IsQueueable drawn) (Queued.Expiry p c arming) events fit
 
-  fit_round : (b : Bool) → IsFitAsked (Some (if b then Job.Round else Job.Rest))
+  fit_round : (b : Bool) → IsQueueableAsked (Some (if b then Job.Round else Job.Rest))
   fit_round true = tt
   fit_round false = tt
 
-  fit_served : (b : Bool) (p : ℕ) (event : Event) → IsFitAsked (if b then Some (Job.Serve p event) else None)
+  fit_served : (b : Bool) (p : ℕ) (event : Event) → IsQueueableAsked (if b then Some (Job.Serve p event) else None)
   fit_served true p event = tt
   fit_served false p event = tt
 
-  fit_asked : (agenda : List Item) (s : Scheduler ℕ) → All (IsFit drawn) s.events → IsFitAsked (job_at agenda s)
+  fit_asked : (agenda : List Item) (s : Scheduler ℕ) → All (IsQueueable drawn) s.events → IsQueueableAsked (job_at agenda s)
   fit_asked [] s fit = fit_round (wants_round s)
   fit_asked (Item.Deliver ∷ items) s fit = fit_delivery s.events fit
   fit_asked (Item.Give p origin (Stimulus.Event event) ∷ items) s fit = fit_served (is_kernel_process p) p event
@@ -138,28 +138,28 @@ module _ (drawn : ℕ) where
   fit_asked (Item.Show entry ∷ items) s fit = tt
 
   -- items that are no jobs draw nothing
-  pub record IsFitAfter (old new : Scheduler ℕ) : Type 0 where
-    pub events : All (IsFit drawn) new.events
+  pub record IsQueueableAfter (old new : Scheduler ℕ) : Type 0 where
+    pub events : All (IsQueueable drawn) new.events
     pub draws : draws new.agenda ≤ draws old.agenda
 
-  settled_fit : (n : ℕ) (s : Scheduler ℕ) → All (IsFit drawn) s.events → IsFitAfter s (settled n s)
-  settled_fit zero s fit = record { events = fit; draws = omega arith }
-  settled_fit (suc n) s fit = by_job (job s) refl (settled_fit n (worked s) (fit_worked_at s.agenda s fit))
+  after_items_fit : (n : ℕ) (s : Scheduler ℕ) → All (IsQueueable drawn) s.events → IsQueueableAfter s (after_items n s)
+  after_items_fit zero s fit = record { events = fit; draws = omega arith }
+  after_items_fit (suc n) s fit = by_job (job s) refl (after_items_fit n (after_front s) (fit_after_front_of s.agenda s fit))
     where
-      by_job : (asked : Option (Job ℕ)) → job s ≡ asked → IsFitAfter (worked s) (settled n (worked s)) → IsFitAfter s (settled (suc n) s)
+      by_job : (asked : Option (Job ℕ)) → job s ≡ asked → IsQueueableAfter (after_front s) (after_items n (after_front s)) → IsQueueableAfter s (after_items (suc n) s)
       by_job (Some next) e rest = rw e (record { events = fit; draws = omega arith })
       by_job None e rest =
-          let first = worked_at-draws s.agenda s refl fit in
-          let less : draws (worked s).agenda ≤ draws s.agenda = omega (arith, first) in
+          let first = after_front_of-draws s.agenda s refl fit in
+          let less : draws (after_front s).agenda ≤ draws s.agenda = omega (arith, first) in
           rw e (record { events = rest.events; draws = omega (arith, less, rest.draws) })
 
-  pub job_is_fit : (s after : Scheduler ℕ) (next : Job ℕ) → All (IsFit drawn) s.events → ComesTo s next after
-      → IsFitAfter s after × (draws after.agenda + draws_of_job next ≤ draws s.agenda) × IsFitJob drawn next
+  pub job_is_fit : (s after : Scheduler ℕ) (next : Job ℕ) → All (IsQueueable drawn) s.events → ComesTo s next after
+      → IsQueueableAfter s after × (draws after.agenda + draws_of_job next ≤ draws s.agenda) × IsQueueableJob drawn next
   job_is_fit s after next fit (n, asks, works) =
-      let r = settled_fit n s fit in
-      let t = settled n s in
-      let d = rw (asks, works) at (worked_at-draws t.agenda t refl r.events) in
-      let events = rw works at (fit_worked_at t.agenda t r.events) in
+      let r = after_items_fit n s fit in
+      let t = after_items n s in
+      let d = rw (asks, works) at (after_front_of-draws t.agenda t refl r.events) in
+      let events = rw works at (fit_after_front_of t.agenda t r.events) in
       let f = rw asks at (fit_asked t.agenda t r.events) in
       (record { events = events; draws = omega (arith, d, r.draws) }, omega (arith, d, r.draws), f)
 

@@ -5,10 +5,10 @@ use Rattle.kernel_core.specs.Code.Carrying.{event_carrying}
 use Rattle.process_core.specs.Scheduler.{has_room}
 use Rattle.kernel_core.specs.declared.fields.KernelFields.{KernelFields}
 use Rattle.kernel_core.specs.Machine.{free_places}
-use Rattle.kernel_core.specs.Code.View.{machine_of, is_struck}
+use Rattle.kernel_core.specs.Code.View.{machine_of, is_cancelled}
 
 places_of : (k : KernelFields) → length (machine_of k).scheduler.events ≡ length k.scheduler.state.events
-places_of k = length-map k.scheduler.state.events (event_carrying (is_struck k.timers.armings))
+places_of k = length-map k.scheduler.state.events (event_carrying (is_cancelled k.timers.armings))
 
 -- an event takes one
 pub place_taken : (k new : KernelFields) → has_room k.scheduler.state ≡ true → length new.scheduler.state.events ≡ length k.scheduler.state.events + 1

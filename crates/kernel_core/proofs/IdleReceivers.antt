@@ -7,17 +7,18 @@ use Rattle.mote_types.specs.declared.event.Origin.{Origin}
 use Rattle.mote_types.specs.declared.event.Stimulus.{Stimulus}
 use Rattle.mote_types.specs.EventNumbers.{POLL, CONTINUE, EXITED}
 use Rattle.process_core.specs.Agenda.{Item}
-use Rattle.process_core.specs.KernelReceivers.{behind_kernel_receivers, is_other_than, kernel_receivers_passed}
+use Rattle.process_core.specs.Code.KernelReceivers.{behind_kernel_receivers, is_other_than, kernel_receivers_passed}
 use Rattle.process_core.specs.Processes.{is_any_marked, is_kernel_process}
 use Rattle.process_core.specs.Scheduler.{Scheduler}
 use Rattle.kernel_core.specs.declared.fields.KernelFields.{KernelFields}
 use Rattle.kernel_core.specs.Code.Cost.{starts, present}
 use Rattle.kernel_core.specs.Code.Draws.{draws}
-use Rattle.kernel_core.specs.Code.View.{machine_of, none_unshown, IsInOrder}
+use Rattle.kernel_core.specs.Code.View.{machine_of, no_pending_entries, IsInOrder}
 use Rattle.kernel_core.specs.Code.IdleReceivers.{kernel_events}
 use Rattle.kernel_core.specs.KernelProcesses.{serve}
 use Rattle.kernel_core.specs.Machine.{Machine, scheduled}
-use Rattle.kernel_core.specs.Run.{Answers, GoesSilently, silent, one_step}
+use Rattle.kernel_core.specs.Run.{Answers, silent, one_step}
+use Rattle.kernel_core.specs.Code.Steps.{GoesSilently}
 use Rattle.kernel_core.proofs.Reaching.{silently_here}
 
 -- what the kernel's processes do with other events
@@ -62,7 +63,7 @@ module _ (answers : Answers) (m : Machine) (running : m.is_halted ≡ false)
 abbrev passed : KernelFields → KernelFields
 passed k = record k { scheduler = record k.scheduler { state = kernel_receivers_passed kernel_events k.scheduler.state } }
 
-pub receivers_passed : (answers : Answers) (k : KernelFields) → k.halted ≡ false → k.unshown ≡ none_unshown
+pub receivers_passed : (answers : Answers) (k : KernelFields) → k.halted ≡ false → k.pending ≡ no_pending_entries
     → GoesSilently answers (machine_of k) (machine_of (passed k))
 receivers_passed answers k running shown = split (is_any_marked k.scheduler.state.processes) refl
   where
@@ -70,7 +71,7 @@ receivers_passed answers k running shown = split (is_any_marked k.scheduler.stat
         → GoesSilently answers (machine_of k) (machine_of (passed k))
     split true e = rw e (silently_here (machine_of k))
     split false e =
-        let bare : KernelFields = record k { unshown = none_unshown } in
+        let bare : KernelFields = record k { pending = no_pending_entries } in
         rw (e, shown) (passed_silently answers (machine_of bare) running e k.scheduler.state.agenda)
 
 -- no process is started, and no more is drawn than without

@@ -6,16 +6,17 @@ use Rattle.mote_types.specs.EventNumbers.{POLL}
 use Rattle.mote_types.specs.Codes.{plain_event}
 use Rattle.process_core.specs.Agenda.{Job}
 use Rattle.process_core.specs.Idle.{is_idle}
-use Rattle.process_core.specs.LonePoll.{unmarked, IsLonePoll}
+use Rattle.process_core.specs.Code.LonePoll.{unmarked, IsLonePoll}
 use Rattle.process_core.specs.Scheduler.{Scheduler}
 use Rattle.kernel_core.specs.Code.Carrying.{carrying}
-use Rattle.process_core.specs.SchedulerView.{awaiting_nothing}
+use Rattle.process_core.specs.Code.SchedulerView.{awaiting_nothing}
 use Rattle.timer_core.specs.Timers.{first_due}
 use Rattle.kernel_core.specs.declared.fields.KernelFields.{KernelFields}
-use Rattle.kernel_core.specs.Code.View.{machine_of, none_unshown, is_struck}
+use Rattle.kernel_core.specs.Code.View.{machine_of, no_pending_entries, is_cancelled}
 use Rattle.kernel_core.specs.KernelProcesses.{serve}
 use Rattle.kernel_core.specs.Machine.{Machine, free_places}
-use Rattle.kernel_core.specs.Run.{Answers, GoesToRest, silent, work_limit}
+use Rattle.kernel_core.specs.Run.{Answers, silent, work_limit}
+use Rattle.kernel_core.specs.Code.Steps.{GoesToRest}
 use Rattle.kernel_core.specs.TimerProcesses.{post_first_due, is_any_due}
 use Rattle.kernel_core.proofs.Leftover.{due_stops}
 use Rattle.kernel_core.proofs.Reaching.{fields_reach, then_job, job_silently}
@@ -28,7 +29,7 @@ nothing_posted m none = rw (times_same (free_places m) post_first_due m (due_sto
 idle_carrying : (f : ℕ → ℕ → ℕ → Bool) (s : Scheduler ℕ) → is_idle s ≡ true → is_idle (carrying f s) ≡ true
 idle_carrying f s idle = simp length-map idle
 
-pub idle_round : (answers : Answers) (k : KernelFields) → k.halted ≡ false → k.unshown ≡ none_unshown → (k.work == work_limit) ≡ false
+pub idle_round : (answers : Answers) (k : KernelFields) → k.halted ≡ false → k.pending ≡ no_pending_entries → (k.work == work_limit) ≡ false
     → is_some (first_due k.clock k.timers.timers) ≡ false → IsLonePoll 0 k.scheduler.state
     → GoesToRest answers (machine_of k) (machine_of (record k { work = k.work + 1; scheduler = awaiting_nothing (unmarked 0 k.scheduler.state) }))
 idle_round answers k running shown room none lone =
@@ -43,5 +44,5 @@ idle_round answers k running shown room none lone =
     record {
       before =
           job_silently (then_job polls (fields_reach answers polled (awaiting_nothing (unmarked 0 k.scheduler.state)) Job.Rest running shown lone.rest)) refl;
-      at_rest = rw (running, shown) (idle_carrying (is_struck k.timers.armings) (unmarked 0 k.scheduler.state) lone.idle);
+      at_rest = rw (running, shown) (idle_carrying (is_cancelled k.timers.armings) (unmarked 0 k.scheduler.state) lone.idle);
     }

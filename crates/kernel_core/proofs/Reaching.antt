@@ -3,14 +3,15 @@ use Rattle.std.proofs.Common.{◌≡◌, ℕ, false, ◌∷◌, ◌∙◌, refl,
 use Rattle.mote_types.specs.declared.entry.Entry.{Entry}
 use Rattle.process_core.specs.Agenda.{Item, Job}
 use Rattle.kernel_core.specs.Code.Carrying.{job_carrying, carrying}
-use Rattle.process_core.specs.SchedulerView.{SchedulerView}
+use Rattle.process_core.specs.Code.SchedulerView.{SchedulerView}
 use Rattle.process_core.specs.Scheduler.{ComesTo}
 use Rattle.timer_core.specs.Code.Armings.{Armings}
 use Rattle.kernel_core.specs.declared.fields.KernelFields.{KernelFields}
-use Rattle.kernel_core.specs.declared.unshown.Unshown.{Unshown}
+use Rattle.kernel_core.specs.declared.pending_entries.PendingEntries.{PendingEntries}
 use Rattle.kernel_core.specs.Machine.{Machine, shown_first}
-use Rattle.kernel_core.specs.Run.{Answers, MakesEntry, GoesSilently, silent, job_done}
-use Rattle.kernel_core.specs.Code.View.{machine_of, none_unshown, unshown_items, is_struck, ComesToJob}
+use Rattle.kernel_core.specs.Run.{Answers, silent, job_done}
+use Rattle.kernel_core.specs.Code.Steps.{MakesEntry, GoesSilently}
+use Rattle.kernel_core.specs.Code.View.{machine_of, no_pending_entries, pending_items, is_cancelled, ComesToJob}
 use Rattle.kernel_core.proofs.Silent.{job_reached, silently_on}
 
 -- the machine of a kernel that has nothing to show first: its scheduler is the kernel's
@@ -20,7 +21,7 @@ bare_machine k =
       clock = k.clock;
       work = k.work;
       is_halted = k.halted;
-      scheduler = carrying (is_struck k.timers.armings) k.scheduler.state;
+      scheduler = carrying (is_cancelled k.timers.armings) k.scheduler.state;
       timers = k.timers.timers;
       memory = k.memory.contents;
       serial = k.serial;
@@ -28,13 +29,13 @@ bare_machine k =
       packets = k.packets;
     }
 
-machine_bare : (k : KernelFields) → k.unshown ≡ none_unshown → machine_of k ≡ bare_machine k
+machine_bare : (k : KernelFields) → k.pending ≡ no_pending_entries → machine_of k ≡ bare_machine k
 machine_bare k e = rw e refl
 
-pub fields_reach : (answers : Answers) (k : KernelFields) (view : SchedulerView) (next : Job ℕ) → k.halted ≡ false → k.unshown ≡ none_unshown →
+pub fields_reach : (answers : Answers) (k : KernelFields) (view : SchedulerView) (next : Job ℕ) → k.halted ≡ false → k.pending ≡ no_pending_entries →
     ComesTo k.scheduler.state next view.state → ComesToJob k.timers.armings answers (machine_of k) next (machine_of (record k { scheduler = view }))
 fields_reach answers k view next running bare comes =
-    let r = job_reached (is_struck k.timers.armings) answers (bare_machine k) k.scheduler.state view.state next running refl comes in
+    let r = job_reached (is_cancelled k.timers.armings) answers (bare_machine k) k.scheduler.state view.state next running refl comes in
     rw (machine_bare k bare, machine_bare (record k { scheduler = view }) bare)
     record { last = r.1; before = record { count = r.0; steps = r.2 }; asked = r.3 }
 
@@ -49,19 +50,19 @@ then_job {answers} {a} {b} first reached =
 
 -- a job that makes no entry
 pub job_silently : {answers : Answers} {a b d : Machine} {armings : Armings} {next : Job ℕ} → ComesToJob armings answers a next b →
-    job_done answers (Some (job_carrying (is_struck armings) next)) b ≡ silent d → GoesSilently answers a d
+    job_done answers (Some (job_carrying (is_cancelled armings) next)) b ≡ silent d → GoesSilently answers a d
 job_silently {answers} {a} {b} {d} reached e =
     let j = silently_on answers reached.before.count a reached.last d reached.before.steps 1 (d, reached.asked ∙ e, refl) in
     record { count = j.0; steps = j.1 }
 
 -- a job that makes an entry
 pub job_makes : {answers : Answers} {a b d : Machine} {armings : Armings} {next : Job ℕ} {entry : Entry} → ComesToJob armings answers a next b →
-    job_done answers (Some (job_carrying (is_struck armings) next)) b ≡ (d, Some entry) → MakesEntry answers a entry d
+    job_done answers (Some (job_carrying (is_cancelled armings) next)) b ≡ (d, Some entry) → MakesEntry answers a entry d
 job_makes reached e = record { last = reached.last; before = reached.before; makes = reached.asked ∙ e }
 
 -- an entry that is to be shown before anything else
-pub entry_is_shown : {answers : Answers} {entry : Entry} (k : KernelFields) (left : Unshown) → k.halted ≡ false → unshown_items k.unshown ≡ Item.Show entry ∷ unshown_items left →
-    MakesEntry answers (machine_of k) entry (machine_of (record k { unshown = left }))
+pub entry_is_shown : {answers : Answers} {entry : Entry} (k : KernelFields) (left : PendingEntries) → k.halted ≡ false → pending_items k.pending ≡ Item.Show entry ∷ pending_items left →
+    MakesEntry answers (machine_of k) entry (machine_of (record k { pending = left }))
 entry_is_shown k left running e = record { last = machine_of k; before = silently_here (machine_of k); makes = rw (running, e) refl }
 
 -- an entry that was put before all that a machine does

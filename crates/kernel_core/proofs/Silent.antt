@@ -4,10 +4,11 @@ use Rattle.std.specs.Prelude.{Option, Some, None}
 use Rattle.std.specs.Option.{option_map}
 use Rattle.process_core.specs.Agenda.{Job}
 use Rattle.kernel_core.specs.Code.Carrying.{job_carrying, carrying}
-use Rattle.process_core.specs.Scheduler.{Scheduler, job, worked, settled, ComesTo}
+use Rattle.process_core.specs.Scheduler.{Scheduler, job, after_front, after_items, ComesTo}
 use Rattle.kernel_core.specs.Machine.{Machine}
-use Rattle.kernel_core.specs.Run.{Answers, Silently, silent, one_step, job_done}
-use Rattle.kernel_core.proofs.Carrying.{worked-carrying, job-carrying}
+use Rattle.kernel_core.specs.Run.{Answers, silent, one_step, job_done}
+use Rattle.kernel_core.specs.Code.Steps.{Silently}
+use Rattle.kernel_core.proofs.Carrying.{after_front-carrying, job-carrying}
 
 -- one run of silent steps after another
 pub silently_on : (answers : Answers) (n : ℕ) (a b c : Machine) → Silently answers n a b → (k : ℕ) → Silently answers k b c → (j : ℕ) × Silently answers j a c
@@ -19,22 +20,22 @@ silently_on answers (suc n) a b c (next, first, rest) k r =
 module _ (f : ℕ → ℕ → ℕ → Bool) (answers : Answers) where
   -- a step of the machine is one of the scheduler, and the job that it asks for
   pub one_step_at : (m : Machine) (s : Scheduler ℕ) → m.is_halted ≡ false → m.scheduler ≡ carrying f s →
-      one_step answers m ≡ job_done answers (option_map (job_carrying f) (job s)) (record m { scheduler = carrying f (worked s) })
-  one_step_at m s running e = rw (running, e, job-carrying f s, worked-carrying f s) refl
+      one_step answers m ≡ job_done answers (option_map (job_carrying f) (job s)) (record m { scheduler = carrying f (after_front s) })
+  one_step_at m s running e = rw (running, e, job-carrying f s, after_front-carrying f s) refl
 
   -- items that are no jobs
-  pub settled_silently : (n : ℕ) (m : Machine) (s : Scheduler ℕ) → m.is_halted ≡ false → m.scheduler ≡ carrying f s →
-      (k : ℕ) × Silently answers k m (record m { scheduler = carrying f (settled n s) })
-  settled_silently zero m s running e = (0, rw (← e) refl)
-  settled_silently (suc n) m s running e =
-      by_job (job s) refl (settled_silently n (record m { scheduler = carrying f (worked s) }) (worked s) running refl)
+  pub after_items_silently : (n : ℕ) (m : Machine) (s : Scheduler ℕ) → m.is_halted ≡ false → m.scheduler ≡ carrying f s →
+      (k : ℕ) × Silently answers k m (record m { scheduler = carrying f (after_items n s) })
+  after_items_silently zero m s running e = (0, rw (← e) refl)
+  after_items_silently (suc n) m s running e =
+      by_job (job s) refl (after_items_silently n (record m { scheduler = carrying f (after_front s) }) (after_front s) running refl)
     where
       m' : Machine
-      m' = record m { scheduler = carrying f (worked s) }
+      m' = record m { scheduler = carrying f (after_front s) }
 
       by_job : (asked : Option (Job ℕ)) → job s ≡ asked →
-          ((k : ℕ) × Silently answers k m' (record m' { scheduler = carrying f (settled n (worked s)) })) →
-          (k : ℕ) × Silently answers k m (record m { scheduler = carrying f (settled (suc n) s) })
+          ((k : ℕ) × Silently answers k m' (record m' { scheduler = carrying f (after_items n (after_front s)) })) →
+          (k : ℕ) × Silently answers k m (record m { scheduler = carrying f (after_items (suc n) s) })
       by_job (Some next) h rest = rw h (0, rw (← e) refl)
       by_job None h rest =
           let first : one_step answers m ≡ silent m' = rw (one_step_at m s running e, h) refl in
@@ -45,6 +46,6 @@ module _ (f : ℕ → ℕ → ℕ → Bool) (answers : Answers) where
       (k : ℕ) × (last : Machine) × Silently answers k m last
       × (one_step answers last ≡ job_done answers (Some (job_carrying f next)) (record m { scheduler = carrying f after }))
   job_reached m s after next running e (n, asks, works) =
-      let k = settled_silently n m s running e in
-      let last : Machine = record m { scheduler = carrying f (settled n s) } in
-      (k.0, last, k.1, rw (one_step_at last (settled n s) running refl, asks, works) refl)
+      let k = after_items_silently n m s running e in
+      let last : Machine = record m { scheduler = carrying f (after_items n s) } in
+      (k.0, last, k.1, rw (one_step_at last (after_items n s) running refl, asks, works) refl)

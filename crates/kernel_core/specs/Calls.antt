@@ -14,7 +14,7 @@ use Rattle.process_core.specs.Processes.{is_alive, is_application}
 use Rattle.process_core.specs.Scheduler.{state_in}
 use Rattle.process_core.specs.Requests.{post_refusal, synch_refusal, poll_refusal, start_refusal, kill_refusal, is_running_refusal, alloc_event_refusal, number_drawn, given_in_turn, started_by, killed_by, waited, ended}
 use Rattle.kernel_core.specs.Machine.{Machine, scheduled, with_timers, with_memory, with_event, mark, answer, refuse, shown_first}
-use Rattle.kernel_core.specs.Expiries.{strike_out}
+use Rattle.kernel_core.specs.Expiries.{expiries_cancelled}
 use Rattle.kernel_core.specs.PacketCalls.{open_refusal, receiver_claimed, front_refusal, front_read_refusal, front_read, front_dropped, sent}
 use Rattle.timer_core.specs.Names.{event_timer, callback_timer}
 use Rattle.timer_core.specs.Timers.{set_timer, stop_timer, reset_timer, restart_timer, can_reset, is_armed}
@@ -27,6 +27,7 @@ unless_refused (Some refusal) p m after = refuse p refusal m
 abbrev pub done : ℕ → Machine → Machine
 done p = answer p Reply.Done
 
+-- the event that a call posts
 abbrev pub event_of : ℕ → Payload → Event
 event_of code payload = record { code = code; payload = payload }
 
@@ -101,10 +102,10 @@ after_call (Call.CallbackSet c interval) p m =
     unless_refused (callback_refusal c) p m
     (done p
     (mark 0
-    (strike_out (is_callback_timer p c) (with_timers (set_timer m.clock (callback_timer p c) interval m.timers) m))))
+    (expiries_cancelled (is_callback_timer p c) (with_timers (set_timer m.clock (callback_timer p c) interval m.timers) m))))
 after_call (Call.CallbackStop c) p m =
     unless_refused (callback_refusal c) p m
-    (done p (strike_out (is_callback_timer p c) (with_timers (stop_timer (callback_timer p c) m.timers) m)))
+    (done p (expiries_cancelled (is_callback_timer p c) (with_timers (stop_timer (callback_timer p c) m.timers) m)))
 -- the clock, and output
 after_call Call.Clock p m = answer p (Reply.Wide m.clock) m
 after_call (Call.Print chunk) p m = done p m

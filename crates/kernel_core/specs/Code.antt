@@ -4,5 +4,7 @@ pub mod Carrying
 pub mod Cost
 pub mod Draws
 pub mod IdleReceivers
+pub mod IdleRound
+pub mod Steps
 pub mod TimerNames
 pub mod View

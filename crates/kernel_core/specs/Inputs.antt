@@ -37,9 +37,11 @@ abbrev pub held_unless_lost : Option Refusal → List ℕ → Machine → Machin
 held_unless_lost (Some refusal) bytes m = shown_first (Entry.Note (Note.Lost refusal)) m
 held_unless_lost None bytes m = frame_held (free_slot m.packets) bytes m
 
+-- it is held, or lost
 abbrev pub frame_arrived : List ℕ → Machine → Machine
 frame_arrived bytes m = held_unless_lost (frame_refusal (length bytes) m) bytes m
 
+-- what an input does to the machine before anything is worked off
 abbrev pub effect : Input → Machine → Machine
 effect (Input.Tick n) m = ticked n m
 effect (Input.Serial bytes) m = serial_arrived bytes.items m
@@ -49,6 +51,7 @@ effect (Input.Frame bytes) m = frame_arrived bytes.items m
 abbrev pub fed : Input → Machine → Machine
 fed input m = shown_first (Entry.Input input) (effect input (record m { work = 0 }))
 
+-- by how much an input moves the clock
 abbrev pub ticks_of : Input → ℕ
 ticks_of (Input.Tick n) = n
 ticks_of _ = 0

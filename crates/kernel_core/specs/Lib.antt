@@ -1,7 +1,6 @@
 -- What a reader has to believe.
 pub mod Calls
 pub mod Expiries
-pub mod IdleRound
 pub mod Inputs
 pub mod KernelProcesses
 pub mod Machine

@@ -14,7 +14,7 @@ use Rattle.process_core.specs.Scheduler.{Scheduler, at_boot, in_front, marked, p
 use Rattle.process_core.specs.Requests.{answered}
 use Rattle.timer_core.specs.Timers.{Timers, no_timers}
 
--- An expiry in the queue carries whether it was struck out.
+-- An expiry in the queue carries whether it was cancelled.
 pub record Machine : Type 0 where
   -- the ticks since boot
   pub clock : ℕ
@@ -29,6 +29,7 @@ pub record Machine : Type 0 where
   pub is_serial_waiting : Bool
   pub packets : PacketQueue
 
+-- the sizes of the memory that a configuration asks for
 abbrev pub sizes_of : Config → Sizes
 sizes_of c = record { mmem = c.mmem; heap = c.heap; header = c.header; quota = c.quota }
 
@@ -81,6 +82,7 @@ mark p = scheduled (marked p)
 abbrev pub answer : ℕ → Reply → Machine → Machine
 answer p reply = scheduled (answered p reply)
 
+-- p is answered with a refusal
 abbrev pub refuse : ℕ → Refusal → Machine → Machine
 refuse p refusal = answer p (Reply.Refused refusal)
 

@@ -44,6 +44,7 @@ front_read_refusal p at len m =
     else if nat_lt 64 len || not (is_within at len (front_bytes m)) then Some Refusal.Range
     else None
 
+-- some of the bytes of the frame that came first
 abbrev pub front_read : ℕ → ℕ → Machine → Reply
 front_read at len m = Reply.Bytes (record { items = range_of at len (front_bytes m) })
 

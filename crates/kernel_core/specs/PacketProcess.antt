@@ -35,6 +35,7 @@ abbrev pub forget_receiver : Option ℕ → Machine → Machine
 forget_receiver None m = m
 forget_receiver (Some p) m = with_packets (forgotten p m.packets) m
 
+-- process 3: what it does with an event
 abbrev pub packet : Event → Machine → Machine
 packet event m =
     if event.code == POLL then announce m

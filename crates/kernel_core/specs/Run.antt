@@ -7,12 +7,9 @@ use Rattle.mote_types.specs.declared.event.Stimulus.{Stimulus}
 use Rattle.mote_types.specs.declared.event.Origin.{Origin}
 use Rattle.mote_types.specs.Applications.{Applications}
 use Rattle.kernel_core.specs.declared.config.Config.{Config}
-use Rattle.kernel_core.specs.declared.step.Step.{Step}
-use Rattle.kernel_core.specs.declared.step.Reached.{Reached}
-use Rattle.kernel_core.specs.declared.turn.Turn.{Turn}
 use Rattle.process_core.specs.Agenda.{Item, Job}
 use Rattle.process_core.specs.Idle.{is_idle}
-use Rattle.process_core.specs.Scheduler.{worked, job, in_front}
+use Rattle.process_core.specs.Scheduler.{after_front, job, in_front}
 use Rattle.kernel_core.specs.Machine.{Machine, booted, scheduled}
 use Rattle.kernel_core.specs.KernelProcesses.{serve}
 use Rattle.kernel_core.specs.Calls.{after_call}
@@ -28,6 +25,7 @@ Answers = ℕ → Stimulus → Call
 abbrev pub StepMade : Type 0
 StepMade = Machine × Option Entry
 
+-- no entry is made
 abbrev pub silent : Machine → StepMade
 silent m = (m, None)
 
@@ -39,9 +37,11 @@ work_limit = 10000
 abbrev pub within_limit : Machine → StepMade → StepMade
 within_limit m step = if m.work == work_limit then (record m { is_halted = true }, Some Entry.Halt) else step
 
+-- one more turn or round was begun
 abbrev pub with_more_work : Machine → Machine
 with_more_work m = record m { work = m.work + 1 }
 
+-- p takes a turn: its call is carried out, and the turn is an entry
 abbrev pub turn_taken : ℕ → Origin → Stimulus → Call → Machine → StepMade
 turn_taken p origin stimulus call m =
     (after_call call p (with_more_work m), Some (Entry.Turn (record { 0 = p }) origin stimulus call))
@@ -51,8 +51,8 @@ abbrev pub job_done : Answers → Option (Job Bool) → Machine → StepMade
 job_done answers (Some (Job.TakeTurn p origin stimulus)) m =
     within_limit m (turn_taken p origin stimulus (answers p stimulus) m)
 job_done answers (Some (Job.Serve p event)) m = silent (serve p event m)
-job_done answers (Some (Job.CallBack p c is_struck)) m =
-    silent (if is_struck then m else scheduled (in_front (Item.Give p Origin.Callback (Stimulus.Callback c) ∷ [])) m)
+job_done answers (Some (Job.CallBack p c is_cancelled)) m =
+    silent (if is_cancelled then m else scheduled (in_front (Item.Give p Origin.Callback (Stimulus.Callback c) ∷ [])) m)
 job_done answers (Some (Job.ShowEntry entry)) m = (m, Some entry)
 job_done answers (Some Job.Round) m = within_limit m (silent (with_more_work m))
 job_done answers (Some Job.Rest) m = silent m
@@ -60,7 +60,7 @@ job_done answers None m = silent m
 
 -- one item of the agenda is worked off
 abbrev pub one_step : Answers → Machine → StepMade
-one_step answers m = if m.is_halted then silent m else job_done answers (job m.scheduler) (scheduled worked m)
+one_step answers m = if m.is_halted then silent m else job_done answers (job m.scheduler) (scheduled after_front m)
 
 -- no activation is open, no process is marked, and no event waits. After Halt there is no rest
 abbrev pub is_at_rest : Machine → Bool
@@ -69,50 +69,6 @@ is_at_rest m = not m.is_halted && is_idle m.scheduler
 -- nothing more happens without an input
 abbrev pub is_still : Machine → Bool
 is_still m = m.is_halted || is_at_rest m
-
--- To the next entry.
-
--- n steps that make no entry lead from old to new
-abbrev pub Silently : Answers → ℕ → Machine → Machine → Type 0
-Silently answers zero old new = old ≡ new
-Silently answers (suc n) old new = (next : Machine) × (one_step answers old ≡ silent next) × Silently answers n next new
-
--- steps that make no entry lead from old to new
-pub record GoesSilently (answers : Answers) (old new : Machine) : Type 0 where
-  pub count : ℕ
-  pub steps : Silently answers count old new
-
--- steps that make no entry, and then one that makes this entry
-pub record MakesEntry (answers : Answers) (old : Machine) (entry : Entry) (new : Machine) : Type 0 where
-  pub last : Machine
-  pub before : GoesSilently answers old last
-  pub makes : one_step answers last ≡ (new, Some entry)
-
--- steps that make no entry, until nothing is left to be done
-pub record GoesToRest (answers : Answers) (old new : Machine) : Type 0 where
-  pub before : GoesSilently answers old new
-  pub at_rest : is_at_rest new ≡ true
-
--- the machine goes on to the next entry, or to rest; once halted, it stays
-abbrev pub GoesOn : Answers → Machine → Step → Machine → Type 0
-GoesOn answers old (Step.Entry entry) new = MakesEntry answers old entry new
-GoesOn answers old Step.Rest new = GoesToRest answers old new
-GoesOn answers old Step.Halted new = (old.is_halted ≡ true) × (new ≡ old)
-
-abbrev pub made : Step → List Entry
-made (Step.Entry entry) = entry ∷ []
-made _ = []
-
--- the entry of a turn
-abbrev pub entry_of : Turn → Entry
-entry_of turn = Entry.Turn turn.pid turn.origin turn.stimulus turn.call
-
--- what a step comes to, where an entry that it makes is put into a place: a turn into one, any other entry into another
-abbrev pub stepped : Reached → Turn → Entry → Step
-stepped Reached.Turn turn other = Step.Entry (entry_of turn)
-stepped Reached.Other turn other = Step.Entry other
-stepped Reached.Rest turn other = Step.Rest
-stepped Reached.Halted turn other = Step.Halted
 
 -- A run.
 
@@ -129,14 +85,17 @@ heard p entries = filter_map (stimulus_of p) entries
 abbrev pub answers_after : Applications → List Entry → Answers
 answers_after says entries p stimulus = says p (heard p entries ++ stimulus ∷ [])
 
+-- how far a run has come
 pub record Running : Type 0 where
   pub machine : Machine
   -- the entries made so far
   pub entries : List Entry
 
+-- a step was made behind these entries
 abbrev pub gone_on : List Entry → StepMade → Running
 gone_on entries step = record { machine = step.0; entries = entries ++ option_to_list step.1 }
 
+-- each application answers by all that it was told so far
 abbrev pub after_step : Applications → Running → Running
 after_step says r = gone_on r.entries (one_step (answers_after says r.entries) r.machine)
 

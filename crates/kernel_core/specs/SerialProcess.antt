@@ -24,6 +24,7 @@ post_continue m =
     then with_event (Queued.To 2 (plain_event CONTINUE)) (record m { is_serial_waiting = true })
     else m
 
+-- the line is broadcast, and the process goes on after all that waits now
 abbrev pub line_served : Option (List ℕ) → Machine → Machine
 line_served None m = m
 line_served (Some line) m = post_continue (broadcast_line line m)
@@ -49,6 +50,7 @@ serial_line_polled m = if m.is_serial_waiting then m else empty_ring m
 abbrev pub serial_line_continued : Machine → Machine
 serial_line_continued m = empty_ring (record m { is_serial_waiting = false })
 
+-- process 2: what it does with an event
 abbrev pub serial_line : Event → Machine → Machine
 serial_line event m =
     if event.code == POLL then serial_line_polled m

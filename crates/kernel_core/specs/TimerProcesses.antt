@@ -7,7 +7,7 @@ use Rattle.mote_types.specs.Codes.{number_event}
 use Rattle.process_core.specs.Agenda.{Queued}
 use Rattle.timer_core.specs.declared.timer.Timer.{Timer}
 use Rattle.timer_core.specs.Timers.{first_due, stop_timer, without_event_timers, without_callback_timers}
-use Rattle.kernel_core.specs.Expiries.{strike_out}
+use Rattle.kernel_core.specs.Expiries.{expiries_cancelled}
 use Rattle.kernel_core.specs.Machine.{Machine, with_timers, with_event, free_places, mark}
 use Rattle.kernel_core.specs.Repeating.{times}
 
@@ -41,10 +41,12 @@ post_due m =
     let after = times (free_places m) post_first_due m in
     if is_any_due after then mark 0 after else after
 
+-- the event timers of a process that has ended leave the timer list
 abbrev pub forget_event_timers : Option ℕ → Machine → Machine
 forget_event_timers None m = m
 forget_event_timers (Some p) m = with_timers (without_event_timers p m.timers) m
 
+-- process 0: what it does with an event
 abbrev pub etimer : Event → Machine → Machine
 etimer event m =
     if event.code == POLL then post_due m
@@ -53,10 +55,11 @@ etimer event m =
 
 -- ctimer
 
--- the callback timers of p leave the timer list, and their expiries are struck out
+-- the callback timers of p leave the timer list, and their expiries are cancelled
 abbrev pub forget_callback_timers : Option ℕ → Machine → Machine
 forget_callback_timers None m = m
-forget_callback_timers (Some p) m = strike_out (λ q c. q == p) (with_timers (without_callback_timers p m.timers) m)
+forget_callback_timers (Some p) m = expiries_cancelled (λ q c. q == p) (with_timers (without_callback_timers p m.timers) m)
 
+-- process 1: what it does with an event
 abbrev pub ctimer : Event → Machine → Machine
 ctimer event m = if event.code == EXITED then forget_callback_timers (exited_application event.payload) m else m

@@ -3,9 +3,9 @@
 ghost use Rattle.std.specs.Prelude.{◌≡◌, None, Some};
 ghost use Rattle.kernel_core.specs.Calls.{after_call};
 ghost use Rattle.kernel_core.specs.Code.CallKinds.{kind_of};
-ghost use Rattle.kernel_core.specs.Code.Draws.{debt};
+ghost use Rattle.kernel_core.specs.Code.Draws.{drawn_in_all};
 ghost use Rattle.kernel_core.specs.Machine as machine;
-ghost use Rattle.kernel_core.specs.Code.View.{machine_of, none_unshown, IsAtTurn, IsCarriedOut, IsOnlyScheduled};
+ghost use Rattle.kernel_core.specs.Code.View.{machine_of, no_pending_entries, IsAtTurn, IsCarriedOut, IsOnlyScheduled};
 ghost use Rattle.kernel_core.specs.declared.call_kind.CallKind as kinds;
 
 use crate::call_kind::CallKind;
@@ -20,12 +20,12 @@ impl KernelFields {
     /// The application is given the answer in its next turn.
     pub fn answer(&mut self, pid: Pid, reply: Reply)
         requires turn { self.old.scheduler.turn ≡ Some pid }
-        requires nothing_shown { self.old.unshown ≡ none_unshown }
+        requires nothing_shown { self.old.pending ≡ no_pending_entries }
         ensures machine { machine_of self.new ≡ machine.answer pid.0 reply (machine_of self.old) }
         ensures kept { IsOnlyScheduled self.old self.new }
         ensures turn { self.new.scheduler.turn ≡ None }
         ensures events { self.new.scheduler.state.events ≡ self.old.scheduler.state.events }
-        ensures draws { debt self.new ≡ debt self.old }
+        ensures draws { drawn_in_all self.new ≡ drawn_in_all self.old }
     {
         self.scheduler.answered(pid, reply);
     }
@@ -33,12 +33,12 @@ impl KernelFields {
     /// The application is told in its next turn why its call was refused.
     pub fn refuse(&mut self, pid: Pid, refusal: Refusal)
         requires turn { self.old.scheduler.turn ≡ Some pid }
-        requires nothing_shown { self.old.unshown ≡ none_unshown }
+        requires nothing_shown { self.old.pending ≡ no_pending_entries }
         ensures machine { machine_of self.new ≡ machine.refuse pid.0 refusal (machine_of self.old) }
         ensures kept { IsOnlyScheduled self.old self.new }
         ensures turn { self.new.scheduler.turn ≡ None }
         ensures events { self.new.scheduler.state.events ≡ self.old.scheduler.state.events }
-        ensures draws { debt self.new ≡ debt self.old }
+        ensures draws { drawn_in_all self.new ≡ drawn_in_all self.old }
     {
         self.answer(pid, Reply::Refused(refusal));
     }

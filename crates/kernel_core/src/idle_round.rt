@@ -1,9 +1,10 @@
 //! A round in which nothing is done but that etimer looks for due timers, and finds none.
 
 ghost use Rattle.std.specs.Prelude.{◌≡◌, true, false};
-ghost use Rattle.kernel_core.specs.Code.View.{machine_of, none_unshown, IsInOrder};
-ghost use Rattle.kernel_core.specs.IdleRound.{has_idle_round};
-ghost use Rattle.kernel_core.specs.Run.{Answers, GoesToRest};
+ghost use Rattle.kernel_core.specs.Code.View.{machine_of, no_pending_entries, IsInOrder};
+ghost use Rattle.kernel_core.specs.Code.IdleRound.{has_idle_round};
+ghost use Rattle.kernel_core.specs.Run.{Answers};
+ghost use Rattle.kernel_core.specs.Code.Steps.{GoesToRest};
 
 use crate::fields::{KernelFields, WORK_LIMIT};
 use mote_types::event::ETIMER;
@@ -15,7 +16,7 @@ impl KernelFields {
     pub fn pass_idle_round(&mut self) -> bool
         requires order { IsInOrder self.old }
         requires running { self.old.halted ≡ false }
-        requires nothing_shown { self.old.unshown ≡ none_unshown }
+        requires nothing_shown { self.old.pending ≡ no_pending_entries }
         ensures value { result ≡ has_idle_round (machine_of self.old) }
         ensures passed { result ≡ true → (answers : Answers) → GoesToRest answers (machine_of self.old) (machine_of self.new) }
         ensures order { IsInOrder self.new }

@@ -3,7 +3,7 @@
 ghost use Rattle.std.specs.Prelude.{◌≡◌, ◌<◌, ◌≤◌, ◌+◌, ◌^◌, true, length, None, Some, IfErr, IfOk};
 ghost use Rattle.mmem_core.specs.ManagedStore.{free};
 ghost use Rattle.kernel_core.specs.Inputs.{effect, frame_arrived, frame_held, frame_refusal, has_bytes, ticks_of};
-ghost use Rattle.kernel_core.specs.Code.View.{machine_of, none_unshown, HoldsFrames, IsTakenIn};
+ghost use Rattle.kernel_core.specs.Code.View.{machine_of, no_pending_entries, HoldsFrames, IsTakenIn};
 ghost use Rattle.device_core.specs.PacketQueue.{free_slot};
 ghost use Rattle.node_memory.specs.Placed.{last_owner};
 
@@ -42,7 +42,7 @@ impl KernelFields {
             × (machine_of self.new ≡ machine_of self.old)) }
         ensures kept { IsTakenIn self.old self.new }
         ensures clock { self.new.clock ≡ self.old.clock }
-        ensures shown { self.new.unshown ≡ self.old.unshown }
+        ensures shown { self.new.pending ≡ self.old.pending }
     {
         if self.packets.held() as usize == MOST_FRAMES {
             return Err(Refusal::Full);
@@ -65,14 +65,14 @@ impl KernelFields {
         requires most { length bytes.now ≤ 127 }
         requires frames { HoldsFrames self.old.memory.contents self.old.packets.frames }
         requires holder { 3 ≤ last_owner self.old.memory }
-        requires shown { self.old.unshown ≡ none_unshown }
+        requires shown { self.old.pending ≡ no_pending_entries }
         ensures machine { machine_of self.new ≡ frame_arrived bytes.now (machine_of self.old) }
         ensures kept { IsTakenIn self.old self.new }
         ensures clock { self.new.clock ≡ self.old.clock }
-        ensures shown { self.new.unshown.input ≡ None }
+        ensures shown { self.new.pending.input ≡ None }
     {
         if let Err(refusal) = self.hold_frame(bytes) {
-            self.unshown.note = Some(Note::Lost(refusal));
+            self.pending.note = Some(Note::Lost(refusal));
         }
     }
 
@@ -82,11 +82,11 @@ impl KernelFields {
         requires bytes { has_bytes input.now ≡ true }
         requires frames { HoldsFrames self.old.memory.contents self.old.packets.frames }
         requires holder { 3 ≤ last_owner self.old.memory }
-        requires shown { self.old.unshown ≡ none_unshown }
+        requires shown { self.old.pending ≡ no_pending_entries }
         ensures machine { machine_of self.new ≡ effect input.now (machine_of self.old) }
         ensures kept { IsTakenIn self.old self.new }
         ensures clock { self.new.clock ≡ self.old.clock + ticks_of input.now }
-        ensures shown { self.new.unshown.input ≡ None }
+        ensures shown { self.new.pending.input ≡ None }
     {
         match input {
             Input::Tick(ticks) => {

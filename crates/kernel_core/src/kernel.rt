@@ -4,18 +4,19 @@ ghost use Rattle.std.specs.Prelude.{◌≡◌, ◌≢◌, ◌<◌, ◌≤◌, �
 ghost use Rattle.std.specs.List.{list_any};
 ghost use Rattle.mote_types.specs.Applications.{says_of};
 ghost use Rattle.mote_types.specs.Entries.{is_halt};
-ghost use Rattle.mote_types.specs.declared.event.Stimulus.{Stimulus as Told};
+ghost use Rattle.mote_types.specs.declared.event.Stimulus.{Stimulus as ToldStimulus};
 ghost use Rattle.kernel_core.specs.Machine.{is_bootable, booted};
-ghost use Rattle.kernel_core.specs.IdleRound.{has_idle_round};
+ghost use Rattle.kernel_core.specs.Code.IdleRound.{has_idle_round};
 ghost use Rattle.kernel_core.specs.Inputs.{fed, has_bytes, ticks_of};
-ghost use Rattle.kernel_core.specs.Run.{Answers, GoesOn, heard, is_at_rest, made, made as made_by, stepped};
+ghost use Rattle.kernel_core.specs.Run.{Answers, heard, is_at_rest};
+ghost use Rattle.kernel_core.specs.Code.Steps.{GoesOn, made, made as made_by, stepped};
 ghost use Rattle.kernel_core.specs.Mote.{TakesEntry};
 
 use crate::config::Config;
 use crate::fields::KernelFields;
-use crate::step::{Reached, Step};
+use crate::step::{StepOutcome, Step};
 use crate::turn::Turn;
-use crate::unshown::Unshown;
+use crate::pending_entries::PendingEntries;
 use device_core::packet_queue::PacketQueue;
 use device_core::serial_line::SerialLine;
 use mote_types::app::App;
@@ -67,7 +68,7 @@ impl Kernel {
             halted: false,
             inputs: 0,
             applications: config.apps,
-            unshown: Unshown::none(),
+            pending: PendingEntries::none(),
             scheduler,
             timers: Timers::new(),
             memory,
@@ -96,7 +97,7 @@ impl Kernel {
     pub fn at_rest(&self) -> bool
         ensures { result ≡ is_at_rest self.now.machine }
     {
-        !self.fields.halted && self.fields.unshown.is_empty() && self.fields.scheduler.at_rest()
+        !self.fields.halted && self.fields.pending.is_empty() && self.fields.scheduler.at_rest()
     }
 
     /// Hands an input to a mote at rest. What follows is done by `step`.
@@ -113,7 +114,7 @@ impl Kernel {
         self.fields.work = 0;
         self.fields.take_in(&input);
         self.fields.inputs += 1;
-        self.fields.unshown.input = Some(input);
+        self.fields.pending.input = Some(input);
     }
 
     /// Hands an input that the caller keeps to a mote at rest: as `feed`, and then the step that makes the input's entry. What
@@ -147,7 +148,7 @@ impl Kernel {
         ensures applications { self.new.machine.scheduler.applications ≡ self.old.machine.scheduler.applications }
         ensures inputs { self.new.inputs ≡ self.old.inputs }
     {
-        if self.fields.halted || !self.fields.unshown.is_empty() {
+        if self.fields.halted || !self.fields.pending.is_empty() {
             return false;
         }
         self.fields.pass_idle_round()
@@ -159,7 +160,7 @@ impl Kernel {
     pub fn step(&mut self, apps: &mut [Box<dyn App>]) -> Step
         requires boxes { length apps.old ≡ self.old.machine.scheduler.applications }
         ensures machine { GoesOn (λ p stimulus. says_of says apps.old p (stimulus ∷ [])) self.old.machine result self.new.machine }
-        ensures law { (p : ℕ) (next : Told) (later : List Told) →
+        ensures law { (p : ℕ) (next : ToldStimulus) (later : List ToldStimulus) →
             says_of says apps.new p (next ∷ later) ≡ says_of says apps.old p (heard p (made result) ++ (next ∷ later)) }
         ensures others { (p : ℕ) → 4 ≤ p → heard p (made result) ≡ [] → slice_get apps.new (p - 4) ≡ slice_get apps.old (p - 4) }
         ensures halted { self.new.machine.is_halted ≡ (self.old.machine.is_halted || list_any is_halt (made result)) }
@@ -171,10 +172,10 @@ impl Kernel {
         let mut turn = Turn::none_yet();
         let mut other = Entry::Halt;
         match self.step_to(apps, &mut turn, &mut other) {
-            Reached::Turn => Step::Entry(turn.into_entry()),
-            Reached::Other => Step::Entry(other),
-            Reached::Rest => Step::Rest,
-            Reached::Halted => Step::Halted,
+            StepOutcome::Turn => Step::Entry(turn.into_entry()),
+            StepOutcome::Other => Step::Entry(other),
+            StepOutcome::Rest => Step::Rest,
+            StepOutcome::Halted => Step::Halted,
         }
     }
 
@@ -185,10 +186,10 @@ impl Kernel {
         apps: &mut [Box<dyn App>],
         turn: &mut Turn,
         other: &mut Entry,
-    ) -> Reached
+    ) -> StepOutcome
         requires boxes { length apps.old ≡ self.old.machine.scheduler.applications }
         ensures machine { GoesOn (λ p stimulus. says_of says apps.old p (stimulus ∷ [])) self.old.machine (stepped result turn.new other.new) self.new.machine }
-        ensures law { (p : ℕ) (next : Told) (later : List Told) →
+        ensures law { (p : ℕ) (next : ToldStimulus) (later : List ToldStimulus) →
             says_of says apps.new p (next ∷ later) ≡ says_of says apps.old p (heard p (made_by (stepped result turn.new other.new)) ++ (next ∷ later)) }
         ensures others { (p : ℕ) → 4 ≤ p → heard p (made_by (stepped result turn.new other.new)) ≡ [] → slice_get apps.new (p - 4) ≡ slice_get apps.old (p - 4) }
         ensures halted { self.new.machine.is_halted ≡ (self.old.machine.is_halted || list_any is_halt (made_by (stepped result turn.new other.new))) }
@@ -196,17 +197,17 @@ impl Kernel {
         ensures applications { self.new.machine.scheduler.applications ≡ self.old.machine.scheduler.applications }
         ensures inputs { self.new.inputs ≡ self.old.inputs }
         ensures progress { TakesEntry (stepped result turn.new other.new) self.old self.new }
-        ensures unmade { result ≢ Reached.Other → other.new ≡ other.old }
+        ensures unmade { result ≢ StepOutcome.Other → other.new ≡ other.old }
     {
         if self.fields.halted {
-            return Reached::Halted;
+            return StepOutcome::Halted;
         }
-        if !self.fields.unshown.is_empty() {
-            self.fields.unshown.take_first(other);
-            return Reached::Other;
+        if !self.fields.pending.is_empty() {
+            self.fields.pending.take_first(other);
+            return StepOutcome::Other;
         }
         if self.fields.pass_idle_round() {
-            return Reached::Rest;
+            return StepOutcome::Rest;
         }
         self.fields.work_on(apps, turn, other)
     }

@@ -4,13 +4,14 @@ ghost use Rattle.std.specs.Prelude.{◌≡◌, ◌≤◌, ◌<◌, ◌+◌, ◌^
 ghost use Rattle.std.specs.Option.{option_map};
 ghost use Rattle.mote_types.specs.declared.event.Pid as pid;
 ghost use Rattle.kernel_core.specs.Code.Carrying.{job_carrying};
-ghost use Rattle.process_core.specs.SchedulerView.{job_of};
-ghost use Rattle.process_core.specs.Told.{served_with};
+ghost use Rattle.process_core.specs.Code.SchedulerView.{job_of};
+ghost use Rattle.process_core.specs.Code.NextJobs.{served_with};
 ghost use Rattle.kernel_core.specs.Code.Cost.{present};
-ghost use Rattle.kernel_core.specs.Code.Draws.{HasFitEvents, debt, draws_of_event, draws_of_job};
-ghost use Rattle.kernel_core.specs.Code.View.{entries_left_in, machine_of, none_unshown, IsInOrder, IsServed};
+ghost use Rattle.kernel_core.specs.Code.Draws.{HasQueueableEvents, drawn_in_all, draws_of_event, draws_of_job};
+ghost use Rattle.kernel_core.specs.Code.View.{entries_left_in, machine_of, no_pending_entries, IsInOrder, IsServed};
 ghost use Rattle.kernel_core.specs.Code.IdleReceivers.{idle_receivers_passed, is_wait};
-ghost use Rattle.kernel_core.specs.Run.{Answers, GoesSilently, job_done, silent};
+ghost use Rattle.kernel_core.specs.Run.{Answers, job_done, silent};
+ghost use Rattle.kernel_core.specs.Code.Steps.{GoesSilently};
 ghost use Rattle.kernel_core.specs.KernelProcesses.{serve};
 ghost use Rattle.kernel_core.specs.TimerProcesses.{exited_application};
 
@@ -52,11 +53,11 @@ impl KernelFields {
     /// A kernel process is given the event that it is told. Where it is told anything else, nothing is done.
     pub fn serve_told(&mut self, pid: Pid, told: &Stimulus)
         requires few { self.old.timers.armings.drawn < 2 ^ 60 }
-        requires events { HasFitEvents self.old }
-        ensures machine { (answers : Answers) (struck : ℕ → ℕ → ℕ → Bool) →
-            job_done answers (Some (job_carrying struck (job_of (served_with pid told.now)))) (machine_of self.old) ≡ silent (machine_of self.new) }
+        requires events { HasQueueableEvents self.old }
+        ensures machine { (answers : Answers) (cancelled : ℕ → ℕ → ℕ → Bool) →
+            job_done answers (Some (job_carrying cancelled (job_of (served_with pid told.now)))) (machine_of self.old) ≡ silent (machine_of self.new) }
         ensures kept { IsServed self.old self.new }
-        ensures draws { debt self.new ≤ debt self.old + draws_of_job (job_of (served_with pid told.now)) }
+        ensures draws { drawn_in_all self.new ≤ drawn_in_all self.old + draws_of_job (job_of (served_with pid told.now)) }
     {
         if let Stimulus::Event(event) = told {
             self.serve(pid, event);
@@ -68,7 +69,7 @@ impl KernelFields {
     pub fn pass_idle_receivers(&mut self, last: &Call)
         requires order { IsInOrder self.old }
         requires running { self.old.halted ≡ false }
-        requires nothing_shown { self.old.unshown ≡ none_unshown }
+        requires nothing_shown { self.old.pending ≡ no_pending_entries }
         ensures value { self.new ≡ record self.old {
           scheduler = record self.old.scheduler { state = idle_receivers_passed last.now self.old.scheduler.state };
         } }
@@ -86,10 +87,10 @@ impl KernelFields {
     /// A kernel process is given an event.
     pub fn serve(&mut self, pid: Pid, event: &Event)
         requires few { self.old.timers.armings.drawn < 2 ^ 60 }
-        requires events { HasFitEvents self.old }
+        requires events { HasQueueableEvents self.old }
         ensures machine { machine_of self.new ≡ serve pid.0 event.now (machine_of self.old) }
         ensures kept { IsServed self.old self.new }
-        ensures draws { debt self.new ≤ debt self.old + draws_of_event pid.0 event.now }
+        ensures draws { drawn_in_all self.new ≤ drawn_in_all self.old + draws_of_event pid.0 event.now }
     {
         match (pid, event.code) {
             (ETIMER, POLL) => self.post_due(),

@@ -19,7 +19,7 @@ pub mod step;
 mod timer_calls;
 mod timer_processes;
 pub mod turn;
-mod unshown;
+mod pending_entries;
 mod work;
 
 pub use mote_types::fault::BootFault;

@@ -129,6 +129,6 @@ impl KernelFields {
             Err(refusal) => return self.refuse(pid, refusal),
         }
         self.answer(pid, Reply::Done);
-        self.unshown.note = Some(Note::Sent(sent));
+        self.pending.note = Some(Note::Sent(sent));
     }
 }

@@ -3,7 +3,7 @@
 ghost use Rattle.std.specs.Prelude.{◌≡◌, ◌+◌, true, false, length};
 ghost use Rattle.mote_types.specs.Codes.{number_event};
 ghost use Rattle.process_core.specs.Scheduler.{has_room};
-ghost use Rattle.kernel_core.specs.Code.Draws.{HasFitEvents, debt};
+ghost use Rattle.kernel_core.specs.Code.Draws.{HasQueueableEvents, drawn_in_all};
 ghost use Rattle.kernel_core.specs.Code.View.{machine_of, IsServed};
 ghost use Rattle.kernel_core.specs.Machine.{free_places};
 ghost use Rattle.kernel_core.specs.PacketProcess as process;
@@ -27,12 +27,12 @@ impl KernelFields {
     /// Tells the receiver of the next frame, if there is a receiver and such a frame.
     fn announce_next(&mut self) -> bool
         requires room { has_room self.old.scheduler.state ≡ true }
-        requires events { HasFitEvents self.old }
+        requires events { HasQueueableEvents self.old }
         ensures machine { machine_of self.new ≡ process.announce_next (machine_of self.old) }
         ensures nothing { result ≡ false → machine_of self.new ≡ machine_of self.old }
         ensures posted { result ≡ true → length self.new.scheduler.state.events ≡ length self.old.scheduler.state.events + 1 }
         ensures kept { IsServed self.old self.new }
-        ensures draws { debt self.new ≡ debt self.old }
+        ensures draws { drawn_in_all self.new ≡ drawn_in_all self.old }
     {
         let Some(receiver) = self.packets.receiver() else {
             return false;
@@ -47,10 +47,10 @@ impl KernelFields {
 
     /// Tells the receiver of frames as long as the queue has room.
     fn announce_while_room(&mut self)
-        requires events { HasFitEvents self.old }
+        requires events { HasQueueableEvents self.old }
         ensures machine { machine_of self.new ≡ times (free_places (machine_of self.old)) process.announce_next (machine_of self.old) }
         ensures kept { IsServed self.old self.new }
-        ensures draws { debt self.new ≡ debt self.old }
+        ensures draws { drawn_in_all self.new ≡ drawn_in_all self.old }
     {
         while self.scheduler.has_room() {
             if !self.announce_next() {
@@ -61,10 +61,10 @@ impl KernelFields {
 
     /// Tells the receiver of frames as long as the queue has room. Where one is left, the process is polled again.
     pub fn announce(&mut self)
-        requires events { HasFitEvents self.old }
+        requires events { HasQueueableEvents self.old }
         ensures machine { machine_of self.new ≡ process.announce (machine_of self.old) }
         ensures kept { IsServed self.old self.new }
-        ensures draws { debt self.new ≡ debt self.old }
+        ensures draws { drawn_in_all self.new ≡ drawn_in_all self.old }
     {
         self.announce_while_room();
         if self.packets.receiver().is_some() && self.packets.unannounced().is_some() {
@@ -74,10 +74,10 @@ impl KernelFields {
 
     /// Where the receiver has ended there is none, and no frame counts as announced.
     pub fn forget_receiver(&mut self, payload: &Payload)
-        requires events { HasFitEvents self.old }
+        requires events { HasQueueableEvents self.old }
         ensures machine { machine_of self.new ≡ process.forget_receiver (exited_application payload.now) (machine_of self.old) }
         ensures kept { IsServed self.old self.new }
-        ensures draws { debt self.new ≡ debt self.old }
+        ensures draws { drawn_in_all self.new ≡ drawn_in_all self.old }
     {
         if let Some(pid) = exited_application(payload) {
             self.packets.forget(pid);

@@ -1,7 +1,7 @@
 //! Process 2 (serial line), which broadcasts the lines that came in.
 
 ghost use Rattle.std.specs.Prelude.{◌≡◌, false};
-ghost use Rattle.kernel_core.specs.Code.Draws.{HasFitEvents, debt};
+ghost use Rattle.kernel_core.specs.Code.Draws.{HasQueueableEvents, drawn_in_all};
 ghost use Rattle.kernel_core.specs.SerialProcess as process;
 ghost use Rattle.kernel_core.specs.Code.View.{machine_of, IsServed};
 
@@ -12,10 +12,10 @@ use mote_types::event::{CONTINUE, Event, Payload, SERIAL_LINE, SERIAL_PROCESS};
 impl KernelFields {
     /// Broadcasts a line. It is lost where the queue is full.
     fn broadcast_line(&mut self, line: Line)
-        requires events { HasFitEvents self.old }
+        requires events { HasQueueableEvents self.old }
         ensures machine { machine_of self.new ≡ process.broadcast_line line.items (machine_of self.old) }
         ensures kept { IsServed self.old self.new }
-        ensures draws { debt self.new ≡ debt self.old }
+        ensures draws { drawn_in_all self.new ≡ drawn_in_all self.old }
         ensures same { self.new ≡ record self.old { scheduler = self.new.scheduler } }
     {
         let _ = self.scheduler.broadcast(Event {
@@ -27,10 +27,10 @@ impl KernelFields {
     /// Posts CONTINUE, for which the process waits where the queue takes it.
     fn post_continue(&mut self)
         requires running { self.old.serial_waits ≡ false }
-        requires events { HasFitEvents self.old }
+        requires events { HasQueueableEvents self.old }
         ensures machine { machine_of self.new ≡ process.post_continue (machine_of self.old) }
         ensures kept { IsServed self.old self.new }
-        ensures draws { debt self.new ≡ debt self.old }
+        ensures draws { drawn_in_all self.new ≡ drawn_in_all self.old }
         ensures same { self.new ≡ record self.old { scheduler = self.new.scheduler; serial_waits = self.new.serial_waits } }
     {
         let event = Event {
@@ -44,10 +44,10 @@ impl KernelFields {
     /// taken from the ring.
     fn empty_ring(&mut self)
         requires running { self.old.serial_waits ≡ false }
-        requires events { HasFitEvents self.old }
+        requires events { HasQueueableEvents self.old }
         ensures machine { machine_of self.new ≡ process.empty_ring (machine_of self.old) }
         ensures kept { IsServed self.old self.new }
-        ensures draws { debt self.new ≡ debt self.old }
+        ensures draws { drawn_in_all self.new ≡ drawn_in_all self.old }
     {
         while let Some(line) = self.serial.serve() {
             self.broadcast_line(line);
@@ -60,10 +60,10 @@ impl KernelFields {
 
     /// On POLL the ring is emptied, unless the process waits.
     pub fn poll_serial_line(&mut self)
-        requires events { HasFitEvents self.old }
+        requires events { HasQueueableEvents self.old }
         ensures machine { machine_of self.new ≡ process.serial_line_polled (machine_of self.old) }
         ensures kept { IsServed self.old self.new }
-        ensures draws { debt self.new ≡ debt self.old }
+        ensures draws { drawn_in_all self.new ≡ drawn_in_all self.old }
     {
         if !self.serial_waits {
             self.empty_ring();
@@ -72,10 +72,10 @@ impl KernelFields {
 
     /// CONTINUE, from anybody, ends the wait, and the ring is emptied.
     pub fn continue_serial_line(&mut self)
-        requires events { HasFitEvents self.old }
+        requires events { HasQueueableEvents self.old }
         ensures machine { machine_of self.new ≡ process.serial_line_continued (machine_of self.old) }
         ensures kept { IsServed self.old self.new }
-        ensures draws { debt self.new ≡ debt self.old }
+        ensures draws { drawn_in_all self.new ≡ drawn_in_all self.old }
     {
         self.serial_waits = false;
         self.empty_ring();

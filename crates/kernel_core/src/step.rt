@@ -15,7 +15,7 @@ pub enum Step {
 
 /// What a step came to, where its entry is put into one of two places that the caller lends.
 #[derive(Drop)]
-pub enum Reached {
+pub enum StepOutcome {
     /// An application took a turn, which lies in the place for turns.
     Turn,
     /// Another entry was made, and lies in the place for those.

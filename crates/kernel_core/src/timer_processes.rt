@@ -3,16 +3,16 @@
 ghost use Rattle.std.specs.Prelude.{◌≡◌, ◌≤◌, ◌<◌, ◌+◌, ◌^◌, true, false, length, Some};
 ghost use Rattle.process_core.specs.Requests.{called_back};
 ghost use Rattle.process_core.specs.Scheduler.{has_room};
-ghost use Rattle.process_core.specs.SchedulerView.{awaiting_nothing};
+ghost use Rattle.process_core.specs.Code.SchedulerView.{awaiting_nothing};
 ghost use Rattle.timer_core.specs.Names.{IsNamed};
 ghost use Rattle.timer_core.specs.declared.timer.Timer.{Timer};
 ghost use Rattle.mote_types.specs.Codes.{number_event};
-ghost use Rattle.kernel_core.specs.Code.Draws.{HasFitEvents, debt};
+ghost use Rattle.kernel_core.specs.Code.Draws.{HasQueueableEvents, drawn_in_all};
 ghost use Rattle.kernel_core.specs.Repeating.{times};
 ghost use Rattle.kernel_core.specs.Machine.{free_places};
 ghost use Rattle.kernel_core.specs.TimerProcesses as processes;
 ghost use Rattle.kernel_core.specs.TimerProcesses.{exited_application};
-ghost use Rattle.kernel_core.specs.Code.View.{machine_of, is_struck, IsServed};
+ghost use Rattle.kernel_core.specs.Code.View.{machine_of, is_cancelled, IsServed};
 
 use crate::fields::KernelFields;
 use crate::kernel_processes::exited_application;
@@ -32,12 +32,12 @@ impl KernelFields {
     /// Posts the first due timer, if there is one.
     fn post_first_due(&mut self) -> bool
         requires room { has_room self.old.scheduler.state ≡ true }
-        requires events { HasFitEvents self.old }
+        requires events { HasQueueableEvents self.old }
         ensures machine { machine_of self.new ≡ processes.post_first_due (machine_of self.old) }
         ensures nothing { result ≡ false → machine_of self.new ≡ machine_of self.old }
         ensures posted { result ≡ true → length self.new.scheduler.state.events ≡ length self.old.scheduler.state.events + 1 }
         ensures kept { IsServed self.old self.new }
-        ensures draws { debt self.new ≡ debt self.old }
+        ensures draws { drawn_in_all self.new ≡ drawn_in_all self.old }
     {
         match self.timers.take_due(self.clock) {
             Some(Due::Timer { pid, number }) => {
@@ -60,10 +60,10 @@ impl KernelFields {
 
     /// Posts due timers as long as the queue has room.
     fn post_while_room(&mut self)
-        requires events { HasFitEvents self.old }
+        requires events { HasQueueableEvents self.old }
         ensures machine { machine_of self.new ≡ times (free_places (machine_of self.old)) processes.post_first_due (machine_of self.old) }
         ensures kept { IsServed self.old self.new }
-        ensures draws { debt self.new ≡ debt self.old }
+        ensures draws { drawn_in_all self.new ≡ drawn_in_all self.old }
     {
         while self.scheduler.has_room() {
             if !self.post_first_due() {
@@ -74,10 +74,10 @@ impl KernelFields {
 
     /// Posts due timers as long as the queue has room. Where one is left, etimer is polled again.
     pub fn post_due(&mut self)
-        requires events { HasFitEvents self.old }
+        requires events { HasQueueableEvents self.old }
         ensures machine { machine_of self.new ≡ processes.post_due (machine_of self.old) }
         ensures kept { IsServed self.old self.new }
-        ensures draws { debt self.new ≡ debt self.old }
+        ensures draws { drawn_in_all self.new ≡ drawn_in_all self.old }
     {
         self.post_while_room();
         // Where the queue still has room, nothing due is left.
@@ -94,8 +94,8 @@ impl KernelFields {
     pub fn expire(&mut self, pid: Pid, number: u8, arming: u64)
         requires named { IsNamed (Timer.Callback pid number) }
         requires taken { self.old.scheduler.callback ≡ Some (pid, number) }
-        ensures struck_out { is_struck self.old.timers.armings pid.0 number arming ≡ true → self.new ≡ self.old }
-        ensures given { is_struck self.old.timers.armings pid.0 number arming ≡ false →
+        ensures cancelled { is_cancelled self.old.timers.armings pid.0 number arming ≡ true → self.new ≡ self.old }
+        ensures given { is_cancelled self.old.timers.armings pid.0 number arming ≡ false →
             self.new ≡ record self.old { scheduler = awaiting_nothing (called_back pid.0 number self.old.scheduler.state) } }
     {
         if self.timers.is_present_arming(pid, number, arming) {
@@ -105,10 +105,10 @@ impl KernelFields {
 
     /// The event timers of an application that has ended leave the timer list.
     pub fn forget_event_timers(&mut self, payload: &Payload)
-        requires events { HasFitEvents self.old }
+        requires events { HasQueueableEvents self.old }
         ensures machine { machine_of self.new ≡ processes.forget_event_timers (exited_application payload.now) (machine_of self.old) }
         ensures kept { IsServed self.old self.new }
-        ensures draws { debt self.new ≡ debt self.old }
+        ensures draws { drawn_in_all self.new ≡ drawn_in_all self.old }
     {
         if let Some(pid) = exited_application(payload) {
             self.timers.forget(pid);
@@ -119,10 +119,10 @@ impl KernelFields {
     /// counts no more.
     pub fn forget_callback_timers(&mut self, payload: &Payload)
         requires few { self.old.timers.armings.drawn < 2 ^ 60 }
-        requires events { HasFitEvents self.old }
+        requires events { HasQueueableEvents self.old }
         ensures machine { machine_of self.new ≡ processes.forget_callback_timers (exited_application payload.now) (machine_of self.old) }
         ensures kept { IsServed self.old self.new }
-        ensures draws { debt self.new ≤ debt self.old + 4 }
+        ensures draws { drawn_in_all self.new ≤ drawn_in_all self.old + 4 }
     {
         if let Some(pid) = exited_application(payload) {
             self.timers.forget_callbacks(pid);

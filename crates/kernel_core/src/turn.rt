@@ -1,7 +1,7 @@
 //! A turn in parts.
 
 ghost use Rattle.std.specs.Prelude.{◌≡◌};
-ghost use Rattle.kernel_core.specs.Run.{entry_of};
+ghost use Rattle.kernel_core.specs.Code.Steps.{entry_of};
 
 use mote_types::call::Call;
 use mote_types::entry::Entry;

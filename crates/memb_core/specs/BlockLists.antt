@@ -29,9 +29,11 @@ put_behind prev b (other ∷ later) = if other == prev then other ∷ (b ∷ lat
 abbrev pub added : ℕ → List ℕ → List ℕ
 added b list = without b list ++ b ∷ []
 
+-- b is the new head
 abbrev pub pushed : ℕ → List ℕ → List ℕ
 pushed b list = b ∷ without b list
 
+-- b stands right behind another block
 abbrev pub inserted : ℕ → ℕ → List ℕ → List ℕ
 inserted prev b list = put_behind prev b (without b list)
 

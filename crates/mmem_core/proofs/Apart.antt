@@ -10,7 +10,7 @@ use Rattle.mmem_core.specs.declared.quotas.Quotas.{Quotas}
 use Rattle.mmem_core.specs.Places.{place_in}
 use Rattle.mmem_core.specs.Code.Laid.{at_of, room_of, LieApart}
 use Rattle.mmem_core.specs.Separation.{extent_of, bytes_at_place, BlocksLieApart}
-use Rattle.mmem_core.specs.Table.{Table}
+use Rattle.mmem_core.specs.HandleTable.{HandleTable}
 use Rattle.mmem_core.proofs.PlaceLemmas.{place_inside, some_size}
 use Rattle.mmem_core.proofs.StoreLemmas.{block_in, get_or-blocks}
 use Rattle.mmem_core.proofs.TableLemmas.{bytes_are}
@@ -24,7 +24,7 @@ number_of-differs p h q k named named' differ =
     ])
 
 module _ (span : Span) (quotas : Quotas) (xs : List (Option Place)) (slid : ℕ) (lie : LieApart xs span.len) where
-  abbrev T : Table
+  abbrev T : HandleTable
   T = record { span = span; quotas = quotas; places = xs; slid = slid }
 
   inside : (i : ℕ) (place : Place) → place_in xs i ≡ Some place → LiesIn span (extent_of T place)

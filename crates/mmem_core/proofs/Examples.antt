@@ -2,9 +2,9 @@
 use Rattle.std.proofs.Common.{◌+◌, ◌≤◌, sym, subst, arith}
 use Rattle.arena_core.specs.declared.span.Span.{Span}
 use Rattle.arena_core.specs.Contents.{Contents}
-use Rattle.mmem_core.specs.Table.{Table, KeepsToSpan}
+use Rattle.mmem_core.specs.HandleTable.{HandleTable, KeepsToSpan}
 
 -- a span that was handed out stays handed out: what is carved later lies behind it
-stays_handed_out : (old new : Table) (before after : Contents) → KeepsToSpan old new before after → old.span.at + old.span.len ≤ before.carved → new.span.at + new.span.len ≤ after.carved
+stays_handed_out : (old new : HandleTable) (before after : Contents) → KeepsToSpan old new before after → old.span.at + old.span.len ≤ before.carved → new.span.at + new.span.len ≤ after.carved
 stays_handed_out old new before after keeps within =
     subst (λ (span : Span). span.at + span.len ≤ after.carved) (sym keeps.span) (omega (arith, keeps.carved, within))

@@ -12,13 +12,13 @@ use Rattle.mmem_core.specs.ManagedStore.{unused}
 use Rattle.mmem_core.specs.Places.{place_in, last_end, room_moved}
 use Rattle.mmem_core.specs.Code.Shares.{AreShared}
 use Rattle.mmem_core.specs.Code.Laid.{at_of, room_of, AreLaid, IsLaidOut, LieApart}
-use Rattle.mmem_core.specs.Table.{Table, store_of, KeepsToSpan, CountsMoved}
+use Rattle.mmem_core.specs.HandleTable.{HandleTable, store_of, KeepsToSpan, CountsMoved}
 use Rattle.mmem_core.proofs.PlaceLemmas as places
 use Rattle.mmem_core.proofs.Shares.{rooms_kept}
 use Rattle.mmem_core.proofs.PlaceLemmas.{AreSliding, Same}
 use Rattle.mmem_core.proofs.TableLemmas.{moved, kept, kept_same, kept_both, unused_is, place_length}
 
-abbrev pub table_of : Inside → Table
+abbrev pub table_of : Inside → HandleTable
 table_of m = record { span = m.span; quotas = m.quotas; places = m.places; slid = m.slid }
 
 pub record IsMidway (old now : Inside) (before after : Contents) (next : Option ℕ) (end : ℕ) : Type 0 where
@@ -119,7 +119,7 @@ module _ (old now : Inside) (before after : Contents) (number end : ℕ) (midway
     midway_more slid after' next slid_is after_is next_is below =
         let lowered : Option Place = Some (record { at = end; len = place.len }) in
         let ys = slice_set now.places number lowered in
-        let new : Table = record { span = now.span; quotas = now.quotas; places = ys; slid = slid } in
+        let new : HandleTable = record { span = now.span; quotas = now.quotas; places = ys; slid = slid } in
         let lie = places.LieApart-from now.places now.order now.used now.span.len sound in
         let d = down in let i = inside in let n = places.len_le_room place.len in
         let below_number = places.live_below now.places number place live in

@@ -12,7 +12,7 @@ use Rattle.mmem_core.specs.declared.place.Place.{Place}
 use Rattle.mmem_core.specs.ManagedStore.{ManagedStore, size_of, unused}
 use Rattle.mmem_core.specs.Places.{place_in}
 use Rattle.mmem_core.specs.Code.Laid.{at_of, room_of, LieApart}
-use Rattle.mmem_core.specs.Table.{bytes_at}
+use Rattle.mmem_core.specs.HandleTable.{bytes_at}
 use Rattle.mmem_core.proofs.PlaceLemmas as places
 
 -- the block of a name, read from a region

@@ -17,7 +17,7 @@ use Rattle.mmem_core.specs.ManagedStore.{ManagedStore, size_of, block_of, unused
 use Rattle.mmem_core.specs.Places.{place_in, last_end}
 use Rattle.mmem_core.specs.Code.Laid.{at_of, room_of, LieApart}
 use Rattle.mmem_core.specs.Code.Shares.{room_by}
-use Rattle.mmem_core.specs.Table.{Table, store_of, bytes_at, KeepsToSpan}
+use Rattle.mmem_core.specs.HandleTable.{HandleTable, store_of, bytes_at, KeepsToSpan}
 use Rattle.mmem_core.proofs.PlaceLemmas as places
 use Rattle.mmem_core.proofs.Shares.{same_sum}
 use Rattle.mmem_core.proofs.StoreLemmas.{block_in, get_or-blocks, no_place, size_same, sum_same, blocks-added, blocks-moved, blocks-written}
@@ -26,10 +26,10 @@ abbrev pub with_slot : ℕ → Option (List ℕ) → ManagedStore → ManagedSto
 with_slot i block store = record store { blocks = slice_set store.blocks i block }
 
 -- calls one after the other, and none
-pub kept_same : (old new : Table) (arena : Contents) → new.span ≡ old.span → new.quotas ≡ old.quotas → KeepsToSpan old new arena arena
+pub kept_same : (old new : HandleTable) (arena : Contents) → new.span ≡ old.span → new.quotas ≡ old.quotas → KeepsToSpan old new arena arena
 kept_same old new arena same limits = record { span = same; quotas = limits; carved = refl; bytes = record { size = refl; others = λ from n apart. refl } }
 
-pub kept_both : (first second third : Table) (before middle after : Contents) → KeepsToSpan first second before middle → KeepsToSpan second third middle after → KeepsToSpan first third before after
+pub kept_both : (first second third : HandleTable) (before middle after : Contents) → KeepsToSpan first second before middle → KeepsToSpan second third middle after → KeepsToSpan first third before after
 kept_both first second third before middle after one two =
     let bytes : ChangesOnly first.span.at first.span.len middle.bytes after.bytes = rw one.span at two.bytes in
     record {
@@ -43,7 +43,7 @@ kept_both first second third before middle after one two =
     }
 
 module _ (span : Span) (quotas : Quotas) (xs : List (Option Place)) (slid : ℕ) (lie : LieApart xs span.len) (B : List ℕ) (within : span.at + span.len ≤ length B) where
-  abbrev T : Table
+  abbrev T : HandleTable
   T = record { span = span; quotas = quotas; places = xs; slid = slid }
 
   abbrev region : List ℕ
@@ -140,7 +140,7 @@ module _ (span : Span) (quotas : Quotas) (xs : List (Option Place)) (slid : ℕ)
               elim (past j ne) [ inl before ↦ inl (omega arith) | inr behind ↦ inr (omega arith) ]
         ]))
 
-  pub kept : (new : Table) (at carved : ℕ) (ws : List ℕ) → new.span ≡ span → new.quotas ≡ quotas → span.at ≤ at → at + length ws ≤ span.at + span.len → KeepsToSpan T new (contents B carved) (contents (written B at ws) carved)
+  pub kept : (new : HandleTable) (at carved : ℕ) (ws : List ℕ) → new.span ≡ span → new.quotas ≡ quotas → span.at ≤ at → at + length ws ≤ span.at + span.len → KeepsToSpan T new (contents B carved) (contents (written B at ws) carved)
   kept new at carved ws same limits low high = record {
     span = same;
     quotas = limits;

@@ -2,6 +2,6 @@
 pub mod ManagedStore
 pub mod Places
 pub mod Separation
-pub mod Table
+pub mod HandleTable
 -- the code's own invariants
 pub mod Code

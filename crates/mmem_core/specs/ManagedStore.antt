@@ -46,6 +46,7 @@ taken_by p store = sum_by (λ handle. size_of (block_of p handle store)) handles
 abbrev pub free : ℕ → ManagedStore → ℕ
 free p store = option_map_or (λ quota. quota - taken_by p store) store.quota (unused store)
 
+-- p may take n bytes more
 abbrev pub fits : ℕ → ℕ → ManagedStore → Bool
 fits p n store = nat_le (up4 n) (free p store)
 

@@ -48,9 +48,9 @@ impl Model for Mmem {
     ghost use Rattle.std.specs.Prelude.{◌≡◌, ◌≤◌, length};
     ghost use Rattle.mmem_core.specs.Code.Laid.{IsLaidOut, LieApart};
     ghost use Rattle.mmem_core.specs.Code.Shares.{AreShared};
-    ghost use Rattle.mmem_core.specs.Table.{Table};
+    ghost use Rattle.mmem_core.specs.HandleTable.{HandleTable};
 
-    ghost Value = { Table };
+    ghost Value = { HandleTable };
 
     ghost view = { λ m. record { span = m.span; quotas = m.quotas; places = m.places; slid = m.slid } };
 
@@ -59,7 +59,7 @@ impl Model for Mmem {
 
 impl Mmem {
     ghost use Rattle.mmem_core.specs.Places.{bytes_moved, last_end};
-    ghost use Rattle.mmem_core.specs.Table.{store_of, IsWithin, KeepsToSpan, CountsMoved};
+    ghost use Rattle.mmem_core.specs.HandleTable.{store_of, IsWithin, KeepsToSpan, CountsMoved};
     ghost use Rattle.mmem_core.specs.Separation.{BlocksLieApart, place_of, end_of_others};
 
     /// Managed memory without a block, over a span of 4 to 65,536 bytes, a multiple of 4.

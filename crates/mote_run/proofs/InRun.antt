@@ -17,7 +17,7 @@ use Rattle.kernel_core.specs.Inputs.{fed}
 use Rattle.kernel_core.specs.Run.{Running, Runs, ComesToRest, after_steps, at_start, is_still, with_input}
 use Rattle.mote_run.specs.RunText.{HasRunOnWholeLines}
 use Rattle.mote_run.specs.Code.Between.{HasEnded, InRun, script_done}
-use Rattle.mote_run.specs.Code.Reading.{GoesOn, TakenPart, Took, number_after, said}
+use Rattle.mote_run.specs.Code.Reading.{IsOverlong, TakenPart, Took, number_after, said}
 use Rattle.mote_run.specs.Code.Settling.{Settled, lines}
 use Rattle.mote_run.specs.Code.Writing.{WritesOn}
 use Rattle.mote_run.proofs.Settling.{fed_halts, lines-append, steps_after}
@@ -170,7 +170,7 @@ module _ {config : Config} {says now : Applications} {quiet : Bool} {machine : M
     }
 
     -- the line that they end, or go on, has no form
-    pub gives_no_form : (last ≡ Taken.TooWide → GoesOn (length i.ended) bytes later) → said last bytes ≡ None → (more : List ℕ) →
+    pub gives_no_form : (last ≡ Taken.TooWide → IsOverlong (length i.ended) bytes later) → said last bytes ≡ None → (more : List ℕ) →
         inputs (read ++ more) ≡ (i.earlier, End.BadLine number)
     gives_no_form wide says_none more =
         rw all_read (no_form_said i.before last bytes later room_used t.narrow t.endless wide says_none more)
@@ -318,5 +318,5 @@ module _ {config : Config} {says now : Applications} {quiet : Bool} {machine : M
     ends_without_form t is_ended running =
         let same : number_later ≡ number = t.same_number in
         let no_form : said t.last t.bytes ≡ None = sym t.says_so in
-        let wide : t.last ≡ Taken.TooWide → GoesOn (length i.ended) t.bytes later = λ is. t.goes_on is (length i.ended) (rw is at (size_used t.part)) in
+        let wide : t.last ≡ Taken.TooWide → IsOverlong (length i.ended) t.bytes later = λ is. t.goes_on is (length i.ended) (rw is at (size_used t.part)) in
         rw same (in_run_stops (End.BadLine number) is_ended running (λ more limits. gives_no_form t.part wide no_form more))

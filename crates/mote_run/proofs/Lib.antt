@@ -8,6 +8,6 @@ pub mod NextPart
 pub mod Pieces
 pub mod ReadSoFar
 pub mod Settling
-pub mod Shown
+pub mod Trace
 pub mod Windows
 pub mod Writing

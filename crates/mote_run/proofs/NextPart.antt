@@ -10,7 +10,7 @@ use Rattle.mote_text.specs.declared.script.End.{End}
 use Rattle.mote_text.specs.Code.Lines.{GoesOnAt, has_no_end, unfinished_after, with_end}
 use Rattle.mote_text.specs.Script.{inputs, line_limit, read_line, script_limit}
 use Rattle.mote_text.proofs.Reading.{Before, Gives, another_byte, line_of_input, line_of_no_form, line_of_nothing, line_too_long, script_limit_is, script_too_long}
-use Rattle.mote_run.specs.Code.Reading.{GoesOn, TakenPart, number_after, said}
+use Rattle.mote_run.specs.Code.Reading.{IsOverlong, TakenPart, number_after, said}
 use Rattle.mote_run.proofs.Windows.{next_byte, used_and_later}
 
 -- the bytes that a line's end stands behind, with it
@@ -58,7 +58,7 @@ took line piece window later count used last bytes front rests few joined narrow
 
 -- the byte behind a line that is too wide stands within what a script may have
 pub goes_on : (line piece window later : List ℕ) (count used ended : ℕ) (bytes : List ℕ) → window ≡ take (16_777_216 - count) piece → later ≡ drop used piece →
-    count ≤ 16_777_216 → ended + length bytes ≡ count + used → length bytes ≡ line_limit → GoesOnAt window used → GoesOn ended bytes later
+    count ≤ 16_777_216 → ended + length bytes ≡ count + used → length bytes ≡ line_limit → GoesOnAt window used → IsOverlong ended bytes later
 goes_on line piece window later count used ended bytes front rests limit size full at =
     let room = 16_777_216 - count in
     let next = next_byte used room piece at.0 (rw front at at.1) in record {
@@ -134,7 +134,7 @@ module _ {ended : List ℕ} {earlier : List Input} {number : ℕ} (before : Befo
 
   -- what stands behind those bytes doesn't matter
   pub no_form_said : (last : Taken) (bytes later : List ℕ) → length ended + length (with_end last bytes) ≤ script_limit → length bytes ≤ line_limit → has_no_end bytes ≡ true →
-      (last ≡ Taken.TooWide → GoesOn (length ended) bytes later) →
+      (last ≡ Taken.TooWide → IsOverlong (length ended) bytes later) →
       said last bytes ≡ None → (more : List ℕ) → inputs ((ended ++ (with_end last bytes ++ later)) ++ more) ≡ (earlier, End.BadLine number)
   no_form_said Taken.Line bytes later room narrow endless wide says = λ more.
       rw (append_assoc ended ((bytes ++ 10 ∷ []) ++ later) more, append_assoc (bytes ++ 10 ∷ []) later more, ← append_assoc ended (bytes ++ 10 ∷ []) (later ++ more))

@@ -19,7 +19,8 @@ use Rattle.mote_text.specs.Transcript.{is_shown, shown}
 use Rattle.kernel_core.specs.declared.step.Step.{Step}
 use Rattle.kernel_core.specs.Inputs.{fed, frame_held, frame_refusal, held_unless_lost}
 use Rattle.kernel_core.specs.Machine.{Machine}
-use Rattle.kernel_core.specs.Run.{Answers, Silently, MakesEntry, GoesOn, Running, is_at_rest, is_still, made, heard, stimulus_of, answers_after, after_step, after_steps}
+use Rattle.kernel_core.specs.Run.{Answers, Running, is_at_rest, is_still, heard, stimulus_of, answers_after, after_step, after_steps}
+use Rattle.kernel_core.specs.Code.Steps.{GoesOn, Silently, MakesEntry, made}
 use Rattle.device_core.specs.PacketQueue.{free_slot}
 use Rattle.mote_run.specs.Code.Settling.{CutOff, IsTold, Settled, lines}
 use Rattle.mote_run.specs.Code.Writing.{WritesOn}

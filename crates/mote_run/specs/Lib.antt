@@ -1,5 +1,5 @@
 -- What a reader has to believe.
 pub mod RunText
-pub mod Shown
+pub mod Trace
 -- What the code keeps.
 pub mod Code

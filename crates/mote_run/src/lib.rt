@@ -2,7 +2,7 @@
 #![tactic(auto)]
 
 mod device;
-mod due;
+mod pending_text;
 pub mod law;
 mod piece;
 mod reader;

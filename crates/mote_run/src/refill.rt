@@ -3,7 +3,7 @@
 ghost use Rattle.std.specs.Prelude.{◌≡◌, ◌<◌, ◌≤◌, ◌+◌, ◌-◌, ◌^◌, ◌++◌, ◌==◌, ◌↔◌, [], ℕ, List, false, length, IfErr, IsErrOf, OnErr, OnOk};
 ghost use Rattle.mote_run.specs.Code.Writing.{WritesOn};
 
-use crate::due::Due;
+use crate::pending_text::PendingText;
 use crate::piece::Piece;
 use crate::run::RunFault;
 use mote_types::device::{ByteSink, ByteSource};
@@ -13,7 +13,7 @@ use mote_types::device::{ByteSink, ByteSource};
 pub fn refill<S: ByteSource, K: ByteSink>(
     source: &mut S,
     sink: &mut K,
-    due: &mut Due,
+    due: &mut PendingText,
     piece: &mut Piece,
     most: usize,
 ) -> Result<(), RunFault>

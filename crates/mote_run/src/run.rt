@@ -6,11 +6,11 @@ ghost use Rattle.mote_text.specs.Transcript.{final_line};
 ghost use Rattle.kernel_core.specs.declared.config.Config.{Config};
 ghost use Rattle.kernel_core.specs.Machine.{booted};
 ghost use Rattle.mote_run.specs.RunText.{HasRead, HasRun, HasRunInPart, HasRunOnWholeLines, WasBooted};
-ghost use Rattle.mote_run.specs.Shown.{Shows};
+ghost use Rattle.mote_run.specs.Trace.{TraceSatisfies};
 ghost use Rattle.run_laws.specs.RunLaws.{BlocksAreOwn, EventsArriveInOrder, ProcessesAreIsolated, TimersAreKept};
 ghost use Rattle.mote_run.specs.Code.Writing.{WritesOn};
 
-use crate::due::Due;
+use crate::pending_text::PendingText;
 use crate::law::text_exists;
 use crate::work::take_script;
 use kernel_core::kernel::Kernel;
@@ -35,7 +35,7 @@ pub enum RunFault {
 }
 
 /// Writes the last line, behind all that is due, and answers how the run ends.
-fn close<K: ByteSink>(sink: &mut K, due: &mut Due, end: End) -> Result<End, RunFault>
+fn close<K: ByteSink>(sink: &mut K, due: &mut PendingText, end: End) -> Result<End, RunFault>
     requires { K.failure_count sink.old < 2 ^ 64 - 1 }
     ensures end { IfOk result (λ ends. ends ≡ end) }
     ensures written { OnOk result (K.is_named → WritesOn (K.given sink.old) due.old.text.items (K.given sink.new) [] (final_line end)) }
@@ -73,7 +73,7 @@ fn write_run<S: ByteSource, K: ByteSink>(
     ensures read_fault { IsErrOf result RunFault.Read ↔ (S.failure_count source.old < S.failure_count source.new) }
     ensures write_fault { IsErrOf result RunFault.Write ↔ (K.failure_count sink.old < K.failure_count sink.new) }
 {
-    let mut due = Due::new();
+    let mut due = PendingText::new();
     let end = take_script(source, sink, &mut due, kernel, apps, quiet)?;
     close(sink, &mut due, end)
 }
@@ -112,13 +112,13 @@ pub fn run<S: ByteSource, K: ByteSink>(
     ensures read_fault { IsErrOf result RunFault.Read ↔ (S.failure_count source.old < S.failure_count source.new) }
     ensures write_fault { IsErrOf result RunFault.Write ↔ (K.failure_count sink.old < K.failure_count sink.new) }
     ensures memory { S.is_named → K.is_named → (config : Config) → kernel.machine ≡ booted config →
-        Shows BlocksAreOwn config (says_of says apps.old) quiet (S.taken source.old) (S.taken source.new) (S.is_ended source.new) (K.given sink.old) (K.given sink.new) result }
+        TraceSatisfies BlocksAreOwn config (says_of says apps.old) quiet (S.taken source.old) (S.taken source.new) (S.is_ended source.new) (K.given sink.old) (K.given sink.new) result }
     ensures events { S.is_named → K.is_named → (config : Config) → kernel.machine ≡ booted config →
-        Shows (EventsArriveInOrder config.apps) config (says_of says apps.old) quiet (S.taken source.old) (S.taken source.new) (S.is_ended source.new) (K.given sink.old) (K.given sink.new) result }
+        TraceSatisfies (EventsArriveInOrder config.apps) config (says_of says apps.old) quiet (S.taken source.old) (S.taken source.new) (S.is_ended source.new) (K.given sink.old) (K.given sink.new) result }
     ensures timers { S.is_named → K.is_named → (config : Config) → kernel.machine ≡ booted config →
-        Shows (TimersAreKept config.apps) config (says_of says apps.old) quiet (S.taken source.old) (S.taken source.new) (S.is_ended source.new) (K.given sink.old) (K.given sink.new) result }
+        TraceSatisfies (TimersAreKept config.apps) config (says_of says apps.old) quiet (S.taken source.old) (S.taken source.new) (S.is_ended source.new) (K.given sink.old) (K.given sink.new) result }
     ensures isolation { S.is_named → K.is_named → (config : Config) → kernel.machine ≡ booted config →
-        Shows (ProcessesAreIsolated config.quota config.apps) config (says_of says apps.old) quiet (S.taken source.old) (S.taken source.new) (S.is_ended source.new) (K.given sink.old) (K.given sink.new) result }
+        TraceSatisfies (ProcessesAreIsolated config.quota config.apps) config (says_of says apps.old) quiet (S.taken source.old) (S.taken source.new) (S.is_ended source.new) (K.given sink.old) (K.given sink.new) result }
 {
     // Laws of every run of the machine.
     blocks_are_own();

@@ -4,16 +4,17 @@ ghost use Rattle.std.specs.Prelude.{◌≡◌, ◌<◌, ◌≤◌, ◌+◌, ◌-
 ghost use Rattle.mote_types.specs.Applications.{Applications, says_of};
 ghost use Rattle.mote_types.specs.declared.entry.Entry.{Entry as MadeEntry};
 ghost use Rattle.kernel_core.specs.Inputs.{fed, has_bytes, ticks_of};
-ghost use Rattle.kernel_core.specs.Run.{entry_of, is_at_rest, is_still};
+ghost use Rattle.kernel_core.specs.Run.{is_at_rest, is_still};
+ghost use Rattle.kernel_core.specs.Code.Steps.{entry_of};
 ghost use Rattle.mote_run.specs.Code.Reading.{HasFrameLine};
 ghost use Rattle.mote_run.specs.Code.Settling.{CutOff, IsTold, Settled, lines};
 ghost use Rattle.mote_run.specs.Code.Writing.{WritesOn};
 
-use crate::due::Due;
+use crate::pending_text::PendingText;
 use crate::reader::LineInput;
 use crate::run::RunFault;
 use kernel_core::kernel::Kernel;
-use kernel_core::step::Reached;
+use kernel_core::step::StepOutcome;
 use kernel_core::turn::Turn;
 use mote_text::transcript::{is_shown, is_turn_shown};
 use mote_types::app::App;
@@ -25,7 +26,7 @@ use mote_types::entry::{Entry, Input};
 #[inline(never)]
 fn write_entry<K: ByteSink>(
     sink: &mut K,
-    due: &mut Due,
+    due: &mut PendingText,
     entry: &Entry,
     quiet: bool,
 ) -> Result<(), RunFault>
@@ -45,7 +46,7 @@ fn write_entry<K: ByteSink>(
 /// Writes the line of a turn, if it is shown, or puts it to what is due.
 fn write_turn<K: ByteSink>(
     sink: &mut K,
-    due: &mut Due,
+    due: &mut PendingText,
     turn: &Turn,
     quiet: bool,
 ) -> Result<(), RunFault>
@@ -65,7 +66,7 @@ fn write_turn<K: ByteSink>(
 /// Writes the line of an input that was handed in, if it is shown, or puts it to what is due. That of a frame is at hand.
 fn write_input<K: ByteSink>(
     sink: &mut K,
-    due: &mut Due,
+    due: &mut PendingText,
     line_input: &LineInput,
     quiet: bool,
 ) -> Result<(), RunFault>
@@ -90,7 +91,7 @@ fn write_input<K: ByteSink>(
 /// Entries that are no turns are put into `other`, which is kept for the whole run since it is large.
 pub fn settle<K: ByteSink>(
     sink: &mut K,
-    due: &mut Due,
+    due: &mut PendingText,
     kernel: &mut Kernel,
     apps: &mut [Box<dyn App>],
     other: &mut Entry,
@@ -113,10 +114,10 @@ pub fn settle<K: ByteSink>(
     let mut turn = Turn::none_yet();
     'entry: loop {
         match kernel.step_to(apps, &mut turn, other) {
-            Reached::Turn => write_turn(sink, due, &turn, quiet)?,
-            Reached::Other => write_entry(sink, due, other, quiet)?,
-            Reached::Rest => return Ok(()),
-            Reached::Halted => return Ok(()),
+            StepOutcome::Turn => write_turn(sink, due, &turn, quiet)?,
+            StepOutcome::Other => write_entry(sink, due, other, quiet)?,
+            StepOutcome::Rest => return Ok(()),
+            StepOutcome::Halted => return Ok(()),
         }
     }
 }
@@ -127,7 +128,7 @@ pub fn settle<K: ByteSink>(
 /// A frame has at least one byte, and its line is at hand.
 pub fn settle_input<K: ByteSink>(
     sink: &mut K,
-    due: &mut Due,
+    due: &mut PendingText,
     kernel: &mut Kernel,
     apps: &mut [Box<dyn App>],
     other: &mut Entry,

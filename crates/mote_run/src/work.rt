@@ -10,7 +10,7 @@ ghost use Rattle.kernel_core.specs.Run.{is_still};
 ghost use Rattle.mote_run.specs.RunText.{HasRead, HasRunInPart, HasRunOnWholeLines, WasBooted};
 ghost use Rattle.mote_run.specs.Code.Between.{HasEnded, InRun, script_done};
 
-use crate::due::Due;
+use crate::pending_text::PendingText;
 use crate::refill::refill;
 use crate::run::RunFault;
 use crate::script::{LIMIT, Script};
@@ -35,7 +35,7 @@ fn end_of(kernel: &Kernel) -> End
 /// Carries out what the present line says, as far as bytes of it were read. Answers how the run ends where that has no form.
 fn take_line<K: ByteSink>(
     sink: &mut K,
-    due: &mut Due,
+    due: &mut PendingText,
     kernel: &mut Kernel,
     apps: &mut [Box<dyn App>],
     other: &mut Entry,
@@ -89,7 +89,7 @@ fn take_line<K: ByteSink>(
 /// Carries out what the bytes of the last line say, where the script has ended. Answers how the run ends.
 fn take_end<K: ByteSink>(
     sink: &mut K,
-    due: &mut Due,
+    due: &mut PendingText,
     kernel: &mut Kernel,
     apps: &mut [Box<dyn App>],
     other: &mut Entry,
@@ -131,7 +131,7 @@ fn take_end<K: ByteSink>(
 pub fn take_script<S: ByteSource, K: ByteSink>(
     source: &mut S,
     sink: &mut K,
-    due: &mut Due,
+    due: &mut PendingText,
     kernel: &mut Kernel,
     apps: &mut [Box<dyn App>],
     quiet: bool,

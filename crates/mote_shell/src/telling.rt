@@ -11,12 +11,12 @@ use std::process::ExitCode;
 
 /// A failure as a line of standard error, behind the program's name.
 #[derive(Drop)]
-struct Told<'a, 'b> {
+struct FailureLine<'a, 'b> {
     program: &'static str,
     failure: &'a Failure<'b>,
 }
 
-impl fmt::Display for Told<'_, '_> {
+impl fmt::Display for FailureLine<'_, '_> {
     ghost use Rattle.mote_shell.specs.Statuses.{told_text};
 
     ghost output = { λ told. told_text told.program.now told.failure.now };
@@ -48,7 +48,7 @@ fn tell<R: Eprint>(rt: &R, program: Program, outcome: Result<End, Failure<'_>>) 
             // The parser's texts have their line ends.
             Failure::Words(text) => eprint!(rt; "{text}"),
             _ => {
-                let told = Told {
+                let told = FailureLine {
                     program: program.name,
                     failure,
                 };

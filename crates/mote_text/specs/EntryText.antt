@@ -13,6 +13,7 @@ use Rattle.mote_types.specs.declared.entry.Input.{Input}
 use Rattle.mote_types.specs.declared.entry.Note.{Note}
 use Rattle.mote_types.specs.declared.entry.Entry.{Entry}
 
+-- its bytes; a line is words with a blank between them
 abbrev pub Word : Type 0
 Word = List ℕ
 
@@ -20,6 +21,7 @@ Word = List ℕ
 abbrev pub hex : List ℕ → Word
 hex bytes = if length bytes == 0 then codes "-" else encode_lower bytes
 
+-- `-`, a number, or bytes in hexadecimal behind an x
 abbrev pub payload_word : Payload → Word
 payload_word Payload.Empty = codes "-"
 payload_word (Payload.Num n) = decimal n

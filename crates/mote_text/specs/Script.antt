@@ -11,9 +11,11 @@ use Rattle.mote_text.specs.declared.script.End.{End}
 
 -- a decimal number
 
+-- a 0 stands in front of another digit
 abbrev pub has_leading_zero : List ℕ → Bool
 has_leading_zero digits = nat_lt 1 (length digits) && slice_index digits 0 == 48
 
+-- digits, with no 0 in front that isn't needed
 abbrev pub is_number : List ℕ → Bool
 is_number text = nat_lt 0 (length text) && list_all is_ascii_digit text && not (has_leading_zero text)
 
@@ -34,14 +36,17 @@ read_bytes most digits =
 abbrev pub argument_of : List ℕ → List ℕ → Option (List ℕ)
 argument_of word line = if bytes_eq (take (length word) line) word then Some (drop (length word) line) else None
 
+-- `tick N`
 abbrev pub read_tick : List ℕ → Option Input
 read_tick line = option_map (λ n. Input.Tick n) (option_and_then read_number (argument_of (codes "tick ") line))
 
+-- `serial HEX`, of at most 256 bytes
 abbrev pub read_serial : List ℕ → Option Input
 read_serial line =
     option_map (λ bytes. Input.Serial (record { items = bytes }))
     (option_and_then (read_bytes 256) (argument_of (codes "serial ") line))
 
+-- `frame HEX`, of at most 127 bytes
 abbrev pub read_frame : List ℕ → Option Input
 read_frame line =
     option_map (λ bytes. Input.Frame (record { items = bytes }))
@@ -55,6 +60,7 @@ read_words line = option_or (read_tick line) (option_or (read_serial line) (read
 abbrev pub says_nothing : List ℕ → Bool
 says_nothing line = length line == 0 || slice_index line 0 == 35
 
+-- how many bytes a line may have, its end not counted
 abbrev pub line_limit : ℕ
 line_limit = 1024
 
@@ -67,6 +73,7 @@ read_line line =
 
 -- the lines of a script
 
+-- how many bytes of a script are read
 unfoldable pub script_limit : ℕ
 script_limit = 16_777_216
 
@@ -81,11 +88,13 @@ parts bytes = slice_split (λ byte. byte == 10) bytes
 abbrev pub is_line : Bool → List ℕ → Bool
 is_line is_end rest = nat_lt line_limit (length rest) || is_end && nat_lt 0 (length rest)
 
+-- what stands behind the last line end is a line, or is nothing
 abbrev pub with_last_line : Bool → List (List ℕ) → List (List ℕ)
 with_last_line is_end [] = []
 with_last_line is_end (rest ∷ []) = if is_line is_end rest then rest ∷ [] else []
 with_last_line is_end (line ∷ next ∷ lines) = line ∷ with_last_line is_end (next ∷ lines)
 
+-- all but the last
 abbrev pub without_last : List (List ℕ) → List (List ℕ)
 without_last [] = []
 without_last (line ∷ []) = []
@@ -95,6 +104,7 @@ without_last (line ∷ next ∷ lines) = line ∷ without_last (next ∷ lines)
 abbrev pub whole_lines : List ℕ → List (List ℕ)
 whole_lines bytes = without_last (parts bytes)
 
+-- the lines of a script, the last one perhaps with no end
 abbrev pub lines_of : List ℕ → List (List ℕ)
 lines_of bytes = with_last_line (not (is_too_long bytes)) (parts (take script_limit bytes))
 
@@ -102,6 +112,7 @@ lines_of bytes = with_last_line (not (is_too_long bytes)) (parts (take script_li
 abbrev pub Reading : Type 0
 Reading = List Input × End
 
+-- inputs of earlier lines
 abbrev pub preceded_by : List Input → Reading → Reading
 preceded_by earlier later = (earlier ++ later.0, later.1)
 

@@ -12,17 +12,20 @@ use Rattle.mote_text.specs.declared.script.End.{End}
 abbrev pub end_of : List Entry → End → End
 end_of entries end = if list_any is_halt entries then End.Halted else end
 
+-- what is written where the script isn't read to its end
 abbrev pub final_line : End → List ℕ
 final_line End.Finished = []
 final_line End.Halted = []
 final_line (End.BadLine n) = line_of (codes "bad" ∷ codes "line" ∷ decimal n ∷ [])
 final_line End.TooLong = line_of (codes "too" ∷ codes "long" ∷ [])
 
+-- a line for each entry, and the final one
 abbrev pub text : List Entry → End → List ℕ
 text entries end = flat_map entry_line entries ++ final_line end
 
 -- what is shown of a run, beside its final line
 
+-- whose turns are shown in a quiet run too
 abbrev pub prints_or_sends : Call → Bool
 prints_or_sends (Call.Print chunk) = true
 prints_or_sends (Call.PacketSend handle) = true

@@ -6,9 +6,11 @@ use Rattle.mote_types.specs.declared.event.Payload.{Payload}
 use Rattle.mote_types.specs.EventNumbers.{NONE, INIT, POLL, EXIT, SERVICE_REMOVED, EXITED, TIMER, SERIAL_LINE, PACKET}
 use Rattle.mote_types.specs.declared.refusal.Refusal.{Refusal}
 
+-- an event with no payload
 abbrev pub plain_event : ℕ → Event
 plain_event code = record { code = code; payload = Payload.Empty }
 
+-- an event whose payload is a number
 abbrev pub number_event : ℕ → ℕ → Event
 number_event code n = record { code = code; payload = Payload.Num n }
 
@@ -18,6 +20,7 @@ is_reserved code =
     list_any (λ reserved. code == reserved)
     (NONE ∷ INIT ∷ POLL ∷ EXIT ∷ SERVICE_REMOVED ∷ EXITED ∷ TIMER ∷ SERIAL_LINE ∷ PACKET ∷ [])
 
+-- by what number a transcript tells a refusal
 abbrev pub refusal_number : Refusal → ℕ
 refusal_number Refusal.Full = 1
 refusal_number Refusal.NotRunning = 2

@@ -14,7 +14,7 @@ use Rattle.clap.specs.declared.parser.matches.Found.{Found}
 use Rattle.clap.proofs.OnLiterals.{clap_on_literals}
 use Rattle.clap.proofs.ValueTestLemmas.{Accepts-accepts, accepts-Accepts}
 use Rattle.clap.proofs.WalkLemmas.{find-map, one_text-rows, raw_values-rows}
-use Rattle.mote_words.specs.CommandLine.{applications_of, faults_in, is_quiet, named_in, names_of, number_of, number_written, program, rows_in, size_of}
+use Rattle.mote_words.specs.CommandLine.{applications_of, errors_in, is_quiet, named_in, names_of, number_of, number_written, program, matches_in, size_of}
 use Rattle.mote_words.specs.declared.words.Named.{Named}
 
 pub program_is_simple : (name : Text) → is_simple (program name) ≡ true
@@ -25,13 +25,13 @@ pub program_is_free : (name : Text) → is_simple_and_free (program name) ≡ tr
 unfolding clap_on_literals
 program_is_free name = refl
 
-pub rows_in_is : (name : Text) (words : List Text) → rows_in words ≡ matches_of (program name) words
-unfolding rows_in
-rows_in_is name words = refl
+pub matches_in_is : (name : Text) (words : List Text) → matches_in words ≡ matches_of (program name) words
+unfolding matches_in
+matches_in_is name words = refl
 
-pub faults_in_is : (name : Text) (words : List Text) → faults_in words ≡ fault_of (program name) words
-unfolding faults_in clap_on_literals
-faults_in_is name words = refl
+pub errors_in_is : (name : Text) (words : List Text) → errors_in words ≡ fault_of (program name) words
+unfolding errors_in clap_on_literals
+errors_in_is name words = refl
 
 pub names_given : (f : Found) (id : Text) (o : Option (Bor (List (Bor Text)))) → id ≡ codes "APP" →
     option_map (λ s. map (λ v. v.now) s.now) o ≡ option_map raw_values (matched_of f id) →
@@ -79,9 +79,9 @@ module _ {A : Type 0} where
       record { applications = record { items = applications }; mmem = mmem; heap = heap; quota = quota; header = header; quiet = quiet }
 
   pub named_read : (by_name : Text → Option A) (words : List Text) (applications : List A) (mmem heap : ℕ) (quota : Option ℕ) (header : ℕ) (quiet : Bool) →
-      applications ≡ applications_of by_name (names_of (rows_in words)) → mmem ≡ size_of (codes "mmem") (rows_in words) →
-      heap ≡ size_of (codes "heap") (rows_in words) → quota ≡ number_of (codes "quota") (rows_in words) →
-      header ≡ size_of (codes "header") (rows_in words) → quiet ≡ is_quiet (rows_in words) →
+      applications ≡ applications_of by_name (names_of (matches_in words)) → mmem ≡ size_of (codes "mmem") (matches_in words) →
+      heap ≡ size_of (codes "heap") (matches_in words) → quota ≡ number_of (codes "quota") (matches_in words) →
+      header ≡ size_of (codes "header") (matches_in words) → quiet ≡ is_quiet (matches_in words) →
       named_with applications mmem heap quota header quiet ≡ named_in by_name words
   unfolding named_in
   named_read by_name words applications mmem heap quota header quiet a m h o r q = rw (a, m, h, o, r, q) refl

@@ -64,13 +64,13 @@ program name =
     names_argument
 
 -- what the parser finds of each argument, where it takes the words: the same whatever the program's name is, so here it has none
-unfoldable pub rows_in : List Text → List Row
-rows_in words = matches_of (program []) words
+unfoldable pub matches_in : List Text → List Row
+matches_in words = matches_of (program []) words
 
 -- why it doesn't take them: the kind of the first mistake, or of the help or the version that they ask for; nothing where it
 -- takes them
-unfoldable pub faults_in : List Text → List ErrorKind
-faults_in words = fault_of (program []) words
+unfoldable pub errors_in : List Text → List ErrorKind
+errors_in words = fault_of (program []) words
 
 -- ---- what the rows say that the parser finds
 
@@ -104,7 +104,7 @@ is_request _ = false
 
 -- the words ask for the help or the version
 abbrev pub AsksForText : List Text → Type 0
-AsksForText words = (kind : ErrorKind) × IsAmong kind (faults_in words) × (is_request kind ≡ true)
+AsksForText words = (kind : ErrorKind) × IsAmong kind (errors_in words) × (is_request kind ≡ true)
 
 -- by the table of a program's applications, which has the one of each name
 module _ {A : Type 0} (by_name : Text → Option A) where
@@ -130,26 +130,26 @@ module _ {A : Type 0} (by_name : Text → Option A) where
   unfoldable pub named_in : List Text → Named A
   named_in words =
       record {
-        applications = record { items = applications_of (names_of (rows_in words)) };
-        mmem = size_of (codes "mmem") (rows_in words);
-        heap = size_of (codes "heap") (rows_in words);
-        quota = number_of (codes "quota") (rows_in words);
-        header = size_of (codes "header") (rows_in words);
-        quiet = is_quiet (rows_in words);
+        applications = record { items = applications_of (names_of (matches_in words)) };
+        mmem = size_of (codes "mmem") (matches_in words);
+        heap = size_of (codes "heap") (matches_in words);
+        quota = number_of (codes "quota") (matches_in words);
+        header = size_of (codes "header") (matches_in words);
+        quiet = is_quiet (matches_in words);
       }
 
   -- the parser takes the words, each name is an application's, and they are at most 16
   pub record NamesApplications (words : List Text) : Type 0 where
-    pub taken : faults_in words ≡ []
-    pub known : find is_unknown (names_of (rows_in words)) ≡ None
-    pub few : length (names_of (rows_in words)) ≤ 16
+    pub taken : errors_in words ≡ []
+    pub known : find is_unknown (names_of (matches_in words)) ≡ None
+    pub few : length (names_of (matches_in words)) ≤ 16
 
   -- what words may be refused with: each refusal under its own condition, of which no two hold at once; and want of memory
   abbrev pub Refuses : List Text → Refusal → Type 0
-  Refuses words (Refusal.Request text) = IsAmong (kind_of text.error) (faults_in words) × (is_request (kind_of text.error) ≡ true)
-  Refuses words (Refusal.Words text) = IsAmong (kind_of text.error) (faults_in words) × (is_request (kind_of text.error) ≡ false)
+  Refuses words (Refusal.Request text) = IsAmong (kind_of text.error) (errors_in words) × (is_request (kind_of text.error) ≡ true)
+  Refuses words (Refusal.Words text) = IsAmong (kind_of text.error) (errors_in words) × (is_request (kind_of text.error) ≡ false)
   Refuses words Refusal.OutOfMemory = ⊤
-  Refuses words refusal = (faults_in words ≡ []) × RefusesNames (names_of (rows_in words)) refusal
+  Refuses words refusal = (errors_in words ≡ []) × RefusesNames (names_of (matches_in words)) refusal
 
 -- ---- the refusal by the kind of what the parser found
 

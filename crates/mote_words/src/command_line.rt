@@ -133,8 +133,8 @@ pub fn parse<'a>(
     program: Program,
     words: &'a [&'a str],
 ) -> Result<ArgMatches<'a>, Error>
-    ensures matches { IfOk result (λ matches. rows_of (found_of matches) ≡ spec.rows_in (texts words.now)) }
-    ensures faults { FailsBy (spec.faults_in (texts words.now)) result }
+    ensures matches { IfOk result (λ matches. rows_of (found_of matches) ≡ spec.matches_in (texts words.now)) }
+    ensures faults { FailsBy (spec.errors_in (texts words.now)) result }
 {
     let command = command(alloc, program)?;
     command.try_get_matches_from(words)

@@ -6,8 +6,8 @@ use Rattle.mote_types.specs.Bytes.{zeros, overwritten}
 use Rattle.mote_types.specs.BlockNames.{number_of}
 use Rattle.arena_core.specs.Contents.{Contents}
 use Rattle.mmem_core.specs.ManagedStore.{ManagedStore, bytes_of, with_block, with_bytes}
-use Rattle.mmem_core.specs.Table as managed
-use Rattle.mmem_core.specs.Table.{Table, region_of, store_of}
+use Rattle.mmem_core.specs.HandleTable as managed
+use Rattle.mmem_core.specs.HandleTable.{HandleTable, region_of, store_of}
 use Rattle.mmem_core.proofs.StoreLemmas.{block_in}
 use Rattle.heap_core.specs.declared.region.Region.{Region}
 use Rattle.node_memory.specs.declared.listed_pool.ListedPool.{ListedPool}
@@ -37,7 +37,7 @@ written-block p h bytes store new below is =
     ∙ ap (λ b. with_block p h (Some b) made) (overwritten-all bytes)
     ∙ ap (λ blocks. let s : ManagedStore = record { capacity = store.capacity; quota = store.quota; blocks = blocks } in s) (set-set store.blocks i (Some (zeros (length bytes))) (Some bytes))
 
-module _ (slot : ℕ) (bytes : List ℕ) (old new : Table) (heap : Region) (listed : List ListedPool) (before middle after : Contents) (laid_out : IsLaidOut (layout_of old heap listed before.bytes)) (slot_is : slot < 8) (made : managed.KeepsToSpan old new before middle) (made_is : store_of new middle.bytes ≡ with_block 3 slot (Some (zeros (length bytes))) (store_of old before.bytes)) (wrote : managed.KeepsToSpan new new middle after) (wrote_is : store_of new after.bytes ≡ with_bytes 3 slot 0 bytes (store_of new middle.bytes)) where
+module _ (slot : ℕ) (bytes : List ℕ) (old new : HandleTable) (heap : Region) (listed : List ListedPool) (before middle after : Contents) (laid_out : IsLaidOut (layout_of old heap listed before.bytes)) (slot_is : slot < 8) (made : managed.KeepsToSpan old new before middle) (made_is : store_of new middle.bytes ≡ with_block 3 slot (Some (zeros (length bytes))) (store_of old before.bytes)) (wrote : managed.KeepsToSpan new new middle after) (wrote_is : store_of new after.bytes ≡ with_bytes 3 slot 0 bytes (store_of new middle.bytes)) where
   middle_laid_out : IsLaidOut (layout_of new heap listed middle.bytes)
   middle_laid_out = after-managed 3 slot (Some (zeros (length bytes))) old new heap listed before middle laid_out made made_is
 

@@ -15,8 +15,8 @@ use Rattle.heap_core.specs.HeapStore.{HeapStore}
 use Rattle.heap_core.specs.HeapBytes as heap
 use Rattle.heap_core.specs.HeapBytes.{heap_of}
 use Rattle.heap_core.proofs.Callers.{heap_of-elsewhere, IsLaidOut-elsewhere}
-use Rattle.mmem_core.specs.Table.{Table, region_of, store_of}
-use Rattle.mmem_core.specs.Table as managed
+use Rattle.mmem_core.specs.HandleTable.{HandleTable, region_of, store_of}
+use Rattle.mmem_core.specs.HandleTable as managed
 use Rattle.mmem_core.proofs.Callers as managed_calls
 use Rattle.mmem_core.proofs.StoreLemmas.{block_in}
 use Rattle.memb_core.specs.declared.list_name.ListName.{ListName}
@@ -33,7 +33,7 @@ use Rattle.node_memory.specs.Ask.{Asked, ask_pool_of}
 use Rattle.node_memory.specs.PoolCalls.{PoolAsked, ask_pool}
 use Rattle.node_memory.proofs.Listed.{shown}
 
-abbrev pub layout_of : Table → Region → List ListedPool → List ℕ → Layout
+abbrev pub layout_of : HandleTable → Region → List ListedPool → List ℕ → Layout
 layout_of table heap listed bytes = record { managed = table; heap = heap; pools = listed; bytes = bytes }
 
 abbrev memory_of : ManagedStore → HeapStore → List PoolWithLists → Memory
@@ -92,7 +92,7 @@ one-changed (suc k) from (l ∷ later) d new before after lt lie kept linked =
     )
 
 -- a call on managed memory changed one name's block, and left the heap and the pools
-module _ (p h : ℕ) (block : Option (List ℕ)) (old new : Table) (heap : Region) (listed : List ListedPool) (before after : Contents) (laid_out : IsLaidOut (layout_of old heap listed before.bytes)) (kept : managed.KeepsToSpan old new before after) (is : store_of new after.bytes ≡ with_block p h block (store_of old before.bytes)) where
+module _ (p h : ℕ) (block : Option (List ℕ)) (old new : HandleTable) (heap : Region) (listed : List ListedPool) (before after : Contents) (laid_out : IsLaidOut (layout_of old heap listed before.bytes)) (kept : managed.KeepsToSpan old new before after) (is : store_of new after.bytes ≡ with_block p h block (store_of old before.bytes)) where
   apart : (heap.span.at + heap.span.len ≤ old.span.at) ⊎ (old.span.at + old.span.len ≤ heap.span.at)
   apart = inr laid_out.behind
 
@@ -128,7 +128,7 @@ module _ (p h : ℕ) (block : Option (List ℕ)) (old new : Table) (heap : Regio
       ∙ ap (λ l. memory_of store (heap_of heap before.bytes) l) pools_same.1
 
 -- a call on the heap left managed memory and the pools
-module _ (table : Table) (old new : Region) (listed : List ListedPool) (before after : Contents) (laid_out : IsLaidOut (layout_of table old listed before.bytes)) (kept : heap.KeepsToSpan old new before after) (now : heap.IsLaidOut new after.bytes) where
+module _ (table : HandleTable) (old new : Region) (listed : List ListedPool) (before after : Contents) (laid_out : IsLaidOut (layout_of table old listed before.bytes)) (kept : heap.KeepsToSpan old new before after) (now : heap.IsLaidOut new after.bytes) where
   start : new.span.at ≡ old.span.at
   start = ap (λ (s : Span). s.at) kept.span
 
@@ -155,14 +155,14 @@ module _ (table : Table) (old new : Region) (listed : List ListedPool) (before a
       ∙ ap (λ l. memory_of (store_of table before.bytes) (heap_of new after.bytes) l) lie_behind.1
 
 -- a call that is refused changes nothing
-pub still-laid_out : (old new : Table) (heap : Region) (listed : List ListedPool) (before after : Contents) → IsLaidOut (layout_of old heap listed before.bytes) → (new ≡ old) × (after ≡ before)
+pub still-laid_out : (old new : HandleTable) (heap : Region) (listed : List ListedPool) (before after : Contents) → IsLaidOut (layout_of old heap listed before.bytes) → (new ≡ old) × (after ≡ before)
     → IsLaidOut (layout_of new heap listed after.bytes)
 still-laid_out old new heap listed before after laid_out same =
-    subst (λ (table : Table). IsLaidOut (layout_of table heap listed after.bytes)) (sym same.0)
+    subst (λ (table : HandleTable). IsLaidOut (layout_of table heap listed after.bytes)) (sym same.0)
     (subst (λ (a : Contents). IsLaidOut (layout_of old heap listed a.bytes)) (sym same.1) laid_out)
 
 -- a call on a pool leaves managed memory, the heap and the other pools
-pub after-pool : (table : Table) (heap : Region) (k : ℕ) (listed : List ListedPool) (d new : ListedPool) (before after : Contents) → k < length listed
+pub after-pool : (table : HandleTable) (heap : Region) (k : ℕ) (listed : List ListedPool) (d new : ListedPool) (before after : Contents) → k < length listed
     → IsLaidOut (layout_of table heap listed before.bytes) → pools.KeepsToSpan (get_or listed k d).pool new.pool before after → AreLinked new.lists new.pool after.bytes
     → IsLaidOut (layout_of table heap (set listed k new) after.bytes)
     × (contents_of (layout_of table heap (set listed k new) after.bytes) ≡ with_pool k (seen new after.bytes) (contents_of (layout_of table heap listed before.bytes)))
@@ -202,7 +202,7 @@ pool_in-is zero (l ∷ later) d other bytes lt = refl
 pool_in-is (suc k) (l ∷ later) d other bytes lt = pool_in-is k later d other bytes (omega arith)
 
 -- what is asked of a pool is asked of the memory
-pub asked-pool : (table : Table) (heap : Region) (k : ℕ) (listed : List ListedPool) (d new : ListedPool) (before after : Contents) (call : Call) (reply : Reply) → k < length listed → nat_lt 3 k ≡ false
+pub asked-pool : (table : HandleTable) (heap : Region) (k : ℕ) (listed : List ListedPool) (d new : ListedPool) (before after : Contents) (call : Call) (reply : Reply) → k < length listed → nat_lt 3 k ≡ false
     → IsLaidOut (layout_of table heap listed before.bytes) → pools.KeepsToSpan (get_or listed k d).pool new.pool before after → AreLinked new.lists new.pool after.bytes
     → ask_pool call (seen (get_or listed k d) before.bytes) ≡ (seen new after.bytes, reply)
     → ask_pool_of k call (contents_of (layout_of table heap listed before.bytes)) ≡ (contents_of (layout_of table heap (set listed k new) after.bytes), reply)
@@ -214,7 +214,7 @@ asked-pool table heap k listed d new before after call reply lt known laid_out k
     ∙ ap (λ (changed : Memory). let answer : Asked = (changed, reply) in answer) (sym (after-pool table heap k listed d new before after lt laid_out kept linked).1))
 
 -- a refused call on a pool changed nothing
-pub refused-pool : (table : Table) (heap : Region) (k : ℕ) (listed : List ListedPool) (d new : ListedPool) (before after : Contents) → (new ≡ get_or listed k d) × (after ≡ before)
+pub refused-pool : (table : HandleTable) (heap : Region) (k : ℕ) (listed : List ListedPool) (d new : ListedPool) (before after : Contents) → (new ≡ get_or listed k d) × (after ≡ before)
     → placed (layout_of table heap (set listed k new) after.bytes) ≡ placed (layout_of table heap listed before.bytes)
 refused-pool table heap k listed d new before after same =
     ap (λ (a : Contents). placed (layout_of table heap (set listed k new) a.bytes)) same.1

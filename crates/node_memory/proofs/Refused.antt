@@ -4,7 +4,7 @@ use Rattle.std.specs.Prelude.{Option, Some, None, is_some, IfNone}
 use Rattle.mote_types.specs.declared.refusal.Refusal.{Refusal}
 use Rattle.mote_types.specs.declared.reply.Reply.{Reply}
 use Rattle.mmem_core.specs.ManagedStore.{ManagedStore, shortage}
-use Rattle.mmem_core.specs.Table.{Table, store_of}
+use Rattle.mmem_core.specs.HandleTable.{HandleTable, store_of}
 use Rattle.node_memory.specs.Ask.{IfRefused}
 
 pub refused-then : {X Y : Type 0} (reply : Reply) → (X → Y) → IfRefused reply X → IfRefused reply Y
@@ -21,6 +21,6 @@ none-then None none fact = fact
 none-then (Some x) none fact = absurd (cc)
 
 -- where a refusal left the table as it was, the reason that is told is that of the store as it was
-pub shortage-of-before : (told : Refusal) (before after : Table) (bytes : List ℕ) (managed : ManagedStore) → told ≡ shortage (store_of after bytes) → after ≡ before → store_of before bytes ≡ managed → told ≡ shortage managed
+pub shortage-of-before : (told : Refusal) (before after : HandleTable) (bytes : List ℕ) (managed : ManagedStore) → told ≡ shortage (store_of after bytes) → after ≡ before → store_of before bytes ≡ managed → told ≡ shortage managed
 shortage-of-before told before after bytes managed is-told same seen =
     is-told ∙ ap (λ t. shortage (store_of t bytes)) same ∙ ap (λ store. shortage store) seen

@@ -6,7 +6,7 @@ use Rattle.mote_types.specs.declared.call.Call.{Call}
 use Rattle.mote_types.specs.declared.reply.Reply.{Reply}
 use Rattle.arena_core.specs.declared.span.Span.{Span}
 use Rattle.arena_core.specs.Extents.{Extent}
-use Rattle.mmem_core.specs.Table.{Table}
+use Rattle.mmem_core.specs.HandleTable.{HandleTable}
 use Rattle.heap_core.specs.declared.region.Region.{Region}
 use Rattle.heap_core.specs.HeapBytes.{heap_of}
 use Rattle.heap_core.specs.HeapStore.{Block, HeapStore}
@@ -34,7 +34,7 @@ abbrev extent : Span → HeapStore → ℕ → ℕ → Option Extent
 extent span heap p b = option_map (λ (block : Block). let e : Extent = record { at = span.at + block.at; len = heap.header + block.room } in e) (live_block p b heap)
 
 -- the heap shows the same, in the same span
-module _ (table : Table) (old new : Region) (listed : List ListedPool) (before after : List ℕ) (span : new.span ≡ old.span) (same : contents_of (layout_of table new listed after) ≡ contents_of (layout_of table old listed before)) where
+module _ (table : HandleTable) (old new : Region) (listed : List ListedPool) (before after : List ℕ) (span : new.span ≡ old.span) (same : contents_of (layout_of table new listed after) ≡ contents_of (layout_of table old listed before)) where
   extents : (name : BlockName) → extent_named name (layout_of table new listed after) ≡ extent_named name (layout_of table old listed before)
   extents (BlockName.Managed p h) = refl
   extents (BlockName.Heap p b) = ap (λ s. extent s (heap_of new after) p b) span ∙ ap (λ (m : Memory). extent old.span m.heap p b) same

@@ -24,9 +24,11 @@ abbrev pub unless_refused : Option Refusal → Memory → Asked → Asked
 unless_refused None m asked = asked
 unless_refused (Some refusal) m asked = (m, Reply.Refused refusal)
 
+-- the call is carried out, and has nothing more to say
 abbrev pub done : Memory → Asked
 done m = (m, Reply.Done)
 
+-- the call is answered with these bytes, and changes nothing
 abbrev pub bytes_read : List ℕ → Memory → Asked
 bytes_read bytes m = (m, Reply.Bytes (record { items = bytes }))
 
@@ -83,6 +85,7 @@ ask_part (Some (Part.Pool k)) call p m = ask_pool_of k call m
 -- the other calls are not on memory, and are not asked here
 ask_part None call p m = done m
 
+-- what a call of p makes of the memory, and what it is answered
 abbrev pub ask : Call → ℕ → Memory → Asked
 ask call p m = ask_part (part_called call) call p m
 

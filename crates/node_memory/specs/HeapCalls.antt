@@ -9,6 +9,7 @@ use Rattle.heap_core.specs.HeapStore.{HeapStore, block_of}
 abbrev pub is_heap_block : ℕ → Bool
 is_heap_block b = nat_le b 15
 
+-- p has a block of that number
 abbrev pub is_live : ℕ → ℕ → HeapStore → Bool
 is_live p b heap = is_some (block_of p b heap)
 

@@ -8,6 +8,7 @@ use Rattle.mmem_core.specs.ManagedStore.{ManagedStore, block_of, bytes_of, fits,
 abbrev pub is_handle : ℕ → Bool
 is_handle h = nat_le h 15
 
+-- p has a block of that handle
 abbrev pub is_live : ℕ → ℕ → ManagedStore → Bool
 is_live p h store = is_some (block_of p h store)
 

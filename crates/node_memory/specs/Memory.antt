@@ -5,6 +5,7 @@ use Rattle.heap_core.specs.HeapStore.{HeapStore, empty_heap}
 use Rattle.node_memory.specs.declared.sizes.Sizes.{Sizes}
 use Rattle.node_memory.specs.ListedPools.{PoolWithLists, unused_pool_of}
 
+-- all memory that applications may ask for
 pub record Memory : Type 0 where
   -- the blocks behind the handles of the processes
   pub managed : ManagedStore

@@ -23,6 +23,7 @@ pool_called (Call.ListNext l b) = Some (l / 2)
 pool_called (Call.ListLength l) = Some (l / 2)
 pool_called _ = None
 
+-- the part of memory that a call is on, if it is one on memory
 abbrev pub part_called : Call → Option Part
 part_called (Call.MmemAlloc h n) = Some Part.Managed
 part_called (Call.MmemFree h) = Some Part.Managed

@@ -1,6 +1,6 @@
 -- The memory of a node together with the places of its blocks in the arena.
 use Rattle.std.specs.Prelude.{ℕ, ◌+◌, List, map}
-use Rattle.mmem_core.specs.Table.{Table, store_of}
+use Rattle.mmem_core.specs.HandleTable.{HandleTable, store_of}
 use Rattle.heap_core.specs.declared.region.Region.{Region}
 use Rattle.heap_core.specs.HeapBytes.{heap_of}
 use Rattle.memb_core.specs.Links.{list_of}
@@ -12,7 +12,7 @@ use Rattle.node_memory.specs.Memory.{Memory}
 
 -- the arena's bytes, and what is kept beside them: where the blocks lie, and which are live
 pub record Layout : Type 0 where
-  pub managed : Table
+  pub managed : HandleTable
   pub heap : Region
   pub pools : List ListedPool
   pub bytes : List ℕ

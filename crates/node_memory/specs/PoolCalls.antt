@@ -64,10 +64,12 @@ member_refusal name b s =
 abbrev pub PoolAsked : Type 0
 PoolAsked = PoolWithLists × Reply
 
+-- nothing changes where the call is refused
 abbrev pub unless_refused : Option Refusal → PoolWithLists → PoolAsked → PoolAsked
 unless_refused None s asked = asked
 unless_refused (Some refusal) s asked = (s, Reply.Refused refusal)
 
+-- the call is carried out, and has nothing more to say
 abbrev pub done : PoolWithLists → PoolAsked
 done s = (s, Reply.Done)
 

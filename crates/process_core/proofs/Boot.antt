@@ -3,7 +3,7 @@ use Rattle.std.proofs.Common.{◌≡◌, ℕ, zero, suc, ◌+◌, ◌<◌, ◌�
 use Rattle.std.specs.List.{range_with_len}
 use Rattle.std.proofs.lemmas.Bool.Decides.{nat_tests}
 use Rattle.process_core.specs.declared.scheduler_fields.SchedulerFields.{SchedulerFields}
-use Rattle.process_core.specs.declared.frame.Base.{Base}
+use Rattle.process_core.specs.declared.open_work.Base.{Base}
 use Rattle.process_core.specs.Processes.{at_first, state_of}
 use Rattle.process_core.specs.declared.state.State.{State}
 use Rattle.process_core.specs.declared.front.Front.{Front}

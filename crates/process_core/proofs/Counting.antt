@@ -4,7 +4,7 @@ use Rattle.std.specs.Prelude.{if◌then◌else◌, nat_lt}
 use Rattle.std.specs.List.{list_any}
 use Rattle.std.proofs.lemmas.Bool.Decides.{nat_tests}
 use Rattle.process_core.specs.declared.state.State.{State}
-use Rattle.process_core.specs.LonePoll.{is_only_marked}
+use Rattle.process_core.specs.Code.LonePoll.{is_only_marked}
 use Rattle.process_core.specs.Processes.{is_any_marked, with_mark}
 use Rattle.process_core.specs.Code.Nesting.{is_one_of}
 use Rattle.process_core.specs.Code.ProcessList.{IsKept, listed, mark_at, mark_count}

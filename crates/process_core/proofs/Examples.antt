@@ -31,4 +31,4 @@ unknown_process s = absurd (omega (arith, s.mote.known 9 (λ absent. absurd (cc)
 -- entries are shown by the layer above
 shows_an_entry : IsWellFormed (with_parts 1 at_first (Item.Show Entry.Halt ∷ [])) → ⊥
 unfolding with_parts
-shows_an_entry s = absurd (let shown = s.unshown in cc)
+shows_an_entry s = absurd (let shown = s.nothing_shown in cc)

@@ -4,17 +4,17 @@ use Rattle.std.specs.Prelude.{if◌then◌else◌, flat_map, reverse}
 use Rattle.mote_types.specs.declared.event.Event.{Event}
 use Rattle.mote_types.specs.declared.reply.Reply.{Reply}
 use Rattle.process_core.specs.declared.scheduler_fields.SchedulerFields.{SchedulerFields}
-use Rattle.process_core.specs.declared.frame.Base.{Base}
-use Rattle.process_core.specs.declared.frame.Frame.{Frame}
+use Rattle.process_core.specs.declared.open_work.Base.{Base}
+use Rattle.process_core.specs.declared.open_work.Continuation.{Continuation}
 use Rattle.process_core.specs.declared.front.Front.{Front}
 use Rattle.process_core.specs.Idle.{is_empty}
-use Rattle.process_core.specs.KernelReceivers.{behind_kernel_receivers, is_other_than}
+use Rattle.process_core.specs.Code.KernelReceivers.{behind_kernel_receivers, is_other_than}
 use Rattle.process_core.specs.Processes.{is_kernel_process}
 use Rattle.process_core.specs.Code.SchedulerFields.{IsInOrder, BootsKnown}
 use Rattle.process_core.specs.Code.Walks.{from_application, is_broadcast, receiver_is_next}
-use Rattle.process_core.specs.OpenWork.{agenda_of, base_items, front_items, items_of, poll_items, receiver_items}
+use Rattle.process_core.specs.Code.OpenWork.{agenda_of, base_items, front_items, items_of, poll_items, receiver_items}
 use Rattle.process_core.proofs.LonePoll.{both, empty_list}
-use Rattle.process_core.proofs.NothingLeft.{is_empty_frames}
+use Rattle.process_core.proofs.NothingLeft.{is_empty_continuations}
 
 pub and_false : (b : Bool) → (b && false) ≡ false
 and_false true = refl
@@ -53,17 +53,17 @@ module _ (codes : List ℕ) where
   nothing_below [] base walk event none = nothing_in_base base walk event none
   nothing_below (p ∷ polls) base walk event none = refl
 
-  nothing_behind : (stack : List Frame) (polls : List ℕ) (base : Base) (walk : List ℕ) (event : Event)
+  nothing_behind : (stack : List Continuation) (polls : List ℕ) (base : Base) (walk : List ℕ) (event : Event)
       → (is_empty stack && (is_empty polls && is_broadcast base)) ≡ false
       → behind_kernel_receivers codes (flat_map items_of stack ++ (poll_items polls ++ base_items base walk event))
       ≡ flat_map items_of stack ++ (poll_items polls ++ base_items base walk event)
   nothing_behind [] polls base walk event none = nothing_below polls base walk event none
-  nothing_behind (Frame.Leave pid [] true ∷ below) polls base walk event none = refl
-  nothing_behind (Frame.Leave pid [] false ∷ below) polls base walk event none = refl
-  nothing_behind (Frame.Leave pid (p ∷ others) exits ∷ below) polls base walk event none = refl
-  nothing_behind (Frame.Answer pid ∷ below) polls base walk event none = refl
+  nothing_behind (Continuation.Leave pid [] true ∷ below) polls base walk event none = refl
+  nothing_behind (Continuation.Leave pid [] false ∷ below) polls base walk event none = refl
+  nothing_behind (Continuation.Leave pid (p ∷ others) exits ∷ below) polls base walk event none = refl
+  nothing_behind (Continuation.Answer pid ∷ below) polls base walk event none = refl
 
-  nothing_next : (front : Front) (reply : Reply) (synch : Event) (stack : List Frame) (polls : List ℕ) (base : Base) (walk : List ℕ) (event : Event)
+  nothing_next : (front : Front) (reply : Reply) (synch : Event) (stack : List Continuation) (polls : List ℕ) (base : Base) (walk : List ℕ) (event : Event)
       → (is_empty (front_items front reply synch) && (is_empty stack && (is_empty polls && is_broadcast base))) ≡ false
       → behind_kernel_receivers codes (front_items front reply synch ++ (flat_map items_of stack ++ (poll_items polls ++ base_items base walk event)))
       ≡ front_items front reply synch ++ (flat_map items_of stack ++ (poll_items polls ++ base_items base walk event))
@@ -88,7 +88,7 @@ module _ (codes : List ℕ) where
       let first = both (is_empty (front_items d.front d.reply d.synch)) (_) h in
       let second = both (_) (_) first.1 in
       let third = both (is_empty d.polls) (is_broadcast d.base) second.1 in
-      let bare : reverse d.stack.items ≡ [] = empty_list (reverse d.stack.items) (is_empty_frames d.stack.items ∙ second.0) in
+      let bare : reverse d.stack.items ≡ [] = empty_list (reverse d.stack.items) (is_empty_continuations d.stack.items ∙ second.0) in
       rw (empty_list (front_items d.front d.reply d.synch) first.0, bare, empty_list d.polls third.0, broadcasting d.base third.1) refl
 
   pub passed : (d : SchedulerFields) → receiver_is_next d ≡ true → is_other_than codes d.broadcast.code ≡ true
@@ -107,7 +107,7 @@ module _ (codes : List ℕ) where
       split true n false o h =
           receivers_open d d.walk n ∙ sym (ap (behind_kernel_receivers codes) (receivers_open d d.walk n) ∙ receivers_behind d.broadcast d.walk false o)
       split false n other o h =
-          sym (nothing_next d.front d.reply d.synch (reverse d.stack.items) d.polls d.base d.walk d.broadcast (rw (is_empty_frames d.stack.items) n))
+          sym (nothing_next d.front d.reply d.synch (reverse d.stack.items) d.polls d.base d.walk d.broadcast (rw (is_empty_continuations d.stack.items) n))
 
 pub order_passed : (d : SchedulerFields) (walk : List ℕ) → receiver_is_next d ≡ true → IsInOrder d → IsInOrder (record d { walk = walk })
 order_passed d walk next order =

@@ -11,7 +11,7 @@ use Rattle.process_core.specs.Code.Walks.{from_marked}
 use Rattle.process_core.specs.Code.SchedulerFields.{queued_of}
 use Rattle.process_core.specs.Code.Nesting.{is_one_of}
 use Rattle.process_core.specs.Idle.{is_empty}
-use Rattle.process_core.specs.LonePoll.{is_only_marked, polls_alone, unmarked, IsLonePoll}
+use Rattle.process_core.specs.Code.LonePoll.{is_only_marked, polls_alone, unmarked, IsLonePoll}
 use Rattle.process_core.specs.Processes.{numbers, is_marked, is_any_marked, is_kernel_process, with_mark}
 use Rattle.process_core.specs.Scheduler.{Scheduler, in_front}
 use Rattle.process_core.proofs.Yields.{unmarked_pass, poll_one_yields, yields_next, yields_after}

@@ -4,12 +4,12 @@ use Rattle.std.specs.Prelude.{map, flat_map, reverse}
 use Rattle.std.proofs.lemmas.List.{length-reverse}
 use Rattle.std.proofs.lemmas.Bool.Decides.{nat_tests}
 use Rattle.mote_types.specs.declared.event.Event.{Event}
-use Rattle.process_core.specs.declared.frame.Base.{Base}
-use Rattle.process_core.specs.declared.frame.Frame.{Frame}
+use Rattle.process_core.specs.declared.open_work.Base.{Base}
+use Rattle.process_core.specs.declared.open_work.Continuation.{Continuation}
 use Rattle.process_core.specs.declared.scheduler_fields.SchedulerFields.{SchedulerFields}
 use Rattle.process_core.specs.Agenda.{Item}
 use Rattle.process_core.specs.Idle.{is_empty}
-use Rattle.process_core.specs.OpenWork.{front_items, items_of, poll_items, base_items, agenda_of}
+use Rattle.process_core.specs.Code.OpenWork.{front_items, items_of, poll_items, base_items, agenda_of}
 
 pub is_empty_append : {A : Type 0} (xs ys : List A) → is_empty (xs ++ ys) ≡ (is_empty xs && is_empty ys)
 is_empty_append [] ys = refl
@@ -19,12 +19,12 @@ pub is_empty_map : {A B : Type 0} (f : A → B) (xs : List A) → is_empty (map 
 is_empty_map f [] = refl
 is_empty_map f (x ∷ xs) = refl
 
--- a frame has at least one item
-has_more : (frame : Frame) → is_empty (items_of frame) ≡ false
-has_more (Frame.Leave pid [] true) = refl
-has_more (Frame.Leave pid [] false) = refl
-has_more (Frame.Leave pid (p ∷ walk) exits) = refl
-has_more (Frame.Answer pid) = refl
+-- a continuation has at least one item
+has_more : (continuation : Continuation) → is_empty (items_of continuation) ≡ false
+has_more (Continuation.Leave pid [] true) = refl
+has_more (Continuation.Leave pid [] false) = refl
+has_more (Continuation.Leave pid (p ∷ walk) exits) = refl
+has_more (Continuation.Answer pid) = refl
 
 pub deliver_has_more : (is_polled : Bool) (walk : List ℕ) (event : Event) → is_empty (base_items (Base.Deliver is_polled) walk event) ≡ false
 deliver_has_more true walk event = refl
@@ -36,16 +36,16 @@ is_empty_broadcast true (p ∷ walk) event = refl
 is_empty_broadcast false [] event = refl
 is_empty_broadcast false (p ∷ walk) event = refl
 
-is_empty_stack : (stack : List Frame) → is_empty (flat_map items_of stack) ≡ is_empty stack
+is_empty_stack : (stack : List Continuation) → is_empty (flat_map items_of stack) ≡ is_empty stack
 is_empty_stack [] = refl
-is_empty_stack (frame ∷ below) = is_empty_append (items_of frame) (flat_map items_of below) ∙ rw (has_more frame) refl
+is_empty_stack (continuation ∷ below) = is_empty_append (items_of continuation) (flat_map items_of below) ∙ rw (has_more continuation) refl
 
 is_empty_length : {A : Type 0} (xs : List A) → is_empty xs ≡ (length xs == 0)
 is_empty_length [] = refl
 is_empty_length (x ∷ xs) = grind (arith, nat_tests)
 
-pub is_empty_frames : (frames : List Frame) → is_empty (reverse frames) ≡ (length frames == 0)
-is_empty_frames frames = is_empty_length (reverse frames) ∙ rw (length-reverse frames) refl
+pub is_empty_continuations : (continuations : List Continuation) → is_empty (reverse continuations) ≡ (length continuations == 0)
+is_empty_continuations continuations = is_empty_length (reverse continuations) ∙ rw (length-reverse continuations) refl
 
 -- nothing is on the agenda where each part of the open work is over
 pub is_empty_agenda : (d : SchedulerFields) →
@@ -58,7 +58,7 @@ is_empty_agenda d =
     is_empty_append front (flat_map items_of stack ++ (poll_items d.polls ++ base))
     ∙ ap (λ rest. is_empty front && rest)
     (is_empty_append (flat_map items_of stack) (poll_items d.polls ++ base)
-    ∙ rw (is_empty_stack stack, is_empty_frames d.stack.items, is_empty_append (poll_items d.polls) base, is_empty_map (λ p. Item.PollOne p) d.polls) refl)
+    ∙ rw (is_empty_stack stack, is_empty_continuations d.stack.items, is_empty_append (poll_items d.polls) base, is_empty_map (λ p. Item.PollOne p) d.polls) refl)
 
 pub is_empty_drop : (n : ℕ) (xs : List ℕ) → n ≤ length xs → is_empty (drop n xs) ≡ nat_eq n (length xs)
 is_empty_drop zero [] h = refl

@@ -8,37 +8,37 @@ use Rattle.mote_types.specs.declared.reply.Reply.{Reply}
 use Rattle.process_core.specs.declared.scheduler_fields.SchedulerFields.{SchedulerFields}
 use Rattle.process_core.specs.declared.process.Process.{Process}
 use Rattle.process_core.specs.declared.state.State.{State}
-use Rattle.process_core.specs.declared.frame.Base.{Base}
-use Rattle.process_core.specs.declared.frame.Frame.{Frame}
+use Rattle.process_core.specs.declared.open_work.Base.{Base}
+use Rattle.process_core.specs.declared.open_work.Continuation.{Continuation}
 use Rattle.process_core.specs.declared.front.Front.{Front}
-use Rattle.process_core.specs.declared.ready.Ready.{Ready}
+use Rattle.process_core.specs.declared.next_job.NextJob.{NextJob}
 use Rattle.process_core.specs.Processes.{is_ending, state_of, with_state, with_mark, without, IsApplication}
 use Rattle.process_core.specs.Code.Nesting.{IsSound, IsAtTurn, has_ended, answering}
 use Rattle.process_core.specs.Requests.{is_in_activation}
 use Rattle.process_core.specs.Code.SchedulerFields.{IsInOrder, IsOrdered, BootsKnown, StartsKnown, active_in, turn_in, front_after, scheduler_behind, scheduler_of}
-use Rattle.process_core.specs.OpenWork.{front_items}
+use Rattle.process_core.specs.Code.OpenWork.{front_items}
 use Rattle.process_core.proofs.Sound as sound
 
--- a frame that is pushed is the topmost one
-pub pushed : (frames : List Frame) (f : Frame) → reverse (frames ++ f ∷ []) ≡ f ∷ reverse frames
-pushed frames f = reverse-append frames (f ∷ [])
+-- a continuation that is pushed is the topmost one
+pub pushed : (continuations : List Continuation) (f : Continuation) → reverse (continuations ++ f ∷ []) ≡ f ∷ reverse continuations
+pushed continuations f = reverse-append continuations (f ∷ [])
 
--- the stack has room for two more frames at any time
-pub few_frames : (d : SchedulerFields) (stack : List Frame) → IsOrdered d stack → length stack ≤ 2 * d.applications
-few_frames d stack order = sound.length-le_from_sound d.applications d.processes stack (active_in d.front) order.sound
+-- the stack has room for two more continuations at any time
+pub few_continuations : (d : SchedulerFields) (stack : List Continuation) → IsOrdered d stack → length stack ≤ 2 * d.applications
+few_continuations d stack order = sound.length-le_from_sound d.applications d.processes stack (active_in d.front) order.sound
 
 pub few_items : (d : SchedulerFields) → IsInOrder d → length d.stack.items ≤ 2 * d.applications
-few_items d order = omega (arith, few_frames d (reverse d.stack.items) order, length-reverse d.stack.items)
+few_items d order = omega (arith, few_continuations d (reverse d.stack.items) order, length-reverse d.stack.items)
 
 pub room_on_stack : (d : SchedulerFields) → IsInOrder d → length d.stack.items ≤ 32
 room_on_stack d order =
     omega (arith, few_items d order, order.few)
 
 -- and for one more than it had before this one was taken from it
-pub room_below : (d : SchedulerFields) (f : Frame) → IsOrdered d (f ∷ reverse d.stack.items) → length d.stack.items ≤ 31
-room_below d f order = omega (arith, few_frames d (f ∷ reverse d.stack.items) order, length-reverse d.stack.items, order.few)
+pub room_below : (d : SchedulerFields) (f : Continuation) → IsOrdered d (f ∷ reverse d.stack.items) → length d.stack.items ≤ 31
+room_below d f order = omega (arith, few_continuations d (f ∷ reverse d.stack.items) order, length-reverse d.stack.items, order.few)
 
-idle_sound : (d : SchedulerFields) (stack : List Frame) → IsOrdered d stack → d.front ≡ Front.Nothing → IsSound d.applications d.processes stack None
+idle_sound : (d : SchedulerFields) (stack : List Continuation) → IsOrdered d stack → d.front ≡ Front.Nothing → IsSound d.applications d.processes stack None
 idle_sound d stack order idle = rw idle at order.sound
 
 pub order_marked : (d : SchedulerFields) (new : List Process) (p : ℕ) (marked : Bool) → IsInOrder d
@@ -95,13 +95,13 @@ order_booting d p later boots e order =
       },
     )
 
--- ---- the topmost frame is taken from the stack
+-- ---- the topmost continuation is taken from the stack
 
-pub order_taken : (d : SchedulerFields) (p : Pid) → d.front ≡ Front.Nothing → IsOrdered d (Frame.Answer p ∷ reverse d.stack.items)
+pub order_taken : (d : SchedulerFields) (p : Pid) → d.front ≡ Front.Nothing → IsOrdered d (Continuation.Answer p ∷ reverse d.stack.items)
     → IsInOrder (record d { front = Front.Call p })
 order_taken d p idle order =
     record {
-      sound = sound.sound-taken d.applications d.processes (reverse d.stack.items) p (idle_sound d (Frame.Answer p ∷ reverse d.stack.items) order idle);
+      sound = sound.sound-taken d.applications d.processes (reverse d.stack.items) p (idle_sound d (Continuation.Answer p ∷ reverse d.stack.items) order idle);
       starts = tt;
       boots = order.boots;
       room = order.room;
@@ -110,10 +110,10 @@ order_taken d p idle order =
     }
 
 pub order_removed : (d : SchedulerFields) (q : Pid) (walk : List ℕ) (exits : Bool) (new : List Process) → d.front ≡ Front.Nothing
-    → new ≡ without q.0 d.processes → IsOrdered d (Frame.Leave q walk exits ∷ reverse d.stack.items) → IsInOrder (record d { processes = new })
+    → new ≡ without q.0 d.processes → IsOrdered d (Continuation.Leave q walk exits ∷ reverse d.stack.items) → IsInOrder (record d { processes = new })
 order_removed d q walk exits new idle e order =
     record {
-      sound = rw (e, idle) (sound.sound-removed d.applications d.processes (reverse d.stack.items) q walk exits (idle_sound d (Frame.Leave q walk exits ∷ reverse d.stack.items) order idle));
+      sound = rw (e, idle) (sound.sound-removed d.applications d.processes (reverse d.stack.items) q walk exits (idle_sound d (Continuation.Leave q walk exits ∷ reverse d.stack.items) order idle));
       starts = order.starts;
       boots = order.boots;
       room = order.room;
@@ -122,11 +122,11 @@ order_removed d q walk exits new idle e order =
     }
 
 -- the others that are to be told that q has ended
-pub order_telling : (d : SchedulerFields) (q : Pid) (walk later : List ℕ) (exits : Bool) (stack : List Frame) → stack ≡ d.stack.items ++ Frame.Leave q later exits ∷ []
-    → IsOrdered d (Frame.Leave q walk exits ∷ reverse d.stack.items) → IsInOrder (record d { stack = record { items = stack } })
+pub order_telling : (d : SchedulerFields) (q : Pid) (walk later : List ℕ) (exits : Bool) (stack : List Continuation) → stack ≡ d.stack.items ++ Continuation.Leave q later exits ∷ []
+    → IsOrdered d (Continuation.Leave q walk exits ∷ reverse d.stack.items) → IsInOrder (record d { stack = record { items = stack } })
 order_telling d q walk later exits stack e order =
     record {
-      sound = rw (e, pushed d.stack.items (Frame.Leave q later exits)) (again (active_in d.front) order.sound);
+      sound = rw (e, pushed d.stack.items (Continuation.Leave q later exits)) (again (active_in d.front) order.sound);
       starts = order.starts;
       boots = order.boots;
       room = order.room;
@@ -134,23 +134,23 @@ order_telling d q walk later exits stack e order =
       numbers = order.numbers;
     }
   where
-    turn_same : (t : Option Pid) → IfSome t (λ p. IsAtTurn d.processes (Frame.Leave q walk exits ∷ reverse d.stack.items) p.0)
-        → IfSome t (λ p. IsAtTurn d.processes (Frame.Leave q later exits ∷ reverse d.stack.items) p.0)
+    turn_same : (t : Option Pid) → IfSome t (λ p. IsAtTurn d.processes (Continuation.Leave q walk exits ∷ reverse d.stack.items) p.0)
+        → IfSome t (λ p. IsAtTurn d.processes (Continuation.Leave q later exits ∷ reverse d.stack.items) p.0)
     turn_same None h = tt
     turn_same (Some p) h = record { active = h.active; apart = h.apart }
 
-    again : (t : Option Pid) → IsSound d.applications d.processes (Frame.Leave q walk exits ∷ reverse d.stack.items) t
-        → IsSound d.applications d.processes (Frame.Leave q later exits ∷ reverse d.stack.items) t
+    again : (t : Option Pid) → IsSound d.applications d.processes (Continuation.Leave q walk exits ∷ reverse d.stack.items) t
+        → IsSound d.applications d.processes (Continuation.Leave q later exits ∷ reverse d.stack.items) t
     again t s = record { mote = s.mote; nested = s.nested; answers = s.answers; leaves = s.leaves; at_turn = turn_same t s.at_turn }
 
-pub order_exiting : (d : SchedulerFields) (q : Pid) (walk later : List ℕ) (exits still : Bool) (list : List Process) (stack : List Frame) → d.front ≡ Front.Nothing
-    → list ≡ with_state q.0 State.Ending d.processes → stack ≡ d.stack.items ++ Frame.Leave q later still ∷ []
-    → IsOrdered d (Frame.Leave q walk exits ∷ reverse d.stack.items) → IsInOrder (record d { processes = list; stack = record { items = stack }; front = Front.Call q })
+pub order_exiting : (d : SchedulerFields) (q : Pid) (walk later : List ℕ) (exits still : Bool) (list : List Process) (stack : List Continuation) → d.front ≡ Front.Nothing
+    → list ≡ with_state q.0 State.Ending d.processes → stack ≡ d.stack.items ++ Continuation.Leave q later still ∷ []
+    → IsOrdered d (Continuation.Leave q walk exits ∷ reverse d.stack.items) → IsInOrder (record d { processes = list; stack = record { items = stack }; front = Front.Call q })
 order_exiting d q walk later exits still list stack idle e f order =
     record {
       sound =
-          rw (e, f, pushed d.stack.items (Frame.Leave q later still))
-          (sound.sound-exiting d.applications d.processes (reverse d.stack.items) q walk later exits still (idle_sound d (Frame.Leave q walk exits ∷ reverse d.stack.items) order idle));
+          rw (e, f, pushed d.stack.items (Continuation.Leave q later still))
+          (sound.sound-exiting d.applications d.processes (reverse d.stack.items) q walk later exits still (idle_sound d (Continuation.Leave q walk exits ∷ reverse d.stack.items) order idle));
       starts = tt;
       boots = order.boots;
       room = order.room;
@@ -184,16 +184,16 @@ no_front (Front.Start q) p reply synch e = absurd (cc)
 no_front (Front.Callback q number) p reply synch e = absurd (cc)
 
 -- nor after a job, or a step that is none
-pub behind_is_all : (d : SchedulerFields) (ready : Option Ready) → d.front ≡ front_after ready → scheduler_behind d ≡ scheduler_of d
+pub behind_is_all : (d : SchedulerFields) (ready : Option NextJob) → d.front ≡ front_after ready → scheduler_behind d ≡ scheduler_of d
 behind_is_all d ready e = rw (e, nothing_after ready) refl
   where
-    nothing_after : (r : Option Ready) → front_items (front_after r) d.reply d.synch ≡ []
+    nothing_after : (r : Option NextJob) → front_items (front_after r) d.reply d.synch ≡ []
     nothing_after None = refl
-    nothing_after (Some (Ready.Give p origin)) = refl
-    nothing_after (Some (Ready.Serve p)) = refl
-    nothing_after (Some (Ready.Callback p number arming)) = refl
-    nothing_after (Some Ready.Round) = refl
-    nothing_after (Some Ready.Rest) = refl
+    nothing_after (Some (NextJob.Give p origin)) = refl
+    nothing_after (Some (NextJob.Serve p)) = refl
+    nothing_after (Some (NextJob.Callback p number arming)) = refl
+    nothing_after (Some NextJob.Round) = refl
+    nothing_after (Some NextJob.Rest) = refl
 
 -- the process at turn is answered
 pub order_answered : (d : SchedulerFields) (p : Pid) (reply : Reply) → IsInOrder d → turn_in d.front ≡ Some p → IsInOrder (record d { reply = reply; front = Front.Answer p })
@@ -201,12 +201,12 @@ order_answered d p reply order e =
     record { sound = turn_sound d p order e; starts = tt; boots = order.boots; room = order.room; few = order.few; numbers = order.numbers }
 
 -- its call was accepted, and this comes first
-pub order_accepted : (d : SchedulerFields) (p : Pid) (front : Front) (synch : Event) (stack : List Frame) → IsInOrder d → turn_in d.front ≡ Some p
-    → active_in front ≡ None → StartsKnown d.applications front → stack ≡ d.stack.items ++ Frame.Answer p ∷ []
+pub order_accepted : (d : SchedulerFields) (p : Pid) (front : Front) (synch : Event) (stack : List Continuation) → IsInOrder d → turn_in d.front ≡ Some p
+    → active_in front ≡ None → StartsKnown d.applications front → stack ≡ d.stack.items ++ Continuation.Answer p ∷ []
     → IsInOrder (record d { stack = record { items = stack }; synch = synch; front = front })
 order_accepted d p front synch stack order e none known f =
     record {
-      sound = rw (f, pushed d.stack.items (Frame.Answer p), none) (sound.sound-answered d.applications d.processes (reverse d.stack.items) p (turn_sound d p order e));
+      sound = rw (f, pushed d.stack.items (Continuation.Answer p), none) (sound.sound-answered d.applications d.processes (reverse d.stack.items) p (turn_sound d p order e));
       starts = known;
       boots = order.boots;
       room = order.room;
@@ -250,15 +250,15 @@ order_waited d p new order e stays f =
       numbers = order.numbers;
     }
 
-pub order_exited : (d : SchedulerFields) (p : Pid) (walk : List ℕ) (exits : Bool) (list : List Process) (stack : List Frame) → IsInOrder d → turn_in d.front ≡ Some p
-    → (state_of p.0 d.processes ≡ State.Ending → ⊥) → list ≡ with_state p.0 State.Leaving d.processes → stack ≡ d.stack.items ++ Frame.Leave p walk exits ∷ []
+pub order_exited : (d : SchedulerFields) (p : Pid) (walk : List ℕ) (exits : Bool) (list : List Process) (stack : List Continuation) → IsInOrder d → turn_in d.front ≡ Some p
+    → (state_of p.0 d.processes ≡ State.Ending → ⊥) → list ≡ with_state p.0 State.Leaving d.processes → stack ≡ d.stack.items ++ Continuation.Leave p walk exits ∷ []
     → IsInOrder (record d { processes = list; stack = record { items = stack }; front = Front.Nothing })
 order_exited d p walk exits list stack order e stays f g =
     let s = turn_sound d p order e in
     let below = reverse d.stack.items in
     record {
       sound =
-          rw (f, g, pushed d.stack.items (Frame.Leave p walk exits))
+          rw (f, g, pushed d.stack.items (Continuation.Leave p walk exits))
           (sound.sound-left d.applications d.processes below p walk exits (sound.sound-quiet d.applications d.processes below (Some p) s) (sound.application_at_turn d.applications d.processes below p s) s.at_turn.apart
           (stays_here (state_of p.0 d.processes) s.at_turn.active stays) (present (state_of p.0 d.processes) s.at_turn.active));
       starts = tt;
@@ -268,16 +268,16 @@ order_exited d p walk exits list stack order e stays f g =
       numbers = order.numbers;
     }
 
-pub order_killed : (d : SchedulerFields) (p q : Pid) (walk : List ℕ) (list : List Process) (middle stack : List Frame) → IsInOrder d → turn_in d.front ≡ Some p
+pub order_killed : (d : SchedulerFields) (p q : Pid) (walk : List ℕ) (list : List Process) (middle stack : List Continuation) → IsInOrder d → turn_in d.front ≡ Some p
     → IsApplication d.applications q.0 → state_of q.0 d.processes ≡ State.Running → list ≡ with_state q.0 State.Leaving d.processes
-    → middle ≡ d.stack.items ++ Frame.Answer p ∷ [] → stack ≡ middle ++ Frame.Leave q walk true ∷ []
+    → middle ≡ d.stack.items ++ Continuation.Answer p ∷ [] → stack ≡ middle ++ Continuation.Leave q walk true ∷ []
     → IsInOrder (record d { processes = list; stack = record { items = stack }; front = Front.Nothing })
 order_killed d p q walk list middle stack order e known runs f m g =
-    let below = Frame.Answer p ∷ reverse d.stack.items in
+    let below = Continuation.Answer p ∷ reverse d.stack.items in
     let s = sound.sound-answered d.applications d.processes (reverse d.stack.items) p (turn_sound d p order e) in
     record {
       sound =
-          rw (f, g, pushed middle (Frame.Leave q walk true), m, pushed d.stack.items (Frame.Answer p))
+          rw (f, g, pushed middle (Continuation.Leave q walk true), m, pushed d.stack.items (Continuation.Answer p))
           (sound.sound-left d.applications d.processes below q walk true s known
           (sound.none_in is_in_activation d.processes (answering below) q.0 s.answers (ap is_in_activation runs))
           (ap has_ended runs) (λ a. cc));

@@ -2,11 +2,11 @@
 use Rattle.std.proofs.Common.{◌≡◌, ℕ, zero, suc, ◌<◌, Bool, true, false, List, [], ◌∷◌, ◌++◌, refl, sym, ◌∙◌, ap, arith, Option, Some, None}
 use Rattle.std.specs.Prelude.{if◌then◌else◌, not, ◌&&◌, is_some, map, flat_map, reverse}
 use Rattle.std.specs.List.{list_any}
-use Rattle.process_core.specs.declared.frame.Frame.{Frame}
-use Rattle.process_core.specs.declared.frame.Base.{Base}
+use Rattle.process_core.specs.declared.open_work.Continuation.{Continuation}
+use Rattle.process_core.specs.declared.open_work.Base.{Base}
 use Rattle.process_core.specs.declared.front.Front.{Front}
 use Rattle.process_core.specs.declared.scheduler_fields.SchedulerFields.{SchedulerFields}
-use Rattle.process_core.specs.OpenWork.{front_items, items_of, poll_items, base_items, agenda_of, receiver_items, exit_items}
+use Rattle.process_core.specs.Code.OpenWork.{front_items, items_of, poll_items, base_items, agenda_of, receiver_items, exit_items}
 use Rattle.std.proofs.lemmas.List.Folds.{list_any-append}
 use Rattle.std.proofs.lemmas.Bool.Decides.{nat_tests}
 use Rattle.mote_types.specs.declared.event.Event.{Event}
@@ -17,7 +17,7 @@ use Rattle.mote_types.specs.declared.event.Stimulus.{Stimulus}
 use Rattle.mote_types.specs.declared.reply.Reply.{Reply}
 use Rattle.process_core.specs.Processes.{is_kernel_process, is_on_list, is_running, is_any_marked, is_marked}
 use Rattle.process_core.specs.Agenda.{Queued, Item, Job}
-use Rattle.process_core.specs.Scheduler.{Scheduler, job, worked, worked_at, job_at, job_of_item, job_of_event, job_of_give, first_event, wants_round, settled, ComesTo, carried_out, state_in, is_shown, of_event}
+use Rattle.process_core.specs.Scheduler.{Scheduler, job, after_front, after_front_of, job_at, job_of_item, job_of_event, job_of_give, first_event, wants_round, after_items, ComesTo, after_item, state_in, is_shown, of_event}
 
 module _ {X : Type 0} where
   no_rest_at_event : (event : Option (Queued X)) → job_of_event event ≡ Some Job.Rest → ⊥
@@ -58,14 +58,14 @@ module _ {X : Type 0} where
   idle_at [] s e h = record { done = e; quiet = idle (wants_round s) h }
   idle_at (item ∷ items) s e h = absurd (no_rest item s h)
 
-  stays : (agenda : List Item) (s : Scheduler X) → agenda ≡ [] → wants_round s ≡ false → worked_at agenda s ≡ s
+  stays : (agenda : List Item) (s : Scheduler X) → agenda ≡ [] → wants_round s ≡ false → after_front_of agenda s ≡ s
   stays [] s e q = rw q refl
   stays (item ∷ items) s e q = absurd (cc)
 
   -- what comes to rest has nothing left to do
   pub idle_from_rest : (s after : Scheduler X) → ComesTo s Job.Rest after → IsIdle after
   idle_from_rest s after c =
-      let last = settled c.0 s in
+      let last = after_items c.0 s in
       let i = idle_at last.agenda last refl c.1 in
       let same : last ≡ after = sym (stays last.agenda last i.done i.quiet) ∙ c.2 in
       rw (← same) i
@@ -114,7 +114,7 @@ module _ {X : Type 0} where
   serve_at (item ∷ items) s q other h = serve_at_item item s q other h
 
   pub served_below : (s : Scheduler X) (q : ℕ) (other : Event) (after : Scheduler X) → ComesTo s (Job.Serve q other) after → q < 4
-  served_below s q other after c = serve_at (settled c.0 s).agenda (settled c.0 s) q other c.1
+  served_below s q other after c = serve_at (after_items c.0 s).agenda (after_items c.0 s) q other c.1
 
 -- ---- the number of applications never changes
 
@@ -124,36 +124,36 @@ module _ {X : Type 0} where
   in_either_case true s t r e f = e
   in_either_case false s t r e f = f
 
-  applications_carried_out : (item : Item) (s : Scheduler X) → (carried_out item s).applications ≡ s.applications
-  applications_carried_out (Item.Start p) s = in_either_case (is_on_list (state_in s p)) _ _ s refl refl
-  applications_carried_out (Item.Give p origin stimulus) s =
+  applications_after_item : (item : Item) (s : Scheduler X) → (after_item item s).applications ≡ s.applications
+  applications_after_item (Item.Start p) s = in_either_case (is_on_list (state_in s p)) _ _ s refl refl
+  applications_after_item (Item.Give p origin stimulus) s =
       in_either_case (not (is_kernel_process p) && is_running (state_in s p)) _ _ s refl refl
-  applications_carried_out (Item.GiveExit p) s = refl
-  applications_carried_out (Item.Remove p) s = refl
-  applications_carried_out Item.Polls s = in_either_case (is_any_marked s.processes) _ _ s refl refl
-  applications_carried_out (Item.PollOne p) s = in_either_case (is_marked p s.processes) _ _ s refl refl
-  applications_carried_out Item.Deliver s = refl
-  applications_carried_out (Item.Turn p origin stimulus) s = refl
-  applications_carried_out (Item.Show entry) s = refl
+  applications_after_item (Item.GiveExit p) s = refl
+  applications_after_item (Item.Remove p) s = refl
+  applications_after_item Item.Polls s = in_either_case (is_any_marked s.processes) _ _ s refl refl
+  applications_after_item (Item.PollOne p) s = in_either_case (is_marked p s.processes) _ _ s refl refl
+  applications_after_item Item.Deliver s = refl
+  applications_after_item (Item.Turn p origin stimulus) s = refl
+  applications_after_item (Item.Show entry) s = refl
 
-  applications_worked_at : (agenda : List Item) (s : Scheduler X) → (worked_at agenda s).applications ≡ s.applications
-  applications_worked_at [] s = in_either_case (wants_round s) _ _ s refl refl
-  applications_worked_at (item ∷ items) s = applications_carried_out item (record s { agenda = items })
+  applications_after_front_of : (agenda : List Item) (s : Scheduler X) → (after_front_of agenda s).applications ≡ s.applications
+  applications_after_front_of [] s = in_either_case (wants_round s) _ _ s refl refl
+  applications_after_front_of (item ∷ items) s = applications_after_item item (record s { agenda = items })
 
-  pub applications_worked : (s : Scheduler X) → (worked s).applications ≡ s.applications
-  applications_worked s = applications_worked_at s.agenda s
+  pub applications_after_front : (s : Scheduler X) → (after_front s).applications ≡ s.applications
+  applications_after_front s = applications_after_front_of s.agenda s
 
-  pub applications_settled : (n : ℕ) (s : Scheduler X) → (settled n s).applications ≡ s.applications
-  applications_settled zero s = refl
-  applications_settled (suc n) s =
-      in_either_case (is_some (job s)) s (settled n (worked s)) s refl (applications_settled n (worked s) ∙ applications_worked s)
+  pub applications_after_items : (n : ℕ) (s : Scheduler X) → (after_items n s).applications ≡ s.applications
+  applications_after_items zero s = refl
+  applications_after_items (suc n) s =
+      in_either_case (is_some (job s)) s (after_items n (after_front s)) s refl (applications_after_items n (after_front s) ∙ applications_after_front s)
 
   pub applications_from_comes_to : (s : Scheduler X) (next : Job X) (after : Scheduler X) → ComesTo s next after
       → after.applications ≡ s.applications
   applications_from_comes_to s next after c =
-      ap (λ (t : Scheduler X). t.applications) (sym c.2) ∙ (applications_worked (settled c.0 s) ∙ applications_settled c.0 s)
+      ap (λ (t : Scheduler X). t.applications) (sym c.2) ∙ (applications_after_front (after_items c.0 s) ∙ applications_after_items c.0 s)
 
--- ---- an entry to be shown is never on the agenda that frames stand for
+-- ---- an entry to be shown is never on the agenda that continuations stand for
 
 none_shown : (ps : List ℕ) (f : ℕ → Item) → ((p : ℕ) → is_shown (f p) ≡ false) → list_any is_shown (map f ps) ≡ false
 none_shown [] f h = refl
@@ -166,41 +166,41 @@ none_shown_to_receivers : (event : Event) (ps : List ℕ) → list_any is_shown 
 none_shown_to_receivers event [] = refl
 none_shown_to_receivers event (p ∷ ps) = none_shown_to_receivers event ps
 
-unshown_in : (frame : Frame) → list_any is_shown (items_of frame) ≡ false
-unshown_in (Frame.Leave pid walk true) =
+nothing_shown_in : (continuation : Continuation) → list_any is_shown (items_of continuation) ≡ false
+nothing_shown_in (Continuation.Leave pid walk true) =
     shown_in_either (map (λ q. Item.Give q Origin.Synch (of_event (number_event EXITED pid.0))) walk) (exit_items true pid.0)
     (none_shown walk (λ q. Item.Give q Origin.Synch (of_event (number_event EXITED pid.0))) (λ q. refl)) refl
-unshown_in (Frame.Leave pid walk false) =
+nothing_shown_in (Continuation.Leave pid walk false) =
     shown_in_either (map (λ q. Item.Give q Origin.Synch (of_event (number_event EXITED pid.0))) walk) (exit_items false pid.0)
     (none_shown walk (λ q. Item.Give q Origin.Synch (of_event (number_event EXITED pid.0))) (λ q. refl)) refl
-unshown_in (Frame.Answer pid) = refl
+nothing_shown_in (Continuation.Answer pid) = refl
 
-unshown_on : (stack : List Frame) → list_any is_shown (flat_map items_of stack) ≡ false
-unshown_on [] = refl
-unshown_on (frame ∷ below) = shown_in_either (items_of frame) (flat_map items_of below) (unshown_in frame) (unshown_on below)
+nothing_shown_on : (stack : List Continuation) → list_any is_shown (flat_map items_of stack) ≡ false
+nothing_shown_on [] = refl
+nothing_shown_on (continuation ∷ below) = shown_in_either (items_of continuation) (flat_map items_of below) (nothing_shown_in continuation) (nothing_shown_on below)
 
-unshown_first : (front : Front) (reply : Reply) (synch : Event) → list_any is_shown (front_items front reply synch) ≡ false
-unshown_first Front.Nothing reply synch = refl
-unshown_first (Front.Call p) reply synch = refl
-unshown_first (Front.Expiry p number) reply synch = refl
-unshown_first (Front.Answer p) reply synch = refl
-unshown_first (Front.Give p) reply synch = refl
-unshown_first (Front.Start p) reply synch = refl
-unshown_first (Front.Callback p number) reply synch = refl
+nothing_shown_first : (front : Front) (reply : Reply) (synch : Event) → list_any is_shown (front_items front reply synch) ≡ false
+nothing_shown_first Front.Nothing reply synch = refl
+nothing_shown_first (Front.Call p) reply synch = refl
+nothing_shown_first (Front.Expiry p number) reply synch = refl
+nothing_shown_first (Front.Answer p) reply synch = refl
+nothing_shown_first (Front.Give p) reply synch = refl
+nothing_shown_first (Front.Start p) reply synch = refl
+nothing_shown_first (Front.Callback p number) reply synch = refl
 
-unshown_below : (base : Base) (walk : List ℕ) (event : Event) → list_any is_shown (base_items base walk event) ≡ false
-unshown_below Base.Nothing walk event = refl
-unshown_below Base.Boot walk event = none_shown walk (λ p. Item.Start p) (λ p. refl)
-unshown_below (Base.Deliver true) walk event = refl
-unshown_below (Base.Deliver false) walk event = refl
-unshown_below (Base.Broadcast false) walk event = none_shown_to_receivers event walk
-unshown_below (Base.Broadcast true) [] event = refl
-unshown_below (Base.Broadcast true) (p ∷ walk) event = none_shown_to_receivers event walk
+nothing_shown_below : (base : Base) (walk : List ℕ) (event : Event) → list_any is_shown (base_items base walk event) ≡ false
+nothing_shown_below Base.Nothing walk event = refl
+nothing_shown_below Base.Boot walk event = none_shown walk (λ p. Item.Start p) (λ p. refl)
+nothing_shown_below (Base.Deliver true) walk event = refl
+nothing_shown_below (Base.Deliver false) walk event = refl
+nothing_shown_below (Base.Broadcast false) walk event = none_shown_to_receivers event walk
+nothing_shown_below (Base.Broadcast true) [] event = refl
+nothing_shown_below (Base.Broadcast true) (p ∷ walk) event = none_shown_to_receivers event walk
 
-pub unshown : (d : SchedulerFields) → list_any is_shown (agenda_of d) ≡ false
-unshown d =
+pub nothing_shown : (d : SchedulerFields) → list_any is_shown (agenda_of d) ≡ false
+nothing_shown d =
     let stack = flat_map items_of (reverse d.stack.items) in
     let base = base_items d.base d.walk d.broadcast in
-    shown_in_either (front_items d.front d.reply d.synch) (stack ++ (poll_items d.polls ++ base)) (unshown_first d.front d.reply d.synch)
-    (shown_in_either stack (poll_items d.polls ++ base) (unshown_on (reverse d.stack.items))
-    (shown_in_either (poll_items d.polls) base (none_shown d.polls (λ p. Item.PollOne p) (λ p. refl)) (unshown_below d.base d.walk d.broadcast)))
+    shown_in_either (front_items d.front d.reply d.synch) (stack ++ (poll_items d.polls ++ base)) (nothing_shown_first d.front d.reply d.synch)
+    (shown_in_either stack (poll_items d.polls ++ base) (nothing_shown_on (reverse d.stack.items))
+    (shown_in_either (poll_items d.polls) base (none_shown d.polls (λ p. Item.PollOne p) (λ p. refl)) (nothing_shown_below d.base d.walk d.broadcast)))

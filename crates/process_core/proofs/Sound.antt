@@ -8,16 +8,16 @@ use Rattle.std.proofs.lemmas.Map.Steps.{length-le_from_distinct_below}
 use Rattle.mote_types.specs.declared.event.Pid.{Pid}
 use Rattle.process_core.specs.declared.process.Process.{Process}
 use Rattle.process_core.specs.declared.state.State.{State}
-use Rattle.process_core.specs.declared.frame.Frame.{Frame}
+use Rattle.process_core.specs.declared.open_work.Continuation.{Continuation}
 use Rattle.process_core.specs.Processes.{state_of, with_state, with_mark, without, IsApplication, IsOfMote}
 use Rattle.process_core.specs.Requests.{is_in_activation}
 use Rattle.process_core.specs.Code.Nesting.{answering, leaving, is_one_of, IsNested, has_ended, AreIn, IsAtTurn, IsSound}
 
--- each frame is one of these
-short : (stack : List Frame) → length stack ≤ length (answering stack) + length (leaving stack)
+-- each continuation is one of these
+short : (stack : List Continuation) → length stack ≤ length (answering stack) + length (leaving stack)
 short [] = omega arith
-short (Frame.Answer pid ∷ below) = omega (arith, short below)
-short (Frame.Leave pid walk exits ∷ below) = omega (arith, short below)
+short (Continuation.Answer pid ∷ below) = omega (arith, short below)
+short (Continuation.Leave pid walk exits ∷ below) = omega (arith, short below)
 
 pub or_false : (a b : Bool) → (a || b) ≡ false → (a ≡ false) × (b ≡ false)
 or_false true b e = absurd (cc)
@@ -125,17 +125,17 @@ mote_changed n p old new application same mote =
     split q present true e = let range = application_range n p application in rw (same_number p q e) range.1
     split q present false e = mote.known q (λ a. present (same q e ∙ a))
 
-answering_apart : (stack : List Frame) → IsNested stack → IsDistinct eqb (answering stack)
+answering_apart : (stack : List Continuation) → IsNested stack → IsDistinct eqb (answering stack)
 unfolding IsDistinct
 answering_apart [] h = tt
-answering_apart (Frame.Answer pid ∷ below) h = (none_from_is_one_of pid.0 (answering below) h.0, answering_apart below h.1)
-answering_apart (Frame.Leave pid walk exits ∷ below) h = answering_apart below h.1
+answering_apart (Continuation.Answer pid ∷ below) h = (none_from_is_one_of pid.0 (answering below) h.0, answering_apart below h.1)
+answering_apart (Continuation.Leave pid walk exits ∷ below) h = answering_apart below h.1
 
-leaving_apart : (stack : List Frame) → IsNested stack → IsDistinct eqb (leaving stack)
+leaving_apart : (stack : List Continuation) → IsNested stack → IsDistinct eqb (leaving stack)
 unfolding IsDistinct
 leaving_apart [] h = tt
-leaving_apart (Frame.Answer pid ∷ below) h = leaving_apart below h.1
-leaving_apart (Frame.Leave pid walk exits ∷ below) h = (none_from_is_one_of pid.0 (leaving below) h.0.1, leaving_apart below h.1)
+leaving_apart (Continuation.Answer pid ∷ below) h = leaving_apart below h.1
+leaving_apart (Continuation.Leave pid walk exits ∷ below) h = (none_from_is_one_of pid.0 (leaving below) h.0.1, leaving_apart below h.1)
 
 not_zero_to_three : (n : ℕ) (xs : List ℕ) → ((p : ℕ) → is_one_of p xs ≡ true → IsApplication n p) → (p : ℕ) → p < 4 → is_one_of p xs ≡ false
 not_zero_to_three n xs are p low = not_true (is_one_of p xs) (λ h. let a = application_range n p (are p h) in absurd (omega (arith, a.0, low)))
@@ -166,8 +166,8 @@ few_applications n xs distinct are =
         split true e = let low : p < 4 = grind (arith, nat_tests, e) in omega arith
         split false e = let a = application_range n p (are p (beyond (grind (arith, nat_tests, e)) h)) in omega (arith, a.1)
 
--- two frames for each application
-pub length-le_from_sound : (n : ℕ) (processes : List Process) (stack : List Frame) (turn : Option Pid)
+-- two continuations for each application
+pub length-le_from_sound : (n : ℕ) (processes : List Process) (stack : List Continuation) (turn : Option Pid)
     → IsSound n processes stack turn → length stack ≤ 2 * n
 length-le_from_sound n processes stack turn sound =
     let a = few_applications n (answering stack) (answering_apart stack sound.nested)
@@ -179,8 +179,8 @@ length-le_from_sound n processes stack turn sound =
 -- ---- what each call and each step makes of the stack
 
 -- p's call was accepted
-pub sound-answered : (n : ℕ) (list : List Process) (stack : List Frame) (pid : Pid)
-    → IsSound n list stack (Some pid) → IsSound n list (Frame.Answer pid ∷ stack) None
+pub sound-answered : (n : ℕ) (list : List Process) (stack : List Continuation) (pid : Pid)
+    → IsSound n list stack (Some pid) → IsSound n list (Continuation.Answer pid ∷ stack) None
 sound-answered n list stack pid s =
     record {
       mote = s.mote;
@@ -191,8 +191,8 @@ sound-answered n list stack pid s =
     }
 
 -- and is answered
-pub sound-taken : (n : ℕ) (list : List Process) (stack : List Frame) (pid : Pid)
-    → IsSound n list (Frame.Answer pid ∷ stack) None → IsSound n list stack (Some pid)
+pub sound-taken : (n : ℕ) (list : List Process) (stack : List Continuation) (pid : Pid)
+    → IsSound n list (Continuation.Answer pid ∷ stack) None → IsSound n list stack (Some pid)
 sound-taken n list stack pid s =
     record {
       mote = s.mote;
@@ -203,16 +203,16 @@ sound-taken n list stack pid s =
     }
 
 -- the process at turn is an application
-pub application_at_turn : (n : ℕ) (list : List Process) (stack : List Frame) (pid : Pid)
+pub application_at_turn : (n : ℕ) (list : List Process) (stack : List Continuation) (pid : Pid)
     → IsSound n list stack (Some pid) → IsApplication n pid.0
 application_at_turn n list stack pid s = application_in is_in_activation n list pid.0 s.mote s.at_turn.active refl refl
 
-pub active_from_sound : (n : ℕ) (list : List Process) (stack : List Frame) (turn : Option Pid) → IsSound n list stack turn
+pub active_from_sound : (n : ℕ) (list : List Process) (stack : List Continuation) (turn : Option Pid) → IsSound n list stack turn
     → IfSome turn (λ p. IsApplication n p.0 × (is_in_activation (state_of p.0 list) ≡ true))
 active_from_sound n list stack None s = tt
 active_from_sound n list stack (Some p) s = (application_at_turn n list stack p s, s.at_turn.active)
 
-pub sound-waited : (n : ℕ) (list : List Process) (stack : List Frame) (pid : Pid)
+pub sound-waited : (n : ℕ) (list : List Process) (stack : List Continuation) (pid : Pid)
     → IsSound n list stack (Some pid) → has_ended (state_of pid.0 list) ≡ false
     → IsSound n (with_state pid.0 State.Running list) stack None
 sound-waited n list stack pid s e =
@@ -226,15 +226,15 @@ sound-waited n list stack pid s e =
       at_turn = tt;
     }
 
-pub sound-quiet : (n : ℕ) (list : List Process) (stack : List Frame) (turn : Option Pid)
+pub sound-quiet : (n : ℕ) (list : List Process) (stack : List Continuation) (turn : Option Pid)
     → IsSound n list stack turn → IsSound n list stack None
 sound-quiet n list stack turn s = record { mote = s.mote; nested = s.nested; answers = s.answers; leaves = s.leaves; at_turn = tt }
 
 -- q begins to leave
-pub sound-left : (n : ℕ) (list : List Process) (stack : List Frame) (q : Pid) (walk : List ℕ) (exits : Bool)
+pub sound-left : (n : ℕ) (list : List Process) (stack : List Continuation) (q : Pid) (walk : List ℕ) (exits : Bool)
     → IsSound n list stack None → IsApplication n q.0 → is_one_of q.0 (answering stack) ≡ false → has_ended (state_of q.0 list) ≡ false
     → (state_of q.0 list ≡ State.Absent → ⊥)
-    → IsSound n (with_state q.0 State.Leaving list) (Frame.Leave q walk exits ∷ stack) None
+    → IsSound n (with_state q.0 State.Leaving list) (Continuation.Leave q walk exits ∷ stack) None
 sound-left n list stack q walk exits s application apart stays present =
     let new = with_state q.0 State.Leaving list in
     let same = λ (r : ℕ) (h : eqb r q.0 ≡ false). state_after q.0 r State.Leaving list h in
@@ -253,9 +253,9 @@ present_from_ended : (list : List Process) (p : ℕ) → has_ended (state_of p l
 present_from_ended list p h e = let no = ap has_ended e in cc
 
 -- q is given EXIT
-pub sound-exiting : (n : ℕ) (list : List Process) (stack : List Frame) (q : Pid) (walk later : List ℕ) (exits still : Bool)
-    → IsSound n list (Frame.Leave q walk exits ∷ stack) None
-    → IsSound n (with_state q.0 State.Ending list) (Frame.Leave q later still ∷ stack) (Some q)
+pub sound-exiting : (n : ℕ) (list : List Process) (stack : List Continuation) (q : Pid) (walk later : List ℕ) (exits still : Bool)
+    → IsSound n list (Continuation.Leave q walk exits ∷ stack) None
+    → IsSound n (with_state q.0 State.Ending list) (Continuation.Leave q later still ∷ stack) (Some q)
 sound-exiting n list stack q walk later exits still s =
     let new = with_state q.0 State.Ending list in
     let own = s.leaves q.0 (grind (arith, is_first q.0)) in
@@ -273,8 +273,8 @@ sound-exiting n list stack q walk later exits still s =
     }
 
 -- q leaves the list
-pub sound-removed : (n : ℕ) (list : List Process) (stack : List Frame) (q : Pid) (walk : List ℕ) (exits : Bool)
-    → IsSound n list (Frame.Leave q walk exits ∷ stack) None → IsSound n (without q.0 list) stack None
+pub sound-removed : (n : ℕ) (list : List Process) (stack : List Continuation) (q : Pid) (walk : List ℕ) (exits : Bool)
+    → IsSound n list (Continuation.Leave q walk exits ∷ stack) None → IsSound n (without q.0 list) stack None
 sound-removed n list stack q walk exits s =
     let new = without q.0 list in
     let own = s.leaves q.0 (grind (arith, is_first q.0)) in
@@ -288,7 +288,7 @@ sound-removed n list stack q walk exits s =
     }
 
 -- p, which runs, is given a stimulus
-pub sound-given : (n : ℕ) (list : List Process) (stack : List Frame) (p : Pid)
+pub sound-given : (n : ℕ) (list : List Process) (stack : List Continuation) (p : Pid)
     → IsSound n list stack None → 4 ≤ p.0 → state_of p.0 list ≡ State.Running
     → IsSound n (with_state p.0 State.Called list) stack (Some p)
 sound-given n list stack p s application runs =
@@ -318,7 +318,7 @@ application_from_absent n list p mote absent = split (nat_lt p 4) refl
     split true e = let runs = mote.kernel p (grind (arith, nat_tests, e)) in absurd (cc)
     split false e = grind (arith, nat_tests, e)
 
-pub sound-started : (n : ℕ) (list : List Process) (stack : List Frame) (p : ℕ)
+pub sound-started : (n : ℕ) (list : List Process) (stack : List Continuation) (p : ℕ)
     → IsSound n list stack None → p < 4 + n → state_of p list ≡ State.Absent
     → IsSound n (record { number = p; state = State.Running; marked = false } ∷ list) stack None
 sound-started n list stack p s known absent =
@@ -332,7 +332,7 @@ sound-started n list stack p s known absent =
       at_turn = tt;
     }
 
-pub sound-marked : (n : ℕ) (list : List Process) (stack : List Frame) (turn : Option Pid) (p : ℕ) (marked : Bool)
+pub sound-marked : (n : ℕ) (list : List Process) (stack : List Continuation) (turn : Option Pid) (p : ℕ) (marked : Bool)
     → IsSound n list stack turn → IsSound n (with_mark p marked list) stack turn
 sound-marked n list stack turn p marked s =
     record {

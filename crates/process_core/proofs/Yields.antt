@@ -16,7 +16,7 @@ use Rattle.mote_types.specs.Codes.{plain_event}
 use Rattle.process_core.specs.declared.state.State.{State}
 use Rattle.process_core.specs.Processes.{is_any_marked, is_marked, with_mark, is_running, is_kernel_process}
 use Rattle.process_core.specs.Agenda.{Queued, Item, Job}
-use Rattle.process_core.specs.Scheduler.{Scheduler, worked, job, settled, in_front, of_event, first_event, state_in, job_of_give}
+use Rattle.process_core.specs.Scheduler.{Scheduler, after_front, job, after_items, in_front, of_event, first_event, state_in, job_of_give}
 use Rattle.process_core.specs.Code.Yields.{Yields}
 
 not_running : (state : State) → (state ≡ State.Running → ⊥) → is_running state ≡ false
@@ -29,7 +29,7 @@ not_running State.Ending h = refl
 module _ {X : Type 0} where
   -- an item that is no job comes first
   pub yields_next : (s : Scheduler X) (next : Option (Job X)) (after : Scheduler X)
-      → job s ≡ None → Yields (worked s) next after → Yields s next after
+      → job s ≡ None → Yields (after_front s) next after → Yields s next after
   yields_next s None after e y = (suc y.0, rw e y.1)
   yields_next s (Some next) after e y = (suc y.0, rw e y.1, rw e y.2)
 
@@ -38,27 +38,27 @@ module _ {X : Type 0} where
       → Yields s next after → Yields (in_front (Item.Polls ∷ []) s) next after
   unpolled_yields s next after e y = yields_next (in_front (Item.Polls ∷ []) s) next after refl (rw e y)
 
-  stays : (m : ℕ) (s : Scheduler X) → is_some (job s) ≡ true → settled m s ≡ s
+  stays : (m : ℕ) (s : Scheduler X) → is_some (job s) ≡ true → after_items m s ≡ s
   stays zero s e = refl
   stays (suc m) s e = rw e refl
 
-  settled_twice : (n m : ℕ) (s : Scheduler X) → (k : ℕ) × (settled k s ≡ settled m (settled n s))
-  settled_twice zero m s = (m, refl)
-  settled_twice (suc n) m s = split (is_some (job s)) refl (settled_twice n m (worked s))
+  after_items_twice : (n m : ℕ) (s : Scheduler X) → (k : ℕ) × (after_items k s ≡ after_items m (after_items n s))
+  after_items_twice zero m s = (m, refl)
+  after_items_twice (suc n) m s = split (is_some (job s)) refl (after_items_twice n m (after_front s))
     where
-      split : (b : Bool) → is_some (job s) ≡ b → (k : ℕ) × (settled k (worked s) ≡ settled m (settled n (worked s)))
-          → (k : ℕ) × (settled k s ≡ settled m (settled (suc n) s))
+      split : (b : Bool) → is_some (job s) ≡ b → (k : ℕ) × (after_items k (after_front s) ≡ after_items m (after_items n (after_front s)))
+          → (k : ℕ) × (after_items k s ≡ after_items m (after_items (suc n) s))
       split true e r = (zero, rw e (sym (stays m s e)))
       split false e r = (suc r.0, rw e r.1)
 
   pub yields_after : (s between : Scheduler X) (next : Option (Job X)) (after : Scheduler X)
       → Yields s None between → Yields between next after → Yields s next after
   yields_after s between None after first y =
-      let r = settled_twice first.0 y.0 s in (r.0, r.1 ∙ ap (settled y.0) first.1 ∙ y.1)
+      let r = after_items_twice first.0 y.0 s in (r.0, r.1 ∙ ap (after_items y.0) first.1 ∙ y.1)
   yields_after s between (Some next) after first y =
-      let r = settled_twice first.0 y.0 s in
-      let same = r.1 ∙ ap (settled y.0) first.1 in
-      (r.0, ap job same ∙ y.1, ap worked same ∙ y.2)
+      let r = after_items_twice first.0 y.0 s in
+      let same = r.1 ∙ ap (after_items y.0) first.1 in
+      (r.0, ap job same ∙ y.1, ap after_front same ∙ y.2)
 
   no_service : (p : ℕ) (stimulus : Stimulus) → 4 ≤ p → job_of_give {X = X} p stimulus ≡ None
   no_service p (Stimulus.Event event) h = let e : is_kernel_process p ≡ false = grind (arith, nat_tests, h) in rw e refl
@@ -75,7 +75,7 @@ module _ {X : Type 0} where
       stands true = not_running (state_in s p) busy
       stands false = refl
 
-      nothing : worked (in_front (Item.Give p origin stimulus ∷ []) s) ≡ s
+      nothing : after_front (in_front (Item.Give p origin stimulus ∷ []) s) ≡ s
       nothing = rw (stands (not (is_kernel_process p))) refl
 
   pub poll_one_yields : (s : Scheduler X) (p : ℕ) (next : Option (Job X)) (after : Scheduler X) → is_marked p s.processes ≡ true

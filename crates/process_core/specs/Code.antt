@@ -1,7 +1,13 @@
--- What the code keeps true of its own parts: no public contract rests on it.
+-- The code's own invariants, and what the scheduler promises the kernel. Nobody has to read them who wants to know what a mote
+-- does.
+pub mod KernelReceivers
+pub mod LonePoll
 pub mod Nesting
+pub mod NextJobs
+pub mod OpenWork
 pub mod ProcessList
 pub mod SchedulerFields
+pub mod SchedulerView
 pub mod Walks
 pub mod Weights
 pub mod Yields

@@ -34,6 +34,7 @@ with_state p state list = changed p (λ process. record process { state = state 
 abbrev pub with_mark : ℕ → Bool → List Process → List Process
 with_mark p marked list = changed p (λ process. record process { marked = marked }) list
 
+-- the list when a process has left it
 abbrev pub without : ℕ → List Process → List Process
 without p list = filter (λ process. not (is_process p process)) list
 

@@ -12,6 +12,7 @@ use Rattle.process_core.specs.Processes.{numbers, without, is_on_list, is_alive,
 use Rattle.process_core.specs.Agenda.{Item}
 use Rattle.process_core.specs.Scheduler.{Scheduler, state_in, in_front, put_in_state, has_room, of_event}
 
+-- it has taken a turn, and its activation goes on
 abbrev pub is_in_activation : State → Bool
 is_in_activation state = is_called state || is_ending state
 
@@ -62,6 +63,7 @@ module _ {X : Type 0} where
   abbrev pub alloc_event_refusal : Scheduler X → Option Refusal
   alloc_event_refusal s = if nat_lt s.next_event 256 then None else Some Refusal.NoEvent
 
+  -- AllocEvent has given a number
   abbrev pub number_drawn : Scheduler X → Scheduler X
   number_drawn s = record s { next_event = s.next_event + 1 }
 
@@ -70,6 +72,7 @@ module _ {X : Type 0} where
   given_in_turn p q event s =
       in_front (Item.Give q Origin.Synch (of_event event) ∷ Item.Turn p Origin.Answer (Stimulus.Answer Reply.Done) ∷ []) s
 
+  -- q is to be started, and then p is answered
   abbrev pub started_by : ℕ → ℕ → Scheduler X → Scheduler X
   started_by p q s = in_front (Item.Start q ∷ Item.Turn p Origin.Answer (Stimulus.Answer Reply.Done) ∷ []) s
 
@@ -77,6 +80,7 @@ module _ {X : Type 0} where
   abbrev pub farewells : ℕ → Scheduler X → List Item
   farewells p s = map (λ q. Item.Give q Origin.Synch (of_event (number_event EXITED p))) (numbers (without p s.processes))
 
+  -- q is on its way out: the others are told, it is given EXIT and leaves the list; then p is answered
   abbrev pub killed_by : ℕ → ℕ → Scheduler X → Scheduler X
   killed_by p q s =
       in_front (farewells q s ++ Item.GiveExit q ∷ Item.Remove q ∷ Item.Turn p Origin.Answer (Stimulus.Answer Reply.Done) ∷ [])

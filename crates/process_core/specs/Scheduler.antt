@@ -11,6 +11,7 @@ use Rattle.process_core.specs.declared.process.Process.{Process}
 use Rattle.process_core.specs.Processes.{numbers, state_of, is_marked, is_any_marked, with_state, with_mark, without, is_on_list, is_running, is_kernel_process, at_first, IsOfMote}
 use Rattle.process_core.specs.Agenda.{Queued, Item, Job}
 
+-- what is to be done, and by whom. X is what an expiry of a callback timer carries
 pub record Scheduler (X : Type 0) : Type 0 where
   -- how many applications there are
   pub applications : ℕ
@@ -52,48 +53,50 @@ module _ {X : Type 0} where
   delivery list (Some (Queued.ToAll event)) = flat_map (λ p. Item.Polls ∷ Item.Give p Origin.Event (of_event event) ∷ []) list
   delivery list _ = []
 
+  -- the event that waits longest
   abbrev pub first_event : Scheduler X → Option (Queued X)
   first_event s = slice_get s.events 0
 
   -- the item is carried out, s being the scheduler without it
-  abbrev pub carried_out : Item → Scheduler X → Scheduler X
-  carried_out (Item.Start p) s =
+  abbrev pub after_item : Item → Scheduler X → Scheduler X
+  after_item (Item.Start p) s =
       if is_on_list (state_in s p)
       then s
       else in_front (Item.Give p Origin.Synch (of_event (plain_event INIT)) ∷ [])
       (record s { processes = record { number = p; state = State.Running; marked = false } ∷ s.processes })
-  carried_out (Item.Give p origin stimulus) s =
+  after_item (Item.Give p origin stimulus) s =
       if not (is_kernel_process p) && is_running (state_in s p)
       then in_front (Item.Turn p origin stimulus ∷ []) (put_in_state p State.Called s)
       else s
-  carried_out (Item.GiveExit p) s =
+  after_item (Item.GiveExit p) s =
       in_front (Item.Turn p Origin.Synch (of_event (plain_event EXIT)) ∷ []) (put_in_state p State.Ending s)
-  carried_out (Item.Remove p) s = record s { processes = without p s.processes }
-  carried_out Item.Polls s =
+  after_item (Item.Remove p) s = record s { processes = without p s.processes }
+  after_item Item.Polls s =
       if is_any_marked s.processes then in_front (map (λ p. Item.PollOne p) (numbers s.processes)) s else s
-  carried_out (Item.PollOne p) s =
+  after_item (Item.PollOne p) s =
       if is_marked p s.processes
       then in_front (Item.Give p Origin.Poll (of_event (plain_event POLL)) ∷ [])
       (record s { processes = with_mark p false s.processes })
       else s
-  carried_out Item.Deliver s =
+  after_item Item.Deliver s =
       in_front (delivery (numbers s.processes) (first_event s)) (record s { events = drop 1 s.events })
   -- these two are jobs for the layers above
-  carried_out (Item.Turn p origin stimulus) s = s
-  carried_out (Item.Show entry) s = s
+  after_item (Item.Turn p origin stimulus) s = s
+  after_item (Item.Show entry) s = s
 
   -- whether a round has anything to do
   abbrev pub wants_round : Scheduler X → Bool
   wants_round s = is_any_marked s.processes || nat_lt 0 (length s.events)
 
   -- the scheduler after the front of this agenda; where nothing is on it, a round begins if it has anything to do
-  abbrev pub worked_at : List Item → Scheduler X → Scheduler X
-  worked_at [] s = if wants_round s then in_front (Item.Polls ∷ Item.Deliver ∷ []) s else s
-  worked_at (item ∷ items) s = carried_out item (record s { agenda = items })
+  abbrev pub after_front_of : List Item → Scheduler X → Scheduler X
+  after_front_of [] s = if wants_round s then in_front (Item.Polls ∷ Item.Deliver ∷ []) s else s
+  after_front_of (item ∷ items) s = after_item item (record s { agenda = items })
 
-  abbrev pub worked : Scheduler X → Scheduler X
-  worked s = worked_at s.agenda s
+  abbrev pub after_front : Scheduler X → Scheduler X
+  after_front s = after_front_of s.agenda s
 
+  -- the delivery of an expiry is left to the layers above
   abbrev pub job_of_event : Option (Queued X) → Option (Job X)
   job_of_event (Some (Queued.Expiry p c x)) = Some (Job.CallBack p c x)
   job_of_event _ = None
@@ -111,6 +114,7 @@ module _ {X : Type 0} where
   job_of_item (Item.Show entry) s = Some (Job.ShowEntry entry)
   job_of_item _ s = None
 
+  -- what the front of this agenda asks of them; where nothing is on it, a round, or rest
   abbrev pub job_at : List Item → Scheduler X → Option (Job X)
   job_at [] s = Some (if wants_round s then Job.Round else Job.Rest)
   job_at (item ∷ items) s = job_of_item item s
@@ -120,15 +124,15 @@ module _ {X : Type 0} where
   job s = job_at s.agenda s
 
   -- the scheduler after at most n items that are no jobs
-  abbrev pub settled : ℕ → Scheduler X → Scheduler X
-  settled zero s = s
-  settled (suc n) s =
-      let later = settled n (worked s) in
+  abbrev pub after_items : ℕ → Scheduler X → Scheduler X
+  after_items zero s = s
+  after_items (suc n) s =
+      let later = after_items n (after_front s) in
       if is_some (job s) then s else later
 
   -- items are worked off up to this job, and the job's own item
   abbrev pub ComesTo : Scheduler X → Job X → Scheduler X → Type 0
-  ComesTo s next after = (n : ℕ) × (job (settled n s) ≡ Some next) × (worked (settled n s) ≡ after)
+  ComesTo s next after = (n : ℕ) × (job (after_items n s) ≡ Some next) × (after_front (after_items n s) ≡ after)
 
 -- the process list before the applications start, and the applications that are to be started
 abbrev pub at_boot : {X : Type 0} → ℕ → Scheduler X
@@ -152,4 +156,4 @@ pub record IsWellFormed {X : Type 0} (s : Scheduler X) : Type 0 where
   -- no process is on the list twice
   pub distinct : IsDistinct eqb (numbers s.processes)
   -- entries are shown by the layer above
-  pub unshown : list_any is_shown s.agenda ≡ false
+  pub nothing_shown : list_any is_shown s.agenda ≡ false

@@ -4,18 +4,18 @@ ghost use Rattle.std.specs.Prelude.{◌≡◌, ◌<◌, ◌+◌, ◌∷◌, [], 
 ghost use Rattle.mote_types.specs.Codes as codes;
 ghost use Rattle.process_core.specs.Agenda.{Item};
 ghost use Rattle.process_core.specs.Code.Weights.{weight};
-ghost use Rattle.process_core.specs.SchedulerView.{job_of};
-ghost use Rattle.process_core.specs.Told.{job_told};
+ghost use Rattle.process_core.specs.Code.SchedulerView.{job_of};
+ghost use Rattle.process_core.specs.Code.NextJobs.{job_told};
 ghost use Rattle.process_core.specs.Code.SchedulerFields.{scheduler_behind, front_after, HoldsEvent, IsInOrder};
 ghost use Rattle.process_core.specs.Scheduler.{in_front};
 ghost use Rattle.process_core.specs.Code.Yields.{Yields};
-ghost use Rattle.process_core.specs.declared.frame.Base.{Base};
+ghost use Rattle.process_core.specs.declared.open_work.Base.{Base};
 ghost use Rattle.process_core.specs.declared.front.Front.{Front};
 
-use crate::frame::{Base, tell};
+use crate::open_work::{Base, tell};
 use crate::front::Front;
 use crate::queued::Queued;
-use crate::ready::Ready;
+use crate::next_job::NextJob;
 use crate::scheduler_fields::SchedulerFields;
 use crate::state::State;
 use mote_types::event::{self, Event, FIRST_APPLICATION, Origin, Payload, Pid, Stimulus};
@@ -32,7 +32,7 @@ pub fn plain_event(code: u8) -> Event
 
 impl SchedulerFields {
     /// Gives the process the stimulus that it is to be told.
-    pub fn give(&mut self, pid: Pid, origin: Origin, told: &Stimulus) -> Option<Ready>
+    pub fn give(&mut self, pid: Pid, origin: Origin, told: &Stimulus) -> Option<NextJob>
         requires order { IsInOrder self.old }
         requires idle { self.old.front ≡ Front.Nothing }
         ensures yields { Yields (in_front (Item.Give pid.0 origin told.now ∷ []) (scheduler_behind self.old))
@@ -44,7 +44,7 @@ impl SchedulerFields {
     {
         if pid.0 < FIRST_APPLICATION {
             return match told {
-                Stimulus::Event(_) => Some(Ready::Serve(pid)),
+                Stimulus::Event(_) => Some(NextJob::Serve(pid)),
                 _ => None,
             };
         }
@@ -52,14 +52,14 @@ impl SchedulerFields {
             State::Running => {
                 self.processes.set_state(pid, State::Called);
                 self.front = Front::Call(pid);
-                Some(Ready::Give { pid, origin })
+                Some(NextJob::Give { pid, origin })
             }
             _ => None,
         }
     }
 
     /// Starts the process, unless it's on the list.
-    pub fn start_one(&mut self, pid: Pid, told: &mut Stimulus) -> Option<Ready>
+    pub fn start_one(&mut self, pid: Pid, told: &mut Stimulus) -> Option<NextJob>
         requires known { pid.0 < 4 + self.old.applications }
         requires order { IsInOrder self.old }
         requires idle { self.old.front ≡ Front.Nothing }
@@ -81,7 +81,7 @@ impl SchedulerFields {
     }
 
     /// A poll round comes to this process.
-    pub fn poll_one(&mut self, pid: Pid, told: &mut Stimulus) -> Option<Ready>
+    pub fn poll_one(&mut self, pid: Pid, told: &mut Stimulus) -> Option<NextJob>
         requires order { IsInOrder self.old }
         requires idle { self.old.front ≡ Front.Nothing }
         ensures yields { Yields (in_front (Item.PollOne pid.0 ∷ []) (scheduler_behind self.old))
@@ -100,7 +100,7 @@ impl SchedulerFields {
     }
 
     /// Delivers the first event.
-    pub fn deliver(&mut self, told: &mut Stimulus) -> Option<Ready>
+    pub fn deliver(&mut self, told: &mut Stimulus) -> Option<NextJob>
         requires order { IsInOrder self.old }
         requires idle { self.old.front ≡ Front.Nothing }
         requires bare { self.old.stack.items ≡ [] }
@@ -129,7 +129,7 @@ impl SchedulerFields {
                 },
             ) => {
                 self.front = Front::Expiry { pid, number };
-                Some(Ready::Callback {
+                Some(NextJob::Callback {
                     pid,
                     number,
                     arming,

@@ -1,7 +1,7 @@
 //! The scheduler of a mote: processes, the event queue, and the agenda of what is still to be done.
 #![tactic(auto)]
 
-pub mod frame;
+pub mod open_work;
 mod front;
 mod giving;
 mod idle;
@@ -13,7 +13,7 @@ mod posting;
 mod process;
 mod process_list;
 mod queued;
-pub mod ready;
+pub mod next_job;
 mod receivers;
 mod requests;
 pub mod scheduler;

@@ -1,7 +1,7 @@
 //! A round that does nothing but poll one process of the kernel.
 
 ghost use Rattle.std.specs.Prelude.{◌≡◌, ◌<◌, None, true};
-ghost use Rattle.process_core.specs.LonePoll.{polls_alone, unmarked, IsLonePoll};
+ghost use Rattle.process_core.specs.Code.LonePoll.{polls_alone, unmarked, IsLonePoll};
 
 use crate::scheduler::Scheduler;
 use mote_types::event::Pid;

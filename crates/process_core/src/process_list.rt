@@ -1,7 +1,7 @@
 //! The process list, the head first.
 ghost use Rattle.std.specs.Prelude.{◌≡◌, ◌<◌, ◌≤◌, ◌∷◌, length, false, eqb};
 ghost use Rattle.std.specs.List.{IsDistinct};
-ghost use Rattle.process_core.specs.LonePoll.{is_only_marked};
+ghost use Rattle.process_core.specs.Code.LonePoll.{is_only_marked};
 ghost use Rattle.process_core.specs.Processes.{state_of, is_marked, is_any_marked, with_state, with_mark, without, numbers, at_first};
 ghost use Rattle.process_core.specs.Code.ProcessList.{others, state_at};
 ghost use Rattle.process_core.specs.declared.state.State.{State};

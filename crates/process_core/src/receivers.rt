@@ -1,11 +1,11 @@
 //! The processes of the kernel that are to be given a broadcast next.
 
 ghost use Rattle.std.specs.Prelude.{◌≡◌, ℕ, List, true, false};
-ghost use Rattle.process_core.specs.KernelReceivers.{behind_kernel_receivers, kernel_receivers_passed};
-ghost use Rattle.process_core.specs.OpenWork.{agenda_of, receiver_items};
+ghost use Rattle.process_core.specs.Code.KernelReceivers.{behind_kernel_receivers, kernel_receivers_passed};
+ghost use Rattle.process_core.specs.Code.OpenWork.{agenda_of, receiver_items};
 ghost use Rattle.process_core.specs.Code.Walks.{receiver_is_next};
 
-use crate::frame::Base;
+use crate::open_work::Base;
 use crate::scheduler::Scheduler;
 use crate::scheduler_fields::SchedulerFields;
 

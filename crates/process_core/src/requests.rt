@@ -4,9 +4,9 @@ ghost use Rattle.std.specs.Prelude.{◌≡◌, ◌<◌, None, Some, true, IfOk, 
 ghost use Rattle.process_core.specs.Processes.{is_alive, is_application, is_ending, is_marked};
 ghost use Rattle.process_core.specs.Requests as request;
 ghost use Rattle.process_core.specs.Scheduler.{marked, state_in};
-ghost use Rattle.process_core.specs.SchedulerView.{awaiting_nothing};
+ghost use Rattle.process_core.specs.Code.SchedulerView.{awaiting_nothing};
 
-use crate::frame::Frame;
+use crate::open_work::Continuation;
 use crate::front::Front;
 use crate::scheduler::Scheduler;
 use crate::state::State;
@@ -103,7 +103,7 @@ impl Scheduler {
         if is_reserved(event.code) {
             return Err(Refusal::Reserved);
         }
-        self.fields.stack.push(Frame::Answer(caller));
+        self.fields.stack.push(Continuation::Answer(caller));
         self.fields.synch = event;
         self.fields.front = Front::Give(receiver);
         Ok(())
@@ -123,7 +123,7 @@ impl Scheduler {
         }
         match self.fields.processes.state_of(pid) {
             State::Absent => {
-                self.fields.stack.push(Frame::Answer(caller));
+                self.fields.stack.push(Continuation::Answer(caller));
                 self.fields.front = Front::Start(pid);
                 Ok(())
             }
@@ -150,8 +150,8 @@ impl Scheduler {
             State::Running => {
                 let walk = self.fields.processes.walk_others(pid);
                 self.fields.processes.set_state(pid, State::Leaving);
-                self.fields.stack.push(Frame::Answer(caller));
-                self.fields.stack.push(Frame::Leave {
+                self.fields.stack.push(Continuation::Answer(caller));
+                self.fields.stack.push(Continuation::Leave {
                     pid,
                     walk,
                     exits: true,

@@ -3,23 +3,23 @@
 ghost use Rattle.std.specs.Prelude.{◌≡◌, ◌≤◌, ◌<◌, ◌+◌, ◌*◌, None, IfOk, IfSome, [], true, false, length};
 ghost use Rattle.mote_types.specs.declared.event.Event.{Event};
 ghost use Rattle.mote_types.specs.declared.event.Pid.{Pid};
-ghost use Rattle.mote_types.specs.declared.event.Stimulus.{Stimulus as Told};
-ghost use Rattle.process_core.specs.OpenWork.{agenda_of};
-ghost use Rattle.process_core.specs.SchedulerView.{awaiting_nothing, job_of, turn_of, callback_of};
+ghost use Rattle.mote_types.specs.declared.event.Stimulus.{Stimulus as ToldStimulus};
+ghost use Rattle.process_core.specs.Code.OpenWork.{agenda_of};
+ghost use Rattle.process_core.specs.Code.SchedulerView.{awaiting_nothing, job_of, turn_of, callback_of};
 ghost use Rattle.process_core.specs.Processes.{IsApplication};
 ghost use Rattle.process_core.specs.Requests.{is_in_activation};
 ghost use Rattle.process_core.specs.Scheduler.{ComesTo, at_boot, state_in, wants_round, IsWellFormed};
-ghost use Rattle.process_core.specs.Told.{job_told};
+ghost use Rattle.process_core.specs.Code.NextJobs.{job_told};
 ghost use Rattle.process_core.specs.declared.job.Job as ready;
-ghost use Rattle.process_core.specs.declared.ready.Ready.{Ready as Answer};
+ghost use Rattle.process_core.specs.declared.next_job.NextJob.{NextJob as Answer};
 
-use crate::frame::Base;
+use crate::open_work::Base;
 use crate::front::Front;
 use crate::giving::plain_event;
 use crate::job::Job;
 use crate::numbers::Numbers;
 use crate::process_list::ProcessList;
-use crate::ready::{Ready, job_told};
+use crate::next_job::{NextJob, job_told};
 use crate::scheduler_fields::SchedulerFields;
 use crate::walk::Walk;
 use arrayvec::ArrayVec;
@@ -45,7 +45,7 @@ pub struct Scheduler {
 }
 
 impl Model for Scheduler {
-    ghost use Rattle.process_core.specs.SchedulerView.{SchedulerView};
+    ghost use Rattle.process_core.specs.Code.SchedulerView.{SchedulerView};
     ghost use Rattle.process_core.specs.Code.SchedulerFields.{IsInOrder, view_of};
 
     ghost Value = { SchedulerView };
@@ -108,7 +108,7 @@ impl Scheduler {
 
     /// As `next`, but what a process is told lies in the place `told` then: for Give the stimulus, for Serve the event.
     /// Where another answer is given, the place may hold what was to be told to a process that did not take it.
-    pub fn next_to(&mut self, told: &mut Stimulus) -> Ready
+    pub fn next_to(&mut self, told: &mut Stimulus) -> NextJob
         requires { self.old.turn ≡ None }
         ensures job { ComesTo self.old.state (job_of (job_told result told.new)) self.new.state }
         ensures turn { self.new.turn ≡ turn_of (job_told result told.new) }
@@ -118,7 +118,7 @@ impl Scheduler {
         ensures active { IfSome self.new.turn (λ p. IsApplication self.new.state.applications p.0
             × (is_in_activation (state_in self.new.state p.0) ≡ true)) }
         ensures served { (p : Pid) → result ≡ Answer.Serve p → (p.0 < 4)
-            × (event : Event) × (told.new ≡ Told.Event event) }
+            × (event : Event) × (told.new ≡ ToldStimulus.Event event) }
         ensures rest { result ≡ Answer.Rest → (self.new.state.agenda ≡ []) × (wants_round self.new.state ≡ false) }
         ensures applications { self.new.state.applications ≡ self.old.state.applications }
         ensures standing { IsWellFormed self.new.state }
@@ -133,7 +133,7 @@ impl Scheduler {
     }
 
     #[tactic(auto, using(crate::proofs::Order::few_items, crate::proofs::Order::room_on_stack))]
-    /// The open work: the parts that the agenda is kept in. There are at most two frames for each application, so that a
+    /// The open work: the parts that the agenda is kept in. There are at most two continuations for each application, so that a
     /// stack of 34 never runs over.
     pub fn open_work(&self) -> &SchedulerFields
         ensures agenda { agenda_of result.now ≡ self.now.state.agenda }

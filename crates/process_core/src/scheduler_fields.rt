@@ -1,6 +1,6 @@
 //! The scheduler's fields.
 
-use crate::frame::{Base, Frame};
+use crate::open_work::{Base, Continuation};
 use crate::front::Front;
 use crate::process_list::ProcessList;
 use crate::queued::Queued;
@@ -13,7 +13,7 @@ use mote_types::reply::Reply;
 /// What a scheduler consists of. Its methods keep the fields in order (`specs/Code/SchedulerFields.antt`), and the scheduler
 /// is seen as what they stand for.
 ///
-/// The agenda is kept in parts, which come in this order: the front, the stack from its topmost frame, the poll round, and
+/// The agenda is kept in parts, which come in this order: the front, the stack from its topmost continuation, the poll round, and
 /// the base (`specs/OpenWork.antt`).
 #[derive(Drop)]
 pub struct SchedulerFields {
@@ -31,7 +31,7 @@ pub struct SchedulerFields {
     /// The event that a process is given at once, where the front says so.
     pub synch: Event,
     /// The work within activations.
-    pub stack: ArrayVec<Frame, 34>,
+    pub stack: ArrayVec<Continuation, 34>,
     /// The processes that the poll round is still to come to.
     pub polls: Walk,
     pub base: Base,

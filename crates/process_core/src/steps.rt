@@ -1,20 +1,20 @@
 //! How open work is done.
 
 ghost use Rattle.std.specs.Prelude.{◌≡◌, ◌<◌, [], ◌∷◌, Some, IfNone, option_map, reverse};
-ghost use Rattle.mote_types.specs.declared.event.Stimulus.{Stimulus as Told};
+ghost use Rattle.mote_types.specs.declared.event.Stimulus.{Stimulus as ToldStimulus};
 ghost use Rattle.process_core.specs.Code.Weights.{weight, weight_over};
-ghost use Rattle.process_core.specs.SchedulerView.{job_of};
-ghost use Rattle.process_core.specs.Told.{job_told};
+ghost use Rattle.process_core.specs.Code.SchedulerView.{job_of};
+ghost use Rattle.process_core.specs.Code.NextJobs.{job_told};
 ghost use Rattle.process_core.specs.Code.SchedulerFields.{scheduler_of, scheduler_behind, scheduler_over, front_after, HoldsEvent, IsInOrder, IsOrdered};
 ghost use Rattle.process_core.specs.Code.Yields.{Yields};
 ghost use Rattle.process_core.specs.declared.front.Front.{Front};
-ghost use Rattle.process_core.specs.declared.frame.Base.{Base};
-ghost use Rattle.process_core.specs.declared.frame.Frame.{Frame};
+ghost use Rattle.process_core.specs.declared.open_work.Base.{Base};
+ghost use Rattle.process_core.specs.declared.open_work.Continuation.{Continuation};
 
-use crate::frame::{Base, Frame, tell, tell_reply};
+use crate::open_work::{Base, Continuation, tell, tell_reply};
 use crate::front::Front;
 use crate::giving::plain_event;
-use crate::ready::Ready;
+use crate::next_job::NextJob;
 use crate::scheduler_fields::SchedulerFields;
 use crate::state::State;
 use crate::walk::Walk;
@@ -23,7 +23,7 @@ use mote_types::reply::Reply;
 
 impl SchedulerFields {
     /// What was told since the last job comes first.
-    pub fn take_front(&mut self, told: &mut Stimulus) -> Option<Ready>
+    pub fn take_front(&mut self, told: &mut Stimulus) -> Option<NextJob>
         requires order { IsInOrder self.old }
         ensures yields { Yields (scheduler_of self.old)
             (option_map (λ r. job_of (job_told r told.new)) result) (scheduler_behind self.new) }
@@ -37,7 +37,7 @@ impl SchedulerFields {
             Front::Answer(pid) => {
                 tell_reply(told, &self.reply);
                 self.front = Front::Call(pid);
-                Some(Ready::Give {
+                Some(NextJob::Give {
                     pid,
                     origin: Origin::Answer,
                 })
@@ -62,20 +62,20 @@ impl SchedulerFields {
         walk: Walk,
         exits: bool,
         told: &mut Stimulus,
-    ) -> Option<Ready>
-        requires order { IsOrdered self.old (Frame.Leave pid walk exits ∷ reverse self.old.stack.items) }
+    ) -> Option<NextJob>
+        requires order { IsOrdered self.old (Continuation.Leave pid walk exits ∷ reverse self.old.stack.items) }
         requires idle { self.old.front ≡ Front.Nothing }
-        ensures yields { Yields (scheduler_over self.old (Frame.Leave pid walk exits ∷ reverse self.old.stack.items))
+        ensures yields { Yields (scheduler_over self.old (Continuation.Leave pid walk exits ∷ reverse self.old.stack.items))
             (option_map (λ r. job_of (job_told r told.new)) result) (scheduler_behind self.new) }
         ensures told { HoldsEvent result told.new }
         ensures front { self.new.front ≡ front_after result }
         ensures order { IsInOrder self.new }
-        ensures falls { IfNone result (weight self.new < weight_over self.old (Frame.Leave pid walk exits ∷ reverse self.old.stack.items)) }
+        ensures falls { IfNone result (weight self.new < weight_over self.old (Continuation.Leave pid walk exits ∷ reverse self.old.stack.items)) }
     {
         let mut walk = walk;
         match walk.advance() {
             Some(other) => {
-                self.stack.push(Frame::Leave { pid, walk, exits });
+                self.stack.push(Continuation::Leave { pid, walk, exits });
                 *told = Stimulus::Event(Event {
                     code: event::EXITED,
                     payload: Payload::Num(pid.0 as u32),
@@ -87,7 +87,7 @@ impl SchedulerFields {
                     self.processes.remove(pid);
                     return None;
                 }
-                self.stack.push(Frame::Leave {
+                self.stack.push(Continuation::Leave {
                     pid,
                     walk,
                     exits: false,
@@ -95,7 +95,7 @@ impl SchedulerFields {
                 self.processes.set_state(pid, State::Ending);
                 self.front = Front::Call(pid);
                 *told = Stimulus::Event(plain_event(event::EXIT));
-                Some(Ready::Give {
+                Some(NextJob::Give {
                     pid,
                     origin: Origin::Synch,
                 })
@@ -104,7 +104,7 @@ impl SchedulerFields {
     }
 
     // The next application is started.
-    fn resume_boot(&mut self, told: &mut Stimulus) -> Option<Ready>
+    fn resume_boot(&mut self, told: &mut Stimulus) -> Option<NextJob>
         requires boots { self.old.base ≡ Base.Boot }
         requires bare { self.old.stack.items ≡ [] }
         requires unpolled { self.old.polls ≡ [] }
@@ -127,7 +127,7 @@ impl SchedulerFields {
     }
 
     // A round: the poll round, and then the delivery.
-    fn resume_deliver(&mut self, is_polled: bool, told: &mut Stimulus) -> Option<Ready>
+    fn resume_deliver(&mut self, is_polled: bool, told: &mut Stimulus) -> Option<NextJob>
         requires delivers { self.old.base ≡ Base.Deliver is_polled }
         requires bare { self.old.stack.items ≡ [] }
         requires unpolled { self.old.polls ≡ [] }
@@ -150,7 +150,7 @@ impl SchedulerFields {
     }
 
     // The next receiver is given the event, after a poll round.
-    fn resume_broadcast(&mut self, is_polled: bool, told: &mut Stimulus) -> Option<Ready>
+    fn resume_broadcast(&mut self, is_polled: bool, told: &mut Stimulus) -> Option<NextJob>
         requires broadcasts { self.old.base ≡ Base.Broadcast is_polled }
         requires bare { self.old.stack.items ≡ [] }
         requires unpolled { self.old.polls ≡ [] }
@@ -182,7 +182,7 @@ impl SchedulerFields {
     }
 
     // No process is within an activation: the poll round comes to the next process that is marked, and behind it the base.
-    fn resume_below(&mut self, told: &mut Stimulus) -> Option<Ready>
+    fn resume_below(&mut self, told: &mut Stimulus) -> Option<NextJob>
         requires bare { self.old.stack.items ≡ [] }
         requires order { IsInOrder self.old }
         requires idle { self.old.front ≡ Front.Nothing }
@@ -205,7 +205,7 @@ impl SchedulerFields {
     }
 
     /// The open work goes on, or where there is none a round begins.
-    pub fn resume(&mut self, told: &mut Stimulus) -> Option<Ready>
+    pub fn resume(&mut self, told: &mut Stimulus) -> Option<NextJob>
         requires order { IsInOrder self.old }
         requires idle { self.old.front ≡ Front.Nothing }
         ensures yields { Yields (scheduler_behind self.old)
@@ -216,11 +216,11 @@ impl SchedulerFields {
         ensures falls { IfNone result (weight self.new < weight self.old) }
     {
         match self.stack.pop() {
-            Some(Frame::Leave { pid, walk, exits }) => self.resume_leave(pid, walk, exits, told),
-            Some(Frame::Answer(pid)) => {
+            Some(Continuation::Leave { pid, walk, exits }) => self.resume_leave(pid, walk, exits, told),
+            Some(Continuation::Answer(pid)) => {
                 tell_reply(told, &Reply::Done);
                 self.front = Front::Call(pid);
-                Some(Ready::Give {
+                Some(NextJob::Give {
                     pid,
                     origin: Origin::Answer,
                 })
@@ -230,7 +230,7 @@ impl SchedulerFields {
     }
 
     /// The open work goes on up to a job.
-    pub fn work_on(&mut self, told: &mut Stimulus) -> Ready
+    pub fn work_on(&mut self, told: &mut Stimulus) -> NextJob
         requires order { IsInOrder self.old }
         requires idle { self.old.front ≡ Front.Nothing }
         ensures yields { Yields (scheduler_behind self.old)
@@ -247,22 +247,22 @@ impl SchedulerFields {
     }
 
     /// No work is open: a round begins, if it has anything to do.
-    fn begin_round(&mut self) -> Ready
+    fn begin_round(&mut self) -> NextJob
         requires order { IsInOrder self.old }
         requires idle { self.old.front ≡ Front.Nothing }
         requires bare { self.old.stack.items ≡ [] }
         requires unpolled { self.old.polls ≡ [] }
         requires nothing { self.old.base ≡ Base.Nothing }
-        ensures yields { (told : Told) →
+        ensures yields { (told : ToldStimulus) →
             Yields (scheduler_behind self.old) (Some (job_of (job_told result told))) (scheduler_behind self.new) }
-        ensures told { (told : Told) → HoldsEvent (Some result) told }
+        ensures told { (told : ToldStimulus) → HoldsEvent (Some result) told }
         ensures front { self.new.front ≡ front_after (Some result) }
         ensures order { IsInOrder self.new }
     {
         if !self.processes.is_any_marked() && self.events.is_empty() {
-            return Ready::Rest;
+            return NextJob::Rest;
         }
         self.base = Base::Deliver { is_polled: false };
-        Ready::Round
+        NextJob::Round
     }
 }

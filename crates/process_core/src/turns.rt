@@ -2,9 +2,9 @@
 
 ghost use Rattle.std.specs.Prelude.{◌≡◌, Some};
 ghost use Rattle.process_core.specs.Requests as request;
-ghost use Rattle.process_core.specs.SchedulerView.{awaiting_nothing};
+ghost use Rattle.process_core.specs.Code.SchedulerView.{awaiting_nothing};
 
-use crate::frame::Frame;
+use crate::open_work::Continuation;
 use crate::front::Front;
 use crate::scheduler::Scheduler;
 use crate::state::State;
@@ -46,7 +46,7 @@ impl Scheduler {
             _ => {
                 let walk = self.fields.processes.walk_others(caller);
                 self.fields.processes.set_state(caller, State::Leaving);
-                self.fields.stack.push(Frame::Leave {
+                self.fields.stack.push(Continuation::Leave {
                     pid: caller,
                     walk,
                     exits: false,

@@ -15,7 +15,7 @@ use Rattle.mote_types.specs.Applications.{Applications}
 use Rattle.process_core.specs.Agenda.{Item}
 use Rattle.process_core.specs.Processes.{numbers, without}
 use Rattle.process_core.specs.Requests.{farewells}
-use Rattle.process_core.specs.Scheduler.{Scheduler, carried_out, delivery, first_event}
+use Rattle.process_core.specs.Scheduler.{Scheduler, after_item, delivery, first_event}
 use Rattle.kernel_core.specs.declared.config.Config.{Config}
 use Rattle.kernel_core.specs.Machine.{Machine, booted, is_bootable}
 use Rattle.kernel_core.specs.Calls.{after_call}
@@ -66,13 +66,13 @@ plain-farewells p s rest agenda h =
     let told = all-mapped is_plain (λ q. Item.Give q Origin.Synch (Stimulus.Event (number_event EXITED p))) (numbers (without p s.processes)) (λ q. refl) in
     rw (append_assoc) (all-append is_plain (farewells p s) (rest ++ agenda) told h)
 
-carried_out-plain : (item : Item) (s : Scheduler Bool) → all_plain s.agenda ≡ true → all_plain (carried_out item s).agenda ≡ true
-carried_out-plain Item.Polls s h =
+after_item-plain : (item : Item) (s : Scheduler Bool) → all_plain s.agenda ≡ true → all_plain (after_item item s).agenda ≡ true
+after_item-plain Item.Polls s h =
     let polls = all-mapped is_plain (λ n. Item.PollOne n) (numbers s.processes) (λ n. refl) in
     grind (arith, h, all-append is_plain (map (λ n. Item.PollOne n) (numbers s.processes)) s.agenda polls)
-carried_out-plain Item.Deliver s h =
+after_item-plain Item.Deliver s h =
     all-append is_plain (delivery (numbers s.processes) (first_event s)) s.agenda (all-delivered is_plain (numbers s.processes) (first_event s) refl (λ n stimulus. refl)) h
-carried_out-plain item s h = grind (arith, h)
+after_item-plain item s h = grind (arith, h)
 
 after_call-leads : (call : Call) (p : ℕ) (m : Machine) → all_plain m.scheduler.agenda ≡ true
     → leads (is_send call) (after_call call p m).scheduler.agenda ≡ true
@@ -100,10 +100,10 @@ Led m X = leads (sends_all X) m.scheduler.agenda ≡ true
 abbrev Plain : Machine → List Entry → Type 0
 Plain m X = all_plain m.scheduler.agenda ≡ true
 
-carried_out-leads : (sends : Bool) (item : Item) (items : List Item) (s : Scheduler Bool) → is_quiet_item item ≡ true → leads sends (item ∷ items) ≡ true
-    → all_plain (carried_out item (with_agenda items s)).agenda ≡ true
-carried_out-leads sends (Item.Show entry) items s n h = absurd (grind (arith, n))
-carried_out-leads sends item items s n h = carried_out-plain item (with_agenda items s) (grind (arith, h))
+after_item-leads : (sends : Bool) (item : Item) (items : List Item) (s : Scheduler Bool) → is_quiet_item item ≡ true → leads sends (item ∷ items) ≡ true
+    → all_plain (after_item item (with_agenda items s)).agenda ≡ true
+after_item-leads sends (Item.Show entry) items s n h = absurd (grind (arith, n))
+after_item-leads sends item items s n h = after_item-plain item (with_agenda items s) (grind (arith, h))
 
 -- an entry that is no turn
 led-other : (X : List Entry) (e : Entry) (agenda : List Item) → is_turn e ≡ false → leads (sends_all X) agenda ≡ true → leads (sends_all (X ++ e ∷ [])) agenda ≡ true
@@ -116,7 +116,7 @@ led_cases =
     record {
       notes = λ m X entry items h. grind (arith, h);
       free = λ m X h. plain-leads (sends_all X) m.scheduler.agenda h;
-      carried = λ m X item items n s h. carried_out-leads (sends_all X) item items m.scheduler n h;
+      carried = λ m X item items n s h. after_item-leads (sends_all X) item items m.scheduler n h;
       served = λ m X q origin event items k h. rw ((serve-untouched q event (facing items m)).agenda) h;
       called_back = λ m X q c h. h;
       round = λ m X h. refl;

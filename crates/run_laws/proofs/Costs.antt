@@ -12,7 +12,7 @@ use Rattle.process_core.specs.Agenda.{Queued, Item, Job}
 use Rattle.process_core.specs.declared.process.Process.{Process}
 use Rattle.process_core.specs.Processes.{numbers, without, is_process, is_kernel_process}
 use Rattle.process_core.specs.Requests.{farewells}
-use Rattle.process_core.specs.Scheduler.{Scheduler, worked, job, in_front, carried_out, delivery, first_event, of_event, job_of_event, job_of_give, job_of_item, job_at, worked_at, wants_round}
+use Rattle.process_core.specs.Scheduler.{Scheduler, after_front, job, in_front, after_item, delivery, first_event, of_event, job_of_event, job_of_give, job_of_item, job_at, after_front_of, wants_round}
 
 -- the processes that are still to be started
 abbrev pub starts : List Item → ℕ
@@ -62,24 +62,24 @@ length-without keep [] = omega arith
 length-without keep (process ∷ list) = grind (arith, length-without keep list)
 
 -- no item makes more processes than it stands for
-carried_out-present : (item : Item) (s : Scheduler Bool) → present (carried_out item s) ≤ starts (item ∷ []) + present s
-carried_out-present (Item.Start p) s = grind arith
-carried_out-present (Item.Give p origin stimulus) s = grind (arith, length-map)
-carried_out-present (Item.GiveExit p) s = grind (arith, length-map)
-carried_out-present (Item.Remove p) s = grind (arith, length-without (λ process. not (is_process p process)) s.processes)
-carried_out-present Item.Polls s = grind (arith, starts-append, starts-polls (numbers s.processes))
-carried_out-present (Item.PollOne p) s = grind (arith, length-map)
-carried_out-present Item.Deliver s = grind (arith, starts-append, starts-delivery (numbers s.processes) (first_event s))
-carried_out-present (Item.Turn p origin stimulus) s = omega arith
-carried_out-present (Item.Show entry) s = omega arith
+after_item-present : (item : Item) (s : Scheduler Bool) → present (after_item item s) ≤ starts (item ∷ []) + present s
+after_item-present (Item.Start p) s = grind arith
+after_item-present (Item.Give p origin stimulus) s = grind (arith, length-map)
+after_item-present (Item.GiveExit p) s = grind (arith, length-map)
+after_item-present (Item.Remove p) s = grind (arith, length-without (λ process. not (is_process p process)) s.processes)
+after_item-present Item.Polls s = grind (arith, starts-append, starts-polls (numbers s.processes))
+after_item-present (Item.PollOne p) s = grind (arith, length-map)
+after_item-present Item.Deliver s = grind (arith, starts-append, starts-delivery (numbers s.processes) (first_event s))
+after_item-present (Item.Turn p origin stimulus) s = omega arith
+after_item-present (Item.Show entry) s = omega arith
 
-worked_at-present : (agenda : List Item) (s : Scheduler Bool) → s.agenda ≡ agenda → present (worked_at agenda s) ≤ present s
-worked_at-present [] s e = grind arith
-worked_at-present (item ∷ items) s e =
-    grind (arith, carried_out-present item (record s { agenda = items }), starts-append (item ∷ []) items, e)
+after_front_of-present : (agenda : List Item) (s : Scheduler Bool) → s.agenda ≡ agenda → present (after_front_of agenda s) ≤ present s
+after_front_of-present [] s e = grind arith
+after_front_of-present (item ∷ items) s e =
+    grind (arith, after_item-present item (record s { agenda = items }), starts-append (item ∷ []) items, e)
 
-pub worked-present : (s : Scheduler Bool) → present (worked s) ≤ present s
-worked-present s = worked_at-present s.agenda s refl
+pub after_front-present : (s : Scheduler Bool) → present (after_front s) ≤ present s
+after_front-present s = after_front_of-present s.agenda s refl
 
 -- no such job is asked where anything is left to be done
 abbrev pub is_rest : Option (Job Bool) → Bool
@@ -153,22 +153,22 @@ module _ (bound : ℕ) where
   costs-delivery ns None h = rw costs-nil (omega arith)
 
   -- an item that is worked off costs a step at least
-  carried_out-costs : (item : Item) (s : Scheduler Bool) → length s.processes ≤ bound
-      → costs (carried_out item s).agenda + 1 ≤ cost item + costs s.agenda
-  carried_out-costs Item.Deliver s h =
+  after_item-costs : (item : Item) (s : Scheduler Bool) → length s.processes ≤ bound
+      → costs (after_item item s).agenda + 1 ≤ cost item + costs s.agenda
+  after_item-costs Item.Deliver s h =
       let listed : length (numbers s.processes) ≡ length s.processes = length-map s.processes (λ process. process.number) in
       let few : length (numbers s.processes) ≤ bound = omega (arith, listed) in
       rw (costs-append (delivery (numbers s.processes) (first_event s)) s.agenda)
       (omega (arith, costs-delivery (numbers s.processes) (first_event s) few))
-  carried_out-costs Item.Polls s h =
+  after_item-costs Item.Polls s h =
       grind (arith, costs-append (map (λ p. Item.PollOne p) (numbers s.processes)) s.agenda, costs-polls (numbers s.processes), length-map)
-  carried_out-costs (Item.Start p) s h = grind (arith, costs-cons, costs-nil)
-  carried_out-costs (Item.Give p origin stimulus) s h = grind (arith, costs-cons, costs-nil)
-  carried_out-costs (Item.Turn p origin stimulus) s h = omega arith
-  carried_out-costs (Item.GiveExit p) s h = grind (arith, costs-cons, costs-nil)
-  carried_out-costs (Item.Remove p) s h = omega arith
-  carried_out-costs (Item.PollOne p) s h = grind (arith, costs-cons, costs-nil)
-  carried_out-costs (Item.Show entry) s h = omega arith
+  after_item-costs (Item.Start p) s h = grind (arith, costs-cons, costs-nil)
+  after_item-costs (Item.Give p origin stimulus) s h = grind (arith, costs-cons, costs-nil)
+  after_item-costs (Item.Turn p origin stimulus) s h = omega arith
+  after_item-costs (Item.GiveExit p) s h = grind (arith, costs-cons, costs-nil)
+  after_item-costs (Item.Remove p) s h = omega arith
+  after_item-costs (Item.PollOne p) s h = grind (arith, costs-cons, costs-nil)
+  after_item-costs (Item.Show entry) s h = omega arith
 
   -- What a job was worth, against what it left on the agenda. A callback that is given is put there afterwards.
   abbrev pub IsPaid : Option (Job Bool) → ℕ → ℕ → Type 0
@@ -202,24 +202,24 @@ module _ (bound : ℕ) where
   paid_give p (Stimulus.Callback c) old new h = h
 
   paid_item : (item : Item) (s : Scheduler Bool) (items : List Item) → length s.processes ≤ bound →
-      IsPaid (job_of_item item s) (cost item + costs items) (costs (carried_out item (record s { agenda = items })).agenda)
+      IsPaid (job_of_item item s) (cost item + costs items) (costs (after_item item (record s { agenda = items })).agenda)
   paid_item (Item.Give p origin stimulus) s items h =
-      paid_give p stimulus _ _ (carried_out-costs (Item.Give p origin stimulus) (record s { agenda = items }) h)
+      paid_give p stimulus _ _ (after_item-costs (Item.Give p origin stimulus) (record s { agenda = items }) h)
   paid_item Item.Deliver s items h =
       let listed : length (numbers s.processes) ≡ length s.processes = length-map s.processes (λ process. process.number) in
       paid_delivery (first_event s) items (numbers s.processes) (omega (arith, listed))
-  paid_item (Item.Turn p origin stimulus) s items h = carried_out-costs (Item.Turn p origin stimulus) (record s { agenda = items }) h
-  paid_item (Item.Show entry) s items h = carried_out-costs (Item.Show entry) (record s { agenda = items }) h
-  paid_item (Item.Start p) s items h = carried_out-costs (Item.Start p) (record s { agenda = items }) h
-  paid_item (Item.GiveExit p) s items h = carried_out-costs (Item.GiveExit p) (record s { agenda = items }) h
-  paid_item (Item.Remove p) s items h = carried_out-costs (Item.Remove p) (record s { agenda = items }) h
-  paid_item Item.Polls s items h = carried_out-costs Item.Polls (record s { agenda = items }) h
-  paid_item (Item.PollOne p) s items h = carried_out-costs (Item.PollOne p) (record s { agenda = items }) h
+  paid_item (Item.Turn p origin stimulus) s items h = after_item-costs (Item.Turn p origin stimulus) (record s { agenda = items }) h
+  paid_item (Item.Show entry) s items h = after_item-costs (Item.Show entry) (record s { agenda = items }) h
+  paid_item (Item.Start p) s items h = after_item-costs (Item.Start p) (record s { agenda = items }) h
+  paid_item (Item.GiveExit p) s items h = after_item-costs (Item.GiveExit p) (record s { agenda = items }) h
+  paid_item (Item.Remove p) s items h = after_item-costs (Item.Remove p) (record s { agenda = items }) h
+  paid_item Item.Polls s items h = after_item-costs Item.Polls (record s { agenda = items }) h
+  paid_item (Item.PollOne p) s items h = after_item-costs (Item.PollOne p) (record s { agenda = items }) h
 
   paid_at : (agenda : List Item) (s : Scheduler Bool) → s.agenda ≡ agenda → length s.processes ≤ bound → is_rest (job_at agenda s) ≡ false →
-      IsPaid (job_at agenda s) (costs agenda) (costs (worked_at agenda s).agenda)
+      IsPaid (job_at agenda s) (costs agenda) (costs (after_front_of agenda s).agenda)
   paid_at [] s e h r = paid_round (wants_round s) s e r
   paid_at (item ∷ items) s e h r = rw (costs-cons item items) (paid_item item s items h)
 
-  pub paid : (s : Scheduler Bool) → length s.processes ≤ bound → is_rest (job s) ≡ false → IsPaid (job s) (costs s.agenda) (costs (worked s).agenda)
+  pub paid : (s : Scheduler Bool) → length s.processes ≤ bound → is_rest (job s) ≡ false → IsPaid (job s) (costs s.agenda) (costs (after_front s).agenda)
   paid s h r = paid_at s.agenda s refl h r

@@ -28,7 +28,7 @@ use Rattle.run_laws.proofs.Marks.{marks, due}
 use Rattle.run_laws.proofs.HeapStores.{own_heap, changes_heap, ask-rest, IsHeapChange, alloc-change, realloc-change, free-change, write-change}
 use Rattle.run_laws.proofs.KindLaws.{KindLaw, EveryCall, accepted, at_first, blocks-told, every-reads, every-live, every-unused}
 use Rattle.run_laws.proofs.Managed.{same_blocks, told_next, one_reply, unanswered}
-use Rattle.run_laws.proofs.Told.{Laws}
+use Rattle.run_laws.proofs.Knowledge.{Laws}
 use Rattle.run_laws.proofs.Whole.{run-told, call-law}
 
 -- what a call is answered

@@ -29,7 +29,7 @@ use Rattle.run_laws.proofs.KindLaws.{KindLaw, accepted}
 use Rattle.run_laws.proofs.Managed.{HasBlocks, managed-laws, boot-has, one_reply, plain-managed, told_next, same_blocks}
 use Rattle.run_laws.proofs.Marks.{marks, due}
 use Rattle.run_laws.proofs.Stores.{own_blocks, changes_managed, alloc-change, free-change, write-change, copy-change}
-use Rattle.run_laws.proofs.Told.{Told, told, answered, LawAt, Laws}
+use Rattle.run_laws.proofs.Knowledge.{Knowledge, told, answered, LawAt, Laws}
 use Rattle.run_laws.proofs.Whole.{WellTold, law-of, run-told}
 
 -- a call on managed memory is told what memory answers
@@ -143,7 +143,7 @@ module _ (quota p : ℕ) where
           let none : managed_answer turn ≡ None = grind (arith, e, f) in
           rw none later
 
-  law-at : (later : List Entry) (t : Told Memory) → WellTold own_after AsAlone IsLikeOwn p t later → LawAt AsAlone t.last t.now (reply_in p later)
+  law-at : (later : List Entry) (t : Knowledge Memory) → WellTold own_after AsAlone IsLikeOwn p t later → LawAt AsAlone t.last t.now (reply_in p later)
   law-at later t h = go t.last (reply_in p later) refl refl
     where
       go : (last : Option Call) (reply : Option Reply) → t.last ≡ last → reply_in p later ≡ reply → LawAt AsAlone last t.now reply
@@ -152,10 +152,10 @@ module _ (quota p : ℕ) where
       go None reply e f = tt
 
   -- what is told to p next is taken as told already
-  abbrev RepliedAfter : Told Memory → ℕ → List Entry → Type 0
+  abbrev RepliedAfter : Knowledge Memory → ℕ → List Entry → Type 0
   RepliedAfter t clock entries = Replied (own_from p clock entries) (answered own_after t.last (reply_in p entries) t.now)
 
-  replied-turn : (test : Bool) (pid : Pid) (origin : Origin) (stimulus : Stimulus) (call : Call) (later : List Entry) (clock : ℕ) (t : Told Memory) → (pid.0 == p) ≡ test
+  replied-turn : (test : Bool) (pid : Pid) (origin : Origin) (stimulus : Stimulus) (call : Call) (later : List Entry) (clock : ℕ) (t : Knowledge Memory) → (pid.0 == p) ≡ test
       → WellTold own_after AsAlone IsLikeOwn p (told own_after p t (Entry.Turn pid origin stimulus call)) later
       → RepliedAfter (told own_after p t (Entry.Turn pid origin stimulus call)) (clock + 0) later
       → RepliedAfter t clock (Entry.Turn pid origin stimulus call ∷ later)
@@ -165,7 +165,7 @@ module _ (quota p : ℕ) where
       rw e rest_here
   replied-turn true pid origin stimulus call later clock t e h rest =
       let s = answered own_after t.last (reply_of stimulus) t.now in
-      let new : Told Memory = record { now = s; last = Some call } in
+      let new : Knowledge Memory = record { now = s; last = Some call } in
       let same : told own_after p t (Entry.Turn pid origin stimulus call) ≡ new = grind (arith, e) in
       let rest_here : RepliedAfter new (clock + 0) later = rw same at rest in
       let well : WellTold own_after AsAlone IsLikeOwn p new later = rw same at h in
@@ -173,7 +173,7 @@ module _ (quota p : ℕ) where
       let more : Replied (turn ∷ own_from p (clock + 0) later) s = one-more turn (own_from p (clock + 0) later) s (law-at later new well) rest_here in
       rw e more
 
-  replied : (entries : List Entry) (clock : ℕ) (t : Told Memory) → WellTold own_after AsAlone IsLikeOwn p t entries → RepliedAfter t clock entries
+  replied : (entries : List Entry) (clock : ℕ) (t : Knowledge Memory) → WellTold own_after AsAlone IsLikeOwn p t entries → RepliedAfter t clock entries
   replied [] clock t h = refl
   replied (Entry.Turn pid origin stimulus call ∷ later) clock t h =
       replied-turn (pid.0 == p) pid origin stimulus call later clock t refl h.1
@@ -198,7 +198,7 @@ pub alone-so-far : (c : Config) (says : Applications) (inputs : List Input) (aft
     → before ++ later ≡ after.entries → IsAnsweredAlone quota p before
 alone-so-far c says inputs after runs boots quota p before later e named split =
     let few : p ≤ 19 = grind (arith, nat_tests, boots, named) in
-    let start : Told Memory = record { now = private_memory quota; last = None } in
+    let start : Knowledge Memory = record { now = private_memory quota; last = None } in
     let well = run-told (own_after quota p) (AsAlone quota p) (IsLikeOwn quota p) p (isolated-laws quota p few) start c says inputs after runs (boot-like quota p c e) before later split in
     replied quota p before 0 start well
 

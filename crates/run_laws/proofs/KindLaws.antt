@@ -14,7 +14,7 @@ use Rattle.mote_types.specs.Bytes.{range_of}
 use Rattle.run_laws.specs.OwnTurns.{OwnTurn, own, own_from, reply_in, reply_of, is_done, ticks_in, HasCall, up_to_call}
 use Rattle.run_laws.specs.BlockHistory.{Blocks, no_blocks, over_accepted}
 use Rattle.run_laws.specs.MemoryLaws.{Kind, ReadsItsBlock, NotLiveExactly, InUseExactly, are_names}
-use Rattle.run_laws.proofs.Told.{Told, told, told_all, answered}
+use Rattle.run_laws.proofs.Knowledge.{Knowledge, told, told_all, answered}
 
 -- what a call and its reply say of the caller's blocks
 pub record KindLaw (kind : Kind) (blocks : Blocks) (call : Call) (reply : Reply) : Type 0 where
@@ -28,7 +28,7 @@ pub record KindLaw (kind : Kind) (blocks : Blocks) (call : Call) (reply : Reply)
 abbrev pub accepted : (Call → Blocks → Blocks) → Call → Reply → Blocks → Blocks
 accepted change call reply blocks = if is_done (Some reply) then change call blocks else blocks
 
-abbrev pub at_first : Told Blocks
+abbrev pub at_first : Knowledge Blocks
 at_first = record { now = no_blocks; last = None }
 
 module _ (change : Call → Blocks → Blocks) (p : ℕ) where
@@ -65,12 +65,12 @@ module _ (change : Call → Blocks → Blocks) (p : ℕ) where
           let left : over (answered (accepted change) last (reply_in p (Entry.Turn pid origin stimulus call ∷ later)) b) (own_from p clock (Entry.Turn pid origin stimulus call ∷ later))
           ≡ (fold (told (accepted change) p) (record { now = answered (accepted change) last (reply_of stimulus) b; last = Some call }) later).now =
           rw (same, one_answer call (reply_in p later)) mine in
-          left ∙ ap (λ (t : Told Blocks). (fold (told (accepted change) p) t later).now) (sym told_now)
+          left ∙ ap (λ (t : Knowledge Blocks). (fold (told (accepted change) p) t later).now) (sym told_now)
       go false same mine other =
           let told_same : told (accepted change) p (record { now = b; last = last }) (Entry.Turn pid origin stimulus call) ≡ record { now = b; last = last } = grind (arith, same) in
           let left : over (answered (accepted change) last (reply_in p (Entry.Turn pid origin stimulus call ∷ later)) b) (own_from p clock (Entry.Turn pid origin stimulus call ∷ later))
           ≡ (fold (told (accepted change) p) (record { now = b; last = last }) later).now = rw same other in
-          left ∙ ap (λ (t : Told Blocks). (fold (told (accepted change) p) t later).now) (sym told_same)
+          left ∙ ap (λ (t : Knowledge Blocks). (fold (told (accepted change) p) t later).now) (sym told_same)
   own-told (Entry.Input input ∷ later) clock last b = own-told later (clock + ticks_in (Entry.Input input)) last b
   own-told (Entry.Note note ∷ later) clock last b = own-told later (clock + 0) last b
   own-told (Entry.Halt ∷ later) clock last b = own-told later (clock + 0) last b

@@ -19,7 +19,7 @@ pub mod Rests
 pub mod Senders
 pub mod Silent
 pub mod Stores
-pub mod Told
+pub mod Knowledge
 pub mod Totals
 pub mod Untouched
 pub mod Whole

@@ -34,7 +34,7 @@ use Rattle.run_laws.specs.OwnTurns.{up_to_call}
 use Rattle.run_laws.proofs.Marks.{marks, due}
 use Rattle.run_laws.proofs.Stores.{own_blocks, changes_managed, ask-rest, put_other, IsManagedChange, alloc-change, free-change, write-change, copy-change}
 use Rattle.run_laws.proofs.KindLaws.{KindLaw, EveryCall, accepted, at_first, blocks-told, every-reads, every-live, every-unused}
-use Rattle.run_laws.proofs.Told.{Laws}
+use Rattle.run_laws.proofs.Knowledge.{Laws}
 use Rattle.run_laws.proofs.Whole.{run-told, call-law}
 
 pub same_blocks : (f g : Blocks) → ((h : ℕ) → f h ≡ g h) → f ≡ g

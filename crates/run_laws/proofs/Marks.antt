@@ -80,7 +80,7 @@ marks-broadcast p event (n ∷ ns) items = grind (arith, marks-broadcast p event
 pub marks-delivery : (p : ℕ) (ns : List ℕ) (event : Option (Queued Bool)) (items : List Item) → marks p (delivery ns event ++ items) ≡ marks p items
 marks-delivery p ns (Some (Queued.To q event)) items = grind arith
 marks-delivery p ns (Some (Queued.ToAll event)) items = marks-broadcast p event ns items
-marks-delivery p ns (Some (Queued.Expiry q c struck)) items = refl
+marks-delivery p ns (Some (Queued.Expiry q c cancelled)) items = refl
 marks-delivery p ns None items = refl
 
 -- the states of the processes after a change

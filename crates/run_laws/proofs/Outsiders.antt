@@ -14,7 +14,7 @@ use Rattle.mote_types.specs.Applications.{Applications}
 use Rattle.process_core.specs.declared.state.State.{State}
 use Rattle.process_core.specs.Agenda.{Item}
 use Rattle.process_core.specs.Processes.{state_of, numbers, is_application}
-use Rattle.process_core.specs.Scheduler.{Scheduler, carried_out, delivery, first_event, in_front}
+use Rattle.process_core.specs.Scheduler.{Scheduler, after_item, delivery, first_event, in_front}
 use Rattle.kernel_core.specs.declared.config.Config.{Config}
 use Rattle.kernel_core.specs.Machine.{Machine, is_bootable}
 use Rattle.kernel_core.specs.Calls.{after_call}
@@ -55,57 +55,57 @@ module _ (p : ℕ) (high : nat_le 4 p ≡ true) where
 
   -- an item
 
-  carried_out-state : (item : Item) (items : List Item) (s : Scheduler Bool) → keeps_out item ≡ true → state_of p s.processes ≡ State.Absent
-      → state_of p (carried_out item (with_agenda items s)).processes ≡ State.Absent
-  carried_out-state (Item.Start q) items s k h = grind (arith, nat_tests, k, h)
-  carried_out-state (Item.Give q origin stimulus) items s k h = give (q == p) refl
+  after_item-state : (item : Item) (items : List Item) (s : Scheduler Bool) → keeps_out item ≡ true → state_of p s.processes ≡ State.Absent
+      → state_of p (after_item item (with_agenda items s)).processes ≡ State.Absent
+  after_item-state (Item.Start q) items s k h = grind (arith, nat_tests, k, h)
+  after_item-state (Item.Give q origin stimulus) items s k h = give (q == p) refl
     where
-      give : (b : Bool) → (q == p) ≡ b → state_of p (carried_out (Item.Give q origin stimulus) (with_agenda items s)).processes ≡ State.Absent
+      give : (b : Bool) → (q == p) ≡ b → state_of p (after_item (Item.Give q origin stimulus) (with_agenda items s)).processes ≡ State.Absent
       give true e = let same : q ≡ p = grind (arith, nat_tests, e) in grind (arith, same, h)
       give false e = grind (arith, h, state_of-with_other p q State.Called s.processes e)
-  carried_out-state (Item.GiveExit q) items s k h =
+  after_item-state (Item.GiveExit q) items s k h =
       let other : (q == p) ≡ false = grind (arith, k) in
       state_of-with_other p q State.Ending s.processes other ∙ h
-  carried_out-state (Item.Remove q) items s k h = remove (q == p) refl
+  after_item-state (Item.Remove q) items s k h = remove (q == p) refl
     where
-      remove : (b : Bool) → (q == p) ≡ b → state_of p (carried_out (Item.Remove q) (with_agenda items s)).processes ≡ State.Absent
+      remove : (b : Bool) → (q == p) ≡ b → state_of p (after_item (Item.Remove q) (with_agenda items s)).processes ≡ State.Absent
       remove true e = let same : q ≡ p = grind (arith, nat_tests, e) in rw same (state_of-without p s.processes)
       remove false e = state_of-without_other p q s.processes e ∙ h
-  carried_out-state Item.Polls items s k h = grind (arith, h)
-  carried_out-state (Item.PollOne q) items s k h = grind (arith, h, state_of-with_mark p q false s.processes)
-  carried_out-state Item.Deliver items s k h = h
-  carried_out-state (Item.Turn q origin stimulus) items s k h = h
-  carried_out-state (Item.Show entry) items s k h = h
+  after_item-state Item.Polls items s k h = grind (arith, h)
+  after_item-state (Item.PollOne q) items s k h = grind (arith, h, state_of-with_mark p q false s.processes)
+  after_item-state Item.Deliver items s k h = h
+  after_item-state (Item.Turn q origin stimulus) items s k h = h
+  after_item-state (Item.Show entry) items s k h = h
 
-  carried_out-agenda : (item : Item) (items : List Item) (s : Scheduler Bool) → keeps_out item ≡ true → state_of p s.processes ≡ State.Absent
-      → list_all keeps_out items ≡ true → list_all keeps_out (carried_out item (with_agenda items s)).agenda ≡ true
-  carried_out-agenda (Item.Give q origin stimulus) items s k h i = give (q == p) refl
+  after_item-agenda : (item : Item) (items : List Item) (s : Scheduler Bool) → keeps_out item ≡ true → state_of p s.processes ≡ State.Absent
+      → list_all keeps_out items ≡ true → list_all keeps_out (after_item item (with_agenda items s)).agenda ≡ true
+  after_item-agenda (Item.Give q origin stimulus) items s k h i = give (q == p) refl
     where
-      give : (b : Bool) → (q == p) ≡ b → list_all keeps_out (carried_out (Item.Give q origin stimulus) (with_agenda items s)).agenda ≡ true
+      give : (b : Bool) → (q == p) ≡ b → list_all keeps_out (after_item (Item.Give q origin stimulus) (with_agenda items s)).agenda ≡ true
       give true e = let same : q ≡ p = grind (arith, nat_tests, e) in grind (arith, same, h, i)
       give false e = grind (arith, e, i)
-  carried_out-agenda Item.Polls items s k h i =
+  after_item-agenda Item.Polls items s k h i =
       let polls = all-mapped keeps_out (λ n. Item.PollOne n) (numbers s.processes) (λ n. refl) in
       grind (arith, i, all-append keeps_out (map (λ n. Item.PollOne n) (numbers s.processes)) items polls)
-  carried_out-agenda Item.Deliver items s k h i =
+  after_item-agenda Item.Deliver items s k h i =
       all-append keeps_out (delivery (numbers s.processes) (first_event s)) items
       (all-delivered keeps_out (numbers s.processes) (first_event s) refl (λ n stimulus. refl)) i
-  carried_out-agenda item items s k h i = grind (arith, k, i)
+  after_item-agenda item items s k h i = grind (arith, k, i)
 
-  carried_out-applications : (item : Item) (s : Scheduler Bool) → (carried_out item s).applications ≡ s.applications
-  carried_out-applications item s = grind arith
+  after_item-applications : (item : Item) (s : Scheduler Bool) → (after_item item s).applications ≡ s.applications
+  after_item-applications item s = grind arith
 
   -- the rest of the agenda
   without_item : (item : Item) (items : List Item) (s : Scheduler Bool) → IsOut (with_agenda (item ∷ items) s) → IsOut (with_agenda items s)
   without_item item items s h = record { stranger = h.stranger; absent = h.absent; agenda = grind (arith, h.agenda) }
 
-  carried_out-out : (item : Item) (items : List Item) (s : Scheduler Bool) → IsOut (with_agenda (item ∷ items) s) → IsOut (carried_out item (with_agenda items s))
-  carried_out-out item items s h =
+  after_item-out : (item : Item) (items : List Item) (s : Scheduler Bool) → IsOut (with_agenda (item ∷ items) s) → IsOut (after_item item (with_agenda items s))
+  after_item-out item items s h =
       let one : keeps_out item ≡ true = grind (arith, h.agenda) in
       record {
-        stranger = rw (carried_out-applications item (with_agenda items s)) h.stranger;
-        absent = carried_out-state item items s one h.absent;
-        agenda = carried_out-agenda item items s one h.absent (without_item item items s h).agenda;
+        stranger = rw (after_item-applications item (with_agenda items s)) h.stranger;
+        absent = after_item-state item items s one h.absent;
+        agenda = after_item-agenda item items s one h.absent (without_item item items s h).agenda;
       }
 
   -- a call
@@ -183,7 +183,7 @@ module _ (p : ℕ) (high : nat_le 4 p ≡ true) where
       record {
         notes = λ m X entry items h. grind (arith, h.agenda);
         free = λ m X h. h;
-        carried = λ m X item items n s h. carried_out-out item items m.scheduler h;
+        carried = λ m X item items n s h. after_item-out item items m.scheduler h;
         served = λ m X q origin event items k h. served-out q event (facing items m) (without_item (Item.Give q origin (Stimulus.Event event)) items m.scheduler h);
         called_back = λ m X q c h. in_front-out (Item.Give q Origin.Callback (Stimulus.Callback c) ∷ []) m.scheduler refl h;
         round = λ m X h. record { stranger = h.stranger; absent = h.absent; agenda = refl };

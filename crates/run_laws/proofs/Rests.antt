@@ -12,7 +12,7 @@ use Rattle.mote_types.specs.declared.entry.Input.{Input}
 use Rattle.mote_types.specs.Applications.{Applications}
 use Rattle.process_core.specs.Agenda.{Item, Job}
 use Rattle.process_core.specs.Idle.{is_empty}
-use Rattle.process_core.specs.Scheduler.{Scheduler, worked, job, job_at, job_of_item, job_of_give, job_of_event, first_event, wants_round, in_front}
+use Rattle.process_core.specs.Scheduler.{Scheduler, after_front, job, job_at, job_of_item, job_of_give, job_of_event, first_event, wants_round, in_front}
 use Rattle.process_core.specs.Agenda.{Queued}
 use Rattle.kernel_core.specs.declared.config.Config.{Config}
 use Rattle.kernel_core.specs.Machine.{Machine, scheduled}
@@ -20,7 +20,7 @@ use Rattle.kernel_core.specs.Calls.{after_call}
 use Rattle.kernel_core.specs.Inputs.{fed}
 use Rattle.kernel_core.specs.KernelProcesses.{serve}
 use Rattle.kernel_core.specs.Run.{Answers, StepMade, Running, Runs, ComesToRest, one_step, job_done, within_limit, is_still, after_step, answers_after, with_input, at_start, silent, with_more_work, turn_taken}
-use Rattle.run_laws.proofs.Costs.{present, starts-append, worked-present, is_rest, costs, costs-cons, costs-nil, costs-append, costs-farewells, starts-farewells, round_cost, IsPaid, paid}
+use Rattle.run_laws.proofs.Costs.{present, starts-append, after_front-present, is_rest, costs, costs-cons, costs-nil, costs-append, costs-farewells, starts-farewells, round_cost, IsPaid, paid}
 use Rattle.run_laws.proofs.Untouched.{serve-untouched, call-work}
 
 -- a call
@@ -155,7 +155,7 @@ module _ (bound : ℕ) where
   step-falls answers m w few live = go m.is_halted refl
     where
       next : Machine
-      next = scheduled worked m
+      next = scheduled after_front m
 
       works : m.is_halted ≡ false → is_rest (job m.scheduler) ≡ false
       works up = job_at-works m.scheduler.agenda m.scheduler (grind (arith, live, up))
@@ -163,8 +163,8 @@ module _ (bound : ℕ) where
       listed : length m.scheduler.processes ≤ bound
       listed = omega arith
 
-      fewer : present (worked m.scheduler) ≤ present m.scheduler
-      fewer = worked-present m.scheduler
+      fewer : present (after_front m.scheduler) ≤ present m.scheduler
+      fewer = after_front-present m.scheduler
 
       done : m.is_halted ≡ false → Falls bound (measure bound m) m (job_done answers (job m.scheduler) next).0
       done up =

@@ -29,7 +29,7 @@ use Rattle.run_laws.specs.MemoryLaws.{managed_kind}
 use Rattle.run_laws.proofs.Stores.{own_blocks}
 use Rattle.run_laws.proofs.Marks.{marks, due, idle}
 use Rattle.run_laws.proofs.Arrivals.{effect-keeps}
-use Rattle.run_laws.proofs.Told.{Told, told, told_all, answered}
+use Rattle.run_laws.proofs.Knowledge.{Knowledge, told, told_all, answered}
 use Rattle.run_laws.proofs.event_order.Items.{facing}
 use Rattle.run_laws.proofs.event_order.Runs.{AtEach, each-more, at_each}
 use Rattle.run_laws.proofs.event_order.Shape.{is_note}
@@ -54,7 +54,7 @@ module _ (p : ℕ) (few : p ≤ 19) where
   handle_after entries = fold sent_by None entries
 
   -- what p knows of its blocks
-  abbrev told_after : List Entry → Told Blocks
+  abbrev told_after : List Entry → Knowledge Blocks
   told_after entries = told_all (accepted managed_after) p at_first entries
 
   abbrev Shown : Option ℕ → Blocks → Entry → Type 0

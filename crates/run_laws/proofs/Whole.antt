@@ -30,7 +30,7 @@ use Rattle.run_laws.specs.OwnTurns.{reply_of, reply_in, HasCall, up_to_call}
 use Rattle.run_laws.proofs.Marks.{marks, state_of-with_mark}
 use Rattle.run_laws.proofs.Arrivals.{effect-keeps}
 use Rattle.run_laws.proofs.Silent.{is_turn_item}
-use Rattle.run_laws.proofs.Told.{Told, told, told_all, answered, Fine, LawAt, Laws, Now, Turned, same-now, carried-now, served-now, called_back-now, turn-step}
+use Rattle.run_laws.proofs.Knowledge.{Knowledge, told, told_all, answered, Fine, LawAt, Laws, Now, Turned, same-now, carried-now, served-now, called_back-now, turn-step}
 use Rattle.run_laws.proofs.Untouched.{serve-untouched}
 use Rattle.run_laws.proofs.event_order.Items.{facing}
 use Rattle.run_laws.proofs.event_order.Runs.{Prefixes, at_prefixes}
@@ -53,31 +53,31 @@ unfolding free_slot
 slot_low packets slot e = found (λ slot. not (is_held packets slot)) (0 ∷ 1 ∷ 2 ∷ 3 ∷ 4 ∷ 5 ∷ 6 ∷ 7 ∷ []) slot refl e
 
 module _ {S : Type 0} (next : Call → Reply → S → S) (Law : S → Call → Reply → Type 0) (Rel : Memory → List Frame → S → Type 0) (p : ℕ) where
-  abbrev pub WellTold : Told S → List Entry → Type 0
+  abbrev pub WellTold : Knowledge S → List Entry → Type 0
   WellTold t [] = Unit {0}
   WellTold t (entry ∷ entries) = Fine Law p t entry × WellTold (told next p t entry) entries
 
-  pub well-append : (t : Told S) (xs ys : List Entry) → WellTold t xs → WellTold (told_all next p t xs) ys → WellTold t (xs ++ ys)
+  pub well-append : (t : Knowledge S) (xs ys : List Entry) → WellTold t xs → WellTold (told_all next p t xs) ys → WellTold t (xs ++ ys)
   well-append t [] ys h k = k
   well-append t (x ∷ xs) ys h k = (h.0, well-append (told next p t x) xs ys h.1 k)
 
-  pub well-after : (t : Told S) (xs ys : List Entry) → WellTold t (xs ++ ys) → WellTold (told_all next p t xs) ys
+  pub well-after : (t : Knowledge S) (xs ys : List Entry) → WellTold t (xs ++ ys) → WellTold (told_all next p t xs) ys
   well-after t [] ys h = h
   well-after t (x ∷ xs) ys h = well-after (told next p t x) xs ys h.1
 
   -- what it was told so far, and that kernel processes take no turn
-  pub record Holds (start : Told S) (m : Machine) (X : List Entry) : Type 0 where
+  pub record Holds (start : Knowledge S) (m : Machine) (X : List Entry) : Type 0 where
     pub regular : list_all is_regular m.scheduler.agenda ≡ true
     pub now : Now next Law Rel p (told_all next p start X) m
 
   -- an entry that is no turn tells it nothing
-  told-other : (start : Told S) (X : List Entry) (e : Entry) → is_turn e ≡ false → told_all next p start (X ++ e ∷ []) ≡ told_all next p start X
+  told-other : (start : Knowledge S) (X : List Entry) (e : Entry) → is_turn e ≡ false → told_all next p start (X ++ e ∷ []) ≡ told_all next p start X
   told-other start X e n = fold-append (told next p) start X (e ∷ []) ∙ grind (arith, n)
 
-  well-more : (start : Told S) (X : List Entry) (e : Entry) → WellTold start X → Fine Law p (told_all next p start X) e → WellTold start (X ++ e ∷ [])
+  well-more : (start : Knowledge S) (X : List Entry) (e : Entry) → WellTold start X → Fine Law p (told_all next p start X) e → WellTold start (X ++ e ∷ [])
   well-more start X e h k = well-append start X (e ∷ []) h (k, tt)
 
-  well-other : (start : Told S) (X : List Entry) (e : Entry) → is_turn e ≡ false → WellTold start X → WellTold start (X ++ e ∷ [])
+  well-other : (start : Knowledge S) (X : List Entry) (e : Entry) → is_turn e ≡ false → WellTold start X → WellTold start (X ++ e ∷ [])
   well-other start X e n h = well-more start X e h (fine e n)
     where
       fine : (e : Entry) → is_turn e ≡ false → Fine Law p (told_all next p start X) e
@@ -89,22 +89,22 @@ module _ {S : Type 0} (next : Call → Reply → S → S) (Law : S → Call → 
   not_turn : (item : Item) → is_quiet_item item ≡ true → is_turn_item item ≡ false
   not_turn item n = grind (arith, n)
 
-  carried-holds : (start : Told S) (item : Item) (items : List Item) (m : Machine) (X : List Entry) → is_turn_item item ≡ false → Holds start (facing (item ∷ items) m) X
+  carried-holds : (start : Knowledge S) (item : Item) (items : List Item) (m : Machine) (X : List Entry) → is_turn_item item ≡ false → Holds start (facing (item ∷ items) m) X
       → Holds start (carried item items m) X
   carried-holds start item items m X n h =
       record { regular = carried-regular item items m.scheduler h.regular; now = carried-now next Law Rel p item items (told_all next p start X) m n h.now }
 
-  served-holds : (start : Told S) (q : ℕ) (event : Event) (m : Machine) (X : List Entry) → Holds start m X → Holds start (serve q event m) X
+  served-holds : (start : Knowledge S) (q : ℕ) (event : Event) (m : Machine) (X : List Entry) → Holds start m X → Holds start (serve q event m) X
   served-holds start q event m X h =
       record { regular = rw ((serve-untouched q event m).agenda) h.regular; now = served-now next Law Rel p q event (told_all next p start X) m h.now }
 
-  turned : Laws next Law Rel p → (start : Told S) (m : Machine) (X : List Entry) (items : List Item) (q : ℕ) (origin : Origin) (stimulus : Stimulus) (call : Call)
+  turned : Laws next Law Rel p → (start : Knowledge S) (m : Machine) (X : List Entry) (items : List Item) (q : ℕ) (origin : Origin) (stimulus : Stimulus) (call : Call)
       → Holds start (facing (Item.Turn q origin stimulus ∷ items) m) X
       → Turned next Law Rel p (told_all next p start X) (turn_entry q origin stimulus call) (after_call call q (with_more_work (facing items m)))
   turned laws start m X items q origin stimulus call h =
       turn-step next Law Rel p laws (q == p) call q origin stimulus items (told_all next p start X) m refl h.now
 
-  turn-holds : Laws next Law Rel p → (start : Told S) (m : Machine) (X : List Entry) (items : List Item) (q : ℕ) (origin : Origin) (stimulus : Stimulus) (call : Call)
+  turn-holds : Laws next Law Rel p → (start : Knowledge S) (m : Machine) (X : List Entry) (items : List Item) (q : ℕ) (origin : Origin) (stimulus : Stimulus) (call : Call)
       → Holds start (facing (Item.Turn q origin stimulus ∷ items) m) X
       → Holds start (after_call call q (with_more_work (facing items m))) (X ++ turn_entry q origin stimulus call ∷ [])
   turn-holds laws start m X items q origin stimulus call h =
@@ -115,7 +115,7 @@ module _ {S : Type 0} (next : Call → Reply → S → S) (Law : S → Call → 
         now = rw (fold-append (told next p) start X (turn_entry q origin stimulus call ∷ [])) ((turned laws start m X items q origin stimulus call h).now);
       }
 
-  shown-holds : (start : Told S) (m : Machine) (X : List Entry) (items : List Item) (note : Note) → Holds start (facing (Item.Show (Entry.Note note) ∷ items) m) X
+  shown-holds : (start : Knowledge S) (m : Machine) (X : List Entry) (items : List Item) (note : Note) → Holds start (facing (Item.Show (Entry.Note note) ∷ items) m) X
       → Holds start (facing items m) (X ++ Entry.Note note ∷ [])
   shown-holds start m X items note h =
       let k = carried-holds start (Item.Show (Entry.Note note)) items m X refl h in
@@ -144,7 +144,7 @@ module _ {S : Type 0} (next : Call → Reply → S → S) (Law : S → Call → 
       effect-keeps (λ s. Alike m.scheduler s) input m (record { marks_are = refl; state = refl })
       (λ q. record { marks_are = refl; state = state_of-with_mark p q true m.scheduler.processes }) (λ refusal. record { marks_are = refl; state = refl })
 
-  input-holds : Laws next Law Rel p → (start : Told S) (input : Input) (m : Machine) (X : List Entry) → Holds start m X
+  input-holds : Laws next Law Rel p → (start : Knowledge S) (input : Input) (m : Machine) (X : List Entry) → Holds start m X
       → Holds start (effect input (record m { work = 0 })) (X ++ Entry.Input input ∷ [])
   input-holds laws start input m X h =
       let woken : Machine = record m { work = 0 } in
@@ -159,7 +159,7 @@ module _ {S : Type 0} (next : Call → Reply → S → S) (Law : S → Call → 
             });
       }
 
-  pub told_cases : Laws next Law Rel p → (start : Told S) → Cases (Holds start) (Holds start) (WellTold start)
+  pub told_cases : Laws next Law Rel p → (start : Knowledge S) → Cases (Holds start) (Holds start) (WellTold start)
   told_cases laws start =
       record {
         notes = λ m X entry items h. grind (arith, h.regular);
@@ -182,21 +182,21 @@ module _ {S : Type 0} (next : Call → Reply → S → S) (Law : S → Call → 
   marks-starts zero from = refl
   marks-starts (suc n) from = marks-starts n (from + 1)
 
-  nothing-law : (start : Told S) → LawAt Law start.last start.now None
+  nothing-law : (start : Knowledge S) → LawAt Law start.last start.now None
   nothing-law start = go start.last
     where
       go : (last : Option Call) → LawAt Law last start.now None
       go None = tt
       go (Some call) = tt
 
-  nothing-rel : (start : Told S) (memory : Memory) (frames : List Frame) → Rel memory frames start.now → Rel memory frames (answered next start.last None start.now)
+  nothing-rel : (start : Knowledge S) (memory : Memory) (frames : List Frame) → Rel memory frames start.now → Rel memory frames (answered next start.last None start.now)
   nothing-rel start memory frames h = go start.last
     where
       go : (last : Option Call) → Rel memory frames (answered next last None start.now)
       go None = h
       go (Some call) = h
 
-  pub boot-holds : (start : Told S) (c : Config) → Rel (booted c).memory [] start.now → Holds start (at_start c).machine []
+  pub boot-holds : (start : Knowledge S) (c : Config) → Rel (booted c).memory [] start.now → Holds start (at_start c).machine []
   boot-holds start c rel =
       let none : marks p (booted c).scheduler.agenda ≡ [] = marks-starts c.apps 4 in
       record {
@@ -204,13 +204,13 @@ module _ {S : Type 0} (next : Call → Reply → S → S) (Law : S → Call → 
         now = record { is_fit = rw none; law = rw none (nothing-law start); rel = rw none (nothing-rel start (booted c).memory [] rel) };
       }
 
-  pub run-told : Laws next Law Rel p → (start : Told S) (c : Config) (says : Applications) (inputs : List Input) (after : Running)
+  pub run-told : Laws next Law Rel p → (start : Knowledge S) (c : Config) (says : Applications) (inputs : List Input) (after : Running)
       → Runs says (at_start c) inputs after → Rel (booted c).memory [] start.now → Prefixes (WellTold start) after.entries
   run-told laws start c says inputs after runs rel =
       at_prefixes (Holds start) (WellTold start) (law_of (Holds start) (Holds start) (WellTold start) (told_cases laws start)) c says inputs after runs (boot-holds start c rel) tt
 
   -- the first answer behind a call is what the law says
-  pub law-of : (later : List Entry) (t : Told S) (call : Call) (reply : Reply) → t.last ≡ Some call → reply_in p later ≡ Some reply → WellTold t later
+  pub law-of : (later : List Entry) (t : Knowledge S) (call : Call) (reply : Reply) → t.last ≡ Some call → reply_in p later ≡ Some reply → WellTold t later
       → Law t.now call reply
   law-of [] t call reply e r h = absurd (grind arith)
   law-of (Entry.Turn pid origin stimulus other ∷ later) t call reply e r h = go (pid.0 == p) refl (law-of later t call reply e)
@@ -225,7 +225,7 @@ module _ {S : Type 0} (next : Call → Reply → S → S) (Law : S → Call → 
           rest later_reply (rw silent at h.1)
   law-of (entry ∷ later) t call reply e r h = law-of later t call reply e r h.1
 
-  pub call-law : (start : Told S) (X before : List Entry) (origin : Origin) (stimulus : Stimulus) (call : Call) (reply : Reply)
+  pub call-law : (start : Knowledge S) (X before : List Entry) (origin : Origin) (stimulus : Stimulus) (call : Call) (reply : Reply)
       → WellTold start X → HasCall X before p origin stimulus call reply
       → Law (told_all next p start (up_to_call before p origin stimulus call)).now call reply
   call-law start X before origin stimulus call reply well has =

@@ -32,18 +32,22 @@ pub data IsAtRest (X : List Entry) : List Entry → Type 0 where
 abbrev pub is_kernel_code : ℕ → Bool
 is_kernel_code code = code == TIMER || code == SERIAL_LINE || code == PACKET
 
+-- an event that an application posted, not one that the kernel makes
 abbrev pub posted_event : Origin → Stimulus → Option Event
 posted_event Origin.Event (Stimulus.Event event) = if is_kernel_code event.code then None else Some event
 posted_event _ _ = None
 
+-- those that p was given, in order
 abbrev pub given_events : List Entry → ℕ → List Event
 given_events entries p = filter_map (λ turn. posted_event turn.origin turn.stimulus) (own p entries)
 
+-- the event for p that a call posts: to p, or to all
 abbrev pub event_for : ℕ → Call → Option Event
 event_for p (Call.Post q code payload) = if q == p then Some (record { code = code; payload = payload }) else None
 event_for p (Call.Broadcast code payload) = Some (record { code = code; payload = payload })
 event_for p _ = None
 
+-- the event for p that this entry posts, if its call is accepted
 abbrev pub accepted_event : ℕ → Entry → List Entry → Option Event
 accepted_event p (Entry.Turn pid origin stimulus call) later = if is_done (reply_in pid.0 later) then event_for p call else None
 accepted_event p _ later = None

@@ -36,9 +36,11 @@ managed_answer turn =
 abbrev pub managed_answers : ℕ → List Entry → List AnsweredCall
 managed_answers p entries = filter_map managed_answer (own p entries)
 
+-- what p asked of managed memory
 abbrev pub managed_calls : ℕ → List Entry → List Call
 managed_calls p entries = map (λ answered. answered.call) (managed_answers p entries)
 
+-- what it was answered
 abbrev pub managed_replies : ℕ → List Entry → List Reply
 managed_replies p entries = map (λ answered. answered.reply) (managed_answers p entries)
 

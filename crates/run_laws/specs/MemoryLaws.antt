@@ -24,6 +24,7 @@ pub record Kind : Type 0 where
   -- the range that a call reads: the block, where it begins, and its length
   pub reads : Call → Option (ℕ × ℕ × ℕ)
 
+-- the handles that must be live for a call to be accepted
 abbrev pub managed_needs : Call → List ℕ
 managed_needs (Call.MmemFree h) = h ∷ []
 managed_needs (Call.MmemWrite h at chunk) = h ∷ []
@@ -32,14 +33,17 @@ managed_needs (Call.MmemCopy source target) = source ∷ target ∷ []
 managed_needs (Call.PacketSend h) = h ∷ []
 managed_needs _ = []
 
+-- the handle that is live once it is accepted
 abbrev pub managed_makes : Call → List ℕ
 managed_makes (Call.MmemAlloc h n) = h ∷ []
 managed_makes _ = []
 
+-- from which block, from where on and how much it reads
 abbrev pub managed_reads : Call → Option (ℕ × ℕ × ℕ)
 managed_reads (Call.MmemRead h at len) = Some (h, at, len)
 managed_reads _ = None
 
+-- the blocks that must be live for a call to be accepted
 abbrev pub heap_needs : Call → List ℕ
 heap_needs (Call.HeapFree b) = b ∷ []
 heap_needs (Call.HeapWrite b at chunk) = b ∷ []
@@ -47,10 +51,12 @@ heap_needs (Call.HeapRead b at len) = b ∷ []
 heap_needs (Call.HeapRealloc b n) = b ∷ []
 heap_needs _ = []
 
+-- the block that is live once it is accepted
 abbrev pub heap_makes : Call → List ℕ
 heap_makes (Call.HeapAlloc b n) = b ∷ []
 heap_makes _ = []
 
+-- from which block, from where on and how much it reads
 abbrev pub heap_reads : Call → Option (ℕ × ℕ × ℕ)
 heap_reads (Call.HeapRead b at len) = Some (b, at, len)
 heap_reads _ = None

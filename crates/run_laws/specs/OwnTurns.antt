@@ -33,6 +33,7 @@ pub record OwnTurn : Type 0 where
   -- none where the activation ended, or where the entries end first
   pub reply : Option Reply
 
+-- the turn of p that this entry is, if it is one, with the reply that the later entries tell
 abbrev pub own_turn : ℕ → ℕ → Entry → List Entry → Option OwnTurn
 own_turn p clock (Entry.Turn pid origin stimulus call) later =
     if pid.0 == p
@@ -40,6 +41,7 @@ own_turn p clock (Entry.Turn pid origin stimulus call) later =
     else None
 own_turn p clock _ later = None
 
+-- the turns of p among these entries, the clock being this at the first
 abbrev pub own_from : ℕ → ℕ → List Entry → List OwnTurn
 own_from p clock [] = []
 own_from p clock (entry ∷ later) = cons_option (own_turn p clock entry later) (own_from p (clock + ticks_in entry) later)

@@ -26,5 +26,6 @@ pub record IsSent (before : List Entry) (bytes : ArrayVec ℕ) : Type 0 where
   pub sender : Sender before
   pub block : managed_block before sender.p sender.h ≡ Some bytes.items
 
+-- each frame that was sent was a block of its sender then
 abbrev pub EverySent : List Entry → Type 0
 EverySent X = (before later : List Entry) (bytes : ArrayVec ℕ) → before ++ Entry.Note (Note.Sent bytes) ∷ later ≡ X → IsSent before bytes

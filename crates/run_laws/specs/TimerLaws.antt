@@ -22,6 +22,7 @@ cell_after t clock (Call.TimerRestart u) cell = if u == t then record cell { sta
 cell_after t clock (Call.TimerReset u) cell = if u == t then record cell { start = cell.start + cell.interval } else cell
 cell_after t clock _ cell = cell
 
+-- the call sets timer t, or begins its interval again
 abbrev pub arms : ℕ → Call → Bool
 arms t (Call.TimerSet u interval) = u == t
 arms t (Call.TimerRestart u) = u == t
@@ -38,6 +39,7 @@ is_arming t turn = is_done turn.reply && arms t turn.call
 abbrev pub is_arming_or_stop : ℕ → OwnTurn → Bool
 is_arming_or_stop t turn = is_done turn.reply && (arms t turn.call || stops t turn.call)
 
+-- the cell of timer t after a turn
 abbrev pub cell_at : ℕ → OwnTurn → Cell → Cell
 cell_at t turn cell = if is_arming t turn then cell_after t turn.clock turn.call cell else cell
 
@@ -52,6 +54,7 @@ ripe_from t clock cell (turn ∷ later) =
     let after = cell_at t turn cell in
     (if is_arming t turn && nat_le (deadline after) (stood_until t clock later) then 1 else 0) + ripe_from t clock after later
 
+-- how many armings of timer t of p have come to their deadline by the end
 abbrev pub ripe_armings : List Entry → ℕ → ℕ → ℕ
 ripe_armings entries p t = ripe_from t (clock_after entries) zero_cell (own p entries)
 
@@ -79,6 +82,7 @@ pub record Standing : Type 0 where
   -- a TIMER event was given after it
   pub was_given : Bool
 
+-- what a turn makes of that
 abbrev pub standing_after : ℕ → Standing → OwnTurn → Standing
 standing_after t standing turn =
     let given = standing.was_given || is_timer_event t turn.stimulus in
@@ -86,6 +90,7 @@ standing_after t standing turn =
     then record { cell = cell_at t turn standing.cell; is_armed = is_arming t turn; was_given = false }
     else record standing { was_given = given }
 
+-- how timer t of p stands after all entries
 abbrev pub standing : List Entry → ℕ → ℕ → Standing
 standing entries p t =
     fold (standing_after t) (record { cell = zero_cell; is_armed = false; was_given = false }) (own p entries)

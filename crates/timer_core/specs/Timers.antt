@@ -11,6 +11,7 @@ pub record NamedCell : Type 0 where
   pub timer : Timer
   pub cell : Cell
 
+-- all timers of a node
 pub record Timers : Type 0 where
   -- the cell of each timer
   pub cells : List NamedCell
@@ -23,12 +24,14 @@ zero_cell = record { start = 0; interval = 0 }
 abbrev pub no_timers : Timers
 no_timers = record { cells = map (λ timer. record { timer = timer; cell = zero_cell }) all_timers; armed = [] }
 
+-- the cell of a timer among these
 abbrev pub cell_under : Timer → List NamedCell → Cell
 cell_under timer cells = option_map_or (λ named. named.cell) (find (λ named. is_timer timer named.timer) cells) zero_cell
 
 abbrev pub cell_of : Timer → Timers → Cell
 cell_of timer timers = cell_under timer timers.cells
 
+-- the cell becomes this one where it is that timer's
 abbrev pub given_cell : Timer → Cell → NamedCell → NamedCell
 given_cell timer cell named = if is_timer timer named.timer then record named { cell = cell } else named
 
@@ -47,12 +50,15 @@ armed_with timer cell timers =
       armed = if is_armed timer timers then timers.armed else timer ∷ timers.armed;
     }
 
+-- it runs out when so many ticks have gone by from now on
 abbrev pub set_timer : ℕ → Timer → ℕ → Timers → Timers
 set_timer clock timer interval = armed_with timer (record { start = clock; interval = interval })
 
+-- its interval begins again now
 abbrev pub restart_timer : ℕ → Timer → Timers → Timers
 restart_timer clock timer timers = armed_with timer (record (cell_of timer timers) { start = clock }) timers
 
+-- when it runs out
 abbrev pub deadline : Cell → ℕ
 deadline cell = cell.start + cell.interval
 
@@ -71,6 +77,7 @@ can_reset timer timers =
 abbrev pub stop_timer : Timer → Timers → Timers
 stop_timer timer timers = record timers { armed = filter (λ other. not (is_timer timer other)) timers.armed }
 
+-- its deadline is past or now
 abbrev pub is_due : ℕ → Timers → Timer → Bool
 is_due clock timers timer = nat_le (deadline (cell_of timer timers)) clock
 

@@ -63,7 +63,7 @@ impl ArmingNumbers {
         requires named { IsNamed (Timer.Callback pid number) }
         requires few { self.old.drawn < 2 ^ 63 }
         ensures changed { self.new ≡ renumbered pid.0 self.old number }
-        ensures struck { (arming : ℕ) → arming < self.old.drawn → is_present_arming pid.0 number arming self.new ≡ false }
+        ensures cancelled { (arming : ℕ) → arming < self.old.drawn → is_present_arming pid.0 number arming self.new ≡ false }
         ensures others { (p c : ℕ) → 4 ≤ p → c < 4 → (p ≡ pid.0 → c ≡ number → ⊥) → present_arming p c self.new ≡ present_arming p c self.old }
     {
         self.present[place(pid, number)] = self.drawn;
@@ -76,7 +76,7 @@ impl ArmingNumbers {
         requires last { pid.0 ≤ 19 }
         requires few { self.old.drawn < 2 ^ 60 }
         ensures changed { self.new ≡ all_renumbered pid.0 self.old }
-        ensures struck { (c arming : ℕ) → c < 4 → arming < self.old.drawn → is_present_arming pid.0 c arming self.new ≡ false }
+        ensures cancelled { (c arming : ℕ) → c < 4 → arming < self.old.drawn → is_present_arming pid.0 c arming self.new ≡ false }
         ensures others { (p c : ℕ) → 4 ≤ p → c < 4 → (p ≡ pid.0 → ⊥) → present_arming p c self.new ≡ present_arming p c self.old }
     {
         let _ = &self.drawn;

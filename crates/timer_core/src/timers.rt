@@ -133,7 +133,7 @@ impl Timers {
           timers = set_timer clock (Timer.Callback pid number) interval self.old.timers;
           armings = renumbered pid.0 self.old.armings number;
         } }
-        ensures struck { (arming : ℕ) → arming < self.old.armings.drawn → is_present_arming pid.0 number arming self.new.armings ≡ false }
+        ensures cancelled { (arming : ℕ) → arming < self.old.armings.drawn → is_present_arming pid.0 number arming self.new.armings ≡ false }
         ensures others { (p c : ℕ) → 4 ≤ p → c < 4 → (p ≡ pid.0 → c ≡ number → ⊥) → present_arming p c self.new.armings ≡ present_arming p c self.old.armings }
     {
         self.numbers.renew(pid, number);
@@ -153,7 +153,7 @@ impl Timers {
           timers = stop_timer (Timer.Callback pid number) self.old.timers;
           armings = renumbered pid.0 self.old.armings number;
         } }
-        ensures struck { (arming : ℕ) → arming < self.old.armings.drawn → is_present_arming pid.0 number arming self.new.armings ≡ false }
+        ensures cancelled { (arming : ℕ) → arming < self.old.armings.drawn → is_present_arming pid.0 number arming self.new.armings ≡ false }
         ensures others { (p c : ℕ) → 4 ≤ p → c < 4 → (p ≡ pid.0 → c ≡ number → ⊥) → present_arming p c self.new.armings ≡ present_arming p c self.old.armings }
     {
         self.numbers.renew(pid, number);
@@ -219,7 +219,7 @@ impl Timers {
           timers = without_callback_timers pid.0 self.old.timers;
           armings = all_renumbered pid.0 self.old.armings;
         } }
-        ensures struck { (c arming : ℕ) → c < 4 → arming < self.old.armings.drawn → is_present_arming pid.0 c arming self.new.armings ≡ false }
+        ensures cancelled { (c arming : ℕ) → c < 4 → arming < self.old.armings.drawn → is_present_arming pid.0 c arming self.new.armings ≡ false }
         ensures others { (p c : ℕ) → 4 ≤ p → c < 4 → (p ≡ pid.0 → ⊥) → present_arming p c self.new.armings ≡ present_arming p c self.old.armings }
     {
         self.numbers.renew_all(pid);

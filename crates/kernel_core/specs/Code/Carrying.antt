@@ -1,4 +1,4 @@
--- The scheduler where the expiries carry something else: arming numbers in the code, and in the machine whether they are struck out.
+-- The scheduler where the expiries carry something else: arming numbers in the code, and in the machine whether they are cancelled.
 use Rattle.std.specs.Prelude.{ℕ, map}
 use Rattle.process_core.specs.Agenda.{Queued, Job}
 use Rattle.process_core.specs.Scheduler.{Scheduler}

@@ -27,19 +27,19 @@ draws_of_job _ = 0
 
 -- An expiry is that of an application's callback timer, and has a number that was drawn. EXITED is given at once and never
 -- waits in the queue
-abbrev pub IsFit : ℕ → Queued ℕ → Type 0
-IsFit drawn (Queued.To p event) = (event.code == EXITED) ≡ false
-IsFit drawn (Queued.ToAll event) = (event.code == EXITED) ≡ false
-IsFit drawn (Queued.Expiry p c arming) = ((4 ≤ p) × (p ≤ 19) × (c < 4)) × (arming < drawn)
+abbrev pub IsQueueable : ℕ → Queued ℕ → Type 0
+IsQueueable drawn (Queued.To p event) = (event.code == EXITED) ≡ false
+IsQueueable drawn (Queued.ToAll event) = (event.code == EXITED) ≡ false
+IsQueueable drawn (Queued.Expiry p c arming) = ((4 ≤ p) × (p ≤ 19) × (c < 4)) × (arming < drawn)
 
 -- an expiry that is delivered is fit
-abbrev pub IsFitJob : ℕ → Job ℕ → Type 0
-IsFitJob drawn (Job.CallBack p c arming) = IsFit drawn (Queued.Expiry p c arming)
-IsFitJob drawn _ = Unit {0}
+abbrev pub IsQueueableJob : ℕ → Job ℕ → Type 0
+IsQueueableJob drawn (Job.CallBack p c arming) = IsQueueable drawn (Queued.Expiry p c arming)
+IsQueueableJob drawn _ = Unit {0}
 
 -- the numbers that were drawn, and those that will be drawn by what is on the agenda
-abbrev pub debt : KernelFields → ℕ
-debt k = k.timers.armings.drawn + draws k.scheduler.state.agenda
+abbrev pub drawn_in_all : KernelFields → ℕ
+drawn_in_all k = k.timers.armings.drawn + draws k.scheduler.state.agenda
 
-abbrev pub HasFitEvents : KernelFields → Type 0
-HasFitEvents k = All (IsFit k.timers.armings.drawn) k.scheduler.state.events
+abbrev pub HasQueueableEvents : KernelFields → Type 0
+HasQueueableEvents k = All (IsQueueable k.timers.armings.drawn) k.scheduler.state.events

@@ -2,7 +2,7 @@
 use Rattle.std.specs.Prelude.{ℕ, Bool, true, false, List, [], ◌∷◌, if◌then◌else◌}
 use Rattle.mote_types.specs.declared.call.Call.{Call}
 use Rattle.mote_types.specs.EventNumbers.{POLL, CONTINUE, EXITED}
-use Rattle.process_core.specs.KernelReceivers.{kernel_receivers_passed}
+use Rattle.process_core.specs.Code.KernelReceivers.{kernel_receivers_passed}
 use Rattle.process_core.specs.Scheduler.{Scheduler}
 
 -- the codes of the events with which one of the kernel's processes does something

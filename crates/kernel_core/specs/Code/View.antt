@@ -14,22 +14,23 @@ use Rattle.kernel_core.specs.Code.Carrying.{job_carrying, carrying}
 use Rattle.process_core.specs.Processes.{numbers}
 use Rattle.process_core.specs.Scheduler.{in_front}
 use Rattle.kernel_core.specs.declared.fields.KernelFields.{KernelFields}
-use Rattle.kernel_core.specs.declared.unshown.Unshown.{Unshown}
+use Rattle.kernel_core.specs.declared.pending_entries.PendingEntries.{PendingEntries}
 use Rattle.kernel_core.specs.Machine.{Machine}
-use Rattle.kernel_core.specs.Run.{Answers, GoesSilently, one_step, job_done, work_limit}
+use Rattle.kernel_core.specs.Run.{Answers, one_step, job_done, work_limit}
+use Rattle.kernel_core.specs.Code.Steps.{GoesSilently}
 use Rattle.kernel_core.specs.Code.Cost.{present}
 use Rattle.kernel_core.specs.Mote.{Mote}
-use Rattle.kernel_core.specs.Code.Draws.{HasFitEvents, debt}
+use Rattle.kernel_core.specs.Code.Draws.{HasQueueableEvents, drawn_in_all}
 use Rattle.timer_core.specs.Code.Armings.{Armings, is_present_arming}
 
--- an expiry was struck out where its arming number isn't the present one
-abbrev pub is_struck : Armings → ℕ → ℕ → ℕ → Bool
-is_struck armings p c arming = not (is_present_arming p c arming armings)
+-- an expiry was cancelled where its arming number isn't the present one
+abbrev pub is_cancelled : Armings → ℕ → ℕ → ℕ → Bool
+is_cancelled armings p c arming = not (is_present_arming p c arming armings)
 
 -- the entries that are still to be shown
 
-abbrev pub none_unshown : Unshown
-none_unshown = record { input = None; note = None }
+abbrev pub no_pending_entries : PendingEntries
+no_pending_entries = record { input = None; note = None }
 
 abbrev pub input_items : Option Input → List Item
 input_items None = []
@@ -40,11 +41,11 @@ note_items None = []
 note_items (Some note) = Item.Show (Entry.Note note) ∷ []
 
 -- the input comes first
-abbrev pub unshown_items : Unshown → List Item
-unshown_items u = input_items u.input ++ note_items u.note
+abbrev pub pending_items : PendingEntries → List Item
+pending_items u = input_items u.input ++ note_items u.note
 
-abbrev pub unshown_count : Unshown → ℕ
-unshown_count u = length (unshown_items u)
+abbrev pub pending_count : PendingEntries → ℕ
+pending_count u = length (pending_items u)
 
 abbrev pub machine_of : KernelFields → Machine
 machine_of k =
@@ -52,7 +53,7 @@ machine_of k =
       clock = k.clock;
       work = k.work;
       is_halted = k.halted;
-      scheduler = in_front (unshown_items k.unshown) (carrying (is_struck k.timers.armings) k.scheduler.state);
+      scheduler = in_front (pending_items k.pending) (carrying (is_cancelled k.timers.armings) k.scheduler.state);
       timers = k.timers.timers;
       memory = k.memory.contents;
       serial = k.serial;
@@ -62,7 +63,7 @@ machine_of k =
 
 -- a turn or a round makes two entries at most
 abbrev pub entries_left_in : KernelFields → ℕ
-entries_left_in k = if k.halted then 0 else 1 + 2 * (work_limit - k.work) + unshown_count k.unshown
+entries_left_in k = if k.halted then 0 else 1 + 2 * (work_limit - k.work) + pending_count k.pending
 
 abbrev pub mote_of : KernelFields → Mote
 mote_of k = record { machine = machine_of k; inputs = k.inputs; entries_left = entries_left_in k }
@@ -82,24 +83,24 @@ pub record IsInOrder (k : KernelFields) : Type 0 where
   pub idle : k.halted ≡ false → k.scheduler.turn ≡ None
   pub clock : k.clock ≤ 2 ^ 62
   pub inputs : k.inputs ≤ 2 ^ 40
-  pub events : HasFitEvents k
+  pub events : HasQueueableEvents k
   pub frames : HoldsFrames k.memory.contents k.packets.frames
   -- each application may have managed blocks
   pub owners : 3 + k.applications ≤ last_owner k.memory
   -- a turn draws a number, or ends a process whose callback timers then get four
-  pub draws : debt k ≤ 1 + 8 * (10000 * k.inputs + k.work)
+  pub draws : drawn_in_all k ≤ 1 + 8 * (10000 * k.inputs + k.work)
 
 -- an application has the turn, and all that was to be shown is shown
 pub record IsAtTurn (pid : Pid) (k : KernelFields) : Type 0 where
   pub turn : k.scheduler.turn ≡ Some pid
-  pub shown : k.unshown ≡ none_unshown
+  pub shown : k.pending ≡ no_pending_entries
   pub first : 4 ≤ pid.0
   pub last : pid.0 ≤ 19
   pub owner : pid.0 ≤ last_owner k.memory
   pub applications : k.applications ≡ k.scheduler.state.applications
   pub clock : k.clock ≤ 2 ^ 62
   pub few : k.timers.armings.drawn < 2 ^ 60
-  pub events : HasFitEvents k
+  pub events : HasQueueableEvents k
   pub frames : HoldsFrames k.memory.contents k.packets.frames
   pub distinct : IsDistinct eqb (numbers k.scheduler.state.processes)
 
@@ -116,31 +117,31 @@ pub record IsOnlyWorked (old new : KernelFields) : Type 0 where
 pub record LeavesFrames (old new : KernelFields) : Type 0 where
   pub memory : new.memory ≡ old.memory
   pub frames : new.packets.frames ≡ old.packets.frames
-  pub unshown : new.unshown ≡ old.unshown
+  pub pending : new.pending ≡ old.pending
 
 -- nothing but the scheduler was changed
 pub record IsOnlyScheduled (old new : KernelFields) : Type 0 where
-  pub worked : IsOnlyWorked old new
+  pub after_front : IsOnlyWorked old new
   pub left : LeavesFrames old new
   pub timers : new.timers ≡ old.timers
 
 -- a call was carried out that leaves memory and frames: it draws four numbers at most
 pub record IsCallDone (old new : KernelFields) : Type 0 where
-  pub worked : IsOnlyWorked old new
+  pub after_front : IsOnlyWorked old new
   pub left : LeavesFrames old new
   pub turn : new.scheduler.turn ≡ None
-  pub events : HasFitEvents new
-  pub draws : debt new ≤ debt old + 4
+  pub events : HasQueueableEvents new
+  pub draws : drawn_in_all new ≤ drawn_in_all old + 4
 
 -- a call was carried out: it draws four numbers at most, and one note comes of it at most
 pub record IsCarriedOut (old new : KernelFields) : Type 0 where
-  pub worked : IsOnlyWorked old new
+  pub after_front : IsOnlyWorked old new
   pub turn : new.scheduler.turn ≡ None
-  pub events : HasFitEvents new
-  pub draws : debt new ≤ debt old + 4
+  pub events : HasQueueableEvents new
+  pub draws : drawn_in_all new ≤ drawn_in_all old + 4
   pub frames : HoldsFrames new.memory.contents new.packets.frames
   pub owners : last_owner new.memory ≡ last_owner old.memory
-  pub unshown : unshown_count new.unshown ≤ 1
+  pub pending : pending_count new.pending ≤ 1
 
 -- an input had its effect
 pub record IsTakenIn (old new : KernelFields) : Type 0 where
@@ -158,10 +159,10 @@ pub record IsTakenIn (old new : KernelFields) : Type 0 where
 
 -- what a kernel process did
 pub record IsServed (old new : KernelFields) : Type 0 where
-  pub worked : IsOnlyWorked old new
+  pub after_front : IsOnlyWorked old new
   pub left : LeavesFrames old new
   pub turn : new.scheduler.turn ≡ old.scheduler.turn
-  pub events : HasFitEvents new
+  pub events : HasQueueableEvents new
   -- it works off nothing of the agenda
   pub agenda : new.scheduler.state.agenda ≡ old.scheduler.state.agenda
   pub present : present new.scheduler.state ≡ present old.scheduler.state
@@ -170,4 +171,4 @@ pub record IsServed (old new : KernelFields) : Type 0 where
 pub record ComesToJob (armings : Armings) (answers : Answers) (old : Machine) (next : Job ℕ) (new : Machine) : Type 0 where
   pub last : Machine
   pub before : GoesSilently answers old last
-  pub asked : one_step answers last ≡ job_done answers (Some (job_carrying (is_struck armings) next)) new
+  pub asked : one_step answers last ≡ job_done answers (Some (job_carrying (is_cancelled armings) next)) new

@@ -55,7 +55,7 @@ pub record TakenPart (line piece later : List ℕ) (count count_later : ℕ) (la
   pub endless : has_no_end bytes ≡ true
 
 -- the bytes are as many as a line may have, and another one of the same line stands behind them, within what a script may have
-pub record GoesOn (ended : ℕ) (bytes later : List ℕ) : Type 0 where
+pub record IsOverlong (ended : ℕ) (bytes later : List ℕ) : Type 0 where
   pub full : length bytes ≡ line_limit
   pub room : ended + length bytes < script_limit
   pub byte : ℕ
@@ -73,4 +73,4 @@ pub record Took (line piece line_later later : List ℕ) (count count_later numb
   pub says_so : line_said says input ≡ said last bytes
   pub numbered : OnOk says (number_later ≡ number_after last number)
   pub same_number : OnErr says (number_later ≡ number)
-  pub goes_on : last ≡ Taken.TooWide → (ended : ℕ) → ended + length bytes ≡ count_later → GoesOn ended bytes later
+  pub goes_on : last ≡ Taken.TooWide → (ended : ℕ) → ended + length bytes ≡ count_later → IsOverlong ended bytes later

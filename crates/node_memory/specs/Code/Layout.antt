@@ -1,7 +1,7 @@
 -- How managed memory, the heap and the pools lie in the arena.
 use Rattle.std.specs.Prelude.{◌≡◌, ℕ, ◌+◌, ◌≤◌, List, [], ◌∷◌, length}
 use Rattle.arena_core.specs.declared.span.Span.{Span}
-use Rattle.mmem_core.specs.Table.{IsWithin}
+use Rattle.mmem_core.specs.HandleTable.{IsWithin}
 use Rattle.heap_core.specs.HeapBytes as heap
 use Rattle.memb_core.specs.Links.{AreLinked}
 use Rattle.node_memory.specs.declared.listed_pool.ListedPool.{ListedPool}

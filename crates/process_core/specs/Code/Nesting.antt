@@ -1,46 +1,46 @@
--- How frames lie on one another, which keeps the stack short.
+-- How continuations lie on one another, which keeps the stack short.
 --
--- Every frame is an application's, which either waits for a reply (Answer) or is on its way out (Leave), and no application
--- has two frames of one kind. So with n applications there are at most 2 * n frames.
+-- Every continuation is an application's, which either waits for a reply (Answer) or is on its way out (Leave), and no application
+-- has two continuations of one kind. So with n applications there are at most 2 * n continuations.
 use Rattle.std.specs.Prelude.{◌≡◌, ℕ, Bool, true, false, List, [], ◌∷◌, flat_map, Option, IfSome, eqb}
 use Rattle.std.specs.List.{list_any}
 use Rattle.mote_types.specs.declared.event.Pid.{Pid}
 use Rattle.process_core.specs.declared.process.Process.{Process}
 use Rattle.process_core.specs.declared.state.State.{State}
-use Rattle.process_core.specs.declared.frame.Frame.{Frame}
+use Rattle.process_core.specs.declared.open_work.Continuation.{Continuation}
 use Rattle.process_core.specs.Processes.{state_of, IsOfMote}
 use Rattle.process_core.specs.Requests.{is_in_activation}
 
 abbrev pub is_one_of : ℕ → List ℕ → Bool
 is_one_of p ps = list_any (eqb p) ps
 
-abbrev pub answering_in : Frame → List ℕ
-answering_in (Frame.Answer pid) = pid.0 ∷ []
+abbrev pub answering_in : Continuation → List ℕ
+answering_in (Continuation.Answer pid) = pid.0 ∷ []
 answering_in _ = []
 
-abbrev pub leaving_in : Frame → List ℕ
-leaving_in (Frame.Leave pid walk exits) = pid.0 ∷ []
+abbrev pub leaving_in : Continuation → List ℕ
+leaving_in (Continuation.Leave pid walk exits) = pid.0 ∷ []
 leaving_in _ = []
 
 -- the processes that wait for a reply
-abbrev pub answering : List Frame → List ℕ
+abbrev pub answering : List Continuation → List ℕ
 answering stack = flat_map answering_in stack
 
 -- the processes that are on their way out
-abbrev pub leaving : List Frame → List ℕ
+abbrev pub leaving : List Continuation → List ℕ
 leaving stack = flat_map leaving_in stack
 
--- what a frame may lie on
-abbrev pub LiesOn : Frame → List Frame → Type 0
+-- what a continuation may lie on
+abbrev pub NestsOn : Continuation → List Continuation → Type 0
 -- a process waits for one reply at a time
-LiesOn (Frame.Answer pid) below = is_one_of pid.0 (answering below) ≡ false
+NestsOn (Continuation.Answer pid) below = is_one_of pid.0 (answering below) ≡ false
 -- it begins to leave when its activation is over, and leaves once
-LiesOn (Frame.Leave pid walk exits) below = (is_one_of pid.0 (answering below) ≡ false) × (is_one_of pid.0 (leaving below) ≡ false)
+NestsOn (Continuation.Leave pid walk exits) below = (is_one_of pid.0 (answering below) ≡ false) × (is_one_of pid.0 (leaving below) ≡ false)
 
--- each frame may lie on those below it
-abbrev pub IsNested : List Frame → Type 0
+-- each continuation may lie on those below it
+abbrev pub IsNested : List Continuation → Type 0
 IsNested [] = Unit {0}
-IsNested (frame ∷ below) = LiesOn frame below × IsNested below
+IsNested (continuation ∷ below) = NestsOn continuation below × IsNested below
 
 -- whether a process is on its way out
 abbrev pub has_ended : State → Bool
@@ -53,12 +53,12 @@ abbrev pub AreIn : (State → Bool) → List Process → List ℕ → Type 0
 AreIn test processes ps = (p : ℕ) → is_one_of p ps ≡ true → test (state_of p processes) ≡ true
 
 -- a process at turn is in its activation, and waits for no reply
-pub record IsAtTurn (processes : List Process) (stack : List Frame) (p : ℕ) : Type 0 where
+pub record IsAtTurn (processes : List Process) (stack : List Continuation) (p : ℕ) : Type 0 where
   pub active : is_in_activation (state_of p processes) ≡ true
   pub apart : is_one_of p (answering stack) ≡ false
 
--- the frames, the process list and the process that is at turn or is told a reply next fit together
-pub record IsSound (applications : ℕ) (processes : List Process) (stack : List Frame) (turn : Option Pid) : Type 0 where
+-- the continuations, the process list and the process that is at turn or is told a reply next fit together
+pub record IsSound (applications : ℕ) (processes : List Process) (stack : List Continuation) (turn : Option Pid) : Type 0 where
   pub mote : IsOfMote applications processes
   pub nested : IsNested stack
   pub answers : AreIn is_in_activation processes (answering stack)

@@ -2,17 +2,17 @@
 use Rattle.std.specs.Prelude.{◌≡◌, ℕ, ◌+◌, ◌<◌, ◌≤◌, true, List, map, Option, Some, None, reverse}
 use Rattle.mote_types.specs.declared.event.Pid.{Pid}
 use Rattle.process_core.specs.declared.front.Front.{Front}
-use Rattle.process_core.specs.declared.frame.Base.{Base}
-use Rattle.process_core.specs.declared.frame.Frame.{Frame}
+use Rattle.process_core.specs.declared.open_work.Base.{Base}
+use Rattle.process_core.specs.declared.open_work.Continuation.{Continuation}
 use Rattle.process_core.specs.declared.scheduler_fields.SchedulerFields.{SchedulerFields}
 use Rattle.process_core.specs.declared.queued.Queued as code
 use Rattle.mote_types.specs.declared.event.Event.{Event}
 use Rattle.mote_types.specs.declared.event.Stimulus.{Stimulus}
-use Rattle.process_core.specs.declared.ready.Ready.{Ready}
+use Rattle.process_core.specs.declared.next_job.NextJob.{NextJob}
 use Rattle.process_core.specs.Agenda.{Queued}
 use Rattle.process_core.specs.Scheduler.{Scheduler, in_front}
-use Rattle.process_core.specs.SchedulerView.{SchedulerView}
-use Rattle.process_core.specs.OpenWork.{front_items, behind_front}
+use Rattle.process_core.specs.Code.SchedulerView.{SchedulerView}
+use Rattle.process_core.specs.Code.OpenWork.{front_items, behind_front}
 use Rattle.process_core.specs.Code.Nesting.{is_one_of, IsSound}
 
 abbrev pub queued_of : code.Queued → Queued ℕ
@@ -37,18 +37,18 @@ callback_in (Front.Expiry pid number) = Some (pid, number)
 callback_in _ = None
 
 -- what is awaited after a job, if there is one
-abbrev pub front_after : Option Ready → Front
-front_after (Some (Ready.Give pid origin)) = Front.Call pid
-front_after (Some (Ready.Callback pid number arming)) = Front.Expiry pid number
+abbrev pub front_after : Option NextJob → Front
+front_after (Some (NextJob.Give pid origin)) = Front.Call pid
+front_after (Some (NextJob.Callback pid number arming)) = Front.Expiry pid number
 front_after _ = Front.Nothing
 
 -- where a kernel process is to be served, the place that was lent holds an event
-abbrev pub HoldsEvent : Option Ready → Stimulus → Type 0
-HoldsEvent (Some (Ready.Serve pid)) told = (event : Event) × (told ≡ Stimulus.Event event)
+abbrev pub HoldsEvent : Option NextJob → Stimulus → Type 0
+HoldsEvent (Some (NextJob.Serve pid)) told = (event : Event) × (told ≡ Stimulus.Event event)
 HoldsEvent _ told = Unit {0}
 
--- the scheduler behind the front, with these frames as the stack, the topmost frame first
-abbrev pub scheduler_over : SchedulerFields → List Frame → Scheduler ℕ
+-- the scheduler behind the front, with these continuations as the stack, the topmost continuation first
+abbrev pub scheduler_over : SchedulerFields → List Continuation → Scheduler ℕ
 scheduler_over d stack =
     record {
       applications = d.applications;
@@ -77,8 +77,8 @@ abbrev pub BootsKnown : ℕ → Base → List ℕ → Type 0
 BootsKnown applications Base.Boot walk = (p : ℕ) → is_one_of p walk ≡ true → p < 4 + applications
 BootsKnown applications _ walk = Unit {0}
 
--- the fields fit together, with these frames as the stack
-pub record IsOrdered (d : SchedulerFields) (stack : List Frame) : Type 0 where
+-- the fields fit together, with these continuations as the stack
+pub record IsOrdered (d : SchedulerFields) (stack : List Continuation) : Type 0 where
   pub sound : IsSound d.applications d.processes stack (active_in d.front)
   pub starts : StartsKnown d.applications d.front
   pub boots : BootsKnown d.applications d.base d.walk

@@ -1,10 +1,10 @@
 -- Walks over the process list, and which comes next.
 use Rattle.std.specs.Prelude.{ℕ, Bool, true, false, ◌&&◌, ◌==◌, List, [], ◌∷◌, length, if◌then◌else◌}
-use Rattle.process_core.specs.declared.frame.Base.{Base}
+use Rattle.process_core.specs.declared.open_work.Base.{Base}
 use Rattle.process_core.specs.declared.process.Process.{Process}
 use Rattle.process_core.specs.declared.scheduler_fields.SchedulerFields.{SchedulerFields}
 use Rattle.process_core.specs.Idle.{is_empty}
-use Rattle.process_core.specs.OpenWork.{front_items}
+use Rattle.process_core.specs.Code.OpenWork.{front_items}
 use Rattle.process_core.specs.Processes.{is_kernel_process, is_marked}
 
 -- the rest of a walk from the first marked process on

@@ -27,7 +27,7 @@ use Rattle.run_laws.proofs.event_order.Tally.{Known, own_event, ends_in}
 use Rattle.run_laws.proofs.event_order.Shape.{is_plain, is_ordered, ordered-append, seats, seats-with_mark, seats-with_state, state_of-seats, first_state, put, stands, waiting_in, waits, queued, queued_in, posted_for, FrontAgrees}
 use Rattle.run_laws.proofs.event_order.Items.{holds, holds-append, is_quiet}
 use Rattle.run_laws.proofs.event_order.Waiting.{waits-append, queued-append}
-use Rattle.run_laws.proofs.event_order.Serving.{queued-struck}
+use Rattle.run_laws.proofs.event_order.Serving.{queued-cancelled}
 
 -- every call but Wait, Exit and Kill
 abbrev pub is_plain_call : Call → Bool
@@ -131,8 +131,8 @@ is_posting _ = false
 
 after-queued_other : (p : ℕ) (call : Call) (q : ℕ) (m : Machine) → is_posting call ≡ false
     → queued p (after_call call q m).scheduler.events ≡ queued p m.scheduler.events
-after-queued_other p (Call.CallbackSet c interval) q m h = grind (arith, queued-struck p (λ r d. r == q && d == c) m.scheduler.events)
-after-queued_other p (Call.CallbackStop c) q m h = grind (arith, queued-struck p (λ r d. r == q && d == c) m.scheduler.events)
+after-queued_other p (Call.CallbackSet c interval) q m h = grind (arith, queued-cancelled p (λ r d. r == q && d == c) m.scheduler.events)
+after-queued_other p (Call.CallbackStop c) q m h = grind (arith, queued-cancelled p (λ r d. r == q && d == c) m.scheduler.events)
 after-queued_other p call q m h = grind arith
 
 no_event : (p : ℕ) (call : Call) → is_posting call ≡ false → event_for p call ≡ None

@@ -10,7 +10,7 @@ use Rattle.mote_types.specs.Codes.{plain_event}
 use Rattle.process_core.specs.declared.state.State.{State}
 use Rattle.process_core.specs.Agenda.{Queued, Item}
 use Rattle.process_core.specs.Processes.{numbers, with_mark, is_on_list, is_running, is_kernel_process, is_marked, is_any_marked}
-use Rattle.process_core.specs.Scheduler.{Scheduler, of_event, delivery, carried_out, first_event, state_in, in_front, put_in_state}
+use Rattle.process_core.specs.Scheduler.{Scheduler, of_event, delivery, after_item, first_event, state_in, in_front, put_in_state}
 use Rattle.kernel_core.specs.Machine.{Machine}
 use Rattle.run_laws.proofs.event_order.Shape.{is_plain, is_ordered, ordered-append, ordered-walk, delivery-ordered, seats, seats-with_state, seats-with_mark, seats-without, state_of-seats, first_state, put, is_placed, is_covered, is_kept, stands, placed-append, covered-append, is_remove}
 
@@ -26,7 +26,7 @@ polls-plain [] = refl
 polls-plain (n ∷ ns) = polls-plain ns
 
 pub carried-ordered : (item : Item) (items : List Item) (s : Scheduler Bool) → is_ordered (item ∷ items) ≡ true
-    → is_ordered (carried_out item (with_agenda items s)).agenda ≡ true
+    → is_ordered (after_item item (with_agenda items s)).agenda ≡ true
 carried-ordered Item.Deliver [] s h =
     let l : List Item = delivery (numbers s.processes) (first_event s) in
     rw (append-nil l) (ordered-walk l (delivery-ordered (numbers s.processes) (first_event s)))
@@ -133,7 +133,7 @@ exit_other-holds p q l items e h = holds-append p l (Item.Turn q Origin.Synch (o
 
 -- an item that makes no entry keeps p's place
 pub carried-stands : (p : ℕ) (item : Item) (items : List Item) (s : Scheduler Bool) → is_silent item ≡ true
-    → stands p (with_agenda (item ∷ items) s) ≡ true → stands p (carried_out item (with_agenda items s)) ≡ true
+    → stands p (with_agenda (item ∷ items) s) ≡ true → stands p (after_item item (with_agenda items s)) ≡ true
 carried-stands p (Item.Start q) items s n h = go (is_on_list (state_in s q)) (p == q) refl refl
   where
     go : (on same : Bool) → is_on_list (state_in s q) ≡ on → (p == q) ≡ same

@@ -8,7 +8,7 @@ use Rattle.mote_types.specs.declared.call.Call.{Call}
 use Rattle.mote_types.specs.Entries.{is_halt}
 use Rattle.mote_types.specs.Applications.{Applications}
 use Rattle.process_core.specs.Agenda.{Job}
-use Rattle.process_core.specs.Scheduler.{worked, job}
+use Rattle.process_core.specs.Scheduler.{after_front, job}
 use Rattle.kernel_core.specs.declared.config.Config.{Config}
 use Rattle.kernel_core.specs.Machine.{Machine, scheduled, shown_first}
 use Rattle.kernel_core.specs.Calls.{after_call}
@@ -70,9 +70,9 @@ job_kind answers (Some (Job.TakeTurn q origin stimulus)) m after live still note
 step_kind : (answers : Answers) (m : Machine) → m.is_halted ≡ false → ShowsNotes m → StepKind m (one_step answers m)
 step_kind answers m live notes = go m.is_halted live
   where
-    go : (b : Bool) → b ≡ false → StepKind m (if b then silent m else job_done answers (job m.scheduler) (scheduled worked m))
+    go : (b : Bool) → b ≡ false → StepKind m (if b then silent m else job_done answers (job m.scheduler) (scheduled after_front m))
     go true e = absurd (grind (arith, e))
-    go false e = job_kind answers (job m.scheduler) m (scheduled worked m) live live notes
+    go false e = job_kind answers (job m.scheduler) m (scheduled after_front m) live live notes
 
 -- prefixes
 
@@ -199,7 +199,7 @@ module _ (I : Machine → List Entry → Type 0) (P Q : List Entry → Type 0) (
 
   -- a halted machine stays as it is
   halted-step : (says : Applications) (r : Running) → Good I P Q r → (b : Bool) → b ≡ true
-      → Good I P Q (gone_on r.entries (if b then silent r.machine else job_done (answers_after says r.entries) (job r.machine.scheduler) (scheduled worked r.machine)))
+      → Good I P Q (gone_on r.entries (if b then silent r.machine else job_done (answers_after says r.entries) (job r.machine.scheduler) (scheduled after_front r.machine)))
   halted-step says r g true e = subst (λ (X : List Entry). Good I P Q (record { machine = r.machine; entries = X })) (sym (append-nil r.entries)) g
   halted-step says r g false e = absurd (cc)
 

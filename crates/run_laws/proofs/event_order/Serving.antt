@@ -6,7 +6,7 @@ use Rattle.mote_types.specs.declared.event.Event.{Event}
 use Rattle.process_core.specs.Agenda.{Queued}
 use Rattle.timer_core.specs.declared.timer.Timer.{Timer}
 use Rattle.kernel_core.specs.Machine.{Machine}
-use Rattle.kernel_core.specs.Expiries.{struck_if}
+use Rattle.kernel_core.specs.Expiries.{cancelled_if}
 use Rattle.kernel_core.specs.KernelProcesses.{serve}
 use Rattle.kernel_core.specs.TimerProcesses.{expiry_of}
 use Rattle.run_laws.proofs.Changes.{Changes, of_changes, is_notice}
@@ -17,11 +17,11 @@ pub record Served (p : ℕ) (old new : Machine) : Type 0 where
   pub places : seats p new.scheduler.processes ≡ seats p old.scheduler.processes
   pub events : queued p new.scheduler.events ≡ queued p old.scheduler.events
 
-pub queued-struck : (p : ℕ) (test : ℕ → ℕ → Bool) (events : List (Queued Bool)) → queued p (map (struck_if test) events) ≡ queued p events
-queued-struck p test [] = refl
-queued-struck p test (Queued.To q event ∷ events) = rw (queued-struck p test events) refl
-queued-struck p test (Queued.ToAll event ∷ events) = rw (queued-struck p test events) refl
-queued-struck p test (Queued.Expiry q c x ∷ events) = queued-struck p test events
+pub queued-cancelled : (p : ℕ) (test : ℕ → ℕ → Bool) (events : List (Queued Bool)) → queued p (map (cancelled_if test) events) ≡ queued p events
+queued-cancelled p test [] = refl
+queued-cancelled p test (Queued.To q event ∷ events) = rw (queued-cancelled p test events) refl
+queued-cancelled p test (Queued.ToAll event ∷ events) = rw (queued-cancelled p test events) refl
+queued-cancelled p test (Queued.Expiry q c x ∷ events) = queued-cancelled p test events
 
 -- an event of the kernel's isn't one for an application
 queued-silent : (p : ℕ) (events : List (Queued Bool)) (event : Queued Bool) → queued_in p event ≡ [] → queued p (events ++ event ∷ []) ≡ queued p events
@@ -43,7 +43,7 @@ serve-served p a q event = of_changes changes
           chained = λ a b c h k. record { places = k.places ∙ h.places; events = k.events ∙ h.events };
           expired = λ timer m e. record { places = refl; events = queued-silent p m.scheduler.events (expiry_of timer) (expiry-silent p timer) };
           timers_gone = λ n m z k e. record { places = refl; events = refl };
-          callbacks_gone = λ n m. record { places = refl; events = queued-struck p (λ r c. r == n) m.scheduler.events };
+          callbacks_gone = λ n m. record { places = refl; events = queued-cancelled p (λ r c. r == n) m.scheduler.events };
           posted = λ notice m n. record { places = refl; events = queued-silent p m.scheduler.events notice (notice-silent p notice a n) };
           devices = λ serial is_waiting packets m e. record { places = refl; events = refl };
           marked = λ n m. record { places = seats-with_mark p n true m.scheduler.processes; events = refl };

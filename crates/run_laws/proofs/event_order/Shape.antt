@@ -173,7 +173,7 @@ posted_for event = option_to_list (posted_event Origin.Event (of_event event))
 abbrev pub queued_in : ℕ → Queued Bool → List Event
 queued_in p (Queued.To q event) = if q == p then posted_for event else []
 queued_in p (Queued.ToAll event) = posted_for event
-queued_in p (Queued.Expiry q c struck) = []
+queued_in p (Queued.Expiry q c cancelled) = []
 
 abbrev pub queued : ℕ → List (Queued Bool) → List Event
 queued p events = flat_map (queued_in p) events

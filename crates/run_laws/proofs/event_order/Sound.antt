@@ -9,7 +9,7 @@ use Rattle.mote_types.specs.declared.event.Event.{Event}
 use Rattle.mote_types.specs.declared.entry.Note.{Note}
 use Rattle.mote_types.specs.declared.entry.Entry.{Entry}
 use Rattle.process_core.specs.Agenda.{Item}
-use Rattle.process_core.specs.Scheduler.{Scheduler, carried_out, in_front}
+use Rattle.process_core.specs.Scheduler.{Scheduler, after_item, in_front}
 use Rattle.kernel_core.specs.Machine.{Machine}
 use Rattle.kernel_core.specs.Calls.{after_call}
 use Rattle.kernel_core.specs.KernelProcesses.{serve}
@@ -141,7 +141,7 @@ no_reply_front known (Item.Show entry) items n = absurd (grind (arith, n))
 no_reply_front known item items n = tt
 
 pub carried_sound : (p : ℕ) (X : List Entry) (item : Item) (items : List Item) (s : Scheduler Bool) → nat_le 4 p ≡ true → is_quiet_item item ≡ true
-    → Sound p (with_agenda (item ∷ items) s) X → SoundFree p (carried_out item (with_agenda items s)) X
+    → Sound p (with_agenda (item ∷ items) s) X → SoundFree p (after_item item (with_agenda items s)) X
 carried_sound p X item items s a n h =
     let quiet : is_silent item ≡ true = grind (arith, n) in
     record {

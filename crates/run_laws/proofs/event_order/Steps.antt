@@ -10,7 +10,7 @@ use Rattle.mote_types.specs.declared.entry.Note.{Note}
 use Rattle.mote_types.specs.declared.entry.Entry.{Entry}
 use Rattle.process_core.specs.Agenda.{Queued, Item, Job}
 use Rattle.process_core.specs.Processes.{is_kernel_process}
-use Rattle.process_core.specs.Scheduler.{carried_out, in_front, worked, worked_at, job, job_at, job_of_give, job_of_event, first_event, wants_round}
+use Rattle.process_core.specs.Scheduler.{after_item, in_front, after_front, after_front_of, job, job_at, job_of_give, job_of_event, first_event, wants_round}
 use Rattle.kernel_core.specs.Machine.{Machine, scheduled}
 use Rattle.kernel_core.specs.Calls.{after_call}
 use Rattle.kernel_core.specs.KernelProcesses.{serve}
@@ -33,7 +33,7 @@ is_served (Item.Give q origin (Stimulus.Event event)) = is_kernel_process q
 is_served _ = false
 
 abbrev pub carried : Item → List Item → Machine → Machine
-carried item items m = record m { scheduler = carried_out item (with_agenda items m.scheduler) }
+carried item items m = record m { scheduler = after_item item (with_agenda items m.scheduler) }
 
 -- a kernel process is Running and takes no turn
 pub kernel_carried : (q : ℕ) (origin : Origin) (stimulus : Stimulus) (items : List Item) (m : Machine) → is_kernel_process q ≡ true
@@ -126,7 +126,7 @@ module _ (I J : Machine → List Entry → Type 0) (P : List Entry → Type 0) (
   round_kept X answers m false e i h = silent_kept X m i h
 
   step_kept : (X : List Entry) (answers : Answers) (agenda : List Item) (m : Machine) → m.scheduler.agenda ≡ agenda → P X → I m X
-      → Kept I P X (job_done answers (job_at agenda m.scheduler) (record m { scheduler = worked_at agenda m.scheduler }))
+      → Kept I P X (job_done answers (job_at agenda m.scheduler) (record m { scheduler = after_front_of agenda m.scheduler }))
   step_kept X answers [] m e i h = round_kept X answers m (wants_round m.scheduler) e i h
   step_kept X answers (Item.Turn q origin stimulus ∷ items) m e i h =
       let after : Machine = facing items m in
@@ -147,7 +147,7 @@ module _ (I J : Machine → List Entry → Type 0) (P : List Entry → Type 0) (
   one_step_kept : (answers : Answers) (m : Machine) (X : List Entry) → I m X → P X → Kept I P X (one_step answers m)
   one_step_kept answers m X h i = go m.is_halted
     where
-      go : (b : Bool) → Kept I P X (if b then silent m else job_done answers (job m.scheduler) (scheduled worked m))
+      go : (b : Bool) → Kept I P X (if b then silent m else job_done answers (job m.scheduler) (scheduled after_front m))
       go true = silent_kept X m i h
       go false = step_kept X answers m.scheduler.agenda m refl i h
 

@@ -12,7 +12,7 @@ use Rattle.run_laws.specs.EventLaws.{posted_event}
 use Rattle.process_core.specs.declared.state.State.{State}
 use Rattle.process_core.specs.Agenda.{Queued, Item}
 use Rattle.process_core.specs.Processes.{numbers, with_mark, is_on_list, is_running, is_kernel_process, is_marked, is_any_marked}
-use Rattle.process_core.specs.Scheduler.{Scheduler, of_event, delivery, carried_out, first_event, state_in, in_front, put_in_state}
+use Rattle.process_core.specs.Scheduler.{Scheduler, of_event, delivery, after_item, first_event, state_in, in_front, put_in_state}
 use Rattle.run_laws.proofs.event_order.Shape.{is_walk, is_ordered, seats, state_of-seats, first_state, is_placed, is_start, is_turn_of, is_give_exit, is_exit_turn, stands, waiting_in, waits, posted_for, queued_in, queued, waits-broadcast}
 use Rattle.run_laws.proofs.event_order.Items.{with_agenda, is_silent, holds}
 
@@ -88,7 +88,7 @@ no_exit p q stimulus = grind arith
 
 pub carried-waiting : (p : ℕ) (item : Item) (items : List Item) (s : Scheduler Bool) → is_silent item ≡ true → nat_le 4 p ≡ true
     → is_ordered (item ∷ items) ≡ true → stands p (with_agenda (item ∷ items) s) ≡ true
-    → all_waiting p (carried_out item (with_agenda items s)) ≡ all_waiting p (with_agenda (item ∷ items) s)
+    → all_waiting p (after_item item (with_agenda items s)) ≡ all_waiting p (with_agenda (item ∷ items) s)
 carried-waiting p (Item.Start q) items s n a o h = go (is_on_list (state_in s q))
   where
     go : (on : Bool)

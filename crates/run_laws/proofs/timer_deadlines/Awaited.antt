@@ -11,12 +11,12 @@ use Rattle.mote_types.specs.EventNumbers.{EXITED}
 use Rattle.process_core.specs.declared.state.State.{State}
 use Rattle.process_core.specs.Agenda.{Queued, Item}
 use Rattle.process_core.specs.Processes.{numbers, is_running, is_kernel_process}
-use Rattle.process_core.specs.Scheduler.{Scheduler, carried_out, delivery, of_event, in_front, state_in, put_in_state}
+use Rattle.process_core.specs.Scheduler.{Scheduler, after_item, delivery, of_event, in_front, state_in, put_in_state}
 use Rattle.timer_core.specs.declared.timer.Timer.{Timer}
 use Rattle.timer_core.specs.Names.{event_timer, is_timer, is_event_timer_of, is_callback_timer_of}
 use Rattle.timer_core.specs.Timers.{is_armed, stop_timer, without_callback_timers}
 use Rattle.kernel_core.specs.Machine.{Machine, with_event, with_timers}
-use Rattle.kernel_core.specs.Expiries.{struck_if, strike_out}
+use Rattle.kernel_core.specs.Expiries.{cancelled_if, expiries_cancelled}
 use Rattle.kernel_core.specs.KernelProcesses.{serve}
 use Rattle.kernel_core.specs.TimerProcesses.{expiry_of, post_expiry, exited_application}
 use Rattle.run_laws.specs.TimerLaws.{is_number, is_timer_event}
@@ -63,7 +63,7 @@ delivered-expected p t ns items (Queued.Expiry q c x ∷ events) h = grind (arit
 given-expected : (p t q : ℕ) (origin : Origin) (stimulus : Stimulus) (items : List Item) (s : Scheduler Bool) → nat_le 4 p ≡ true
     → is_ordered (Item.Give q origin stimulus ∷ items) ≡ true → stands p (with_agenda (Item.Give q origin stimulus ∷ items) s) ≡ true
     → is_expected p t (with_agenda (Item.Give q origin stimulus ∷ items) s) ≡ true
-    → is_expected p t (carried_out (Item.Give q origin stimulus) (with_agenda items s)) ≡ true
+    → is_expected p t (after_item (Item.Give q origin stimulus) (with_agenda items s)) ≡ true
 given-expected p t q origin stimulus items s a o k h = go (not (is_kernel_process q) && is_running (state_in s q)) refl
   where
     go : (b : Bool) → (not (is_kernel_process q) && is_running (state_in s q)) ≡ b
@@ -82,7 +82,7 @@ given-expected p t q origin stimulus items s a o k h = go (not (is_kernel_proces
 
 pub carried-expected : (p t : ℕ) (item : Item) (items : List Item) (s : Scheduler Bool) → nat_le 4 p ≡ true → is_quiet_item item ≡ true
     → is_ordered (item ∷ items) ≡ true → stands p (with_agenda (item ∷ items) s) ≡ true
-    → is_expected p t (with_agenda (item ∷ items) s) ≡ true → is_expected p t (carried_out item (with_agenda items s)) ≡ true
+    → is_expected p t (with_agenda (item ∷ items) s) ≡ true → is_expected p t (after_item item (with_agenda items s)) ≡ true
 carried-expected p t (Item.Give q origin stimulus) items s a n o k h = given-expected p t q origin stimulus items s a o k h
 carried-expected p t Item.Polls items s a n o k h = grind (arith, h, carried-any (gives p t) Item.Polls items s)
 carried-expected p t Item.Deliver items s a n o k h = delivered-expected p t (numbers s.processes) items s.events h
@@ -134,14 +134,14 @@ spares-others p t n x e h = grind (arith, nat_tests, e, h)
 spares-events : (p t n : ℕ) (x : Timer) → is_timer (event_timer p t) x ≡ true → not (is_callback_timer_of n x) ≡ true
 spares-events p t n x h = grind (arith, nat_tests, h)
 
-pub queues-struck : (p t : ℕ) (test : ℕ → ℕ → Bool) (events : List (Queued Bool)) → list_any (queues p t) (map (struck_if test) events) ≡ list_any (queues p t) events
-queues-struck p t test [] = refl
-queues-struck p t test (Queued.To q event ∷ events) = rw (queues-struck p t test events) refl
-queues-struck p t test (Queued.ToAll event ∷ events) = queues-struck p t test events
-queues-struck p t test (Queued.Expiry q c x ∷ events) = queues-struck p t test events
+pub queues-cancelled : (p t : ℕ) (test : ℕ → ℕ → Bool) (events : List (Queued Bool)) → list_any (queues p t) (map (cancelled_if test) events) ≡ list_any (queues p t) events
+queues-cancelled p t test [] = refl
+queues-cancelled p t test (Queued.To q event ∷ events) = rw (queues-cancelled p t test events) refl
+queues-cancelled p t test (Queued.ToAll event ∷ events) = queues-cancelled p t test events
+queues-cancelled p t test (Queued.Expiry q c x ∷ events) = queues-cancelled p t test events
 
-pub struck-held : (p t : ℕ) (g : Bool) (test : ℕ → ℕ → Bool) (m : Machine) → Held p t g m → Held p t g (strike_out test m)
-struck-held p t g test m h = rw (queues-struck p t test m.scheduler.events) h
+pub cancelled-held : (p t : ℕ) (g : Bool) (test : ℕ → ℕ → Bool) (m : Machine) → Held p t g m → Held p t g (expiries_cancelled test m)
+cancelled-held p t g test m h = rw (queues-cancelled p t test m.scheduler.events) h
 
 exited-other : (p n : ℕ) (payload : Payload) → exited_application payload ≡ Some n → is_number p payload ≡ false → (n == p) ≡ false
 exited-other p n payload e f = grind (arith, nat_tests, e, f)
@@ -163,7 +163,7 @@ serve-held p t g q origin event m none = of_changes changes m
           timers_gone = λ n m z k e. filter-held p t g (λ timer. not (is_event_timer_of n timer)) m (λ x. spares-others p t n x (other n z k e));
           callbacks_gone = λ n m h.
               let a : Machine = with_timers (without_callback_timers n m.timers) m in
-              struck-held p t g (λ x c. x == n) a (filter-held p t g (λ timer. not (is_callback_timer_of n timer)) m (spares-events p t n) h);
+              cancelled-held p t g (λ x c. x == n) a (filter-held p t g (λ timer. not (is_callback_timer_of n timer)) m (spares-events p t n) h);
           posted = λ notice m n. posted-held p t g notice m;
           devices = λ serial is_waiting packets m e h. h;
           marked = λ n m h. h;

@@ -14,13 +14,13 @@ use Rattle.run_laws.specs.TimerLaws.{Standing, standing_after, arms, stops, is_t
 use Rattle.run_laws.proofs.timer_deadlines.Fronts.{after-any}
 use Rattle.run_laws.proofs.timer_deadlines.Moves.{own_timer, Moves}
 use Rattle.run_laws.proofs.timer_deadlines.TimedTurns.{turn_of}
-use Rattle.run_laws.proofs.timer_deadlines.Awaited.{gives, queues, is_expected, any-more, queues-struck}
+use Rattle.run_laws.proofs.timer_deadlines.Awaited.{gives, queues, is_expected, any-more, queues-cancelled}
 
 -- what waits goes on waiting
 
 after-queues : (p t : ℕ) (call : Call) (q : ℕ) (m : Machine) → list_any (queues p t) m.scheduler.events ≡ true → list_any (queues p t) (after_call call q m).scheduler.events ≡ true
-after-queues p t (Call.CallbackSet c interval) q m h = grind (arith, h, queues-struck p t (is_callback_timer q c) m.scheduler.events)
-after-queues p t (Call.CallbackStop c) q m h = grind (arith, h, queues-struck p t (is_callback_timer q c) m.scheduler.events)
+after-queues p t (Call.CallbackSet c interval) q m h = grind (arith, h, queues-cancelled p t (is_callback_timer q c) m.scheduler.events)
+after-queues p t (Call.CallbackStop c) q m h = grind (arith, h, queues-cancelled p t (is_callback_timer q c) m.scheduler.events)
 after-queues p t (Call.Post r code payload) q m h = grind (arith, h, any-more (queues p t) m.scheduler.events)
 after-queues p t (Call.Broadcast code payload) q m h = grind (arith, h, any-more (queues p t) m.scheduler.events)
 after-queues p t call q m h = grind (arith, h)

@@ -71,7 +71,7 @@ ledger-other p t k X e n = rw (turns-other k p 0 X e n) refl
 pub ripe-later : (n clock : ℕ) (ledger : Ledger) → ripe_at clock ledger ≤ ripe_at (clock + n) ledger
 ripe-later n clock ledger = go ledger.is_set (nat_le (deadline ledger.cell) clock) refl
   where
-    go : (set due : Bool) → nat_le (deadline ledger.cell) clock ≡ due → ledger.settled + one_if (set && due) ≤ ledger.settled + one_if (set && nat_le (deadline ledger.cell) (clock + n))
+    go : (set due : Bool) → nat_le (deadline ledger.cell) clock ≡ due → ledger.after_items + one_if (set && due) ≤ ledger.after_items + one_if (set && nat_le (deadline ledger.cell) (clock + n))
     go false due e = omega arith
     go true false e = omega arith
     go true true e = let later : nat_le (deadline ledger.cell) (clock + n) ≡ true = grind (arith, nat_tests, e) in rw later (omega arith)
@@ -84,7 +84,7 @@ timely-other p t X e n h =
 early_of : (p t w clock : ℕ) (timers : Timers) (ledger : Ledger) → Balanced p t timers clock w ledger → ledger.given ≤ ripe_at clock ledger
 early_of p t w clock timers ledger b = go (is_armed (event_timer p t) timers) b.count
   where
-    go : (on : Bool) → w + ledger.given ≤ ledger.settled + (if on then 0 else one_if (ledger.is_set && nat_le (deadline ledger.cell) clock)) → ledger.given ≤ ripe_at clock ledger
+    go : (on : Bool) → w + ledger.given ≤ ledger.after_items + (if on then 0 else one_if (ledger.is_set && nat_le (deadline ledger.cell) clock)) → ledger.given ≤ ripe_at clock ledger
     go true h = omega (arith, h)
     go false h = omega (arith, h)
 
@@ -95,8 +95,8 @@ pub later-balanced : (p t n w clock : ℕ) (timers : Timers) (ledger : Ledger) �
 later-balanced p t n w clock timers ledger b =
     record { cell = b.cell; named = b.named; set = b.set; count = go (is_armed (event_timer p t) timers) b.count }
   where
-    go : (on : Bool) → w + ledger.given ≤ ledger.settled + (if on then 0 else one_if (ledger.is_set && nat_le (deadline ledger.cell) clock))
-        → w + ledger.given ≤ ledger.settled + (if on then 0 else one_if (ledger.is_set && nat_le (deadline ledger.cell) (clock + n)))
+    go : (on : Bool) → w + ledger.given ≤ ledger.after_items + (if on then 0 else one_if (ledger.is_set && nat_le (deadline ledger.cell) clock))
+        → w + ledger.given ≤ ledger.after_items + (if on then 0 else one_if (ledger.is_set && nat_le (deadline ledger.cell) (clock + n)))
     go true h = h
     go false h = omega (arith, h, ripe-later n clock ledger)
 

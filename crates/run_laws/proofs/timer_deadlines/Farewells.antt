@@ -15,11 +15,11 @@ use Rattle.process_core.specs.declared.state.State.{State}
 use Rattle.process_core.specs.Agenda.{Queued, Item}
 use Rattle.process_core.specs.Processes.{numbers, without, is_ending}
 use Rattle.process_core.specs.Requests.{farewells, killed_by, kill_refusal, synch_refusal, given_in_turn}
-use Rattle.process_core.specs.Scheduler.{Scheduler, carried_out, delivery, first_event, of_event, in_front, state_in, put_in_state}
+use Rattle.process_core.specs.Scheduler.{Scheduler, after_item, delivery, first_event, of_event, in_front, state_in, put_in_state}
 use Rattle.timer_core.specs.declared.timer.Timer.{Timer}
 use Rattle.kernel_core.specs.Machine.{Machine, scheduled}
 use Rattle.kernel_core.specs.Calls.{after_call, unless_refused, event_of, is_callback_timer}
-use Rattle.kernel_core.specs.Expiries.{struck_if}
+use Rattle.kernel_core.specs.Expiries.{cancelled_if}
 use Rattle.kernel_core.specs.KernelProcesses.{serve}
 use Rattle.kernel_core.specs.TimerProcesses.{expiry_of}
 use Rattle.run_laws.specs.TimerLaws.{is_number}
@@ -27,7 +27,7 @@ use Rattle.run_laws.proofs.Changes.{Changes, of_changes, is_notice}
 use Rattle.run_laws.proofs.event_order.Tally.{ends_in}
 use Rattle.run_laws.proofs.event_order.Shape.{is_give_exit, is_exit_turn, to_all}
 use Rattle.run_laws.proofs.event_order.Items.{with_agenda}
-use Rattle.run_laws.proofs.timer_deadlines.Fronts.{none-mapped, carried-any, after-any, all-more, all-struck}
+use Rattle.run_laws.proofs.timer_deadlines.Fronts.{none-mapped, carried-any, after-any, all-more, all-cancelled}
 use Rattle.run_laws.proofs.event_order.After.{told_all}
 use Rattle.run_laws.proofs.event_order.Steps.{is_quiet_item, turn_entry}
 
@@ -62,12 +62,12 @@ any-both test (x ∷ xs) ys h k = grind (arith, h, any-both test xs ys)
 
 -- the queue
 
-events-struck : (test : ℕ → ℕ → Bool) (events : List (Queued Bool)) → list_all is_no_exited (map (struck_if test) events) ≡ list_all is_no_exited events
-events-struck test events = all-struck is_no_exited test (λ event. grind arith) events
+events-cancelled : (test : ℕ → ℕ → Bool) (events : List (Queued Bool)) → list_all is_no_exited (map (cancelled_if test) events) ≡ list_all is_no_exited events
+events-cancelled test events = all-cancelled is_no_exited test (λ event. grind arith) events
 
 pub after-events : (call : Call) (q : ℕ) (m : Machine) → list_all is_no_exited m.scheduler.events ≡ true → list_all is_no_exited (after_call call q m).scheduler.events ≡ true
-after-events (Call.CallbackSet c interval) q m h = grind (arith, h, events-struck (is_callback_timer q c) m.scheduler.events)
-after-events (Call.CallbackStop c) q m h = grind (arith, h, events-struck (is_callback_timer q c) m.scheduler.events)
+after-events (Call.CallbackSet c interval) q m h = grind (arith, h, events-cancelled (is_callback_timer q c) m.scheduler.events)
+after-events (Call.CallbackStop c) q m h = grind (arith, h, events-cancelled (is_callback_timer q c) m.scheduler.events)
 after-events (Call.Post r code payload) q m h = grind (arith, nat_tests, h, all-more is_no_exited)
 after-events (Call.Broadcast code payload) q m h = grind (arith, nat_tests, h, all-more is_no_exited)
 after-events call q m h = grind (arith, h)
@@ -91,7 +91,7 @@ serve-events q event = of_changes changes
           chained = λ a b c f g h. g (f h);
           expired = λ timer m e. all-more is_no_exited m.scheduler.events (expiry_of timer) (expiry-clean timer);
           timers_gone = λ n m z k e h. h;
-          callbacks_gone = λ n m h. events-struck (λ r c. r == n) m.scheduler.events ∙ h;
+          callbacks_gone = λ n m h. events-cancelled (λ r c. r == n) m.scheduler.events ∙ h;
           posted = λ notice m n. all-more is_no_exited m.scheduler.events notice (notice-clean notice n);
           devices = λ serial is_waiting packets m e h. h;
           marked = λ n m h. h;
@@ -118,14 +118,14 @@ spared-before true b h n = absurd (grind (arith, h refl, n))
 spared-before false b h n = refl
 
 pub carried-doomed : (p : ℕ) (item : Item) (items : List Item) (s : Scheduler Bool) → is_quiet_item item ≡ true
-    → is_doomed p (carried_out item (with_agenda items s)).agenda ≡ false → is_doomed p (item ∷ items) ≡ false
+    → is_doomed p (after_item item (with_agenda items s)).agenda ≡ false → is_doomed p (item ∷ items) ≡ false
 carried-doomed p (Item.GiveExit q) items s n h = grind (arith, nat_tests, h)
 carried-doomed p (Item.Turn q origin stimulus) items s n h = absurd (grind (arith, n))
 carried-doomed p item items s n h =
-    spared-before (is_doomed p items) (is_doomed p (carried_out item (with_agenda items s)).agenda) (carried-any (dooms p) item items s) h
+    spared-before (is_doomed p items) (is_doomed p (after_item item (with_agenda items s)).agenda) (carried-any (dooms p) item items s) h
 
 pub carried-farewell : (p : ℕ) (item : Item) (items : List Item) (s : Scheduler Bool) → list_all is_no_exited s.events ≡ true
-    → has_farewell p (item ∷ items) ≡ false → has_farewell p (carried_out item (with_agenda items s)).agenda ≡ false
+    → has_farewell p (item ∷ items) ≡ false → has_farewell p (after_item item (with_agenda items s)).agenda ≡ false
 carried-farewell p Item.Polls items s n h =
     grind (arith, h, any-both (is_farewell p) (map (λ n. Item.PollOne n) (numbers s.processes)) items (none-mapped (is_farewell p) (λ n. Item.PollOne n) (numbers s.processes) (λ n. refl)))
 carried-farewell p Item.Deliver items s n h =

@@ -15,10 +15,10 @@ use Rattle.process_core.specs.declared.state.State.{State}
 use Rattle.process_core.specs.Agenda.{Queued, Item}
 use Rattle.process_core.specs.Processes.{numbers, without, is_ending, is_application}
 use Rattle.process_core.specs.Requests.{farewells, killed_by, kill_refusal, start_refusal, started_by}
-use Rattle.process_core.specs.Scheduler.{Scheduler, of_event, delivery, carried_out, first_event, state_in, in_front, put_in_state}
+use Rattle.process_core.specs.Scheduler.{Scheduler, of_event, delivery, after_item, first_event, state_in, in_front, put_in_state}
 use Rattle.kernel_core.specs.Machine.{Machine, scheduled}
 use Rattle.kernel_core.specs.Calls.{after_call, unless_refused}
-use Rattle.kernel_core.specs.Expiries.{struck_if}
+use Rattle.kernel_core.specs.Expiries.{cancelled_if}
 use Rattle.run_laws.proofs.event_order.Items.{with_agenda}
 use Rattle.run_laws.proofs.event_order.After.{is_plain_call, call-front, told_all}
 
@@ -52,13 +52,13 @@ all-delivered test (n ∷ ns) (Some (Queued.ToAll event)) p g = rw (p, g n (of_e
 pub all-more : (keep : Queued Bool → Bool) (xs : List (Queued Bool)) (event : Queued Bool) → keep event ≡ true → list_all keep xs ≡ true → list_all keep (xs ++ event ∷ []) ≡ true
 all-more keep xs event n h = all-append keep xs (event ∷ []) h (rw n refl)
 
-pub all-struck : (keep : Queued Bool → Bool) (test : ℕ → ℕ → Bool) → ((event : Queued Bool) → keep (struck_if test event) ≡ keep event) → (events : List (Queued Bool))
-    → list_all keep (map (struck_if test) events) ≡ list_all keep events
-all-struck keep test same [] = refl
-all-struck keep test same (event ∷ events) = rw (same event, all-struck keep test same events) refl
+pub all-cancelled : (keep : Queued Bool → Bool) (test : ℕ → ℕ → Bool) → ((event : Queued Bool) → keep (cancelled_if test event) ≡ keep event) → (events : List (Queued Bool))
+    → list_all keep (map (cancelled_if test) events) ≡ list_all keep events
+all-cancelled keep test same [] = refl
+all-cancelled keep test same (event ∷ events) = rw (same event, all-cancelled keep test same events) refl
 
 pub carried-queue : (keep : Queued Bool → Bool) (item : Item) (items : List Item) (s : Scheduler Bool) → list_all keep s.events ≡ true
-    → list_all keep (carried_out item (with_agenda items s)).events ≡ true
+    → list_all keep (after_item item (with_agenda items s)).events ≡ true
 carried-queue keep Item.Deliver items s h = dropped s.events h
   where
     dropped : (events : List (Queued Bool)) → list_all keep events ≡ true → list_all keep (drop 1 events) ≡ true
@@ -69,7 +69,7 @@ carried-queue keep item items s h = grind (arith, h)
 -- an item
 
 pub carried-any : (test : Item → Bool) (item : Item) (items : List Item) (s : Scheduler Bool) → list_any test items ≡ true
-    → list_any test (carried_out item (with_agenda items s)).agenda ≡ true
+    → list_any test (after_item item (with_agenda items s)).agenda ≡ true
 carried-any test Item.Polls items s h = grind (arith, h, any-append test (map (λ n. Item.PollOne n) (numbers s.processes)) items)
 carried-any test Item.Deliver items s h = any-append test (delivery (numbers s.processes) (first_event s)) items h
 carried-any test item items s h = grind (arith, h)

@@ -95,7 +95,7 @@ pub record Ledger : Type 0 where
   -- the last arming or stop was an arming
   pub is_set : Bool
   -- the ripe ones of the armings before that
-  pub settled : ℕ
+  pub after_items : ℕ
   -- the TIMER events given
   pub given : ℕ
 
@@ -109,25 +109,25 @@ ledger_after t ledger turn =
     then record {
       cell = cell_at t turn ledger.cell;
       is_set = is_arming t turn;
-      settled = ledger.settled + one_if (ledger.is_set && nat_le (deadline ledger.cell) turn.clock);
+      after_items = ledger.after_items + one_if (ledger.is_set && nat_le (deadline ledger.cell) turn.clock);
       given = given;
     }
     else record ledger { given = given }
 
 abbrev pub blank : Ledger
-blank = record { cell = zero_cell; is_set = false; settled = 0; given = 0 }
+blank = record { cell = zero_cell; is_set = false; after_items = 0; given = 0 }
 
 abbrev pub ledger_of : ℕ → List OwnTurn → Ledger
 ledger_of t turns = fold (ledger_after t) blank turns
 
 -- the ripe armings at that clock
 abbrev pub ripe_at : ℕ → Ledger → ℕ
-ripe_at clock ledger = ledger.settled + one_if (ledger.is_set && nat_le (deadline ledger.cell) clock)
+ripe_at clock ledger = ledger.after_items + one_if (ledger.is_set && nat_le (deadline ledger.cell) clock)
 
 ripe-step : (t clock : ℕ) (ledger : Ledger) (turn : OwnTurn) (later : List OwnTurn)
-    → (ledger_after t ledger turn).settled
+    → (ledger_after t ledger turn).after_items
     + (one_if ((ledger_after t ledger turn).is_set && nat_le (deadline (ledger_after t ledger turn).cell) (stood_until t clock later)) + ripe_from t clock (ledger_after t ledger turn).cell later)
-    ≡ ledger.settled + (one_if (ledger.is_set && nat_le (deadline ledger.cell) (stood_until t clock (turn ∷ later))) + ripe_from t clock ledger.cell (turn ∷ later))
+    ≡ ledger.after_items + (one_if (ledger.is_set && nat_le (deadline ledger.cell) (stood_until t clock (turn ∷ later))) + ripe_from t clock ledger.cell (turn ∷ later))
 ripe-step t clock ledger turn later = go (is_done turn.reply) (arms t turn.call) (stops t turn.call)
   where
     go : (d a s : Bool)
@@ -135,11 +135,11 @@ ripe-step t clock ledger turn later = go (is_done turn.reply) (arms t turn.call)
         let st : Ledger = (if d && (a || s) then record {
           cell = if d && a then new else ledger.cell;
           is_set = d && a;
-          settled = ledger.settled + one_if (ledger.is_set && nat_le (deadline ledger.cell) turn.clock);
+          after_items = ledger.after_items + one_if (ledger.is_set && nat_le (deadline ledger.cell) turn.clock);
           given = ledger.given + one_if (is_timer_event t turn.stimulus);
         } else record ledger { given = ledger.given + one_if (is_timer_event t turn.stimulus) }) in
-        st.settled + (one_if (st.is_set && nat_le (deadline st.cell) (stood_until t clock later)) + ripe_from t clock st.cell later)
-        ≡ ledger.settled
+        st.after_items + (one_if (st.is_set && nat_le (deadline st.cell) (stood_until t clock later)) + ripe_from t clock st.cell later)
+        ≡ ledger.after_items
         + (one_if (ledger.is_set && nat_le (deadline ledger.cell) (option_map_or (λ turn. turn.clock) (if d && (a || s) then Some turn else find (is_arming_or_stop t) later) clock))
         + ((if (d && a) && nat_le (deadline (if d && a then new else ledger.cell)) (stood_until t clock later) then 1 else 0) + ripe_from t clock (if d && a then new else ledger.cell) later)))
     go true true s = omega arith
@@ -149,7 +149,7 @@ ripe-step t clock ledger turn later = go (is_done turn.reply) (arms t turn.call)
 
 pub ripe-ledger : (t clock : ℕ) (ledger : Ledger) (turns : List OwnTurn)
     → ripe_at clock (fold (ledger_after t) ledger turns)
-    ≡ ledger.settled + (one_if (ledger.is_set && nat_le (deadline ledger.cell) (stood_until t clock turns)) + ripe_from t clock ledger.cell turns)
+    ≡ ledger.after_items + (one_if (ledger.is_set && nat_le (deadline ledger.cell) (stood_until t clock turns)) + ripe_from t clock ledger.cell turns)
 ripe-ledger t clock ledger [] = omega arith
 ripe-ledger t clock ledger (turn ∷ later) =
     ripe-ledger t clock (ledger_after t ledger turn) later ∙ ripe-step t clock ledger turn later
@@ -160,7 +160,7 @@ given_after t ledger turn = go (is_arming_or_stop t turn)
     go : (b : Bool) → (if b then record {
       cell = cell_at t turn ledger.cell;
       is_set = is_arming t turn;
-      settled = ledger.settled + one_if (ledger.is_set && nat_le (deadline ledger.cell) turn.clock);
+      after_items = ledger.after_items + one_if (ledger.is_set && nat_le (deadline ledger.cell) turn.clock);
       given = ledger.given + one_if (is_timer_event t turn.stimulus);
     } else record ledger { given = ledger.given + one_if (is_timer_event t turn.stimulus) }).given ≡ ledger.given + one_if (is_timer_event t turn.stimulus)
     go true = refl

@@ -11,7 +11,7 @@ use Rattle.timer_core.specs.declared.timer.Cell.{Cell}
 use Rattle.timer_core.specs.Names.{all_timers, event_timer, callback_timer, is_timer}
 use Rattle.timer_core.specs.Timers.{Timers, cell_of, is_armed, armed_with, set_timer, stop_timer, restart_timer, reset_timer, can_reset}
 use Rattle.kernel_core.specs.Machine.{Machine, with_timers, mark}
-use Rattle.kernel_core.specs.Expiries.{strike_out}
+use Rattle.kernel_core.specs.Expiries.{expiries_cancelled}
 use Rattle.kernel_core.specs.Calls.{after_call, done, unless_refused, is_callback_timer}
 use Rattle.run_laws.specs.OwnTurns.{reply_of, is_done}
 use Rattle.run_laws.specs.TimerLaws.{arms, stops, cell_after}
@@ -70,7 +70,7 @@ after-names (Call.TimerReset u) q m = go (nat_lt u 8) (can_reset (event_timer q 
     go true true = armed-names (event_timer q u) (record cell { start = cell.start + cell.interval }) m.timers
 after-names (Call.CallbackSet c interval) q m =
     arming-names (nat_lt c 4) q (callback_timer q c) (record { start = m.clock; interval = interval }) m
-    (mark 0 (strike_out (is_callback_timer q c) (with_timers (set_timer m.clock (callback_timer q c) interval m.timers) m))) refl
+    (mark 0 (expiries_cancelled (is_callback_timer q c) (with_timers (set_timer m.clock (callback_timer q c) interval m.timers) m))) refl
 after-names (Call.TimerStop u) q m = grind arith
 after-names (Call.CallbackStop c) q m = grind arith
 after-names call q m = plain call (grind arith)
@@ -116,10 +116,10 @@ still_moves p t q clock call k old new n e f =
     }
 
 -- the reply to q's call, if q is p
-abbrev Told : ℕ → ℕ → Option Reply → Reply → Type 0
-Told p q k reply = (q == p) ≡ true → k ≡ Some reply
+abbrev Knowledge : ℕ → ℕ → Option Reply → Reply → Type 0
+Knowledge p q k reply = (q == p) ≡ true → k ≡ Some reply
 
-refused_moves : (p t q clock : ℕ) (call : Call) (k : Option Reply) (refusal : Refusal) (old : Timers) → Told p q k (Reply.Refused refusal) → Moves p t q clock call k old old
+refused_moves : (p t q clock : ℕ) (call : Call) (k : Option Reply) (refusal : Refusal) (old : Timers) → Knowledge p q k (Reply.Refused refusal) → Moves p t q clock call k old old
 refused_moves p t q clock call k refusal old told = still_moves p t q clock call k old old (go (q == p) refl) refl (λ number. refl)
   where
     go : (b : Bool) → (q == p) ≡ b → (b && (is_done k && (arms t call || stops t call))) ≡ false
@@ -130,7 +130,7 @@ same_timer : (p t q u : ℕ) → (q == p) ≡ true → (u == t) ≡ true → own
 same_timer p t q u e f = let qp : q ≡ p = grind (arith, nat_tests, e) in let ut : u ≡ t = grind (arith, nat_tests, f) in rw (qp, ut) refl
 
 -- an arming of timer u of q
-armed_moves : (p t q u clock : ℕ) (call : Call) (k : Option Reply) (cell : Cell) (old : Timers) → Setting p old → nat_le u 7 ≡ true → Told p q k Reply.Done
+armed_moves : (p t q u clock : ℕ) (call : Call) (k : Option Reply) (cell : Cell) (old : Timers) → Setting p old → nat_le u 7 ≡ true → Knowledge p q k Reply.Done
     → arms t call ≡ (u == t) → stops t call ≡ false → ((u == t) ≡ true → cell ≡ cell_after t clock call (cell_of (own_timer q u) old))
     → Moves p t q clock call k old (armed_with (own_timer q u) cell old)
 armed_moves p t q u clock call k cell old s fits told arm stop value = go (q == p) (u == t) refl refl
@@ -167,7 +167,7 @@ armed_moves p t q u clock call k cell old s fits told arm stop value = go (q == 
         }
 
 -- a stop of timer u of q
-stopped_moves : (p t q u clock : ℕ) (k : Option Reply) (old : Timers) → Told p q k Reply.Done → Moves p t q clock (Call.TimerStop u) k old (stop_timer (own_timer q u) old)
+stopped_moves : (p t q u clock : ℕ) (k : Option Reply) (old : Timers) → Knowledge p q k Reply.Done → Moves p t q clock (Call.TimerStop u) k old (stop_timer (own_timer q u) old)
 stopped_moves p t q u clock k old told = go (q == p) (u == t) refl refl
   where
     call : Call
@@ -258,7 +258,7 @@ after-moves p t (Call.CallbackSet c interval) q k m s front = go (nat_lt c 4)
     cell = record { start = m.clock; interval = interval }
 
     after : Machine
-    after = mark 0 (strike_out (is_callback_timer q c) (with_timers (set_timer m.clock (callback_timer q c) interval m.timers) m))
+    after = mark 0 (expiries_cancelled (is_callback_timer q c) (with_timers (set_timer m.clock (callback_timer q c) interval m.timers) m))
 
     none : is_moved_by p t q (Call.CallbackSet c interval) k ≡ false
     none = unmoved_by p t q (Call.CallbackSet c interval) k refl refl
@@ -272,7 +272,7 @@ after-moves p t (Call.CallbackSet c interval) q k m s front = go (nat_lt c 4)
 after-moves p t (Call.CallbackStop c) q k m s front = go (nat_lt c 4)
   where
     after : Machine
-    after = strike_out (is_callback_timer q c) (with_timers (stop_timer (callback_timer q c) m.timers) m)
+    after = expiries_cancelled (is_callback_timer q c) (with_timers (stop_timer (callback_timer q c) m.timers) m)
 
     none : is_moved_by p t q (Call.CallbackStop c) k ≡ false
     none = unmoved_by p t q (Call.CallbackStop c) k refl refl

@@ -6,7 +6,7 @@ use Rattle.std.proofs.lemmas.Bool.Decides.{nat_tests}
 use Rattle.mote_types.specs.declared.call.Call.{Call}
 use Rattle.process_core.specs.Agenda.{Item}
 use Rattle.process_core.specs.Processes.{numbers, is_application}
-use Rattle.process_core.specs.Scheduler.{Scheduler, delivery, carried_out, first_event}
+use Rattle.process_core.specs.Scheduler.{Scheduler, delivery, after_item, first_event}
 use Rattle.kernel_core.specs.Machine.{Machine}
 use Rattle.kernel_core.specs.Calls.{after_call}
 use Rattle.run_laws.proofs.event_order.Shape.{is_note}
@@ -22,7 +22,7 @@ is_regular _ = true
 
 -- an item keeps that
 pub carried-regular : (item : Item) (items : List Item) (s : Scheduler Bool) → list_all is_regular (item ∷ items) ≡ true
-    → list_all is_regular (carried_out item (with_agenda items s)).agenda ≡ true
+    → list_all is_regular (after_item item (with_agenda items s)).agenda ≡ true
 carried-regular Item.Polls items s h =
     let polls = all-mapped is_regular (λ n. Item.PollOne n) (numbers s.processes) (λ n. refl) in
     grind (arith, h, all-append is_regular (map (λ n. Item.PollOne n) (numbers s.processes)) items polls)

@@ -12,7 +12,7 @@ use Rattle.mote_types.specs.declared.entry.Input.{Input}
 use Rattle.mote_types.specs.declared.entry.Note.{Note}
 use Rattle.mote_types.specs.declared.entry.Entry.{Entry}
 use Rattle.process_core.specs.Agenda.{Item}
-use Rattle.process_core.specs.Scheduler.{carried_out, in_front}
+use Rattle.process_core.specs.Scheduler.{after_item, in_front}
 use Rattle.device_core.specs.PacketQueue.{free_slot}
 use Rattle.timer_core.specs.Names.{all_timers}
 use Rattle.kernel_core.specs.Machine.{Machine, scheduled}
@@ -25,7 +25,7 @@ use Rattle.run_laws.proofs.timer_deadlines.Ledgers.{fold-append}
 use Rattle.run_laws.proofs.event_order.Items.{with_agenda, facing}
 use Rattle.run_laws.proofs.Untouched.{serve-untouched}
 use Rattle.run_laws.proofs.timer_deadlines.Fronts.{all-more, carried-queue}
-use Rattle.run_laws.proofs.timer_deadlines.Timed.{is_no_timer, plain-struck, serve-fair}
+use Rattle.run_laws.proofs.timer_deadlines.Timed.{is_no_timer, plain-cancelled, serve-fair}
 use Rattle.run_laws.proofs.timer_deadlines.Timing.{cell_names}
 use Rattle.run_laws.proofs.timer_deadlines.Moves.{after-clock, after-names}
 use Rattle.run_laws.proofs.timer_deadlines.Regular.{is_regular, carried-regular, after-regular}
@@ -43,7 +43,7 @@ clock-more X e = fold-append (λ clock entry. clock + ticks_in entry) 0 X (e ∷
 -- an item
 
 pub steady-carried : (item : Item) (items : List Item) (m : Machine) (X : List Entry) → Steady (facing (item ∷ items) m) X
-    → Steady (record m { scheduler = carried_out item (with_agenda items m.scheduler) }) X
+    → Steady (record m { scheduler = after_item item (with_agenda items m.scheduler) }) X
 steady-carried item items m X h =
     record {
       clock = h.clock;
@@ -71,8 +71,8 @@ steady-serve q event m X h =
 -- a turn
 
 after-plain : (call : Call) (q : ℕ) (m : Machine) → list_all is_no_timer m.scheduler.events ≡ true → list_all is_no_timer (after_call call q m).scheduler.events ≡ true
-after-plain (Call.CallbackSet c interval) q m h = grind (arith, h, plain-struck (is_callback_timer q c) m.scheduler.events)
-after-plain (Call.CallbackStop c) q m h = grind (arith, h, plain-struck (is_callback_timer q c) m.scheduler.events)
+after-plain (Call.CallbackSet c interval) q m h = grind (arith, h, plain-cancelled (is_callback_timer q c) m.scheduler.events)
+after-plain (Call.CallbackStop c) q m h = grind (arith, h, plain-cancelled (is_callback_timer q c) m.scheduler.events)
 after-plain (Call.Post r code payload) q m h = grind (arith, nat_tests, h, all-more is_no_timer)
 after-plain (Call.Broadcast code payload) q m h = grind (arith, nat_tests, h, all-more is_no_timer)
 after-plain call q m h = grind (arith, h)

@@ -12,12 +12,12 @@ use Rattle.timer_core.specs.declared.timer.Timer.{Timer}
 use Rattle.timer_core.specs.Names.{event_timer, is_timer, is_event_timer_of, is_callback_timer_of}
 use Rattle.timer_core.specs.Timers.{Timers, cell_of, is_armed, stop_timer, deadline, is_due, first_due, without_callback_timers}
 use Rattle.kernel_core.specs.Machine.{Machine, with_event, with_timers}
-use Rattle.kernel_core.specs.Expiries.{struck_if, strike_out}
+use Rattle.kernel_core.specs.Expiries.{cancelled_if, expiries_cancelled}
 use Rattle.kernel_core.specs.KernelProcesses.{serve}
 use Rattle.kernel_core.specs.TimerProcesses.{expiry_of, post_expiry}
 use Rattle.run_laws.specs.TimerLaws.{is_timer_event}
 use Rattle.run_laws.proofs.Changes.{Changes, of_changes, is_notice}
-use Rattle.run_laws.proofs.timer_deadlines.Fronts.{all-more, all-struck}
+use Rattle.run_laws.proofs.timer_deadlines.Fronts.{all-more, all-cancelled}
 use Rattle.run_laws.proofs.timer_deadlines.Ledgers.{Ledger, one_if}
 use Rattle.run_laws.proofs.timer_deadlines.Timing.{cell_names, stopped-own, stopped-other, symm}
 
@@ -63,7 +63,7 @@ pub record Balanced (p t : ℕ) (timers : Timers) (clock waiting : ℕ) (ledger 
   pub named : is_armed (event_timer p t) timers ≡ true → nat_le t 7 ≡ true
   pub set : is_armed (event_timer p t) timers ≡ true → ledger.is_set ≡ true
   pub count : waiting + ledger.given
-      ≤ ledger.settled + (if is_armed (event_timer p t) timers then 0 else one_if (ledger.is_set && nat_le (deadline ledger.cell) clock))
+      ≤ ledger.after_items + (if is_armed (event_timer p t) timers then 0 else one_if (ledger.is_set && nat_le (deadline ledger.cell) clock))
 
 pub record Fair (p t : ℕ) (old new : Machine) : Type 0 where
   pub clock : new.clock ≡ old.clock
@@ -93,8 +93,8 @@ drop_armed p t old new clock waiting ledger was is e f less same b =
     }
   where
     go : (was is : Bool) → is_armed (event_timer p t) old ≡ was → is_armed (event_timer p t) new ≡ is → (is ≡ true → was ≡ true)
-        → waiting + ledger.given ≤ ledger.settled + (if is_armed (event_timer p t) old then 0 else one_if (ledger.is_set && nat_le (deadline ledger.cell) clock))
-        → waiting + ledger.given ≤ ledger.settled + (if is_armed (event_timer p t) new then 0 else one_if (ledger.is_set && nat_le (deadline ledger.cell) clock))
+        → waiting + ledger.given ≤ ledger.after_items + (if is_armed (event_timer p t) old then 0 else one_if (ledger.is_set && nat_le (deadline ledger.cell) clock))
+        → waiting + ledger.given ≤ ledger.after_items + (if is_armed (event_timer p t) new then 0 else one_if (ledger.is_set && nat_le (deadline ledger.cell) clock))
     go true true e f less h = rw f (rw e at h)
     go true false e f less h = let k = rw e at h in rw f (omega (arith, k))
     go false true e f less h = absurd (grind (arith, less refl))
@@ -197,14 +197,14 @@ notice-uncounted p t notice n = grind (arith, nat_tests, n)
 notice-plain : (notice : Queued Bool) → is_notice notice ≡ true → is_no_timer notice ≡ true
 notice-plain notice n = grind (arith, nat_tests, n)
 
-pub count-struck : (p t : ℕ) (test : ℕ → ℕ → Bool) (events : List (Queued Bool)) → count_events p t (map (struck_if test) events) ≡ count_events p t events
-count-struck p t test [] = refl
-count-struck p t test (Queued.To q event ∷ events) = rw (count-struck p t test events) refl
-count-struck p t test (Queued.ToAll event ∷ events) = rw (count-struck p t test events) refl
-count-struck p t test (Queued.Expiry q c x ∷ events) = rw (count-struck p t test events) refl
+pub count-cancelled : (p t : ℕ) (test : ℕ → ℕ → Bool) (events : List (Queued Bool)) → count_events p t (map (cancelled_if test) events) ≡ count_events p t events
+count-cancelled p t test [] = refl
+count-cancelled p t test (Queued.To q event ∷ events) = rw (count-cancelled p t test events) refl
+count-cancelled p t test (Queued.ToAll event ∷ events) = rw (count-cancelled p t test events) refl
+count-cancelled p t test (Queued.Expiry q c x ∷ events) = rw (count-cancelled p t test events) refl
 
-pub plain-struck : (test : ℕ → ℕ → Bool) (events : List (Queued Bool)) → list_all is_no_timer (map (struck_if test) events) ≡ list_all is_no_timer events
-plain-struck test events = all-struck is_no_timer test (λ event. grind arith) events
+pub plain-cancelled : (test : ℕ → ℕ → Bool) (events : List (Queued Bool)) → list_all is_no_timer (map (cancelled_if test) events) ≡ list_all is_no_timer events
+plain-cancelled test events = all-cancelled is_no_timer test (λ event. grind arith) events
 
 dropped-fair : (p t : ℕ) (keep : Timer → Bool) (m : Machine) → Fair p t m (record m { timers = record m.timers { armed = filter keep m.timers.armed } })
 dropped-fair p t keep m =
@@ -218,13 +218,13 @@ dropped-fair p t keep m =
           drop_armed p t m.timers new m.clock (in_wait p t m) ledger (is_armed own m.timers) (is_armed own new) refl refl (any-filter (is_timer own) keep m.timers.armed) refl k;
     }
 
-struck-fair : (p t : ℕ) (test : ℕ → ℕ → Bool) (m : Machine) → Fair p t m (strike_out test m)
-struck-fair p t test m =
+cancelled-fair : (p t : ℕ) (test : ℕ → ℕ → Bool) (m : Machine) → Fair p t m (expiries_cancelled test m)
+cancelled-fair p t test m =
     record {
       clock = refl;
       names = refl;
-      plain = λ h. rw (plain-struck test m.scheduler.events) h;
-      balanced = λ ledger k. record { cell = k.cell; named = k.named; set = k.set; count = rw (count-struck p t test m.scheduler.events) k.count };
+      plain = λ h. rw (plain-cancelled test m.scheduler.events) h;
+      balanced = λ ledger k. record { cell = k.cell; named = k.named; set = k.set; count = rw (count-cancelled p t test m.scheduler.events) k.count };
     }
 
 pub serve-fair : (p t q : ℕ) (event : Event) (m : Machine) → Fair p t m (serve q event m)
@@ -239,7 +239,7 @@ serve-fair p t q event = of_changes changes
           timers_gone = λ n m z k e. dropped-fair p t (λ timer. not (is_event_timer_of n timer)) m;
           callbacks_gone = λ n m.
               let a : Machine = with_timers (without_callback_timers n m.timers) m in
-              fair-then p t m a (strike_out (λ r c. r == n) a) (dropped-fair p t (λ timer. not (is_callback_timer_of n timer)) m) (struck-fair p t (λ r c. r == n) a);
+              fair-then p t m a (expiries_cancelled (λ r c. r == n) a) (dropped-fair p t (λ timer. not (is_callback_timer_of n timer)) m) (cancelled-fair p t (λ r c. r == n) a);
           posted = λ notice m n. post-fair p t notice m (notice-uncounted p t notice n) (notice-plain notice n);
           devices = λ serial is_waiting packets m e. record { clock = refl; names = refl; plain = λ h. h; balanced = λ ledger k. k };
           marked = λ n m. record { clock = refl; names = refl; plain = λ h. h; balanced = λ ledger k. k };

@@ -16,13 +16,13 @@ use Rattle.process_core.specs.declared.state.State.{State}
 use Rattle.process_core.specs.Agenda.{Queued, Item}
 use Rattle.process_core.specs.Processes.{numbers, without, is_on_list, is_running, is_kernel_process, with_mark, is_marked, is_any_marked, is_ending}
 use Rattle.process_core.specs.Requests.{farewells, killed_by, kill_refusal}
-use Rattle.process_core.specs.Scheduler.{Scheduler, of_event, delivery, carried_out, first_event, state_in, in_front, put_in_state}
+use Rattle.process_core.specs.Scheduler.{Scheduler, of_event, delivery, after_item, first_event, state_in, in_front, put_in_state}
 use Rattle.kernel_core.specs.Machine.{Machine, scheduled}
 use Rattle.kernel_core.specs.Calls.{after_call, unless_refused}
 use Rattle.run_laws.proofs.event_order.Shape.{to_all}
 use Rattle.run_laws.proofs.event_order.Items.{with_agenda}
 use Rattle.run_laws.proofs.event_order.After.{told_all}
-use Rattle.run_laws.proofs.timer_deadlines.Timed.{timer_for, count_items, count_items-append, count_events, count_events-more, count-struck, in_wait, is_no_timer}
+use Rattle.run_laws.proofs.timer_deadlines.Timed.{timer_for, count_items, count_items-append, count_events, count_events-more, count-cancelled, in_wait, is_no_timer}
 
 polls-count : (p t : ℕ) (ns : List ℕ) → count_items p t (map (λ n. Item.PollOne n) ns) ≡ 0
 polls-count p t [] = refl
@@ -53,7 +53,7 @@ all_count p t s = count_items p t s.agenda + count_events p t s.events
 
 -- an item adds none
 pub carried-count : (p t : ℕ) (item : Item) (items : List Item) (s : Scheduler Bool) → list_all is_no_timer s.events ≡ true
-    → all_count p t (carried_out item (with_agenda items s)) ≤ all_count p t (with_agenda (item ∷ items) s)
+    → all_count p t (after_item item (with_agenda items s)) ≤ all_count p t (with_agenda (item ∷ items) s)
 carried-count p t (Item.Start q) items s h = go (is_on_list (state_in s q))
   where
     go : (on : Bool) → all_count p t (if on then with_agenda items s else in_front (Item.Give q Origin.Synch (of_event (plain_event INIT)) ∷ [])
@@ -112,8 +112,8 @@ after-count p t (Call.Kill r) q m = go (kill_refusal m.scheduler r)
         let xs : List Item = Item.GiveExit r ∷ Item.Remove r ∷ Item.Turn q Origin.Answer (Stimulus.Answer Reply.Done) ∷ [] in
         rw (append_assoc (told_all r m.scheduler) xs m.scheduler.agenda)
         (omega (arith, count_items-append p t (told_all r m.scheduler) (xs ++ m.scheduler.agenda), farewells-count p t r (numbers (without r m.scheduler.processes)), no_answer p t q Reply.Done))
-after-count p t (Call.CallbackSet c interval) q m = grind (arith, no_answer, count-struck p t (λ r d. r == q && d == c) m.scheduler.events)
-after-count p t (Call.CallbackStop c) q m = grind (arith, no_answer, count-struck p t (λ r d. r == q && d == c) m.scheduler.events)
+after-count p t (Call.CallbackSet c interval) q m = grind (arith, no_answer, count-cancelled p t (λ r d. r == q && d == c) m.scheduler.events)
+after-count p t (Call.CallbackStop c) q m = grind (arith, no_answer, count-cancelled p t (λ r d. r == q && d == c) m.scheduler.events)
 after-count p t (Call.Post r code payload) q m = grind (arith, no_answer, free_code, count_events-more)
 after-count p t (Call.Broadcast code payload) q m = grind (arith, no_answer, count_events-more)
 after-count p t (Call.PostSynch r code payload) q m = grind (arith, no_answer, free_code)

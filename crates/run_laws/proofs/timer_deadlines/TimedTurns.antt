@@ -16,14 +16,14 @@ use Rattle.run_laws.proofs.timer_deadlines.Moves.{own_timer, Moves}
 -- an arming
 abbrev pub armed_ledger : ℕ → ℕ → Cell → Ledger → Ledger
 armed_ledger g clock cell ledger =
-    record { cell = cell; is_set = true; settled = ledger.settled + one_if (ledger.is_set && nat_le (deadline ledger.cell) clock); given = ledger.given + g }
+    record { cell = cell; is_set = true; after_items = ledger.after_items + one_if (ledger.is_set && nat_le (deadline ledger.cell) clock); given = ledger.given + g }
 
 pub arms-balanced : (p t g w clock : ℕ) (old new : Timers) (cell : Cell) (ledger : Ledger) → nat_le t 7 ≡ true → cell_of (own_timer p t) new ≡ cell → is_armed (own_timer p t) new ≡ true
     → Balanced p t old clock (g + w) ledger → Balanced p t new clock w (armed_ledger g clock cell ledger)
 arms-balanced p t g w clock old new cell ledger n e f b = record { cell = λ _. e; named = λ _. n; set = λ h. refl; count = rw f (go (is_armed (own_timer p t) old) b.count) }
   where
-    go : (on : Bool) → (g + w) + ledger.given ≤ ledger.settled + (if on then 0 else one_if (ledger.is_set && nat_le (deadline ledger.cell) clock))
-        → w + (ledger.given + g) ≤ (ledger.settled + one_if (ledger.is_set && nat_le (deadline ledger.cell) clock)) + 0
+    go : (on : Bool) → (g + w) + ledger.given ≤ ledger.after_items + (if on then 0 else one_if (ledger.is_set && nat_le (deadline ledger.cell) clock))
+        → w + (ledger.given + g) ≤ (ledger.after_items + one_if (ledger.is_set && nat_le (deadline ledger.cell) clock)) + 0
     go true h = omega (arith, h)
     go false h = omega (arith, h)
 
@@ -36,8 +36,8 @@ pub stops-balanced : (p t g w clock : ℕ) (old new : Timers) (ledger : Ledger) 
 stops-balanced p t g w clock old new ledger e f b =
     record { cell = λ n. e n ∙ b.cell n; named = λ h. absurd (grind (arith, f, h)); set = λ h. absurd (grind (arith, f, h)); count = rw f (go (is_armed (own_timer p t) old) b.count) }
   where
-    go : (on : Bool) → (g + w) + ledger.given ≤ ledger.settled + (if on then 0 else one_if (ledger.is_set && nat_le (deadline ledger.cell) clock))
-        → w + (ledger.given + g) ≤ (ledger.settled + one_if (ledger.is_set && nat_le (deadline ledger.cell) clock)) + 0
+    go : (on : Bool) → (g + w) + ledger.given ≤ ledger.after_items + (if on then 0 else one_if (ledger.is_set && nat_le (deadline ledger.cell) clock))
+        → w + (ledger.given + g) ≤ (ledger.after_items + one_if (ledger.is_set && nat_le (deadline ledger.cell) clock)) + 0
     go true h = omega (arith, h)
     go false h = omega (arith, h)
 

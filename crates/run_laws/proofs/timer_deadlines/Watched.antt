@@ -11,7 +11,7 @@ use Rattle.process_core.specs.declared.state.State.{State}
 use Rattle.process_core.specs.Agenda.{Item}
 use Rattle.process_core.specs.declared.process.Process.{Process}
 use Rattle.process_core.specs.Processes.{is_process, is_marked, with_state, with_mark, without}
-use Rattle.process_core.specs.Scheduler.{Scheduler, carried_out, in_front}
+use Rattle.process_core.specs.Scheduler.{Scheduler, after_item, in_front}
 use Rattle.timer_core.specs.declared.timer.Timer.{Timer}
 use Rattle.timer_core.specs.Names.{is_timer, is_event_timer_of, is_callback_timer_of}
 use Rattle.timer_core.specs.Timers.{Timers, is_due, stop_timer, without_callback_timers}
@@ -84,12 +84,12 @@ home-without q (x ∷ xs) n = grind (arith, nat_tests, n, home-without q xs n)
 -- an item
 
 carried-home : (item : Item) (items : List Item) (s : Scheduler Bool) → is_regular item ≡ true → is_home s.processes ≡ true
-    → is_home (carried_out item (with_agenda items s)).processes ≡ true
+    → is_home (after_item item (with_agenda items s)).processes ≡ true
 carried-home (Item.Remove q) items s r h = let n : (q == 0) ≡ false = grind (arith, nat_tests, r) in home-without q s.processes n ∙ h
 carried-home item items s r h = grind (arith, h, home-with_state, home-with_mark)
 
 carried-watched : (item : Item) (items : List Item) (s : Scheduler Bool) → is_quiet_item item ≡ true → is_served item ≡ false → is_regular item ≡ true
-    → is_watched (with_agenda (item ∷ items) s) ≡ true → is_watched (carried_out item (with_agenda items s)) ≡ true
+    → is_watched (with_agenda (item ∷ items) s) ≡ true → is_watched (after_item item (with_agenda items s)) ≡ true
 carried-watched (Item.Start q) items s n k r h = grind (arith, h)
 carried-watched (Item.Give q origin stimulus) items s n k r h =
     let free : is_etimer_poll (Item.Give q origin stimulus) ≡ false = grind (arith, nat_tests, k) in
@@ -99,7 +99,7 @@ carried-watched (Item.Remove q) items s n k r h = let other : (q == 0) ≡ false
 carried-watched Item.Polls items s n k r h = grind (arith, h, carried-any is_etimer_poll Item.Polls items s)
 carried-watched (Item.PollOne q) items s n k r h = go (q == 0) refl
   where
-    go : (b : Bool) → (q == 0) ≡ b → is_watched (carried_out (Item.PollOne q) (with_agenda items s)) ≡ true
+    go : (b : Bool) → (q == 0) ≡ b → is_watched (after_item (Item.PollOne q) (with_agenda items s)) ≡ true
     go true e = grind (arith, nat_tests, h, e)
     go false e = grind (arith, h, marks-other q false s.processes e)
 carried-watched Item.Deliver items s n k r h = grind (arith, h, carried-any is_etimer_poll Item.Deliver items s)

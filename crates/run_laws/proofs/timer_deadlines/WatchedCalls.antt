@@ -17,7 +17,7 @@ use Rattle.timer_core.specs.Timers.{is_due, stop_timer, set_timer, reset_timer, 
 use Rattle.device_core.specs.PacketQueue.{free_slot}
 use Rattle.kernel_core.specs.declared.config.Config.{Config}
 use Rattle.kernel_core.specs.Machine.{Machine, with_timers, mark}
-use Rattle.kernel_core.specs.Expiries.{strike_out}
+use Rattle.kernel_core.specs.Expiries.{expiries_cancelled}
 use Rattle.kernel_core.specs.Calls.{after_call, unless_refused, done, is_callback_timer, timer_refusal, callback_refusal, reset_refusal}
 use Rattle.kernel_core.specs.Inputs.{effect, frame_held, frame_refusal, held_unless_lost}
 use Rattle.kernel_core.specs.Run.{at_start}
@@ -65,7 +65,7 @@ watched-after (Call.TimerReset u) q m h =
 watched-after (Call.CallbackSet c interval) q m h = go (callback_refusal c)
   where
     go : (o : Option Refusal) → Watched (unless_refused o q m
-        (done q (mark 0 (strike_out (is_callback_timer q c) (with_timers (set_timer m.clock (callback_timer q c) interval m.timers) m)))))
+        (done q (mark 0 (expiries_cancelled (is_callback_timer q c) (with_timers (set_timer m.clock (callback_timer q c) interval m.timers) m)))))
     go (Some refusal) = watched-front (Item.Turn q Origin.Answer (Stimulus.Answer (Reply.Refused refusal)) ∷ []) m h
     go None =
         record {
@@ -81,7 +81,7 @@ watched-after (Call.TimerStop u) q m h = fewer (Call.TimerStop u) q m h (go (tim
 watched-after (Call.CallbackStop c) q m h = fewer (Call.CallbackStop c) q m h (go (callback_refusal c))
   where
     go : (o : Option Refusal)
-        → is_timer_due m.clock (unless_refused o q m (done q (strike_out (is_callback_timer q c) (with_timers (stop_timer (callback_timer q c) m.timers) m)))).timers ≡ true
+        → is_timer_due m.clock (unless_refused o q m (done q (expiries_cancelled (is_callback_timer q c) (with_timers (stop_timer (callback_timer q c) m.timers) m)))).timers ≡ true
         → is_timer_due m.clock m.timers ≡ true
     go (Some refusal) d = d
     go None d = any-filter (is_due m.clock m.timers) (λ other. not (is_timer (callback_timer q c) other)) m.timers.armed d

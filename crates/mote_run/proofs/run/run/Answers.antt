@@ -1,7 +1,7 @@
 use Rattle.std.proofs.Common.{◌≡◌, ◌∙◌, true, sym}
 use Rattle.kernel_core.specs.Machine.{is_bootable}
 use Rattle.run_laws.specs.RunLaws.{BlocksAreOwn, EventsArriveInOrder, ProcessesAreIsolated, TimersAreKept}
-use Rattle.mote_run.proofs.Shown.{boots_so, err_under, ok_under, shows}
+use Rattle.mote_run.proofs.Trace.{boots_so, err_under, ok_under, shows}
 use Rattle.mote_run.proofs.run.run.Goals as goal
 
 pub returns-clause-memory : goal.returns-clause-memory

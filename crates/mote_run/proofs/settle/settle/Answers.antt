@@ -1,5 +1,5 @@
 use Rattle.std.proofs.Common.{rules, refl}
-use Rattle.kernel_core.specs.Run.{entry_of}
+use Rattle.kernel_core.specs.Code.Steps.{entry_of}
 use Rattle.kernel_core.specs.declared.step.Step.{Step}
 use Rattle.mote_run.proofs.Pieces.{on_err}
 use Rattle.mote_run.proofs.Settling.{nothing_settled, settled_more, cut_off_at}

@@ -1,6 +1,6 @@
 use Rattle.std.proofs.Common.{rules, ◌≡◌, ◌∷◌, []}
 use Rattle.mote_text.specs.EntryText.{entry_line}
-use Rattle.kernel_core.specs.Run.{entry_of}
+use Rattle.kernel_core.specs.Code.Steps.{entry_of}
 use Rattle.mote_run.specs.Code.Settling.{lines}
 use Rattle.mote_run.proofs.settle.write_turn.Goals as goal
 

@@ -18,7 +18,7 @@ use Rattle.heap_core.proofs.Names.{named_with, count_none, map_none}
 use Rattle.heap_core.proofs.Places.{placed_more, has_same}
 use Rattle.heap_core.proofs.Resized.{resized_none}
 use Rattle.heap_core.proofs.heap.Heap.alloc.Goals as goal
-use Rattle.heap_core.proofs.heap.Heap.alloc.Goals.{After-join, After-settle}
+use Rattle.heap_core.proofs.heap.Heap.alloc.Goals.{After-join, After-put_block}
 
 -- the place that is found in the joined heap is that of the one before
 chosen : (c : After-join) (o : Option Place) → place c.args.n (store_of c.join.new.self c.join.new.arena.bytes) ≡ o → place c.args.n (heap_of c.args.self.now c.args.arena.now.bytes) ≡ o
@@ -27,12 +27,12 @@ chosen c o is =
     subst (λ (r : Region). place c.args.n (heap_of r c.args.arena.now.bytes) ≡ o) c.self.view_is (ap (place c.args.n) (sym same) ∙ is)
 
 -- the block was put there
-module _ (c : After-settle) where
+module _ (c : After-put_block) where
   abbrev new : Region
-  new = c.settle.new.self
+  new = c.put_block.new.self
 
   abbrev B' : List ℕ
-  B' = c.settle.new.arena.bytes
+  B' = c.put_block.new.arena.bytes
 
   abbrev store : HeapStore
   store = heap_of c.self.inside.region c.args.arena.now.bytes
@@ -41,16 +41,16 @@ module _ (c : After-settle) where
   block = block_at c.in_ok-place.place c.number_of-name.result (resized c.args.n [])
 
   none : new.freed ≡ 0
-  none = c.settle.ensures.kept.freed ∙ c.join.ensures.none
+  none = c.put_block.ensures.kept.freed ∙ c.join.ensures.none
 
   freed : FreedLinked new B'
   freed =
       let j = c.join.ensures in let heap = c.join.new.self in let B = c.join.new.arena.bytes in
-      freed_none heap new B B' j.joins.freed j.none c.settle.ensures.kept
-      (ap (λ (h : HeapStore). length (unnamed h.blocks)) c.settle.ensures.block ∙ placed_unnamed block (store_of heap B).blocks (lt-ltb c.number_of-name.result 272 c.number_of-name.ensures.within) ∙ j.joins.freed.all ∙ j.none)
+      freed_none heap new B B' j.joins.freed j.none c.put_block.ensures.kept
+      (ap (λ (h : HeapStore). length (unnamed h.blocks)) c.put_block.ensures.block ∙ placed_unnamed block (store_of heap B).blocks (lt-ltb c.number_of-name.result 272 c.number_of-name.ensures.within) ∙ j.joins.freed.all ∙ j.none)
 
   is : heap_of new B' ≡ with_block block store
-  is = plain new B' freed none ∙ c.settle.ensures.block ∙ ap (with_block block) (joined_is c.self.inside.region c.join.new.self c.args.arena.now c.join.new.arena c.join.ensures.joins c.join.ensures.none)
+  is = plain new B' freed none ∙ c.put_block.ensures.block ∙ ap (with_block block) (joined_is c.self.inside.region c.join.new.self c.args.arena.now c.join.new.arena c.join.ensures.joins c.join.ensures.none)
 
 pub returns-in_err-place-clause-refused : goal.returns-in_err-place-clause-refused
 returns-in_err-place-clause-refused c =
@@ -68,35 +68,35 @@ returns-clause-refused c =
 pub returns-clause-linked : goal.returns-clause-linked
 unfolding chunks_of
 returns-clause-linked c =
-    let k = (goal.at.returns-clause-linked c).After-settle in
-    linked_is c.settle.new.self c.settle.new.arena.bytes c.settle.ensures.chunks c.settle.ensures.gaps (freed k) (none k)
+    let k = (goal.at.returns-clause-linked c).After-put_block in
+    linked_is c.put_block.new.self c.put_block.new.arena.bytes c.put_block.ensures.chunks c.put_block.ensures.gaps (freed k) (none k)
 
 pub returns-clause-laid_out : goal.returns-clause-laid_out
 unfolding chunks_of
 returns-clause-laid_out c =
-    let k = (goal.at.returns-clause-laid_out c).After-settle in let f = freed k in let was = c.self.inside.region in let A = c.args.arena.now.bytes in let old = heap_of was A in let name = c.number_of-name.result in
+    let k = (goal.at.returns-clause-laid_out c).After-put_block in let f = freed k in let was = c.self.inside.region in let A = c.args.arena.now.bytes in let old = heap_of was A in let name = c.number_of-name.result in
     let laid : IsLaidOut was A = subst (λ (r : Region). IsLaidOut r A) (sym c.self.view_is) c.requires.laid_out in
     let unused : block_of c.args.key.0.0 c.args.key.1 old ≡ None = subst (λ (r : Region). block_of c.args.key.0.0 c.args.key.1 (heap_of r A) ≡ None) (sym c.self.view_is) c.requires.unused in
     let none : find (has_name name) old.blocks ≡ None =
     ap (λ k. find (has_name k) old.blocks) c.number_of-name.ensures.number ∙ map_none (λ (other : Block). other.bytes) (find (has_name (number_of c.args.key.0.0 c.args.key.1)) old.blocks) unused in
-    let place = c.in_ok-place.place in let bytes = resized c.args.n [] in let mid = heap_of c.settle.new.self c.settle.new.arena.bytes in
+    let place = c.in_ok-place.place in let bytes = resized c.args.n [] in let mid = heap_of c.put_block.new.self c.put_block.new.arena.bytes in
     record {
-      chunks = has_same c.settle.new.self _ c.settle.new.arena.bytes refl refl refl c.settle.ensures.chunks;
+      chunks = has_same c.put_block.new.self _ c.put_block.new.arena.bytes refl refl refl c.put_block.ensures.chunks;
       named = λ other. subst (λ (h : HeapStore). count other h.blocks ≤ 1) (sym (is k)) (named_with other (block_at place name bytes) old.blocks (count_none name old.blocks none) (laid.named other));
       places =
-          subst (λ places. ArePlaced (slice_set places name (Some place.at)) mid) (sym (c.settle.ensures.kept.places ∙ c.join.ensures.joins.places))
+          subst (λ places. ArePlaced (slice_set places name (Some place.at)) mid) (sym (c.put_block.ensures.kept.places ∙ c.join.ensures.joins.places))
           (placed_more was.places old mid place name bytes c.number_of-name.ensures.within none (is k) laid.places);
-      gaps = record { linked = c.settle.ensures.gaps.linked; count = c.settle.ensures.gaps.count };
+      gaps = record { linked = c.put_block.ensures.gaps.linked; count = c.put_block.ensures.gaps.count };
       freed = record { list = f.list; linked = f.linked; count = f.count; all = f.all };
     }
 
 pub returns-clause-block : goal.returns-clause-block
 unfolding chunks_of
 returns-clause-block c =
-    let k = (goal.at.returns-clause-block c).After-settle in let old = heap_of c.self.inside.region c.args.arena.now.bytes in let p = c.args.key.0.0 in let h = c.args.key.1 in let n = c.args.n in
+    let k = (goal.at.returns-clause-block c).After-put_block in let old = heap_of c.self.inside.region c.args.arena.now.bytes in let p = c.args.key.0.0 in let h = c.args.key.1 in let n = c.args.n in
     let put : Place → ℕ → HeapStore = λ target name. with_block (block_at target name (zeros n)) old in let target = c.in_ok-place.place in let name = c.number_of-name.result in
     let same = joined_is c.self.inside.region c.join.new.self c.args.arena.now c.join.new.arena c.join.ensures.joins c.join.ensures.none in
-    subst (λ (r : Region). allocated p h n (heap_of r c.args.arena.now.bytes) ≡ Some (heap_of c.settle.new.self c.settle.new.arena.bytes)) c.self.view_is
+    subst (λ (r : Region). allocated p h n (heap_of r c.args.arena.now.bytes) ≡ Some (heap_of c.put_block.new.self c.put_block.new.arena.bytes)) c.self.view_is
     (ap (option_map (λ target. put target (number_of p h))) (ap (place n) (sym same) ∙ sym c.in_ok-place.ensures)
     ∙ ap (λ name. Some (put target name)) (sym c.number_of-name.ensures.number)
     ∙ ap Some (sym (is k ∙ ap (λ bytes. with_block (block_at target name bytes) old) (resized_none n))))

@@ -5,7 +5,7 @@ use Rattle.arena_core.specs.Contents.{Contents}
 use Rattle.arena_core.specs.Outside.{ChangesOnly}
 use Rattle.arena_core.proofs.Ranges.{length-range, changes_only}
 use Rattle.heap_core.specs.Code.Walks.{bytes_given}
-use Rattle.heap_core.proofs.Told.{changes_then}
+use Rattle.heap_core.proofs.ChunkHeaders.{changes_then}
 use Rattle.heap_core.proofs.Resized.{copied_front, resized_copy, resized_none}
 use Rattle.heap_core.proofs.region.Region.give_bytes.Goals as goal
 

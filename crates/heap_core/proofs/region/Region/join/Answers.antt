@@ -8,7 +8,7 @@ use Rattle.heap_core.proofs.Callers.{KeepsToSpan-then}
 use Rattle.heap_core.proofs.Freed.{newest_is, none_newest, freed_moved, named_without, unnamed_without}
 use Rattle.heap_core.proofs.Places.{has_same}
 use Rattle.heap_core.proofs.Standing.{around}
-use Rattle.heap_core.proofs.Told.{place_told}
+use Rattle.heap_core.proofs.ChunkHeaders.{place_told}
 use Rattle.heap_core.proofs.region.Region.join.Goals as goal
 
 pub chunk_at-chunk-requires-clause-inside : goal.chunk_at-chunk-requires-clause-inside

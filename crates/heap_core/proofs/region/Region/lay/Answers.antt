@@ -12,7 +12,7 @@ use Rattle.heap_core.proofs.Lengths.{lengths}
 use Rattle.heap_core.proofs.Lists.{count_none, count_some, live_first, link_gap, link_live}
 use Rattle.heap_core.proofs.Splice.{laid_all, laid_some, left_over}
 use Rattle.heap_core.proofs.Steps.{ended}
-use Rattle.heap_core.proofs.Told.{told_le, chunk_frame, changes_then, changes_more, owner_some, owner_live}
+use Rattle.heap_core.proofs.ChunkHeaders.{told_le, chunk_frame, changes_then, changes_more, owner_some, owner_live}
 use Rattle.heap_core.proofs.region.Region.lay.Goals as goal
 use Rattle.heap_core.proofs.region.Region.lay.Goals.{After-put_chunk-2, then-next-end, else-next-end}
 

@@ -1,5 +1,5 @@
 use Rattle.std.proofs.Common.{◌+◌, sym, ◌∙◌, arith}
-use Rattle.heap_core.proofs.Told.{changes_more}
+use Rattle.heap_core.proofs.ChunkHeaders.{changes_more}
 use Rattle.heap_core.proofs.WrittenHeaders.{live_written, live_changes, free_written, free_changes}
 use Rattle.heap_core.proofs.region.Region.put_chunk.Goals as goal
 

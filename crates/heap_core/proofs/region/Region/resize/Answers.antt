@@ -13,7 +13,7 @@ use Rattle.heap_core.proofs.Callers.{KeepsToSpan-then}
 use Rattle.heap_core.proofs.Holes.{Room, Put, fits, into, put, own, own_end, own_room}
 use Rattle.heap_core.proofs.Lists.{gap_from_small, gaps_few, kept_then}
 use Rattle.heap_core.proofs.Places.{has_same}
-use Rattle.heap_core.proofs.Told.{changes_more}
+use Rattle.heap_core.proofs.ChunkHeaders.{changes_more}
 use Rattle.heap_core.proofs.region.Region.resize.Goals as goal
 use Rattle.heap_core.proofs.region.Region.resize.Goals.{After-gap_behind-gap, After-lay-first}
 

@@ -1,6 +1,6 @@
 use Rattle.std.proofs.Common.{◌+◌, refl, arith}
 use Rattle.heap_core.proofs.Freed.{owner_named, freed_small, newest_small, at, set_aside}
-use Rattle.heap_core.proofs.Told.{changes_more}
+use Rattle.heap_core.proofs.ChunkHeaders.{changes_more}
 use Rattle.heap_core.proofs.region.Region.set_aside.Goals as goal
 
 pub put_chunk-requires-clause-inside : goal.put_chunk-requires-clause-inside

@@ -1,5 +1,5 @@
 use Rattle.std.proofs.Common.{◌≡◌, false, suc, length}
-use Rattle.kernel_core.specs.Code.Draws.{debt}
+use Rattle.kernel_core.specs.Code.Draws.{drawn_in_all}
 use Rattle.kernel_core.specs.Code.View.{machine_of, IsServed}
 use Rattle.kernel_core.specs.Repeating.{times}
 use Rattle.kernel_core.specs.SerialProcess.{line_count, serve_line}
@@ -10,7 +10,7 @@ invariant-loop-line l = record {
   served : times (suc (line_count l.self.serial)) serve_line (machine_of l.self) ≡ times (suc (line_count l.fn.self.serial)) serve_line (machine_of l.fn.self);
   running : l.self.serial_waits ≡ false;
   kept : IsServed l.fn.self l.self;
-  draws : debt l.self ≡ debt l.fn.self;
+  draws : drawn_in_all l.self ≡ drawn_in_all l.fn.self;
 }
 
 abbrev pub decreases-loop-line : goal.decreases-loop-line

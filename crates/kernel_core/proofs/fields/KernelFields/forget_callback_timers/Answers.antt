@@ -1,11 +1,11 @@
 use Rattle.std.proofs.Common.{ap, ◌∙◌, ℕ, Bool, ◌≡◌, Some, rules}
 use Rattle.std.specs.Prelude.{◌==◌}
-use Rattle.kernel_core.specs.Expiries.{strike_out}
+use Rattle.kernel_core.specs.Expiries.{expiries_cancelled}
 use Rattle.kernel_core.specs.TimerProcesses.{exited_application}
 use Rattle.kernel_core.specs.Machine.{with_timers}
 use Rattle.kernel_core.specs.Code.View.{machine_of}
 use Rattle.kernel_core.specs.declared.fields.KernelFields.{KernelFields}
-use Rattle.kernel_core.proofs.Fitness.{renewed_all, struck_machine}
+use Rattle.kernel_core.proofs.Fitness.{renewed_all, cancelled_machine}
 use Rattle.kernel_core.proofs.fields.KernelFields.forget_callback_timers.Goals as goal
 
 pub returns-in-Some-clause-machine : goal.returns-in-Some-clause-machine
@@ -13,7 +13,7 @@ returns-in-Some-clause-machine c =
     let k : KernelFields = c.args.self.now in
     let p : ℕ = c.in-Some.pid.0 in
     let test : ℕ → ℕ → Bool = λ q d. q == p in
-    let renewed = renewed_all p k.timers.armings c.forget_callbacks.new.self.armings c.forget_callbacks.ensures.struck c.forget_callbacks.ensures.others in
-    let s = struck_machine test k c.forget_callbacks.new.self renewed c.requires.events in
+    let renewed = renewed_all p k.timers.armings c.forget_callbacks.new.self.armings c.forget_callbacks.ensures.cancelled c.forget_callbacks.ensures.others in
+    let s = cancelled_machine test k c.forget_callbacks.new.self renewed c.requires.events in
     let e : exited_application c.args.payload.now ≡ Some p = search rules in
-    rw e (s ∙ ap (λ t. strike_out test (with_timers t (machine_of k))) (ap (λ t. t.timers) c.forget_callbacks.ensures.changed))
+    rw e (s ∙ ap (λ t. expiries_cancelled test (with_timers t (machine_of k))) (ap (λ t. t.timers) c.forget_callbacks.ensures.changed))

@@ -5,7 +5,7 @@ use Rattle.kernel_core.proofs.fields.KernelFields.kill.Goals as goal
 pub returns-in-Ok-clause-kept : goal.returns-in-Ok-clause-kept
 returns-in-Ok-clause-kept c =
     record {
-      worked = search rules;
+      after_front = search rules;
       left = search rules;
       turn = search rules;
       events = search rules;

@@ -1,5 +1,5 @@
-use Rattle.process_core.specs.SchedulerView.{job_of}
-use Rattle.process_core.specs.Told.{job_told}
+use Rattle.process_core.specs.Code.SchedulerView.{job_of}
+use Rattle.process_core.specs.Code.NextJobs.{job_told}
 use Rattle.kernel_core.proofs.Reaching.{fields_reach}
 use Rattle.std.proofs.Common.{arith}
 use Rattle.kernel_core.proofs.Drawing.{job_is_fit}

@@ -1,5 +1,5 @@
 use Rattle.std.proofs.Common.{◌≡◌, ◌-◌, length}
-use Rattle.kernel_core.specs.Code.Draws.{debt}
+use Rattle.kernel_core.specs.Code.Draws.{drawn_in_all}
 use Rattle.kernel_core.specs.Code.View.{machine_of, IsServed}
 use Rattle.kernel_core.specs.Machine.{free_places}
 use Rattle.kernel_core.specs.Repeating.{times}
@@ -10,7 +10,7 @@ abbrev pub invariant-loop-self : goal.invariant-loop-self
 invariant-loop-self l = record {
   posted : times (free_places (machine_of l.self)) post_first_due (machine_of l.self) ≡ times (free_places (machine_of l.fn.self)) post_first_due (machine_of l.fn.self);
   kept : IsServed l.fn.self l.self;
-  draws : debt l.self ≡ debt l.fn.self;
+  draws : drawn_in_all l.self ≡ drawn_in_all l.fn.self;
 }
 
 abbrev pub decreases-loop-self : goal.decreases-loop-self

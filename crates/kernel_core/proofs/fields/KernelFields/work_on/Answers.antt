@@ -2,7 +2,7 @@ use Rattle.std.proofs.Common.{◌≡◌, Bool, true, false, rules, refl, arith, 
 use Rattle.kernel_core.proofs.Reaching.{then_job, job_makes, job_silently}
 use Rattle.kernel_core.proofs.Costs.{costs-cons}
 use Rattle.kernel_core.specs.Code.Cost.{present}
-use Rattle.kernel_core.specs.Code.View.{is_struck}
+use Rattle.kernel_core.specs.Code.View.{is_cancelled}
 use Rattle.kernel_core.specs.declared.fields.KernelFields.{KernelFields}
 use Rattle.process_core.specs.Agenda.{Item}
 use Rattle.mote_types.specs.declared.event.Origin.{Origin}
@@ -34,15 +34,15 @@ job-preserved-in-Serve g c = record {
       omega (arith, paid.1, c.serve_told.ensures.kept.present, c.job.invariant.present);
 }
 
--- an expiry was struck out or not
+-- an expiry was cancelled or not
 either : {X : Type 0} (b : Bool) → (b ≡ true → X) → (b ≡ false → X) → X
 either true if_true if_false = if_true refl
 either false if_true if_false = if_false refl
 
 pub job-preserved-in-Callback : goal.job-preserved-in-Callback
 job-preserved-in-Callback g c =
-    either (is_struck c.next_job.new.self.timers.armings c.in-Callback.pid.0 c.in-Callback.number c.in-Callback.arming)
-    (λ struck. rw (c.expire.ensures.struck_out struck) record {
+    either (is_cancelled c.next_job.new.self.timers.armings c.in-Callback.pid.0 c.in-Callback.number c.in-Callback.arming)
+    (λ cancelled. rw (c.expire.ensures.cancelled cancelled) record {
       order = search rules;
       running = search rules;
       nothing_shown = search rules;
@@ -52,7 +52,7 @@ job-preserved-in-Callback g c =
       apps = search rules;
       other = search rules;
       left = search rules;
-      so_far = λ answers. job_silently (then_job (c.job.invariant.so_far answers) (c.in-Callback.ensures.reached answers)) (search (struck, rules));
+      so_far = λ answers. job_silently (then_job (c.job.invariant.so_far answers) (c.in-Callback.ensures.reached answers)) (search (cancelled, rules));
       present = search rules;
     })
     (λ counts. rw (c.expire.ensures.given counts) record {
@@ -105,6 +105,6 @@ job-smaller-in-Callback g c =
     let paid = c.in-Callback.ensures.paid bound c.job.invariant.present in
     let cons = costs-cons bound (Item.Give c.in-Callback.pid.0 Origin.Callback (Stimulus.Callback c.in-Callback.number)) c.next_job.new.self.scheduler.state.agenda in
     let same : c.next_job.new.self.work ≡ c.job.self.work = search rules in
-    either (is_struck c.next_job.new.self.timers.armings c.in-Callback.pid.0 c.in-Callback.number c.in-Callback.arming)
-    (λ struck. rw (c.expire.ensures.struck_out struck, same) (omega (arith, paid.0)))
+    either (is_cancelled c.next_job.new.self.timers.armings c.in-Callback.pid.0 c.in-Callback.number c.in-Callback.arming)
+    (λ cancelled. rw (c.expire.ensures.cancelled cancelled, same) (omega (arith, paid.0)))
     (λ counts. rw (c.expire.ensures.given counts, cons, same) (omega (arith, paid.0)))

@@ -1,6 +1,7 @@
 use Rattle.std.proofs.Common.{◌≡◌, ◌≤◌, ◌*◌, ◌-◌, ◌+◌, false}
-use Rattle.kernel_core.specs.Code.View.{machine_of, none_unshown, entries_left_in, IsInOrder}
-use Rattle.kernel_core.specs.Run.{Answers, GoesSilently, work_limit}
+use Rattle.kernel_core.specs.Code.View.{machine_of, no_pending_entries, entries_left_in, IsInOrder}
+use Rattle.kernel_core.specs.Run.{Answers, work_limit}
+use Rattle.kernel_core.specs.Code.Steps.{GoesSilently}
 use Rattle.kernel_core.specs.Code.Cost.{present, costs, round_cost}
 use Rattle.kernel_core.proofs.fields.KernelFields.work_on.Given as goal
 
@@ -8,7 +9,7 @@ abbrev pub invariant-job : goal.invariant-job
 invariant-job g l = record {
   order : IsInOrder l.self;
   running : l.self.halted ≡ false;
-  nothing_shown : l.self.unshown ≡ none_unshown;
+  nothing_shown : l.self.pending ≡ no_pending_entries;
   inputs : l.self.inputs ≡ l.fn.self.inputs;
   applications : l.self.scheduler.state.applications ≡ l.fn.self.scheduler.state.applications;
   clock : l.self.clock ≡ l.fn.self.clock;

@@ -1,6 +1,6 @@
 use Rattle.std.proofs.Common.{rules, refl, ◌≡◌}
 use Rattle.node_memory.specs.Memory.{fresh_memory}
-use Rattle.process_core.specs.SchedulerView.{awaiting_nothing}
+use Rattle.process_core.specs.Code.SchedulerView.{awaiting_nothing}
 use Rattle.process_core.specs.Scheduler.{at_boot}
 use Rattle.timer_core.specs.Timers.{no_timers}
 use Rattle.kernel_core.specs.Machine.{sizes_of}
@@ -8,7 +8,7 @@ use Rattle.std.specs.List.{range_with_len}
 use Rattle.device_core.specs.PacketQueue.{no_packets}
 use Rattle.device_core.specs.SerialLine.{quiet_line}
 use Rattle.kernel_core.proofs.FrameBlocks.{no_frames}
-use Rattle.kernel_core.specs.Code.View.{none_unshown}
+use Rattle.kernel_core.specs.Code.View.{no_pending_entries}
 use Rattle.kernel_core.proofs.Drawing.{draws-starts}
 use Rattle.kernel_core.proofs.kernel.Kernel.boot.Goals as goal
 
@@ -34,8 +34,8 @@ pub returns-clause-booted : goal.returns-clause-booted
 returns-clause-booted c =
     let memory : c.in_ok-memory.memory.contents ≡ fresh_memory (sizes_of c.args.config) = rw c.sizes.ensures at c.in_ok-memory.ensures.fresh in
     let packets : c.new-5.result ≡ no_packets = search rules in
-    let unshown : c.none.result ≡ none_unshown = search rules in
+    let pending : c.none.result ≡ no_pending_entries = search rules in
     let serial : c.in_ok-serial.serial ≡ quiet_line = search rules in
     let scheduler : c.in_ok-scheduler.scheduler ≡ awaiting_nothing (at_boot c.args.config.apps) = search rules in
     let timers : c.new-4.result.timers ≡ no_timers = search rules in
-    (rw memory (rw scheduler (rw timers (rw serial (rw packets (rw unshown refl))))), refl)
+    (rw memory (rw scheduler (rw timers (rw serial (rw packets (rw pending refl))))), refl)

@@ -6,7 +6,7 @@ use Rattle.mote_types.specs.BlockNames.{number_of}
 use Rattle.mmem_core.specs.declared.place.Place.{Place}
 use Rattle.mmem_core.specs.ManagedStore.{ManagedStore, unused}
 use Rattle.mmem_core.specs.Places.{place_in, last_end, bytes_moved}
-use Rattle.mmem_core.specs.Table.{Table, store_of, region_of}
+use Rattle.mmem_core.specs.HandleTable.{HandleTable, store_of, region_of}
 use Rattle.mmem_core.proofs.PlaceLemmas.{begins_behind, bytes_moved-added, bytes_moved-same}
 use Rattle.mmem_core.proofs.StoreLemmas.{no_place, get_or-blocks, block_in, unused-added}
 use Rattle.mmem_core.proofs.mmem.Mmem.alloc.Goals as goal
@@ -18,7 +18,7 @@ returns-then-avail-size-clause-refused c =
 
 pub returns-then-avail-size-clause-slid : goal.returns-then-avail-size-clause-slid
 returns-then-avail-size-clause-slid c =
-    let slid = ap (λ (t : Table). t.slid) c.self.view_is in
+    let slid = ap (λ (t : HandleTable). t.slid) c.self.view_is in
     omega (arith, slid, bytes_moved-same c.args.self.now.places)
 
 pub returns-then-avail-size-clause-still : goal.returns-then-avail-size-clause-still
@@ -61,7 +61,7 @@ returns-clause-together c moved =
     let before : last_end middle.places + unused (store_of middle c.make_room.new.arena.bytes) ≤ middle.span.len = c.make_room.ensures.together (omega (arith, same, moved)) in
     let store = store_of middle c.make_room.new.arena.bytes in
     let count : length c.self.inside.places ≡ 272 = search rules in
-    let names = ap (λ (t : Table). length t.places) c.self.view_is in
+    let names = ap (λ (t : HandleTable). length t.places) c.self.view_is in
     let below : i < length (store_of old bytes).blocks =
     omega (arith, c.requires.named.0, c.requires.named.1, c.requires.named.2, count, names, length-map old.places (block_in (region_of old bytes))) in
     let below' : i < length store.blocks = subst (λ (s : ManagedStore). i < length s.blocks) (sym c.make_room.ensures.blocks) below in
@@ -82,7 +82,7 @@ returns-clause-behind c =
     let none = no_place region (place_in middle.places i) (sym (get_or-blocks region middle.places i) ∙ unused') in
     let same = ap (λ (s : ManagedStore). length s.blocks) c.make_room.ensures.blocks in
     let count : length c.self.inside.places ≡ 272 = search rules in
-    let names = ap (λ (t : Table). length t.places) c.self.view_is in
+    let names = ap (λ (t : HandleTable). length t.places) c.self.view_is in
     let before = length-map old.places (block_in (region_of old bytes)) in
     let after = length-map middle.places (block_in region) in
     let below : i < length middle.places = omega (arith, c.requires.named.0, c.requires.named.1, c.requires.named.2, count, names, same, before, after) in

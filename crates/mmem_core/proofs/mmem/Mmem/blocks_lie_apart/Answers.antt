@@ -1,12 +1,12 @@
 use Rattle.std.proofs.Common.{sym, subst}
 use Rattle.mmem_core.specs.Separation.{BlocksLieApart}
-use Rattle.mmem_core.specs.Table.{Table, IsWithin}
+use Rattle.mmem_core.specs.HandleTable.{HandleTable, IsWithin}
 use Rattle.mmem_core.proofs.Apart.{blocks_apart}
 use Rattle.mmem_core.proofs.mmem.Mmem.blocks_lie_apart.Goals as goal
 
 pub returns : goal.returns
 returns c bytes within =
     let m = c.self.inside in let lie = c.self.invariant.1 in
-    let here = subst (λ (t : Table). IsWithin t bytes) (sym c.self.view_is) within in
-    subst (λ (t : Table). BlocksLieApart t bytes) c.self.view_is
+    let here = subst (λ (t : HandleTable). IsWithin t bytes) (sym c.self.view_is) within in
+    subst (λ (t : HandleTable). BlocksLieApart t bytes) c.self.view_is
     (blocks_apart m.span m.quotas m.places m.slid lie bytes here)

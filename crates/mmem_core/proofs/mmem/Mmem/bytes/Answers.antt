@@ -2,14 +2,14 @@ use Rattle.std.proofs.Common.{◌≡◌, Some, sym, ap, subst, ◌∙◌}
 use Rattle.mote_types.specs.BlockNames.{number_of}
 use Rattle.mmem_core.specs.ManagedStore.{block_of}
 use Rattle.mmem_core.specs.Places.{place_in}
-use Rattle.mmem_core.specs.Table.{Table, store_of, IsWithin}
+use Rattle.mmem_core.specs.HandleTable.{HandleTable, store_of, IsWithin}
 use Rattle.mmem_core.proofs.TableLemmas.{block_is}
 use Rattle.mmem_core.proofs.mmem.Mmem.bytes.Goals as goal
 
 pub returns : goal.returns
 returns c =
     let m = c.self.inside in let lie = c.self.invariant.1 in let bytes = c.args.arena.now.bytes in let i = number_of c.args.key.0.0 c.args.key.1 in
-    let here = subst (λ (t : Table). IsWithin t bytes) (sym c.self.view_is) c.requires.within in
+    let here = subst (λ (t : HandleTable). IsWithin t bytes) (sym c.self.view_is) c.requires.within in
     let live : place_in m.places i ≡ Some c.unwrap-place.result = cc (c.unwrap-place.ensures, c.number_of.ensures.number) in
-    subst (λ (t : Table). block_of c.args.key.0.0 c.args.key.1 (store_of t bytes) ≡ Some c.bytes.result.now) c.self.view_is
+    subst (λ (t : HandleTable). block_of c.args.key.0.0 c.args.key.1 (store_of t bytes) ≡ Some c.bytes.result.now) c.self.view_is
     (block_is m.span m.quotas m.places m.slid lie bytes here i c.unwrap-place.result live ∙ ap Some (sym c.bytes.ensures))

@@ -3,7 +3,7 @@ use Rattle.mmem_core.specs.ManagedStore.{freed}
 use Rattle.mote_types.specs.BlockNames.{number_of}
 use Rattle.mmem_core.specs.Places.{place_in, bytes_moved}
 use Rattle.mmem_core.specs.Code.Laid.{room_of, IsLaidOut}
-use Rattle.mmem_core.specs.Table.{Table, store_of, IsWithin}
+use Rattle.mmem_core.specs.HandleTable.{HandleTable, store_of, IsWithin}
 use Rattle.mmem_core.proofs.RingLemmas.{parted}
 use Rattle.mmem_core.proofs.PlaceLemmas.{IsLaidOut-freed, LieApart-from, bytes_moved-freed}
 use Rattle.mmem_core.proofs.Shares.{freed_shared, room_le_taken}
@@ -32,22 +32,22 @@ invariant_of-self c =
 pub returns-clause-block : goal.returns-clause-block
 returns-clause-block c =
     let m = c.self.inside in let bytes = c.args.arena.now.bytes in let number = c.number_of-number.result in
-    let here = subst (λ (t : Table). IsWithin t bytes) (sym c.self.view_is) c.requires.within in
-    let result : Table = record { span = m.span; quotas = m.quotas; places = slice_set m.places number None; slid = m.slid } in
-    subst (λ (t : Table). store_of result bytes ≡ freed c.args.key.0.0 c.args.key.1 (store_of t bytes)) c.self.view_is
+    let here = subst (λ (t : HandleTable). IsWithin t bytes) (sym c.self.view_is) c.requires.within in
+    let result : HandleTable = record { span = m.span; quotas = m.quotas; places = slice_set m.places number None; slid = m.slid } in
+    subst (λ (t : HandleTable). store_of result bytes ≡ freed c.args.key.0.0 c.args.key.1 (store_of t bytes)) c.self.view_is
     (taken_away m.span m.quotas m.places m.slid c.self.invariant.1 bytes here m.slid number
     ∙ ap (λ i. with_slot i None (store_of (record { span = m.span; quotas = m.quotas; places = m.places; slid = m.slid }) bytes)) c.number_of-number.ensures.number)
 
 pub returns-clause-slid : goal.returns-clause-slid
 returns-clause-slid c =
     let m = c.self.inside in let number = c.number_of-number.result in
-    subst (λ (t : Table). m.slid ≡ min (t.slid + bytes_moved t.places (slice_set m.places number None)) (2 ^ 64 - 1)) c.self.view_is
+    subst (λ (t : HandleTable). m.slid ≡ min (t.slid + bytes_moved t.places (slice_set m.places number None)) (2 ^ 64 - 1)) c.self.view_is
     (omega (arith, bytes_moved-freed m.places number))
 
 pub returns-clause-still : goal.returns-clause-still
 returns-clause-still c =
     let m = c.self.inside in let number = c.number_of-number.result in
-    (subst (λ (t : Table). bytes_moved t.places (slice_set m.places number None) ≡ 0) c.self.view_is (bytes_moved-freed m.places number), refl)
+    (subst (λ (t : HandleTable). bytes_moved t.places (slice_set m.places number None) ≡ 0) c.self.view_is (bytes_moved-freed m.places number), refl)
 
 pub overflow_sub-self-2 : goal.overflow_sub-self-2
 overflow_sub-self-2 c =

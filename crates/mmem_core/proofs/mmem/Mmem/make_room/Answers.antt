@@ -1,11 +1,11 @@
 use Rattle.std.proofs.Common.{ap, arith}
-use Rattle.mmem_core.specs.Table.{Table}
+use Rattle.mmem_core.specs.HandleTable.{HandleTable}
 use Rattle.mmem_core.proofs.PlaceLemmas.{bytes_moved-same}
 use Rattle.mmem_core.proofs.mmem.Mmem.make_room.Goals as goal
 
 pub returns-else-self-end-clause-slid : goal.returns-else-self-end-clause-slid
 returns-else-self-end-clause-slid c =
-    let slid = ap (λ (t : Table). t.slid) c.self.view_is in
+    let slid = ap (λ (t : HandleTable). t.slid) c.self.view_is in
     omega (arith, slid, bytes_moved-same c.args.self.now.places)
 
 pub returns-else-self-end-clause-still : goal.returns-else-self-end-clause-still

@@ -1,5 +1,5 @@
 use Rattle.std.proofs.Common.{◌≡◌, ◌+◌, ◌-◌, ◌^◌, min, sym, ap, ◌∙◌, subst, arith, rules}
-use Rattle.mmem_core.specs.Table.{Table, IsWithin}
+use Rattle.mmem_core.specs.HandleTable.{HandleTable, IsWithin}
 use Rattle.mmem_core.proofs.Sliding.{IsMidway, midway_first, is_live, down, inside, some_room, midway_more, slid_sound, slid_apart, slid_shared, room_behind}
 use Rattle.mmem_core.proofs.PlaceLemmas.{len_le_room}
 use Rattle.mmem_core.proofs.mmem.Mmem.slide_together.Goals as goal
@@ -7,7 +7,7 @@ use Rattle.mmem_core.proofs.mmem.Mmem.slide_together.Goals as goal
 pub loop-next-init : goal.loop-next-init
 loop-next-init c =
     let m = c.self.inside in
-    let here = subst (λ (t : Table). IsWithin t c.args.arena.now.bytes) (sym c.self.view_is) c.requires in
+    let here = subst (λ (t : HandleTable). IsWithin t c.args.arena.now.bytes) (sym c.self.view_is) c.requires in
     midway_first m c.args.arena.now c.first-next.result c.self.invariant.0 (search rules) c.self.invariant.2 (search rules) here c.first-next.ensures.number c.first-next.ensures.within
 
 pub unwrap-place-requires : goal.unwrap-place-requires

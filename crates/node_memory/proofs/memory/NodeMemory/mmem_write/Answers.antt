@@ -2,7 +2,7 @@ use Rattle.std.proofs.Common.{rules, ap, ◌∙◌}
 use Rattle.std.specs.Prelude.{Some}
 use Rattle.mote_types.specs.Bytes.{overwritten}
 use Rattle.mmem_core.specs.ManagedStore.{bytes_of, with_bytes}
-use Rattle.mmem_core.specs.Table.{store_of}
+use Rattle.mmem_core.specs.HandleTable.{store_of}
 use Rattle.node_memory.specs.Memory.{with_managed}
 use Rattle.node_memory.specs.Placed.{PlacedMemory}
 use Rattle.node_memory.proofs.LaidOut.{after-managed, managed-changed}

@@ -1,7 +1,7 @@
 use Rattle.std.proofs.Common.{rules, subst, ◌≡◌, ◌≤◌, ◌+◌, ap, ◌∙◌, ℕ, List, map, Option, Some, None, arith}
 use Rattle.std.specs.Option.{option_map_or}
 use Rattle.mmem_core.specs.ManagedStore.{ManagedStore, empty_store}
-use Rattle.mmem_core.specs.Table.{store_of}
+use Rattle.mmem_core.specs.HandleTable.{store_of}
 use Rattle.heap_core.specs.HeapStore.{HeapStore, empty_heap}
 use Rattle.heap_core.specs.HeapBytes.{heap_of}
 use Rattle.node_memory.specs.Code.Layout.{LieBehind, end_of}

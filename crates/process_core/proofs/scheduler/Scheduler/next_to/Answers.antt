@@ -1,10 +1,10 @@
 use Rattle.std.proofs.Common.{Some}
 use Rattle.process_core.specs.Code.SchedulerFields.{scheduler_behind, scheduler_of, HoldsEvent, IsInOrder}
 use Rattle.process_core.specs.Scheduler.{ComesTo}
-use Rattle.process_core.specs.SchedulerView.{job_of}
-use Rattle.process_core.specs.Told.{job_told}
+use Rattle.process_core.specs.Code.SchedulerView.{job_of}
+use Rattle.process_core.specs.Code.NextJobs.{job_told}
 use Rattle.process_core.proofs.Order.{behind_is_all}
-use Rattle.process_core.proofs.Rest.{applications_from_comes_to, idle_from_rest, served_below, unshown}
+use Rattle.process_core.proofs.Rest.{applications_from_comes_to, idle_from_rest, served_below, nothing_shown}
 use Rattle.process_core.proofs.Yields.{yields_after}
 use Rattle.process_core.proofs.scheduler.Scheduler.next_to.Goals as goal
 use Rattle.process_core.proofs.scheduler.Scheduler.next_to.Goals.{in-Some, in-None}
@@ -58,4 +58,4 @@ returns-clause-applications c =
 pub returns-clause-standing : goal.returns-clause-standing
 returns-clause-standing c =
     let order = in_order c in
-    record { few = order.few; mote = order.sound.mote; distinct = c.each_is_once.ensures; unshown = unshown c.match-take_front.self-inside.fields }
+    record { few = order.few; mote = order.sound.mote; distinct = c.each_is_once.ensures; nothing_shown = nothing_shown c.match-take_front.self-inside.fields }

@@ -1,6 +1,6 @@
 use Rattle.std.proofs.Common.{◌≡◌, true, false, ◌&&◌, refl, sym, ◌∙◌, ap}
 use Rattle.std.specs.Prelude.{not}
-use Rattle.process_core.specs.KernelReceivers.{is_other_than}
+use Rattle.process_core.specs.Code.KernelReceivers.{is_other_than}
 use Rattle.process_core.specs.Processes.{is_any_marked}
 use Rattle.process_core.specs.Code.Walks.{receiver_is_next}
 use Rattle.process_core.proofs.KernelReceivers.{passed, none_passed, and_false}

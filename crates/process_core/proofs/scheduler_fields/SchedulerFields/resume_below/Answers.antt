@@ -1,6 +1,6 @@
 use Rattle.std.proofs.Common.{◌≡◌, [], drop, length, sym, ap, arith, Some}
-use Rattle.process_core.specs.SchedulerView.{job_of}
-use Rattle.process_core.specs.Told.{job_told}
+use Rattle.process_core.specs.Code.SchedulerView.{job_of}
+use Rattle.process_core.specs.Code.NextJobs.{job_told}
 use Rattle.process_core.specs.Code.SchedulerFields.{scheduler_behind}
 use Rattle.process_core.specs.Code.Walks.{from_marked}
 use Rattle.process_core.proofs.Below.{polls_yield, polls_end}

@@ -1,13 +1,13 @@
 use Rattle.std.proofs.Common.{arith, refl, false, []}
-use Rattle.process_core.specs.declared.frame.Frame.{Frame}
+use Rattle.process_core.specs.declared.open_work.Continuation.{Continuation}
 use Rattle.process_core.proofs.Order.{pushed, room_below, order_removed, order_exiting}
 use Rattle.process_core.proofs.scheduler_fields.SchedulerFields.resume_leave.Goals as goal
 
 pub push-requires : goal.push-requires
-push-requires c = omega (arith, room_below c.args.self.now (Frame.Leave c.args.pid c.args.walk c.args.exits) c.requires.order)
+push-requires c = omega (arith, room_below c.args.self.now (Continuation.Leave c.args.pid c.args.walk c.args.exits) c.requires.order)
 
 pub push-requires-in-None : goal.push-requires-in-None
-push-requires-in-None c = omega (arith, room_below c.args.self.now (Frame.Leave c.args.pid c.args.walk c.args.exits) c.requires.order)
+push-requires-in-None c = omega (arith, room_below c.args.self.now (Continuation.Leave c.args.pid c.args.walk c.args.exits) c.requires.order)
 
 pub returns-then-not-exits-clause-order : goal.returns-then-not-exits-clause-order
 returns-then-not-exits-clause-order c =
@@ -15,7 +15,7 @@ returns-then-not-exits-clause-order c =
 
 pub returns-else-not-exits-clause-yields : goal.returns-else-not-exits-clause-yields
 returns-else-not-exits-clause-yields c =
-    rw (c.plain_event.ensures, c.set_state.ensures, c.push-in-None.ensures.items, c.in-None.ensures.1, pushed c.args.self.now.stack.items (Frame.Leave c.args.pid [] false), c.in-None.ensures.0, c.if-not-exits.false)
+    rw (c.plain_event.ensures, c.set_state.ensures, c.push-in-None.ensures.items, c.in-None.ensures.1, pushed c.args.self.now.stack.items (Continuation.Leave c.args.pid [] false), c.in-None.ensures.0, c.if-not-exits.false)
     (1, refl, refl)
 
 pub returns-else-not-exits-clause-order : goal.returns-else-not-exits-clause-order

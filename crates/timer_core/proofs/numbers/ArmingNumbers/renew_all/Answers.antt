@@ -3,8 +3,8 @@ use Rattle.timer_core.specs.Code.Numbered.{IsNumbered}
 use Rattle.timer_core.proofs.ArmingLemmas.{all_renumbered_strikes, all_renumbered_others}
 use Rattle.timer_core.proofs.numbers.ArmingNumbers.renew_all.Goals as goal
 
-pub returns-clause-struck : goal.returns-clause-struck
-returns-clause-struck c = λ d arming number earlier.
+pub returns-clause-cancelled : goal.returns-clause-cancelled
+returns-clause-cancelled c = λ d arming number earlier.
     let numbered : IsNumbered c.args.self.now = rw (← c.self.view_is) c.self.invariant in
     let last : c.loop-number.number ≡ 4 = omega arith in
     rw (c.loop-number.invariant.so_far, last)

@@ -1,0 +1,342 @@
+//! The steps of a call that change which chunks there are.
+
+ghost use Rattle.std.specs.Prelude.{◌≡◌, ◌≢◌, ◌+◌, ◌-◌, length, ◌≤◌, ◌<◌, true, Some, None, IfSome, IfNone, OnSome};
+ghost use Rattle.std.specs.Option.{option_map};
+ghost use Rattle.mote_types.specs.Bytes.{resized};
+ghost use Rattle.heap_core.specs.HeapStore.{place, with_block, block_at, room_in_place};
+ghost use Rattle.heap_core.specs.Chunks.{is_a_name};
+ghost use Rattle.heap_core.specs.FreeList.{Stands, LiveIn, LinkedTo, gaps_among, GapsLinked, FreedLinked};
+ghost use Rattle.heap_core.specs.Code.Walks.{Owned, free_from, front_gap, chunks_before, chunks_behind, bytes_given, without_place, place_in_chunk, at_place, bytes_in_chunk};
+
+use crate::chunk::{Chunk, FREED, FreeEnd, Place, gap_count};
+use crate::region::Region;
+use arena_core::Arena;
+
+impl Region {
+    ghost use Rattle.heap_core.specs.declared.chunk.Chunk.{Chunk as OfChunks};
+    ghost use Rattle.heap_core.specs.Layout.{chunks_of, store_of, HasChunks};
+    ghost use Rattle.heap_core.specs.Code.Links.{gap_count, gap_below, gap_from, LinkChanged, Cleared, KeepsFreed};
+    ghost use Rattle.heap_core.specs.Code.Holes.{Hole, Fits, Laid, Free};
+    ghost use Rattle.heap_core.specs.HeapBytes.{heap_of, KeepsToSpan};
+    ghost use Rattle.heap_core.specs.Code.Joins.{Changed, Aside, Joins};
+
+    /// Writes a live chunk's header at the front of the free bytes up to `end`. What it leaves of them becomes a gap, which is
+    /// linked to the next one, or a part of the top gap. Answers the place of the gap that the one before is to be linked to.
+    fn lay(&mut self, arena: &mut Arena, live: Chunk, end: u32, link: Option<u32>) -> Option<u32>
+        requires hole { Hole self.old arena.old.bytes live.at end }
+        requires fits { Fits self.old live end }
+        requires link { IfSome link (λ place. place < 65536) }
+        requires few { self.old.gaps < 65535 }
+        ensures laid { (hole : Hole self.old arena.old.bytes live.at end) → Laid self.old self.new arena.old.bytes arena.new.bytes live hole.before hole.behind result link }
+        ensures kept { KeepsFreed self.old self.new }
+        ensures lowest { self.new.lowest ≡ self.old.lowest }
+        ensures first { IfSome result (λ place. place < 65536) }
+        ensures rest { KeepsToSpan self.old self.new arena.old arena.new }
+    {
+        let next = live.at + live.len;
+        if end == self.footprint {
+            self.footprint = next;
+            self.put_chunk(arena, live);
+            return link;
+        }
+        self.gaps += gap_count(end - next);
+        let first = if next < end {
+            self.put_chunk(
+                arena,
+                Chunk {
+                    at: next,
+                    len: end - next,
+                    owner: None,
+                    size: 0,
+                    link,
+                },
+            );
+            Some(next)
+        } else {
+            link
+        };
+        self.put_chunk(arena, live);
+        first
+    }
+
+    /// Links the highest gap below a place, if there is one, to the gap that is the next one now.
+    pub(crate) fn link_below(
+        &mut self,
+        arena: &mut Arena,
+        before: Option<Chunk>,
+        first: Option<u32>,
+    )
+        requires chunks { HasChunks self.old arena.old.bytes }
+        requires before { IfSome before (λ gap. Stands gap (chunks_of self.old arena.old.bytes) × (gap.owner ≡ None)) }
+        requires first { IfSome first (λ place. place < 65536) }
+        ensures relinked { LinkChanged self.old self.new arena.old.bytes arena.new.bytes before first }
+        ensures kept { KeepsFreed self.old self.new }
+        ensures rest { KeepsToSpan self.old self.new arena.old arena.new }
+    {
+        match before {
+            Some(gap) => self.put_chunk(arena, Chunk { link: first, ..gap }),
+            None => self.lowest = first,
+        }
+    }
+
+    /// Where the bytes end that are free from a place on that was found for a block, and which gap comes next.
+    fn free_end(&self, arena: &Arena, target: Place, n: u32) -> FreeEnd
+        requires chunks { HasChunks self.now arena.now.bytes }
+        requires linked { LinkedTo self.now.lowest (chunks_of self.now arena.now.bytes) None }
+        requires place { place n (store_of self.now arena.now.bytes) ≡ Some target }
+        requires some { 1 ≤ n }
+        ensures free { Free self.now arena.now.bytes target result.at }
+        ensures along { target.at ≤ result.at }
+        ensures link { result.link ≡ gap_from result.at (gaps_among (chunks_of self.now arena.now.bytes)) }
+        ensures room { n ≤ target.room }
+    {
+        if target.at == self.footprint {
+            return FreeEnd {
+                at: target.at,
+                link: None,
+            };
+        }
+        let gap = self.chunk_at(arena, target.at);
+        FreeEnd {
+            at: target.at + gap.len,
+            link: gap.link,
+        }
+    }
+
+    /// Puts a block of `n` bytes at the place that was found for it. It is given the bytes of a live chunk, if one is named, and
+    /// zeros behind them.
+    pub(crate) fn put_block(
+        &mut self,
+        arena: &mut Arena,
+        target: Place,
+        name: u32,
+        n: u32,
+        source: Option<Chunk>,
+    )
+        requires chunks { HasChunks self.old arena.old.bytes }
+        requires place { place n (store_of self.old arena.old.bytes) ≡ Some target }
+        requires name { name < 272 }
+        requires some { 1 ≤ n }
+        requires source { IfSome source (λ other. LiveIn other (chunks_of self.old arena.old.bytes)) }
+        requires gaps { GapsLinked self.old arena.old.bytes }
+        ensures gaps { GapsLinked self.new arena.new.bytes }
+        ensures chunks { HasChunks self.new arena.new.bytes }
+        ensures block { store_of self.new arena.new.bytes ≡ with_block (block_at target name (resized n (bytes_given self.old.header arena.old.bytes self.old.span.at source))) (store_of self.old arena.old.bytes) }
+        ensures stands { (other : OfChunks) → LiveIn other (chunks_of self.old arena.old.bytes) → LiveIn other (chunks_of self.new arena.new.bytes) }
+        ensures kept { KeepsFreed self.old self.new }
+        ensures rest { KeepsToSpan self.old self.new arena.old arena.new }
+    {
+        let end = self.free_end(arena, target, n);
+        let beside = self.gaps_beside(arena, target.at);
+        let live = Chunk {
+            at: target.at,
+            len: self.header + target.room,
+            owner: Some(name),
+            size: n,
+            link: None,
+        };
+        self.give_bytes(arena, live, source);
+        let first = self.lay(arena, live, end.at, end.link);
+        self.link_below(arena, beside.below, first);
+        self.gaps -= gap_count(end.at - target.at);
+    }
+
+    /// Makes a chunk and the gaps beside it one gap, which is linked to the next one, or a part of the top gap. Answers the place of
+    /// the gap that the one before is to be linked to.
+    fn clear_away(
+        &mut self,
+        arena: &mut Arena,
+        chunk: Chunk,
+        from: u32,
+        end: u32,
+        link: Option<u32>,
+    ) -> Option<u32>
+        requires chunks { HasChunks self.old arena.old.bytes }
+        requires stands { Stands chunk (chunks_of self.old arena.old.bytes) }
+        requires live { chunk.owner ≢ None }
+        requires from { from ≡ free_from (chunks_before self.old arena.old.bytes chunk.at) }
+        requires end { end ≡ chunk.at + chunk.len + front_gap (chunks_behind self.old arena.old.bytes (chunk.at + chunk.len)) }
+        requires link { IfSome link (λ place. place < 65536) }
+        requires count { self.old.gaps ≡ length (gaps_among (chunks_of self.old arena.old.bytes)) }
+        requires few { self.old.gaps < 65535 }
+        ensures cleared { Cleared self.old self.new arena.old.bytes arena.new.bytes chunk from end result link }
+        ensures kept { KeepsFreed self.old self.new }
+        ensures lowest { self.new.lowest ≡ self.old.lowest }
+        ensures first { IfSome result (λ place. place < 65536) }
+        ensures begins { end ≢ self.old.footprint → result ≡ Some from }
+        ensures rest { KeepsToSpan self.old self.new arena.old arena.new }
+    {
+        if end == self.footprint {
+            self.footprint = from;
+            return link;
+        }
+        self.put_chunk(
+            arena,
+            Chunk {
+                at: from,
+                len: end - from,
+                owner: None,
+                size: 0,
+                link,
+            },
+        );
+        self.gaps += 1;
+        Some(from)
+    }
+
+    /// Makes a chunk and the gaps beside it one gap, or a part of the top gap, and has the list of the gaps lead there. `below` is
+    /// the highest gap below the chunk.
+    fn merge(
+        &mut self,
+        arena: &mut Arena,
+        chunk: Chunk,
+        from: u32,
+        end: u32,
+        link: Option<u32>,
+        below: Option<Chunk>,
+    )
+        requires chunks { HasChunks self.old arena.old.bytes }
+        requires stands { Stands chunk (chunks_of self.old arena.old.bytes) }
+        requires live { chunk.owner ≢ None }
+        requires from { from ≡ free_from (chunks_before self.old arena.old.bytes chunk.at) }
+        requires end { end ≡ chunk.at + chunk.len + front_gap (chunks_behind self.old arena.old.bytes (chunk.at + chunk.len)) }
+        requires link { link ≡ gap_from end (gaps_among (chunks_of self.old arena.old.bytes)) }
+        requires below { below ≡ gap_below chunk.at (gaps_among (chunks_of self.old arena.old.bytes)) }
+        requires gaps { GapsLinked self.old arena.old.bytes }
+        requires small { IfSome link (λ place. place < 65536) }
+        requires few { self.old.gaps < 65535 }
+        ensures chunks { HasChunks self.new arena.new.bytes }
+        ensures count { self.new.gaps ≡ length (gaps_among (chunks_of self.new arena.new.bytes)) + (gap_count (chunk.at - from) + gap_count (end - (chunk.at + chunk.len))) }
+        ensures block { store_of self.new arena.new.bytes ≡ without_place chunk.at (store_of self.old arena.old.bytes) }
+        ensures others { (other : OfChunks) → LiveIn other (chunks_of self.old arena.old.bytes) → other.at ≢ chunk.at → LiveIn other (chunks_of self.new arena.new.bytes) }
+        ensures linked { LinkedTo self.new.lowest (chunks_of self.new arena.new.bytes) None }
+        ensures kept { KeepsFreed self.old self.new }
+        ensures rest { KeepsToSpan self.old self.new arena.old arena.new }
+    {
+        if from < chunk.at && end < self.footprint {
+            // The gap below the chunk grows: what is linked to it stays so.
+            let _first = self.clear_away(arena, chunk, from, end, link);
+            return;
+        }
+        let before = self.gap_below(arena, from, chunk.at, below);
+        let first = self.clear_away(arena, chunk, from, end, link);
+        self.link_below(arena, before, first);
+    }
+
+    /// Makes a chunk a gap, and joins it with the gaps beside it.
+    fn release(&mut self, arena: &mut Arena, chunk: Chunk)
+        requires chunks { HasChunks self.old arena.old.bytes }
+        requires stands { Stands chunk (chunks_of self.old arena.old.bytes) }
+        requires live { chunk.owner ≢ None }
+        requires gaps { GapsLinked self.old arena.old.bytes }
+        ensures { Changed self.old self.new arena.old arena.new chunk.at (without_place chunk.at (store_of self.old arena.old.bytes)) }
+    {
+        let beside = self.gaps_beside(arena, chunk.at);
+        let from = self.free_before(arena, chunk, beside.below);
+        let gap = self.gap_behind(arena, chunk);
+        let end = chunk.at + chunk.len + gap;
+        let link = self.link_behind(arena, chunk, end, beside.next);
+        self.merge(arena, chunk, from, end, link, beside.below);
+        self.gaps -= gap_count(chunk.at - from) + gap_count(gap);
+    }
+
+    /// Joins the chunks that were freed with the gaps beside them, the newest first.
+    pub(crate) fn join(&mut self, arena: &mut Arena)
+        requires chunks { HasChunks self.old arena.old.bytes }
+        requires gaps { GapsLinked self.old arena.old.bytes }
+        requires freed { FreedLinked self.old arena.old.bytes }
+        ensures joins { Joins self.old self.new arena.old arena.new }
+        ensures none { self.new.freed ≡ 0 }
+    {
+        while let Some(at) = self.newest {
+            let chunk = self.chunk_at(arena, at);
+            self.newest = chunk.link;
+            self.freed -= 1;
+            self.release(arena, chunk);
+        }
+    }
+
+    /// Sets a live chunk aside as freed: it is linked to the one that was freed before it, and joined later.
+    pub(crate) fn set_aside(&mut self, arena: &mut Arena, chunk: Chunk)
+        requires chunks { HasChunks self.old arena.old.bytes }
+        requires stands { Stands chunk (chunks_of self.old arena.old.bytes) }
+        requires live { is_a_name chunk.owner ≡ true }
+        requires gaps { GapsLinked self.old arena.old.bytes }
+        requires freed { FreedLinked self.old arena.old.bytes }
+        ensures aside { Aside self.old self.new arena.old.bytes arena.new.bytes chunk }
+        ensures places { self.new.places ≡ self.old.places }
+        ensures counts { (self.new.freed ≡ self.old.freed + 1) × (self.new.gaps ≡ self.old.gaps) }
+        ensures rest { KeepsToSpan self.old self.new arena.old arena.new }
+    {
+        self.put_chunk(
+            arena,
+            Chunk {
+                owner: Some(FREED),
+                link: self.newest,
+                ..chunk
+            },
+        );
+        self.newest = Some(chunk.at);
+        self.freed += 1;
+    }
+
+    /// Gives a name's chunk another room where it is, and `n` bytes: the first ones stay, and zeros follow. What is left of its
+    /// bytes and of the gap behind it becomes a gap.
+    pub(crate) fn resize(&mut self, arena: &mut Arena, chunk: Chunk, name: u32, room: u32, n: u32)
+        requires chunks { HasChunks self.old arena.old.bytes }
+        requires owned { Owned name chunk (chunks_of self.old arena.old.bytes) }
+        requires name { name < 272 }
+        requires some { 1 ≤ n }
+        requires room { room_in_place (place_in_chunk self.old.header chunk) n (store_of self.old arena.old.bytes) ≡ Some room }
+        requires gaps { GapsLinked self.old arena.old.bytes }
+        ensures { Changed self.old self.new arena.old arena.new chunk.at (with_block (block_at (at_place chunk.at room) name (resized n (bytes_in_chunk self.old.header arena.old.bytes self.old.span.at chunk))) (without_place chunk.at (store_of self.old arena.old.bytes))) }
+    {
+        let beside = self.gaps_beside(arena, chunk.at);
+        let gap = self.gap_behind(arena, chunk);
+        let end = chunk.at + chunk.len + gap;
+        let link = self.link_behind(arena, chunk, end, beside.next);
+        let live = Chunk {
+            at: chunk.at,
+            len: self.header + room,
+            owner: Some(name),
+            size: n,
+            link: None,
+        };
+        self.clear(arena, live, chunk.size);
+        let first = self.lay(arena, live, end, link);
+        self.link_below(arena, beside.below, first);
+        self.gaps -= gap_count(gap);
+    }
+
+    /// Moves a live chunk's block to another place, which is answered. It gets `n` bytes there: the first ones stay, and zeros
+    /// follow. `None` exactly where there is no place for it; then nothing changes.
+    pub(crate) fn relocate(
+        &mut self,
+        arena: &mut Arena,
+        chunk: Chunk,
+        name: u32,
+        n: u32,
+    ) -> Option<u32>
+        requires chunks { HasChunks self.old arena.old.bytes }
+        requires owned { Owned name chunk (chunks_of self.old arena.old.bytes) }
+        requires name { name < 272 }
+        requires some { 1 ≤ n }
+        requires gaps { GapsLinked self.old arena.old.bytes }
+        requires freed { FreedLinked self.old arena.old.bytes }
+        requires joined { self.old.freed ≡ 0 }
+        ensures at { result ≡ option_map (λ target. target.at) (place n (store_of self.old arena.old.bytes)) }
+        ensures refused { IfNone result (place n (store_of self.old arena.old.bytes) ≡ None) }
+        ensures unchanged { IfNone result ((self.new ≡ self.old) × (arena.new ≡ arena.old)) }
+        ensures block { OnSome result (option_map (λ target. with_block (block_at target name (resized n (bytes_in_chunk self.old.header arena.old.bytes self.old.span.at chunk))) (without_place chunk.at (store_of self.old arena.old.bytes))) (place n (store_of self.old arena.old.bytes)) ≡ Some (heap_of self.new arena.new.bytes)) }
+        ensures chunks { OnSome result (HasChunks self.new arena.new.bytes) }
+        ensures gaps { OnSome result (GapsLinked self.new arena.new.bytes) }
+        ensures freed { OnSome result (FreedLinked self.new arena.new.bytes) }
+        ensures places { self.new.places ≡ self.old.places }
+        ensures rest { KeepsToSpan self.old self.new arena.old arena.new }
+    {
+        let target = self.place(arena, n)?;
+        self.put_block(arena, target, name, n, Some(chunk));
+        self.set_aside(arena, chunk);
+        Some(target.at)
+    }
+}

@@ -1,0 +1,50 @@
+-- How steps that make no entry lead to the next one that makes one, or to rest: what the code promises of a step.
+use Rattle.std.specs.Prelude.{◌≡◌, ℕ, zero, suc, true, List, [], ◌∷◌, Some}
+use Rattle.mote_types.specs.declared.entry.Entry.{Entry}
+use Rattle.kernel_core.specs.declared.step.Step.{Step}
+use Rattle.kernel_core.specs.declared.step.StepOutcome.{StepOutcome}
+use Rattle.kernel_core.specs.declared.turn.Turn.{Turn}
+use Rattle.kernel_core.specs.Machine.{Machine}
+use Rattle.kernel_core.specs.Run.{Answers, is_at_rest, one_step, silent}
+
+-- n steps that make no entry lead from old to new
+abbrev pub Silently : Answers → ℕ → Machine → Machine → Type 0
+Silently answers zero old new = old ≡ new
+Silently answers (suc n) old new = (next : Machine) × (one_step answers old ≡ silent next) × Silently answers n next new
+
+-- steps that make no entry lead from old to new
+pub record GoesSilently (answers : Answers) (old new : Machine) : Type 0 where
+  pub count : ℕ
+  pub steps : Silently answers count old new
+
+-- steps that make no entry, and then one that makes this entry
+pub record MakesEntry (answers : Answers) (old : Machine) (entry : Entry) (new : Machine) : Type 0 where
+  pub last : Machine
+  pub before : GoesSilently answers old last
+  pub makes : one_step answers last ≡ (new, Some entry)
+
+-- steps that make no entry, until nothing is left to be done
+pub record GoesToRest (answers : Answers) (old new : Machine) : Type 0 where
+  pub before : GoesSilently answers old new
+  pub at_rest : is_at_rest new ≡ true
+
+-- the machine goes on to the next entry, or to rest; once halted, it stays
+abbrev pub GoesOn : Answers → Machine → Step → Machine → Type 0
+GoesOn answers old (Step.Entry entry) new = MakesEntry answers old entry new
+GoesOn answers old Step.Rest new = GoesToRest answers old new
+GoesOn answers old Step.Halted new = (old.is_halted ≡ true) × (new ≡ old)
+
+abbrev pub made : Step → List Entry
+made (Step.Entry entry) = entry ∷ []
+made _ = []
+
+-- the entry of a turn
+abbrev pub entry_of : Turn → Entry
+entry_of turn = Entry.Turn turn.pid turn.origin turn.stimulus turn.call
+
+-- what a step comes to, where an entry that it makes is put into a place: a turn into one, any other entry into another
+abbrev pub stepped : StepOutcome → Turn → Entry → Step
+stepped StepOutcome.Turn turn other = Step.Entry (entry_of turn)
+stepped StepOutcome.Other turn other = Step.Entry other
+stepped StepOutcome.Rest turn other = Step.Rest
+stepped StepOutcome.Halted turn other = Step.Halted

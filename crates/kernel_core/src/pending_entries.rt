@@ -1,0 +1,51 @@
+//! The entries that are made before anything else is done.
+
+ghost use Rattle.std.specs.Prelude.{◌≡◌, ◌∷◌, false};
+ghost use Rattle.mote_types.specs.Entries.{is_halt};
+ghost use Rattle.process_core.specs.Agenda.{Item};
+ghost use Rattle.process_core.specs.Idle.{is_empty};
+ghost use Rattle.kernel_core.specs.Code.View.{no_pending_entries, pending_items};
+
+use mote_types::entry::{Entry, Input, Note};
+
+/// An input that was handed in, and then a note: that its frame is lost, or that a frame was sent.
+#[derive(Drop)]
+pub struct PendingEntries {
+    pub input: Option<Input>,
+    pub note: Option<Note>,
+}
+
+impl PendingEntries {
+    /// No entry.
+    pub fn none() -> PendingEntries
+        ensures { result ≡ no_pending_entries }
+    {
+        PendingEntries {
+            input: None,
+            note: None,
+        }
+    }
+
+    /// Whether there is none.
+    pub fn is_empty(&self) -> bool
+        ensures { result ≡ is_empty (pending_items self.now) }
+    {
+        self.input.is_none() && self.note.is_none()
+    }
+
+    /// Takes the first of them, and puts its entry into `made`.
+    pub fn take_first(&mut self, made: &mut Entry)
+        requires some { is_empty (pending_items self.old) ≡ false }
+        ensures first { pending_items self.old ≡ Item.Show made.new ∷ pending_items self.new }
+        ensures kind { is_halt made.new ≡ false }
+    {
+        // A take copies the whole place, also where nothing is there.
+        if self.input.is_some() {
+            if let Some(input) = self.input.take() {
+                *made = Entry::Input(input);
+            }
+        } else if let Some(note) = self.note.take() {
+            *made = Entry::Note(note);
+        }
+    }
+}

@@ -1,0 +1,122 @@
+//! The pieces of open work.
+
+ghost use Rattle.std.specs.Prelude.{◌≡◌};
+ghost use Rattle.mote_types.specs.declared.event.Stimulus.{Stimulus as ToldStimulus};
+ghost use Rattle.mote_types.specs.declared.reply.Reply.{Reply as Answered};
+ghost use Rattle.process_core.specs.Scheduler.{of_event};
+
+use crate::walk::Walk;
+use arrayvec::ArrayVec;
+use mote_types::event::{Event, Payload, Pid, Stimulus};
+use mote_types::reply::{Chunk, Reply};
+
+/// Work within activations: a continuation of the stack, which stands for the items of the agenda that are left of it.
+#[derive(Drop)]
+pub enum Continuation {
+    /// A process that has ended: the others that are still to be told so, and whether it is then given EXIT.
+    Leave { pid: Pid, walk: Walk, exits: bool },
+    /// A process within its activation, whose call was accepted and is answered Done.
+    Answer(Pid),
+}
+
+/// What is done where no process is within an activation and no poll round goes on.
+#[derive(Clone, Copy, Drop)]
+pub enum Base {
+    Nothing,
+    /// The applications of the walk are to be started.
+    Boot,
+    /// The first event is to be delivered, perhaps after a poll round.
+    Deliver { is_polled: bool },
+    /// The receivers of the walk are to be given the event that is broadcast, each after a poll round, which the next one's
+    /// may be done with.
+    Broadcast { is_polled: bool },
+}
+
+/// Tells an event, which stays where it lies, without taking memory. The bytes of a line are put where they are to lie.
+pub(crate) fn tell(told: &mut Stimulus, event: &Event)
+    ensures { told.new ≡ of_event event.now }
+{
+    match &event.payload {
+        Payload::Line(line) => {
+            *told = Stimulus::Event(Event {
+                code: event.code,
+                payload: Payload::Line(ArrayVec::new()),
+            });
+            if let Stimulus::Event(
+                Event {
+                    payload: Payload::Line(copy),
+                    ..
+                },
+            ) = told
+            {
+                let _ = copy.try_extend_from_slice(line.as_slice());
+            }
+        }
+        _ => *told = Stimulus::Event(event.copied()),
+    }
+}
+
+// A function of its own, since it has room for bytes, which is cleared at its entry.
+fn put_bytes(place: &mut Reply, bytes: &Chunk)
+    ensures { place.new ≡ Answered.Bytes bytes.now }
+{
+    *place = Reply::Bytes(ArrayVec::new());
+    if let Reply::Bytes(copy) = place {
+        let _ = copy.try_extend_from_slice(bytes.as_slice());
+    }
+}
+
+// Likewise.
+fn put_telling_reply(place: &mut Reply, reply: &Reply)
+    ensures { place.new ≡ reply.now }
+{
+    match reply {
+        Reply::Done => *place = Reply::Done,
+        Reply::Refused(refusal) => *place = Reply::Refused(*refusal),
+        Reply::Num(n) => *place = Reply::Num(*n),
+        Reply::Wide(n) => *place = Reply::Wide(*n),
+        Reply::Flag(flag) => *place = Reply::Flag(*flag),
+        Reply::Bytes(bytes) => put_bytes(place, bytes),
+        Reply::Stats(stats) => *place = Reply::Stats(*stats),
+    }
+}
+
+/// Puts a reply into the place. Most say Done, and all but bytes take fewer moves than the room of a reply would.
+fn put_reply(place: &mut Reply, reply: &Reply)
+    ensures { place.new ≡ reply.now }
+{
+    match reply {
+        Reply::Done => *place = Reply::Done,
+        _ => put_telling_reply(place, reply),
+    }
+}
+
+// Makes the place one for an answer. A function of its own, since it has room for what it puts there, which is cleared
+// at its entry.
+fn begin_answer(told: &mut Stimulus)
+    ensures { told.new ≡ ToldStimulus.Answer Answered.Done }
+{
+    *told = Stimulus::Answer(Reply::Done);
+}
+
+/// Tells a reply, which stays where it lies.
+pub(crate) fn tell_reply(told: &mut Stimulus, reply: &Reply)
+    ensures { told.new ≡ ToldStimulus.Answer reply.now }
+{
+    // A stimulus that is an answer keeps its place, so that the reply alone is moved.
+    if !matches!(told, Stimulus::Answer(_)) {
+        begin_answer(told);
+    }
+    if let Stimulus::Answer(place) = told {
+        put_reply(place, reply);
+    }
+}
+
+// The places of the stack that hold no continuation.
+impl Default for Continuation {
+    ghost is_default = { λ _. Unit {0} };
+
+    fn default() -> Self {
+        Continuation::Answer(Pid(0))
+    }
+}
