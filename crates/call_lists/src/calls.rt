@@ -1,0 +1,103 @@
+//! From the words of a call to the call. They are those that a transcript shows.
+
+use crate::fault::CallFault;
+use crate::words::Words;
+use mote_types::call::Call;
+
+/// A call on pools and lists.
+fn pool_call(words: &mut Words<'_>) -> Call {
+    match words.name() {
+        "memb-alloc" => Call::MembAlloc(words.small()),
+        "memb-free" => Call::MembFree(words.small(), words.small()),
+        "memb-write" => Call::MembWrite(
+            words.small(),
+            words.small(),
+            words.number(),
+            words.chunk(),
+        ),
+        "memb-read" => Call::MembRead(words.small(), words.small(), words.number(), words.small()),
+        "memb-num-free" => Call::MembNumFree(words.small()),
+        "list-add" => Call::ListAdd(words.small(), words.small()),
+        "list-push" => Call::ListPush(words.small(), words.small()),
+        "list-insert" => Call::ListInsert(words.small(), words.small(), words.small()),
+        "list-pop" => Call::ListPop(words.small()),
+        "list-chop" => Call::ListChop(words.small()),
+        "list-remove" => Call::ListRemove(words.small(), words.small()),
+        "list-head" => Call::ListHead(words.small()),
+        "list-next" => Call::ListNext(words.small(), words.small()),
+        "list-length" => Call::ListLength(words.small()),
+        name => {
+            words.note(CallFault::NoCall(name));
+            Call::Wait
+        }
+    }
+}
+
+/// A call on managed memory, heap memory, pools and lists.
+fn block_call(words: &mut Words<'_>) -> Call {
+    match words.name() {
+        "mmem-alloc" => Call::MmemAlloc(words.small(), words.number()),
+        "mmem-free" => Call::MmemFree(words.small()),
+        "mmem-write" => Call::MmemWrite(words.small(), words.number(), words.chunk()),
+        "mmem-read" => Call::MmemRead(words.small(), words.number(), words.small()),
+        "mmem-copy" => Call::MmemCopy(words.small(), words.small()),
+        "mmem-avail" => Call::MmemAvail,
+        "heap-alloc" => Call::HeapAlloc(words.small(), words.number()),
+        "heap-realloc" => Call::HeapRealloc(words.small(), words.number()),
+        "heap-free" => Call::HeapFree(words.small()),
+        "heap-write" => Call::HeapWrite(words.small(), words.number(), words.chunk()),
+        "heap-read" => Call::HeapRead(words.small(), words.number(), words.small()),
+        "heap-stats" => Call::HeapStats,
+        _ => pool_call(words),
+    }
+}
+
+/// A call on timers and packets, or on blocks.
+fn device_call(words: &mut Words<'_>) -> Call {
+    match words.name() {
+        "timer-set" => Call::TimerSet(words.small(), words.number()),
+        "timer-stop" => Call::TimerStop(words.small()),
+        "timer-reset" => Call::TimerReset(words.small()),
+        "timer-restart" => Call::TimerRestart(words.small()),
+        "timer-expired" => Call::TimerExpired(words.small()),
+        "callback-set" => Call::CallbackSet(words.small(), words.number()),
+        "callback-stop" => Call::CallbackStop(words.small()),
+        "packet-open" => Call::PacketOpen,
+        "packet-read" => Call::PacketRead(words.number(), words.small()),
+        "packet-done" => Call::PacketDone,
+        "packet-count" => Call::PacketCount,
+        "packet-send" => Call::PacketSend(words.small()),
+        _ => block_call(words),
+    }
+}
+
+/// A call on events and processes, or on devices.
+fn process_call(words: &mut Words<'_>) -> Call {
+    match words.name() {
+        "post" => Call::Post(words.small(), words.small(), words.payload()),
+        "broadcast" => Call::Broadcast(words.small(), words.payload()),
+        "post-synch" => Call::PostSynch(words.small(), words.small(), words.payload()),
+        "poll" => Call::Poll(words.small()),
+        "start" => Call::Start(words.small()),
+        "kill" => Call::Kill(words.small()),
+        "is-running" => Call::IsRunning(words.small()),
+        "alloc-event" => Call::AllocEvent,
+        "clock" => Call::Clock,
+        "print" => Call::Print(words.chunk()),
+        "wait" => Call::Wait,
+        "exit" => Call::Exit,
+        _ => device_call(words),
+    }
+}
+
+/// The call of these words.
+///
+/// # Errors
+///
+/// No call has this name, or one of its words is lacking, too much, or of no form.
+pub fn call_of(text: &str) -> Result<Call, CallFault<'_>> {
+    let mut words = Words::of(text);
+    let call = process_call(&mut words);
+    words.finish()?;
+    Ok(call)
+}

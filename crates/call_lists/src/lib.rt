@@ -1,0 +1,13 @@
+//! Applications as words: by their names, and as lists of calls, each with the words that a transcript shows. Its contracts
+//! promise that it is safe and that it ends.
+#![tactic(auto)]
+
+mod applications;
+mod calls;
+mod fault;
+mod words;
+
+pub use applications::Application;
+pub use calls::call_of;
+pub use fault::CallFault;
+pub use words::number_of;
