@@ -1,6 +1,6 @@
 //! How a stimulus comes to a process.
 
-ghost use Rattle.std.specs.Prelude.{◌≡◌, ◌<◌, ◌+◌, ◌∷◌, [], option_map, IfNone};
+ghost use Rattle.std.specs.Prelude.{◌≡◌, ◌<◌, ◌+◌, ◌∷◌, [], length, drop, option_map, IfNone};
 ghost use Rattle.mote_types.specs.Codes as codes;
 ghost use Rattle.process_core.specs.Agenda.{Item};
 ghost use Rattle.process_core.specs.Code.Weights.{weight};
@@ -12,12 +12,13 @@ ghost use Rattle.process_core.specs.Code.Yields.{Yields};
 ghost use Rattle.process_core.specs.declared.open_work.Base.{Base};
 ghost use Rattle.process_core.specs.declared.front.Front.{Front};
 
-use crate::open_work::{Base, tell};
+use crate::open_work::{Base, put_event, tell};
 use crate::front::Front;
 use crate::queued::Queued;
 use crate::next_job::NextJob;
 use crate::scheduler_fields::SchedulerFields;
 use crate::state::State;
+use circular_buffer::HeapCircularBuffer;
 use mote_types::event::{self, Event, FIRST_APPLICATION, Origin, Payload, Pid, Stimulus};
 
 /// An event that carries nothing.
@@ -28,6 +29,14 @@ pub fn plain_event(code: u8) -> Event
         code,
         payload: Payload::Empty,
     }
+}
+
+/// Drops the first event of the queue.
+fn drop_first(events: &mut HeapCircularBuffer<Queued>)
+    requires { 0 < length events.old.items }
+    ensures { events.new ≡ record { items = drop 1 events.old.items; capacity = events.old.capacity } }
+{
+    events.truncate_front(events.len() - 1);
 }
 
 impl SchedulerFields {
@@ -113,14 +122,21 @@ impl SchedulerFields {
         ensures order { IsInOrder self.new }
         ensures falls { IfNone result (weight self.new < weight self.old + 1300) }
     {
-        // An event for one process is told where it lies, with fewer moves than a place of the queue has room for.
-        if let Some(Queued::To(pid, event)) = self.events.front() {
-            let pid = *pid;
-            tell(told, event);
-            let _ = self.events.pop_front();
-            return self.give(pid, Origin::Event, told);
-        }
-        match self.events.pop_front() {
+        // An event is told or kept from where it lies, with fewer moves than a place of the queue has room for.
+        match self.events.front() {
+            Some(Queued::To(pid, event)) => {
+                let pid = *pid;
+                tell(told, event);
+                drop_first(&mut self.events);
+                self.give(pid, Origin::Event, told)
+            }
+            Some(Queued::ToAll(event)) => {
+                put_event(&mut self.broadcast, event);
+                drop_first(&mut self.events);
+                self.walk = self.processes.walk();
+                self.base = Base::Broadcast { is_polled: false };
+                None
+            }
             Some(
                 Queued::Expiry {
                     pid,
@@ -128,6 +144,8 @@ impl SchedulerFields {
                     arming,
                 },
             ) => {
+                let (pid, number, arming) = (*pid, *number, *arming);
+                drop_first(&mut self.events);
                 self.front = Front::Expiry { pid, number };
                 Some(NextJob::Callback {
                     pid,
@@ -135,13 +153,7 @@ impl SchedulerFields {
                     arming,
                 })
             }
-            Some(Queued::ToAll(event)) => {
-                self.walk = self.processes.walk();
-                self.broadcast = event;
-                self.base = Base::Broadcast { is_polled: false };
-                None
-            }
-            _ => None,
+            None => None,
         }
     }
 }

@@ -56,6 +56,22 @@ pub(crate) fn tell(told: &mut Stimulus, event: &Event)
     }
 }
 
+/// Puts an event into a place, without taking memory. The bytes of a line are put where they are to lie.
+pub(crate) fn put_event(place: &mut Event, event: &Event)
+    ensures { place.new ≡ event.now }
+{
+    place.code = event.code;
+    match &event.payload {
+        Payload::Line(line) => {
+            place.payload = Payload::Line(ArrayVec::new());
+            if let Payload::Line(copy) = &mut place.payload {
+                let _ = copy.try_extend_from_slice(line.as_slice());
+            }
+        }
+        _ => place.payload = event.payload.copied(),
+    }
+}
+
 // A function of its own, since it has room for bytes, which is cleared at its entry.
 fn put_bytes(place: &mut Reply, bytes: &Chunk)
     ensures { place.new ≡ Answered.Bytes bytes.now }
@@ -82,7 +98,7 @@ fn put_telling_reply(place: &mut Reply, reply: &Reply)
 }
 
 /// Puts a reply into the place. Most say Done, and all but bytes take fewer moves than the room of a reply would.
-fn put_reply(place: &mut Reply, reply: &Reply)
+pub(crate) fn put_reply(place: &mut Reply, reply: &Reply)
     ensures { place.new ≡ reply.now }
 {
     match reply {

@@ -1,6 +1,6 @@
 //! How open work is done.
 
-ghost use Rattle.std.specs.Prelude.{◌≡◌, ◌<◌, [], ◌∷◌, Some, IfNone, option_map, reverse};
+ghost use Rattle.std.specs.Prelude.{◌≡◌, ◌<◌, [], ◌∷◌, Some, IfNone, length, option_map, reverse};
 ghost use Rattle.mote_types.specs.declared.event.Stimulus.{Stimulus as ToldStimulus};
 ghost use Rattle.process_core.specs.Code.Weights.{weight, weight_over};
 ghost use Rattle.process_core.specs.Code.SchedulerView.{job_of};
@@ -23,6 +23,7 @@ use mote_types::reply::Reply;
 
 impl SchedulerFields {
     /// What was told since the last job comes first.
+    #[inline(always)]
     pub fn take_front(&mut self, told: &mut Stimulus) -> Option<NextJob>
         requires order { IsInOrder self.old }
         ensures yields { Yields (scheduler_of self.old)
@@ -104,6 +105,7 @@ impl SchedulerFields {
     }
 
     // The next application is started.
+    #[inline(never)]
     fn resume_boot(&mut self, told: &mut Stimulus) -> Option<NextJob>
         requires boots { self.old.base ≡ Base.Boot }
         requires bare { self.old.stack.items ≡ [] }
@@ -150,6 +152,7 @@ impl SchedulerFields {
     }
 
     // The next receiver is given the event, after a poll round.
+    #[inline(always)]
     fn resume_broadcast(&mut self, is_polled: bool, told: &mut Stimulus) -> Option<NextJob>
         requires broadcasts { self.old.base ≡ Base.Broadcast is_polled }
         requires bare { self.old.stack.items ≡ [] }
@@ -182,6 +185,7 @@ impl SchedulerFields {
     }
 
     // No process is within an activation: the poll round comes to the next process that is marked, and behind it the base.
+    #[inline(always)]
     fn resume_below(&mut self, told: &mut Stimulus) -> Option<NextJob>
         requires bare { self.old.stack.items ≡ [] }
         requires order { IsInOrder self.old }
@@ -204,8 +208,10 @@ impl SchedulerFields {
         }
     }
 
-    /// The open work goes on, or where there is none a round begins.
-    pub fn resume(&mut self, told: &mut Stimulus) -> Option<NextJob>
+    // The topmost continuation is worked on.
+    #[inline(never)]
+    fn resume_within(&mut self, told: &mut Stimulus) -> Option<NextJob>
+        requires open { 0 < length self.old.stack.items }
         requires order { IsInOrder self.old }
         requires idle { self.old.front ≡ Front.Nothing }
         ensures yields { Yields (scheduler_behind self.old)
@@ -225,7 +231,26 @@ impl SchedulerFields {
                     origin: Origin::Answer,
                 })
             }
-            None => self.resume_below(told),
+            None => None,
+        }
+    }
+
+    /// The open work goes on, or where there is none a round begins.
+    #[inline(always)]
+    pub fn resume(&mut self, told: &mut Stimulus) -> Option<NextJob>
+        requires order { IsInOrder self.old }
+        requires idle { self.old.front ≡ Front.Nothing }
+        ensures yields { Yields (scheduler_behind self.old)
+            (option_map (λ r. job_of (job_told r told.new)) result) (scheduler_behind self.new) }
+        ensures told { HoldsEvent result told.new }
+        ensures front { self.new.front ≡ front_after result }
+        ensures order { IsInOrder self.new }
+        ensures falls { IfNone result (weight self.new < weight self.old) }
+    {
+        if self.stack.is_empty() {
+            self.resume_below(told)
+        } else {
+            self.resume_within(told)
         }
     }
 

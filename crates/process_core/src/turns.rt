@@ -4,7 +4,7 @@ ghost use Rattle.std.specs.Prelude.{◌≡◌, Some};
 ghost use Rattle.process_core.specs.Requests as request;
 ghost use Rattle.process_core.specs.Code.SchedulerView.{awaiting_nothing};
 
-use crate::open_work::Continuation;
+use crate::open_work::{Continuation, put_reply};
 use crate::front::Front;
 use crate::scheduler::Scheduler;
 use crate::state::State;
@@ -18,7 +18,7 @@ impl Scheduler {
         requires { self.old.turn ≡ Some caller }
         ensures { self.new ≡ awaiting_nothing (request.answered caller.0 reply self.old.state) }
     {
-        self.fields.reply = reply;
+        put_reply(&mut self.fields.reply, &reply);
         self.fields.front = Front::Answer(caller);
     }
 

@@ -4,5 +4,5 @@ use Rattle.process_core.proofs.scheduler_fields.SchedulerFields.deliver.Goals as
 pub returns-in-Some-To-clause-yields : goal.returns-in-Some-To-clause-yields
 returns-in-Some-To-clause-yields c =
     rw c.tell.ensures
-    (deliver_to_yields c.args.self.now c.pop_front.new.self c.in-Some-To.pid c.in-Some-To.event _ _
-    (rw c.in-Some-To.field-0-is at c.in-Some-To.ensures) c.pop_front.ensures.items (rw c.tell.ensures at c.give.ensures.yields))
+    (deliver_to_yields c.args.self.now c.drop_first.new.events c.in-Some-To.pid c.in-Some-To.event _ _
+    (rw c.in-Some-To.field-0-is at c.in-Some-To.ensures) c.drop_first.ensures (rw c.tell.ensures at c.give.ensures.yields))
