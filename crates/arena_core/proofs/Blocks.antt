@@ -2,24 +2,9 @@
 --     seen         it is one to the fields, and one to the bytes
 --     shows_ptr    one to the fields shows the pointer
 use Rattle.arena_core.proofs.Steps.{◌≡◌, ℕ, ◌+◌, ◌≤◌, List, [], ◌∷◌, length, refl, sym, ◌∙◌, w64, ent, sep, sem, id⊢, Logic, Lft, Fml, Val, Ptr, full_share, fsep, fhide, fact, ‵, raw, ◌⊛◌, ◌$◌, ◌∵◌, !, qed, by, done, move, keep, drop, use1, use2, split, fsplit, fsplit3, fjoin, fpack, feq_i, rewrite, cell_at, part_at, mem, Array, lies_at, block_ptr, u8, RawPtr, block_of, count_of, InBlock, hidden_shr, elements_shared}
-use seplogic.Ra.Ura.{Ura}
-use base.Fml.{feq}
-use types.SemTy.{cells}
-use denote.Memory.{part_of}
-use denote.Index.{row, whole_in, whole_out}
-use denote.ArrayMemory.{Array-apart, Array-whole}
-use Rattle.arena_core.specs.Code.Ownership.{bytes_type, chunk}
-use Rattle.arena_core.specs.Written.{written}
-use Rattle.arena_core.specs.Code.Lending.{with_bytes, with_range, length-written}
+use Rattle.arena_core.proofs.Words.{Ura, feq, cells, part_of, row, whole_in, whole_out, Array-apart, Array-whole, bytes_type, chunk, written, with_bytes, with_range, length-written, RattleType, RowLaws, shr_dup, unhide, hide, ptr_row_laws, Struct, Struct-row_laws, shape, to, in_block_says, lent_out, Block}
 use Rattle.arena_core.proofs.Rows.{Around, run_in}
-use denote.RattleType.{RattleType, RowLaws}
-use denote.Opens.{shr_dup, unhide, hide}
 use denote.Plain.{uint_row_laws}
-use denote.RawPtr.{ptr_row_laws}
-use denote.Struct.Struct.{Struct, Struct-row_laws}
-use denote.Struct.Owning.{shape, to}
-use denote.Struct.Lending.{in_block_says, lent_out}
-use Rattle.arena_core.specs.declared.block.Block.{Block}
 use Rattle.arena_core.specs.contracts.block.Block as C
 
 abbrev pub Words : RattleType

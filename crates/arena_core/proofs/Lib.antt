@@ -7,3 +7,4 @@ pub mod Pairs
 pub mod Ranges
 pub mod Rows
 pub mod Steps
+pub mod Words

@@ -1,13 +1,8 @@
 -- Two runs of the bytes at once. Assumes `Logic`.
 --     two_runs      two runs that do not meet are taken out, and bytes as many are put in the place of each
 use Rattle.arena_core.proofs.Steps.{◌≡◌, ℕ, ◌+◌, ◌-◌, ◌≤◌, List, [], ◌∷◌, ◌++◌, length, take, refl, sym, ap, ◌∙◌, arith, ent, sem, sep, Logic, Fml, fsep, ‵, ◌⊛◌, ◌$◌, ◌∵◌, !, qed, done, move, use1, use2, use3, split, fsplit, fjoin, rewrite}
-use lib.ListN.{drop as drop_l, take-append-drop, length-append, length-take, length-drop}
-use lib.Seq.{drop-drop, take_at, drop_at}
-use seplogic.Ra.Ura.{Ura}
-use Rattle.std.proofs.Common.{◌⊎◌, inl, inr}
-use Rattle.std.proofs.lemmas.List.{append_assoc, take-take, drop-take, take-append-le, drop-append-le}
-use Rattle.arena_core.specs.Written.{written}
-use Rattle.arena_core.specs.Code.Lending.{length-written}
+use Rattle.arena_core.proofs.Words.{take-append-drop, length-append, length-take, length-drop, drop-drop, take_at, drop_at, Ura, ◌⊎◌, inl, inr, append_assoc, take-take, drop-take, take-append-le, drop-append-le, written, length-written}
+use lib.ListN.{drop as drop_l}
 use Rattle.arena_core.proofs.Rows.{Row, Around, written_is, run_out, run_in, glue}
 
 written_app : (ps qs : List ℕ) (at : ℕ) (ws : List ℕ) → at + length ws ≤ length ps → written (ps ++ qs) at ws ≡ written ps at ws ++ qs

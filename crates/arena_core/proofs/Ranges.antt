@@ -7,9 +7,9 @@
 --     written-same                            a range that is written over with its own bytes changes nothing
 --     range-range                             a range of a range is a range
 --     changes_only                            a write changes its range alone
-use Rattle.std.proofs.Common.{◌≡◌, ℕ, suc, ◌+◌, ◌-◌, ◌≤◌, ◌⊎◌, inl, inr, List, [], ◌∷◌, ◌++◌, length, take, drop, slice_range, sym, ap, ◌∙◌, arith, length-take, length-drop}
-use Rattle.std.proofs.lemmas.List.{take-take, drop-take, take_at, drop_at, take_all, drop_all, drop-drop, take-append-drop, take-append-le, drop-append-le}
-use Rattle.arena_core.specs.Written.{written}
+use Rattle.arena_core.proofs.Words.{◌≡◌, ℕ, suc, ◌+◌, ◌-◌, ◌≤◌, ◌⊎◌, inl, inr, List, [], ◌∷◌, ◌++◌, length, take, drop, slice_range, sym, ap, ◌∙◌, arith, take-take, drop-take, take_all, drop_all, take-append-le, drop-append-le, written}
+use Rattle.std.proofs.Common.{length-take, length-drop}
+use Rattle.std.proofs.lemmas.List.{take_at, drop_at, drop-drop, take-append-drop}
 use Rattle.arena_core.specs.Outside.{ChangesOnly}
 pub use Rattle.arena_core.specs.Code.Lending.{length-written}
 use Rattle.arena_core.proofs.Rows.{written_is}

@@ -3,15 +3,11 @@
 --     cut, glue            bytes in memory are cut in two, and put together
 --     run_out, run_in      a run of them is taken out, and bytes as many are put in its place
 use Rattle.arena_core.proofs.Steps.{◌≡◌, ℕ, ◌+◌, ◌≤◌, List, [], ◌∷◌, ◌++◌, length, take, refl, sym, ap, ◌∙◌, arith, ent, sem, sep, Logic, Lft, Fml, fsep, ‵, ◌⊛◌, ◌$◌, ◌∵◌, !, qed, by, done, move, use1, use2, split, fsplit, fjoin, rewrite, u8, elements_shared, mem}
-use lib.ListN.{drop as drop_l, take-append-drop, length-append, length-take, length-drop}
-use lib.Seq.{drop-drop, take_at}
-use seplogic.Ra.Ura.{Ura}
-use types.SemTy.{cells}
-use denote.Memory.{shared_of}
+use Rattle.arena_core.proofs.Words.{take-append-drop, length-append, length-take, length-drop, drop-drop, take_at, Ura, cells, shared_of, written}
+use lib.ListN.{drop as drop_l}
 use borrow.Table.Elements.{at_byte, length-take-le, cut_app, join_app}
 use borrow.Table.Elements as elements
 use borrow.Table.SharedPart.{each_take, each-drop}
-use Rattle.arena_core.specs.Written.{written}
 
 -- where ws fits, it stands between what was before it and what was after it
 pub written_is : (xs : List ℕ) (at : ℕ) (ws : List ℕ) → at + length ws ≤ length xs → written xs at ws ≡ take at xs ++ (ws ++ drop_l (at + length ws) xs)

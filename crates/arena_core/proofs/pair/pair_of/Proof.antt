@@ -1,25 +1,11 @@
 -- `pair_of` lends two runs of a slice, and the slice follows both. Assumes `Logic`.
 use Rattle.arena_core.proofs.Steps.{◌≡◌, ℕ, ◌+◌, ◌-◌, ◌*◌, ◌^◌, ◌<◌, ◌≤◌, List, [], ◌∷◌, length, take, refl, ap, ◌∙◌, w64, arith, proved, ent, sep, sem, ftrue, flft, named, fact, tables, ‵, raw, ◌⊛◌, some, later, at_ret, ◌$◌, ◌∵◌, !, qed, done, move, keep, drop, use1, use2, use3, pick, await, group, split, split3, join, fsplit, fsplit3, fjoin, feq_i, rewrite, suffices, frame, whole, agg, sub, enter, of_opd, bin, stop, fld, no_more, and_then, first, blocks, exec, returns, alloc_all, pass_all, free_all, look_at, get, sets, sets_last, env, u8, usize, uint_vals, uint_Tells, mem, MutSlice, MutBor, slice_val, Array, GName, nothing, heard, Stays, walk_of, stay_dropped, Goes-dropped, ends_at, after, plain, yes}
-use lib.ListN.{drop as drop_l, length-take, length-drop}
-use types.SemTy.{cells, Arr}
-use base.Fml.{fobs}
-use base.Stored.{coded_list}
+use Rattle.arena_core.proofs.Words.{length-take, length-drop, cells, Arr, fobs, coded_list, hop, from, addr, look_in_at, heres_id, mut_slice_vals, mut_slice_Tells, Goes-spent_slice, mut_slice_of, no, after₂, follows_both, ◌⊎◌, written, length-written}
+use lib.ListN.{drop as drop_l}
 use types.Mut.{open_ref}
-use types.Run.{hop, from, addr}
-use types.ByLocal.{look_in_at}
-use denote.FollowSlice.{heres_id}
-use denote.Slice.{mut_slice_vals, mut_slice_Tells}
-use denote.Triple.Walked.{Goes-spent_slice}
-use denote.Signature.{mut_slice_of}
-use denote.Exit.{no}
-use types.Follow.{after₂}
-use denote.Follow.{follows_both}
 use denote.Struct.Tuple.{Tuple}
 use Rattle.core.proofs.mem.Facts.{says_two}
-use Rattle.std.proofs.Common.{◌⊎◌}
 use Rattle.std_alloc.proofs.Pairs.{pair_val, pair_of}
-use Rattle.arena_core.specs.Written.{written}
-use Rattle.arena_core.specs.Code.Lending.{length-written}
 use Rattle.arena_core.proofs.LendsTwo.{lends_two, both_of}
 use Rattle.arena_core.proofs.Pairs.{two_runs}
 use Rattle.arena_core.specs.contracts.pair.pair_of as f
