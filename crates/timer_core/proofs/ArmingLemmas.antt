@@ -1,10 +1,5 @@
 -- What a callback timer's new number strikes out, and what it leaves.
-use Rattle.std.proofs.Common.{◌≡◌, ◌≢◌, ℕ, zero, suc, ◌+◌, ◌<◌, ◌≤◌, false, ◌==◌, refl, sym, ◌∙◌, ap, arith, lit<, lit≤, ◌⊎◌, inl, inr}
-use Rattle.std.proofs.lemmas.Bool.{ne_eqb, cases_eq}
-use Rattle.std.proofs.lemmas.List.{length-set, get_or-set_same, get_or-set_other}
-use Rattle.std.proofs.lemmas.List.Elements.{All-set, All-get_or, All-replicate}
-use Rattle.timer_core.specs.Code.Armings.{Armings, no_armings, callback_place, present_arming, is_present_arming, renumbered, all_renumbered}
-use Rattle.timer_core.specs.Code.Numbered.{IsNumbered}
+use Rattle.timer_core.proofs.Words.{◌≡◌, ◌≢◌, ℕ, zero, suc, ◌+◌, ◌<◌, ◌≤◌, false, ◌==◌, refl, sym, ◌∙◌, ap, arith, lit<, lit≤, ◌⊎◌, inl, inr, ne_eqb, cases_eq, length-set, get_or-set_same, get_or-set_other, All-set, All-get_or, All-replicate, Armings, no_armings, callback_place, present_arming, is_present_arming, renumbered, all_renumbered, IsNumbered}
 
 pub numbered_at_boot : IsNumbered no_armings
 numbered_at_boot = record { places = refl; below = All-replicate (λ arming. arming < 1) 64 0 (lit< tt) }

@@ -1,15 +1,5 @@
 -- The cells by name are the cells of the table by place.
-use Rattle.std.proofs.Common.{◌≡◌, ◌⊎◌, inl, inr, ℕ, zero, suc, ◌+◌, ◌-◌, ◌<◌, ◌≤◌, true, false, List, [], ◌∷◌, length, refl, sym, ◌∙◌, ap, arith, set, get_or, ◌==◌, ◌&&◌}
-use Rattle.std.specs.Prelude.{map, replicate}
-use Rattle.std.proofs.lemmas.Bool.{and_parts, cases_eq, eqb-true, false_from_ne_true}
-use Rattle.std.proofs.lemmas.List.{get_or-set_same}
-use Rattle.timer_core.specs.declared.timer.Timer.{Timer}
-use Rattle.timer_core.specs.declared.timer.Cell.{Cell}
-use Rattle.timer_core.specs.declared.table.LinkedCell.{LinkedCell}
-use Rattle.timer_core.specs.Names.{IsNamed, all_timers, is_timer}
-use Rattle.timer_core.specs.Timers.{NamedCell, with_cell, cell_under, zero_cell}
-use Rattle.timer_core.specs.Code.Places.{is_named, place_of, are_placed}
-use Rattle.timer_core.specs.Code.Links.{named_cells, zero_linked}
+use Rattle.timer_core.proofs.Words.{◌≡◌, ◌⊎◌, inl, inr, ℕ, zero, suc, ◌+◌, ◌-◌, ◌<◌, ◌≤◌, true, false, List, [], ◌∷◌, length, refl, sym, ◌∙◌, ap, arith, set, get_or, ◌==◌, ◌&&◌, map, replicate, and_parts, cases_eq, eqb-true, false_from_ne_true, get_or-set_same, Timer, Cell, LinkedCell, IsNamed, all_timers, is_timer, NamedCell, with_cell, cell_under, zero_cell, is_named, place_of, are_placed, named_cells, zero_linked}
 use Rattle.timer_core.proofs.NameLemmas.{same_timer, same_place, place_below, named_from_test}
 
 -- what stands first among placed names

@@ -1,18 +1,6 @@
 -- What the changes of the table make of the cells and the timer list.
-use Rattle.std.proofs.Common.{◌≡◌, ℕ, ◌<◌, ◌≤◌, true, false, List, length, refl, sym, subst, ◌∙◌, ap, arith, set, get_or}
-use Rattle.std.specs.Prelude.{Some, None, replicate, All, ◌^◌}
-use Rattle.std.specs.List.{list_any}
-use Rattle.std.proofs.lemmas.List.{length-set}
-use Rattle.std.proofs.lemmas.List.Elements.{All-set, All-get_or}
-use Rattle.timer_core.specs.declared.timer.Timer.{Timer}
-use Rattle.timer_core.specs.declared.timer.Cell.{Cell}
-use Rattle.timer_core.specs.declared.table.LinkedCell.{LinkedCell}
+use Rattle.timer_core.proofs.Words.{◌≡◌, ℕ, ◌<◌, ◌≤◌, true, false, List, length, refl, sym, subst, ◌∙◌, ap, arith, set, get_or, Some, None, replicate, All, ◌^◌, list_any, length-set, All-set, All-get_or, Timer, Cell, LinkedCell, place_of, IsNamed, all_timers, is_timer, NamedCell, Timers, no_timers, armed_with, stop_timer, next_of, flag_of, listed_from, named_cells, AreFlagged, Names, IsTable, timers_of, zero_linked, Follows, IsHead}
 use Rattle.timer_core.specs.declared.table.TimerTable.TheInside.{Inside}
-use Rattle.timer_core.specs.Code.Places.{place_of}
-use Rattle.timer_core.specs.Names.{IsNamed, all_timers, is_timer}
-use Rattle.timer_core.specs.Timers.{NamedCell, Timers, no_timers, armed_with, stop_timer}
-use Rattle.timer_core.specs.Code.Links.{next_of, flag_of, listed_from, named_cells, AreFlagged, Names, IsTable, timers_of, zero_linked}
-use Rattle.timer_core.specs.Code.Neighbours.{Follows, IsHead}
 use Rattle.timer_core.proofs.NameLemmas.{place_below}
 use Rattle.timer_core.proofs.Cells.{cells_set, cells_kept, cells_at_boot}
 use Rattle.timer_core.proofs.Flags.{flags_kept, flags_added, flags_removed}

@@ -1,8 +1,6 @@
 -- What is told of a timer that has run out.
-use Rattle.std.proofs.Common.{ℕ, ◌≤◌, ◌<◌}
-use Rattle.mote_types.specs.declared.event.Pid.{Pid}
+use Rattle.timer_core.proofs.Words.{ℕ, ◌≤◌, ◌<◌, Pid, Armings}
 use Rattle.timer_core.specs.declared.due.Due.{Due}
-use Rattle.timer_core.specs.Code.Armings.{Armings}
 use Rattle.timer_core.specs.Code.NumberedTimers.{IsDue}
 
 -- it is an application's

@@ -1,12 +1,5 @@
 -- Each cell says whether its timer is on the list.
-use Rattle.std.proofs.Common.{◌≡◌, ◌<◌, Bool, true, false, ◌||◌, List, [], ◌∷◌, length, refl, sym, ◌∙◌, ap, subst, set}
-use Rattle.std.specs.List.{list_any}
-use Rattle.std.proofs.lemmas.List.{get_or-set_same, get_or-set_other}
-use Rattle.timer_core.specs.declared.timer.Timer.{Timer}
-use Rattle.timer_core.specs.declared.table.LinkedCell.{LinkedCell}
-use Rattle.timer_core.specs.Code.Places.{place_of}
-use Rattle.timer_core.specs.Names.{IsNamed, is_timer}
-use Rattle.timer_core.specs.Code.Links.{flag_of, AreFlagged, zero_linked}
+use Rattle.timer_core.proofs.Words.{◌≡◌, ◌<◌, Bool, true, false, ◌||◌, List, [], ◌∷◌, length, refl, sym, ◌∙◌, ap, subst, set, list_any, get_or-set_same, get_or-set_other, Timer, LinkedCell, place_of, IsNamed, is_timer, flag_of, AreFlagged, zero_linked}
 use Rattle.timer_core.proofs.NameLemmas.{same_timer, is_timer_itself, is_timer_flips, places_differ}
 use Rattle.timer_core.proofs.Unlinking.{others}
 

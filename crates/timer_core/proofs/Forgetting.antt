@@ -1,12 +1,5 @@
 -- The timers of a process are taken from the list one after another.
-use Rattle.std.proofs.Common.{◌≡◌, ℕ, ◌+◌, Bool, true, false, not, ◌&&◌, List, [], ◌∷◌, refl, sym, ◌∙◌, ap, arith, ◌==◌, nat_lt}
-use Rattle.std.specs.Prelude.{filter}
-use Rattle.std.proofs.lemmas.Bool.{lt-ltb}
-use Rattle.std.proofs.lemmas.Bool.Decides.{nat_tests}
-use Rattle.mote_types.specs.declared.event.Pid.{Pid}
-use Rattle.timer_core.specs.declared.timer.Timer.{Timer}
-use Rattle.timer_core.specs.Names.{IsNamed, is_timer, is_event_timer_of, is_callback_timer_of}
-use Rattle.timer_core.specs.Timers.{Timers, stop_timer, without_event_timers, without_callback_timers}
+use Rattle.timer_core.proofs.Words.{◌≡◌, ℕ, ◌+◌, Bool, true, false, not, ◌&&◌, List, [], ◌∷◌, refl, sym, ◌∙◌, ap, arith, ◌==◌, nat_lt, filter, lt-ltb, nat_tests, Pid, Timer, IsNamed, is_timer, is_event_timer_of, is_callback_timer_of, Timers, stop_timer, without_event_timers, without_callback_timers}
 use Rattle.timer_core.proofs.LinkLemmas.{AllNamed}
 
 filter_split : (f g h : Timer → Bool) → ((t : Timer) → (f t && g t) ≡ h t) → (list : List Timer) → filter g (filter f list) ≡ filter h list

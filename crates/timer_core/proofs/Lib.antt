@@ -8,3 +8,4 @@ pub mod Unlinking
 mod Examples
 pub mod Forgetting
 pub mod NoneDue
+pub mod Words

@@ -1,16 +1,6 @@
 -- The timer list along the links.
-use Rattle.std.proofs.Common.{◌≡◌, ℕ, zero, suc, ◌<◌, ◌≤◌, Bool, true, false, List, [], ◌∷◌, length, refl, sym, ◌∙◌, ap, arith, eqb, set, get_or, lit≤, subst, inl, inr}
-use Rattle.std.specs.Prelude.{Option, Some, None, find, map, replicate, ◌^◌}
-use Rattle.std.specs.List.{list_any, IsDistinct, AllByRecursion}
-use Rattle.std.proofs.lemmas.Bool.{or_parts, or_cases, ne_eqb, eqb-true, cases_eq}
-use Rattle.std.proofs.lemmas.List.{length-map, get_or-set_same, get_or-set_other, get_or-replicate}
-use Rattle.std.proofs.lemmas.List.Elements.{All-replicate}
+use Rattle.timer_core.proofs.Words.{◌≡◌, ℕ, zero, suc, ◌<◌, ◌≤◌, Bool, true, false, List, [], ◌∷◌, length, refl, sym, ◌∙◌, ap, arith, eqb, set, get_or, lit≤, subst, inl, inr, Option, Some, None, find, map, replicate, ◌^◌, list_any, IsDistinct, AllByRecursion, or_parts, or_cases, ne_eqb, eqb-true, cases_eq, length-map, get_or-set_same, get_or-set_other, get_or-replicate, All-replicate, Timer, LinkedCell, place_of, IsNamed, is_timer, next_of, linked, listed_from, Names, AreApart, IsList, IsTable, zero_linked}
 use Rattle.std.proofs.lemmas.Map.Steps.{length-le_from_distinct_below}
-use Rattle.timer_core.specs.declared.timer.Timer.{Timer}
-use Rattle.timer_core.specs.declared.table.LinkedCell.{LinkedCell}
-use Rattle.timer_core.specs.Code.Places.{place_of}
-use Rattle.timer_core.specs.Names.{IsNamed, is_timer}
-use Rattle.timer_core.specs.Code.Links.{next_of, linked, listed_from, Names, AreApart, IsList, IsTable, zero_linked}
 use Rattle.timer_core.proofs.NameLemmas.{place_below, places_differ}
 
 -- what the links name is what is read along them

@@ -1,11 +1,5 @@
 -- Names of timers and their places.
-use Rattle.std.proofs.Common.{◌≡◌, ℕ, ◌<◌, true, false, refl, ap, arith, ◌==◌}
-use Rattle.std.proofs.lemmas.Bool.Decides.{nat_tests}
-use Rattle.std.proofs.lemmas.Bool.{and_parts, and_from, eqb-true, eq-eqb, false_from_ne_true}
-use Rattle.mote_types.specs.declared.event.Pid.{Pid}
-use Rattle.timer_core.specs.declared.timer.Timer.{Timer}
-use Rattle.timer_core.specs.Code.Places.{is_named, place_of}
-use Rattle.timer_core.specs.Names.{IsNamed, is_timer}
+use Rattle.timer_core.proofs.Words.{◌≡◌, ℕ, ◌<◌, true, false, refl, ap, arith, ◌==◌, nat_tests, and_parts, and_from, eqb-true, eq-eqb, false_from_ne_true, Pid, Timer, is_named, place_of, IsNamed, is_timer}
 
 same_pid : (p q : Pid) → p.0 ≡ q.0 → p ≡ q
 same_pid p q e = ap (λ (n : ℕ). let pid : Pid = record { 0 = n } in pid) e

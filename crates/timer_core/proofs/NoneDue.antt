@@ -1,11 +1,5 @@
 -- Where no timer is due, none is after a timer was armed whose deadline is later, or after one left the list.
-use Rattle.std.proofs.Common.{◌≡◌, ◌⊎◌, inl, inr, ℕ, ◌<◌, Bool, true, false, List, [], ◌∷◌, refl, subst}
-use Rattle.std.specs.Prelude.{None, find, filter}
-use Rattle.std.proofs.lemmas.Bool.{lt-leb}
-use Rattle.timer_core.specs.declared.timer.Timer.{Timer}
-use Rattle.timer_core.specs.declared.timer.Cell.{Cell}
-use Rattle.timer_core.specs.Names.{is_timer}
-use Rattle.timer_core.specs.Timers.{NamedCell, Timers, armed_with, is_armed, is_due, deadline, cell_of, cell_under, with_cell, given_cell, first_due}
+use Rattle.timer_core.proofs.Words.{◌≡◌, ◌⊎◌, inl, inr, ℕ, ◌<◌, Bool, true, false, List, [], ◌∷◌, refl, subst, None, find, filter, lt-leb, Timer, Cell, is_timer, NamedCell, Timers, armed_with, is_armed, is_due, deadline, cell_of, cell_under, with_cell, given_cell, first_due}
 use Rattle.timer_core.proofs.NameLemmas.{same_timer}
 
 -- whether a test holds

@@ -1,15 +1,6 @@
 -- A timer is taken from the list: the one before it gets its link.
-use Rattle.std.proofs.Common.{◌≡◌, ◌<◌, ◌≤◌, Bool, true, false, not, List, [], ◌∷◌, ◌++◌, length, refl, sym, ◌∙◌, ap, arith, set, append_assoc}
-use Rattle.std.specs.Prelude.{Option, Some, None, filter}
-use Rattle.std.specs.List.{list_any}
-use Rattle.std.proofs.lemmas.Bool.{or_parts}
+use Rattle.timer_core.proofs.Words.{◌≡◌, ◌<◌, ◌≤◌, Bool, true, false, not, List, [], ◌∷◌, ◌++◌, length, refl, sym, ◌∙◌, ap, arith, set, append_assoc, Option, Some, None, filter, list_any, or_parts, Timer, LinkedCell, place_of, IsNamed, is_timer, next_of, listed_from, Names, AreApart, IsList, Follows, IsHead}
 use Rattle.std.proofs.lemmas.List.Folds.{list_any-append}
-use Rattle.timer_core.specs.declared.timer.Timer.{Timer}
-use Rattle.timer_core.specs.declared.table.LinkedCell.{LinkedCell}
-use Rattle.timer_core.specs.Code.Places.{place_of}
-use Rattle.timer_core.specs.Names.{IsNamed, is_timer}
-use Rattle.timer_core.specs.Code.Links.{next_of, listed_from, Names, AreApart, IsList}
-use Rattle.timer_core.specs.Code.Neighbours.{Follows, IsHead}
 use Rattle.timer_core.proofs.NameLemmas.{same_timer, is_timer_itself, is_timer_flips}
 use Rattle.timer_core.proofs.LinkLemmas.{Passes, passes, Relinked, relinked, names_other, next_of_other, next_of_same, length-listed, listed_from_none}
 

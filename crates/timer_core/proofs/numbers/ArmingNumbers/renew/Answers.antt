@@ -1,5 +1,4 @@
-use Rattle.std.proofs.Common.{◌∙◌, ap}
-use Rattle.timer_core.specs.Code.Armings.{Armings, present_arming}
+use Rattle.timer_core.proofs.Words.{◌∙◌, ap, Armings, present_arming}
 use Rattle.timer_core.proofs.ArmingLemmas.{renumbered_others}
 use Rattle.timer_core.proofs.numbers.ArmingNumbers.renew.Goals as goal
 

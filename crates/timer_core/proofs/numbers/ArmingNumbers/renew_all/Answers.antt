@@ -1,5 +1,4 @@
-use Rattle.std.proofs.Common.{◌≡◌, arith, sym}
-use Rattle.timer_core.specs.Code.Numbered.{IsNumbered}
+use Rattle.timer_core.proofs.Words.{◌≡◌, arith, sym, IsNumbered}
 use Rattle.timer_core.proofs.ArmingLemmas.{all_renumbered_strikes, all_renumbered_others}
 use Rattle.timer_core.proofs.numbers.ArmingNumbers.renew_all.Goals as goal
 

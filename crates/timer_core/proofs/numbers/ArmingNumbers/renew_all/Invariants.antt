@@ -1,4 +1,4 @@
-use Rattle.std.proofs.Common.{◌≡◌, ◌+◌}
+use Rattle.timer_core.proofs.Words.{◌≡◌, ◌+◌}
 use Rattle.timer_core.proofs.ArmingLemmas.{renumbered_below}
 use Rattle.timer_core.proofs.numbers.ArmingNumbers.renew_all.Given as goal
 

@@ -1,6 +1,4 @@
-use Rattle.std.proofs.Common.{◌≡◌, true, false, sym, ◌∙◌, ap, arith}
-use Rattle.timer_core.specs.Timers.{armed_with, is_armed}
-use Rattle.timer_core.specs.Code.Links.{timers_of}
+use Rattle.timer_core.proofs.Words.{◌≡◌, true, false, sym, ◌∙◌, ap, arith, armed_with, is_armed, timers_of}
 use Rattle.timer_core.proofs.Cells.{cell_given}
 use Rattle.timer_core.proofs.Changes.{cell_changed, head_added}
 use Rattle.timer_core.proofs.NameLemmas.{place_below}
@@ -19,27 +17,23 @@ invariant_of-self-else-is_armed c =
     rw c.place-else-is_armed.ensures.value
     (head_added c.self.inside c.args.timer c.args.cell c.self.invariant c.requires.named c.requires.start free).sound
 
-pub returns-then-is_armed-clause-armed : goal.returns-then-is_armed-clause-armed
-returns-then-is_armed-clause-armed c =
-    let armed : is_armed c.args.timer (timers_of c.self.inside) ≡ true =
-    ap (is_armed c.args.timer) c.self.view_is ∙ (sym c.is_armed.ensures ∙ c.if-is_armed.true) in
-    rw c.place.ensures.value (cell_changed c.self.inside c.args.timer c.args.cell c.self.invariant c.requires.named c.requires.start armed).value
-    ∙ ap (armed_with c.args.timer c.args.cell) c.self.view_is
+pub returns-then-is_armed : goal.returns-then-is_armed
+returns-then-is_armed c =
+    let armed : is_armed c.args.timer (timers_of c.self.inside) ≡ true = ap (is_armed c.args.timer) c.self.view_is ∙ (sym c.is_armed.ensures ∙ c.if-is_armed.true) in
+    record {
+      armed = rw c.place.ensures.value (cell_changed c.self.inside c.args.timer c.args.cell c.self.invariant c.requires.named c.requires.start armed).value
+          ∙ ap (armed_with c.args.timer c.args.cell) c.self.view_is;
+      given = rw c.place.ensures.value
+          (cell_given c.self.inside.cells c.args.timer _ c.requires.named (omega (arith, c.self.invariant.places, place_below c.args.timer c.requires.named)));
+    }
 
-pub returns-else-is_armed-clause-armed : goal.returns-else-is_armed-clause-armed
-returns-else-is_armed-clause-armed c =
-    let free : is_armed c.args.timer (timers_of c.self.inside) ≡ false =
-    ap (is_armed c.args.timer) c.self.view_is ∙ (sym c.is_armed.ensures ∙ c.if-is_armed.false) in
-    rw c.place-else-is_armed.ensures.value
-    (head_added c.self.inside c.args.timer c.args.cell c.self.invariant c.requires.named c.requires.start free).value
-    ∙ ap (armed_with c.args.timer c.args.cell) c.self.view_is
-
-pub returns-then-is_armed-clause-given : goal.returns-then-is_armed-clause-given
-returns-then-is_armed-clause-given c =
-    rw c.place.ensures.value
-    (cell_given c.self.inside.cells c.args.timer _ c.requires.named (omega (arith, c.self.invariant.places, place_below c.args.timer c.requires.named)))
-
-pub returns-else-is_armed-clause-given : goal.returns-else-is_armed-clause-given
-returns-else-is_armed-clause-given c =
-    rw c.place-else-is_armed.ensures.value
-    (cell_given c.self.inside.cells c.args.timer _ c.requires.named (omega (arith, c.self.invariant.places, place_below c.args.timer c.requires.named)))
+pub returns-else-is_armed : goal.returns-else-is_armed
+returns-else-is_armed c =
+    let free : is_armed c.args.timer (timers_of c.self.inside) ≡ false = ap (is_armed c.args.timer) c.self.view_is ∙ (sym c.is_armed.ensures ∙ c.if-is_armed.false) in
+    record {
+      armed = rw c.place-else-is_armed.ensures.value
+          (head_added c.self.inside c.args.timer c.args.cell c.self.invariant c.requires.named c.requires.start free).value
+          ∙ ap (armed_with c.args.timer c.args.cell) c.self.view_is;
+      given = rw c.place-else-is_armed.ensures.value
+          (cell_given c.self.inside.cells c.args.timer _ c.requires.named (omega (arith, c.self.invariant.places, place_below c.args.timer c.requires.named)));
+    }

@@ -1,9 +1,4 @@
-use Rattle.std.proofs.Common.{◌≡◌, true, false, sym, ◌∙◌, ap, subst}
-use Rattle.std.specs.Prelude.{Some, None}
-use Rattle.timer_core.specs.Names.{is_timer}
-use Rattle.timer_core.specs.Timers.{Timers, is_armed}
-use Rattle.timer_core.specs.Code.Links.{next_of, timers_of}
-use Rattle.timer_core.specs.Code.Neighbours.{Follows, IsHead}
+use Rattle.timer_core.proofs.Words.{◌≡◌, true, false, sym, ◌∙◌, ap, subst, Some, None, is_timer, Timers, is_armed, next_of, timers_of, Follows, IsHead}
 use Rattle.timer_core.proofs.LinkLemmas.{passes, listed_shorter, listed_from_none}
 use Rattle.timer_core.proofs.Unlinking.{passed_first, passed_more, follows_here, absent_at_end, head_here}
 use Rattle.timer_core.proofs.table.TimerTable.before.Goals as goal

@@ -1,5 +1,4 @@
-use Rattle.std.proofs.Common.{length}
-use Rattle.timer_core.specs.Code.Links.{next_of, listed_from}
+use Rattle.timer_core.proofs.Words.{length, next_of, listed_from}
 use Rattle.timer_core.proofs.Unlinking.{IsPassed}
 use Rattle.timer_core.proofs.table.TimerTable.before.Given as goal
 

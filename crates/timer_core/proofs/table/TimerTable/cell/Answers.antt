@@ -1,4 +1,4 @@
-use Rattle.std.proofs.Common.{sym}
+use Rattle.timer_core.proofs.Words.{sym}
 use Rattle.timer_core.proofs.Cells.{cell_read}
 use Rattle.timer_core.proofs.table.TimerTable.cell.Goals as goal
 

@@ -1,9 +1,4 @@
-use Rattle.std.proofs.Common.{◌≡◌, false, sym, ◌∙◌, ap, subst}
-use Rattle.std.specs.List.{list_any}
-use Rattle.timer_core.specs.Names.{is_timer}
-use Rattle.timer_core.specs.Timers.{Timers, is_armed, stop_timer}
-use Rattle.timer_core.specs.Code.Links.{listed_from}
-use Rattle.timer_core.specs.Code.Neighbours.{Follows, IsHead}
+use Rattle.timer_core.proofs.Words.{◌≡◌, false, sym, ◌∙◌, ap, subst, list_any, is_timer, Timers, is_armed, stop_timer, listed_from, Follows, IsHead}
 use Rattle.timer_core.proofs.Changes.{head_removed, link_closed, nothing_removed}
 use Rattle.timer_core.proofs.table.TimerTable.disarm.Goals as goal
 

@@ -1,6 +1,4 @@
-use Rattle.std.proofs.Common.{◌≡◌, ◌∙◌, ap, arith}
-use Rattle.timer_core.specs.declared.timer.Timer.{Timer}
-use Rattle.timer_core.specs.Timers.{stop_timer}
+use Rattle.timer_core.proofs.Words.{◌≡◌, ◌∙◌, ap, arith, Timer, stop_timer}
 use Rattle.timer_core.proofs.LinkLemmas.{AllNamed, all_named}
 use Rattle.timer_core.proofs.Forgetting.{without_callbacks_at_first, without_callbacks_more, without_callbacks_at_last}
 use Rattle.timer_core.proofs.table.TimerTable.disarm_callbacks.Goals as goal

@@ -1,4 +1,4 @@
-use Rattle.std.proofs.Common.{◌≡◌}
+use Rattle.timer_core.proofs.Words.{◌≡◌}
 use Rattle.timer_core.proofs.Forgetting.{without_callbacks_below}
 use Rattle.timer_core.proofs.table.TimerTable.disarm_callbacks.Given as goal
 

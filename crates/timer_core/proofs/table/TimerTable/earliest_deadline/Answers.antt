@@ -1,7 +1,4 @@
-use Rattle.std.proofs.Common.{◌≡◌, false, sym, ◌∙◌, ap, arith}
-use Rattle.std.proofs.lemmas.Bool.{lt-leb}
-use Rattle.timer_core.specs.Timers.{Timers, is_due, deadline, cell_of, first_due}
-use Rattle.timer_core.specs.Code.Links.{timers_of}
+use Rattle.timer_core.proofs.Words.{◌≡◌, false, sym, ◌∙◌, ap, arith, lt-leb, Timers, is_due, deadline, cell_of, first_due, timers_of}
 use Rattle.timer_core.proofs.LinkLemmas.{passes, listed_shorter, found_later, listed_from_none}
 use Rattle.timer_core.proofs.table.TimerTable.earliest_deadline.Goals as goal
 

@@ -1,7 +1,4 @@
-use Rattle.std.proofs.Common.{◌≡◌, ℕ, ◌<◌, length}
-use Rattle.std.specs.Prelude.{find}
-use Rattle.timer_core.specs.Timers.{is_due}
-use Rattle.timer_core.specs.Code.Links.{listed_from, IsList, timers_of}
+use Rattle.timer_core.proofs.Words.{◌≡◌, ℕ, ◌<◌, length, find, is_due, listed_from, IsList, timers_of}
 use Rattle.timer_core.proofs.table.TimerTable.earliest_deadline.Given as goal
 
 -- before the earliest deadline of those that were passed, the first due timer is among those still to be passed

@@ -1,25 +1,20 @@
-use Rattle.std.proofs.Common.{◌≡◌, ◌≤◌, ◌<◌, true, false, sym, ◌∙◌, ap}
-use Rattle.std.proofs.lemmas.Bool.{le-leb, lt-leb}
-use Rattle.timer_core.specs.Timers.{Timers, is_due, deadline, cell_of, first_due}
-use Rattle.timer_core.specs.Code.Links.{timers_of}
+use Rattle.timer_core.proofs.Words.{◌≡◌, ◌≤◌, ◌<◌, true, false, sym, ◌∙◌, ap, le-leb, lt-leb, Timers, is_due, deadline, cell_of, first_due, timers_of}
 use Rattle.timer_core.proofs.LinkLemmas.{passes, listed_shorter, found_here, found_later, listed_from_none}
 use Rattle.timer_core.proofs.table.TimerTable.first_due.Goals as goal
 
 pub cell-cell-requires : goal.cell-cell-requires
 cell-cell-requires c = (passes c.self.inside.cells c.loop-link.link c.in-Some.timer c.in-Some.is c.loop-link.invariant.list).named
 
-pub returns-then-cell-clock-clause-first : goal.returns-then-cell-clock-clause-first
-returns-then-cell-clock-clause-first c =
+pub returns-then-cell-clock : goal.returns-then-cell-clock
+returns-then-cell-clock c =
     let come : deadline (cell_of c.in-Some.timer c.args.self.now) ≤ c.args.clock = rw c.cell-cell.ensures.value at c.if-cell-clock.true in
-    let due : is_due c.args.clock (timers_of c.self.inside) c.in-Some.timer ≡ true =
-    ap (λ (v : Timers). is_due c.args.clock v c.in-Some.timer) c.self.view_is ∙ le-leb _ _ come in
+    let due : is_due c.args.clock (timers_of c.self.inside) c.in-Some.timer ≡ true = ap (λ (v : Timers). is_due c.args.clock v c.in-Some.timer) c.self.view_is ∙ le-leb _ _ come in
     let step = passes c.self.inside.cells c.loop-link.link c.in-Some.timer c.in-Some.is c.loop-link.invariant.list in
-    sym (found_here _ _ (is_due c.args.clock (timers_of c.self.inside)) _ step due)
-    ∙ (c.loop-link.invariant.answer ∙ ap (first_due c.args.clock) c.self.view_is)
-
-pub returns-then-cell-clock-clause-named : goal.returns-then-cell-clock-clause-named
-returns-then-cell-clock-clause-named c =
-    (passes c.self.inside.cells c.loop-link.link c.in-Some.timer c.in-Some.is c.loop-link.invariant.list).named
+    record {
+      first = sym (found_here _ _ (is_due c.args.clock (timers_of c.self.inside)) _ step due)
+          ∙ (c.loop-link.invariant.answer ∙ ap (first_due c.args.clock) c.self.view_is);
+      named = (passes c.self.inside.cells c.loop-link.link c.in-Some.timer c.in-Some.is c.loop-link.invariant.list).named;
+    }
 
 pub place-requires : goal.place-requires
 place-requires c = (passes c.self.inside.cells c.loop-link.link c.in-Some.timer c.in-Some.is c.loop-link.invariant.list).named

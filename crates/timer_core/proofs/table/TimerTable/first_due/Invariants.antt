@@ -1,7 +1,4 @@
-use Rattle.std.proofs.Common.{◌≡◌, length}
-use Rattle.std.specs.Prelude.{find}
-use Rattle.timer_core.specs.Timers.{is_due}
-use Rattle.timer_core.specs.Code.Links.{listed_from, IsList, timers_of}
+use Rattle.timer_core.proofs.Words.{◌≡◌, length, find, is_due, listed_from, IsList, timers_of}
 use Rattle.timer_core.proofs.table.TimerTable.first_due.Given as goal
 
 -- the first due timer of those still to be passed is the first due one of the list

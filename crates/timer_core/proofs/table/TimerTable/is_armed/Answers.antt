@@ -1,5 +1,4 @@
-use Rattle.std.proofs.Common.{◌∙◌, ap}
-use Rattle.timer_core.specs.Timers.{is_armed}
+use Rattle.timer_core.proofs.Words.{◌∙◌, ap, is_armed}
 use Rattle.timer_core.proofs.table.TimerTable.is_armed.Goals as goal
 
 pub returns : goal.returns
