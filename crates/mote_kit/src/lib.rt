@@ -10,6 +10,7 @@ pub use app_kit::{
     FromName, chunk_of, number_line, push_bytes, push_decimal, push_latest, same_bytes,
 };
 pub use mote_streams as stream;
+pub use mote_text::script::read_number;
 pub use mote_types::app::App;
 
 /// A list of boxes with these applications, which are processes 4, 5, .. in this order. It stands in a function that

@@ -51,8 +51,9 @@ fn read_digits(digits: &[u8]) -> Option<u32>
     Some(number)
 }
 
-/// The number from 0 to 4294967295 that a text is in decimal, with no leading zero but that of `0` itself.
-fn read_number(text: &[u8]) -> Option<u32>
+/// The number from 0 to 4294967295 that a text is in decimal, with no leading zero but that of `0` itself; none, where it
+/// isn't one. Scripts have such numbers (this project's profile), and so may commands to an application.
+pub fn read_number(text: &[u8]) -> Option<u32>
     ensures { result ≡ read_number text.now }
 {
     let has_leading_zero = text.len() > 1 && text[0] == b'0';
