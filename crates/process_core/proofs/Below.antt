@@ -1,16 +1,17 @@
 -- What the poll round and the base come to, where no process is within an activation.
-use Rattle.std.proofs.Common.{◌≡◌, ℕ, Bool, true, false, List, [], ◌∷◌, refl, Option}
+use Rattle.std.proofs.Common.{◌≡◌, ℕ, Bool, true, false, List, [], ◌∷◌, ◌++◌, refl, Option, None}
 use Rattle.mote_types.specs.declared.event.Origin.{Origin}
 use Rattle.process_core.specs.declared.open_work.Base.{Base}
 use Rattle.process_core.specs.declared.scheduler_fields.SchedulerFields.{SchedulerFields}
 use Rattle.process_core.specs.Agenda.{Item, Job}
-use Rattle.process_core.specs.Processes.{is_any_marked}
+use Rattle.process_core.specs.Idle.{is_empty}
+use Rattle.process_core.specs.Processes.{numbers, is_any_marked}
 use Rattle.process_core.specs.Code.SchedulerFields.{scheduler_behind}
 use Rattle.process_core.specs.Code.Walks.{from_marked}
 use Rattle.process_core.specs.Code.Yields.{Yields}
 use Rattle.process_core.specs.Code.OpenWork.{poll_items}
 use Rattle.process_core.specs.Scheduler.{Scheduler, in_front, of_event}
-use Rattle.process_core.proofs.Yields.{unpolled_yields, unmarked_pass, yields_after}
+use Rattle.process_core.proofs.Yields.{polls_begin, unpolled_yields, unmarked_pass, yields_after}
 
 -- the first event is delivered
 pub delivered : (d : SchedulerFields) (is_polled : Bool) (next : Option (Job ℕ)) (after : Scheduler ℕ)
@@ -38,6 +39,32 @@ received d false p later next after base bare unpolled walk ready y =
     let given : Scheduler ℕ = in_front (Item.Give p Origin.Event (of_event d.broadcast) ∷ []) (scheduler_behind (record d { base = Base.Broadcast false; walk = later })) in
     let start : scheduler_behind d ≡ in_front (Item.Polls ∷ []) given = rw (bare, unpolled, base, walk) refl in
     rw start (unpolled_yields given next after (ready refl) y)
+
+-- a poll round begins, before the delivery
+pub polled_first : (d : SchedulerFields) (is_polled : Bool) (left : List ℕ)
+    → d.base ≡ Base.Deliver is_polled → is_polled ≡ false → d.stack.items ≡ [] → d.polls ≡ [] → is_any_marked d.processes ≡ true
+    → (passed : List ℕ) × (numbers d.processes ≡ passed ++ left) × (from_marked d.processes passed ≡ [])
+    → Yields (scheduler_behind d) None (scheduler_behind (record d { base = Base.Deliver true; polls = left }))
+polled_first d true left base unbegun bare unpolled marked behind = absurd (cc)
+polled_first d false left base unbegun bare unpolled marked behind =
+    let given : Scheduler ℕ = in_front (Item.Deliver ∷ []) (scheduler_behind (record d { base = Base.Nothing; polls = [] })) in
+    let start : scheduler_behind d ≡ in_front (Item.Polls ∷ []) given = rw (bare, unpolled, base) refl in
+    let after : scheduler_behind (record d { base = Base.Deliver true; polls = left }) ≡ in_front (poll_items left) given = rw bare refl in
+    rw (start, after) (polls_begin given left marked behind)
+
+-- likewise before the next receiver
+pub polled_receiver : (d : SchedulerFields) (is_polled : Bool) (walk left : List ℕ)
+    → d.base ≡ Base.Broadcast is_polled → is_polled ≡ false → d.stack.items ≡ [] → d.polls ≡ [] → d.walk ≡ walk → is_empty walk ≡ false → is_any_marked d.processes ≡ true
+    → (passed : List ℕ) × (numbers d.processes ≡ passed ++ left) × (from_marked d.processes passed ≡ [])
+    → Yields (scheduler_behind d) None (scheduler_behind (record d { base = Base.Broadcast true; polls = left }))
+polled_receiver d true walk left base unbegun bare unpolled is_walk some marked behind = absurd (cc)
+polled_receiver d false [] left base unbegun bare unpolled is_walk some marked behind = absurd (cc)
+polled_receiver d false (p ∷ later) left base unbegun bare unpolled is_walk some marked behind =
+    let given : Scheduler ℕ =
+    in_front (Item.Give p Origin.Event (of_event d.broadcast) ∷ []) (scheduler_behind (record d { base = Base.Broadcast false; walk = later; polls = [] })) in
+    let start : scheduler_behind d ≡ in_front (Item.Polls ∷ []) given = rw (bare, unpolled, base, is_walk) refl in
+    let after : scheduler_behind (record d { base = Base.Broadcast true; polls = left }) ≡ in_front (poll_items left) given = rw (bare, is_walk) refl in
+    rw (start, after) (polls_begin given left marked behind)
 
 -- the poll round comes to its next marked process
 pub polls_yield : (d : SchedulerFields) (later : List ℕ) (p : ℕ) (next : Option (Job ℕ)) (after : Scheduler ℕ)

@@ -1,5 +1,5 @@
 -- The marks, and how many of them are set.
-use Rattle.std.proofs.Common.{◌≡◌, ℕ, zero, suc, ◌+◌, ◌<◌, ◌≤◌, ◌==◌, Bool, true, false, ◌&&◌, List, [], ◌∷◌, length, refl, sym, ◌∙◌, ap, arith, eqb, set}
+use Rattle.std.proofs.Common.{◌≡◌, ℕ, zero, suc, ◌+◌, ◌<◌, ◌≤◌, ◌==◌, Bool, true, false, ◌&&◌, List, [], ◌∷◌, length, drop, refl, sym, ◌∙◌, ap, arith, eqb, set}
 use Rattle.std.specs.Prelude.{if◌then◌else◌, nat_lt}
 use Rattle.std.specs.List.{list_any}
 use Rattle.std.proofs.lemmas.Bool.Decides.{nat_tests}
@@ -8,8 +8,9 @@ use Rattle.process_core.specs.Code.LonePoll.{is_only_marked}
 use Rattle.process_core.specs.Processes.{is_any_marked, with_mark}
 use Rattle.process_core.specs.Code.Nesting.{is_one_of}
 use Rattle.process_core.specs.Code.ProcessList.{IsKept, listed, mark_at, mark_count}
+use Rattle.process_core.specs.Code.Walks.{from_marked}
 use Rattle.process_core.proofs.Listed.{any_listed, marked_kept, mark_set, kept_mark}
-use Rattle.process_core.proofs.Sound.{same_number}
+use Rattle.process_core.proofs.Sound.{not_true, same_number}
 
 pub mark_count-le-length : (m : List Bool) → mark_count m ≤ length m
 mark_count-le-length [] = omega arith
@@ -90,3 +91,43 @@ only_counted s m ns p k = split (mark_at m p) refl
         ap is_any_marked (mark_set p false s m ns place) ∙ any_counted s (set m p false) ns (kept_mark p false s m ns here k) in
         let fewer = mark_count-set m p false place in
         grind (arith, nat_tests, marked, e, cleared, fewer)
+
+-- the marked ones are the kernel's processes and the applications
+
+counted_one : (b : Bool) (m : List Bool) → mark_count (b ∷ m) ≡ (if b then 1 else 0) + mark_count m
+counted_one true m = omega arith
+counted_one false m = omega arith
+
+pub counted_apart : (m : List Bool) → 4 ≤ length m → mark_count m
+    ≡ (if mark_at m 0 then 1 else 0) + (if mark_at m 1 then 1 else 0) + (if mark_at m 2 then 1 else 0) + (if mark_at m 3 then 1 else 0) + mark_count (drop 4 m)
+counted_apart [] h = absurd (omega arith)
+counted_apart (a ∷ []) h = absurd (omega arith)
+counted_apart (a ∷ b ∷ []) h = absurd (omega arith)
+counted_apart (a ∷ b ∷ c ∷ []) h = absurd (omega arith)
+counted_apart (a ∷ b ∷ c ∷ d ∷ m) h =
+    let first = counted_one a (b ∷ c ∷ d ∷ m) in
+    let second = counted_one b (c ∷ d ∷ m) in
+    let third = counted_one c (d ∷ m) in
+    let fourth = counted_one d m in
+    omega (arith, first, second, third, fourth)
+
+unmarked_beyond : (m : List Bool) (p : ℕ) → 4 ≤ p → 4 ≤ length m → nat_lt 0 (mark_count (drop 4 m)) ≡ false → mark_at m p ≡ false
+unmarked_beyond [] p least h none = absurd (omega arith)
+unmarked_beyond (a ∷ []) p least h none = absurd (omega arith)
+unmarked_beyond (a ∷ b ∷ []) p least h none = absurd (omega arith)
+unmarked_beyond (a ∷ b ∷ c ∷ []) p least h none = absurd (omega arith)
+unmarked_beyond (a ∷ b ∷ c ∷ d ∷ m) zero least h none = absurd (omega arith)
+unmarked_beyond (a ∷ b ∷ c ∷ d ∷ m) (suc zero) least h none = absurd (omega arith)
+unmarked_beyond (a ∷ b ∷ c ∷ d ∷ m) (suc (suc zero)) least h none = absurd (omega arith)
+unmarked_beyond (a ∷ b ∷ c ∷ d ∷ m) (suc (suc (suc zero))) least h none = absurd (omega arith)
+unmarked_beyond (a ∷ b ∷ c ∷ d ∷ m) (suc (suc (suc (suc p)))) least h none =
+    not_true (mark_at m p) (λ e. let some = counted m p e in absurd (grind (arith, nat_tests, none, some)))
+
+-- where no application is marked, a poll round passes over all of them
+pub no_application_marked : (s : List State) (m : List Bool) (ns walk : List ℕ) → IsKept s m ns → ((p : ℕ) → is_one_of p walk ≡ true → 4 ≤ p)
+    → nat_lt 0 (mark_count (drop 4 m)) ≡ false → from_marked (listed s m ns) walk ≡ []
+no_application_marked s m ns [] k are none = refl
+no_application_marked s m ns (p ∷ walk) k are none =
+    let least : 4 ≤ p = are p (grind (arith, nat_tests)) in
+    let unmarked = marked_kept p s m ns k ∙ unmarked_beyond m p least (omega (arith, k.mark_places)) none in
+    rw unmarked (no_application_marked s m ns walk k (λ q h. are q (grind (arith, nat_tests, h))) none)

@@ -1,17 +1,20 @@
 -- The process list.
-use Rattle.std.proofs.Common.{◌≡◌, ◌≢◌, ℕ, ◌<◌, ◌≤◌, Bool, true, false, ◌&&◌, List, [], ◌∷◌, zero, suc, length, refl, sym, ◌∙◌, ap, arith, eqb, ◌==◌, lit<, set, get_or}
-use Rattle.std.specs.Prelude.{if◌then◌else◌, replicate}
+use Rattle.std.proofs.Common.{◌≡◌, ◌≢◌, ℕ, ◌<◌, ◌≤◌, Bool, true, false, ◌&&◌, List, [], ◌∷◌, ◌++◌, zero, suc, ◌-◌, length, drop, refl, sym, ◌∙◌, ap, arith, eqb, ◌==◌, lit<, set, get_or}
+use Rattle.std.specs.Prelude.{if◌then◌else◌, not, ◌||◌, replicate}
 use Rattle.std.specs.List.{list_any, IsDistinct, AllByRecursion}
-use Rattle.std.proofs.lemmas.List.{length-set, get_or-set_same, get_or-set_other}
+use Rattle.std.proofs.Math.Seq.{drop-append_seam}
+use Rattle.std.proofs.lemmas.List.{length-append, length-set, get_or-set_same, get_or-set_other}
+use Rattle.std.proofs.lemmas.List.Elements.{filter-append}
+use Rattle.std.proofs.lemmas.List.Folds.{list_any-append}
 use Rattle.std.proofs.lemmas.Bool.Decides.{nat_tests}
 use Rattle.std.proofs.lemmas.Map.Steps.{length-le_from_distinct_below}
 use Rattle.std.proofs.lemmas.Map.Keys.{IsDistinct-cons, IsDistinct-head, IsDistinct-tail}
 use Rattle.process_core.specs.declared.process.Process.{Process}
 use Rattle.process_core.specs.declared.state.State.{State}
 use Rattle.process_core.specs.Processes.{changed, state_of, with_state, with_mark, without, numbers, is_marked, is_any_marked}
-use Rattle.process_core.specs.Code.ProcessList.{IsKept, listed, mark_at, others, state_at}
+use Rattle.process_core.specs.Code.ProcessList.{EndsWithKernel, IsKept, kernel_numbers, listed, mark_at, others, state_at}
 use Rattle.process_core.specs.Code.Nesting.{is_one_of}
-use Rattle.process_core.proofs.Sound.{none_from_is_one_of, same_number}
+use Rattle.process_core.proofs.Sound.{none_from_is_one_of, or_false, same_number}
 
 -- ---- what the list stands for
 
@@ -320,6 +323,53 @@ pub kept_at_first : IsKept (set (set (set (set (replicate 20 State.Absent) 0 Sta
     (replicate 20 false) (3 ∷ 2 ∷ 1 ∷ 0 ∷ [])
 kept_at_first =
     kept_added 3 _ _ _ (lit< tt) refl (kept_added 2 _ _ _ (lit< tt) refl (kept_added 1 _ _ _ (lit< tt) refl (kept_added 0 _ _ [] (lit< tt) refl kept_at_none)))
+
+-- ---- the kernel's processes come last
+
+-- a process that is not on the list is an application
+beyond_kernel : (p : ℕ) (applications : List ℕ) → is_one_of p (applications ++ kernel_numbers) ≡ false → 4 ≤ p
+beyond_kernel p applications h =
+    let apart : is_one_of p (applications ++ kernel_numbers) ≡ (is_one_of p applications || is_one_of p kernel_numbers) =
+    list_any-append (eqb p) applications kernel_numbers in
+    let none = (or_false (is_one_of p applications) (is_one_of p kernel_numbers) (sym apart ∙ h)).1 in
+    grind (arith, nat_tests, none)
+
+pub ends_added : (p : ℕ) (ns : List ℕ) → is_one_of p ns ≡ false → EndsWithKernel ns → EndsWithKernel (p ∷ ns)
+ends_added p ns none e =
+    record {
+      applications = p ∷ e.applications;
+      split = ap (λ (l : List ℕ). p ∷ l) e.split;
+      above = λ q h. split q h (eqb q p) refl;
+    }
+  where
+    split : (q : ℕ) → is_one_of q (p ∷ e.applications) ≡ true → (b : Bool) → eqb q p ≡ b → 4 ≤ q
+    split q h true t = rw (same_number p q t) (beyond_kernel p e.applications (rw e.split at none))
+    split q h false t = e.above q (grind (arith, h, t))
+
+pub ends_at : (ns : List ℕ) (e : EndsWithKernel ns) → ns ≡ e.applications ++ drop (length ns - 4) ns
+ends_at ns e =
+    let at : length ns - 4 ≡ length e.applications = omega (arith, ap length e.split, length-append e.applications kernel_numbers) in
+    let kernel : drop (length e.applications) ns ≡ kernel_numbers =
+    ap (drop (length e.applications)) e.split ∙ drop-append_seam e.applications kernel_numbers in
+    rw (at, kernel) e.split
+
+pub ends_others : (p : ℕ) (ns : List ℕ) → 4 ≤ p → EndsWithKernel ns → EndsWithKernel (others p ns)
+ends_others p ns least e =
+    record {
+      applications = others p e.applications;
+      split =
+          ap (others p) e.split
+          ∙ (filter-append (λ n. not (n == p)) e.applications kernel_numbers
+          ∙ ap (λ (l : List ℕ). others p e.applications ++ l) (others_same p kernel_numbers (grind (arith, nat_tests, least))));
+      above = λ q h. split q h (eqb q p) refl;
+    }
+  where
+    split : (q : ℕ) → is_one_of q (others p e.applications) ≡ true → (b : Bool) → eqb q p ≡ b → 4 ≤ q
+    split q h true t =
+        let same = same_number p q t in
+        let here : is_one_of p (others p e.applications) ≡ true = rw same at h in
+        let none = gone p e.applications in absurd (cc)
+    split q h false t = e.above q (sym (others_stay p q e.applications t) ∙ h)
 
 -- a process on the list is marked once it was
 pub marked_from_present : (p : ℕ) (list : List Process) → (state_of p list ≡ State.Absent → ⊥) → is_marked p (with_mark p true list) ≡ true

@@ -97,6 +97,13 @@ order_booting d p later boots e order =
 
 -- ---- the topmost continuation is taken from the stack
 
+-- it is an application that leaves
+pub leaver_above : (d : SchedulerFields) (q : Pid) (walk : List ℕ) (exits : Bool) (below : List Continuation)
+    → IsOrdered d (Continuation.Leave q walk exits ∷ below) → 4 ≤ q.0
+leaver_above d q walk exits below order =
+    (sound.application_range d.applications q.0
+    (sound.application_in has_ended d.applications d.processes q.0 order.sound.mote (order.sound.leaves q.0 (grind (arith, sound.is_first q.0))) refl refl)).0
+
 pub order_taken : (d : SchedulerFields) (p : Pid) → d.front ≡ Front.Nothing → IsOrdered d (Continuation.Answer p ∷ reverse d.stack.items)
     → IsInOrder (record d { front = Front.Call p })
 order_taken d p idle order =

@@ -108,7 +108,7 @@ application_from_state n list p mote present busy = application_is n p (split (n
     split true e = absurd (busy (mote.kernel p (grind (arith, nat_tests, e))))
     split false e = grind (arith, nat_tests, e)
 
-application_in : (test : State → Bool) (n : ℕ) (list : List Process) (p : ℕ) → IsOfMote n list → test (state_of p list) ≡ true
+pub application_in : (test : State → Bool) (n : ℕ) (list : List Process) (p : ℕ) → IsOfMote n list → test (state_of p list) ≡ true
     → test State.Absent ≡ false → test State.Running ≡ false → IsApplication n p
 application_in test n list p mote passes absent running =
     application_from_state n list p mote

@@ -1,5 +1,5 @@
 -- Work that is done in parts.
-use Rattle.std.proofs.Common.{◌≡◌, ℕ, zero, suc, Bool, true, false, List, [], ◌∷◌, refl, sym, ◌∙◌, ap, arith, Option, Some, None}
+use Rattle.std.proofs.Common.{◌≡◌, ℕ, zero, suc, Bool, true, false, List, [], ◌∷◌, ◌++◌, refl, sym, ◌∙◌, ap, arith, Option, Some, None}
 use Rattle.std.specs.Prelude.{is_some, drop, map, slice_get, not, ◌&&◌, ◌≤◌}
 use Rattle.std.proofs.lemmas.Bool.Decides.{nat_tests}
 use Rattle.mote_types.specs.declared.event.Stimulus.{Stimulus}
@@ -14,7 +14,7 @@ use Rattle.mote_types.specs.declared.event.Origin.{Origin}
 use Rattle.mote_types.specs.EventNumbers.{INIT, POLL}
 use Rattle.mote_types.specs.Codes.{plain_event}
 use Rattle.process_core.specs.declared.state.State.{State}
-use Rattle.process_core.specs.Processes.{is_any_marked, is_marked, with_mark, is_running, is_kernel_process}
+use Rattle.process_core.specs.Processes.{numbers, is_any_marked, is_marked, with_mark, is_running, is_kernel_process}
 use Rattle.process_core.specs.Agenda.{Queued, Item, Job}
 use Rattle.process_core.specs.Scheduler.{Scheduler, after_front, job, after_items, in_front, of_event, first_event, state_in, job_of_give}
 use Rattle.process_core.specs.Code.Yields.{Yields}
@@ -98,6 +98,27 @@ module _ {X : Type 0} where
           yields_next (in_front (map (λ q. Item.PollOne q) (p ∷ walk)) s) None (in_front (map (λ q. Item.PollOne q) (from_marked s.processes walk)) s)
           refl (rw e later)
           )
+
+  passed_by : (s : Scheduler X) (passed left : List ℕ) → from_marked s.processes passed ≡ []
+      → Yields (in_front (map (λ p. Item.PollOne p) (passed ++ left)) s) None (in_front (map (λ p. Item.PollOne p) left) s)
+  passed_by s [] left none = (0, refl)
+  passed_by s (p ∷ passed) left none = split (is_marked p s.processes) refl none (passed_by s passed left)
+    where
+      split : (b : Bool) → is_marked p s.processes ≡ b → from_marked s.processes (p ∷ passed) ≡ []
+          → (from_marked s.processes passed ≡ [] → Yields (in_front (map (λ q. Item.PollOne q) (passed ++ left)) s) None (in_front (map (λ q. Item.PollOne q) left) s))
+          → Yields (in_front (map (λ q. Item.PollOne q) (p ∷ (passed ++ left))) s) None (in_front (map (λ q. Item.PollOne q) left) s)
+      split true e none later = let some : p ∷ passed ≡ [] = rw e at none in absurd (cc)
+      split false e none later =
+          yields_next (in_front (map (λ q. Item.PollOne q) (p ∷ (passed ++ left))) s) None (in_front (map (λ q. Item.PollOne q) left) s)
+          refl (rw e (later (rw e at none)))
+
+  -- a poll round begins, behind some that are not marked
+  pub polls_begin : (s : Scheduler X) (left : List ℕ) → is_any_marked s.processes ≡ true
+      → (passed : List ℕ) × (numbers s.processes ≡ passed ++ left) × (from_marked s.processes passed ≡ [])
+      → Yields (in_front (Item.Polls ∷ []) s) None (in_front (map (λ p. Item.PollOne p) left) s)
+  polls_begin s left marked behind =
+      yields_next (in_front (Item.Polls ∷ []) s) None (in_front (map (λ p. Item.PollOne p) left) s) refl
+      (rw (marked, behind.1) (passed_by s behind.0 left behind.2))
 
   pub start_yields : (s : Scheduler X) (p : ℕ) (next : Option (Job X)) (after : Scheduler X) → state_in s p ≡ State.Absent
       → Yields (in_front (Item.Give p Origin.Synch (of_event (plain_event INIT)) ∷ [])

@@ -12,10 +12,10 @@ ghost use Rattle.process_core.specs.Code.Yields.{Yields};
 ghost use Rattle.process_core.specs.declared.open_work.Base.{Base};
 ghost use Rattle.process_core.specs.declared.front.Front.{Front};
 
-use crate::open_work::{Base, put_event, tell};
 use crate::front::Front;
-use crate::queued::Queued;
 use crate::next_job::NextJob;
+use crate::open_work::{Base, put_event, tell};
+use crate::queued::Queued;
 use crate::scheduler_fields::SchedulerFields;
 use crate::state::State;
 use circular_buffer::HeapCircularBuffer;

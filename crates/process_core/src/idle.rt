@@ -7,8 +7,8 @@ ghost use Rattle.process_core.specs.Code.SchedulerFields.{scheduler_of};
 ghost use Rattle.mote_types.specs.declared.event.Event.{Event};
 ghost use Rattle.mote_types.specs.declared.reply.Reply.{Reply};
 
-use crate::open_work::Base;
 use crate::front::Front;
+use crate::open_work::Base;
 use crate::scheduler::Scheduler;
 use crate::scheduler_fields::SchedulerFields;
 use crate::walk::Walk;

@@ -1,19 +1,19 @@
 //! The scheduler of a mote: processes, the event queue, and the agenda of what is still to be done.
 #![tactic(auto)]
 
-pub mod open_work;
 mod front;
 mod giving;
 mod idle;
 pub mod job;
 mod lone_poll;
 mod marks;
-mod numbers;
+pub mod next_job;
+pub mod open_work;
 mod posting;
 mod process;
 mod process_list;
+mod process_numbers;
 mod queued;
-pub mod next_job;
 mod receivers;
 mod requests;
 pub mod scheduler;

@@ -1,6 +1,6 @@
 //! The marks of the processes: a poll of a marked one is due.
 
-ghost use Rattle.std.specs.Prelude.{◌≡◌, ◌<◌, length, false, replicate, slice_set};
+ghost use Rattle.std.specs.Prelude.{◌≡◌, ◌<◌, drop, length, false, nat_lt, replicate, slice_set};
 ghost use Rattle.process_core.specs.Code.ProcessList.{mark_at, mark_count};
 
 use std::marker::Model;
@@ -52,6 +52,17 @@ impl Marks {
         ensures { result ≡ mark_at self.now number }
     {
         mark_in(&self.marks, number)
+    }
+
+    /// Whether any application is marked.
+    pub fn is_application_marked(&self) -> bool
+        ensures { result ≡ nat_lt 0 (mark_count (drop 4 self.now)) }
+    {
+        let kernel = usize::from(self.marks[0])
+            + usize::from(self.marks[1])
+            + usize::from(self.marks[2])
+            + usize::from(self.marks[3]);
+        self.count > kernel
     }
 
     /// How many processes are marked.

@@ -98,11 +98,15 @@ fn put_telling_reply(place: &mut Reply, reply: &Reply)
 }
 
 /// Puts a reply into the place. Most say Done, and all but bytes take fewer moves than the room of a reply would.
-pub(crate) fn put_reply(place: &mut Reply, reply: &Reply)
+fn put_reply(place: &mut Reply, reply: &Reply)
     ensures { place.new ≡ reply.now }
 {
     match reply {
-        Reply::Done => *place = Reply::Done,
+        Reply::Done => {
+            if !matches!(place, Reply::Done) {
+                *place = Reply::Done;
+            }
+        }
         _ => put_telling_reply(place, reply),
     }
 }

@@ -1,16 +1,17 @@
 //! The process list, the head first.
-ghost use Rattle.std.specs.Prelude.{◌≡◌, ◌<◌, ◌≤◌, ◌∷◌, length, false, eqb};
+ghost use Rattle.std.specs.Prelude.{◌≡◌, ◌<◌, ◌≤◌, [], ◌∷◌, ◌++◌, ℕ, List, length, false, eqb};
 ghost use Rattle.std.specs.List.{IsDistinct};
 ghost use Rattle.process_core.specs.Code.LonePoll.{is_only_marked};
 ghost use Rattle.process_core.specs.Processes.{state_of, is_marked, is_any_marked, with_state, with_mark, without, numbers, at_first};
 ghost use Rattle.process_core.specs.Code.ProcessList.{others, state_at};
+ghost use Rattle.process_core.specs.Code.Walks.{from_marked};
 ghost use Rattle.process_core.specs.declared.state.State.{State};
 
 use crate::marks::{Marks, PROCESSES};
-use crate::numbers::Numbers;
+use crate::process_numbers::ProcessNumbers;
 use crate::state::State;
 use crate::walk::Walk;
-use mote_types::event::Pid;
+use mote_types::event::{FIRST_APPLICATION, Pid};
 use std::marker::Model;
 
 /// The processes that are there: the kernel's and the applications that were started, the latest first.
@@ -18,7 +19,7 @@ use std::marker::Model;
 /// What a process does and whether it is marked lie at its number, so that no list is searched.
 #[derive(Drop)]
 pub struct ProcessList {
-    on_list: Numbers,
+    on_list: ProcessNumbers,
     /// One that is not on the list is Absent.
     states: [State; PROCESSES],
     marks: Marks,
@@ -27,13 +28,13 @@ pub struct ProcessList {
 impl Model for ProcessList {
     ghost use Rattle.std.specs.Prelude.{List, ℕ};
     ghost use Rattle.process_core.specs.declared.process.Process.{Process};
-    ghost use Rattle.process_core.specs.Code.ProcessList.{listed, IsKept};
+    ghost use Rattle.process_core.specs.Code.ProcessList.{listed, IsListed};
 
     ghost Value = { List Process };
 
     ghost view = { λ l. listed l.states l.marks l.on_list.items };
 
-    ghost invariant = { λ l. IsKept l.states l.marks l.on_list.items };
+    ghost invariant = { λ l. IsListed l.states l.marks l.on_list.items };
 }
 
 fn state_in(states: &[State], number: u8) -> State
@@ -46,11 +47,11 @@ fn state_in(states: &[State], number: u8) -> State
 }
 
 /// The numbers but for this one.
-fn others_in(on_list: &[u8], number: u8) -> Numbers
+fn others_in(on_list: &[u8], number: u8) -> ProcessNumbers
     requires { length on_list.now ≤ 20 }
     ensures { result.items ≡ others number on_list.now }
 {
-    let mut kept = Numbers::new();
+    let mut kept = ProcessNumbers::new();
     for other in on_list {
         if *other != number {
             kept.push(*other);
@@ -64,7 +65,7 @@ impl ProcessList {
     pub fn new() -> ProcessList
         ensures { result ≡ at_first }
     {
-        let mut on_list = Numbers::new();
+        let mut on_list = ProcessNumbers::new();
         on_list.push(3);
         on_list.push(2);
         on_list.push(1);
@@ -144,12 +145,13 @@ impl ProcessList {
         requires absent { state_of pid.0 self.old ≡ State.Absent }
         ensures { self.new ≡ record { number = pid.0; state = State.Running; marked = false } ∷ self.old }
     {
-        self.on_list = Numbers::behind(pid.0, self.on_list.as_slice());
+        self.on_list = ProcessNumbers::behind(pid.0, self.on_list.as_slice());
         self.states[pid.0 as usize] = State::Running;
     }
 
-    /// Takes the process from the list, with its mark.
+    /// Takes the application from the list, with its mark.
     pub fn remove(&mut self, pid: Pid)
+        requires { 4 ≤ pid.0 }
         ensures { self.new ≡ without pid.0 self.old }
     {
         match self.state_of(pid) {
@@ -168,6 +170,20 @@ impl ProcessList {
         ensures few { length result ≤ 20 }
     {
         Walk::over(self.on_list.copied())
+    }
+
+    /// A walk over the list as it stands, for a poll round. Where no application is marked it begins at the kernel's
+    /// processes: nothing is done before it comes to one of them.
+    pub fn walk_to_poll(&self) -> Walk
+        ensures rest { (passed : List ℕ) × (numbers self.now ≡ passed ++ result) × (from_marked self.now passed ≡ []) }
+        ensures few { length result ≤ 20 }
+    {
+        let at = if self.marks.is_application_marked() {
+            0
+        } else {
+            self.on_list.len() - usize::from(FIRST_APPLICATION)
+        };
+        Walk::over_from(self.on_list.copied(), at)
     }
 
     /// A walk over the list as it stands, without this process.

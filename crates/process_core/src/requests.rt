@@ -6,8 +6,8 @@ ghost use Rattle.process_core.specs.Requests as request;
 ghost use Rattle.process_core.specs.Scheduler.{marked, state_in};
 ghost use Rattle.process_core.specs.Code.SchedulerView.{awaiting_nothing};
 
-use crate::open_work::Continuation;
 use crate::front::Front;
+use crate::open_work::Continuation;
 use crate::scheduler::Scheduler;
 use crate::state::State;
 use mote_types::event::{Event, FIRST_APPLICATION, Pid, is_reserved};

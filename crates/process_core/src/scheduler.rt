@@ -13,13 +13,13 @@ ghost use Rattle.process_core.specs.Code.NextJobs.{job_told};
 ghost use Rattle.process_core.specs.declared.job.Job as ready;
 ghost use Rattle.process_core.specs.declared.next_job.NextJob.{NextJob as Answer};
 
-use crate::open_work::Base;
 use crate::front::Front;
 use crate::giving::plain_event;
 use crate::job::Job;
-use crate::numbers::Numbers;
-use crate::process_list::ProcessList;
 use crate::next_job::{NextJob, job_told};
+use crate::open_work::Base;
+use crate::process_list::ProcessList;
+use crate::process_numbers::ProcessNumbers;
 use crate::scheduler_fields::SchedulerFields;
 use crate::walk::Walk;
 use arrayvec::ArrayVec;
@@ -64,7 +64,7 @@ impl Scheduler {
         ensures { IfOk result (λ s. s ≡ awaiting_nothing (at_boot applications)) }
     {
         let events = HeapCircularBuffer::with_capacity(alloc, QUEUE_PLACES)?;
-        let mut starts = Numbers::new();
+        let mut starts = ProcessNumbers::new();
         for number in FIRST_APPLICATION..FIRST_APPLICATION + applications {
             starts.push(number);
         }

@@ -1,7 +1,7 @@
 //! The scheduler's fields.
 
-use crate::open_work::{Base, Continuation};
 use crate::front::Front;
+use crate::open_work::{Base, Continuation};
 use crate::process_list::ProcessList;
 use crate::queued::Queued;
 use crate::walk::Walk;

@@ -11,10 +11,10 @@ ghost use Rattle.process_core.specs.declared.front.Front.{Front};
 ghost use Rattle.process_core.specs.declared.open_work.Base.{Base};
 ghost use Rattle.process_core.specs.declared.open_work.Continuation.{Continuation};
 
-use crate::open_work::{Base, Continuation, tell, tell_reply};
 use crate::front::Front;
 use crate::giving::plain_event;
 use crate::next_job::NextJob;
+use crate::open_work::{Base, Continuation, tell, tell_reply};
 use crate::scheduler_fields::SchedulerFields;
 use crate::state::State;
 use crate::walk::Walk;
@@ -144,7 +144,7 @@ impl SchedulerFields {
     {
         if !is_polled && self.processes.is_any_marked() {
             self.base = Base::Deliver { is_polled: true };
-            self.polls = self.processes.walk();
+            self.polls = self.processes.walk_to_poll();
             return None;
         }
         self.base = Base::Nothing;
@@ -168,7 +168,7 @@ impl SchedulerFields {
     {
         if !is_polled && self.processes.is_any_marked() && !self.walk.is_over() {
             self.base = Base::Broadcast { is_polled: true };
-            self.polls = self.processes.walk();
+            self.polls = self.processes.walk_to_poll();
             return None;
         }
         match self.walk.advance() {
@@ -222,7 +222,9 @@ impl SchedulerFields {
         ensures falls { IfNone result (weight self.new < weight self.old) }
     {
         match self.stack.pop() {
-            Some(Continuation::Leave { pid, walk, exits }) => self.resume_leave(pid, walk, exits, told),
+            Some(Continuation::Leave { pid, walk, exits }) => self.resume_leave(
+                pid, walk, exits, told,
+            ),
             Some(Continuation::Answer(pid)) => {
                 tell_reply(told, &Reply::Done);
                 self.front = Front::Call(pid);

@@ -4,8 +4,8 @@ ghost use Rattle.std.specs.Prelude.{◌≡◌, Some};
 ghost use Rattle.process_core.specs.Requests as request;
 ghost use Rattle.process_core.specs.Code.SchedulerView.{awaiting_nothing};
 
-use crate::open_work::{Continuation, put_reply};
 use crate::front::Front;
+use crate::open_work::Continuation;
 use crate::scheduler::Scheduler;
 use crate::state::State;
 use mote_types::event::Pid;
@@ -18,7 +18,10 @@ impl Scheduler {
         requires { self.old.turn ≡ Some caller }
         ensures { self.new ≡ awaiting_nothing (request.answered caller.0 reply self.old.state) }
     {
-        put_reply(&mut self.fields.reply, &reply);
+        // Where both say Done nothing is moved: the place has room for bytes.
+        if !matches!(reply, Reply::Done) || !matches!(self.fields.reply, Reply::Done) {
+            self.fields.reply = reply;
+        }
         self.fields.front = Front::Answer(caller);
     }
 

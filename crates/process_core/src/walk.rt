@@ -4,15 +4,15 @@ ghost use Rattle.mote_types.specs.declared.event.Pid.{Pid as At};
 ghost use Rattle.process_core.specs.Code.Walks.{from_application, from_marked};
 ghost use Rattle.process_core.specs.Idle.{is_empty};
 
-use crate::numbers::Numbers;
 use crate::process_list::ProcessList;
+use crate::process_numbers::ProcessNumbers;
 use mote_types::event::{FIRST_APPLICATION, Pid};
 use std::marker::Model;
 
 /// The numbers of the processes that are left, in list order: a copy of the list's numbers, and a cursor.
 #[derive(Drop)]
 pub struct Walk {
-    numbers: Numbers,
+    numbers: ProcessNumbers,
     at: usize,
 }
 
@@ -31,14 +31,22 @@ impl Walk {
     pub fn none() -> Walk
         ensures { result ≡ [] }
     {
-        Walk::over(Numbers::new())
+        Walk::over(ProcessNumbers::new())
     }
 
     /// A walk over these.
-    pub fn over(numbers: Numbers) -> Walk
+    pub fn over(numbers: ProcessNumbers) -> Walk
         ensures { result ≡ numbers.items }
     {
         Walk { numbers, at: 0 }
+    }
+
+    /// A walk over these from a place on.
+    pub fn over_from(numbers: ProcessNumbers, at: usize) -> Walk
+        requires { at ≤ length numbers.items }
+        ensures { result ≡ drop at numbers.items }
+    {
+        Walk { numbers, at }
     }
 
     /// The next process, which the walk leaves behind.

@@ -1,5 +1,5 @@
 -- What the code's process list stands for, and what is always true of it.
-use Rattle.std.specs.Prelude.{◌≡◌, ℕ, suc, ◌<◌, Bool, true, false, not, eqb, ◌==◌, List, [], ◌∷◌, map, filter, length, slice_index_or}
+use Rattle.std.specs.Prelude.{◌≡◌, ℕ, suc, ◌<◌, ◌≤◌, Bool, true, false, not, eqb, ◌==◌, List, [], ◌∷◌, ◌++◌, map, filter, length, slice_index_or}
 use Rattle.std.specs.List.{IsDistinct}
 use Rattle.process_core.specs.declared.state.State.{State}
 use Rattle.process_core.specs.declared.process.Process.{Process}
@@ -25,6 +25,10 @@ mark_count (false ∷ marks) = mark_count marks
 abbrev pub listed : List State → List Bool → List ℕ → List Process
 listed states marks on_list = map (process_at states marks) on_list
 
+-- the kernel's processes, which are last on each list
+abbrev pub kernel_numbers : List ℕ
+kernel_numbers = 3 ∷ 2 ∷ 1 ∷ 0 ∷ []
+
 -- the numbers but for p
 abbrev pub others : ℕ → List ℕ → List ℕ
 others p on_list = filter (λ n. not (n == p)) on_list
@@ -39,3 +43,13 @@ pub record IsKept (states : List State) (marks : List Bool) (on_list : List ℕ)
   pub present : (p : ℕ) → is_one_of p on_list ≡ true → state_at states p ≡ State.Absent → ⊥
   pub absent : (p : ℕ) → is_one_of p on_list ≡ false → state_at states p ≡ State.Absent
   pub unmarked : (p : ℕ) → is_one_of p on_list ≡ false → mark_at marks p ≡ false
+
+-- applications, and behind them the kernel's processes
+pub record EndsWithKernel (on_list : List ℕ) : Type 0 where
+  pub applications : List ℕ
+  pub split : on_list ≡ applications ++ kernel_numbers
+  pub above : (p : ℕ) → is_one_of p applications ≡ true → 4 ≤ p
+
+pub record IsListed (states : List State) (marks : List Bool) (on_list : List ℕ) : Type 0 where
+  pub kept : IsKept states marks on_list
+  pub ends : EndsWithKernel on_list

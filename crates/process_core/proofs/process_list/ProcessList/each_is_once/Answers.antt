@@ -8,4 +8,4 @@ returns c =
     let list = c.self.inside in
     let same : numbers c.args.self.now ≡ list.on_list.items =
     sym (ap numbers c.self.view_is) ∙ numbers_listed list.states list.marks list.on_list.items in
-    rw same c.self.invariant.distinct
+    rw same c.self.invariant.kept.distinct

@@ -8,4 +8,4 @@ pub returns : goal.returns
 returns c =
     let list = c.self.inside in
     ap (λ count. nat_lt 0 count) c.count.ensures
-    ∙ (sym (any_counted list.states list.marks list.on_list.items c.self.invariant) ∙ ap is_any_marked c.self.view_is)
+    ∙ (sym (any_counted list.states list.marks list.on_list.items c.self.invariant.kept) ∙ ap is_any_marked c.self.view_is)

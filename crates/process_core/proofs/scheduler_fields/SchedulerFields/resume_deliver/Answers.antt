@@ -1,6 +1,6 @@
 use Rattle.std.proofs.Common.{◌≡◌, false, sym, ◌∙◌}
 use Rattle.process_core.specs.Processes.{is_any_marked}
-use Rattle.process_core.proofs.Below.{delivered}
+use Rattle.process_core.proofs.Below.{delivered, polled_first}
 use Rattle.process_core.proofs.scheduler_fields.SchedulerFields.resume_deliver.Goals as goal
 use Rattle.process_core.proofs.scheduler_fields.SchedulerFields.resume_deliver.Goals.{else-not-is_polled-via-then-not-is_polled+else-is_any_marked, else-not-is_polled-via-else-not-is_polled}
 
@@ -11,3 +11,8 @@ returns-clause-yields c =
       | else-not-is_polled-via-else-not-is_polled w ↦ λ e. absurd (cc)
     ] in
     delivered c.args.self.now c.args.is_polled _ _ c.requires.delivers c.requires.bare c.requires.unpolled unmarked c.deliver.ensures.yields
+
+pub returns-then-is_any_marked-clause-yields : goal.returns-then-is_any_marked-clause-yields
+returns-then-is_any_marked-clause-yields c =
+    polled_first c.args.self.now c.args.is_polled c.walk_to_poll-self.result c.requires.delivers c.if-not-is_polled.true c.requires.bare c.requires.unpolled
+    (sym c.is_any_marked.ensures ∙ c.if-is_any_marked.true) c.walk_to_poll-self.ensures.rest

@@ -1,6 +1,6 @@
 use Rattle.std.proofs.Common.{arith, refl, false, []}
 use Rattle.process_core.specs.declared.open_work.Continuation.{Continuation}
-use Rattle.process_core.proofs.Order.{pushed, room_below, order_removed, order_exiting}
+use Rattle.process_core.proofs.Order.{pushed, room_below, leaver_above, order_removed, order_exiting}
 use Rattle.process_core.proofs.scheduler_fields.SchedulerFields.resume_leave.Goals as goal
 
 pub push-requires : goal.push-requires
@@ -21,3 +21,6 @@ returns-else-not-exits-clause-yields c =
 pub returns-else-not-exits-clause-order : goal.returns-else-not-exits-clause-order
 returns-else-not-exits-clause-order c =
     order_exiting c.args.self.now c.args.pid c.args.walk _ c.args.exits _ c.set_state.new.self _ c.requires.idle c.set_state.ensures c.push-in-None.ensures.items c.requires.order
+
+pub remove-requires : goal.remove-requires
+remove-requires c = leaver_above c.args.self.now c.args.pid c.args.walk c.args.exits _ c.requires.order

@@ -9,12 +9,12 @@ use std::marker::Model;
 ///
 /// No `ArrayVec`: a walk is a copy of these, and to copy an `ArrayVec` is a call of memcpy for as much as it holds.
 #[derive(Drop)]
-pub struct Numbers {
+pub struct ProcessNumbers {
     places: [u8; PROCESSES],
     len: usize,
 }
 
-impl Model for Numbers {
+impl Model for ProcessNumbers {
     ghost use Rattle.std.specs.Prelude.{◌≡◌, ◌≤◌, ℕ, length, take};
     ghost use Rattle.arrayvec.specs.ArrayVec.{ArrayVec as Items};
 
@@ -25,12 +25,12 @@ impl Model for Numbers {
     ghost invariant = { λ n. (n.len ≤ 20) × (length n.places ≡ 20) };
 }
 
-impl Numbers {
+impl ProcessNumbers {
     /// No number.
     pub fn new() -> Self
         ensures { result.items ≡ [] }
     {
-        Numbers {
+        ProcessNumbers {
             places: [0; PROCESSES],
             len: 0,
         }
@@ -45,7 +45,7 @@ impl Numbers {
         let len = 1 + rest.len();
         places[0] = first;
         places[1..len].copy_from_slice(rest);
-        Numbers { places, len }
+        ProcessNumbers { places, len }
     }
 
     /// The same numbers once more.
@@ -53,7 +53,7 @@ impl Numbers {
         ensures value { result ≡ self.now }
         ensures few { length result.items ≤ 20 }
     {
-        Numbers {
+        ProcessNumbers {
             places: self.places,
             len: self.len,
         }
