@@ -104,18 +104,6 @@ leaver_above d q walk exits below order =
     (sound.application_range d.applications q.0
     (sound.application_in has_ended d.applications d.processes q.0 order.sound.mote (order.sound.leaves q.0 (grind (arith, sound.is_first q.0))) refl refl)).0
 
-pub order_taken : (d : SchedulerFields) (p : Pid) → d.front ≡ Front.Nothing → IsOrdered d (Continuation.Answer p ∷ reverse d.stack.items)
-    → IsInOrder (record d { front = Front.Call p })
-order_taken d p idle order =
-    record {
-      sound = sound.sound-taken d.applications d.processes (reverse d.stack.items) p (idle_sound d (Continuation.Answer p ∷ reverse d.stack.items) order idle);
-      starts = tt;
-      boots = order.boots;
-      room = order.room;
-      few = order.few;
-      numbers = order.numbers;
-    }
-
 pub order_removed : (d : SchedulerFields) (q : Pid) (walk : List ℕ) (exits : Bool) (new : List Process) → d.front ≡ Front.Nothing
     → new ≡ without q.0 d.processes → IsOrdered d (Continuation.Leave q walk exits ∷ reverse d.stack.items) → IsInOrder (record d { processes = new })
 order_removed d q walk exits new idle e order =
@@ -127,28 +115,6 @@ order_removed d q walk exits new idle e order =
       few = order.few;
       numbers = order.numbers;
     }
-
--- the others that are to be told that q has ended
-pub order_telling : (d : SchedulerFields) (q : Pid) (walk later : List ℕ) (exits : Bool) (stack : List Continuation) → stack ≡ d.stack.items ++ Continuation.Leave q later exits ∷ []
-    → IsOrdered d (Continuation.Leave q walk exits ∷ reverse d.stack.items) → IsInOrder (record d { stack = record { items = stack } })
-order_telling d q walk later exits stack e order =
-    record {
-      sound = rw (e, pushed d.stack.items (Continuation.Leave q later exits)) (again (active_in d.front) order.sound);
-      starts = order.starts;
-      boots = order.boots;
-      room = order.room;
-      few = order.few;
-      numbers = order.numbers;
-    }
-  where
-    turn_same : (t : Option Pid) → IfSome t (λ p. IsAtTurn d.processes (Continuation.Leave q walk exits ∷ reverse d.stack.items) p.0)
-        → IfSome t (λ p. IsAtTurn d.processes (Continuation.Leave q later exits ∷ reverse d.stack.items) p.0)
-    turn_same None h = tt
-    turn_same (Some p) h = record { active = h.active; apart = h.apart }
-
-    again : (t : Option Pid) → IsSound d.applications d.processes (Continuation.Leave q walk exits ∷ reverse d.stack.items) t
-        → IsSound d.applications d.processes (Continuation.Leave q later exits ∷ reverse d.stack.items) t
-    again t s = record { mote = s.mote; nested = s.nested; answers = s.answers; leaves = s.leaves; at_turn = turn_same t s.at_turn }
 
 pub order_exiting : (d : SchedulerFields) (q : Pid) (walk later : List ℕ) (exits still : Bool) (list : List Process) (stack : List Continuation) → d.front ≡ Front.Nothing
     → list ≡ with_state q.0 State.Ending d.processes → stack ≡ d.stack.items ++ Continuation.Leave q later still ∷ []
@@ -202,11 +168,6 @@ behind_is_all d ready e = rw (e, nothing_after ready) refl
     nothing_after (Some NextJob.Round) = refl
     nothing_after (Some NextJob.Rest) = refl
 
--- the process at turn is answered
-pub order_answered : (d : SchedulerFields) (p : Pid) (reply : Reply) → IsInOrder d → turn_in d.front ≡ Some p → IsInOrder (record d { reply = reply; front = Front.Answer p })
-order_answered d p reply order e =
-    record { sound = turn_sound d p order e; starts = tt; boots = order.boots; room = order.room; few = order.few; numbers = order.numbers }
-
 -- its call was accepted, and this comes first
 pub order_accepted : (d : SchedulerFields) (p : Pid) (front : Front) (synch : Event) (stack : List Continuation) → IsInOrder d → turn_in d.front ≡ Some p
     → active_in front ≡ None → StartsKnown d.applications front → stack ≡ d.stack.items ++ Continuation.Answer p ∷ []
@@ -214,18 +175,6 @@ pub order_accepted : (d : SchedulerFields) (p : Pid) (front : Front) (synch : Ev
 order_accepted d p front synch stack order e none known f =
     record {
       sound = rw (f, pushed d.stack.items (Continuation.Answer p), none) (sound.sound-answered d.applications d.processes (reverse d.stack.items) p (turn_sound d p order e));
-      starts = known;
-      boots = order.boots;
-      room = order.room;
-      few = order.few;
-      numbers = order.numbers;
-    }
-
--- nothing is awaited any more
-pub order_quiet : (d : SchedulerFields) (front : Front) → IsInOrder d → active_in front ≡ None → StartsKnown d.applications front → IsInOrder (record d { front = front })
-order_quiet d front order none known =
-    record {
-      sound = rw none (sound.sound-quiet d.applications d.processes (reverse d.stack.items) (active_in d.front) order.sound);
       starts = known;
       boots = order.boots;
       room = order.room;

@@ -190,27 +190,10 @@ sound-answered n list stack pid s =
       at_turn = tt;
     }
 
--- and is answered
-pub sound-taken : (n : ℕ) (list : List Process) (stack : List Continuation) (pid : Pid)
-    → IsSound n list (Continuation.Answer pid ∷ stack) None → IsSound n list stack (Some pid)
-sound-taken n list stack pid s =
-    record {
-      mote = s.mote;
-      nested = s.nested.1;
-      answers = one_less is_in_activation list (answering stack) pid.0 s.answers;
-      leaves = s.leaves;
-      at_turn = record { active = s.answers pid.0 (grind (arith, is_first pid.0)); apart = s.nested.0 };
-    }
-
 -- the process at turn is an application
 pub application_at_turn : (n : ℕ) (list : List Process) (stack : List Continuation) (pid : Pid)
     → IsSound n list stack (Some pid) → IsApplication n pid.0
 application_at_turn n list stack pid s = application_in is_in_activation n list pid.0 s.mote s.at_turn.active refl refl
-
-pub active_from_sound : (n : ℕ) (list : List Process) (stack : List Continuation) (turn : Option Pid) → IsSound n list stack turn
-    → IfSome turn (λ p. IsApplication n p.0 × (is_in_activation (state_of p.0 list) ≡ true))
-active_from_sound n list stack None s = tt
-active_from_sound n list stack (Some p) s = (application_at_turn n list stack p s, s.at_turn.active)
 
 pub sound-waited : (n : ℕ) (list : List Process) (stack : List Continuation) (pid : Pid)
     → IsSound n list stack (Some pid) → has_ended (state_of pid.0 list) ≡ false

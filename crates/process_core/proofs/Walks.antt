@@ -23,15 +23,6 @@ length-from_marked list (p ∷ walk) = split (is_marked p list) refl (length-fro
     split true e later = rw e (omega arith)
     split false e later = rw e (omega (arith, later))
 
--- the first of a walk is one of it, and so is each later one
-pub is_first_of : (walk : List ℕ) (p : ℕ) → slice_get walk 0 ≡ Some p → is_one_of p walk ≡ true
-is_first_of [] p e = absurd (cc)
-is_first_of (q ∷ walk) p e = let same : q ≡ p = cc in grind (arith, nat_tests, same)
-
-pub is_later_of : (walk : List ℕ) (p : ℕ) → is_one_of p (drop 1 walk) ≡ true → is_one_of p walk ≡ true
-is_later_of [] p e = e
-is_later_of (q ∷ walk) p e = grind (arith, nat_tests, e)
-
 -- what is true is true where there is none
 pub if_none : {A : Type 0} {P : Type 0} (x : Option A) → P → IfNone x P
 if_none None h = h
