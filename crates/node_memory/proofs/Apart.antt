@@ -1,28 +1,20 @@
 -- The live blocks of all kinds lie apart, and each is read from its own part of the arena.
-use Rattle.std.proofs.Common.{◌≡◌, ◌≢◌, ℕ, zero, suc, ◌+◌, ◌≤◌, ◌<◌, ◌⊎◌, inl, inr, Bool, true, false, List, [], ◌∷◌, length, map, get_or, refl, sym, ap, ◌∙◌, arith, subst, Option, Some, None}
-use Rattle.std.specs.Prelude.{slice_get, slice_index_or, replicate, IfSome, if◌then◌else◌}
+use Rattle.std.proofs.Common.{◌≡◌, ◌≢◌, ℕ, zero, suc, ◌+◌, ◌≤◌, ◌<◌, ◌⊎◌, inl, inr, Bool, true, false, List, [], ◌∷◌, length, map, get_or, refl, sym, ap, ◌∙◌, arith, subst, Option, Some, None, slice_get, slice_index_or, replicate, IfSome, if◌then◌else◌}
+use Rattle.node_memory.proofs.Common.{range_of, Span, Extent, heap_of, AreLinked, PoolTable, pool_of, IsLaidOut, LieBehind, end_of, PoolWithLists, unused_pool_of, Layout, contents_of, seen, BlockName, IsBlockName, block_named, extent_in_pool, extent_named, header_of, IsReadFrom, BlocksLieApart}
 use Rattle.std.specs.Option.{option_map}
 use Rattle.std.proofs.lemmas.Option.{slice_get-get_or, slice_get_within}
-use Rattle.mote_types.specs.Bytes.{range_of}
-use Rattle.arena_core.specs.declared.span.Span.{Span}
-use Rattle.arena_core.specs.Extents.{Extent, LiesIn, AreApart}
+use Rattle.arena_core.specs.Extents.{LiesIn, AreApart}
 use Rattle.arena_core.proofs.Ranges.{length-range}
 use Rattle.mmem_core.specs.Separation as managed
 use Rattle.mmem_core.proofs.PlaceLemmas.{len_le_room}
-use Rattle.heap_core.specs.HeapBytes.{heap_of}
 use Rattle.heap_core.specs.Separation as heap
 use Rattle.heap_core.proofs.Callers.{IsLaidOut-apart}
 use Rattle.memb_core.specs.BlockPool.{block_of}
-use Rattle.memb_core.specs.Links.{AreLinked}
-use Rattle.memb_core.specs.PoolTable.{PoolTable}
-use Rattle.memb_core.specs.PoolBytes.{IsWithin, place_of, region_of, usable_bytes, pool_of}
+use Rattle.memb_core.specs.PoolBytes.{IsWithin, place_of, region_of, usable_bytes}
 use Rattle.memb_core.specs.Separation as pools
 use Rattle.memb_core.proofs.Blocks.{get_or-blocks}
 use Rattle.node_memory.specs.declared.listed_pool.ListedPool.{ListedPool}
-use Rattle.node_memory.specs.Code.Layout.{IsLaidOut, LieBehind, end_of}
-use Rattle.node_memory.specs.ListedPools.{PoolWithLists, unused_pool_of}
-use Rattle.node_memory.specs.Placed.{Layout, placed, contents_of, seen}
-use Rattle.node_memory.specs.Separation.{BlockName, IsBlockName, block_named, extent_in_pool, extent_named, header_of, IsReadFrom, BlocksLieApart}
+use Rattle.node_memory.specs.Placed.{placed}
 
 -- parts of spans that lie one behind the other
 spans_apart : (s t : Span) (e f : Extent) → LiesIn s e → LiesIn t f → s.at + s.len ≤ t.at → AreApart e f

@@ -1,13 +1,7 @@
 -- What it comes to that blocks lie apart, and what a refused call leaves.
-use Rattle.std.proofs.Common.{◌≡◌, ◌≢◌, ℕ, ◌+◌, ◌≤◌, ◌<◌, inl, inr, List, [], ◌∷◌, length, map, refl, ap, arith, Some, None}
-use Rattle.std.specs.Prelude.{replicate}
-use Rattle.mote_types.specs.Bytes.{range_of}
-use Rattle.mote_types.specs.declared.call.Call.{Call}
-use Rattle.mote_types.specs.declared.refusal.Refusal.{Refusal}
-use Rattle.mote_types.specs.declared.reply.Reply.{Reply}
-use Rattle.node_memory.specs.Memory.{Memory}
-use Rattle.node_memory.specs.Placed.{PlacedMemory}
-use Rattle.node_memory.specs.Separation.{BlockName, IsBlockName, block_named, changed_block, extent_named, header_of, IsReadFrom, BlocksLieApart, LeavesAll, LeavesOthers}
+use Rattle.std.proofs.Common.{◌≡◌, ◌≢◌, ℕ, ◌+◌, ◌≤◌, ◌<◌, inl, inr, List, [], ◌∷◌, length, map, refl, ap, arith, Some, None, replicate}
+use Rattle.node_memory.proofs.Common.{range_of, Call, Refusal, Reply, Memory, PlacedMemory, BlockName, IsBlockName, block_named, changed_block, extent_named, header_of, IsReadFrom, BlocksLieApart, LeavesAll}
+use Rattle.node_memory.specs.Separation.{LeavesOthers}
 
 -- the bytes of a live block lie in the arena, and those of two different blocks share none
 module _ (m : PlacedMemory) (lie : BlocksLieApart m) where

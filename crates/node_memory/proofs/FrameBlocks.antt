@@ -1,20 +1,11 @@
 -- A frame goes into a block that is made for it.
-use Rattle.std.proofs.Common.{◌≡◌, ℕ, ◌+◌, ◌-◌, ◌<◌, List, [], ◌++◌, length, ap, ◌∙◌, arith, Option, Some, None}
-use Rattle.std.specs.Prelude.{unwrap_or, replicate}
-use Rattle.std.proofs.lemmas.List.{append-nil, drop-replicate, length-map, get_or-set_same, set-set}
-use Rattle.mote_types.specs.Bytes.{zeros, overwritten}
-use Rattle.mote_types.specs.BlockNames.{number_of}
-use Rattle.arena_core.specs.Contents.{Contents}
-use Rattle.mmem_core.specs.ManagedStore.{ManagedStore, bytes_of, with_block, with_bytes}
+use Rattle.std.proofs.Common.{◌≡◌, ℕ, ◌+◌, ◌-◌, ◌<◌, List, [], ◌++◌, length, ap, ◌∙◌, arith, Option, Some, None, unwrap_or, replicate}
+use Rattle.node_memory.proofs.Common.{length-map, zeros, overwritten, number_of, Contents, ManagedStore, bytes_of, HandleTable, store_of, block_in, Region, frame_taken, IsLaidOut, Memory, with_managed, contents_of}
+use Rattle.std.proofs.lemmas.List.{append-nil, drop-replicate, get_or-set_same, set-set}
+use Rattle.mmem_core.specs.ManagedStore.{with_block, with_bytes}
 use Rattle.mmem_core.specs.HandleTable as managed
-use Rattle.mmem_core.specs.HandleTable.{HandleTable, region_of, store_of}
-use Rattle.mmem_core.proofs.StoreLemmas.{block_in}
-use Rattle.heap_core.specs.declared.region.Region.{Region}
+use Rattle.mmem_core.specs.HandleTable.{region_of}
 use Rattle.node_memory.specs.declared.listed_pool.ListedPool.{ListedPool}
-use Rattle.node_memory.specs.Frames.{frame_taken}
-use Rattle.node_memory.specs.Code.Layout.{IsLaidOut}
-use Rattle.node_memory.specs.Memory.{Memory, with_managed}
-use Rattle.node_memory.specs.Placed.{contents_of}
 use Rattle.node_memory.proofs.LaidOut.{layout_of, after-managed, managed-changed}
 
 -- a write over all of a block

@@ -1,13 +1,10 @@
 -- A call on heap memory that is not refused is answered as its row says.
-use Rattle.std.proofs.Common.{◌≡◌, ◌≢◌, ℕ, ◌≤◌, Bool, true, false, refl, sym, ap, ◌∙◌, arith, Option, Some, None}
-use Rattle.std.specs.Prelude.{is_some, ◌==◌}
+use Rattle.std.proofs.Common.{◌≡◌, ◌≢◌, ℕ, ◌≤◌, Bool, true, false, refl, sym, ap, ◌∙◌, arith, Option, Some, None, is_some, ◌==◌}
+use Rattle.node_memory.proofs.Common.{Refusal, Reply, HeapStore, Asked, realloc_refusal, Memory, with_heap}
 use Rattle.std.specs.Option.{option_map}
-use Rattle.mote_types.specs.declared.refusal.Refusal.{Refusal}
-use Rattle.mote_types.specs.declared.reply.Reply.{Reply}
-use Rattle.heap_core.specs.HeapStore.{HeapStore, length_of, block_of}
-use Rattle.node_memory.specs.Ask.{Asked, unless_refused, done, done_or_no_room}
-use Rattle.node_memory.specs.HeapCalls.{is_heap_block, is_live, alloc_refusal, realloc_refusal, free_refusal}
-use Rattle.node_memory.specs.Memory.{Memory, with_heap}
+use Rattle.heap_core.specs.HeapStore.{length_of, block_of}
+use Rattle.node_memory.specs.Ask.{unless_refused, done, done_or_no_room}
+use Rattle.node_memory.specs.HeapCalls.{is_heap_block, is_live, alloc_refusal, free_refusal}
 
 some-length : {X Y : Type 0} (f : X → Y) (found : Option X) → is_some (option_map f found) ≡ is_some found
 some-length f None = refl

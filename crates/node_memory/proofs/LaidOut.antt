@@ -1,36 +1,19 @@
 -- What lies behind managed memory stays where other bytes of the arena change.
-use Rattle.std.proofs.Common.{subst, ◌≡◌, false, ℕ, zero, suc, ◌+◌, ◌≤◌, ◌<◌, ◌⊎◌, inl, inr, List, [], ◌∷◌, length, map, set, get_or, refl, sym, ap, ◌∙◌, arith}
-use Rattle.std.specs.Prelude.{Option, nat_lt}
-use Rattle.std.proofs.lemmas.List.{length-set, length-map, set-get_or}
-use Rattle.mote_types.specs.declared.call.Call.{Call}
-use Rattle.mote_types.specs.declared.reply.Reply.{Reply}
-use Rattle.arena_core.specs.declared.span.Span.{Span}
-use Rattle.arena_core.specs.Contents.{Contents}
+use Rattle.std.proofs.Common.{subst, ◌≡◌, false, ℕ, zero, suc, ◌+◌, ◌≤◌, ◌<◌, ◌⊎◌, inl, inr, List, [], ◌∷◌, length, map, set, get_or, refl, sym, ap, ◌∙◌, arith, Option, nat_lt}
+use Rattle.node_memory.proofs.Common.{length-map, Call, Reply, Span, Contents, number_of, ManagedStore, Region, HeapStore, heap_of, HandleTable, store_of, block_in, ListName, AreLinked, list_of, pool_of, PoolWithLists, unused_pool_of, LieBehind, IsLaidOut, end_of, Layout, contents_of, seen, Memory, with_pool, with_managed, with_heap, Asked, ask_pool_of, PoolAsked, ask_pool}
+use Rattle.std.proofs.lemmas.List.{length-set, set-get_or}
 use Rattle.arena_core.specs.Outside.{ChangesOnly}
-use Rattle.mote_types.specs.BlockNames.{number_of}
 use Rattle.mmem_core.specs.declared.quotas.Quotas.{Quotas}
-use Rattle.mmem_core.specs.ManagedStore.{ManagedStore, with_block}
-use Rattle.heap_core.specs.declared.region.Region.{Region}
-use Rattle.heap_core.specs.HeapStore.{HeapStore}
+use Rattle.mmem_core.specs.ManagedStore.{with_block}
 use Rattle.heap_core.specs.HeapBytes as heap
-use Rattle.heap_core.specs.HeapBytes.{heap_of}
 use Rattle.heap_core.proofs.Callers.{heap_of-elsewhere, IsLaidOut-elsewhere}
-use Rattle.mmem_core.specs.HandleTable.{HandleTable, region_of, store_of}
+use Rattle.mmem_core.specs.HandleTable.{region_of}
 use Rattle.mmem_core.specs.HandleTable as managed
 use Rattle.mmem_core.proofs.Callers as managed_calls
-use Rattle.mmem_core.proofs.StoreLemmas.{block_in}
-use Rattle.memb_core.specs.declared.list_name.ListName.{ListName}
-use Rattle.memb_core.specs.Links.{AreLinked, list_of}
 use Rattle.memb_core.specs.PoolBytes as pools
-use Rattle.memb_core.specs.PoolBytes.{pool_of}
 use Rattle.memb_core.proofs.Callers.{pool_of-elsewhere, list_of-elsewhere, AreLinked-elsewhere}
 use Rattle.node_memory.specs.declared.listed_pool.ListedPool.{ListedPool}
-use Rattle.node_memory.specs.ListedPools.{PoolWithLists, unused_pool_of}
-use Rattle.node_memory.specs.Code.Layout.{LieBehind, IsLaidOut, end_of}
-use Rattle.node_memory.specs.Placed.{Layout, contents_of, placed, seen}
-use Rattle.node_memory.specs.Memory.{Memory, with_pool, with_managed, with_heap}
-use Rattle.node_memory.specs.Ask.{Asked, ask_pool_of}
-use Rattle.node_memory.specs.PoolCalls.{PoolAsked, ask_pool}
+use Rattle.node_memory.specs.Placed.{placed}
 use Rattle.node_memory.proofs.Listed.{shown}
 
 abbrev pub layout_of : HandleTable → Region → List ListedPool → List ℕ → Layout

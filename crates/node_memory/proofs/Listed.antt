@@ -1,16 +1,11 @@
 -- What a pool with its lists shows after a call on one of the two.
-use Rattle.std.proofs.Common.{◌≡◌, ℕ, ◌-◌, arith, Bool, true, false, List, [], ◌∷◌, length, refl, sym, ap, ◌∙◌}
-use Rattle.std.specs.Prelude.{Some, None, is_some, slice_get, if◌then◌else◌}
+use Rattle.std.proofs.Common.{◌≡◌, ℕ, ◌-◌, arith, Bool, true, false, List, [], ◌∷◌, length, refl, sym, ap, ◌∙◌, Some, None, is_some, slice_get, if◌then◌else◌}
+use Rattle.node_memory.proofs.Common.{ListName, PoolTable, BlockPool, head_of, tail_of, popped, chopped, list_of, AreLinked, pool_of, PoolWithLists, list_in, with_list, with_blocks, seen}
 use Rattle.std.proofs.lemmas.Bool.{false≢true}
-use Rattle.memb_core.specs.declared.list_name.ListName.{ListName}
-use Rattle.memb_core.specs.PoolTable.{PoolTable, ListHeads}
-use Rattle.memb_core.specs.BlockPool.{BlockPool}
-use Rattle.memb_core.specs.BlockLists.{has_number, holder_of, head_of, tail_of, popped, chopped}
-use Rattle.memb_core.specs.Links.{list_of, AreLinked, LeavesOthers}
-use Rattle.memb_core.specs.PoolBytes.{pool_of}
+use Rattle.memb_core.specs.PoolTable.{ListHeads}
+use Rattle.memb_core.specs.BlockLists.{has_number, holder_of}
+use Rattle.memb_core.specs.Links.{LeavesOthers}
 use Rattle.node_memory.specs.declared.listed_pool.ListedPool.{ListedPool}
-use Rattle.node_memory.specs.ListedPools.{PoolWithLists, list_in, with_list, with_blocks}
-use Rattle.node_memory.specs.Placed.{seen}
 use Rattle.node_memory.specs.Code.ListCalls.{is_holder}
 
 abbrev pub listed_of : PoolTable → ListHeads → ListedPool

@@ -1,31 +1,26 @@
 -- A call leaves every block that it does not name.
-use Rattle.std.proofs.Common.{arith, ◌≡◌, ◌≢◌, ◌⊎◌, inl, inr, ℕ, zero, suc, Bool, true, false, List, [], ◌∷◌, set, get_or, refl, sym, ap, ◌∙◌}
-use Rattle.std.specs.Prelude.{◌≤◌, ◌<◌, ◌/◌, Option, Some, None, not, ◌||◌, nat_lt, nat_le, length, if◌then◌else◌}
+use Rattle.std.proofs.Common.{arith, ◌≡◌, ◌≢◌, ◌⊎◌, inl, inr, ℕ, zero, suc, Bool, true, false, List, [], ◌∷◌, set, get_or, refl, sym, ap, ap₂, ◌∙◌, ◌≤◌, ◌==◌, ◌/◌, Option, Some, None, nat_lt, length, if◌then◌else◌}
+use Rattle.node_memory.proofs.Common.{zeros, overwritten, range_of, Call, Refusal, Reply, ListName, BlockPool, popped, chopped, head_of, tail_of, number_of, bytes_of, Asked, PoolWithLists, list_in, with_list, with_blocks, unused_pool_of, HeapStore, realloc_refusal, Memory, with_pool, with_managed, with_heap, PoolAsked, ask_pool, member_refusal, BlockName, block_named, changed_block, frame_block}
 use Rattle.std.specs.Option.{option_map}
+use Rattle.std.proofs.lemmas.Bool.Decides.{nat_tests}
+use Rattle.mote_types.specs.Bytes.{resized}
 use Rattle.std.proofs.lemmas.List.{get_or-set_other}
-use Rattle.mote_types.specs.Bytes.{zeros, overwritten, range_of}
-use Rattle.mote_types.specs.declared.call.Call.{Call}
-use Rattle.mote_types.specs.declared.refusal.Refusal.{Refusal}
-use Rattle.mote_types.specs.declared.reply.Reply.{Reply}
-use Rattle.memb_core.specs.declared.list_name.ListName.{ListName}
 use Rattle.memb_core.specs.BlockPool as blocks
-use Rattle.memb_core.specs.BlockPool.{BlockPool, block_of, first_unused, allocated, freed, with_bytes}
-use Rattle.memb_core.specs.BlockLists.{popped, chopped, head_of, tail_of, next_of}
-use Rattle.mote_types.specs.BlockNames.{IsName, number_of}
-use Rattle.mmem_core.specs.ManagedStore.{bytes_of, with_block}
+use Rattle.memb_core.specs.BlockPool.{block_of, first_unused, allocated, freed, with_bytes}
+use Rattle.memb_core.specs.BlockLists.{next_of}
+use Rattle.mote_types.specs.BlockNames.{IsName}
+use Rattle.mmem_core.specs.ManagedStore.{with_block}
 use Rattle.node_memory.specs.Ask as asking
-use Rattle.node_memory.specs.Ask.{Asked, MayAsk, ask}
-use Rattle.node_memory.specs.ListedPools.{PoolWithLists, list_in, list_named, with_list, with_blocks, unused_pool_of}
+use Rattle.node_memory.specs.Ask.{ask}
+use Rattle.node_memory.specs.ListedPools.{list_named}
 use Rattle.heap_core.specs.HeapStore as heap_store
-use Rattle.heap_core.specs.HeapStore.{HeapStore}
 use Rattle.node_memory.specs.HeapCalls as heap_calls
-use Rattle.node_memory.specs.HeapCalls.{realloc_refusal}
-use Rattle.node_memory.proofs.HeapOthers.{HeapLeaves, allocated-leaves, reallocated-leaves, freed-leaves, written-leaves}
+use Rattle.node_memory.proofs.HeapBlocks.{Results, alloc-results, realloc-results, free-results, write-results}
 use Rattle.node_memory.specs.ManagedCalls as managed_calls
 use Rattle.node_memory.specs.ManagedCalls.{is_handle, alloc_refusal, copy_refusal}
-use Rattle.node_memory.specs.Memory.{Memory, pool_in, with_pool, with_managed, with_heap}
-use Rattle.node_memory.specs.PoolCalls.{PoolAsked, ask_pool, unless_refused, done, number_or, free_refusal, write_refusal, member_refusal}
-use Rattle.node_memory.specs.Separation.{BlockName, block_named, LeavesOthers, changed_block, frame_block}
+use Rattle.node_memory.specs.Memory.{pool_in}
+use Rattle.node_memory.specs.PoolCalls.{unless_refused, done, number_or, free_refusal, write_refusal}
+use Rattle.node_memory.specs.Separation.{LeavesOthers}
 
 -- an element that is set is read back, or nothing changed there
 get-set : {X : Type 0} (xs : List X) (k j : ℕ) (x d : X) → (get_or (set xs k x) j d ≡ get_or xs j d) ⊎ ((j ≡ k) × (get_or (set xs k x) j d ≡ x))
@@ -114,67 +109,44 @@ module _ (call : Call) (k p : ℕ) (old : Memory) (changed : changed_block call 
       ]
 
 -- names that differ have numbers that differ
-number-differs : (p h q g : ℕ) → IsName p h → IsName q g → ((p ≡ q) × (h ≡ g) → ⊥) → number_of q g ≢ number_of p h
-number-differs p h q g named other ne same =
-    ne (omega (arith, named, other, same), omega (arith, named, other, same))
-
-handle-differs : (p h q g : ℕ) → IsName p h → IsName q g → Some (BlockName.Managed p h) ≢ Some (BlockName.Managed q g) → number_of q g ≢ number_of p h
-handle-differs p h q g named other ne =
-    number-differs p h q g named other (λ same. ne (ap (λ i. Some (BlockName.Managed i h)) same.0 ∙ ap (λ i. Some (BlockName.Managed q i)) same.1))
-
-heap-differs : (p h q g : ℕ) → IsName p h → IsName q g → Some (BlockName.Heap p h) ≢ Some (BlockName.Heap q g) → number_of q g ≢ number_of p h
-heap-differs p h q g named other ne =
-    number-differs p h q g named other (λ same. ne (ap (λ i. Some (BlockName.Heap i h)) same.0 ∙ ap (λ i. Some (BlockName.Heap q i)) same.1))
+number-differs : (p h q g : ℕ) → 3 ≤ p → is_handle h ≡ true → IsName q g → (p ≡ q → h ≡ g → ⊥) → number_of p h ≢ number_of q g
+number-differs p h q g low named other ne same =
+    let few : h ≤ 15 = grind (arith, named) in
+    ne (omega (arith, low, few, other, same)) (omega (arith, low, few, other, same))
 
 -- a change of one handle's block
-leaves-block : (p h : ℕ) (block : Option (List ℕ)) (old : Memory) → IsName p h
+leaves-block : (p h : ℕ) (block : Option (List ℕ)) (old : Memory) → 3 ≤ p → is_handle h ≡ true
     → LeavesOthers (Some (BlockName.Managed p h)) old (with_managed (with_block p h block old.managed) old)
-leaves-block p h block old name (BlockName.Managed q g) named other =
-    get_or-set_other old.managed.blocks (number_of p h) (number_of q g) block None (handle-differs p h q g name named other)
-leaves-block p h block old name (BlockName.Heap q g) named other = refl
-leaves-block p h block old name (BlockName.Pooled k b) named other = refl
+leaves-block p h block old low few (BlockName.Managed q g) named differs =
+    let apart = number-differs p h q g low few named (λ a b. differs (ap₂ (λ i j. Some (BlockName.Managed i j)) a b)) in
+    get_or-set_other old.managed.blocks (number_of p h) (number_of q g) block None (λ e. apart (sym e))
+leaves-block p h block old low few (BlockName.Heap q g) named differs = refl
+leaves-block p h block old low few (BlockName.Pooled k b) named differs = refl
 
-pub leaves-frame : (slot : ℕ) (block : Option (List ℕ)) (old : Memory) → slot < 8 → LeavesOthers (Some (frame_block slot)) old (with_managed (with_block 3 slot block old.managed) old)
-leaves-frame slot block old below = leaves-block 3 slot block old (omega arith, omega arith, omega (arith, below))
+pub leaves-frame : (slot : ℕ) (block : Option (List ℕ)) (old : Memory) → slot ≤ 15 → LeavesOthers (Some (frame_block slot)) old (with_managed (with_block 3 slot block old.managed) old)
+leaves-frame slot block old low = leaves-block 3 slot block old (omega arith) (grind (arith, low))
 
 -- a call on a handle's block, unless it is refused
-leaves-handle : (p h : ℕ) (block : Option (List ℕ)) (old : Memory) (refusal : Option Refusal) → (refusal ≡ None → IsName p h)
+leaves-handle : (p h : ℕ) (block : Option (List ℕ)) (old : Memory) (refusal : Option Refusal) → 3 ≤ p → (refusal ≡ None → is_handle h ≡ true)
     → LeavesOthers (Some (BlockName.Managed p h)) old (asking.unless_refused refusal old (asking.done (with_managed (with_block p h block old.managed) old))).0
-leaves-handle p h block old None name = leaves-block p h block old (name refl)
-leaves-handle p h block old (Some refusal) name = λ other named differs. refl
+leaves-handle p h block old None low few = leaves-block p h block old low (few refl)
+leaves-handle p h block old (Some refusal) low few = λ other named differs. refl
 
--- a call that is not refused names a handle
-named-handle : (p h : ℕ) (known : Bool) (later : Option Refusal) → 4 ≤ p → p ≤ 19 → nat_le h 15 ≡ known → (if not known then Some Refusal.BadName else later) ≡ None → IsName p h
-named-handle p h true later least most is accepted = (omega (arith, least), most, grind (arith, is))
-named-handle p h false later least most is accepted = absurd (cc)
-
-named-target : (p h g : ℕ) (first second : Bool) (later : Option Refusal) → 4 ≤ p → p ≤ 19 → nat_le g 15 ≡ second
-    → (if not first || not second then Some Refusal.BadName else later) ≡ None → IsName p g
-named-target p h g true true later least most is accepted = (omega (arith, least), most, grind (arith, is))
-named-target p h g true false later least most is accepted = absurd (cc)
-named-target p h g false second later least most is accepted = absurd (cc)
-
--- a call on p's block in the heap
-module _ (p b : ℕ) (old : Memory) where
-  leaves-heap-block : (new : HeapStore) → HeapLeaves p b old.heap new → IsName p b → LeavesOthers (Some (BlockName.Heap p b)) old (with_heap new old)
-  leaves-heap-block new kept name (BlockName.Managed q g) named other = refl
-  leaves-heap-block new kept name (BlockName.Heap q g) named other = kept q g (heap-differs p b q g name named other)
-  leaves-heap-block new kept name (BlockName.Pooled k c) named other = refl
-
-  leaves-heap : (new : HeapStore) → HeapLeaves p b old.heap new → (refusal : Option Refusal) → (refusal ≡ None → IsName p b)
-      → LeavesOthers (Some (BlockName.Heap p b)) old (asking.unless_refused refusal old (asking.done (with_heap new old))).0
-  leaves-heap new kept None name = leaves-heap-block new kept (name refl)
-  leaves-heap new kept (Some refusal) name = λ other named differs. refl
-
-  leaves-found : (found : Option HeapStore) → ((new : HeapStore) → found ≡ Some new → HeapLeaves p b old.heap new) → IsName p b
-      → LeavesOthers (Some (BlockName.Heap p b)) old (asking.done_or_no_room found old).0
-  leaves-found None kept name = λ other named differs. refl
-  leaves-found (Some new) kept name = leaves-heap-block new (kept new refl) name
-
-  leaves-heap-found : {found : Option HeapStore} → ((new : HeapStore) → found ≡ Some new → HeapLeaves p b old.heap new) → (refusal : Option Refusal) → (refusal ≡ None → IsName p b)
-      → LeavesOthers (Some (BlockName.Heap p b)) old (asking.unless_refused refusal old (asking.done_or_no_room found old)).0
-  leaves-heap-found {found} kept None name = leaves-found found kept (name refl)
-  leaves-heap-found {found} kept (Some refusal) name = λ other named differs. refl
+-- a call on a block in the heap, unless it is refused or finds no place
+leaves-heap : (p b : ℕ) (bytes : Option (List ℕ)) (old : Memory) (found : Option HeapStore) (refusal : Option Refusal) → 3 ≤ p → (refusal ≡ None → is_handle b ≡ true)
+    → (refusal ≡ None → Results p b bytes old.heap found)
+    → LeavesOthers (Some (BlockName.Heap p b)) old (asking.unless_refused refusal old (asking.done_or_no_room found old)).0
+leaves-heap p b bytes old found (Some refusal) low few results = λ other named differs. refl
+leaves-heap p b bytes old None None low few results = λ other named differs. refl
+leaves-heap p b bytes old (Some new) None low few results = others
+  where
+    others : LeavesOthers (Some (BlockName.Heap p b)) old (with_heap new old)
+    others (BlockName.Managed q g) named differs = refl
+    others (BlockName.Pooled k c) named differs = refl
+    others (BlockName.Heap q g) named differs =
+        let apart = number-differs p b q g low (few refl) named (λ a c. differs (ap₂ (λ i j. Some (BlockName.Heap i j)) a c)) in
+        let ne : (number_of p b == number_of q g) ≡ false = grind (arith, nat_tests, apart) in
+        ((results refl).each new refl).each (number_of q g) ∙ rw ne refl
 
 -- a read leaves all
 leaves-all : (refusal : Option Refusal) (old : Memory) (reply : Reply) (name : BlockName)
@@ -182,37 +154,40 @@ leaves-all : (refusal : Option Refusal) (old : Memory) (reply : Reply) (name : B
 leaves-all None old reply name = refl
 leaves-all (Some refusal) old reply name = refl
 
-pub leaves : (call : Call) (p : ℕ) (old : Memory) → MayAsk p call → LeavesOthers (changed_block call p old) old (ask call p old).0
-leaves (Call.MmemAlloc h n) p old may = leaves-handle p h (Some (zeros n)) old (alloc_refusal p h n old.managed) (λ e. named-handle p h (is_handle h) _ may.0 may.1 refl e)
-leaves (Call.MmemFree h) p old may = leaves-handle p h None old (managed_calls.free_refusal p h old.managed) (λ e. named-handle p h (is_handle h) _ may.0 may.1 refl e)
-leaves (Call.MmemWrite h at chunk) p old may =
-    leaves-handle p h (Some (overwritten at chunk.items (bytes_of p h old.managed))) old (managed_calls.write_refusal p h at (length chunk.items) old.managed) (λ e. named-handle p h (is_handle h) _ may.0 may.1 refl e)
-leaves (Call.MmemCopy source target) p old may =
-    leaves-handle p target (Some (overwritten 0 (bytes_of p source old.managed) (bytes_of p target old.managed))) old (copy_refusal p source target old.managed) (λ e. named-target p source target (is_handle source) (is_handle target) _ may.0 may.1 refl e)
-leaves (Call.MmemRead h at len) p old may =
+-- a call of any process but 0 to 2
+pub leaves : (call : Call) (p : ℕ) (old : Memory) → 3 ≤ p → LeavesOthers (changed_block call p old) old (ask call p old).0
+leaves (Call.MmemAlloc h n) p old low = leaves-handle p h (Some (zeros n)) old (alloc_refusal p h n old.managed) low (λ e. grind (arith, e))
+leaves (Call.MmemFree h) p old low = leaves-handle p h None old (managed_calls.free_refusal p h old.managed) low (λ e. grind (arith, e))
+leaves (Call.MmemWrite h at chunk) p old low =
+    leaves-handle p h (Some (overwritten at chunk.items (bytes_of p h old.managed))) old (managed_calls.write_refusal p h at (length chunk.items) old.managed) low (λ e. grind (arith, e))
+leaves (Call.MmemCopy source target) p old low =
+    leaves-handle p target (Some (overwritten 0 (bytes_of p source old.managed) (bytes_of p target old.managed))) old (copy_refusal p source target old.managed) low (λ e. grind (arith, e))
+leaves (Call.MmemRead h at len) p old low =
     λ name named other. leaves-all (managed_calls.read_refusal p h at len old.managed) old (Reply.Bytes (record { items = range_of at len (bytes_of p h old.managed) })) name
-leaves (Call.HeapAlloc b n) p old may =
-    leaves-heap-found p b old (allocated-leaves p b n old.heap) (heap_calls.alloc_refusal p b n old.heap) (λ e. named-handle p b (is_handle b) _ may.0 may.1 refl e)
-leaves (Call.HeapRealloc b n) p old may =
-    leaves-heap-found p b old (reallocated-leaves p b n old.heap) (realloc_refusal p b n old.heap) (λ e. named-handle p b (is_handle b) _ may.0 may.1 refl e)
-leaves (Call.HeapFree b) p old may =
-    leaves-heap p b old (heap_store.freed p b old.heap) (freed-leaves p b old.heap) (heap_calls.free_refusal p b old.heap) (λ e. named-handle p b (is_handle b) _ may.0 may.1 refl e)
-leaves (Call.HeapWrite b at chunk) p old may =
-    leaves-heap p b old (heap_store.with_bytes p b at chunk.items old.heap) (written-leaves p b at chunk.items old.heap) (heap_calls.write_refusal p b at (length chunk.items) old.heap) (λ e. named-handle p b (is_handle b) _ may.0 may.1 refl e)
-leaves (Call.HeapRead b at len) p old may =
+leaves (Call.HeapAlloc b n) p old low =
+    leaves-heap p b (Some (zeros n)) old (heap_store.allocated p b n old.heap) (heap_calls.alloc_refusal p b n old.heap) low (λ e. grind (arith, e)) (alloc-results p b n old.heap)
+leaves (Call.HeapRealloc b n) p old low =
+    leaves-heap p b (option_map (resized n) (heap_store.block_of p b old.heap)) old (heap_store.reallocated p b n old.heap) (realloc_refusal p b n old.heap) low (λ e. grind (arith, e))
+    (λ e. realloc-results p b n old.heap)
+leaves (Call.HeapFree b) p old low =
+    leaves-heap p b None old (Some (heap_store.freed p b old.heap)) (heap_calls.free_refusal p b old.heap) low (λ e. grind (arith, e)) (λ e. free-results p b old.heap)
+leaves (Call.HeapWrite b at chunk) p old low =
+    leaves-heap p b (option_map (overwritten at chunk.items) (heap_store.block_of p b old.heap)) old (Some (heap_store.with_bytes p b at chunk.items old.heap))
+    (heap_calls.write_refusal p b at (length chunk.items) old.heap) low (λ e. grind (arith, e)) (λ e. write-results p b at chunk.items old.heap)
+leaves (Call.HeapRead b at len) p old low =
     λ name named other. leaves-all (heap_calls.read_refusal p b at len old.heap) old (Reply.Bytes (record { items = range_of at len (heap_calls.bytes_of p b old.heap) })) name
-leaves (Call.MembAlloc k) p old may = λ name named other. leaves-at (Call.MembAlloc k) k p old refl (nat_lt 3 k) name other
-leaves (Call.MembFree k b) p old may = λ name named other. leaves-at (Call.MembFree k b) k p old refl (nat_lt 3 k) name other
-leaves (Call.MembWrite k b at chunk) p old may = λ name named other. leaves-at (Call.MembWrite k b at chunk) k p old refl (nat_lt 3 k) name other
-leaves (Call.MembRead k b at len) p old may = λ name named other. leaves-at (Call.MembRead k b at len) k p old refl (nat_lt 3 k) name other
-leaves (Call.MembNumFree k) p old may = λ name named other. leaves-at (Call.MembNumFree k) k p old refl (nat_lt 3 k) name other
-leaves (Call.ListAdd l b) p old may = λ name named other. leaves-at (Call.ListAdd l b) (l / 2) p old refl (nat_lt 3 (l / 2)) name other
-leaves (Call.ListPush l b) p old may = λ name named other. leaves-at (Call.ListPush l b) (l / 2) p old refl (nat_lt 3 (l / 2)) name other
-leaves (Call.ListInsert l prev b) p old may = λ name named other. leaves-at (Call.ListInsert l prev b) (l / 2) p old refl (nat_lt 3 (l / 2)) name other
-leaves (Call.ListPop l) p old may = λ name named other. leaves-at (Call.ListPop l) (l / 2) p old refl (nat_lt 3 (l / 2)) name other
-leaves (Call.ListChop l) p old may = λ name named other. leaves-at (Call.ListChop l) (l / 2) p old refl (nat_lt 3 (l / 2)) name other
-leaves (Call.ListRemove l b) p old may = λ name named other. leaves-at (Call.ListRemove l b) (l / 2) p old refl (nat_lt 3 (l / 2)) name other
-leaves (Call.ListHead l) p old may = λ name named other. leaves-at (Call.ListHead l) (l / 2) p old refl (nat_lt 3 (l / 2)) name other
-leaves (Call.ListNext l b) p old may = λ name named other. leaves-at (Call.ListNext l b) (l / 2) p old refl (nat_lt 3 (l / 2)) name other
-leaves (Call.ListLength l) p old may = λ name named other. leaves-at (Call.ListLength l) (l / 2) p old refl (nat_lt 3 (l / 2)) name other
-leaves _ p old may = λ name named other. refl
+leaves (Call.MembAlloc k) p old low = λ name named other. leaves-at (Call.MembAlloc k) k p old refl (nat_lt 3 k) name other
+leaves (Call.MembFree k b) p old low = λ name named other. leaves-at (Call.MembFree k b) k p old refl (nat_lt 3 k) name other
+leaves (Call.MembWrite k b at chunk) p old low = λ name named other. leaves-at (Call.MembWrite k b at chunk) k p old refl (nat_lt 3 k) name other
+leaves (Call.MembRead k b at len) p old low = λ name named other. leaves-at (Call.MembRead k b at len) k p old refl (nat_lt 3 k) name other
+leaves (Call.MembNumFree k) p old low = λ name named other. leaves-at (Call.MembNumFree k) k p old refl (nat_lt 3 k) name other
+leaves (Call.ListAdd l b) p old low = λ name named other. leaves-at (Call.ListAdd l b) (l / 2) p old refl (nat_lt 3 (l / 2)) name other
+leaves (Call.ListPush l b) p old low = λ name named other. leaves-at (Call.ListPush l b) (l / 2) p old refl (nat_lt 3 (l / 2)) name other
+leaves (Call.ListInsert l prev b) p old low = λ name named other. leaves-at (Call.ListInsert l prev b) (l / 2) p old refl (nat_lt 3 (l / 2)) name other
+leaves (Call.ListPop l) p old low = λ name named other. leaves-at (Call.ListPop l) (l / 2) p old refl (nat_lt 3 (l / 2)) name other
+leaves (Call.ListChop l) p old low = λ name named other. leaves-at (Call.ListChop l) (l / 2) p old refl (nat_lt 3 (l / 2)) name other
+leaves (Call.ListRemove l b) p old low = λ name named other. leaves-at (Call.ListRemove l b) (l / 2) p old refl (nat_lt 3 (l / 2)) name other
+leaves (Call.ListHead l) p old low = λ name named other. leaves-at (Call.ListHead l) (l / 2) p old refl (nat_lt 3 (l / 2)) name other
+leaves (Call.ListNext l b) p old low = λ name named other. leaves-at (Call.ListNext l b) (l / 2) p old refl (nat_lt 3 (l / 2)) name other
+leaves (Call.ListLength l) p old low = λ name named other. leaves-at (Call.ListLength l) (l / 2) p old refl (nat_lt 3 (l / 2)) name other
+leaves _ p old low = λ name named other. refl

@@ -1,20 +1,11 @@
 -- What follows where a reply is a refusal, and where nothing was found.
-use Rattle.std.proofs.Common.{◌≡◌, ℕ, false, List, ap, ◌∙◌}
-use Rattle.std.specs.Prelude.{Option, Some, None, is_some, IfNone}
-use Rattle.mote_types.specs.declared.refusal.Refusal.{Refusal}
-use Rattle.mote_types.specs.declared.reply.Reply.{Reply}
-use Rattle.mmem_core.specs.ManagedStore.{ManagedStore, shortage}
-use Rattle.mmem_core.specs.HandleTable.{HandleTable, store_of}
+use Rattle.std.proofs.Common.{◌≡◌, ℕ, false, List, ap, ◌∙◌, Option, Some, None, is_some, IfNone}
+use Rattle.node_memory.proofs.Common.{Refusal, Reply, ManagedStore, shortage, HandleTable, store_of}
 use Rattle.node_memory.specs.Ask.{IfRefused}
 
 pub refused-then : {X Y : Type 0} (reply : Reply) → (X → Y) → IfRefused reply X → IfRefused reply Y
 refused-then (Reply.Refused refusal) f refused = f refused
-refused-then Reply.Done f refused = tt
-refused-then (Reply.Num n) f refused = tt
-refused-then (Reply.Wide n) f refused = tt
-refused-then (Reply.Flag flag) f refused = tt
-refused-then (Reply.Bytes bytes) f refused = tt
-refused-then (Reply.Stats stats) f refused = tt
+refused-then _ f refused = tt
 
 pub none-then : {X F : Type 0} (found : Option X) → is_some found ≡ false → IfNone found F → F
 none-then None none fact = fact

@@ -1,23 +1,13 @@
 -- What a refused call leaves as it is and where it is.
-use Rattle.std.proofs.Common.{◌≡◌, ℕ, zero, suc, ◌+◌, true, List, [], ◌∷◌, map, drop, refl, ap, ◌∙◌}
-use Rattle.std.specs.Prelude.{Option, slice_get}
+use Rattle.std.proofs.Common.{◌≡◌, ℕ, zero, suc, ◌+◌, true, List, [], ◌∷◌, map, drop, refl, ap, ◌∙◌, Option, slice_get}
+use Rattle.node_memory.proofs.Common.{Call, Reply, Span, Extent, HandleTable, Region, heap_of, Block, HeapStore, PoolWithLists, Memory, PlacedMemory, contents_of, seen, BlockName, extent_in_pool, extent_named, StaysInPlace, LeavesAll}
 use Rattle.std.specs.Option.{option_map}
-use Rattle.mote_types.specs.declared.call.Call.{Call}
-use Rattle.mote_types.specs.declared.reply.Reply.{Reply}
-use Rattle.arena_core.specs.declared.span.Span.{Span}
-use Rattle.arena_core.specs.Extents.{Extent}
-use Rattle.mmem_core.specs.HandleTable.{HandleTable}
-use Rattle.heap_core.specs.declared.region.Region.{Region}
-use Rattle.heap_core.specs.HeapBytes.{heap_of}
-use Rattle.heap_core.specs.HeapStore.{Block, HeapStore}
 use Rattle.heap_core.specs.Separation.{live_block}
 use Rattle.memb_core.specs.BlockPool as pools
 use Rattle.memb_core.specs.Separation as places_in_pool
 use Rattle.node_memory.specs.declared.listed_pool.ListedPool.{ListedPool}
-use Rattle.node_memory.specs.ListedPools.{PoolWithLists}
-use Rattle.node_memory.specs.Memory.{Memory}
-use Rattle.node_memory.specs.Placed.{PlacedMemory, contents_of, placed, seen}
-use Rattle.node_memory.specs.Separation.{BlockName, extent_in_pool, extent_named, StaysInPlace, lacks_place, LeavesAll}
+use Rattle.node_memory.specs.Placed.{placed}
+use Rattle.node_memory.specs.Separation.{lacks_place}
 use Rattle.node_memory.proofs.LaidOut.{layout_of}
 
 abbrev seen_by : List ℕ → ListedPool → PoolWithLists

@@ -1,9 +1,6 @@
 use Rattle.std.proofs.Common.{ap, sym}
-use Rattle.mote_types.specs.declared.reply.Reply.{Reply}
+use Rattle.node_memory.proofs.Common.{Reply, pool_of, PoolWithLists, PoolAsked}
 use Rattle.memb_core.specs.BlockPool.{allocated}
-use Rattle.memb_core.specs.PoolBytes.{pool_of}
-use Rattle.node_memory.specs.ListedPools.{PoolWithLists}
-use Rattle.node_memory.specs.PoolCalls.{PoolAsked}
 use Rattle.node_memory.proofs.Listed.{seen-blocks}
 use Rattle.node_memory.proofs.listed_pool.ListedPool.alloc.Goals as goal
 

@@ -1,8 +1,6 @@
-use Rattle.std.proofs.Common.{arith, ap, ◌≡◌}
-use Rattle.std.specs.Prelude.{None}
+use Rattle.std.proofs.Common.{arith, ap, ◌≡◌, None}
+use Rattle.node_memory.proofs.Common.{pool_of, seen}
 use Rattle.memb_core.specs.BlockPool.{freed}
-use Rattle.memb_core.specs.PoolBytes.{pool_of}
-use Rattle.node_memory.specs.Placed.{seen}
 use Rattle.node_memory.specs.PoolCalls.{done, free_refusal}
 use Rattle.node_memory.proofs.Listed.{seen-blocks}
 use Rattle.node_memory.proofs.listed_pool.ListedPool.free.Goals as goal

@@ -1,8 +1,6 @@
-use Rattle.std.proofs.Common.{arith, ap, ◌∙◌, sym, ◌≡◌}
-use Rattle.std.specs.Prelude.{None}
+use Rattle.std.proofs.Common.{arith, ap, ◌∙◌, sym, ◌≡◌, None}
+use Rattle.node_memory.proofs.Common.{list_in, seen}
 use Rattle.memb_core.specs.BlockLists.{inserted}
-use Rattle.node_memory.specs.ListedPools.{list_in}
-use Rattle.node_memory.specs.Placed.{seen}
 use Rattle.node_memory.specs.PoolCalls.{done, link_refusal, insert_refusal}
 use Rattle.node_memory.proofs.Listed.{seen-list, list_in-seen}
 use Rattle.node_memory.proofs.listed_pool.ListedPool.insert.Goals as goal

@@ -1,8 +1,6 @@
 use Rattle.std.proofs.Common.{rules, arith, subst, sym, length, ◌+◌, ◌≤◌, ap, ◌∙◌, []}
-use Rattle.arena_core.specs.declared.span.Span.{Span}
-use Rattle.memb_core.specs.declared.list_name.ListName.{ListName}
+use Rattle.node_memory.proofs.Common.{Span, ListName, seen}
 use Rattle.memb_core.specs.BlockPool.{unused_pool}
-use Rattle.node_memory.specs.Placed.{seen}
 use Rattle.node_memory.proofs.Listed.{shown}
 use Rattle.node_memory.proofs.listed_pool.ListedPool.new.Goals as goal
 

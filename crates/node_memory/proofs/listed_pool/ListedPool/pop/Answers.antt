@@ -1,10 +1,5 @@
-use Rattle.std.proofs.Common.{ap, ◌∙◌, sym, ◌≡◌}
-use Rattle.std.specs.Prelude.{Some}
-use Rattle.mote_types.specs.declared.reply.Reply.{Reply}
-use Rattle.memb_core.specs.BlockLists.{popped, head_of}
-use Rattle.node_memory.specs.ListedPools.{PoolWithLists, list_in}
-use Rattle.node_memory.specs.Placed.{seen}
-use Rattle.node_memory.specs.PoolCalls.{PoolAsked}
+use Rattle.std.proofs.Common.{ap, ◌∙◌, sym, ◌≡◌, Some}
+use Rattle.node_memory.proofs.Common.{Reply, popped, head_of, PoolWithLists, list_in, seen, PoolAsked}
 use Rattle.node_memory.proofs.Listed.{seen-list, list_in-seen}
 use Rattle.node_memory.proofs.listed_pool.ListedPool.pop.Goals as goal
 

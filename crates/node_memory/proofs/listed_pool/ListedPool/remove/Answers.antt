@@ -1,9 +1,7 @@
-use Rattle.std.proofs.Common.{arith, ap, ◌∙◌, sym, ◌≡◌}
-use Rattle.std.specs.Prelude.{None}
+use Rattle.std.proofs.Common.{arith, ap, ◌∙◌, sym, ◌≡◌, None}
+use Rattle.node_memory.proofs.Common.{list_in, seen, member_refusal}
 use Rattle.memb_core.specs.BlockLists.{without}
-use Rattle.node_memory.specs.ListedPools.{list_in}
-use Rattle.node_memory.specs.Placed.{seen}
-use Rattle.node_memory.specs.PoolCalls.{done, member_refusal}
+use Rattle.node_memory.specs.PoolCalls.{done}
 use Rattle.node_memory.proofs.Listed.{seen-list, list_in-seen}
 use Rattle.node_memory.proofs.listed_pool.ListedPool.remove.Goals as goal
 

@@ -1,8 +1,6 @@
-use Rattle.std.proofs.Common.{arith, ap, ◌∙◌, ◌≡◌, [], length}
-use Rattle.std.specs.Prelude.{None, unwrap_or}
+use Rattle.std.proofs.Common.{arith, ap, ◌∙◌, ◌≡◌, [], length, None, unwrap_or}
+use Rattle.node_memory.proofs.Common.{pool_of, seen}
 use Rattle.memb_core.specs.BlockPool.{with_bytes}
-use Rattle.memb_core.specs.PoolBytes.{pool_of}
-use Rattle.node_memory.specs.Placed.{seen}
 use Rattle.node_memory.specs.PoolCalls.{done, write_refusal}
 use Rattle.node_memory.proofs.Listed.{seen-blocks}
 use Rattle.node_memory.proofs.listed_pool.ListedPool.write.Goals as goal

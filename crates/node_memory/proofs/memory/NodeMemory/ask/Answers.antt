@@ -1,5 +1,4 @@
-use Rattle.std.proofs.Common.{ap, sym, ◌∙◌}
-use Rattle.std.specs.Prelude.{Some}
+use Rattle.std.proofs.Common.{ap, sym, ◌∙◌, Some}
 use Rattle.node_memory.specs.declared.parts.Part.{Part}
 use Rattle.node_memory.proofs.Asked.{leaves-of-part}
 use Rattle.node_memory.proofs.Refused.{refused-then}

@@ -1,7 +1,5 @@
 use Rattle.std.proofs.Common.{arith, ap, sym, ◌∙◌, ◌<◌, length}
-use Rattle.node_memory.specs.Ask.{ask_pool_of}
-use Rattle.node_memory.specs.Code.Layout.{end_of}
-use Rattle.node_memory.specs.Placed.{PlacedMemory}
+use Rattle.node_memory.proofs.Common.{ask_pool_of, end_of, PlacedMemory}
 use Rattle.node_memory.proofs.LaidOut.{linked-at, after-pool, asked-pool, refused-pool}
 use Rattle.node_memory.proofs.Refused.{refused-then}
 use Rattle.node_memory.proofs.memory.NodeMemory.ask_pool.Goals as goal

@@ -1,7 +1,5 @@
 use Rattle.std.proofs.Common.{subst}
-use Rattle.node_memory.specs.Code.Layout.{end_of}
-use Rattle.node_memory.specs.Placed.{PlacedMemory}
-use Rattle.node_memory.specs.Separation.{BlocksLieApart}
+use Rattle.node_memory.proofs.Common.{end_of, PlacedMemory, BlocksLieApart}
 use Rattle.node_memory.proofs.Apart.{PoolApart, of-four, pools-apart, all-apart}
 use Rattle.node_memory.proofs.LaidOut.{layout_of}
 use Rattle.node_memory.proofs.memory.NodeMemory.blocks_lie_apart.Goals as goal

@@ -1,9 +1,7 @@
-use Rattle.std.proofs.Common.{ap, sym, ◌∙◌, subst}
-use Rattle.std.specs.Prelude.{None, Some}
+use Rattle.std.proofs.Common.{arith, ap, sym, ◌∙◌, subst, None, Some}
+use Rattle.node_memory.proofs.Common.{Memory, PlacedMemory, frame_block}
 use Rattle.node_memory.specs.Frames.{frame_dropped}
-use Rattle.node_memory.specs.Memory.{Memory}
-use Rattle.node_memory.specs.Placed.{PlacedMemory}
-use Rattle.node_memory.specs.Separation.{LeavesOthers, frame_block}
+use Rattle.node_memory.specs.Separation.{LeavesOthers}
 use Rattle.node_memory.proofs.LaidOut.{after-managed, managed-changed}
 use Rattle.node_memory.proofs.Others.{leaves-frame}
 use Rattle.node_memory.proofs.memory.NodeMemory.drop_frame.Goals as goal
@@ -25,4 +23,4 @@ returns-clause-others c =
     let dropped =
     managed-changed 3 c.args.slot None k.mmem c.free.new.self k.heap k.pools k.arena c.free.new.arena c.self.invariant c.free.ensures.rest c.free.ensures.block
     ∙ ap (λ (v : PlacedMemory). frame_dropped c.args.slot v.contents) c.self.view_is in
-    subst (λ (m : Memory). LeavesOthers (Some (frame_block c.args.slot)) c.args.self.now.contents m) (sym dropped) (leaves-frame c.args.slot None c.args.self.now.contents c.requires.slot)
+    subst (λ (m : Memory). LeavesOthers (Some (frame_block c.args.slot)) c.args.self.now.contents m) (sym dropped) (leaves-frame c.args.slot None c.args.self.now.contents (omega (arith, c.requires.slot)))

@@ -1,22 +1,15 @@
 use Rattle.std.proofs.Common.{rules, arith, subst, ap, sym, ◌∙◌, ◌≡◌, refl, None}
-use Rattle.mote_types.specs.declared.call.Call.{Call}
-use Rattle.mote_types.specs.declared.refusal.Refusal.{Refusal}
-use Rattle.mote_types.specs.declared.reply.Reply.{Reply}
-use Rattle.heap_core.specs.HeapBytes.{heap_of}
+use Rattle.node_memory.proofs.Common.{Call, Refusal, Reply, heap_of, Memory, with_heap, PlacedMemory, contents_of, StaysInPlace, block_at, number_of, zeros}
 use Rattle.heap_core.specs.HeapStore.{allocated}
 use Rattle.node_memory.specs.HeapCalls.{alloc_refusal}
-use Rattle.node_memory.specs.Memory.{Memory, with_heap}
-use Rattle.node_memory.specs.Placed.{PlacedMemory, contents_of, placed}
-use Rattle.node_memory.specs.Separation.{StaysInPlace}
+use Rattle.node_memory.specs.Placed.{placed}
 use Rattle.node_memory.proofs.Stays.{heap_stays, leaves_blocks}
 use Rattle.node_memory.proofs.HeapAsked.{alloc-accepted, asked-found, asked-no-room}
 use Rattle.node_memory.proofs.LaidOut.{layout_of, after-heap, heap-changed}
 use Rattle.node_memory.proofs.memory.NodeMemory.heap_alloc.Goals as goal
 use Rattle.node_memory.proofs.memory.NodeMemory.heap_alloc.Goals.{in-Some, in-None}
 use Rattle.std.specs.Option.{option_map}
-use Rattle.heap_core.specs.HeapStore.{with_block, block_at}
-use Rattle.mote_types.specs.BlockNames.{number_of}
-use Rattle.mote_types.specs.Bytes.{zeros}
+use Rattle.heap_core.specs.HeapStore.{with_block}
 
 pub invariant_of-self : goal.invariant_of-self
 invariant_of-self c =

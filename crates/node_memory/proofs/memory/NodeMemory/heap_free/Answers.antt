@@ -1,9 +1,7 @@
 use Rattle.std.proofs.Common.{rules, arith, ap, ◌∙◌, ◌≡◌, None}
-use Rattle.heap_core.specs.HeapBytes.{heap_of}
-use Rattle.heap_core.specs.HeapStore.{HeapStore, freed}
+use Rattle.node_memory.proofs.Common.{heap_of, HeapStore, Memory, with_heap, PlacedMemory, contents_of}
+use Rattle.heap_core.specs.HeapStore.{freed}
 use Rattle.node_memory.specs.HeapCalls.{free_refusal}
-use Rattle.node_memory.specs.Memory.{Memory, with_heap}
-use Rattle.node_memory.specs.Placed.{PlacedMemory, contents_of}
 use Rattle.node_memory.proofs.HeapAsked.{free-accepted, asked-done}
 use Rattle.node_memory.proofs.LaidOut.{layout_of, after-heap, heap-changed}
 use Rattle.node_memory.proofs.memory.NodeMemory.heap_free.Goals as goal

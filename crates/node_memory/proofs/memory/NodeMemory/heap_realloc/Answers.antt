@@ -1,13 +1,6 @@
 use Rattle.std.proofs.Common.{rules, arith, subst, ap, sym, ◌∙◌, ◌≡◌, refl, None}
-use Rattle.mote_types.specs.declared.call.Call.{Call}
-use Rattle.mote_types.specs.declared.refusal.Refusal.{Refusal}
-use Rattle.mote_types.specs.declared.reply.Reply.{Reply}
-use Rattle.heap_core.specs.HeapBytes.{heap_of}
-use Rattle.heap_core.specs.HeapStore.{reallocated}
-use Rattle.node_memory.specs.HeapCalls.{realloc_refusal}
-use Rattle.node_memory.specs.Memory.{Memory, with_heap}
-use Rattle.node_memory.specs.Placed.{PlacedMemory, contents_of, placed}
-use Rattle.node_memory.specs.Separation.{StaysInPlace}
+use Rattle.node_memory.proofs.Common.{Call, Refusal, Reply, heap_of, reallocated, realloc_refusal, Memory, with_heap, PlacedMemory, contents_of, StaysInPlace}
+use Rattle.node_memory.specs.Placed.{placed}
 use Rattle.node_memory.proofs.Stays.{heap_stays, leaves_blocks}
 use Rattle.node_memory.proofs.HeapAsked.{realloc-accepted, asked-found, asked-no-room}
 use Rattle.node_memory.proofs.LaidOut.{layout_of, after-heap, heap-changed}

@@ -1,10 +1,7 @@
-use Rattle.std.specs.Prelude.{is_some}
-use Rattle.std.proofs.Common.{arith, ap, ◌∙◌, ◌≡◌, None, length}
-use Rattle.heap_core.specs.HeapBytes.{heap_of}
-use Rattle.heap_core.specs.HeapStore.{HeapStore, with_bytes}
+use Rattle.std.proofs.Common.{is_some, arith, ap, ◌∙◌, ◌≡◌, None, length}
+use Rattle.node_memory.proofs.Common.{heap_of, HeapStore, Memory, with_heap, PlacedMemory, contents_of}
+use Rattle.heap_core.specs.HeapStore.{with_bytes}
 use Rattle.node_memory.specs.HeapCalls.{write_refusal}
-use Rattle.node_memory.specs.Memory.{Memory, with_heap}
-use Rattle.node_memory.specs.Placed.{PlacedMemory, contents_of}
 use Rattle.node_memory.proofs.HeapAsked.{asked-done}
 use Rattle.node_memory.proofs.LaidOut.{layout_of, after-heap, heap-changed}
 use Rattle.node_memory.proofs.memory.NodeMemory.heap_write.Goals as goal

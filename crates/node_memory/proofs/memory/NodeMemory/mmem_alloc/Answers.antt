@@ -1,9 +1,6 @@
-use Rattle.std.proofs.Common.{rules, ◌≡◌, ap, ◌∙◌}
-use Rattle.std.specs.Prelude.{Some}
-use Rattle.mote_types.specs.Bytes.{zeros}
-use Rattle.mmem_core.specs.ManagedStore.{allocated, shortage}
-use Rattle.node_memory.specs.Memory.{with_managed}
-use Rattle.node_memory.specs.Placed.{PlacedMemory}
+use Rattle.std.proofs.Common.{rules, ◌≡◌, ap, ◌∙◌, Some}
+use Rattle.node_memory.proofs.Common.{zeros, shortage, with_managed, PlacedMemory}
+use Rattle.mmem_core.specs.ManagedStore.{allocated}
 use Rattle.node_memory.proofs.LaidOut.{after-managed, managed-changed, still-laid_out}
 use Rattle.node_memory.proofs.Refused.{none-then, shortage-of-before}
 use Rattle.node_memory.proofs.memory.NodeMemory.mmem_alloc.Goals as goal

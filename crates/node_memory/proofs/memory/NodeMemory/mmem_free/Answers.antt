@@ -1,8 +1,6 @@
-use Rattle.std.proofs.Common.{rules, ap, ◌∙◌}
-use Rattle.std.specs.Prelude.{None}
+use Rattle.std.proofs.Common.{rules, ap, ◌∙◌, None}
+use Rattle.node_memory.proofs.Common.{with_managed, PlacedMemory}
 use Rattle.mmem_core.specs.ManagedStore.{freed}
-use Rattle.node_memory.specs.Memory.{with_managed}
-use Rattle.node_memory.specs.Placed.{PlacedMemory}
 use Rattle.node_memory.proofs.LaidOut.{after-managed, managed-changed}
 use Rattle.node_memory.proofs.memory.NodeMemory.mmem_free.Goals as goal
 

@@ -1,10 +1,6 @@
-use Rattle.std.proofs.Common.{rules, ap, ◌∙◌}
-use Rattle.std.specs.Prelude.{Some}
-use Rattle.mote_types.specs.Bytes.{overwritten}
-use Rattle.mmem_core.specs.ManagedStore.{bytes_of, with_bytes}
-use Rattle.mmem_core.specs.HandleTable.{store_of}
-use Rattle.node_memory.specs.Memory.{with_managed}
-use Rattle.node_memory.specs.Placed.{PlacedMemory}
+use Rattle.std.proofs.Common.{rules, ap, ◌∙◌, Some}
+use Rattle.node_memory.proofs.Common.{overwritten, bytes_of, store_of, with_managed, PlacedMemory}
+use Rattle.mmem_core.specs.ManagedStore.{with_bytes}
 use Rattle.node_memory.proofs.LaidOut.{after-managed, managed-changed}
 use Rattle.node_memory.proofs.memory.NodeMemory.mmem_write.Goals as goal
 

@@ -1,12 +1,8 @@
 use Rattle.std.proofs.Common.{rules, subst, ◌≡◌, ◌≤◌, ◌+◌, ap, ◌∙◌, ℕ, List, map, Option, Some, None, arith}
-use Rattle.std.specs.Option.{option_map_or}
-use Rattle.mmem_core.specs.ManagedStore.{ManagedStore, empty_store}
-use Rattle.mmem_core.specs.HandleTable.{store_of}
-use Rattle.heap_core.specs.HeapStore.{HeapStore, empty_heap}
-use Rattle.heap_core.specs.HeapBytes.{heap_of}
-use Rattle.node_memory.specs.Code.Layout.{LieBehind, end_of}
-use Rattle.node_memory.specs.ListedPools.{PoolWithLists, unused_pool_of}
-use Rattle.node_memory.specs.Memory.{Memory, usable_sizes}
+use Rattle.node_memory.proofs.Common.{option_map_or, ManagedStore, store_of, HeapStore, heap_of, LieBehind, end_of, PoolWithLists, unused_pool_of, Memory}
+use Rattle.mmem_core.specs.ManagedStore.{empty_store}
+use Rattle.heap_core.specs.HeapStore.{empty_heap}
+use Rattle.node_memory.specs.Memory.{usable_sizes}
 use Rattle.node_memory.proofs.memory.NodeMemory.new.Goals as goal
 
 -- process 3 is an owner, with quotas and without

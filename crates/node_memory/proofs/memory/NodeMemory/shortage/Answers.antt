@@ -1,6 +1,5 @@
 use Rattle.std.proofs.Common.{ap, ◌∙◌}
-use Rattle.mmem_core.specs.ManagedStore.{shortage}
-use Rattle.node_memory.specs.Placed.{PlacedMemory}
+use Rattle.node_memory.proofs.Common.{shortage, PlacedMemory}
 use Rattle.node_memory.proofs.memory.NodeMemory.shortage.Goals as goal
 
 pub returns : goal.returns

@@ -1,10 +1,6 @@
-use Rattle.std.proofs.Common.{rules, ◌≡◌, ap, sym, ◌∙◌, subst}
-use Rattle.std.specs.Prelude.{Some}
-use Rattle.mmem_core.specs.ManagedStore.{shortage}
-use Rattle.node_memory.specs.Frames.{frame_taken}
-use Rattle.node_memory.specs.Memory.{Memory}
-use Rattle.node_memory.specs.Placed.{PlacedMemory}
-use Rattle.node_memory.specs.Separation.{LeavesOthers, frame_block}
+use Rattle.std.proofs.Common.{arith, rules, ◌≡◌, ap, sym, ◌∙◌, subst, Some}
+use Rattle.node_memory.proofs.Common.{shortage, frame_taken, Memory, PlacedMemory, frame_block}
+use Rattle.node_memory.specs.Separation.{LeavesOthers}
 use Rattle.node_memory.proofs.FrameBlocks.{after-frame, frame-changed}
 use Rattle.node_memory.proofs.Others.{leaves-frame}
 use Rattle.node_memory.proofs.Refused.{none-then, shortage-of-before}
@@ -28,7 +24,7 @@ returns-clause-others c =
     let k = c.self.inside in
     let taken = frame-changed c.args.slot c.args.bytes.now k.mmem c.alloc.new.self k.heap k.pools k.arena c.alloc.new.arena c.write.new.arena c.self.invariant c.requires.slot c.alloc.ensures.rest (search rules) c.write.ensures.rest c.write.ensures.block
     ∙ ap (λ (v : PlacedMemory). frame_taken c.args.slot c.args.bytes.now v.contents) c.self.view_is in
-    subst (λ (m : Memory). LeavesOthers (Some (frame_block c.args.slot)) c.args.self.now.contents m) (sym taken) (leaves-frame c.args.slot (Some c.args.bytes.now) c.args.self.now.contents c.requires.slot)
+    subst (λ (m : Memory). LeavesOthers (Some (frame_block c.args.slot)) c.args.self.now.contents m) (sym taken) (leaves-frame c.args.slot (Some c.args.bytes.now) c.args.self.now.contents (omega (arith, c.requires.slot)))
 
 pub returns-then-is_none-clause-refused : goal.returns-then-is_none-clause-refused
 returns-then-is_none-clause-refused c =

@@ -1,0 +1,104 @@
+-- What each call on the heap makes of the bytes under every name.
+use Rattle.std.proofs.Common.{◌≡◌, ℕ, Bool, true, false, List, [], ◌∷◌, refl, ◌∙◌, arith, map, Option, Some, None, subst, not, filter, find, if◌then◌else◌, is_some, ◌==◌}
+use Rattle.node_memory.proofs.Common.{Block, HeapStore, block_at, reallocated, number_of, zeros, overwritten, option_map_or}
+use Rattle.std.specs.Option.{option_map}
+use Rattle.std.proofs.lemmas.Bool.Decides.{nat_tests}
+use Rattle.mote_types.specs.Bytes.{resized}
+use Rattle.heap_core.specs.declared.chunk.Place.{Place}
+use Rattle.heap_core.specs.HeapStore.{has_name, find_block, block_of, place, placed, with_block, without_block, allocated, freed, place_of, new_place, moved, resized_block, with_bytes}
+use Rattle.node_memory.specs.HeapCalls.{alloc_refusal}
+
+abbrev pub bytes_in : ℕ → List Block → Option (List ℕ)
+bytes_in name blocks = option_map (λ (block : Block). block.bytes) (find (has_name name) blocks)
+
+-- a block more, a block less, and other bytes of one block
+
+added : (block : Block) (name : ℕ) (blocks : List Block) → bytes_in block.name blocks ≡ None
+    → bytes_in name (placed block blocks) ≡ (if block.name == name then Some block.bytes else bytes_in name blocks)
+added block name [] e = grind (arith, nat_tests)
+added block name (x ∷ xs) e = grind (arith, nat_tests, added block name xs)
+
+removed : (gone name : ℕ) (blocks : List Block)
+    → bytes_in name (filter (λ block. not (has_name gone block)) blocks) ≡ (if gone == name then None else bytes_in name blocks)
+removed gone name [] = grind (arith, nat_tests)
+removed gone name (x ∷ xs) = grind (arith, nat_tests, removed gone name xs)
+
+rewritten : (changed : ℕ) (change : List ℕ → List ℕ) (name : ℕ) (blocks : List Block)
+    → bytes_in name (map (λ block. if has_name changed block then record block { bytes = change block.bytes } else block) blocks)
+    ≡ (if changed == name then option_map change (bytes_in name blocks) else bytes_in name blocks)
+rewritten changed change name [] = grind (arith, nat_tests)
+rewritten changed change name (x ∷ xs) = grind (arith, nat_tests, rewritten changed change name xs)
+
+found : (name : ℕ) (block : Block) (blocks : List Block) → find (has_name name) blocks ≡ Some block → block.name ≡ name
+found name block [] e = absurd (cc)
+found name block (x ∷ xs) e = grind (arith, nat_tests, found name block xs)
+
+-- one name stands for these bytes from now on, or for none
+pub record Becomes (name : ℕ) (bytes : Option (List ℕ)) (old new : HeapStore) : Type 0 where
+  pub each : (other : ℕ) → bytes_in other new.blocks ≡ (if name == other then bytes else bytes_in other old.blocks)
+
+moved-becomes : (at : Place) (block : Block) (n : ℕ) (heap : HeapStore) → Becomes block.name (Some (resized n block.bytes)) heap (moved at block n heap)
+moved-becomes at block n heap =
+    record {
+      each = λ other.
+          let same : (block.name == block.name) ≡ true = grind (arith, nat_tests) in
+          let gone : bytes_in block.name (without_block block.name heap).blocks ≡ None = removed block.name block.name heap.blocks ∙ rw same refl in
+          let first = added (block_at at block.name (resized n block.bytes)) other (without_block block.name heap).blocks gone in
+          first ∙ joined (block.name == other) _ _ _ (removed block.name other heap.blocks);
+    }
+  where
+    joined : (b : Bool) (x y z : Option (List ℕ)) → z ≡ (if b then None else y) → (if b then x else z) ≡ (if b then x else y)
+    joined true x y z e = refl
+    joined false x y z e = e
+
+-- where these are the results of a call, block b of p becomes this
+pub record Results (p b : ℕ) (bytes : Option (List ℕ)) (old : HeapStore) (result : Option HeapStore) : Type 0 where
+  pub each : (new : HeapStore) → result ≡ Some new → Becomes (number_of p b) bytes old new
+
+one_result : (p b : ℕ) (bytes : Option (List ℕ)) (old new : HeapStore) → Becomes (number_of p b) bytes old new → Results p b bytes old (Some new)
+one_result p b bytes old new becomes =
+    record { each = λ other f. let same : new ≡ other = cc in subst (λ (s : HeapStore). Becomes (number_of p b) bytes old s) same becomes }
+
+none_live : (o : Option (List ℕ)) → is_some o ≡ false → o ≡ None
+none_live None e = refl
+none_live (Some bytes) e = absurd (cc)
+
+pub alloc-results : (p b n : ℕ) (heap : HeapStore) → alloc_refusal p b n heap ≡ None → Results p b (Some (zeros n)) heap (allocated p b n heap)
+alloc-results p b n heap e = at (place n heap)
+  where
+    unused : bytes_in (number_of p b) heap.blocks ≡ None
+    unused = none_live (block_of p b heap) (grind (arith, e))
+
+    at : (o : Option Place) → Results p b (Some (zeros n)) heap (option_map (λ place. with_block (block_at place (number_of p b) (zeros n)) heap) o)
+    at None = record { each = λ new f. absurd (cc) }
+    at (Some spot) =
+        let block = block_at spot (number_of p b) (zeros n) in
+        one_result p b (Some (zeros n)) heap (with_block block heap) (record { each = λ other. added block other heap.blocks unused })
+
+pub realloc-results : (p b n : ℕ) (heap : HeapStore) → Results p b (option_map (resized n) (block_of p b heap)) heap (reallocated p b n heap)
+realloc-results p b n heap = of_block (find_block (number_of p b) heap) refl
+  where
+    of_block : (o : Option Block) → find_block (number_of p b) heap ≡ o
+        → Results p b (option_map (resized n) (option_map (λ (block : Block). block.bytes) o)) heap (option_map_or (λ block. resized_block block n heap) o None)
+    of_block None e = record { each = λ new f. absurd (cc) }
+    of_block (Some block) e = at (new_place (place_of block) n heap)
+      where
+        at : (o : Option Place) → Results p b (Some (resized n block.bytes)) heap (option_map (λ place. moved place block n heap) o)
+        at None = record { each = λ new f. absurd (cc) }
+        at (Some spot) =
+            one_result p b (Some (resized n block.bytes)) heap (moved spot block n heap)
+            (subst (λ (k : ℕ). Becomes k (Some (resized n block.bytes)) heap (moved spot block n heap)) (found (number_of p b) block heap.blocks e) (moved-becomes spot block n heap))
+
+pub free-results : (p b : ℕ) (heap : HeapStore) → Results p b None heap (Some (freed p b heap))
+free-results p b heap = one_result p b None heap (freed p b heap) (record { each = λ other. removed (number_of p b) other heap.blocks })
+
+pub write-results : (p b at : ℕ) (bytes : List ℕ) (heap : HeapStore) → Results p b (option_map (overwritten at bytes) (block_of p b heap)) heap (Some (with_bytes p b at bytes heap))
+write-results p b at bytes heap =
+    one_result p b (option_map (overwritten at bytes) (block_of p b heap)) heap (with_bytes p b at bytes heap)
+    (record { each = λ other. rewritten (number_of p b) (overwritten at bytes) other heap.blocks ∙ at_name (number_of p b == other) other refl })
+  where
+    at_name : (same : Bool) (other : ℕ) → (number_of p b == other) ≡ same
+        → (if same then option_map (overwritten at bytes) (bytes_in other heap.blocks) else bytes_in other heap.blocks)
+        ≡ (if same then option_map (overwritten at bytes) (bytes_in (number_of p b) heap.blocks) else bytes_in other heap.blocks)
+    at_name true other e = let same : number_of p b ≡ other = grind (arith, nat_tests, e) in rw same refl
+    at_name false other e = refl
