@@ -1,4 +1,5 @@
 -- That the measure of what is on the agenda falls with each item that is worked off.
+use Rattle.std.proofs.lemmas.Bool.Decides.{nat_tests}
 use Rattle.std.proofs.Common.{◌≡◌, ℕ, zero, suc, ◌+◌, ◌*◌, ◌≤◌, Bool, true, false, not, List, [], ◌∷◌, ◌++◌, length, refl, arith}
 use Rattle.std.proofs.Math.Nat.{mul-zero, mul-suc, mul-le-mul_left}
 use Rattle.std.proofs.lemmas.List.{length-map}
@@ -12,17 +13,10 @@ use Rattle.process_core.specs.Processes.{numbers, is_process, is_kernel_process}
 use Rattle.kernel_core.specs.Code.Cost.{starts, present, cost, costs, IsPaid}
 use Rattle.process_core.specs.Scheduler.{Scheduler, after_front, job, in_front, after_item, delivery, first_event, of_event, job_of_event, job_of_give, job_of_item, job_at, after_front_of, wants_round, after_items, ComesTo}
 
-starts-append : (xs ys : List Item) → starts (xs ++ ys) ≡ starts xs + starts ys
+pub starts-append : (xs ys : List Item) → starts (xs ++ ys) ≡ starts xs + starts ys
 starts-append [] ys = omega arith
 starts-append (Item.Start p ∷ xs) ys = grind (arith, starts-append xs ys)
-starts-append (Item.Give p origin stimulus ∷ xs) ys = starts-append xs ys
-starts-append (Item.Turn p origin stimulus ∷ xs) ys = starts-append xs ys
-starts-append (Item.GiveExit p ∷ xs) ys = starts-append xs ys
-starts-append (Item.Remove p ∷ xs) ys = starts-append xs ys
-starts-append (Item.Polls ∷ xs) ys = starts-append xs ys
-starts-append (Item.PollOne p ∷ xs) ys = starts-append xs ys
-starts-append (Item.Deliver ∷ xs) ys = starts-append xs ys
-starts-append (Item.Show entry ∷ xs) ys = starts-append xs ys
+starts-append (_ ∷ xs) ys = starts-append xs ys
 
 starts-polls : (ns : List ℕ) → starts (map (λ p. Item.PollOne p) ns) ≡ 0
 starts-polls [] = refl
@@ -32,38 +26,33 @@ starts-broadcast : (event : Event) (ns : List ℕ) → starts (flat_map (λ p. I
 starts-broadcast event [] = refl
 starts-broadcast event (n ∷ ns) = starts-broadcast event ns
 
-starts-delivery : (ns : List ℕ) (event : Option (Queued ℕ)) → starts (delivery ns event) ≡ 0
-starts-delivery ns None = refl
-starts-delivery ns (Some (Queued.To p event)) = refl
-starts-delivery ns (Some (Queued.ToAll event)) = starts-broadcast event ns
-starts-delivery ns (Some (Queued.Expiry p c x)) = refl
+starts-delivery : {X : Type 0} (ns : List ℕ) (event : Option (Queued X)) → starts (delivery ns event) ≡ 0
+starts-delivery ns event = grind (arith, nat_tests, starts-broadcast)
 
-length-without : (keep : Process → Bool) (list : List Process) → length (filter keep list) ≤ length list
+pub length-without : (keep : Process → Bool) (list : List Process) → length (filter keep list) ≤ length list
 length-without keep [] = omega arith
 length-without keep (process ∷ list) = grind (arith, length-without keep list)
 
 -- no item makes more processes than it stands for
-after_item-present : (item : Item) (s : Scheduler ℕ) → present (after_item item s) ≤ starts (item ∷ []) + present s
+after_item-present : {X : Type 0} (item : Item) (s : Scheduler X) → present (after_item item s) ≤ starts (item ∷ []) + present s
 after_item-present (Item.Start p) s = grind arith
-after_item-present (Item.Give p origin stimulus) s = grind (arith, length-map)
-after_item-present (Item.GiveExit p) s = grind (arith, length-map)
 after_item-present (Item.Remove p) s = grind (arith, length-without (λ process. not (is_process p process)) s.processes)
 after_item-present Item.Polls s = grind (arith, starts-append, starts-polls (numbers s.processes))
-after_item-present (Item.PollOne p) s = grind (arith, length-map)
 after_item-present Item.Deliver s = grind (arith, starts-append, starts-delivery (numbers s.processes) (first_event s))
 after_item-present (Item.Turn p origin stimulus) s = omega arith
 after_item-present (Item.Show entry) s = omega arith
+after_item-present _ s = grind (arith, length-map)
 
-after_front_of-present : (agenda : List Item) (s : Scheduler ℕ) → s.agenda ≡ agenda → present (after_front_of agenda s) ≤ present s
+after_front_of-present : {X : Type 0} (agenda : List Item) (s : Scheduler X) → s.agenda ≡ agenda → present (after_front_of agenda s) ≤ present s
 after_front_of-present [] s e = grind arith
 after_front_of-present (item ∷ items) s e =
     grind (arith, after_item-present item (record s { agenda = items }), starts-append (item ∷ []) items, e)
 
-after_front-present : (s : Scheduler ℕ) → present (after_front s) ≤ present s
+pub after_front-present : {X : Type 0} (s : Scheduler X) → present (after_front s) ≤ present s
 after_front-present s = after_front_of-present s.agenda s refl
 
 module _ (bound : ℕ) where
-  costs-nil : costs bound [] ≡ 0
+  pub costs-nil : costs bound [] ≡ 0
   unfolding costs
   costs-nil = refl
 
@@ -71,7 +60,7 @@ module _ (bound : ℕ) where
   unfolding costs
   costs-cons item items = refl
 
-  costs-append : (xs ys : List Item) → costs bound (xs ++ ys) ≡ costs bound xs + costs bound ys
+  pub costs-append : (xs ys : List Item) → costs bound (xs ++ ys) ≡ costs bound xs + costs bound ys
   costs-append [] ys = grind (arith, costs-nil)
   costs-append (x ∷ xs) ys = grind (arith, costs-cons x (xs ++ ys), costs-cons x xs, costs-append xs ys)
 
@@ -88,7 +77,7 @@ module _ (bound : ℕ) where
       rw (costs-cons Item.Polls (Item.Give n Origin.Event (of_event event) ∷ rest), costs-cons (Item.Give n Origin.Event (of_event event)) rest, costs-broadcast event ns, product)
       (omega arith)
 
-  costs-delivery : (ns : List ℕ) (event : Option (Queued ℕ)) → length ns ≤ bound → costs bound (delivery ns event) ≤ (3 * bound + 3) * bound + 2
+  costs-delivery : {X : Type 0} (ns : List ℕ) (event : Option (Queued X)) → length ns ≤ bound → costs bound (delivery ns event) ≤ (3 * bound + 3) * bound + 2
   costs-delivery ns (Some (Queued.To p event)) h = rw (costs-cons, costs-nil) (omega arith)
   costs-delivery ns (Some (Queued.ToAll event)) h =
       rw (costs-broadcast event ns) (omega (arith, mul-le-mul_left (3 * bound + 3) h))
@@ -96,7 +85,7 @@ module _ (bound : ℕ) where
   costs-delivery ns None h = rw costs-nil (omega arith)
 
   -- an item that is worked off costs bound a step at least
-  after_item-costs : (item : Item) (s : Scheduler ℕ) → length s.processes ≤ bound
+  after_item-costs : {X : Type 0} (item : Item) (s : Scheduler X) → length s.processes ≤ bound
       → costs bound (after_item item s).agenda + 1 ≤ cost bound item + costs bound s.agenda
   after_item-costs Item.Deliver s h =
       let listed : length (numbers s.processes) ≡ length s.processes = length-map s.processes (λ process. process.number) in
@@ -105,71 +94,59 @@ module _ (bound : ℕ) where
       (omega (arith, costs-delivery (numbers s.processes) (first_event s) few))
   after_item-costs Item.Polls s h =
       grind (arith, costs-append (map (λ p. Item.PollOne p) (numbers s.processes)) s.agenda, costs-polls (numbers s.processes), length-map)
-  after_item-costs (Item.Start p) s h = grind (arith, costs-cons, costs-nil)
-  after_item-costs (Item.Give p origin stimulus) s h = grind (arith, costs-cons, costs-nil)
-  after_item-costs (Item.Turn p origin stimulus) s h = omega arith
-  after_item-costs (Item.GiveExit p) s h = grind (arith, costs-cons, costs-nil)
-  after_item-costs (Item.Remove p) s h = omega arith
-  after_item-costs (Item.PollOne p) s h = grind (arith, costs-cons, costs-nil)
-  after_item-costs (Item.Show entry) s h = omega arith
+  after_item-costs item s h = grind (arith, costs-cons, costs-nil)
 
-  paid_round : (is_work : Bool) (s : Scheduler ℕ) → s.agenda ≡ [] →
-      IsPaid bound (Some (if is_work then Job.Round else Job.Rest)) (costs bound [])
+  paid_round : {X : Type 0} (is_work : Bool) (s : Scheduler X) → s.agenda ≡ [] →
+      IsPaid bound {X = X} (Some (if is_work then Job.Round else Job.Rest)) (costs bound [])
       (costs bound (if is_work then in_front (Item.Polls ∷ Item.Deliver ∷ []) s else s).agenda)
   paid_round true s e = rw (e, costs-cons, costs-cons, costs-nil) (omega arith)
   paid_round false s e = rw e (omega arith)
 
-  paid_delivery : (event : Option (Queued ℕ)) (items : List Item) (ns : List ℕ) → length ns ≤ bound →
+  paid_delivery : {X : Type 0} (event : Option (Queued X)) (items : List Item) (ns : List ℕ) → length ns ≤ bound →
       IsPaid bound (job_of_event event) (cost bound Item.Deliver + costs bound items) (costs bound (delivery ns event ++ items))
   paid_delivery (Some (Queued.Expiry p c x)) items ns h = omega arith
-  paid_delivery (Some (Queued.To p event)) items ns h =
-      rw (costs-append (delivery ns (Some (Queued.To p event))) items) (omega (arith, costs-delivery ns (Some (Queued.To p event)) h))
-  paid_delivery (Some (Queued.ToAll event)) items ns h =
-      rw (costs-append (delivery ns (Some (Queued.ToAll event))) items) (omega (arith, costs-delivery ns (Some (Queued.ToAll event)) h))
+  paid_delivery {X = X} (Some (Queued.To p event)) items ns h =
+      rw (costs-append (delivery {X = X} ns (Some (Queued.To p event))) items) (omega (arith, costs-delivery {X = X} ns (Some (Queued.To p event)) h))
+  paid_delivery {X = X} (Some (Queued.ToAll event)) items ns h =
+      rw (costs-append (delivery {X = X} ns (Some (Queued.ToAll event))) items) (omega (arith, costs-delivery {X = X} ns (Some (Queued.ToAll event)) h))
   paid_delivery None items ns h = omega arith
 
-  paid_give : (p : ℕ) (stimulus : Stimulus) (old new : ℕ) → new + 1 ≤ old → IsPaid bound (job_of_give p stimulus) old new
-  paid_give p (Stimulus.Event event) old new h = pay (is_kernel_process p)
+  paid_give : (X : Type 0) (p : ℕ) (stimulus : Stimulus) (old new : ℕ) → new + 1 ≤ old → IsPaid bound {X = X} (job_of_give p stimulus) old new
+  paid_give X p (Stimulus.Event event) old new h = pay (is_kernel_process p)
     where
-      pay : (b : Bool) → IsPaid bound (if b then Some (Job.Serve p event) else None) old new
+      pay : (b : Bool) → IsPaid bound {X = X} (if b then Some (Job.Serve p event) else None) old new
       pay true = h
       pay false = h
-  paid_give p (Stimulus.Answer reply) old new h = h
-  paid_give p (Stimulus.Callback c) old new h = h
+  paid_give X p (Stimulus.Answer reply) old new h = h
+  paid_give X p (Stimulus.Callback c) old new h = h
 
-  paid_item : (item : Item) (s : Scheduler ℕ) (items : List Item) → length s.processes ≤ bound →
+  paid_item : {X : Type 0} (item : Item) (s : Scheduler X) (items : List Item) → length s.processes ≤ bound →
       IsPaid bound (job_of_item item s) (cost bound item + costs bound items) (costs bound (after_item item (record s { agenda = items })).agenda)
   paid_item (Item.Give p origin stimulus) s items h =
-      paid_give p stimulus _ _ (after_item-costs (Item.Give p origin stimulus) (record s { agenda = items }) h)
+      paid_give _ p stimulus _ _ (after_item-costs (Item.Give p origin stimulus) (record s { agenda = items }) h)
   paid_item Item.Deliver s items h =
       let listed : length (numbers s.processes) ≡ length s.processes = length-map s.processes (λ process. process.number) in
       paid_delivery (first_event s) items (numbers s.processes) (omega (arith, listed))
-  paid_item (Item.Turn p origin stimulus) s items h = after_item-costs (Item.Turn p origin stimulus) (record s { agenda = items }) h
-  paid_item (Item.Show entry) s items h = after_item-costs (Item.Show entry) (record s { agenda = items }) h
-  paid_item (Item.Start p) s items h = after_item-costs (Item.Start p) (record s { agenda = items }) h
-  paid_item (Item.GiveExit p) s items h = after_item-costs (Item.GiveExit p) (record s { agenda = items }) h
-  paid_item (Item.Remove p) s items h = after_item-costs (Item.Remove p) (record s { agenda = items }) h
-  paid_item Item.Polls s items h = after_item-costs Item.Polls (record s { agenda = items }) h
-  paid_item (Item.PollOne p) s items h = after_item-costs (Item.PollOne p) (record s { agenda = items }) h
+  paid_item item s items h = after_item-costs item (record s { agenda = items }) h
 
-  paid_at : (agenda : List Item) (s : Scheduler ℕ) → s.agenda ≡ agenda → length s.processes ≤ bound →
+  paid_at : {X : Type 0} (agenda : List Item) (s : Scheduler X) → s.agenda ≡ agenda → length s.processes ≤ bound →
       IsPaid bound (job_at agenda s) (costs bound agenda) (costs bound (after_front_of agenda s).agenda)
   paid_at [] s e h = paid_round (wants_round s) s e
   paid_at (item ∷ items) s e h = rw (costs-cons item items) (paid_item item s items h)
 
-  paid : (s : Scheduler ℕ) → present s ≤ bound → IsPaid bound (job s) (costs bound s.agenda) (costs bound (after_front s).agenda)
+  pub paid : {X : Type 0} (s : Scheduler X) → present s ≤ bound → IsPaid bound (job s) (costs bound s.agenda) (costs bound (after_front s).agenda)
   paid s h = paid_at s.agenda s refl (omega arith)
 
   -- items that are no jobs cost no more than they are worth
-  pub record IsCheaper (old new : Scheduler ℕ) : Type 0 where
+  pub record IsCheaper {X : Type 0} (old new : Scheduler X) : Type 0 where
     pub costs : costs bound new.agenda ≤ costs bound old.agenda
     pub present : present new ≤ present old
 
-  after_items_cheaper : (n : ℕ) (s : Scheduler ℕ) → present s ≤ bound → IsCheaper s (after_items n s)
+  after_items_cheaper : {X : Type 0} (n : ℕ) (s : Scheduler X) → present s ≤ bound → IsCheaper s (after_items n s)
   after_items_cheaper zero s h = record { costs = omega arith; present = omega arith }
-  after_items_cheaper (suc n) s h = by_job (job s) refl (after_items_cheaper n (after_front s))
+  after_items_cheaper {X = X} (suc n) s h = by_job (job s) refl (after_items_cheaper n (after_front s))
     where
-      by_job : (asked : Option (Job ℕ)) → job s ≡ asked → (present (after_front s) ≤ bound → IsCheaper (after_front s) (after_items n (after_front s))) →
+      by_job : (asked : Option (Job X)) → job s ≡ asked → (present (after_front s) ≤ bound → IsCheaper (after_front s) (after_items n (after_front s))) →
           IsCheaper s (after_items (suc n) s)
       by_job (Some next) e rest = rw e (record { costs = omega arith; present = omega arith })
       by_job None e rest =
@@ -178,16 +155,12 @@ module _ (bound : ℕ) where
           let r = rest (omega (arith, fewer, h)) in
           rw e (record { costs = omega (arith, first, r.costs); present = omega (arith, fewer, r.present) })
 
-  paid_more : (next : Job ℕ) (old middle new : ℕ) → middle ≤ old → IsPaid bound (Some next) middle new → IsPaid bound (Some next) old new
+  paid_more : {X : Type 0} (next : Job X) (old middle new : ℕ) → middle ≤ old → IsPaid bound (Some next) middle new → IsPaid bound (Some next) old new
   paid_more Job.Round old middle new h paid = paid
-  paid_more Job.Rest old middle new h paid = omega arith
-  paid_more (Job.CallBack p c x) old middle new h paid = omega arith
-  paid_more (Job.TakeTurn p origin stimulus) old middle new h paid = omega arith
-  paid_more (Job.Serve p event) old middle new h paid = omega arith
-  paid_more (Job.ShowEntry entry) old middle new h paid = omega arith
+  paid_more _ old middle new h paid = omega arith
 
   -- what is on the agenda after a job, against what was there before
-  pub job_is_paid : (s after : Scheduler ℕ) (next : Job ℕ) → present s ≤ bound → ComesTo s next after →
+  pub job_is_paid : {X : Type 0} (s after : Scheduler X) (next : Job X) → present s ≤ bound → ComesTo s next after →
       IsPaid bound (Some next) (costs bound s.agenda) (costs bound after.agenda) × (present after ≤ present s)
   job_is_paid s after next h (n, asks, works) =
       let r = after_items_cheaper n s h in

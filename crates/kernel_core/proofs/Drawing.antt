@@ -1,4 +1,5 @@
 -- How many arming numbers the agenda will draw.
+use Rattle.std.proofs.lemmas.Bool.Decides.{nat_tests}
 use Rattle.std.proofs.Common.{◌≡◌, ℕ, zero, suc, ◌+◌, ◌≤◌, Bool, true, false, not, List, [], ◌∷◌, ◌++◌, refl, arith, All}
 use Rattle.std.proofs.lemmas.List.Elements.{All-head, All-tail}
 use Rattle.std.specs.Prelude.{Option, Some, None, map, flat_map, slice_get, drop, ◌==◌, eqb, if◌then◌else◌}
@@ -12,7 +13,6 @@ use Rattle.process_core.specs.Agenda.{Queued, Item, Job}
 use Rattle.process_core.specs.declared.process.Process.{Process}
 use Rattle.process_core.specs.Processes.{numbers, without, is_process, is_kernel_process}
 use Rattle.process_core.specs.Requests.{ended, killed_by}
-use Rattle.mote_types.specs.declared.reply.Reply.{Reply}
 use Rattle.std.proofs.lemmas.Map.Keys.{IsDistinct-head, IsDistinct-tail}
 use Rattle.process_core.specs.Scheduler.{Scheduler, after_front, after_front_of, job, job_at, job_of_item, job_of_event, after_item, delivery, first_event, of_event, after_items, ComesTo, wants_round}
 use Rattle.kernel_core.specs.Code.Draws.{draws, draws_of_event, draws_of_job, IsQueueable, IsQueueableJob}
@@ -20,16 +20,7 @@ use Rattle.kernel_core.specs.Code.Draws.{draws, draws_of_event, draws_of_job, Is
 pub draws-append : (xs ys : List Item) → draws (xs ++ ys) ≡ draws xs + draws ys
 draws-append [] ys = omega arith
 draws-append (Item.Give p origin (Stimulus.Event event) ∷ xs) ys = grind (arith, draws-append xs ys)
-draws-append (Item.Give p origin (Stimulus.Answer reply) ∷ xs) ys = draws-append xs ys
-draws-append (Item.Give p origin (Stimulus.Callback c) ∷ xs) ys = draws-append xs ys
-draws-append (Item.Start p ∷ xs) ys = draws-append xs ys
-draws-append (Item.Turn p origin stimulus ∷ xs) ys = draws-append xs ys
-draws-append (Item.GiveExit p ∷ xs) ys = draws-append xs ys
-draws-append (Item.Remove p ∷ xs) ys = draws-append xs ys
-draws-append (Item.Polls ∷ xs) ys = draws-append xs ys
-draws-append (Item.PollOne p ∷ xs) ys = draws-append xs ys
-draws-append (Item.Deliver ∷ xs) ys = draws-append xs ys
-draws-append (Item.Show entry ∷ xs) ys = draws-append xs ys
+draws-append (_ ∷ xs) ys = draws-append xs ys
 
 draws-polls : (ns : List ℕ) → draws (map (λ p. Item.PollOne p) ns) ≡ 0
 draws-polls [] = refl
@@ -45,10 +36,9 @@ draws-broadcast event (n ∷ ns) h = rw (draws_of_event-none n event h, draws-br
 
 -- an event that waits in the queue draws nothing
 draws-delivery : (drawn : ℕ) (ns : List ℕ) (events : List (Queued ℕ)) → All (IsQueueable drawn) events → draws (delivery ns (slice_get events 0)) ≡ 0
-draws-delivery drawn ns [] fit = refl
 draws-delivery drawn ns (Queued.To p event ∷ events) fit = rw (draws_of_event-none p event (All-head (IsQueueable drawn) (Queued.To p event) events fit)) refl
 draws-delivery drawn ns (Queued.ToAll event ∷ events) fit = draws-broadcast event ns (All-head (IsQueueable drawn) (Queued.ToAll event) events fit)
-draws-delivery drawn ns (Queued.Expiry p c arming ∷ events) fit = refl
+draws-delivery drawn ns _ fit = refl
 
 pub all_fit_rest : (drawn : ℕ) (events : List (Queued ℕ)) → All (IsQueueable drawn) events → All (IsQueueable drawn) (drop 1 events)
 all_fit_rest drawn [] fit = fit
@@ -59,12 +49,9 @@ module _ (drawn : ℕ) where
   fit_carried Item.Deliver s fit = all_fit_rest drawn s.events fit
   fit_carried (Item.Start p) s fit = let e : (after_item (Item.Start p) s).events ≡ s.events = grind arith in rw e fit
   fit_carried (Item.Give p origin stimulus) s fit = let e : (after_item (Item.Give p origin stimulus) s).events ≡ s.events = grind arith in rw e fit
-  fit_carried (Item.GiveExit p) s fit = fit
-  fit_carried (Item.Remove p) s fit = fit
   fit_carried Item.Polls s fit = let e : (after_item Item.Polls s).events ≡ s.events = grind arith in rw e fit
   fit_carried (Item.PollOne p) s fit = let e : (after_item (Item.PollOne p) s).events ≡ s.events = grind arith in rw e fit
-  fit_carried (Item.Turn p origin stimulus) s fit = fit
-  fit_carried (Item.Show entry) s fit = fit
+  fit_carried _ s fit = fit
 
   fit_after_front_of : (agenda : List Item) (s : Scheduler ℕ) → All (IsQueueable drawn) s.events → All (IsQueueable drawn) (after_front_of agenda s).events
   fit_after_front_of [] s fit = let e : (after_front_of [] s).events ≡ s.events = grind arith in rw e fit
@@ -75,10 +62,7 @@ module _ (drawn : ℕ) where
   draws_asked (Some next) = draws_of_job next
 
   no_draws_at_delivery : (events : List (Queued ℕ)) → draws_asked (job_of_event (slice_get events 0)) ≡ 0
-  no_draws_at_delivery [] = refl
-  no_draws_at_delivery (Queued.To p event ∷ events) = refl
-  no_draws_at_delivery (Queued.ToAll event ∷ events) = refl
-  no_draws_at_delivery (Queued.Expiry p c arming ∷ events) = refl
+  no_draws_at_delivery events = grind (arith, nat_tests)
 
   -- an item draws no more than it stands for
   after_item-draws : (item : Item) (items : List Item) (s : Scheduler ℕ) → All (IsQueueable drawn) s.events
@@ -86,16 +70,8 @@ module _ (drawn : ℕ) where
   after_item-draws Item.Deliver items s fit =
       rw (draws-append (delivery (numbers s.processes) (first_event s)) items, draws-delivery drawn (numbers s.processes) s.events fit, no_draws_at_delivery s.events)
       (omega arith)
-  after_item-draws (Item.Start p) items s fit = grind arith
-  after_item-draws (Item.Give p origin (Stimulus.Event event)) items s fit = grind arith
-  after_item-draws (Item.Give p origin (Stimulus.Answer reply)) items s fit = grind arith
-  after_item-draws (Item.Give p origin (Stimulus.Callback c)) items s fit = grind arith
-  after_item-draws (Item.GiveExit p) items s fit = grind arith
-  after_item-draws (Item.Remove p) items s fit = grind arith
   after_item-draws Item.Polls items s fit = grind (arith, draws-append (map (λ p. Item.PollOne p) (numbers s.processes)) items, draws-polls (numbers s.processes))
-  after_item-draws (Item.PollOne p) items s fit = grind arith
-  after_item-draws (Item.Turn p origin stimulus) items s fit = grind arith
-  after_item-draws (Item.Show entry) items s fit = grind arith
+  after_item-draws _ items s fit = grind arith
 
   after_front_of-draws : (agenda : List Item) (s : Scheduler ℕ) → s.agenda ≡ agenda → All (IsQueueable drawn) s.events
       → draws (after_front_of agenda s).agenda + draws_asked (job_at agenda s) ≤ draws agenda
@@ -110,10 +86,8 @@ module _ (drawn : ℕ) where
   IsQueueableAsked (Some next) = IsQueueableJob drawn next
 
   fit_delivery : (events : List (Queued ℕ)) → All (IsQueueable drawn) events → IsQueueableAsked (job_of_event (slice_get events 0))
-  fit_delivery [] fit = tt
-  fit_delivery (Queued.To p event ∷ events) fit = tt
-  fit_delivery (Queued.ToAll event ∷ events) fit = tt
   fit_delivery (Queued.Expiry p c arming ∷ events) fit = All-head (IsQueueable drawn) (Queued.Expiry p c arming) events fit
+  fit_delivery _ fit = tt
 
   fit_round : (b : Bool) → IsQueueableAsked (Some (if b then Job.Round else Job.Rest))
   fit_round true = tt
@@ -127,15 +101,7 @@ module _ (drawn : ℕ) where
   fit_asked [] s fit = fit_round (wants_round s)
   fit_asked (Item.Deliver ∷ items) s fit = fit_delivery s.events fit
   fit_asked (Item.Give p origin (Stimulus.Event event) ∷ items) s fit = fit_served (is_kernel_process p) p event
-  fit_asked (Item.Give p origin (Stimulus.Answer reply) ∷ items) s fit = tt
-  fit_asked (Item.Give p origin (Stimulus.Callback c) ∷ items) s fit = tt
-  fit_asked (Item.Turn p origin stimulus ∷ items) s fit = tt
-  fit_asked (Item.Start p ∷ items) s fit = tt
-  fit_asked (Item.GiveExit p ∷ items) s fit = tt
-  fit_asked (Item.Remove p ∷ items) s fit = tt
-  fit_asked (Item.Polls ∷ items) s fit = tt
-  fit_asked (Item.PollOne p ∷ items) s fit = tt
-  fit_asked (Item.Show entry ∷ items) s fit = tt
+  fit_asked _ s fit = tt
 
   -- items that are no jobs draw nothing
   pub record IsQueueableAfter (old new : Scheduler ℕ) : Type 0 where
@@ -204,6 +170,4 @@ ended-draws p s distinct =
     grind (arith, draws-append (told p s.processes) (Item.Remove p ∷ s.agenda), one_told p s.processes distinct, draws-append (told p s.processes ++ Item.Remove p ∷ []) s.agenda, draws-append (told p s.processes) (Item.Remove p ∷ []))
 
 pub killed_by-draws : (p q : ℕ) (s : Scheduler ℕ) → IsDistinct eqb (numbers s.processes) → draws (killed_by p q s).agenda ≤ draws s.agenda + 4
-killed_by-draws p q s distinct =
-    let last : List Item = Item.GiveExit q ∷ Item.Remove q ∷ Item.Turn p Origin.Answer (Stimulus.Answer Reply.Done) ∷ [] in
-    rw (draws-append (told q s.processes ++ last) s.agenda, draws-append (told q s.processes) last) (omega (arith, one_told q s.processes distinct))
+killed_by-draws p q s distinct = grind (arith, nat_tests, draws-append, one_told)

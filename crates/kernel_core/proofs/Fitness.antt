@@ -15,9 +15,8 @@ use Rattle.timer_core.specs.Code.NumberedTimers.{NumberedTimers}
 
 -- a number that was drawn stays one
 pub fit_later : (old new : ℕ) (event : Queued ℕ) → old ≤ new → IsQueueable old event → IsQueueable new event
-fit_later old new (Queued.To p event) h fit = fit
-fit_later old new (Queued.ToAll event) h fit = fit
 fit_later old new (Queued.Expiry p c arming) h fit = (fit.0, omega (arith, fit.1, h))
+fit_later old new _ h fit = fit
 
 pub all_fit_later : (old new : ℕ) (events : List (Queued ℕ)) → old ≤ new → All (IsQueueable old) events → All (IsQueueable new) events
 all_fit_later old new [] h fit = All-nil (IsQueueable new)

@@ -1,6 +1,7 @@
 -- The held frames, and the blocks that have their bytes.
+use Rattle.std.proofs.lemmas.Bool.Decides.{nat_tests}
 use Rattle.std.proofs.Common.{◌≡◌, ◌≢◌, ◌∙◌, ℕ, Bool, true, false, List, [], ◌∷◌, ◌++◌, length, ap, sym, arith, refl, ◌<◌, ◌≤◌, Option, Some, None, eqb, map}
-use Rattle.std.specs.Prelude.{is_some, if◌then◌else◌, nat_lt, ◌==◌, ◌||◌, slice_get, drop}
+use Rattle.std.specs.Prelude.{is_some, if◌then◌else◌, ◌==◌, ◌||◌, slice_get, drop}
 use Rattle.std.specs.List.{list_any, AllByRecursion, IsDistinct}
 use Rattle.std.specs.Option.{option_map}
 use Rattle.std.proofs.lemmas.List.{get_or-set_same, get_or-replicate, length-set, length-replicate}
@@ -12,8 +13,7 @@ use Rattle.node_memory.specs.Frames.{frame_in, frame_taken, frame_dropped}
 use Rattle.node_memory.specs.Memory.{Memory, fresh_memory}
 use Rattle.node_memory.specs.declared.sizes.Sizes.{Sizes}
 use Rattle.node_memory.specs.Separation.{BlockName, LeavesOthers, changed_block, frame_block}
-use Rattle.heap_core.specs.HeapStore.{HeapStore, allocated, reallocated}
-use Rattle.node_memory.specs.HeapCalls.{alloc_refusal, realloc_refusal}
+use Rattle.heap_core.specs.HeapStore.{HeapStore}
 use Rattle.mmem_core.specs.ManagedStore.{with_block}
 use Rattle.mote_types.specs.declared.refusal.Refusal.{Refusal}
 use Rattle.mote_types.specs.declared.reply.Reply.{Reply}
@@ -64,9 +64,7 @@ count_changed : (p h : ℕ) (block : Option (List ℕ)) (old : Memory) → count
 count_changed p h block old = length-set old.managed.blocks (number_of p h) block
 
 count_heap : (refusal : Option Refusal) (heap : Option HeapStore) (old : Memory) → count (unless_refused refusal old (done_or_no_room heap old)).0 ≡ count old
-count_heap (Some refusal) heap old = refl
-count_heap None None old = refl
-count_heap None (Some heap) old = refl
+count_heap refusal heap old = grind (arith, nat_tests)
 
 count_pool : (is_none : Bool) (k : ℕ) (call : Call) (old : Memory) →
     count (if is_none then (let answer : Asked = (old, Reply.Refused Refusal.BadName) in answer)
@@ -75,26 +73,13 @@ count_pool true k call old = refl
 count_pool false k call old = refl
 
 count_in_managed : (call : Call) (p : ℕ) (old : Memory) → count (ask_managed call p old).0 ≡ count old
-count_in_managed (Call.MmemAlloc h n) p old = count_unless _ old _ (count_changed p h _ old)
-count_in_managed (Call.MmemFree h) p old = count_unless _ old _ (count_changed p h _ old)
-count_in_managed (Call.MmemWrite h at chunk) p old = count_unless _ old _ (count_changed p h _ old)
-count_in_managed (Call.MmemRead h at len) p old = count_unless _ old _ refl
-count_in_managed (Call.MmemCopy source target) p old = count_unless _ old _ (count_changed p target _ old)
-count_in_managed _ p old = refl
+count_in_managed call p old = grind (arith, nat_tests, count_unless, count_changed)
 
 count_in_heap : (call : Call) (p : ℕ) (old : Memory) → count (ask_heap call p old).0 ≡ count old
-count_in_heap (Call.HeapAlloc b n) p old = count_heap (alloc_refusal p b n old.heap) (allocated p b n old.heap) old
-count_in_heap (Call.HeapRealloc b n) p old = count_heap (realloc_refusal p b n old.heap) (reallocated p b n old.heap) old
-count_in_heap (Call.HeapFree b) p old = count_unless _ old _ refl
-count_in_heap (Call.HeapWrite b at chunk) p old = count_unless _ old _ refl
-count_in_heap (Call.HeapRead b at len) p old = count_unless _ old _ refl
-count_in_heap _ p old = refl
+count_in_heap call p old = grind (arith, nat_tests, count_heap, count_unless)
 
 count_in_part : (part : Option Part) (call : Call) (p : ℕ) (old : Memory) → count (ask_part part call p old).0 ≡ count old
-count_in_part (Some Part.Managed) call p old = count_in_managed call p old
-count_in_part (Some Part.Heap) call p old = count_in_heap call p old
-count_in_part (Some (Part.Pool k)) call p old = count_pool (nat_lt 3 k) k call old
-count_in_part None call p old = refl
+count_in_part part call p old = grind (arith, nat_tests, count_in_managed, count_in_heap, count_pool)
 
 pub frames_after_ask : (call : Call) (p : ℕ) (old new : Memory) (reply : Reply) (frames : List Frame) → 4 ≤ p → ask call p old ≡ (new, reply) → LeavesOthers (changed_block call p old) old new
     → HoldsFrames old frames → HoldsFrames new frames

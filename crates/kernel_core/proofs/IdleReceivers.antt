@@ -5,7 +5,6 @@ use Rattle.std.proofs.lemmas.Bool.Decides.{nat_tests}
 use Rattle.mote_types.specs.declared.event.Event.{Event}
 use Rattle.mote_types.specs.declared.event.Origin.{Origin}
 use Rattle.mote_types.specs.declared.event.Stimulus.{Stimulus}
-use Rattle.mote_types.specs.EventNumbers.{POLL, CONTINUE, EXITED}
 use Rattle.process_core.specs.Agenda.{Item}
 use Rattle.process_core.specs.Code.KernelReceivers.{behind_kernel_receivers, is_other_than, kernel_receivers_passed}
 use Rattle.process_core.specs.Processes.{is_any_marked, is_kernel_process}
@@ -23,11 +22,7 @@ use Rattle.kernel_core.proofs.Reaching.{silently_here}
 
 -- what the kernel's processes do with other events
 serve_idle : (p : ℕ) (event : Event) (m : Machine) → is_other_than kernel_events event.code ≡ true → serve p event m ≡ m
-serve_idle p event m h =
-    let polled : (event.code == POLL) ≡ false = grind (arith, nat_tests, h) in
-    let continued : (event.code == CONTINUE) ≡ false = grind (arith, nat_tests, h) in
-    let exited : (event.code == EXITED) ≡ false = grind (arith, nat_tests, h) in
-    grind (arith, polled, continued, exited)
+serve_idle p event m h = grind (arith, nat_tests)
 
 abbrev with_agenda : List Item → Machine → Machine
 with_agenda items = scheduled (λ s. record s { agenda = items })

@@ -1,21 +1,15 @@
 -- Where something is left that was to be posted, every free place of the queue was taken.
-use Rattle.std.proofs.Common.{◌≡◌, ℕ, zero, suc, ◌+◌, Bool, true, false, List, ◌∷◌, [], ◌++◌, length, refl, ap, sym, ◌∙◌, arith, Option, Some, None}
-use Rattle.std.specs.Prelude.{is_some, if◌then◌else◌}
-use Rattle.mote_types.specs.Codes.{number_event}
-use Rattle.mote_types.specs.EventNumbers.{PACKET}
-use Rattle.process_core.specs.Agenda.{Queued}
+use Rattle.std.proofs.lemmas.Bool.Decides.{nat_tests}
+use Rattle.std.proofs.Common.{◌≡◌, ℕ, zero, suc, ◌+◌, Bool, true, false, List, ◌∷◌, [], ◌++◌, length, refl, ap, sym, ◌∙◌, arith}
+use Rattle.std.specs.Prelude.{if◌then◌else◌}
 use Rattle.process_core.specs.Scheduler.{has_room}
 use Rattle.kernel_core.specs.declared.fields.KernelFields.{KernelFields}
 use Rattle.kernel_core.specs.Machine.{Machine, free_places, mark}
 use Rattle.kernel_core.specs.Code.View.{machine_of}
 use Rattle.kernel_core.proofs.FreePlaces.{room_of}
 use Rattle.kernel_core.specs.Repeating.{times}
-use Rattle.kernel_core.specs.TimerProcesses.{expiry_of, post_first_due, is_any_due, post_due}
+use Rattle.kernel_core.specs.TimerProcesses.{post_first_due, is_any_due, post_due}
 use Rattle.kernel_core.specs.PacketProcess.{announce_next, has_news, announce}
-use Rattle.device_core.specs.PacketQueue.{unannounced}
-use Rattle.timer_core.specs.Timers.{first_due}
-use Rattle.timer_core.specs.declared.timer.Timer.{Timer}
-use Rattle.device_core.specs.declared.frame.Frame.{Frame}
 use Rattle.kernel_core.proofs.Repeating.{times_none, times_next, times_same}
 
 abbrev waiting : Machine → ℕ
@@ -47,18 +41,10 @@ module _ (change : Machine → Machine) (is_left : Machine → Bool) (takes : (m
   full m left = let e = filled (free_places m) m left in grind (arith, e)
 
 due_takes : (m : Machine) → is_any_due m ≡ true → waiting (post_first_due m) ≡ suc (waiting m)
-due_takes m due = at_due (first_due m.clock m.timers) refl
-  where
-    at_due : (next : Option Timer) → first_due m.clock m.timers ≡ next → waiting (post_first_due m) ≡ suc (waiting m)
-    at_due (Some timer) e = rw e (one_more m.scheduler.events (expiry_of timer))
-    at_due None e = let none : is_some (first_due m.clock m.timers) ≡ false = ap is_some e in absurd (cc)
+due_takes m due = grind (arith, nat_tests, one_more)
 
 pub due_stops : (m : Machine) → is_any_due m ≡ false → post_first_due m ≡ m
-due_stops m due = at_due (first_due m.clock m.timers) refl
-  where
-    at_due : (next : Option Timer) → first_due m.clock m.timers ≡ next → post_first_due m ≡ m
-    at_due (Some timer) e = let some : is_some (first_due m.clock m.timers) ≡ true = ap is_some e in absurd (cc)
-    at_due None e = rw e refl
+due_stops m due = grind (arith, nat_tests)
 
 post_due_at : (after : Machine) (b : Bool) → is_any_due after ≡ b → (is_any_due after ≡ true → has_room after.scheduler ≡ false)
     → is_any_due (if b then mark 0 after else after) ≡ true → has_room (if b then mark 0 after else after).scheduler ≡ false
@@ -85,20 +71,10 @@ abbrev is_news : Machine → Bool
 is_news m = has_news m.packets
 
 news_takes : (m : Machine) → is_news m ≡ true → waiting (announce_next m) ≡ suc (waiting m)
-news_takes m news = at_news m.packets.receiver (unannounced m.packets) refl refl
-  where
-    at_news : (receiver : Option ℕ) (frame : Option Frame) → m.packets.receiver ≡ receiver → unannounced m.packets ≡ frame → waiting (announce_next m) ≡ suc (waiting m)
-    at_news (Some receiver) (Some frame) r f = rw (r, f) (one_more m.scheduler.events (Queued.To receiver (number_event PACKET frame.len)))
-    at_news None frame r f = absurd (grind (arith, r, news))
-    at_news (Some receiver) None r f = absurd (grind (arith, r, f, news))
+news_takes m news = grind (arith, nat_tests, one_more)
 
 news_stops : (m : Machine) → is_news m ≡ false → announce_next m ≡ m
-news_stops m news = at_news m.packets.receiver (unannounced m.packets) refl refl
-  where
-    at_news : (receiver : Option ℕ) (frame : Option Frame) → m.packets.receiver ≡ receiver → unannounced m.packets ≡ frame → announce_next m ≡ m
-    at_news (Some receiver) (Some frame) r f = absurd (grind (arith, r, f, news))
-    at_news None frame r f = rw r refl
-    at_news (Some receiver) None r f = rw (r, f) refl
+news_stops m news = grind (arith, nat_tests)
 
 announce_at : (after : Machine) (b : Bool) → is_news after ≡ b → (is_news after ≡ true → has_room after.scheduler ≡ false)
     → is_news (if b then mark 3 after else after) ≡ true → has_room (if b then mark 3 after else after).scheduler ≡ false

@@ -1,10 +1,11 @@
 -- The lines in the ring, one after another.
-use Rattle.std.proofs.Common.{◌≡◌, ℕ, suc, ◌+◌, Bool, true, false, List, [], ◌∷◌, refl, ap, ◌∙◌, arith, Option, Some, None}
+use Rattle.std.proofs.lemmas.Bool.Decides.{nat_tests}
+use Rattle.std.proofs.Common.{◌≡◌, ℕ, suc, ◌+◌, Bool, true, false, List, [], ◌∷◌, refl, ap, ◌∙◌, arith, Some, None}
 use Rattle.std.specs.Prelude.{filter, length, if◌then◌else◌}
-use Rattle.std.specs.List.{list_any, after_first, position_or_len}
+use Rattle.std.specs.List.{list_any, after_first}
 use Rattle.std.specs.Option.{option_map}
 use Rattle.arrayvec.specs.ArrayVec.{ArrayVec}
-use Rattle.device_core.specs.SerialLine.{SerialLine, is_line_end, has_line, line_of, next_line, after_line}
+use Rattle.device_core.specs.SerialLine.{SerialLine, is_line_end, line_of, next_line, after_line}
 use Rattle.kernel_core.specs.Machine.{Machine, with_serial}
 use Rattle.kernel_core.specs.SerialProcess.{line_count, line_served, serve_line, post_continue, broadcast_line}
 
@@ -24,9 +25,7 @@ after_first_here : (byte : ℕ) (ring : List ℕ) → is_line_end byte ≡ true 
 after_first_here byte ring h = rw h refl
 
 after_first_past : (byte : ℕ) (ring : List ℕ) → is_line_end byte ≡ false → after_first is_line_end (byte ∷ ring) ≡ after_first is_line_end ring
-after_first_past byte ring h =
-    let e : 1 + position_or_len is_line_end ring + 1 ≡ suc (position_or_len is_line_end ring + 1) = omega arith in
-    rw (h, e) refl
+after_first_past byte ring h = grind (arith, nat_tests)
 
 one_line_less_at : (b : Bool) (byte : ℕ) (ring : List ℕ) → is_line_end byte ≡ b → list_any is_line_end (byte ∷ ring) ≡ true
     → (list_any is_line_end ring ≡ true → ends ring ≡ suc (ends (after_first is_line_end ring)))
@@ -40,18 +39,10 @@ one_line_less (byte ∷ ring) some = one_line_less_at (is_line_end byte) byte ri
 
 module _ (s : SerialLine) where
   pub fewer_lines : (line : ArrayVec ℕ) → Some line ≡ option_map line_of (next_line s) → line_count s ≡ suc (line_count (after_line s))
-  fewer_lines line is = at_test (has_line s) refl
-    where
-      at_test : (b : Bool) → has_line s ≡ b → line_count s ≡ suc (line_count (after_line s))
-      at_test true e = rw e (one_line_less s.ring e)
-      at_test false e = let none : Some line ≡ None = rw e at is in absurd (cc)
+  fewer_lines line is = grind (arith, nat_tests, one_line_less)
 
   pub no_lines : None ≡ option_map line_of (next_line s) → line_count s ≡ 0
-  no_lines is = at_test (has_line s) refl
-    where
-      at_test : (b : Bool) → has_line s ≡ b → line_count s ≡ 0
-      at_test true e = let some : None ≡ Some (line_of _) = rw e at is in absurd (cc)
-      at_test false e = no_line s.ring e
+  no_lines is = grind (arith, nat_tests, no_line)
 
 module _ (m : Machine) where
   pub waits : m.is_serial_waiting ≡ true → serve_line m ≡ m
@@ -62,17 +53,7 @@ module _ (m : Machine) where
 
   pub served_line : (line : ArrayVec ℕ) → m.is_serial_waiting ≡ false → Some line ≡ option_map line_of (next_line m.serial)
       → serve_line m ≡ post_continue (broadcast_line line.items (with_serial (after_line m.serial) m))
-  served_line line running is = running_serve running ∙ at_line (next_line m.serial) is
-    where
-      at_line : (next : Option (List ℕ)) → Some line ≡ option_map line_of next
-          → line_served next (with_serial (after_line m.serial) m) ≡ post_continue (broadcast_line line.items (with_serial (after_line m.serial) m))
-      at_line (Some bytes) e = let same : line ≡ line_of bytes = cc in rw same refl
-      at_line None e = absurd (cc)
+  served_line line running is = grind (arith, nat_tests, running_serve)
 
   pub served_no_line : m.is_serial_waiting ≡ false → None ≡ option_map line_of (next_line m.serial) → serve_line m ≡ with_serial (after_line m.serial) m
-  served_no_line running is = running_serve running ∙ at_line (next_line m.serial) is
-    where
-      at_line : (next : Option (List ℕ)) → None ≡ option_map line_of next
-          → line_served next (with_serial (after_line m.serial) m) ≡ with_serial (after_line m.serial) m
-      at_line (Some bytes) e = absurd (cc)
-      at_line None e = refl
+  served_no_line running is = grind (arith, nat_tests, running_serve)

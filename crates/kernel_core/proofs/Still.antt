@@ -1,12 +1,13 @@
 -- Where nothing more happens, a machine stays as it is.
+use Rattle.std.proofs.lemmas.Bool.Decides.{nat_tests}
 use Rattle.std.proofs.Common.{◌≡◌, ℕ, zero, suc, Bool, true, false, cond, List, [], ◌∷◌, refl, ap, arith, append-nil}
 use Rattle.std.specs.Prelude.{Some, None, not, ◌||◌, ◌&&◌}
 use Rattle.mote_types.specs.Applications.{Applications}
 use Rattle.process_core.specs.Agenda.{Job, Item}
-use Rattle.process_core.specs.Idle.{is_empty, is_idle}
-use Rattle.process_core.specs.Scheduler.{Scheduler, job, after_front, after_front_of, job_at, wants_round}
-use Rattle.kernel_core.specs.Machine.{Machine, scheduled}
-use Rattle.kernel_core.specs.Run.{Running, Answers, one_step, after_step, after_steps, answers_after, is_still, job_done}
+use Rattle.process_core.specs.Idle.{is_empty}
+use Rattle.process_core.specs.Scheduler.{Scheduler, after_front_of, job_at, wants_round}
+use Rattle.kernel_core.specs.Machine.{Machine}
+use Rattle.kernel_core.specs.Run.{Running, Answers, one_step, after_step, after_steps, answers_after, is_still}
 
 -- a scheduler with nothing left to do stays as it is
 idle_after_front_of : (agenda : List Item) (s : Scheduler Bool) → (is_empty agenda && not (wants_round s)) ≡ true → after_front_of agenda s ≡ s
@@ -28,11 +29,7 @@ right_of false b h n = h
 
 -- so one step of a still machine is silent and leaves it
 still_step : (answers : Answers) (m : Machine) → is_still m ≡ true → one_step answers m ≡ (m, None)
-still_step answers m h =
-    pick m.is_halted (m, None) (job_done answers (job m.scheduler) (scheduled after_front m))
-    (λ n.
-    let r : is_idle m.scheduler ≡ true = right_of m.is_halted _ h n in
-    rw (idle_job_at m.scheduler.agenda m.scheduler r, idle_after_front_of m.scheduler.agenda m.scheduler r))
+still_step answers m h = grind (arith, nat_tests, pick, right_of, idle_job_at, idle_after_front_of)
 
 still_after_step : (says : Applications) (r : Running) → is_still r.machine ≡ true → after_step says r ≡ r
 still_after_step says r h =

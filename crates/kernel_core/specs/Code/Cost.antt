@@ -10,7 +10,7 @@ starts (Item.Start p ∷ items) = suc (starts items)
 starts (_ ∷ items) = starts items
 
 -- how many processes there can be on the list: those that are on it, and those that are still to be started
-abbrev pub present : Scheduler ℕ → ℕ
+abbrev pub present : {X : Type 0} → Scheduler X → ℕ
 present s = length s.processes + starts s.agenda
 
 -- At most how many steps an item leads to, turns apart, with at most `bound` processes on the list.
@@ -35,7 +35,7 @@ module _ (bound : ℕ) where
   round_cost = (3 * bound + 3) * bound + 3 * bound + 5
 
   -- What a job was worth, against what it left on the agenda. A callback that is given is put there afterwards.
-  abbrev pub IsPaid : Option (Job ℕ) → ℕ → ℕ → Type 0
+  abbrev pub IsPaid : {X : Type 0} → Option (Job X) → ℕ → ℕ → Type 0
   IsPaid (Some Job.Round) old new = new ≤ round_cost
   IsPaid (Some Job.Rest) old new = new ≤ old
   IsPaid (Some (Job.CallBack p c x)) old new = new + 3 ≤ old
