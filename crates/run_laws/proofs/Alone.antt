@@ -1,20 +1,11 @@
 -- A memory that nobody else uses answers a process as a shared one does under a quota.
-use Rattle.std.proofs.Common.{◌≡◌, ℕ, ◌-◌, ◌≤◌, Bool, true, false, length, refl, ◌∙◌, sym, ap, arith}
-use Rattle.std.specs.Prelude.{Some, None, if◌then◌else◌, sum_by}
-use Rattle.std.proofs.lemmas.Bool.Decides.{nat_tests}
+use Rattle.std.proofs.Common.{◌≡◌, ℕ, ◌-◌, ◌≤◌, Bool, true, false, length, refl, ◌∙◌, sym, ap, arith, Some, None, if◌then◌else◌, sum_by}
+use Rattle.run_laws.proofs.Common.{nat_tests, Call, number_of, block_of, size_of, taken_by, Memory, is_handle, ask, is_kernel_process, Blocks, no_blocks, managed_after, as_over_quota, is_managed_call, private_memory}
 use Rattle.std.proofs.lemmas.List.Folds.{sum_by-replicate}
-use Rattle.mote_types.specs.declared.call.Call.{Call}
-use Rattle.mote_types.specs.BlockNames.{number_of}
-use Rattle.mmem_core.specs.ManagedStore.{block_of, free, handles, size_of, taken_by}
-use Rattle.node_memory.specs.Memory.{Memory}
-use Rattle.node_memory.specs.ManagedCalls.{is_handle}
-use Rattle.node_memory.specs.Ask.{ask}
-use Rattle.process_core.specs.Processes.{is_kernel_process}
-use Rattle.run_laws.specs.BlockHistory.{Blocks, no_blocks, managed_after}
-use Rattle.run_laws.specs.Isolation.{as_over_quota, is_managed_call, private_memory}
-use Rattle.run_laws.proofs.KindLaws.{accepted}
-use Rattle.run_laws.proofs.Managed.{all_same, same_blocks}
-use Rattle.run_laws.proofs.Stores.{own_blocks, changes_managed, ask-rest, IsManagedChange, alloc-change, free-change, write-change, copy-change}
+use Rattle.mmem_core.specs.ManagedStore.{free, handles}
+use Rattle.run_laws.proofs.KindLaws.{accepted, same_blocks}
+use Rattle.run_laws.proofs.Managed.{all_same}
+use Rattle.run_laws.proofs.Stores.{own_blocks, changes_managed, ask-rest, ask-shape, managed-change}
 
 -- all blocks of this memory are p's, and no quota limits it
 pub record IsAlone (bytes p : ℕ) (s : Memory) : Type 0 where
@@ -29,15 +20,10 @@ module _ (quota p : ℕ) (m s : Memory) (limit : m.managed.quota ≡ Some quota)
   same_block h e = grind (arith, e, own h)
 
   same_taken : taken_by p m.managed ≡ taken_by p s.managed
-  same_taken =
-      let same : own_blocks p m ≡ own_blocks p s = same_blocks _ _ own in
-      ap (λ (blocks : Blocks). sum_by (λ h. size_of (blocks h)) handles) same
+  same_taken = grind (arith, nat_tests, same_blocks)
 
   same_free : free p m.managed ≡ free p s.managed
-  same_free =
-      let shared : free p m.managed ≡ quota - taken_by p m.managed = rw limit in
-      let private : free p s.managed ≡ quota - taken_by p s.managed = rw (alone.unlimited, alone.capacity, alone.total) in
-      shared ∙ (ap (λ n. quota - n) same_taken ∙ sym private)
+  same_free = grind (arith, nat_tests, same_taken)
 
   pub same-reply : (call : Call) → is_managed_call call ≡ true → as_over_quota (ask call p s).1 ≡ (ask call p m).1
   same-reply (Call.MmemAlloc h n) e = grind (arith, nat_tests, same_block h, same_free, limit, alone.unlimited)
@@ -54,34 +40,22 @@ pub record StaysAlone (bytes p : ℕ) (call : Call) (s : Memory) : Type 0 where
   pub own : (h : ℕ) → own_blocks p (ask call p s).0 h ≡ accepted managed_after call (ask call p s).1 (own_blocks p s) h
 
 module _ (bytes p : ℕ) (s : Memory) (few : p ≤ 19) (mortal : is_kernel_process p ≡ false) (alone : IsAlone bytes p s) where
-  changed-alone : (call : Call) → IsManagedChange call p s (ask call p s) → StaysAlone bytes p call s
-  changed-alone call change =
-      let sums = change.total few mortal alone.size in
-      let before = alone.total in
-      record {
-        alone = record {
-          unlimited = change.quota ∙ alone.unlimited;
-          capacity = change.capacity ∙ alone.capacity;
-          size = change.size ∙ alone.size;
-          total = omega (arith, sums, before);
-        };
-        own = change.own few mortal alone.size;
-      }
-
-  plain-alone : (call : Call) → changes_managed call ≡ false → StaysAlone bytes p call s
-  plain-alone call e =
-      let same : (ask call p s).0.managed ≡ s.managed = ask-rest call p s e in
-      record {
-        alone = record { unlimited = rw same alone.unlimited; capacity = rw same alone.capacity; size = rw same alone.size; total = rw same alone.total };
-        own = λ h. grind (arith, e, same);
-      }
+  shaped-alone : (call : Call) → sum_by size_of (ask call p s).0.managed.blocks ≡ taken_by p (ask call p s).0.managed → IsAlone bytes p (ask call p s).0
+  shaped-alone call total =
+      let shape = ask-shape call p s in
+      record { unlimited = shape.quota ∙ alone.unlimited; capacity = shape.capacity ∙ alone.capacity; size = shape.size ∙ alone.size; total = total }
 
   pub stays-alone : (call : Call) → StaysAlone bytes p call s
-  stays-alone (Call.MmemAlloc h n) = changed-alone (Call.MmemAlloc h n) (alloc-change h n p s)
-  stays-alone (Call.MmemFree h) = changed-alone (Call.MmemFree h) (free-change h p s)
-  stays-alone (Call.MmemWrite h at chunk) = changed-alone (Call.MmemWrite h at chunk) (write-change h at chunk p s)
-  stays-alone (Call.MmemCopy source target) = changed-alone (Call.MmemCopy source target) (copy-change source target p s)
-  stays-alone call = plain-alone call refl
+  stays-alone call = go (changes_managed call) refl
+    where
+      go : (b : Bool) → changes_managed call ≡ b → StaysAlone bytes p call s
+      go true e =
+          let change = managed-change call p s e in
+          let sums = change.total few mortal alone.size in
+          record { alone = shaped-alone call (omega (arith, sums, alone.total)); own = λ h. ap (λ (b : Blocks). b h) (change.blocks.own few mortal alone.size) }
+      go false e =
+          let same : (ask call p s).0.managed ≡ s.managed = ask-rest call p s e in
+          record { alone = shaped-alone call (rw same alone.total); own = λ h. grind (arith, e, same) }
 
 -- at first no block is live
 

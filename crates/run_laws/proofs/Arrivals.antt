@@ -1,15 +1,6 @@
 -- What an input does to the scheduler: a process is marked, or the note of a lost frame is in front.
-use Rattle.std.proofs.Common.{ℕ, Bool, [], ◌∷◌, length}
-use Rattle.std.specs.Prelude.{Option, Some, None}
-use Rattle.mote_types.specs.declared.entry.Entry.{Entry}
-use Rattle.mote_types.specs.declared.entry.Input.{Input}
-use Rattle.mote_types.specs.declared.entry.Note.{Note}
-use Rattle.mote_types.specs.declared.refusal.Refusal.{Refusal}
-use Rattle.device_core.specs.PacketQueue.{free_slot}
-use Rattle.process_core.specs.Agenda.{Item}
-use Rattle.process_core.specs.Scheduler.{Scheduler, marked, in_front}
-use Rattle.kernel_core.specs.Machine.{Machine}
-use Rattle.kernel_core.specs.Inputs.{effect, frame_held, frame_refusal, held_unless_lost}
+use Rattle.std.proofs.Common.{ℕ, Bool, [], ◌∷◌, length, Option, Some, None}
+use Rattle.run_laws.proofs.Common.{Entry, Input, Note, Refusal, free_slot, Item, Scheduler, marked, in_front, Machine, effect, frame_held, frame_refusal, held_unless_lost}
 
 -- what holds of the scheduler, and outlasts both
 pub effect-keeps : (P : Scheduler Bool → Type 0) (input : Input) (m : Machine) → P m.scheduler → ((q : ℕ) → P (marked q m.scheduler))

@@ -1,19 +1,6 @@
 -- Transcripts that no run makes: each breaks one law, which says so.
 use Rattle.std.proofs.Common.{◌≡◌, ℕ, List, [], ◌∷◌, ◌++◌, ap, refl, arith}
-use Rattle.arrayvec.specs.ArrayVec.{ArrayVec}
-use Rattle.mote_types.specs.Codes.{number_event, plain_event}
-use Rattle.mote_types.specs.EventNumbers.{INIT, TIMER}
-use Rattle.mote_types.specs.declared.call.Call.{Call}
-use Rattle.mote_types.specs.declared.entry.Entry.{Entry}
-use Rattle.mote_types.specs.declared.entry.Note.{Note}
-use Rattle.mote_types.specs.declared.event.Event.{Event}
-use Rattle.mote_types.specs.declared.event.Origin.{Origin}
-use Rattle.mote_types.specs.declared.event.Payload.{Payload}
-use Rattle.mote_types.specs.declared.event.Stimulus.{Stimulus}
-use Rattle.mote_types.specs.declared.refusal.Refusal.{Refusal}
-use Rattle.mote_types.specs.declared.reply.Reply.{Reply}
-use Rattle.run_laws.specs.EventLaws.{IsAtRest}
-use Rattle.run_laws.specs.OwnTurns.{HasCall}
+use Rattle.run_laws.proofs.Common.{ArrayVec, number_event, plain_event, INIT, TIMER, Call, Entry, Note, Event, Origin, Payload, Stimulus, Refusal, Reply, IsAtRest, HasCall}
 use Rattle.run_laws.specs.RunLaws.{BlocksAreOwn, EventsArriveInOrder, TimersAreKept}
 
 abbrev init : Stimulus

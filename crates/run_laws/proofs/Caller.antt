@@ -1,18 +1,6 @@
 -- What a call leaves for the caller and for others.
-use Rattle.std.proofs.Common.{◌≡◌, ℕ, Bool, true, false, List, [], ◌∷◌, ◌++◌, arith, append_assoc}
-use Rattle.std.specs.Prelude.{◌==◌}
-use Rattle.std.proofs.lemmas.Bool.Decides.{nat_tests}
-use Rattle.mote_types.specs.declared.call.Call.{Call}
-use Rattle.mote_types.specs.declared.event.Origin.{Origin}
-use Rattle.mote_types.specs.EventNumbers.{EXITED}
-use Rattle.mote_types.specs.Codes.{number_event}
-use Rattle.process_core.specs.declared.state.State.{State}
-use Rattle.process_core.specs.Agenda.{Item}
-use Rattle.process_core.specs.Processes.{numbers, without}
-use Rattle.process_core.specs.Scheduler.{Scheduler}
-use Rattle.process_core.specs.Requests.{farewells}
-use Rattle.kernel_core.specs.Machine.{Machine}
-use Rattle.kernel_core.specs.Calls.{after_call}
+use Rattle.std.proofs.Common.{◌≡◌, ℕ, Bool, true, false, List, [], ◌∷◌, ◌++◌, arith, append_assoc, ◌==◌}
+use Rattle.run_laws.proofs.Common.{nat_tests, Call, Origin, EXITED, number_event, State, Item, numbers, without, Scheduler, farewells, Machine, after_call}
 use Rattle.run_laws.proofs.Marks.{Kept, marks, fit, idle, only_removes, fit-only, fit-idle, due-only, state_of-with_same, state_of-with_other, state_of-with_mark, marks-gives}
 
 marks-farewells : (o p : ℕ) (s : Scheduler Bool) (rest agenda : List Item)
@@ -23,15 +11,8 @@ marks-farewells o p s rest agenda =
 pub after_call-fit : (call : Call) (p : ℕ) (m : Machine) → idle p m.scheduler.processes ≡ false → only_removes (marks p m.scheduler.agenda) ≡ true
     → fit (idle p (after_call call p m).scheduler.processes) (marks p (after_call call p m).scheduler.agenda) ≡ true
 after_call-fit Call.Wait p m n h = grind (arith, nat_tests, fit-only)
-after_call-fit Call.Exit p m n h =
-    grind (arith, nat_tests, fit-only, marks-farewells p p m.scheduler (Item.Remove p ∷ []) m.scheduler.agenda)
-after_call-fit (Call.Kill q) p m n h =
-    grind (
-      arith,
-      nat_tests,
-      state_of-with_other p q State.Leaving m.scheduler.processes,
-      marks-farewells p q m.scheduler,
-    )
+after_call-fit Call.Exit p m n h = grind (arith, nat_tests, fit-only, marks-farewells)
+after_call-fit (Call.Kill q) p m n h = grind (arith, nat_tests, state_of-with_other, marks-farewells)
 after_call-fit (Call.PostSynch q code payload) p m n h = grind (arith, nat_tests)
 after_call-fit (Call.Start q) p m n h = grind (arith, nat_tests)
 after_call-fit call p m n h = grind (arith, nat_tests, state_of-with_mark)

@@ -1,29 +1,7 @@
 -- Every note of a packet that was sent comes behind the turn that sends it.
-use Rattle.std.proofs.Common.{◌≡◌, ℕ, ◌≤◌, Bool, true, false, not, ◌&&◌, ◌||◌, List, [], ◌∷◌, ◌++◌, refl, ◌∙◌, sym, ap, arith, subst, append_assoc, ◌⊎◌, inl, inr}
-use Rattle.std.specs.Prelude.{Some, fold, map}
-use Rattle.std.proofs.lemmas.List.Sums.{fold-append}
-use Rattle.std.specs.List.{list_any, list_all, range_with_len}
-use Rattle.mote_types.specs.declared.call.Call.{Call}
-use Rattle.mote_types.specs.declared.event.Origin.{Origin}
-use Rattle.mote_types.specs.declared.event.Stimulus.{Stimulus}
-use Rattle.mote_types.specs.EventNumbers.{EXITED}
-use Rattle.mote_types.specs.declared.entry.Entry.{Entry}
-use Rattle.mote_types.specs.declared.entry.Note.{Note}
-use Rattle.mote_types.specs.declared.entry.Input.{Input}
-use Rattle.mote_types.specs.Codes.{number_event}
-use Rattle.mote_types.specs.Applications.{Applications}
-use Rattle.process_core.specs.Agenda.{Item}
-use Rattle.process_core.specs.Processes.{numbers, without}
-use Rattle.process_core.specs.Requests.{farewells}
-use Rattle.process_core.specs.Scheduler.{Scheduler, after_item, delivery, first_event}
-use Rattle.kernel_core.specs.declared.config.Config.{Config}
-use Rattle.kernel_core.specs.Machine.{Machine, booted, is_bootable}
-use Rattle.kernel_core.specs.Calls.{after_call}
-use Rattle.kernel_core.specs.Inputs.{effect}
-use Rattle.kernel_core.specs.Run.{Running, Runs, with_more_work, at_start}
-use Rattle.mote_types.specs.declared.event.Pid.{Pid}
-use Rattle.run_laws.specs.BlockHistory.{managed_block}
-use Rattle.run_laws.specs.OwnTurns.{is_turn_entry, up_to_call}
+use Rattle.std.proofs.lemmas.Bool.Decides.{nat_tests}
+use Rattle.std.proofs.Common.{◌≡◌, ℕ, ◌≤◌, Bool, true, false, not, ◌&&◌, ◌||◌, List, [], ◌∷◌, ◌++◌, refl, ◌∙◌, sym, ap, arith, subst, append_assoc, ◌⊎◌, inl, inr, Some, fold}
+use Rattle.run_laws.proofs.Common.{fold-append, list_any, list_all, range_with_len, Call, Origin, Stimulus, EXITED, Entry, Note, Input, number_event, Applications, Item, numbers, without, farewells, Scheduler, after_item, Config, Machine, booted, is_bootable, after_call, effect, Running, Runs, with_more_work, at_start, Pid, managed_block, is_turn_entry, up_to_call}
 use Rattle.run_laws.specs.Sent.{Sender, IsSent, EverySent}
 use Rattle.run_laws.proofs.Outsiders.{turns-low}
 use Rattle.run_laws.proofs.Senders.{sends-behind}
@@ -67,20 +45,11 @@ plain-farewells p s rest agenda h =
     rw (append_assoc) (all-append is_plain (farewells p s) (rest ++ agenda) told h)
 
 after_item-plain : (item : Item) (s : Scheduler Bool) → all_plain s.agenda ≡ true → all_plain (after_item item s).agenda ≡ true
-after_item-plain Item.Polls s h =
-    let polls = all-mapped is_plain (λ n. Item.PollOne n) (numbers s.processes) (λ n. refl) in
-    grind (arith, h, all-append is_plain (map (λ n. Item.PollOne n) (numbers s.processes)) s.agenda polls)
-after_item-plain Item.Deliver s h =
-    all-append is_plain (delivery (numbers s.processes) (first_event s)) s.agenda (all-delivered is_plain (numbers s.processes) (first_event s) refl (λ n stimulus. refl)) h
-after_item-plain item s h = grind (arith, h)
+after_item-plain item s h = grind (arith, nat_tests, all-mapped, all-append, all-delivered)
 
 after_call-leads : (call : Call) (p : ℕ) (m : Machine) → all_plain m.scheduler.agenda ≡ true
     → leads (is_send call) (after_call call p m).scheduler.agenda ≡ true
-after_call-leads Call.Exit p m h =
-    grind (arith, h, plain-leads false, plain-farewells p m.scheduler (Item.Remove p ∷ []) m.scheduler.agenda)
-after_call-leads (Call.Kill q) p m h = grind (arith, h, plain-leads false, plain-farewells q m.scheduler)
-after_call-leads (Call.PacketSend k) p m h = grind (arith, h)
-after_call-leads call p m h = grind (arith, h, plain-leads false)
+after_call-leads call p m h = grind (arith, nat_tests, plain-leads, plain-farewells)
 
 abbrev sends_after : Bool → Entry → Bool
 sends_after sends (Entry.Turn pid origin stimulus call) = is_send call
@@ -107,9 +76,7 @@ after_item-leads sends item items s n h = after_item-plain item (with_agenda ite
 
 -- an entry that is no turn
 led-other : (X : List Entry) (e : Entry) (agenda : List Item) → is_turn e ≡ false → leads (sends_all X) agenda ≡ true → leads (sends_all (X ++ e ∷ [])) agenda ≡ true
-led-other X e agenda n h =
-    let same : sends_all (X ++ e ∷ []) ≡ sends_all X = fold-append sends_after false X (e ∷ []) ∙ grind (arith, n) in
-    rw same h
+led-other X e agenda n h = grind (arith, nat_tests, fold-append)
 
 led_cases : Cases Led Plain (AtEach Sends)
 led_cases =
@@ -167,9 +134,7 @@ turn-cons pid origin stimulus call later sends (inl f) = absurd (grind (arith, f
 found : (entries : List Entry) (sends : Bool) → fold sends_after sends entries ≡ true → Found sends entries
 found [] sends e = inl (e, refl)
 found (Entry.Turn pid origin stimulus call ∷ later) sends e = turn-cons pid origin stimulus call later sends (found later (is_send call) e)
-found (Entry.Input input ∷ later) sends e = quiet-cons sends (Entry.Input input) later refl (found later sends e)
-found (Entry.Note note ∷ later) sends e = quiet-cons sends (Entry.Note note) later refl (found later sends e)
-found (Entry.Halt ∷ later) sends e = quiet-cons sends Entry.Halt later refl (found later sends e)
+found (entry ∷ later) sends e = quiet-cons sends entry later refl (found later sends e)
 
 pub every-sent : (c : Config) (says : Applications) (inputs : List Input) (after : Running) → Runs says (at_start c) inputs after
     → is_bootable c ≡ true → EverySent after.entries

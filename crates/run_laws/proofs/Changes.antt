@@ -1,23 +1,13 @@
 -- What a kernel process does with an event is a chain of a few changes: what each of them keeps, all of it keeps.
-use Rattle.std.proofs.Common.{◌≡◌, ℕ, zero, suc, Bool, true, false, ◌&&◌, ◌||◌, List, refl, arith}
-use Rattle.std.specs.Prelude.{Option, Some, None, if◌then◌else◌, ◌==◌}
-use Rattle.std.proofs.lemmas.Bool.Decides.{nat_tests}
-use Rattle.mote_types.specs.declared.event.Event.{Event}
-use Rattle.mote_types.specs.EventNumbers.{POLL, EXITED, CONTINUE, SERIAL_LINE, PACKET}
-use Rattle.mote_types.specs.Codes.{plain_event, number_event}
-use Rattle.process_core.specs.Agenda.{Queued}
-use Rattle.process_core.specs.Scheduler.{has_room}
-use Rattle.timer_core.specs.declared.timer.Timer.{Timer}
-use Rattle.timer_core.specs.Timers.{first_due}
+use Rattle.std.proofs.Common.{◌≡◌, ℕ, zero, suc, Bool, true, false, ◌&&◌, ◌||◌, List, refl, arith, Option, Some, None, if◌then◌else◌, ◌==◌}
+use Rattle.run_laws.proofs.Common.{nat_tests, Event, POLL, EXITED, plain_event, number_event, Queued, has_room, Timer, first_due, Frame, PacketQueue, Machine, with_event, free_places, mark, serve, times, post_expiry, post_first_due, post_due, is_any_due, exited_application, forget_callback_timers}
+use Rattle.mote_types.specs.EventNumbers.{CONTINUE, SERIAL_LINE, PACKET}
 use Rattle.device_core.specs.SerialLine.{SerialLine, next_line, after_line}
-use Rattle.device_core.specs.declared.frame.Frame.{Frame}
-use Rattle.device_core.specs.PacketQueue.{PacketQueue, unannounced, with_announced, forgotten}
-use Rattle.kernel_core.specs.Machine.{Machine, with_event, with_serial, free_places, mark}
-use Rattle.kernel_core.specs.KernelProcesses.{serve}
+use Rattle.device_core.specs.PacketQueue.{unannounced, with_announced, forgotten}
+use Rattle.kernel_core.specs.Machine.{with_serial}
 use Rattle.kernel_core.specs.PacketProcess.{announce_to, announce_next, announce, has_news, forget_receiver, packet}
-use Rattle.kernel_core.specs.Repeating.{times}
 use Rattle.kernel_core.specs.SerialProcess.{line_event, broadcast_line, post_continue, line_served, serve_line, line_count, empty_ring, serial_line_polled, serial_line}
-use Rattle.kernel_core.specs.TimerProcesses.{post_expiry, post_first_due, post_due, is_any_due, exited_application, forget_event_timers, forget_callback_timers, etimer, ctimer}
+use Rattle.kernel_core.specs.TimerProcesses.{forget_event_timers, etimer, ctimer}
 
 -- what kernel processes post, but for timers that run out
 abbrev pub is_notice : Queued Bool → Bool

@@ -1,23 +1,7 @@
 -- Worked examples: what the turns of a transcript make of blocks, events and timers.
-use Rattle.std.proofs.Common.{◌≡◌, ℕ, true, false, List, [], ◌∷◌, ◌++◌, map, refl}
-use Rattle.std.specs.Prelude.{Some, None, length}
-use Rattle.std.specs.List.{list_any}
-use Rattle.mote_types.specs.declared.call.Call.{Call}
-use Rattle.mote_types.specs.declared.reply.Reply.{Reply}
-use Rattle.mote_types.specs.declared.refusal.Refusal.{Refusal}
-use Rattle.mote_types.specs.declared.event.Origin.{Origin}
-use Rattle.mote_types.specs.declared.event.Stimulus.{Stimulus}
-use Rattle.mote_types.specs.EventNumbers.{EXIT, INIT, TIMER}
-use Rattle.mote_types.specs.declared.entry.Entry.{Entry}
-use Rattle.mote_types.specs.declared.entry.Input.{Input}
-use Rattle.mote_types.specs.declared.event.Payload.{Payload}
-use Rattle.mote_types.specs.Codes.{number_event, plain_event}
-use Rattle.timer_core.specs.Timers.{deadline}
-use Rattle.run_laws.specs.BlockHistory.{managed_block, heap_block}
-use Rattle.run_laws.specs.EventLaws.{IsAtRest, accepted_events, given_events, has_ended, is_exit}
-use Rattle.run_laws.specs.MemoryLaws.{are_names, heap_makes, heap_needs, heap_reads, managed_makes, managed_needs, managed_reads}
-use Rattle.run_laws.specs.OwnTurns.{HasCall, own}
-use Rattle.run_laws.specs.TimerLaws.{ripe_armings, standing, timer_events}
+use Rattle.std.proofs.Common.{◌≡◌, ℕ, true, false, List, [], ◌∷◌, ◌++◌, map, refl, Some, None, length}
+use Rattle.run_laws.proofs.Common.{list_any, Call, Reply, Refusal, Origin, Stimulus, EXIT, INIT, TIMER, Entry, Input, Payload, number_event, plain_event, deadline, managed_block, IsAtRest, accepted_events, given_events, has_ended, is_exit, are_names, heap_makes, heap_needs, heap_reads, managed_makes, managed_needs, managed_reads, HasCall, own, ripe_armings, standing, timer_events}
+use Rattle.run_laws.specs.BlockHistory.{heap_block}
 
 unfoldable pub started : ℕ → Call → Entry
 started p call = Entry.Turn (record { 0 = p }) Origin.Synch (Stimulus.Event (plain_event INIT)) call

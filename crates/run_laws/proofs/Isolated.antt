@@ -1,60 +1,26 @@
 -- Under a quota a process is answered by managed memory as by a memory of its own.
-use Rattle.std.proofs.Common.{◌≡◌, ℕ, zero, suc, ◌+◌, ◌≤◌, Bool, true, false, List, [], ◌∷◌, ◌++◌, refl, ◌∙◌, sym, ap, arith, subst, cond, append-nil}
-use Rattle.std.specs.Prelude.{Option, Some, None, ◌==◌, map, filter_map, take}
-use Rattle.std.proofs.lemmas.Bool.Decides.{nat_tests}
-use Rattle.mote_types.specs.declared.call.Call.{Call}
-use Rattle.mote_types.specs.declared.reply.Reply.{Reply}
-use Rattle.mote_types.specs.declared.event.Origin.{Origin}
-use Rattle.mote_types.specs.declared.event.Pid.{Pid}
-use Rattle.mote_types.specs.declared.event.Stimulus.{Stimulus}
-use Rattle.mote_types.specs.declared.entry.Entry.{Entry}
-use Rattle.mote_types.specs.declared.entry.Input.{Input}
-use Rattle.mote_types.specs.Applications.{Applications}
-use Rattle.device_core.specs.declared.frame.Frame.{Frame}
-use Rattle.mmem_core.specs.ManagedStore.{ManagedStore}
-use Rattle.node_memory.specs.Memory.{Memory}
-use Rattle.node_memory.specs.Ask.{ask}
-use Rattle.process_core.specs.Processes.{is_application, is_kernel_process}
-use Rattle.kernel_core.specs.declared.config.Config.{Config}
-use Rattle.kernel_core.specs.Machine.{Machine, booted, is_bootable}
-use Rattle.kernel_core.specs.Calls.{after_call, asked_of_memory}
-use Rattle.kernel_core.specs.Run.{Running, Runs, at_start}
-use Rattle.run_laws.specs.BlockHistory.{Blocks, managed_after}
-use Rattle.run_laws.specs.Isolation.{is_managed_call, managed_answer, as_over_quota, managed_calls, managed_replies, replies_from, private_memory, private_replies, IsAnsweredAlone}
-use Rattle.run_laws.specs.MemoryLaws.{managed_kind}
-use Rattle.run_laws.specs.OwnTurns.{OwnTurn, own_from, reply_in, reply_of, is_done, ticks_in}
+use Rattle.std.proofs.Common.{◌≡◌, ℕ, zero, suc, ◌+◌, ◌≤◌, Bool, true, false, List, [], ◌∷◌, ◌++◌, refl, ◌∙◌, sym, ap, arith, subst, cond, append-nil, Option, Some, None, ◌==◌, map, filter_map, take}
+use Rattle.run_laws.proofs.Common.{nat_tests, Call, Reply, Origin, Pid, Stimulus, Entry, Input, Applications, Frame, Memory, ask, is_application, is_kernel_process, Config, Machine, booted, is_bootable, after_call, Running, Runs, at_start, Blocks, managed_after, is_managed_call, as_over_quota, managed_calls, managed_replies, private_memory, private_replies, IsAnsweredAlone, managed_kind, OwnTurn, own_from, reply_in, reply_of, is_done, ticks_in}
+use Rattle.run_laws.specs.Isolation.{managed_answer, replies_from}
 use Rattle.run_laws.specs.RunLaws.{AreAnsweredAlike}
 use Rattle.run_laws.proofs.Alone.{IsAlone, no-own, alone-at-first, same-reply, stays-alone}
-use Rattle.run_laws.proofs.KindLaws.{KindLaw, accepted}
-use Rattle.run_laws.proofs.Managed.{HasBlocks, managed-laws, boot-has, one_reply, plain-managed, told_next, same_blocks}
+use Rattle.run_laws.proofs.KindLaws.{KindLaw, accepted, same_blocks}
+use Rattle.run_laws.proofs.Managed.{managed-keeps}
 use Rattle.run_laws.proofs.Marks.{marks, due}
-use Rattle.run_laws.proofs.Stores.{own_blocks, changes_managed, alloc-change, free-change, write-change, copy-change}
+use Rattle.run_laws.proofs.OwnBlocks.{HasBlocks, own-laws, boot-has, each-call, one_reply, told-reply}
+use Rattle.run_laws.proofs.Stores.{own_blocks, managed_store, changes_managed, ask-shape}
 use Rattle.run_laws.proofs.Knowledge.{Knowledge, told, answered, LawAt, Laws}
 use Rattle.run_laws.proofs.Whole.{WellTold, law-of, run-told}
 
 -- a call on managed memory is told what memory answers
-asks : (call : Call) (p : ℕ) (m : Machine) → is_managed_call call ≡ true → after_call call p m ≡ asked_of_memory call p m
-asks (Call.MmemAlloc h n) p m e = refl
-asks (Call.MmemFree h) p m e = refl
-asks (Call.MmemWrite h at chunk) p m e = refl
-asks (Call.MmemRead h at len) p m e = refl
-asks (Call.MmemCopy source target) p m e = refl
-asks Call.MmemAvail p m e = refl
-asks call p m e = absurd (grind (arith, e))
-
-told-reply : (call : Call) (p : ℕ) (m : Machine) → is_managed_call call ≡ true
+told-managed : (call : Call) (p : ℕ) (m : Machine) → is_managed_call call ≡ true
     → due (marks p (after_call call p m).scheduler.agenda) ≡ Some (ask call p m.memory).1
-told-reply call p m e =
-    ap (λ (x : Machine). due (marks p x.scheduler.agenda)) (asks call p m e) ∙ told_next p (ask call p m.memory).1 m.scheduler.agenda
+told-managed call p m e = told-reply call p m (grind (arith, e))
 
 -- the quota stays
 call-quota : (call : Call) (q : ℕ) (m : Machine) → (after_call call q m).memory.managed.quota ≡ m.memory.managed.quota
-call-quota Call.PacketDone q m = grind arith
-call-quota (Call.MmemAlloc h n) q m = (alloc-change h n q m.memory).quota
-call-quota (Call.MmemFree h) q m = (free-change h q m.memory).quota
-call-quota (Call.MmemWrite h at chunk) q m = (write-change h at chunk q m.memory).quota
-call-quota (Call.MmemCopy source target) q m = (copy-change source target q m.memory).quota
-call-quota call q m = ap (λ (store : ManagedStore). store.quota) (plain-managed call q m refl)
+call-quota call q m =
+    each-call (λ x frames. x.managed.quota ≡ m.memory.managed.quota) q m refl (λ slot e. refl) call (ask-shape call q m.memory).quota
 
 no-change : (call : Call) → is_managed_call call ≡ false → changes_managed call ≡ false
 no-change call e = grind (arith, e)
@@ -73,22 +39,22 @@ module _ (quota p : ℕ) where
 
   -- p has the same blocks in it as in the memory of the node, which is under the quota
   pub record IsLikeOwn (m : Memory) (frames : List Frame) (s : Memory) : Type 0 where
-    pub has : HasBlocks p m frames (own_blocks p s)
+    pub has : HasBlocks managed_store p m frames (own_blocks p s)
     pub limit : m.managed.quota ≡ Some quota
     pub alone : IsAlone quota p s
 
-  still-like : (m : Memory) (frames : List Frame) (s new : Memory) (left : List Frame) → IsLikeOwn m frames s → HasBlocks p new left (own_blocks p s)
+  still-like : (m : Memory) (frames : List Frame) (s new : Memory) (left : List Frame) → IsLikeOwn m frames s → HasBlocks managed_store p new left (own_blocks p s)
       → new.managed.quota ≡ m.managed.quota → IsLikeOwn new left s
   still-like m frames s new left rel has e = record { has = has; limit = e ∙ rel.limit; alone = rel.alone }
 
   module _ (few : p ≤ 19) where
-    abbrev blocks_laws : Laws (accepted managed_after) (KindLaw managed_kind) (HasBlocks p) p
-    blocks_laws = managed-laws p few
+    abbrev blocks_laws : Laws (accepted managed_after) (KindLaw managed_kind) (HasBlocks managed_store p) p
+    blocks_laws = own-laws managed_store managed-keeps p few
 
     -- p's own call
     own-call : (call : Call) (m : Machine) (s : Memory) (reply : Reply) (test : Bool) → is_managed_call call ≡ test
         → is_kernel_process p ≡ false → IsLikeOwn m.memory m.packets.frames s
-        → HasBlocks p (after_call call p m).memory (after_call call p m).packets.frames (accepted managed_after call reply (own_blocks p s))
+        → HasBlocks managed_store p (after_call call p m).memory (after_call call p m).packets.frames (accepted managed_after call reply (own_blocks p s))
         → due (marks p (after_call call p m).scheduler.agenda) ≡ Some reply
         → AsAlone s call reply × IsLikeOwn (after_call call p m).memory (after_call call p m).packets.frames (cond test (ask call p s).0 s)
     own-call call m s reply false f k rel has e =
@@ -97,8 +63,8 @@ module _ (quota p : ℕ) where
         (λ g. absurd (grind (arith, f, g)), like)
     own-call call m s reply true f k rel has e =
         let stays = stays-alone quota p s few k rel.alone call in
-        let asked : (ask call p m.memory).1 ≡ reply = one_reply _ _ _ (told-reply call p m f) e in
-        let alike : as_over_quota (ask call p s).1 ≡ reply = same-reply quota p m.memory s rel.limit rel.alone (rel.has.own k) call f ∙ asked in
+        let asked : (ask call p m.memory).1 ≡ reply = one_reply _ _ _ (told-managed call p m f) e in
+        let alike : as_over_quota (ask call p s).1 ≡ reply = same-reply quota p m.memory s rel.limit rel.alone (λ h. ap (λ (b : Blocks). b h) (rel.has.own k)) call f ∙ asked in
         let both : is_done (Some (ask call p s).1) ≡ is_done (Some reply) = sym (done-alike (ask call p s).1) ∙ ap (λ (r : Reply). is_done (Some r)) alike in
         let own : own_blocks p (ask call p s).0 ≡ accepted managed_after call (ask call p s).1 (own_blocks p s) = same_blocks _ _ stays.own in
         let blocks : own_blocks p (ask call p s).0 ≡ accepted managed_after call reply (own_blocks p s) = rw both at own in
@@ -178,15 +144,13 @@ module _ (quota p : ℕ) where
   replied (Entry.Turn pid origin stimulus call ∷ later) clock t h =
       replied-turn (pid.0 == p) pid origin stimulus call later clock t refl h.1
       (replied later (clock + 0) (told own_after p t (Entry.Turn pid origin stimulus call)) h.1)
-  replied (Entry.Input input ∷ later) clock t h = replied later (clock + ticks_in (Entry.Input input)) t h.1
-  replied (Entry.Note note ∷ later) clock t h = replied later (clock + 0) t h.1
-  replied (Entry.Halt ∷ later) clock t h = replied later (clock + 0) t h.1
+  replied (entry ∷ later) clock t h = replied later (clock + ticks_in entry) t h.1
 
   -- at boot neither memory has a block
   boot-like : (c : Config) → c.quota ≡ Some quota → IsLikeOwn (booted c).memory [] (private_memory quota)
   boot-like c e =
       record {
-        has = subst (λ (blocks : Blocks). HasBlocks p (booted c).memory [] blocks) (no-own quota p) (boot-has p c);
+        has = subst (λ (blocks : Blocks). HasBlocks managed_store p (booted c).memory [] blocks) (no-own quota p) (boot-has managed_store managed-keeps p c);
         limit = e;
         alone = alone-at-first quota p;
       }
@@ -213,8 +177,7 @@ all-alone c says inputs after runs boots quota p e named =
 replies-take : (p n : ℕ) (calls : List Call) (memory : Memory) → take n (replies_from p memory calls) ≡ replies_from p memory (take n calls)
 replies-take p zero calls memory = refl
 replies-take p (suc n) [] memory = refl
-replies-take p (suc n) (call ∷ calls) memory =
-    ap (λ (replies : List Reply). as_over_quota (ask call p memory).1 ∷ replies) (replies-take p n calls (ask call p memory).0)
+replies-take p (suc n) (call ∷ calls) memory = grind (arith, nat_tests, replies-take p n calls (ask call p memory).0)
 
 pub alone-alike : (quota p : ℕ) (X Y : List Entry) → IsAnsweredAlone quota p X → IsAnsweredAlone quota p Y → AreAnsweredAlike p X Y
 alone-alike quota p X Y one other =

@@ -1,16 +1,6 @@
 -- Worked examples: what the calls of a process on managed memory are answered under a quota.
-use Rattle.std.proofs.Common.{◌≡◌, ℕ, true, List, [], ◌∷◌, length, get_or, refl}
-use Rattle.std.specs.Prelude.{◌-◌, Some, if◌then◌else◌, ◌==◌}
-use Rattle.std.specs.List.{list_all}
-use Rattle.mote_types.specs.declared.call.Call.{Call}
-use Rattle.mote_types.specs.declared.reply.Reply.{Reply}
-use Rattle.mote_types.specs.declared.refusal.Refusal.{Refusal}
-use Rattle.mote_types.specs.declared.entry.Entry.{Entry}
-use Rattle.mote_types.specs.Applications.{Applications}
-use Rattle.kernel_core.specs.declared.config.Config.{Config}
-use Rattle.kernel_core.specs.Machine.{is_bootable}
-use Rattle.kernel_core.specs.Run.{after_steps, at_start}
-use Rattle.run_laws.specs.Isolation.{is_managed_call, managed_calls, managed_replies, private_replies, IsAnsweredAlone}
+use Rattle.std.proofs.Common.{◌≡◌, ℕ, true, List, [], ◌∷◌, length, get_or, refl, ◌-◌, Some, if◌then◌else◌, ◌==◌}
+use Rattle.run_laws.proofs.Common.{list_all, Call, Reply, Refusal, Entry, Applications, Config, is_bootable, after_steps, at_start, is_managed_call, managed_calls, managed_replies, private_replies, IsAnsweredAlone}
 use Rattle.run_laws.proofs.Examples.{started, told}
 
 six_calls : list_all is_managed_call (Call.MmemAlloc 0 1 ∷ Call.MmemFree 0 ∷ Call.MmemWrite 0 0 (record { items = [] }) ∷ Call.MmemRead 0 0 1 ∷ Call.MmemCopy 0 1 ∷ Call.MmemAvail ∷ []) ≡ true

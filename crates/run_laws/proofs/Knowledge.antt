@@ -1,24 +1,6 @@
 -- What the entries told a process, and how a step adds to it.
-use Rattle.std.proofs.Common.{◌≡◌, ℕ, Bool, true, false, List, [], ◌∷◌, ◌++◌, ◌≤◌, refl, sym, arith, subst}
-use Rattle.std.specs.Prelude.{Option, Some, None, ◌==◌, if◌then◌else◌, fold}
-use Rattle.std.proofs.lemmas.Bool.Decides.{nat_tests}
-use Rattle.mote_types.specs.declared.call.Call.{Call}
-use Rattle.mote_types.specs.declared.reply.Reply.{Reply}
-use Rattle.mote_types.specs.declared.event.Event.{Event}
-use Rattle.mote_types.specs.declared.event.Origin.{Origin}
-use Rattle.mote_types.specs.declared.event.Stimulus.{Stimulus}
-use Rattle.mote_types.specs.declared.entry.Entry.{Entry}
-use Rattle.device_core.specs.declared.frame.Frame.{Frame}
-use Rattle.node_memory.specs.Frames.{frame_taken}
-use Rattle.node_memory.specs.Memory.{Memory}
-use Rattle.process_core.specs.Agenda.{Item}
-use Rattle.process_core.specs.Processes.{is_kernel_process}
-use Rattle.process_core.specs.Scheduler.{in_front}
-use Rattle.kernel_core.specs.Machine.{Machine, scheduled}
-use Rattle.kernel_core.specs.Calls.{after_call}
-use Rattle.kernel_core.specs.KernelProcesses.{serve}
-use Rattle.kernel_core.specs.Run.{with_more_work}
-use Rattle.run_laws.specs.OwnTurns.{reply_of}
+use Rattle.std.proofs.Common.{◌≡◌, ℕ, Bool, true, false, List, [], ◌∷◌, ◌++◌, ◌≤◌, refl, sym, arith, subst, Option, Some, None, ◌==◌, if◌then◌else◌, fold}
+use Rattle.run_laws.proofs.Common.{nat_tests, Call, Reply, Event, Origin, Stimulus, Entry, Frame, frame_taken, Memory, Item, is_kernel_process, in_front, Machine, scheduled, after_call, serve, with_more_work, reply_of}
 use Rattle.run_laws.proofs.Marks.{marks, fit, due, idle, only_removes}
 use Rattle.run_laws.proofs.Silent.{is_turn_item, after_item-kept}
 use Rattle.run_laws.proofs.Caller.{after_call-fit, after_call-others}

@@ -5,7 +5,6 @@ pub mod Arrivals
 pub mod Caller
 pub mod Callers
 pub mod Changes
-pub mod Costs
 mod Examples
 pub mod Heap
 pub mod HeapStores
@@ -14,6 +13,7 @@ mod IsolationExamples
 pub mod KindLaws
 pub mod Managed
 pub mod Marks
+pub mod OwnBlocks
 pub mod Outsiders
 pub mod Rests
 pub mod Senders
@@ -24,3 +24,4 @@ pub mod Totals
 pub mod Untouched
 pub mod Whole
 mod BrokenLaws
+pub mod Common

@@ -1,19 +1,6 @@
 -- What the agenda holds for one process.
-use Rattle.std.proofs.Common.{◌≡◌, ℕ, Bool, true, false, not, ◌&&◌, ◌||◌, List, [], ◌∷◌, ◌++◌, refl, arith}
-use Rattle.std.specs.Prelude.{Option, Some, None, map, flat_map, ◌==◌, if◌then◌else◌}
-use Rattle.std.specs.List.{cons_option}
-use Rattle.std.proofs.lemmas.Bool.Decides.{nat_tests}
-use Rattle.mote_types.specs.declared.event.Event.{Event}
-use Rattle.mote_types.specs.declared.event.Stimulus.{Stimulus}
-use Rattle.mote_types.specs.declared.event.Origin.{Origin}
-use Rattle.mote_types.specs.declared.reply.Reply.{Reply}
-use Rattle.process_core.specs.declared.process.Process.{Process}
-use Rattle.process_core.specs.declared.state.State.{State}
-use Rattle.process_core.specs.Agenda.{Queued, Item}
-use Rattle.process_core.specs.Processes.{state_of, with_state, with_mark, without, is_on_list, is_running, is_kernel_process}
-use Rattle.process_core.specs.Scheduler.{Scheduler, delivery}
-use Rattle.run_laws.specs.OwnTurns.{reply_of}
-use Rattle.run_laws.specs.OwnTurns.{is_turn_entry}
+use Rattle.std.proofs.Common.{◌≡◌, ℕ, Bool, true, false, not, ◌&&◌, ◌||◌, List, [], ◌∷◌, ◌++◌, refl, arith, Option, Some, None, map, flat_map, ◌==◌, if◌then◌else◌}
+use Rattle.run_laws.proofs.Common.{cons_option, nat_tests, Event, Stimulus, Origin, Reply, Process, State, Queued, Item, state_of, with_state, with_mark, without, is_on_list, is_running, is_kernel_process, Scheduler, delivery, reply_of, is_turn_entry}
 
 -- what an item is to a process
 pub data Mark : Type 0 where
@@ -80,8 +67,7 @@ marks-broadcast p event (n ∷ ns) items = grind (arith, marks-broadcast p event
 pub marks-delivery : (p : ℕ) (ns : List ℕ) (event : Option (Queued Bool)) (items : List Item) → marks p (delivery ns event ++ items) ≡ marks p items
 marks-delivery p ns (Some (Queued.To q event)) items = grind arith
 marks-delivery p ns (Some (Queued.ToAll event)) items = marks-broadcast p event ns items
-marks-delivery p ns (Some (Queued.Expiry q c cancelled)) items = refl
-marks-delivery p ns None items = refl
+marks-delivery p ns _ items = refl
 
 -- the states of the processes after a change
 pub state_of-with_state : (p : ℕ) (state : State) (list : List Process) → is_on_list (state_of p list) ≡ true
@@ -111,25 +97,13 @@ state_of-without_other p q [] h = refl
 state_of-without_other p q (x ∷ xs) h = grind (arith, nat_tests, state_of-without_other p q xs)
 
 pub fit-only : (b : Bool) (ms : List Mark) → only_removes ms ≡ true → fit b ms ≡ true
-fit-only b [] h = refl
-fit-only b (Mark.Removes ∷ ms) h = h
-fit-only b (Mark.Turns reply ∷ ms) h = absurd (grind arith)
-fit-only b (Mark.Exits ∷ ms) h = absurd (grind arith)
-fit-only b (Mark.Strays ∷ ms) h = absurd (grind arith)
+fit-only b ms h = grind (arith, nat_tests)
 
 pub fit-idle : (ms : List Mark) → fit true ms ≡ true → only_removes ms ≡ true
-fit-idle [] h = refl
-fit-idle (Mark.Removes ∷ ms) h = h
-fit-idle (Mark.Turns reply ∷ ms) h = absurd (grind arith)
-fit-idle (Mark.Exits ∷ ms) h = absurd (grind arith)
-fit-idle (Mark.Strays ∷ ms) h = absurd (grind arith)
+fit-idle ms h = grind (arith, nat_tests)
 
 pub due-only : (ms : List Mark) → only_removes ms ≡ true → due ms ≡ None
-due-only [] h = refl
-due-only (Mark.Removes ∷ ms) h = refl
-due-only (Mark.Turns reply ∷ ms) h = absurd (grind arith)
-due-only (Mark.Exits ∷ ms) h = absurd (grind arith)
-due-only (Mark.Strays ∷ ms) h = absurd (grind arith)
+due-only ms h = grind (arith, nat_tests)
 
 -- what stays of the agenda for p
 pub record Kept (p : ℕ) (before : List Item) (list : List Process) (s : Scheduler Bool) : Type 0 where

@@ -1,26 +1,6 @@
 -- Nobody takes a turn but the applications of the mote.
-use Rattle.std.proofs.Common.{◌≡◌, ℕ, zero, suc, ◌+◌, ◌≤◌, Bool, true, false, not, List, [], ◌∷◌, ◌++◌, refl, ◌∙◌, arith}
-use Rattle.std.specs.Prelude.{◌==◌, map, nat_le}
-use Rattle.std.specs.List.{list_all, range_with_len}
-use Rattle.std.proofs.lemmas.Bool.Decides.{nat_tests}
-use Rattle.mote_types.specs.declared.call.Call.{Call}
-use Rattle.mote_types.specs.declared.event.Origin.{Origin}
-use Rattle.mote_types.specs.declared.event.Stimulus.{Stimulus}
-use Rattle.mote_types.specs.declared.entry.Entry.{Entry}
-use Rattle.mote_types.specs.declared.entry.Input.{Input}
-use Rattle.mote_types.specs.declared.entry.Note.{Note}
-use Rattle.mote_types.specs.declared.event.Event.{Event}
-use Rattle.mote_types.specs.Applications.{Applications}
-use Rattle.process_core.specs.declared.state.State.{State}
-use Rattle.process_core.specs.Agenda.{Item}
-use Rattle.process_core.specs.Processes.{state_of, numbers, is_application}
-use Rattle.process_core.specs.Scheduler.{Scheduler, after_item, delivery, first_event, in_front}
-use Rattle.kernel_core.specs.declared.config.Config.{Config}
-use Rattle.kernel_core.specs.Machine.{Machine, is_bootable}
-use Rattle.kernel_core.specs.Calls.{after_call}
-use Rattle.kernel_core.specs.Inputs.{effect}
-use Rattle.kernel_core.specs.KernelProcesses.{serve}
-use Rattle.kernel_core.specs.Run.{Running, Runs, with_more_work, at_start}
+use Rattle.std.proofs.Common.{◌≡◌, ℕ, zero, suc, ◌+◌, ◌≤◌, Bool, true, false, not, List, [], ◌∷◌, ◌++◌, refl, ◌∙◌, arith, ◌==◌, map, nat_le}
+use Rattle.run_laws.proofs.Common.{list_all, range_with_len, nat_tests, Call, Origin, Stimulus, Entry, Input, Note, Event, Applications, State, Item, state_of, is_application, Scheduler, after_item, in_front, Config, Machine, is_bootable, after_call, effect, serve, Running, Runs, with_more_work, at_start}
 use Rattle.run_laws.proofs.Arrivals.{effect-keeps}
 use Rattle.run_laws.proofs.event_order.Items.{with_agenda, facing}
 use Rattle.run_laws.proofs.event_order.Runs.{AtEach, each-more, at_each}
@@ -57,40 +37,11 @@ module _ (p : ℕ) (high : nat_le 4 p ≡ true) where
 
   after_item-state : (item : Item) (items : List Item) (s : Scheduler Bool) → keeps_out item ≡ true → state_of p s.processes ≡ State.Absent
       → state_of p (after_item item (with_agenda items s)).processes ≡ State.Absent
-  after_item-state (Item.Start q) items s k h = grind (arith, nat_tests, k, h)
-  after_item-state (Item.Give q origin stimulus) items s k h = give (q == p) refl
-    where
-      give : (b : Bool) → (q == p) ≡ b → state_of p (after_item (Item.Give q origin stimulus) (with_agenda items s)).processes ≡ State.Absent
-      give true e = let same : q ≡ p = grind (arith, nat_tests, e) in grind (arith, same, h)
-      give false e = grind (arith, h, state_of-with_other p q State.Called s.processes e)
-  after_item-state (Item.GiveExit q) items s k h =
-      let other : (q == p) ≡ false = grind (arith, k) in
-      state_of-with_other p q State.Ending s.processes other ∙ h
-  after_item-state (Item.Remove q) items s k h = remove (q == p) refl
-    where
-      remove : (b : Bool) → (q == p) ≡ b → state_of p (after_item (Item.Remove q) (with_agenda items s)).processes ≡ State.Absent
-      remove true e = let same : q ≡ p = grind (arith, nat_tests, e) in rw same (state_of-without p s.processes)
-      remove false e = state_of-without_other p q s.processes e ∙ h
-  after_item-state Item.Polls items s k h = grind (arith, h)
-  after_item-state (Item.PollOne q) items s k h = grind (arith, h, state_of-with_mark p q false s.processes)
-  after_item-state Item.Deliver items s k h = h
-  after_item-state (Item.Turn q origin stimulus) items s k h = h
-  after_item-state (Item.Show entry) items s k h = h
+  after_item-state item items s k h = grind (arith, nat_tests, state_of-with_other, state_of-without, state_of-without_other, state_of-with_mark)
 
   after_item-agenda : (item : Item) (items : List Item) (s : Scheduler Bool) → keeps_out item ≡ true → state_of p s.processes ≡ State.Absent
       → list_all keeps_out items ≡ true → list_all keeps_out (after_item item (with_agenda items s)).agenda ≡ true
-  after_item-agenda (Item.Give q origin stimulus) items s k h i = give (q == p) refl
-    where
-      give : (b : Bool) → (q == p) ≡ b → list_all keeps_out (after_item (Item.Give q origin stimulus) (with_agenda items s)).agenda ≡ true
-      give true e = let same : q ≡ p = grind (arith, nat_tests, e) in grind (arith, same, h, i)
-      give false e = grind (arith, e, i)
-  after_item-agenda Item.Polls items s k h i =
-      let polls = all-mapped keeps_out (λ n. Item.PollOne n) (numbers s.processes) (λ n. refl) in
-      grind (arith, i, all-append keeps_out (map (λ n. Item.PollOne n) (numbers s.processes)) items polls)
-  after_item-agenda Item.Deliver items s k h i =
-      all-append keeps_out (delivery (numbers s.processes) (first_event s)) items
-      (all-delivered keeps_out (numbers s.processes) (first_event s) refl (λ n stimulus. refl)) i
-  after_item-agenda item items s k h i = grind (arith, k, i)
+  after_item-agenda item items s k h i = grind (arith, nat_tests, all-mapped, all-append, all-delivered)
 
   after_item-applications : (item : Item) (s : Scheduler Bool) → (after_item item s).applications ≡ s.applications
   after_item-applications item s = grind arith
@@ -114,21 +65,11 @@ module _ (p : ℕ) (high : nat_le 4 p ≡ true) where
   call-applications call q m = grind arith
 
   not_named : (s : Scheduler Bool) (r : ℕ) → is_application s.applications p ≡ false → is_application s.applications r ≡ true → not (r == p) ≡ true
-  not_named s r out named = go (r == p) refl
-    where
-      go : (b : Bool) → (r == p) ≡ b → not b ≡ true
-      go true e = let same : r ≡ p = grind (arith, nat_tests, e) in absurd (grind (arith, out, named, same))
-      go false e = refl
+  not_named s r out named = grind (arith, nat_tests)
 
   call-state : (call : Call) (q : ℕ) (m : Machine) → (q == p) ≡ false → is_application m.scheduler.applications p ≡ false
       → state_of p m.scheduler.processes ≡ State.Absent → state_of p (after_call call q m).scheduler.processes ≡ State.Absent
-  call-state (Call.Kill r) q m other out h = kill (r == p) refl
-    where
-      kill : (b : Bool) → (r == p) ≡ b → state_of p (after_call (Call.Kill r) q m).scheduler.processes ≡ State.Absent
-      kill true e = let same : r ≡ p = grind (arith, nat_tests, e) in grind (arith, same, out, h)
-      kill false e = grind (arith, h, state_of-with_other p r State.Leaving m.scheduler.processes e)
-  call-state call q m other out h =
-      grind (arith, other, h, state_of-with_mark, state_of-with_other p q State.Running m.scheduler.processes, state_of-with_other p q State.Leaving m.scheduler.processes)
+  call-state call q m other out h = grind (arith, nat_tests, state_of-with_other, state_of-with_mark)
 
   call-out : (call : Call) (q : ℕ) (m : Machine) → (q == p) ≡ false → IsOut m.scheduler → IsOut (after_call call q m).scheduler
   call-out call q m other h =

@@ -1,27 +1,34 @@
 -- Every run comes to rest after each input, or is halted: each step takes something off a measure.
-use Rattle.std.proofs.Common.{◌≡◌, ℕ, zero, suc, ◌+◌, ◌-◌, ◌*◌, ◌≤◌, Bool, true, false, not, ◌&&◌, List, [], ◌∷◌, length, refl, arith}
+use Rattle.std.proofs.Common.{◌≡◌, ℕ, zero, suc, ◌+◌, ◌-◌, ◌*◌, ◌≤◌, Bool, true, false, not, ◌&&◌, List, [], ◌∷◌, length, refl, arith, Option, Some, None, if◌then◌else◌, ◌==◌, map}
+use Rattle.run_laws.proofs.Common.{length-map, nat_tests, Call, Stimulus, Origin, Entry, Input, Applications, Item, Job, is_empty, Scheduler, after_front, job, job_at, job_of_item, wants_round, in_front, Config, Machine, scheduled, after_call, fed, serve, Answers, StepMade, Running, Runs, ComesToRest, one_step, job_done, within_limit, is_still, after_step, answers_after, with_input, at_start, silent, with_more_work, turn_taken, farewells, of_event, number_event, EXITED, numbers, without, is_process}
 use Rattle.std.proofs.Math.Nat.{suc-mul}
-use Rattle.std.specs.Prelude.{Option, Some, None, if◌then◌else◌, ◌==◌}
-use Rattle.std.proofs.lemmas.List.{length-map}
-use Rattle.std.proofs.lemmas.Bool.Decides.{nat_tests}
-use Rattle.mote_types.specs.declared.call.Call.{Call}
-use Rattle.mote_types.specs.declared.event.Stimulus.{Stimulus}
-use Rattle.mote_types.specs.declared.event.Origin.{Origin}
-use Rattle.mote_types.specs.declared.entry.Entry.{Entry}
-use Rattle.mote_types.specs.declared.entry.Input.{Input}
-use Rattle.mote_types.specs.Applications.{Applications}
-use Rattle.process_core.specs.Agenda.{Item, Job}
-use Rattle.process_core.specs.Idle.{is_empty}
-use Rattle.process_core.specs.Scheduler.{Scheduler, after_front, job, job_at, job_of_item, job_of_give, job_of_event, first_event, wants_round, in_front}
-use Rattle.process_core.specs.Agenda.{Queued}
-use Rattle.kernel_core.specs.declared.config.Config.{Config}
-use Rattle.kernel_core.specs.Machine.{Machine, scheduled}
-use Rattle.kernel_core.specs.Calls.{after_call}
-use Rattle.kernel_core.specs.Inputs.{fed}
-use Rattle.kernel_core.specs.KernelProcesses.{serve}
-use Rattle.kernel_core.specs.Run.{Answers, StepMade, Running, Runs, ComesToRest, one_step, job_done, within_limit, is_still, after_step, answers_after, with_input, at_start, silent, with_more_work, turn_taken}
-use Rattle.run_laws.proofs.Costs.{present, starts-append, after_front-present, is_rest, costs, costs-cons, costs-nil, costs-append, costs-farewells, starts-farewells, round_cost, IsPaid, paid}
+use Rattle.kernel_core.specs.Code.Cost.{starts, present, costs, round_cost, IsPaid}
+use Rattle.kernel_core.proofs.Costs.{starts-append, length-without, after_front-present, costs-cons, costs-nil, costs-append, paid}
 use Rattle.run_laws.proofs.Untouched.{serve-untouched, call-work}
+
+-- what those are told who are left where a process ends
+
+starts-gives : (origin : Origin) (stimulus : Stimulus) (ns : List ℕ) → starts (map (λ p. Item.Give p origin stimulus) ns) ≡ 0
+starts-gives origin stimulus [] = refl
+starts-gives origin stimulus (n ∷ ns) = starts-gives origin stimulus ns
+
+starts-farewells : (p : ℕ) (s : Scheduler Bool) → starts (farewells p s) ≡ 0
+starts-farewells p s = starts-gives Origin.Synch (of_event (number_event EXITED p)) (numbers (without p s.processes))
+
+module _ (bound : ℕ) where
+  costs-gives : (origin : Origin) (stimulus : Stimulus) (ns : List ℕ) → costs bound (map (λ p. Item.Give p origin stimulus) ns) ≡ 2 * length ns
+  costs-gives origin stimulus [] = costs-nil bound
+  costs-gives origin stimulus (n ∷ ns) =
+      grind (arith, costs-cons bound (Item.Give n origin stimulus) (map (λ p. Item.Give p origin stimulus) ns), costs-gives origin stimulus ns)
+
+  costs-farewells : (p : ℕ) (s : Scheduler Bool) → length s.processes ≤ bound → costs bound (farewells p s) ≤ 2 * bound
+  costs-farewells p s h =
+      grind (
+        arith,
+        costs-gives Origin.Synch (of_event (number_event EXITED p)) (numbers (without p s.processes)),
+        length-map,
+        length-without (λ process. not (is_process p process)) s.processes,
+      )
 
 -- a call
 
@@ -44,19 +51,13 @@ module _ (bound : ℕ) where
 
 -- a step
 
-job_of_event-works : (event : Option (Queued Bool)) → is_rest (job_of_event event) ≡ false
-job_of_event-works None = refl
-job_of_event-works (Some (Queued.To p event)) = refl
-job_of_event-works (Some (Queued.ToAll event)) = refl
-job_of_event-works (Some (Queued.Expiry p c x)) = refl
-
-job_of_give-works : (p : ℕ) (stimulus : Stimulus) → is_rest (job_of_give p stimulus) ≡ false
-job_of_give-works p stimulus = grind arith
+-- no such job is asked where anything is left to be done
+abbrev is_rest : Option (Job Bool) → Bool
+is_rest (Some Job.Rest) = true
+is_rest _ = false
 
 job_of_item-works : (item : Item) (s : Scheduler Bool) → is_rest (job_of_item item s) ≡ false
-job_of_item-works (Item.Give p origin stimulus) s = job_of_give-works p stimulus
-job_of_item-works Item.Deliver s = job_of_event-works (first_event s)
-job_of_item-works item s = refl
+job_of_item-works item s = grind (arith, nat_tests)
 
 -- the job is Rest only where nothing is left to be done
 job_at-works : (agenda : List Item) (s : Scheduler Bool) → (is_empty agenda && not (wants_round s)) ≡ false → is_rest (job_at agenda s) ≡ false
@@ -130,25 +131,25 @@ module _ (bound : ℕ) where
       record { work = rw same w; reserve = rw same (omega (arith, few)); measure = λ running. rw same (omega (arith, less)) }
 
   -- a job that was worth so much, and is done
-  job-falls : (answers : Answers) (next : Option (Job Bool)) (m : Machine) (old : ℕ) → length m.scheduler.processes ≤ bound → m.work ≤ 10000
+  job-falls : (answers : Answers) (next : Option (Job Bool)) (m : Machine) (old : ℕ) → length m.scheduler.processes ≤ bound → m.work ≤ 10000 → is_rest next ≡ false
       → IsPaid bound next old (costs bound m.scheduler.agenda)
       → Falls bound ((10000 - m.work) * suc (round_cost bound) + old) m (job_done answers next m).0
-  job-falls answers (Some (Job.TakeTurn p origin stimulus)) m old h w paid =
+  job-falls answers (Some (Job.TakeTurn p origin stimulus)) m old h w r paid =
       limit-falls _ m (turn_taken p origin stimulus (answers p stimulus) m) w (λ n. call-falls old (answers p stimulus) p m w n h paid)
-  job-falls answers (Some (Job.Serve p event)) m old h w paid =
+  job-falls answers (Some (Job.Serve p event)) m old h w r paid =
       let kept = serve-untouched p event m in
       let few : present (serve p event m).scheduler ≤ present m.scheduler = rw (kept.agenda, kept.processes) (omega arith) in
       let less : costs bound (serve p event m).scheduler.agenda + 1 ≤ old = rw kept.agenda paid in
       quiet-falls old m (serve p event m) w kept.work few less
-  job-falls answers (Some (Job.CallBack p c true)) m old h w paid = quiet-falls old m m w refl (omega arith) (omega arith)
-  job-falls answers (Some (Job.CallBack p c false)) m old h w paid =
+  job-falls answers (Some (Job.CallBack p c true)) m old h w r paid = quiet-falls old m m w refl (omega arith) (omega arith)
+  job-falls answers (Some (Job.CallBack p c false)) m old h w r paid =
       let given : Machine = scheduled (in_front (Item.Give p Origin.Callback (Stimulus.Callback c) ∷ [])) m in
       let less : costs bound given.scheduler.agenda + 1 ≤ old = rw (costs-cons bound) (omega arith) in
       quiet-falls old m given w refl (omega arith) less
-  job-falls answers (Some (Job.ShowEntry entry)) m old h w paid = quiet-falls old m m w refl (omega arith) paid
-  job-falls answers (Some Job.Round) m old h w paid = limit-falls _ m (silent (with_more_work m)) w (λ n. round-falls old m w n paid)
-  job-falls answers (Some Job.Rest) m old h w paid = absurd paid
-  job-falls answers None m old h w paid = quiet-falls old m m w refl (omega arith) paid
+  job-falls answers (Some (Job.ShowEntry entry)) m old h w r paid = quiet-falls old m m w refl (omega arith) paid
+  job-falls answers (Some Job.Round) m old h w r paid = limit-falls _ m (silent (with_more_work m)) w (λ n. round-falls old m w n paid)
+  job-falls answers (Some Job.Rest) m old h w r paid = absurd (cc)
+  job-falls answers None m old h w r paid = quiet-falls old m m w refl (omega arith) paid
 
   step-falls : (answers : Answers) (m : Machine) → m.work ≤ 10000 → reserve m ≤ bound → is_still m ≡ false → Falls bound (measure bound m) m (one_step answers m).0
   unfolding measure
@@ -160,15 +161,12 @@ module _ (bound : ℕ) where
       works : m.is_halted ≡ false → is_rest (job m.scheduler) ≡ false
       works up = job_at-works m.scheduler.agenda m.scheduler (grind (arith, live, up))
 
-      listed : length m.scheduler.processes ≤ bound
-      listed = omega arith
-
       fewer : present (after_front m.scheduler) ≤ present m.scheduler
       fewer = after_front-present m.scheduler
 
       done : m.is_halted ≡ false → Falls bound (measure bound m) m (job_done answers (job m.scheduler) next).0
       done up =
-          let f = job-falls answers (job m.scheduler) next (costs bound m.scheduler.agenda) (omega (arith, fewer, few)) w (paid bound m.scheduler listed (works up)) in
+          let f = job-falls answers (job m.scheduler) next (costs bound m.scheduler.agenda) (omega (arith, fewer, few)) w (works up) (paid bound m.scheduler (omega (arith, few))) in
           record { work = f.work; reserve = omega (arith, f.reserve, fewer); measure = f.measure }
 
       go : (b : Bool) → m.is_halted ≡ b → Falls bound (measure bound m) m (if b then silent m else job_done answers (job m.scheduler) next).0

@@ -1,32 +1,9 @@
 -- Every note of a packet that was sent has a sender, and holds its block.
-use Rattle.std.proofs.Common.{◌≡◌, ℕ, Bool, true, false, List, [], ◌∷◌, ◌++◌, ◌≤◌, refl, ◌∙◌, sym, ap, arith, subst}
-use Rattle.std.specs.Prelude.{Option, Some, None, ◌==◌, if◌then◌else◌, fold}
-use Rattle.std.proofs.lemmas.Bool.Decides.{nat_tests}
-use Rattle.std.proofs.lemmas.List.Sums.{fold-append}
-use Rattle.arrayvec.specs.ArrayVec.{ArrayVec}
-use Rattle.mote_types.specs.declared.call.Call.{Call}
-use Rattle.mote_types.specs.declared.event.Origin.{Origin}
-use Rattle.mote_types.specs.declared.event.Stimulus.{Stimulus}
-use Rattle.mote_types.specs.declared.entry.Entry.{Entry}
-use Rattle.mote_types.specs.declared.entry.Note.{Note}
-use Rattle.mote_types.specs.declared.entry.Input.{Input}
-use Rattle.mote_types.specs.Applications.{Applications}
-use Rattle.mmem_core.specs.ManagedStore.{bytes_of}
+use Rattle.std.proofs.Common.{◌≡◌, ℕ, Bool, true, false, List, [], ◌∷◌, ◌++◌, ◌≤◌, refl, ◌∙◌, sym, ap, arith, subst, Option, Some, None, ◌==◌, if◌then◌else◌, fold}
+use Rattle.run_laws.proofs.Common.{nat_tests, fold-append, ArrayVec, Call, Origin, Stimulus, Entry, Note, Input, Applications, bytes_of, list_any, Item, is_kernel_process, Config, Machine, shown_first, booted, after_call, unless_refused, done, effect, Refusal, Running, Runs, with_more_work, at_start, reply_of, is_turn_entry, up_to_call, Blocks, no_blocks, managed_after, managed_block, managed_kind}
 use Rattle.node_memory.specs.Frames.{send_refusal}
-use Rattle.std.specs.List.{list_any}
-use Rattle.process_core.specs.Agenda.{Item}
-use Rattle.process_core.specs.Processes.{is_kernel_process}
-use Rattle.kernel_core.specs.declared.config.Config.{Config}
-use Rattle.kernel_core.specs.Machine.{Machine, shown_first, booted}
-use Rattle.kernel_core.specs.Calls.{after_call, unless_refused, done}
-use Rattle.kernel_core.specs.Inputs.{effect}
 use Rattle.kernel_core.specs.PacketCalls.{sent}
-use Rattle.mote_types.specs.declared.refusal.Refusal.{Refusal}
-use Rattle.kernel_core.specs.Run.{Running, Runs, with_more_work, at_start}
-use Rattle.run_laws.specs.OwnTurns.{reply_of, is_turn_entry, up_to_call}
-use Rattle.run_laws.specs.BlockHistory.{Blocks, no_blocks, managed_after, managed_block}
-use Rattle.run_laws.specs.MemoryLaws.{managed_kind}
-use Rattle.run_laws.proofs.Stores.{own_blocks}
+use Rattle.run_laws.proofs.Stores.{own_blocks, managed_store}
 use Rattle.run_laws.proofs.Marks.{marks, due, idle}
 use Rattle.run_laws.proofs.Arrivals.{effect-keeps}
 use Rattle.run_laws.proofs.Knowledge.{Knowledge, told, told_all, answered}
@@ -37,7 +14,8 @@ use Rattle.run_laws.proofs.event_order.Steps.{Cases, law_of, turn_entry, is_quie
 use Rattle.run_laws.proofs.event_order.Tally.{is_turn}
 use Rattle.run_laws.proofs.Whole.{Holds, WellTold, told_cases, boot-holds}
 use Rattle.run_laws.proofs.KindLaws.{KindLaw, accepted, at_first, blocks-told}
-use Rattle.run_laws.proofs.Managed.{HasBlocks, managed-laws, boot-has, same_blocks}
+use Rattle.run_laws.proofs.Managed.{managed-keeps}
+use Rattle.run_laws.proofs.OwnBlocks.{HasBlocks, own-laws, boot-has}
 
 -- the handle that a call just sends
 abbrev handle_in : Call → Option ℕ
@@ -87,21 +65,15 @@ module _ (p : ℕ) (few : p ≤ 19) where
   -- where nothing is being sent, anything may be in front
   shown_none : (handle : Option ℕ) (blocks : Blocks) (entry : Entry) → handle ≡ None → Shown handle blocks entry
   shown_none handle blocks (Entry.Note (Note.Sent bytes)) e = λ h f. absurd (grind (arith, e, f))
-  shown_none handle blocks (Entry.Note (Note.Lost refusal)) e = tt
-  shown_none handle blocks (Entry.Turn pid origin stimulus call) e = tt
-  shown_none handle blocks (Entry.Input input) e = tt
-  shown_none handle blocks Entry.Halt e = tt
+  shown_none handle blocks _ e = tt
 
   front_none : (handle : Option ℕ) (blocks : Blocks) (agenda : List Item) → handle ≡ None → FrontOf handle blocks agenda
-  front_none handle blocks [] e = e
   front_none handle blocks (Item.Turn q origin stimulus ∷ items) e = tt
   front_none handle blocks (Item.Show entry ∷ items) e = (shown_none handle blocks entry e, front_none handle blocks items e)
-  front_none handle blocks (item ∷ items) e = e
+  front_none handle blocks _ e = e
 
   quiet_front : (handle : Option ℕ) (blocks : Blocks) (item : Item) (items : List Item) → is_quiet_item item ≡ true → FrontOf handle blocks (item ∷ items) → handle ≡ None
-  quiet_front handle blocks (Item.Turn q origin stimulus) items n f = absurd (grind (arith, n))
-  quiet_front handle blocks (Item.Show entry) items n f = absurd (grind (arith, n))
-  quiet_front handle blocks item items n f = f
+  quiet_front handle blocks item items n f = grind (arith, nat_tests)
 
   sent_now : (handle : Option ℕ) (blocks : Blocks) (h : ℕ) (m : Machine) → handle ≡ Some h → own_blocks p m.memory ≡ blocks
       → (refusal : Option Refusal) → send_refusal p h m.memory.managed ≡ refusal
@@ -121,7 +93,7 @@ module _ (p : ℕ) (few : p ≤ 19) where
   after_send call handle blocks m e rel = front_none handle blocks (after_call call p m).scheduler.agenda e
 
   abbrev ToldOf : Machine → List Entry → Type 0
-  ToldOf m X = Holds (accepted managed_after) (KindLaw managed_kind) (HasBlocks p) p at_first m X
+  ToldOf m X = Holds (accepted managed_after) (KindLaw managed_kind) (HasBlocks managed_store p) p at_first m X
 
   abbrev FrontAfter : List Entry → List Item → Type 0
   FrontAfter X agenda = FrontOf (handle_after X) (told_after X).now agenda
@@ -141,9 +113,9 @@ module _ (p : ℕ) (few : p ≤ 19) where
       let busy : idle p m.scheduler.processes ≡ false = grind (arith, e, h.now.is_fit) in
       let mortal : is_kernel_process p ≡ false = grind (arith, busy) in
       let turns : due (marks p (Item.Turn q origin stimulus ∷ items)) ≡ reply_of stimulus = grind (arith, e) in
-      let has : HasBlocks p m.memory m.packets.frames (answered (accepted managed_after) t.last (reply_of stimulus) t.now) = rw turns at h.now.rel in
+      let has : HasBlocks managed_store p m.memory m.packets.frames (answered (accepted managed_after) t.last (reply_of stimulus) t.now) = rw turns at h.now.rel in
       let rel : own_blocks p m.memory ≡ answered (accepted managed_after) t.last (reply_of stimulus) t.now =
-      same_blocks (own_blocks p m.memory) (answered (accepted managed_after) t.last (reply_of stimulus) t.now) (has.own mortal) in
+      has.own mortal in
       let told_now : (told_after (X ++ entry ∷ [])).now ≡ answered (accepted managed_after) t.last (reply_of stimulus) t.now =
       rw (fold-append (told (accepted managed_after) p) at_first X (entry ∷ [])) (grind (arith, e)) in
       let handle_now : handle_after (X ++ entry ∷ []) ≡ handle_in call = fold-append sent_by None X (entry ∷ []) ∙ grind (arith, e) in
@@ -164,12 +136,10 @@ module _ (p : ℕ) (few : p ≤ 19) where
 
   other_shown : (handle : Option ℕ) (blocks : Blocks) (e : Entry) → is_note e ≡ false → Shown handle blocks e
   other_shown handle blocks (Entry.Note note) n = absurd (grind (arith, n))
-  other_shown handle blocks (Entry.Turn pid origin stimulus call) n = tt
-  other_shown handle blocks (Entry.Input input) n = tt
-  other_shown handle blocks Entry.Halt n = tt
+  other_shown handle blocks _ n = tt
 
-  base : Cases ToldOf ToldOf (WellTold (accepted managed_after) (KindLaw managed_kind) (HasBlocks p) p at_first)
-  base = told_cases (accepted managed_after) (KindLaw managed_kind) (HasBlocks p) p (managed-laws p few) at_first
+  base : Cases ToldOf ToldOf (WellTold (accepted managed_after) (KindLaw managed_kind) (HasBlocks managed_store p) p at_first)
+  base = told_cases (accepted managed_after) (KindLaw managed_kind) (HasBlocks managed_store p) p (own-laws managed_store managed-keeps p few) at_first
 
   sending_cases : Cases Sending Silent (AtEach ShownBehind)
   sending_cases =
@@ -200,7 +170,7 @@ module _ (p : ℕ) (few : p ≤ 19) where
   run-sent c says inputs after runs =
       at_each Sending ShownBehind (law_of Sending Silent (AtEach ShownBehind) sending_cases) c says inputs after runs
       (record {
-        holds = boot-holds (accepted managed_after) (KindLaw managed_kind) (HasBlocks p) p at_first c (boot-has p c);
+        holds = boot-holds (accepted managed_after) (KindLaw managed_kind) (HasBlocks managed_store p) p at_first c (boot-has managed_store managed-keeps p c);
         front = front_none None no_blocks (booted c).scheduler.agenda refl;
       })
 

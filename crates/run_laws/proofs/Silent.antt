@@ -1,11 +1,6 @@
 -- An item that is worked off without a turn.
 use Rattle.std.proofs.Common.{◌≡◌, ℕ, Bool, true, false, List, ◌∷◌, refl, ap, arith}
-use Rattle.std.proofs.lemmas.Bool.Decides.{nat_tests}
-use Rattle.process_core.specs.declared.process.Process.{Process}
-use Rattle.process_core.specs.declared.state.State.{State}
-use Rattle.process_core.specs.Agenda.{Item}
-use Rattle.process_core.specs.Processes.{state_of, numbers}
-use Rattle.process_core.specs.Scheduler.{Scheduler, after_item, first_event}
+use Rattle.run_laws.proofs.Common.{nat_tests, Process, State, Item, state_of, numbers, Scheduler, after_item, first_event}
 use Rattle.run_laws.proofs.Marks.{Kept, marks, fit, due, idle, fit-only, fit-idle, due-only, state_of-with_state, state_of-with_same, state_of-with_other, state_of-with_mark, state_of-without, state_of-without_other, marks-delivery, marks-polls}
 
 -- p's state and marks are as they were

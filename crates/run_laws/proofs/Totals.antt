@@ -1,12 +1,8 @@
 -- What a process's managed blocks take, and what all managed blocks take.
-use Rattle.std.proofs.Common.{◌≡◌, ℕ, zero, suc, ◌+◌, ◌≤◌, ◌<◌, Bool, true, false, List, length, refl, ◌∙◌, ap, arith}
-use Rattle.std.specs.Prelude.{Option, None, ◌==◌, ◌≢◌, sum_by}
-use Rattle.std.specs.List.{range_with_len}
-use Rattle.std.proofs.lemmas.Bool.Decides.{nat_tests}
+use Rattle.std.proofs.Common.{◌≡◌, ℕ, zero, suc, ◌+◌, ◌≤◌, ◌<◌, Bool, true, false, List, length, refl, ◌∙◌, ap, arith, Option, None, ◌==◌, ◌≢◌, sum_by}
+use Rattle.run_laws.proofs.Common.{range_with_len, nat_tests, number_of, ManagedStore, block_of, size_of, taken_by, with_block}
 use Rattle.std.proofs.lemmas.List.{get_or-set_same, get_or-set_other}
 use Rattle.std.proofs.lemmas.List.Sums.{sum_by-cons, sum_by-set}
-use Rattle.mote_types.specs.BlockNames.{number_of}
-use Rattle.mmem_core.specs.ManagedStore.{ManagedStore, block_of, size_of, taken_by, with_block}
 
 -- sums over numbers in a row
 

@@ -1,12 +1,6 @@
 -- What a call or a kernel process leaves as it was.
 use Rattle.std.proofs.Common.{◌≡◌, ℕ, true, length, refl, ◌∙◌, arith}
-use Rattle.std.proofs.lemmas.List.{length-map}
-use Rattle.mote_types.specs.declared.call.Call.{Call}
-use Rattle.mote_types.specs.declared.event.Event.{Event}
-use Rattle.process_core.specs.Processes.{state_of}
-use Rattle.kernel_core.specs.Machine.{Machine, mark}
-use Rattle.kernel_core.specs.Calls.{after_call}
-use Rattle.kernel_core.specs.KernelProcesses.{serve}
+use Rattle.run_laws.proofs.Common.{length-map, Call, Event, state_of, Machine, mark, after_call, serve}
 use Rattle.run_laws.proofs.Changes.{Changes, of_changes}
 use Rattle.run_laws.proofs.Marks.{state_of-with_mark}
 

@@ -1,32 +1,7 @@
 -- Over a whole run.
-use Rattle.std.proofs.Common.{◌≡◌, ℕ, zero, suc, ◌+◌, ◌≤◌, Bool, true, false, not, List, [], ◌∷◌, ◌++◌, refl, ◌∙◌, sym, arith, subst, append_assoc}
-use Rattle.std.specs.Prelude.{Option, Some, None, ◌==◌, if◌then◌else◌, map, length, find, nat_le}
-use Rattle.std.specs.List.{list_all, range_with_len}
-use Rattle.std.proofs.lemmas.Bool.Decides.{nat_tests}
-use Rattle.std.proofs.lemmas.List.Sums.{fold-append}
-use Rattle.mote_types.specs.declared.call.Call.{Call}
-use Rattle.mote_types.specs.declared.reply.Reply.{Reply}
-use Rattle.mote_types.specs.declared.refusal.Refusal.{Refusal}
-use Rattle.mote_types.specs.declared.event.Event.{Event}
-use Rattle.mote_types.specs.declared.event.Origin.{Origin}
-use Rattle.mote_types.specs.declared.event.Stimulus.{Stimulus}
-use Rattle.mote_types.specs.declared.entry.Entry.{Entry}
-use Rattle.mote_types.specs.declared.entry.Input.{Input}
-use Rattle.mote_types.specs.declared.entry.Note.{Note}
-use Rattle.mote_types.specs.Applications.{Applications}
-use Rattle.device_core.specs.declared.frame.Frame.{Frame}
-use Rattle.device_core.specs.PacketQueue.{PacketQueue, is_held, free_slot}
-use Rattle.node_memory.specs.Memory.{Memory}
-use Rattle.process_core.specs.Agenda.{Item}
-use Rattle.process_core.specs.Processes.{state_of}
-use Rattle.kernel_core.specs.declared.config.Config.{Config}
-use Rattle.process_core.specs.Scheduler.{Scheduler}
-use Rattle.kernel_core.specs.Calls.{after_call}
-use Rattle.kernel_core.specs.Inputs.{effect, frame_held, frame_refusal, held_unless_lost}
-use Rattle.kernel_core.specs.KernelProcesses.{serve}
-use Rattle.kernel_core.specs.Machine.{Machine, booted}
-use Rattle.kernel_core.specs.Run.{Running, Runs, with_more_work, at_start}
-use Rattle.run_laws.specs.OwnTurns.{reply_of, reply_in, HasCall, up_to_call}
+use Rattle.std.proofs.Common.{◌≡◌, ℕ, zero, suc, ◌+◌, ◌≤◌, Bool, true, false, not, List, [], ◌∷◌, ◌++◌, refl, ◌∙◌, sym, arith, subst, append_assoc, Option, Some, None, ◌==◌, if◌then◌else◌, map, length, find, nat_le}
+use Rattle.run_laws.proofs.Common.{list_all, range_with_len, nat_tests, fold-append, Call, Reply, Refusal, Event, Origin, Stimulus, Entry, Input, Note, Applications, Frame, PacketQueue, free_slot, Memory, Item, state_of, Config, Scheduler, after_call, effect, frame_held, frame_refusal, held_unless_lost, serve, Machine, booted, Running, Runs, with_more_work, at_start, reply_of, reply_in, HasCall, up_to_call}
+use Rattle.device_core.specs.PacketQueue.{is_held}
 use Rattle.run_laws.proofs.Marks.{marks, state_of-with_mark}
 use Rattle.run_laws.proofs.Arrivals.{effect-keeps}
 use Rattle.run_laws.proofs.Silent.{is_turn_item}
@@ -42,11 +17,7 @@ use Rattle.run_laws.proofs.timer_deadlines.Regular.{is_regular, carried-regular,
 -- a slot is one of 0 to 7
 found : (test : ℕ → Bool) (ns : List ℕ) (slot : ℕ) → list_all (λ n. nat_le n 15) ns ≡ true → find test ns ≡ Some slot → slot ≤ 15
 found test [] slot h e = absurd (cc)
-found test (n ∷ ns) slot h e = go (test n) e (found test ns slot (grind (arith, h)))
-  where
-    go : (b : Bool) → (if b then Some n else find test ns) ≡ Some slot → (find test ns ≡ Some slot → slot ≤ 15) → slot ≤ 15
-    go true f more = let same : n ≡ slot = cc in grind (arith, nat_tests, h, same)
-    go false f more = more f
+found test (n ∷ ns) slot h e = grind (arith, nat_tests, found test ns slot (grind (arith, h)))
 
 slot_low : (packets : PacketQueue) (slot : ℕ) → free_slot packets ≡ Some slot → slot ≤ 15
 unfolding free_slot
@@ -82,9 +53,7 @@ module _ {S : Type 0} (next : Call → Reply → S → S) (Law : S → Call → 
     where
       fine : (e : Entry) → is_turn e ≡ false → Fine Law p (told_all next p start X) e
       fine (Entry.Turn pid origin stimulus call) n = absurd (grind (arith, n))
-      fine (Entry.Input input) n = tt
-      fine (Entry.Note note) n = tt
-      fine Entry.Halt n = tt
+      fine _ n = tt
 
   not_turn : (item : Item) → is_quiet_item item ≡ true → is_turn_item item ≡ false
   not_turn item n = grind (arith, n)

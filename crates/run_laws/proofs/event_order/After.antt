@@ -1,28 +1,6 @@
 -- What a call does to the shape.
-use Rattle.std.proofs.Common.{◌≡◌, ℕ, Bool, true, false, not, ◌&&◌, List, [], ◌∷◌, ◌++◌, refl, ap, sym, arith, append-nil, append_assoc}
-use Rattle.std.specs.Prelude.{Option, Some, None, option_to_list, map, if◌then◌else◌, ◌==◌}
-use Rattle.std.specs.List.{list_all}
-use Rattle.std.proofs.lemmas.Bool.Decides.{nat_tests}
-use Rattle.mote_types.specs.declared.call.Call.{Call}
-use Rattle.mote_types.specs.declared.reply.Reply.{Reply}
-use Rattle.mote_types.specs.declared.refusal.Refusal.{Refusal}
-use Rattle.mote_types.specs.declared.event.Stimulus.{Stimulus}
-use Rattle.mote_types.specs.declared.event.Origin.{Origin}
-use Rattle.mote_types.specs.declared.event.Payload.{Payload}
-use Rattle.mote_types.specs.declared.entry.Entry.{Entry}
-use Rattle.mote_types.specs.declared.entry.Note.{Note}
-use Rattle.mote_types.specs.EventNumbers.{EXIT, EXITED}
-use Rattle.mote_types.specs.Codes.{number_event, is_reserved}
-use Rattle.process_core.specs.declared.state.State.{State}
-use Rattle.process_core.specs.Agenda.{Queued, Item}
-use Rattle.process_core.specs.Processes.{numbers, without, is_ending, is_application}
-use Rattle.process_core.specs.Requests.{farewells, kill_refusal, killed_by}
-use Rattle.process_core.specs.Scheduler.{Scheduler, of_event, in_front, state_in, put_in_state, has_room}
-use Rattle.kernel_core.specs.Machine.{Machine, scheduled, with_event}
-use Rattle.kernel_core.specs.Calls.{after_call, unless_refused, event_of, done}
-use Rattle.run_laws.specs.OwnTurns.{is_done}
-use Rattle.run_laws.specs.EventLaws.{is_event_of_code}
-use Rattle.run_laws.specs.EventLaws.{event_for}
+use Rattle.std.proofs.Common.{◌≡◌, ℕ, Bool, true, false, not, ◌&&◌, List, [], ◌∷◌, ◌++◌, refl, ap, sym, arith, append-nil, append_assoc, Option, Some, None, option_to_list, map, if◌then◌else◌, ◌==◌}
+use Rattle.run_laws.proofs.Common.{list_all, nat_tests, Call, Reply, Refusal, Stimulus, Origin, Payload, Entry, Note, EXIT, EXITED, number_event, is_reserved, State, Queued, Item, numbers, without, is_ending, is_application, farewells, kill_refusal, killed_by, Scheduler, of_event, in_front, state_in, put_in_state, has_room, Machine, scheduled, with_event, after_call, unless_refused, event_of, done, is_event_of_code, event_for}
 use Rattle.run_laws.proofs.event_order.Tally.{Known, own_event, ends_in}
 use Rattle.run_laws.proofs.event_order.Shape.{is_plain, is_ordered, ordered-append, seats, seats-with_mark, seats-with_state, state_of-seats, first_state, put, stands, waiting_in, waits, queued, queued_in, posted_for, FrontAgrees}
 use Rattle.run_laws.proofs.event_order.Items.{holds, holds-append, is_quiet}
@@ -139,11 +117,7 @@ no_event : (p : ℕ) (call : Call) → is_posting call ≡ false → event_for p
 no_event p call h = grind arith
 
 nothing_own : (known : Known) (p q : ℕ) (call : Call) → event_for p call ≡ None → own_event known p q call ≡ []
-nothing_own known p q call h = go (is_done (known q))
-  where
-    go : (b : Bool) → option_to_list (if b then event_for p call else None) ≡ []
-    go true = rw h refl
-    go false = refl
+nothing_own known p q call h = grind (arith, nat_tests)
 
 posted_plain : (code : ℕ) (payload : Payload) → is_reserved code ≡ false → posted_for (event_of code payload) ≡ event_of code payload ∷ []
 posted_plain code payload h = grind (arith, nat_tests)
@@ -193,46 +167,31 @@ after-queued known p call q m = other call (grind arith)
 -- a turn that isn't p's EXIT can be another one
 swap : (p q : ℕ) (origin other : Origin) (stimulus next : Stimulus) (l : List State) (items : List Item) → (q == p && is_event_of_code EXIT stimulus) ≡ false
     → holds p l (Item.Turn q origin stimulus ∷ items) ≡ true → holds p l (Item.Turn q other next ∷ items) ≡ true
-swap p q origin other stimulus next [] items n h = grind arith
-swap p q origin other stimulus next (state ∷ []) items n h = grind arith
-swap p q origin other stimulus next (_ ∷ _ ∷ _) items n h = h
+swap p q origin other stimulus next l items n h = grind (arith, nat_tests)
 
 -- another process's turn says nothing of p
 turn_other-holds : (p q : ℕ) (origin : Origin) (stimulus : Stimulus) (l : List State) (items : List Item) → (q == p) ≡ false
     → holds p l (Item.Turn q origin stimulus ∷ items) ≡ true → holds p l items ≡ true
-turn_other-holds p q origin stimulus [] items n h = grind arith
-turn_other-holds p q origin stimulus (state ∷ []) items n h = grind arith
-turn_other-holds p q origin stimulus (_ ∷ _ ∷ _) items n h = h
+turn_other-holds p q origin stimulus l items n h = grind (arith, nat_tests)
 
 -- p waits
 wait-holds : (p q : ℕ) (origin : Origin) (stimulus : Stimulus) (l : List State) (items : List Item) → (q == p && is_event_of_code EXIT stimulus) ≡ false
     → holds p l (Item.Turn q origin stimulus ∷ items) ≡ true → holds p (if is_ending (first_state l) then l else put State.Running l) items ≡ true
-wait-holds p q origin stimulus [] items n h = grind arith
-wait-holds p q origin stimulus (state ∷ []) items n h = grind arith
-wait-holds p q origin stimulus (_ ∷ _ ∷ _) items n h = absurd (grind (arith, h))
+wait-holds p q origin stimulus l items n h = grind (arith, nat_tests)
 
 -- p is killed
 killed-holds : (p r : ℕ) (l : List State) (xs items : List Item) → (p == r) ≡ true → list_all (is_quiet p) xs ≡ true
     → holds p l items ≡ true → holds p (put State.Leaving l) (xs ++ Item.GiveExit r ∷ Item.Remove r ∷ items) ≡ true
-killed-holds p r l xs items e n h = holds-append p (put State.Leaving l) xs (Item.GiveExit r ∷ Item.Remove r ∷ items) n (front l h)
-  where
-    front : (l : List State) → holds p l items ≡ true → holds p (put State.Leaving l) (Item.GiveExit r ∷ Item.Remove r ∷ items) ≡ true
-    front [] h = grind (arith, nat_tests)
-    front (state ∷ []) h = grind (arith, nat_tests)
-    front (_ ∷ _ ∷ _) h = h
+killed-holds p r l xs items e n h = grind (arith, nat_tests, holds-append)
 
 -- another one is killed
 left-holds : (p r : ℕ) (l : List State) (xs items : List Item) → (p == r) ≡ false → list_all (is_quiet p) xs ≡ true
     → holds p l items ≡ true → holds p l (xs ++ Item.GiveExit r ∷ Item.Remove r ∷ items) ≡ true
-left-holds p r l xs items e n h =
-    let quiet : list_all (is_quiet p) (Item.GiveExit r ∷ Item.Remove r ∷ []) ≡ true = grind (arith, nat_tests) in
-    holds-append p l xs (Item.GiveExit r ∷ Item.Remove r ∷ items) n (holds-append p l (Item.GiveExit r ∷ Item.Remove r ∷ []) items quiet h)
+left-holds p r l xs items e n h = grind (arith, nat_tests, holds-append)
 
 exited-holds : (p q : ℕ) (l : List State) (xs items : List Item) → (p == q) ≡ false → list_all (is_quiet p) xs ≡ true
     → holds p l items ≡ true → holds p l (xs ++ Item.Remove q ∷ items) ≡ true
-exited-holds p q l xs items e n h =
-    let quiet : list_all (is_quiet p) (Item.Remove q ∷ []) ≡ true = grind (arith, nat_tests) in
-    holds-append p l xs (Item.Remove q ∷ items) n (holds-append p l (Item.Remove q ∷ []) items quiet h)
+exited-holds p q l xs items e n h = grind (arith, nat_tests, holds-append)
 
 flip : (p q : ℕ) (b : Bool) → (p == q) ≡ b → (q == p) ≡ b
 flip p q b e = grind (arith, nat_tests)

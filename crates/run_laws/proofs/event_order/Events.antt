@@ -1,24 +1,9 @@
 -- The events given to an application are those accepted for it, in order, in every run.
-use Rattle.std.proofs.Common.{◌≡◌, ℕ, zero, suc, ◌+◌, Bool, true, false, List, [], ◌∷◌, ◌++◌, length, refl, ap, ◌∙◌, sym, subst, arith, append-nil}
-use Rattle.std.specs.Prelude.{map, nat_le, nat_lt}
-use Rattle.std.specs.List.{list_any, range_with_len}
-use Rattle.std.proofs.lemmas.Bool.Decides.{nat_tests}
-use Rattle.mote_types.specs.declared.event.Stimulus.{Stimulus}
-use Rattle.mote_types.specs.declared.entry.Input.{Input}
-use Rattle.mote_types.specs.declared.entry.Note.{Note}
-use Rattle.mote_types.specs.declared.entry.Entry.{Entry}
-use Rattle.mote_types.specs.Applications.{Applications}
-use Rattle.process_core.specs.Agenda.{Queued, Item}
-use Rattle.process_core.specs.Scheduler.{Scheduler, at_boot, in_front, marked}
-use Rattle.process_core.specs.Idle.{is_empty, is_idle}
-use Rattle.process_core.specs.Processes.{is_application}
-use Rattle.kernel_core.specs.declared.config.Config.{Config}
-use Rattle.kernel_core.specs.Machine.{Machine}
-use Rattle.run_laws.specs.EventLaws.{has_ended}
-use Rattle.run_laws.specs.EventLaws.{given_events, accepted_events}
-use Rattle.kernel_core.specs.Inputs.{effect}
+use Rattle.std.proofs.Common.{◌≡◌, ℕ, zero, suc, ◌+◌, Bool, true, false, List, [], ◌∷◌, ◌++◌, length, refl, ap, ◌∙◌, sym, subst, arith, append-nil, map, nat_le, nat_lt}
+use Rattle.run_laws.proofs.Common.{list_any, range_with_len, nat_tests, Stimulus, Input, Note, Entry, Applications, Queued, Item, Scheduler, in_front, marked, is_empty, is_application, Config, Machine, has_ended, given_events, accepted_events, effect, Running, Runs, at_start, with_more_work}
+use Rattle.process_core.specs.Scheduler.{at_boot}
+use Rattle.process_core.specs.Idle.{is_idle}
 use Rattle.run_laws.proofs.Arrivals.{effect-keeps}
-use Rattle.kernel_core.specs.Run.{Running, Runs, at_start, with_more_work}
 use Rattle.run_laws.specs.EventLaws.{InOrderFor, NoLostEventFor}
 use Rattle.run_laws.proofs.event_order.Tally.{nothing_known, accepted_with-none}
 use Rattle.run_laws.proofs.event_order.Shape.{is_ordered, seats, seats-with_mark, is_start, is_covered, waits}

@@ -1,21 +1,9 @@
 -- What every step keeps holds in every run: at each prefix of its transcript, and where the mote rests.
-use Rattle.std.proofs.Common.{◌≡◌, ℕ, zero, suc, ◌+◌, Bool, true, false, ◌||◌, ◌⊎◌, inl, inr, List, [], ◌∷◌, ◌++◌, refl, ap, ◌∙◌, sym, subst, arith, append-nil}
-use Rattle.std.specs.Prelude.{Option, Some, None, option_to_list, if◌then◌else◌, ◌==◌}
-use Rattle.std.specs.List.{list_any}
-use Rattle.mote_types.specs.declared.entry.Input.{Input}
-use Rattle.mote_types.specs.declared.entry.Entry.{Entry}
-use Rattle.mote_types.specs.declared.call.Call.{Call}
+use Rattle.std.proofs.lemmas.Bool.Decides.{nat_tests}
+use Rattle.std.proofs.Common.{◌≡◌, ℕ, zero, suc, ◌+◌, Bool, true, false, ◌||◌, ◌⊎◌, inl, inr, List, [], ◌∷◌, ◌++◌, refl, ap, ◌∙◌, sym, subst, arith, append-nil, Option, Some, None, option_to_list, if◌then◌else◌, ◌==◌}
+use Rattle.run_laws.proofs.Common.{list_any, Input, Entry, Call, Applications, Job, after_front, job, Config, Machine, scheduled, after_call, serve, IsAtRest, effect, fed, Answers, StepMade, Running, Runs, ComesToRest, silent, one_step, job_done, within_limit, is_still, is_at_rest, after_step, after_steps, answers_after, at_start, with_input}
 use Rattle.mote_types.specs.Entries.{is_halt}
-use Rattle.mote_types.specs.Applications.{Applications}
-use Rattle.process_core.specs.Agenda.{Job}
-use Rattle.process_core.specs.Scheduler.{after_front, job}
-use Rattle.kernel_core.specs.declared.config.Config.{Config}
-use Rattle.kernel_core.specs.Machine.{Machine, scheduled, shown_first}
-use Rattle.kernel_core.specs.Calls.{after_call}
-use Rattle.kernel_core.specs.KernelProcesses.{serve}
-use Rattle.run_laws.specs.EventLaws.{IsAtRest}
-use Rattle.kernel_core.specs.Inputs.{effect, fed}
-use Rattle.kernel_core.specs.Run.{Answers, StepMade, Running, Runs, ComesToRest, silent, one_step, job_done, within_limit, is_still, is_at_rest, after_step, after_steps, answers_after, gone_on, at_start, with_input}
+use Rattle.kernel_core.specs.Run.{gone_on}
 use Rattle.run_laws.proofs.event_order.Shape.{is_note}
 use Rattle.run_laws.proofs.Untouched.{serve-untouched}
 
@@ -56,11 +44,9 @@ job_kind answers (Some (Job.ShowEntry entry)) m after live still note = shown en
   where
     shown : (entry : Entry) → is_note entry ≡ true → StepKind m (after, Some entry)
     shown (Entry.Note n) k = record { halts = grind (arith, live, still); inputs = refl }
-    shown (Entry.Turn pid origin stimulus call) k = absurd (grind (arith, k))
-    shown (Entry.Input input) k = absurd (grind (arith, k))
-    shown Entry.Halt k = absurd (grind (arith, k))
-job_kind answers (Some (Job.CallBack q c true)) m after live still note = silent_kind m after live still
+    shown _ k = absurd (grind (arith, k))
 job_kind answers (Some (Job.CallBack q c false)) m after live still note = silent_kind m _ live still
+job_kind answers (Some (Job.CallBack q c true)) m after live still note = silent_kind m after live still
 job_kind answers (Some (Job.Serve q event)) m after live still note =
     silent_kind m (serve q event after) live ((serve-untouched q event after).halted ∙ still)
 job_kind answers (Some (Job.TakeTurn q origin stimulus)) m after live still note =
@@ -217,32 +203,17 @@ module _ (I : Machine → List Entry → Type 0) (P Q : List Entry → Type 0) (
 -- an input at rest
 
 effect-live : (input : Input) (m : Machine) → (effect input m).is_halted ≡ m.is_halted
-effect-live (Input.Tick n) m = refl
-effect-live (Input.Serial bytes) m = refl
-effect-live (Input.Frame bytes) m = grind arith
-
-shown_step : (answers : Answers) (input : Input) (t : Machine) → t.is_halted ≡ false
-    → one_step answers (shown_first (Entry.Input input) t) ≡ (t, Some (Entry.Input input))
-shown_step answers input t live = go t.is_halted live
-  where
-    go : (b : Bool) → b ≡ false → (if b then silent (shown_first (Entry.Input input) t) else (t, Some (Entry.Input input))) ≡ (t, Some (Entry.Input input))
-    go true e = absurd (grind (arith, e))
-    go false e = refl
+effect-live input m = grind (arith, nat_tests)
 
 abbrev after_fed : Running → Input → Running
 after_fed r input = record { machine = effect input (record r.machine { work = 0 }); entries = r.entries ++ Entry.Input input ∷ [] }
 
 fed_first : (says : Applications) (r : Running) (input : Input) → r.machine.is_halted ≡ false → after_step says (with_input input r) ≡ after_fed r input
-fed_first says r input live =
-    let t : Machine = effect input (record r.machine { work = 0 }) in
-    let up : t.is_halted ≡ false = effect-live input (record r.machine { work = 0 }) ∙ live in
-    ap (gone_on r.entries) (shown_step (answers_after says r.entries) input t up)
+fed_first says r input live = grind (arith, nat_tests, effect-live)
 
 -- where an input was just handed in, something is to be done
 fed_awake : (r : Running) (input : Input) → r.machine.is_halted ≡ false → is_still (with_input input r).machine ≡ false
-fed_awake r input live =
-    let up : (effect input (record r.machine { work = 0 })).is_halted ≡ false = effect-live input (record r.machine { work = 0 }) ∙ live in
-    grind (arith, up)
+fed_awake r input live = grind (arith, nat_tests, effect-live)
 
 -- the run
 

@@ -1,14 +1,6 @@
 -- The kernel's own processes leave every process's place and the events for applications as they are.
-use Rattle.std.proofs.Common.{◌≡◌, ℕ, Bool, true, List, [], ◌∷◌, ◌++◌, refl, ◌∙◌, arith, append-nil}
-use Rattle.std.specs.Prelude.{map, ◌==◌, nat_le}
-use Rattle.std.proofs.lemmas.Bool.Decides.{nat_tests}
-use Rattle.mote_types.specs.declared.event.Event.{Event}
-use Rattle.process_core.specs.Agenda.{Queued}
-use Rattle.timer_core.specs.declared.timer.Timer.{Timer}
-use Rattle.kernel_core.specs.Machine.{Machine}
-use Rattle.kernel_core.specs.Expiries.{cancelled_if}
-use Rattle.kernel_core.specs.KernelProcesses.{serve}
-use Rattle.kernel_core.specs.TimerProcesses.{expiry_of}
+use Rattle.std.proofs.Common.{◌≡◌, ℕ, Bool, true, List, [], ◌∷◌, ◌++◌, refl, ◌∙◌, arith, append-nil, map, ◌==◌, nat_le}
+use Rattle.run_laws.proofs.Common.{nat_tests, Event, Queued, Timer, Machine, cancelled_if, serve, expiry_of}
 use Rattle.run_laws.proofs.Changes.{Changes, of_changes, is_notice}
 use Rattle.run_laws.proofs.event_order.Shape.{seats, seats-with_mark, queued, queued_in}
 use Rattle.run_laws.proofs.event_order.Waiting.{queued-append}

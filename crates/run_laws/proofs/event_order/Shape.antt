@@ -1,20 +1,6 @@
 -- In which order items lie on the agenda, and what it holds of one process.
-use Rattle.std.proofs.Common.{◌≡◌, ℕ, Bool, true, false, not, ◌&&◌, ◌||◌, List, [], ◌∷◌, ◌++◌, refl, arith}
-use Rattle.std.specs.Prelude.{Option, Some, None, option_to_list, filter_map, flat_map, map, if◌then◌else◌, ◌==◌}
-use Rattle.std.specs.List.{cons_option, list_any, list_all}
-use Rattle.std.proofs.lemmas.Bool.Decides.{nat_tests}
-use Rattle.mote_types.specs.declared.event.Event.{Event}
-use Rattle.mote_types.specs.declared.event.Origin.{Origin}
-use Rattle.mote_types.specs.declared.entry.Entry.{Entry}
-use Rattle.mote_types.specs.EventNumbers.{EXIT}
-use Rattle.process_core.specs.declared.state.State.{State}
-use Rattle.process_core.specs.Agenda.{Queued, Item}
-use Rattle.process_core.specs.declared.process.Process.{Process}
-use Rattle.process_core.specs.Processes.{is_process, numbers, state_of, with_state, with_mark, without}
-use Rattle.process_core.specs.Scheduler.{Scheduler, of_event, delivery}
-use Rattle.run_laws.specs.OwnTurns.{reply_of}
-use Rattle.run_laws.specs.EventLaws.{is_event_of_code}
-use Rattle.run_laws.specs.EventLaws.{posted_event}
+use Rattle.std.proofs.Common.{◌≡◌, ℕ, Bool, true, false, not, ◌&&◌, ◌||◌, List, [], ◌∷◌, ◌++◌, refl, arith, Option, Some, None, option_to_list, filter_map, flat_map, map, if◌then◌else◌, ◌==◌}
+use Rattle.run_laws.proofs.Common.{list_any, list_all, nat_tests, Event, Origin, Entry, EXIT, State, Queued, Item, Process, is_process, numbers, state_of, with_state, with_mark, without, Scheduler, of_event, delivery, reply_of, is_event_of_code, posted_event}
 use Rattle.run_laws.proofs.event_order.Tally.{Known}
 
 -- the order
@@ -141,13 +127,8 @@ stands p s = is_placed p (seats p s.processes) s.agenda && is_covered p s.agenda
 abbrev pub is_neutral : ℕ → Item → Bool
 is_neutral p item = not (is_start p item) && (not (is_turn_of p item) && (not (is_give_exit p item) && not (is_remove p item)))
 
-pub kept-more : (p : ℕ) (state : State) (item : Item) (items : List Item) → is_kept p state items ≡ true → is_kept p state (item ∷ items) ≡ true
-kept-more p state item items h = grind arith
-
 pub placed-more : (p : ℕ) (l : List State) (item : Item) (items : List Item) → is_placed p l items ≡ true → is_placed p l (item ∷ items) ≡ true
-placed-more p [] item items h = grind arith
-placed-more p (state ∷ []) item items h = kept-more p state item items h
-placed-more p (_ ∷ _ ∷ _) item items h = h
+placed-more p l item items h = grind (arith, nat_tests)
 
 pub placed-append : (p : ℕ) (l : List State) (xs items : List Item) → is_placed p l items ≡ true → is_placed p l (xs ++ items) ≡ true
 placed-append p l [] items h = h
@@ -191,17 +172,9 @@ to_all event = Some (Queued.ToAll event)
 pub waits-broadcast : (p : ℕ) (event : Event) (list : List Process)
     → waits p (delivery (numbers list) (to_all event)) ≡ flat_map (λ _. posted_for event) (seats p list)
 waits-broadcast p event [] = refl
-waits-broadcast p event (x ∷ xs) = go (x.number == p) (waits-broadcast p event xs)
-  where
-    go : (b : Bool) → waits p (delivery (numbers xs) (to_all event)) ≡ flat_map (λ _. posted_for event) (seats p xs)
-        → (if b then posted_for event else []) ++ waits p (delivery (numbers xs) (to_all event))
-        ≡ flat_map (λ _. posted_for event) (cons_option (if b then Some x.state else None) (seats p xs))
-    go true e = rw e refl
-    go false e = e
+waits-broadcast p event (x ∷ xs) = grind (arith, nat_tests, waits-broadcast p event xs)
 
 pub delivery-ordered : (list : List ℕ) (event : Option (Queued Bool)) → list_all is_walk (delivery list event) ≡ true
-delivery-ordered list None = refl
-delivery-ordered list (Some (Queued.To p event)) = refl
-delivery-ordered list (Some (Queued.Expiry p c x)) = refl
 delivery-ordered [] (Some (Queued.ToAll event)) = refl
 delivery-ordered (n ∷ ns) (Some (Queued.ToAll event)) = delivery-ordered ns (Some (Queued.ToAll event))
+delivery-ordered list _ = refl

@@ -1,21 +1,6 @@
 -- One step keeps the invariant, and each entry keeps the order of events.
-use Rattle.std.proofs.Common.{◌≡◌, ℕ, Bool, true, false, List, [], ◌∷◌, ◌++◌, refl, ap, ◌∙◌, sym, arith, append-nil, append_assoc}
-use Rattle.std.specs.Prelude.{nat_le}
-use Rattle.std.proofs.lemmas.Bool.Decides.{nat_tests}
-use Rattle.mote_types.specs.declared.call.Call.{Call}
-use Rattle.mote_types.specs.declared.event.Stimulus.{Stimulus}
-use Rattle.mote_types.specs.declared.event.Origin.{Origin}
-use Rattle.mote_types.specs.declared.event.Event.{Event}
-use Rattle.mote_types.specs.declared.entry.Note.{Note}
-use Rattle.mote_types.specs.declared.entry.Entry.{Entry}
-use Rattle.process_core.specs.Agenda.{Item}
-use Rattle.process_core.specs.Scheduler.{Scheduler, after_item, in_front}
-use Rattle.kernel_core.specs.Machine.{Machine}
-use Rattle.kernel_core.specs.Calls.{after_call}
-use Rattle.kernel_core.specs.KernelProcesses.{serve}
-use Rattle.run_laws.specs.OwnTurns.{reply_of}
-use Rattle.run_laws.specs.EventLaws.{has_ended}
-use Rattle.run_laws.specs.EventLaws.{given_events, accepted_events}
+use Rattle.std.proofs.Common.{◌≡◌, ℕ, Bool, true, false, List, [], ◌∷◌, ◌++◌, refl, ap, ◌∙◌, sym, arith, append-nil, append_assoc, nat_le}
+use Rattle.run_laws.proofs.Common.{nat_tests, Call, Stimulus, Origin, Event, Note, Entry, Item, Scheduler, after_item, in_front, Machine, after_call, serve, reply_of, has_ended, given_events, accepted_events}
 use Rattle.run_laws.proofs.event_order.Tally.{Known, nothing_known, told, accepted_with, accepted_with-none, accepted-turn, accepted-other, own_event, given_in, given-more, ends_in, ended-more, is_turn}
 use Rattle.run_laws.proofs.event_order.Shape.{is_ordered, seats, stands, waiting_in, waits, queued, FrontAgrees}
 use Rattle.run_laws.proofs.event_order.Items.{with_agenda, carried-ordered, carried-stands, is_silent, holds-append}
@@ -55,10 +40,7 @@ order-other p X e n i = λ alive.
     no_given Entry.Halt n = refl
 
 no_given : (p : ℕ) (e : Entry) → is_turn e ≡ false → given_in p e ≡ []
-no_given p (Entry.Turn pid origin stimulus call) n = absurd (grind (arith, n))
-no_given p (Entry.Note note) n = refl
-no_given p (Entry.Input input) n = refl
-no_given p Entry.Halt n = refl
+no_given p e n = grind (arith, nat_tests)
 
 still_alive : (p : ℕ) (X : List Entry) (e : Entry) → has_ended p (X ++ e ∷ []) ≡ false → has_ended p X ≡ false
 still_alive p X e alive = grind (arith, alive, ended-more p X e)

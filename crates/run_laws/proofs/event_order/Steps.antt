@@ -1,21 +1,6 @@
 -- What holds of each kind of step holds of every step.
-use Rattle.std.proofs.Common.{◌≡◌, ℕ, Bool, true, false, List, [], ◌∷◌, ◌++◌, refl, sym, subst, arith, append-nil}
-use Rattle.std.specs.Prelude.{Option, Some, None, if◌then◌else◌, ◌==◌}
-use Rattle.mote_types.specs.declared.call.Call.{Call}
-use Rattle.mote_types.specs.declared.event.Stimulus.{Stimulus}
-use Rattle.mote_types.specs.declared.event.Event.{Event}
-use Rattle.mote_types.specs.declared.event.Origin.{Origin}
-use Rattle.mote_types.specs.declared.entry.Input.{Input}
-use Rattle.mote_types.specs.declared.entry.Note.{Note}
-use Rattle.mote_types.specs.declared.entry.Entry.{Entry}
-use Rattle.process_core.specs.Agenda.{Queued, Item, Job}
-use Rattle.process_core.specs.Processes.{is_kernel_process}
-use Rattle.process_core.specs.Scheduler.{after_item, in_front, after_front, after_front_of, job, job_at, job_of_give, job_of_event, first_event, wants_round}
-use Rattle.kernel_core.specs.Machine.{Machine, scheduled}
-use Rattle.kernel_core.specs.Calls.{after_call}
-use Rattle.kernel_core.specs.KernelProcesses.{serve}
-use Rattle.kernel_core.specs.Run.{Answers, StepMade, silent, one_step, job_done, within_limit, turn_taken, with_more_work}
-use Rattle.kernel_core.specs.Inputs.{effect}
+use Rattle.std.proofs.Common.{◌≡◌, ℕ, Bool, true, false, List, [], ◌∷◌, ◌++◌, refl, sym, subst, arith, append-nil, Option, Some, None, if◌then◌else◌, ◌==◌}
+use Rattle.run_laws.proofs.Common.{Call, Stimulus, Event, Origin, Input, Note, Entry, Queued, Item, Job, is_kernel_process, after_item, in_front, after_front, after_front_of, job, job_at, job_of_give, job_of_event, first_event, wants_round, Machine, scheduled, after_call, serve, Answers, StepMade, silent, one_step, job_done, within_limit, turn_taken, with_more_work, effect}
 use Rattle.run_laws.proofs.event_order.Tally.{is_turn}
 use Rattle.run_laws.proofs.event_order.Shape.{is_note}
 use Rattle.run_laws.proofs.event_order.Items.{with_agenda, facing}
@@ -108,10 +93,8 @@ module _ (I J : Machine → List Entry → Type 0) (P : List Entry → Type 0) (
 
   shown_kept : (X : List Entry) (m : Machine) (entry : Entry) (items : List Item) → P X → is_note entry ≡ true
       → I (facing (Item.Show entry ∷ items) m) X → Kept I P X (facing items m, Some entry)
-  shown_kept X m (Entry.Turn pid origin stimulus call) items i n h = absurd (grind (arith, n))
-  shown_kept X m (Entry.Input input) items i n h = absurd (grind (arith, n))
-  shown_kept X m Entry.Halt items i n h = absurd (grind (arith, n))
   shown_kept X m (Entry.Note note) items i n h = record { holds = λ live. cases.shown m X items note h; shown = cases.noted m X items note h i }
+  shown_kept X m _ items i n h = absurd (grind (arith, n))
 
   at_agenda : (X : List Entry) (agenda : List Item) (m : Machine) → m.scheduler.agenda ≡ agenda → I m X → I (facing agenda m) X
   at_agenda X agenda m e h = subst (λ a. I (facing a m) X) e h

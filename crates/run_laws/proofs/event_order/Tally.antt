@@ -1,22 +1,9 @@
 -- What one more entry adds to what a transcript tells of p.
-use Rattle.std.proofs.Common.{◌≡◌, ℕ, ◌+◌, Bool, true, false, ◌||◌, List, [], ◌∷◌, ◌++◌, refl, ap, ◌∙◌, sym, arith, append-nil, append_assoc}
-use Rattle.std.specs.Prelude.{Option, Some, None, option_to_list, filter_map, slice_get, if◌then◌else◌, ◌==◌}
-use Rattle.std.specs.List.{cons_option, list_any}
-use Rattle.std.specs.Option.{option_and_then}
+use Rattle.std.proofs.Common.{◌≡◌, ℕ, ◌+◌, Bool, true, false, ◌||◌, List, [], ◌∷◌, ◌++◌, refl, ap, ◌∙◌, arith, append-nil, Option, Some, None, option_to_list, filter_map, if◌then◌else◌, ◌==◌}
+use Rattle.run_laws.proofs.Common.{cons_option, list_any, nat_tests, Call, Reply, Stimulus, Event, Origin, Pid, Entry, EXIT, heard, OwnTurn, own_from, own_turn, reply_in, reply_of, is_done, ticks_in, has_ended, is_exit, is_event_of_code, posted_event, given_events, event_for, accepted_events}
 use Rattle.std.proofs.lemmas.List.Elements.{filter_map-append}
-use Rattle.std.proofs.lemmas.Bool.Decides.{nat_tests}
-use Rattle.mote_types.specs.declared.call.Call.{Call}
-use Rattle.mote_types.specs.declared.reply.Reply.{Reply}
-use Rattle.mote_types.specs.declared.event.Stimulus.{Stimulus}
-use Rattle.mote_types.specs.declared.event.Event.{Event}
-use Rattle.mote_types.specs.declared.event.Origin.{Origin}
-use Rattle.mote_types.specs.declared.event.Pid.{Pid}
-use Rattle.mote_types.specs.declared.entry.Entry.{Entry}
-use Rattle.mote_types.specs.EventNumbers.{EXIT}
-use Rattle.kernel_core.specs.Run.{heard, stimulus_of}
-use Rattle.run_laws.specs.OwnTurns.{OwnTurn, own_from, own_turn, reply_in, reply_of, is_done, ticks_in}
-use Rattle.run_laws.specs.EventLaws.{has_ended, is_exit, is_event_of_code}
-use Rattle.run_laws.specs.EventLaws.{posted_event, given_events, event_for, accepted_event, accepted_events}
+use Rattle.kernel_core.specs.Run.{stimulus_of}
+use Rattle.run_laws.specs.EventLaws.{accepted_event}
 
 abbrev pub Known : Type 0
 Known = ℕ → Option Reply
@@ -44,11 +31,7 @@ accepted_with known p (entry ∷ later) = cons_option (accepted_or known p entry
 
 -- with nothing known these are the accepted events
 pub reply_or-none : (p : ℕ) (later : List Entry) → reply_or None (heard p later) ≡ reply_in p later
-reply_or-none p later = go (heard p later)
-  where
-    go : (l : List Stimulus) → reply_or None l ≡ option_and_then reply_of (slice_get l 0)
-    go [] = refl
-    go (stimulus ∷ l) = refl
+reply_or-none p later = grind (arith, nat_tests)
 
 accepted_or-none : (p : ℕ) (entry : Entry) (later : List Entry) → accepted_or nothing_known p entry later ≡ accepted_event p entry later
 accepted_or-none p (Entry.Turn pid origin stimulus call) later = rw (reply_or-none pid.0 later)
@@ -94,12 +77,7 @@ cons_option-nil (Some x) = refl
 pub accepted-turn : (known : Known) (p : ℕ) (X : List Entry) (pid : Pid) (origin : Origin) (stimulus : Stimulus) (call : Call)
     → accepted_with known p (X ++ Entry.Turn pid origin stimulus call ∷ []) ≡ accepted_with (told pid.0 stimulus known) p X ++ own_event known p pid.0 call
 accepted-turn known p [] pid origin stimulus call = cons_option-nil _
-accepted-turn known p (entry ∷ X) pid origin stimulus call =
-    rw (
-      accepted_or-turn known p entry X pid origin stimulus call,
-      accepted-turn known p X pid origin stimulus call,
-      cons_option-append (accepted_or (told pid.0 stimulus known) p entry X) (accepted_with (told pid.0 stimulus known) p X) (own_event known p pid.0 call),
-    )
+accepted-turn known p (entry ∷ X) pid origin stimulus call = grind (arith, nat_tests, accepted_or-turn, cons_option-append, accepted-turn known p X pid origin stimulus call)
 
 -- one more entry that is no turn
 abbrev pub is_turn : Entry → Bool
@@ -121,9 +99,7 @@ accepted_or-other known p _ X e h = refl
 pub accepted-other : (known : Known) (p : ℕ) (X : List Entry) (e : Entry) → is_turn e ≡ false
     → accepted_with known p (X ++ e ∷ []) ≡ accepted_with known p X
 accepted-other known p [] (Entry.Turn pid origin stimulus call) h = absurd (grind (arith, h))
-accepted-other known p [] (Entry.Note n) h = refl
-accepted-other known p [] (Entry.Input n) h = refl
-accepted-other known p [] Entry.Halt h = refl
+accepted-other known p [] _ h = refl
 accepted-other known p (entry ∷ X) e h = rw (accepted_or-other known p entry X e h, accepted-other known p X e h)
 
 -- what was given, and whether p has ended
@@ -143,39 +119,19 @@ ends_turn turn = is_exit turn.call || is_event_of_code EXIT turn.stimulus
 
 given_one : (p k : ℕ) (e : Entry) (later : List Entry) (turns : List OwnTurn)
     → filter_map given_turn (cons_option (own_turn p k e later) turns) ≡ given_in p e ++ filter_map given_turn turns
-given_one p k (Entry.Turn pid origin stimulus call) later turns = go (pid.0 == p) (posted_event origin stimulus) refl
-  where
-    go : (b : Bool) (o : Option Event) → posted_event origin stimulus ≡ o
-        → filter_map given_turn (cons_option (if b then Some (record { clock = k; origin = origin; stimulus = stimulus; call = call; reply = reply_in p later }) else None) turns)
-        ≡ (if b then option_to_list o else []) ++ filter_map given_turn turns
-    go false o e = refl
-    go true None e = rw e refl
-    go true (Some x) e = rw e refl
-given_one p k _ later turns = refl
+given_one p k e later turns = grind (arith, nat_tests)
 
 given-from : (p k : ℕ) (X : List Entry) (e : Entry)
     → filter_map given_turn (own_from p k (X ++ e ∷ [])) ≡ filter_map given_turn (own_from p k X) ++ given_in p e
 given-from p k [] e = given_one p k e [] [] ∙ append-nil (given_in p e)
-given-from p k (entry ∷ X) e =
-    rw (
-      given_one p k entry (X ++ e ∷ []) (own_from p (k + ticks_in entry) (X ++ e ∷ [])),
-      given_one p k entry X (own_from p (k + ticks_in entry) X),
-      given-from p (k + ticks_in entry) X e,
-    ) (sym (append_assoc (given_in p entry) (filter_map given_turn (own_from p (k + ticks_in entry) X)) (given_in p e)))
+given-from p k (entry ∷ X) e = grind (arith, nat_tests, given_one, given-from p (k + ticks_in entry) X e)
 
 pub given-more : (p : ℕ) (X : List Entry) (e : Entry) → given_events (X ++ e ∷ []) p ≡ given_events X p ++ given_in p e
 given-more p X e = given-from p 0 X e
 
 ends_one : (p k : ℕ) (e : Entry) (later : List Entry) (turns : List OwnTurn)
     → list_any ends_turn (cons_option (own_turn p k e later) turns) ≡ (ends_in p e || list_any ends_turn turns)
-ends_one p k (Entry.Turn pid origin stimulus call) later turns = go (pid.0 == p)
-  where
-    go : (b : Bool)
-        → list_any ends_turn (cons_option (if b then Some (record { clock = k; origin = origin; stimulus = stimulus; call = call; reply = reply_in p later }) else None) turns)
-        ≡ ((if b then is_exit call || is_event_of_code EXIT stimulus else false) || list_any ends_turn turns)
-    go false = refl
-    go true = refl
-ends_one p k _ later turns = refl
+ends_one p k e later turns = grind (arith, nat_tests)
 
 or-assoc : (a b c : Bool) → (a || (b || c)) ≡ ((a || b) || c)
 or-assoc true b c = refl
@@ -188,12 +144,7 @@ or-false false = refl
 ended-from : (p k : ℕ) (X : List Entry) (e : Entry)
     → list_any ends_turn (own_from p k (X ++ e ∷ [])) ≡ (list_any ends_turn (own_from p k X) || ends_in p e)
 ended-from p k [] e = ends_one p k e [] [] ∙ or-false (ends_in p e)
-ended-from p k (entry ∷ X) e =
-    rw (
-      ends_one p k entry (X ++ e ∷ []) (own_from p (k + ticks_in entry) (X ++ e ∷ [])),
-      ends_one p k entry X (own_from p (k + ticks_in entry) X),
-      ended-from p (k + ticks_in entry) X e,
-    ) (or-assoc (ends_in p entry) (list_any ends_turn (own_from p (k + ticks_in entry) X)) (ends_in p e))
+ended-from p k (entry ∷ X) e = grind (arith, nat_tests, ends_one, or-assoc, ended-from p (k + ticks_in entry) X e)
 
 pub ended-more : (p : ℕ) (X : List Entry) (e : Entry) → has_ended p (X ++ e ∷ []) ≡ (has_ended p X || ends_in p e)
 ended-more p X e = ended-from p 0 X e

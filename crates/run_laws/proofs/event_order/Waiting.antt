@@ -1,18 +1,6 @@
 -- An item that makes no entry loses no event that waits for p, and changes no order.
-use Rattle.std.proofs.Common.{◌≡◌, ℕ, Bool, true, false, not, ◌&&◌, ◌||◌, List, [], ◌∷◌, ◌++◌, refl, ap, ◌∙◌, sym, arith, append-nil, append_assoc}
-use Rattle.std.specs.Prelude.{option_to_list, flat_map, map, drop, slice_get, if◌then◌else◌, ◌==◌, nat_le}
-use Rattle.std.specs.List.{list_any, list_all}
-use Rattle.std.proofs.lemmas.Bool.Decides.{nat_tests}
-use Rattle.mote_types.specs.declared.event.Stimulus.{Stimulus}
-use Rattle.mote_types.specs.declared.event.Event.{Event}
-use Rattle.mote_types.specs.declared.event.Origin.{Origin}
-use Rattle.mote_types.specs.EventNumbers.{EXIT, INIT, POLL}
-use Rattle.mote_types.specs.Codes.{plain_event}
-use Rattle.run_laws.specs.EventLaws.{posted_event}
-use Rattle.process_core.specs.declared.state.State.{State}
-use Rattle.process_core.specs.Agenda.{Queued, Item}
-use Rattle.process_core.specs.Processes.{numbers, with_mark, is_on_list, is_running, is_kernel_process, is_marked, is_any_marked}
-use Rattle.process_core.specs.Scheduler.{Scheduler, of_event, delivery, after_item, first_event, state_in, in_front, put_in_state}
+use Rattle.std.proofs.Common.{◌≡◌, ℕ, Bool, true, false, not, ◌&&◌, ◌||◌, List, [], ◌∷◌, ◌++◌, refl, ap, ◌∙◌, sym, arith, append-nil, append_assoc, flat_map, map, drop, slice_get, if◌then◌else◌, ◌==◌, nat_le}
+use Rattle.run_laws.proofs.Common.{list_any, list_all, nat_tests, Stimulus, Event, Origin, EXIT, INIT, POLL, plain_event, State, Queued, Item, numbers, with_mark, is_on_list, is_running, is_kernel_process, is_marked, is_any_marked, Scheduler, of_event, delivery, after_item, first_event, state_in, in_front, put_in_state}
 use Rattle.run_laws.proofs.event_order.Shape.{is_walk, is_ordered, seats, state_of-seats, first_state, is_placed, is_start, is_turn_of, is_give_exit, is_exit_turn, stands, waiting_in, waits, posted_for, queued_in, queued, waits-broadcast}
 use Rattle.run_laws.proofs.event_order.Items.{with_agenda, is_silent, holds}
 
@@ -31,40 +19,27 @@ walk-free p [] h = refl
 walk-free p (item ∷ items) h = grind (arith, h, walk-free p items)
 
 placed-running : (p : ℕ) (l : List State) (items : List Item) → list_all is_walk items ≡ true → is_placed p l items ≡ true → is_running (first_state l) ≡ true
-placed-running p [] items w h = grind (arith, walk-free p items w)
-placed-running p (state ∷ []) items w h = grind (arith, walk-free p items w)
 placed-running p (_ ∷ _ ∷ _) items w h = absurd (grind (arith, h))
+placed-running p _ items w h = grind (arith, walk-free p items w)
 
 -- a Give of origin event finds p Running
 pub given-running : (p q : ℕ) (stimulus : Stimulus) (items : List Item) (s : Scheduler Bool) → (q == p) ≡ true
     → is_ordered (Item.Give q Origin.Event stimulus ∷ items) ≡ true → stands p (with_agenda (Item.Give q Origin.Event stimulus ∷ items) s) ≡ true
     → is_running (state_in s q) ≡ true
-given-running p q stimulus items s e o h =
-    let all = Item.Give q Origin.Event stimulus ∷ items in
-    let w : list_all is_walk all ≡ true = grind (arith, o) in
-    let k : is_placed p (seats p s.processes) all ≡ true = grind (arith, h) in
-    let r : is_running (first_state (seats p s.processes)) ≡ true = placed-running p (seats p s.processes) all w k in
-    grind (arith, nat_tests, state_of-seats q s.processes)
+given-running p q stimulus items s e o h = grind (arith, nat_tests, placed-running, state_of-seats)
 
 -- a Give that finds nobody carries no event for p
 lost : (p q : ℕ) (origin : Origin) (stimulus : Stimulus) (items : List Item) (s : Scheduler Bool) → nat_le 4 p ≡ true
     → is_ordered (Item.Give q origin stimulus ∷ items) ≡ true → stands p (with_agenda (Item.Give q origin stimulus ∷ items) s) ≡ true
     → (not (is_kernel_process q) && is_running (state_in s q)) ≡ false → waiting_in p (Item.Give q origin stimulus) ≡ []
-lost p q Origin.Event stimulus items s a o h t = go (q == p) refl
-  where
-    go : (same : Bool) → (q == p) ≡ same → (if same then option_to_list (posted_event Origin.Event stimulus) else []) ≡ []
-    go false e = refl
-    go true e = absurd (grind (arith, nat_tests, given-running p q stimulus items s e o h))
-lost p q origin stimulus items s a o h t = grind arith
+lost p q origin stimulus items s a o h t = grind (arith, nat_tests, given-running)
 
 waits-polls : (p : ℕ) (ns : List ℕ) → waits p (map (λ n. Item.PollOne n) ns) ≡ []
 waits-polls p [] = refl
 waits-polls p (n ∷ ns) = waits-polls p ns
 
 one-seat : (p : ℕ) (l : List State) (event : Event) → holds p l (Item.Deliver ∷ []) ≡ true → flat_map (λ _. posted_for event) l ≡ posted_for event
-one-seat p [] event h = absurd (grind (arith, h))
-one-seat p (state ∷ []) event h = append-nil (posted_for event)
-one-seat p (_ ∷ _ ∷ _) event h = absurd (grind (arith, h))
+one-seat p l event h = grind (arith, nat_tests)
 
 delivered : (p : ℕ) (s : Scheduler Bool) (events : List (Queued Bool)) → holds p (seats p s.processes) (Item.Deliver ∷ []) ≡ true
     → waits p (delivery (numbers s.processes) (slice_get events 0)) ++ queued p (drop 1 events) ≡ queued p events
@@ -104,7 +79,6 @@ carried-waiting p (Item.Give q origin stimulus) items s n a o h = go (not (is_ke
     go true t = refl
     go false t = rw (lost p q origin stimulus items s a o h t) refl
 carried-waiting p (Item.GiveExit q) items s n a o h = rw (no_exit p q (of_event (plain_event EXIT))) refl
-carried-waiting p (Item.Remove q) items s n a o h = refl
 carried-waiting p Item.Polls items s n a o h = go (is_any_marked s.processes)
   where
     go : (b : Bool) → all_waiting p (if b then in_front (map (λ n. Item.PollOne n) (numbers s.processes)) (with_agenda items s) else with_agenda items s) ≡ all_waiting p (with_agenda items s)
@@ -118,4 +92,4 @@ carried-waiting p (Item.PollOne q) items s n a o h = go (is_marked q s.processes
 carried-waiting p Item.Deliver [] s n a o h = rw (append-nil (delivery (numbers s.processes) (first_event s))) (delivered p s s.events h)
 carried-waiting p Item.Deliver (item ∷ items) s n a o h = absurd (grind (arith, o))
 carried-waiting p (Item.Turn q origin stimulus) items s n a o h = absurd (grind (arith, n))
-carried-waiting p (Item.Show entry) items s n a o h = refl
+carried-waiting p _ items s n a o h = refl

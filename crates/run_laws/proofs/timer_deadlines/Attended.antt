@@ -1,28 +1,9 @@
 -- While p goes on, an armed timer of p is on the list, or its TIMER event waits or was given.
-use Rattle.std.proofs.Common.{◌≡◌, ℕ, Bool, true, false, ◌&&◌, ◌||◌, List, [], ◌∷◌, ◌++◌, refl, ◌∙◌, arith}
-use Rattle.std.specs.Prelude.{Option, Some, None, option_to_list, fold, if◌then◌else◌, ◌==◌, nat_le}
-use Rattle.std.specs.List.{list_all, list_any}
-use Rattle.std.proofs.lemmas.Bool.Decides.{nat_tests}
-use Rattle.mote_types.specs.declared.call.Call.{Call}
-use Rattle.mote_types.specs.declared.reply.Reply.{Reply}
-use Rattle.mote_types.specs.declared.event.Stimulus.{Stimulus}
-use Rattle.mote_types.specs.declared.event.Event.{Event}
-use Rattle.mote_types.specs.declared.event.Origin.{Origin}
-use Rattle.mote_types.specs.declared.entry.Entry.{Entry}
-use Rattle.process_core.specs.Agenda.{Item}
-use Rattle.process_core.specs.Scheduler.{of_event}
-use Rattle.timer_core.specs.Timers.{zero_cell, is_armed}
-use Rattle.kernel_core.specs.Machine.{Machine}
-use Rattle.kernel_core.specs.Calls.{after_call}
-use Rattle.kernel_core.specs.KernelProcesses.{serve}
-use Rattle.run_laws.specs.OwnTurns.{OwnTurn}
-use Rattle.run_laws.specs.EventLaws.{has_ended}
-use Rattle.run_laws.specs.TimerLaws.{clock_after}
-use Rattle.run_laws.specs.TimerLaws.{Standing, standing_after, standing, is_timer_event, is_arming, is_arming_or_stop}
-use Rattle.kernel_core.specs.Run.{with_more_work}
+use Rattle.std.proofs.Common.{◌≡◌, ℕ, Bool, true, false, ◌&&◌, ◌||◌, List, [], ◌∷◌, ◌++◌, refl, ◌∙◌, arith, Option, None, fold, if◌then◌else◌, ◌==◌, nat_le}
+use Rattle.run_laws.proofs.Common.{list_all, list_any, nat_tests, Call, Reply, Stimulus, Event, Origin, Entry, Item, of_event, zero_cell, is_armed, Machine, after_call, serve, OwnTurn, has_ended, clock_after, Standing, standing_after, standing, is_timer_event, is_arming, is_arming_or_stop, with_more_work}
 use Rattle.run_laws.proofs.event_order.Tally.{is_turn, ended-more, ends_in}
 use Rattle.run_laws.proofs.event_order.Items.{with_agenda, facing}
-use Rattle.run_laws.proofs.timer_deadlines.Ledgers.{Ledger, ledger_after, own_turn_or, turns_or, told_reply, told-front, turns-turn, turns-other, turns-none, fold-append}
+use Rattle.run_laws.proofs.timer_deadlines.Ledgers.{Ledger, ledger_after, turns_or, told_reply, told-front, turns-turn, turns-other, turns-none, fold-append}
 use Rattle.run_laws.proofs.event_order.Sound.{Sound}
 use Rattle.run_laws.proofs.Untouched.{serve-untouched}
 use Rattle.run_laws.proofs.timer_deadlines.Moves.{own_timer, FrontIs, Setting, after-moves}
@@ -46,16 +27,7 @@ standing-none X p t = rw (turns-none p 0 X) refl
 pub standing-turn : (p t clock : ℕ) (k : Option Reply) (X : List Entry) (q : ℕ) (origin : Origin) (stimulus : Stimulus) (call : Call) → clock ≡ clock_after X
     → standing_of p t k (X ++ turn_entry q origin stimulus call ∷ [])
     ≡ standing_then (q == p) t clock stimulus origin call k (standing_of p t (told_reply p q stimulus k) X)
-standing-turn p t clock k X q origin stimulus call e =
-    rw (turns-turn k p 0 X (record { 0 = q }) origin stimulus call, e)
-    (fold-append (standing_after t) fresh_standing (turns_or (told_reply p q stimulus k) p 0 X) (option_to_list (own_turn_or k p (clock_after X) (turn_entry q origin stimulus call) []))
-    ∙ last (q == p) (standing_of p t (told_reply p q stimulus k) X))
-  where
-    last : (b : Bool) (st : Standing)
-        → fold (standing_after t) st (option_to_list (if b then Some (record { clock = clock_after X; origin = origin; stimulus = stimulus; call = call; reply = k }) else None))
-        ≡ standing_then b t (clock_after X) stimulus origin call k st
-    last true st = refl
-    last false st = refl
+standing-turn p t clock k X q origin stimulus call e = grind (arith, nat_tests, turns-turn, fold-append)
 
 pub standing-other : (p t : ℕ) (k : Option Reply) (X : List Entry) (e : Entry) → is_turn e ≡ false → standing_of p t k (X ++ e ∷ []) ≡ standing_of p t k X
 standing-other p t k X e n = rw (turns-other k p 0 X e n) refl
@@ -92,10 +64,7 @@ pub heeded-free : (p t : ℕ) (m : Machine) (X : List Entry) → HeededFree p t 
 heeded-free p t m X h = record { farewell = h.farewell; kept = λ alive spared k front. h.kept alive spared k }
 
 still_expected : (a w v g : Bool) → (w ≡ true → v ≡ true) → (a || (w || g)) ≡ true → (a || (v || g)) ≡ true
-still_expected true w v g more h = refl
-still_expected false true v g more h = rw (more refl) refl
-still_expected false false v true more h = grind arith
-still_expected false false v false more h = absurd (grind (arith, h))
+still_expected a w v g more h = grind (arith, nat_tests)
 
 -- an item
 pub heeded-carried : (p t : ℕ) (X : List Entry) (item : Item) (items : List Item) (m : Machine) → nat_le 4 p ≡ true → is_quiet_item item ≡ true
@@ -125,9 +94,7 @@ heeded-serve p t X q origin event items m old h =
 
 -- a turn
 regroup : (a g w v st : Bool) → (a || (((g || w) || v) || st)) ≡ true → (a || ((g || (w || v)) || st)) ≡ true
-regroup true g w v st h = refl
-regroup false true w v st h = refl
-regroup false false w v st h = h
+regroup a g w v st h = grind (arith, nat_tests)
 
 pub heeded-turn : (p t : ℕ) (X : List Entry) (m : Machine) (items : List Item) (q : ℕ) (origin : Origin) (stimulus : Stimulus) (call : Call) → m.clock ≡ clock_after X → Setting p m.timers
     → Heeded p t (facing (Item.Turn q origin stimulus ∷ items) m) X

@@ -1,27 +1,8 @@
 -- A TIMER event that p waits for isn't lost on its way, and a timer leaves the list for one.
-use Rattle.std.proofs.Common.{◌≡◌, ℕ, Bool, true, false, not, ◌&&◌, ◌||◌, List, [], ◌∷◌, ◌++◌, refl, ◌∙◌, arith}
-use Rattle.std.specs.Prelude.{Some, map, filter, drop, slice_get, if◌then◌else◌, ◌==◌, nat_le}
-use Rattle.std.specs.List.{list_any}
-use Rattle.std.proofs.lemmas.Bool.Decides.{nat_tests}
-use Rattle.mote_types.specs.declared.event.Stimulus.{Stimulus}
-use Rattle.mote_types.specs.declared.event.Event.{Event}
-use Rattle.mote_types.specs.declared.event.Origin.{Origin}
-use Rattle.mote_types.specs.declared.event.Payload.{Payload}
-use Rattle.mote_types.specs.EventNumbers.{EXITED}
-use Rattle.process_core.specs.declared.state.State.{State}
-use Rattle.process_core.specs.Agenda.{Queued, Item}
-use Rattle.process_core.specs.Processes.{numbers, is_running, is_kernel_process}
-use Rattle.process_core.specs.Scheduler.{Scheduler, after_item, delivery, of_event, in_front, state_in, put_in_state}
-use Rattle.timer_core.specs.declared.timer.Timer.{Timer}
-use Rattle.timer_core.specs.Names.{event_timer, is_timer, is_event_timer_of, is_callback_timer_of}
-use Rattle.timer_core.specs.Timers.{is_armed, stop_timer, without_callback_timers}
-use Rattle.kernel_core.specs.Machine.{Machine, with_event, with_timers}
-use Rattle.kernel_core.specs.Expiries.{cancelled_if, expiries_cancelled}
-use Rattle.kernel_core.specs.KernelProcesses.{serve}
-use Rattle.kernel_core.specs.TimerProcesses.{expiry_of, post_expiry, exited_application}
-use Rattle.run_laws.specs.TimerLaws.{is_number, is_timer_event}
+use Rattle.std.proofs.Common.{◌≡◌, ℕ, Bool, true, false, not, ◌&&◌, ◌||◌, List, [], ◌∷◌, ◌++◌, refl, ◌∙◌, arith, Some, map, filter, drop, slice_get, if◌then◌else◌, ◌==◌, nat_le}
+use Rattle.run_laws.proofs.Common.{list_any, nat_tests, Stimulus, Event, Origin, Payload, EXITED, Queued, Item, Scheduler, after_item, delivery, of_event, Timer, event_timer, is_timer, is_event_timer_of, is_callback_timer_of, is_armed, stop_timer, without_callback_timers, Machine, with_event, with_timers, cancelled_if, expiries_cancelled, serve, expiry_of, post_expiry, exited_application, is_number, is_timer_event}
 use Rattle.run_laws.proofs.Changes.{Changes, of_changes}
-use Rattle.run_laws.proofs.event_order.Shape.{is_from_queue, is_ordered, stands, to_all}
+use Rattle.run_laws.proofs.event_order.Shape.{is_from_queue, is_ordered, stands}
 use Rattle.run_laws.proofs.event_order.Items.{with_agenda}
 use Rattle.run_laws.proofs.event_order.Waiting.{given-running}
 use Rattle.run_laws.proofs.timer_deadlines.Timing.{stopped-other, symm}
@@ -55,40 +36,18 @@ any-last test (x ∷ xs) y h = grind (arith, any-last test xs y h)
 
 delivered-expected : (p t : ℕ) (ns : List ℕ) (items : List Item) (events : List (Queued Bool)) → (list_any (gives p t) items || list_any (queues p t) events) ≡ true
     → (list_any (gives p t) (delivery ns (slice_get events 0) ++ items) || list_any (queues p t) (drop 1 events)) ≡ true
-delivered-expected p t ns items [] h = h
-delivered-expected p t ns items (Queued.To q event ∷ events) h = grind (arith, h)
-delivered-expected p t ns items (Queued.ToAll event ∷ events) h = grind (arith, h, any-append (gives p t) (delivery ns (to_all event)) items)
-delivered-expected p t ns items (Queued.Expiry q c x ∷ events) h = grind (arith, h)
+delivered-expected p t ns items events h = grind (arith, nat_tests, any-append)
 
 given-expected : (p t q : ℕ) (origin : Origin) (stimulus : Stimulus) (items : List Item) (s : Scheduler Bool) → nat_le 4 p ≡ true
     → is_ordered (Item.Give q origin stimulus ∷ items) ≡ true → stands p (with_agenda (Item.Give q origin stimulus ∷ items) s) ≡ true
     → is_expected p t (with_agenda (Item.Give q origin stimulus ∷ items) s) ≡ true
     → is_expected p t (after_item (Item.Give q origin stimulus) (with_agenda items s)) ≡ true
-given-expected p t q origin stimulus items s a o k h = go (not (is_kernel_process q) && is_running (state_in s q)) refl
-  where
-    go : (b : Bool) → (not (is_kernel_process q) && is_running (state_in s q)) ≡ b
-        → is_expected p t (if b then in_front (Item.Turn q origin stimulus ∷ []) (put_in_state q State.Called (with_agenda items s)) else with_agenda items s) ≡ true
-    go true e = grind (arith, h)
-    go false e = pick origin o k h
-      where
-        pick : (origin : Origin) → is_ordered (Item.Give q origin stimulus ∷ items) ≡ true → stands p (with_agenda (Item.Give q origin stimulus ∷ items) s) ≡ true
-            → is_expected p t (with_agenda (Item.Give q origin stimulus ∷ items) s) ≡ true → is_expected p t (with_agenda items s) ≡ true
-        pick Origin.Event o k h = own (q == p) refl
-          where
-            own : (same : Bool) → (q == p) ≡ same → is_expected p t (with_agenda items s) ≡ true
-            own true f = absurd (grind (arith, nat_tests, given-running p q stimulus items s f o k))
-            own false f = grind (arith, h, f)
-        pick origin o k h = h
+given-expected p t q origin stimulus items s a o k h = grind (arith, nat_tests, given-running)
 
 pub carried-expected : (p t : ℕ) (item : Item) (items : List Item) (s : Scheduler Bool) → nat_le 4 p ≡ true → is_quiet_item item ≡ true
     → is_ordered (item ∷ items) ≡ true → stands p (with_agenda (item ∷ items) s) ≡ true
     → is_expected p t (with_agenda (item ∷ items) s) ≡ true → is_expected p t (after_item item (with_agenda items s)) ≡ true
-carried-expected p t (Item.Give q origin stimulus) items s a n o k h = given-expected p t q origin stimulus items s a o k h
-carried-expected p t Item.Polls items s a n o k h = grind (arith, h, carried-any (gives p t) Item.Polls items s)
-carried-expected p t Item.Deliver items s a n o k h = delivered-expected p t (numbers s.processes) items s.events h
-carried-expected p t (Item.Turn q origin stimulus) items s a n o k h = absurd (grind (arith, n))
-carried-expected p t (Item.Show entry) items s a n o k h = absurd (grind (arith, n))
-carried-expected p t item items s a n o k h = grind (arith, h)
+carried-expected p t item items s a n o k h = grind (arith, nat_tests, given-expected, carried-any, delivered-expected)
 
 -- a kernel process
 
@@ -116,13 +75,7 @@ expired-held p t g timer m h = go (is_timer (event_timer p t) timer) refl
 
 kept-filter : (test keep : Timer → Bool) (xs : List Timer) → ((x : Timer) → test x ≡ true → keep x ≡ true) → list_any test (filter keep xs) ≡ list_any test xs
 kept-filter test keep [] k = refl
-kept-filter test keep (x ∷ xs) k = go (keep x) (test x) refl refl (kept-filter test keep xs k)
-  where
-    go : (kept passes : Bool) → keep x ≡ kept → test x ≡ passes → list_any test (filter keep xs) ≡ list_any test xs
-        → list_any test (if kept then x ∷ filter keep xs else filter keep xs) ≡ (passes || list_any test xs)
-    go true passes e f h = rw (f, h) refl
-    go false true e f h = absurd (grind (arith, e, k x f))
-    go false false e f h = h
+kept-filter test keep (x ∷ xs) k = grind (arith, nat_tests, kept-filter test keep xs k)
 
 filter-held : (p t : ℕ) (g : Bool) (keep : Timer → Bool) (m : Machine) → ((x : Timer) → is_timer (event_timer p t) x ≡ true → keep x ≡ true) → Held p t g m
     → Held p t g (record m { timers = record m.timers { armed = filter keep m.timers.armed } })

@@ -1,16 +1,6 @@
 -- After each turn an armed timer is on the list, or its TIMER event waits, or one was given.
-use Rattle.std.proofs.Common.{◌≡◌, ℕ, Bool, true, false, ◌&&◌, ◌||◌, refl, arith}
-use Rattle.std.specs.Prelude.{Option, if◌then◌else◌, ◌==◌}
-use Rattle.std.specs.List.{list_any}
-use Rattle.mote_types.specs.declared.call.Call.{Call}
-use Rattle.mote_types.specs.declared.reply.Reply.{Reply}
-use Rattle.mote_types.specs.declared.event.Stimulus.{Stimulus}
-use Rattle.mote_types.specs.declared.event.Origin.{Origin}
-use Rattle.timer_core.specs.Timers.{Timers, is_armed}
-use Rattle.kernel_core.specs.Machine.{Machine}
-use Rattle.kernel_core.specs.Calls.{after_call, is_callback_timer}
-use Rattle.run_laws.specs.OwnTurns.{is_done}
-use Rattle.run_laws.specs.TimerLaws.{Standing, standing_after, arms, stops, is_timer_event}
+use Rattle.std.proofs.Common.{◌≡◌, ℕ, Bool, true, false, ◌&&◌, ◌||◌, refl, arith, Option, if◌then◌else◌, ◌==◌}
+use Rattle.run_laws.proofs.Common.{list_any, Call, Reply, Stimulus, Origin, Timers, is_armed, Machine, after_call, is_callback_timer, is_done, Standing, standing_after, arms, stops, is_timer_event}
 use Rattle.run_laws.proofs.timer_deadlines.Fronts.{after-any}
 use Rattle.run_laws.proofs.timer_deadlines.Moves.{own_timer, Moves}
 use Rattle.run_laws.proofs.timer_deadlines.TimedTurns.{turn_of}

@@ -1,23 +1,8 @@
 -- A turn keeps the balance of timers, and tells of no more TIMER events than are ripe.
-use Rattle.std.proofs.Common.{◌≡◌, ℕ, ◌+◌, ◌≤◌, Bool, true, false, ◌&&◌, List, [], ◌∷◌, ◌++◌, refl, ◌∙◌, sym, arith}
-use Rattle.std.specs.Prelude.{Option, Some, None, option_to_list, fold, if◌then◌else◌, ◌==◌, nat_le, nat_lt}
-use Rattle.std.specs.List.{list_all}
-use Rattle.std.proofs.lemmas.Bool.Decides.{nat_tests}
-use Rattle.mote_types.specs.declared.call.Call.{Call}
-use Rattle.mote_types.specs.declared.reply.Reply.{Reply}
-use Rattle.mote_types.specs.declared.event.Stimulus.{Stimulus}
-use Rattle.mote_types.specs.declared.event.Origin.{Origin}
-use Rattle.mote_types.specs.declared.entry.Entry.{Entry}
-use Rattle.process_core.specs.Agenda.{Item}
-use Rattle.timer_core.specs.Names.{event_timer}
-use Rattle.timer_core.specs.Timers.{Timers, is_armed, deadline}
-use Rattle.kernel_core.specs.Machine.{Machine}
-use Rattle.kernel_core.specs.Calls.{after_call}
-use Rattle.run_laws.specs.OwnTurns.{ticks_in}
-use Rattle.run_laws.specs.TimerLaws.{clock_after}
-use Rattle.kernel_core.specs.Run.{with_more_work}
+use Rattle.std.proofs.Common.{◌≡◌, ℕ, ◌+◌, ◌≤◌, Bool, true, false, ◌&&◌, List, [], ◌∷◌, ◌++◌, refl, ◌∙◌, sym, arith, Option, None, if◌then◌else◌, ◌==◌, nat_le, nat_lt}
+use Rattle.run_laws.proofs.Common.{list_all, nat_tests, Call, Reply, Stimulus, Origin, Entry, Item, event_timer, Timers, is_armed, deadline, Machine, after_call, ticks_in, clock_after, with_more_work}
 use Rattle.run_laws.proofs.event_order.Tally.{is_turn}
-use Rattle.run_laws.proofs.timer_deadlines.Ledgers.{Ledger, one_if, blank, ledger_after, ledger_of, ripe_at, own_turn_or, turns_or, told_reply, told-front, turns-turn, turns-other, fold-append}
+use Rattle.run_laws.proofs.timer_deadlines.Ledgers.{Ledger, one_if, ledger_of, ripe_at, turns_or, told_reply, told-front, turns-turn, turns-other, fold-append}
 use Rattle.run_laws.proofs.event_order.Items.{facing}
 use Rattle.run_laws.proofs.timer_deadlines.Timed.{Balanced, timer_for, in_wait}
 use Rattle.run_laws.proofs.timer_deadlines.TimedItems.{after-count}
@@ -53,28 +38,14 @@ IsTimely p t X = (timer_ledger p t None X).given ≤ ripe_at (clock_after X) (ti
 pub ledger-turn : (p t clock : ℕ) (k : Option Reply) (X : List Entry) (q : ℕ) (origin : Origin) (stimulus : Stimulus) (call : Call) → clock ≡ clock_after X
     → timer_ledger p t k (X ++ Entry.Turn (record { 0 = q }) origin stimulus call ∷ [])
     ≡ ledger_then (q == p) t clock stimulus origin call k (timer_ledger p t (told_reply p q stimulus k) X)
-ledger-turn p t clock k X q origin stimulus call e =
-    rw (turns-turn k p 0 X (record { 0 = q }) origin stimulus call, e)
-    (fold-append (ledger_after t) blank (turns_or (told_reply p q stimulus k) p 0 X) (option_to_list (own_turn_or k p (clock_after X) (Entry.Turn (record { 0 = q }) origin stimulus call) []))
-    ∙ last (q == p) (timer_ledger p t (told_reply p q stimulus k) X))
-  where
-    last : (b : Bool) (ledger : Ledger)
-        → fold (ledger_after t) ledger (option_to_list (if b then Some (record { clock = clock_after X; origin = origin; stimulus = stimulus; call = call; reply = k }) else None))
-        ≡ ledger_then b t (clock_after X) stimulus origin call k ledger
-    last true ledger = refl
-    last false ledger = refl
+ledger-turn p t clock k X q origin stimulus call e = grind (arith, nat_tests, turns-turn, fold-append)
 
 pub ledger-other : (p t : ℕ) (k : Option Reply) (X : List Entry) (e : Entry) → is_turn e ≡ false → timer_ledger p t k (X ++ e ∷ []) ≡ timer_ledger p t k X
 ledger-other p t k X e n = rw (turns-other k p 0 X e n) refl
 
 -- what is ripe stays ripe
 pub ripe-later : (n clock : ℕ) (ledger : Ledger) → ripe_at clock ledger ≤ ripe_at (clock + n) ledger
-ripe-later n clock ledger = go ledger.is_set (nat_le (deadline ledger.cell) clock) refl
-  where
-    go : (set due : Bool) → nat_le (deadline ledger.cell) clock ≡ due → ledger.after_items + one_if (set && due) ≤ ledger.after_items + one_if (set && nat_le (deadline ledger.cell) (clock + n))
-    go false due e = omega arith
-    go true false e = omega arith
-    go true true e = let later : nat_le (deadline ledger.cell) (clock + n) ≡ true = grind (arith, nat_tests, e) in rw later (omega arith)
+ripe-later n clock ledger = grind (arith, nat_tests)
 
 pub timely-other : (p t : ℕ) (X : List Entry) (e : Entry) → is_turn e ≡ false → IsTimely p t X → IsTimely p t (X ++ e ∷ [])
 timely-other p t X e n h =
@@ -82,11 +53,7 @@ timely-other p t X e n h =
 
 -- what was given is no more than what is ripe
 early_of : (p t w clock : ℕ) (timers : Timers) (ledger : Ledger) → Balanced p t timers clock w ledger → ledger.given ≤ ripe_at clock ledger
-early_of p t w clock timers ledger b = go (is_armed (event_timer p t) timers) b.count
-  where
-    go : (on : Bool) → w + ledger.given ≤ ledger.after_items + (if on then 0 else one_if (ledger.is_set && nat_le (deadline ledger.cell) clock)) → ledger.given ≤ ripe_at clock ledger
-    go true h = omega (arith, h)
-    go false h = omega (arith, h)
+early_of p t w clock timers ledger b = grind (arith, nat_tests)
 
 pub less-balanced : (p t clock v w : ℕ) (timers : Timers) (ledger : Ledger) → v ≤ w → Balanced p t timers clock w ledger → Balanced p t timers clock v ledger
 less-balanced p t clock v w timers ledger less b = record { cell = b.cell; named = b.named; set = b.set; count = omega (arith, less, b.count) }

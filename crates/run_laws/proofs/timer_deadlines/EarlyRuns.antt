@@ -1,27 +1,7 @@
 -- No TIMER event comes early or twice.
-use Rattle.std.proofs.Common.{◌≡◌, ℕ, true, List, [], ◌∷◌, ◌++◌, length, refl, subst, arith}
-use Rattle.std.specs.Prelude.{Option, Some, None, map, nat_le, nat_lt}
-use Rattle.std.specs.List.{range_with_len}
-use Rattle.std.proofs.lemmas.Bool.Decides.{nat_tests}
-use Rattle.mote_types.specs.declared.reply.Reply.{Reply}
-use Rattle.mote_types.specs.declared.refusal.Refusal.{Refusal}
-use Rattle.mote_types.specs.declared.event.Stimulus.{Stimulus}
-use Rattle.mote_types.specs.declared.event.Event.{Event}
-use Rattle.mote_types.specs.declared.event.Origin.{Origin}
-use Rattle.mote_types.specs.declared.entry.Input.{Input}
-use Rattle.mote_types.specs.declared.entry.Note.{Note}
-use Rattle.mote_types.specs.declared.entry.Entry.{Entry}
-use Rattle.mote_types.specs.Applications.{Applications}
-use Rattle.process_core.specs.Agenda.{Item}
-use Rattle.process_core.specs.Scheduler.{in_front}
-use Rattle.timer_core.specs.Names.{event_timer, all_timers}
-use Rattle.device_core.specs.PacketQueue.{free_slot}
-use Rattle.kernel_core.specs.declared.config.Config.{Config}
-use Rattle.kernel_core.specs.Machine.{Machine, scheduled, is_bootable}
-use Rattle.kernel_core.specs.KernelProcesses.{serve}
+use Rattle.std.proofs.Common.{◌≡◌, ℕ, true, List, [], ◌∷◌, ◌++◌, length, refl, subst, arith, Option, Some, None, map, nat_le, nat_lt}
+use Rattle.run_laws.proofs.Common.{range_with_len, nat_tests, Reply, Refusal, Stimulus, Event, Origin, Input, Note, Entry, Applications, Item, in_front, event_timer, all_timers, free_slot, Config, Machine, scheduled, is_bootable, serve, effect, frame_held, frame_refusal, held_unless_lost, Running, Runs, at_start, with_more_work, is_application}
 use Rattle.run_laws.specs.TimerLaws.{NoEarlyTimerFor}
-use Rattle.kernel_core.specs.Inputs.{effect, frame_held, frame_refusal, held_unless_lost}
-use Rattle.kernel_core.specs.Run.{Running, Runs, at_start, with_more_work}
 use Rattle.run_laws.proofs.timer_deadlines.Ledgers.{timer_events-ledger, ripe_armings-ledger}
 use Rattle.run_laws.proofs.event_order.Items.{facing}
 use Rattle.run_laws.proofs.timer_deadlines.Timing.{zero-cells, zero-names}
@@ -31,7 +11,6 @@ use Rattle.run_laws.proofs.timer_deadlines.Moves.{FrontIs}
 use Rattle.run_laws.proofs.timer_deadlines.Fronts.{all-mapped}
 use Rattle.run_laws.proofs.timer_deadlines.Regular.{is_regular}
 use Rattle.run_laws.proofs.timer_deadlines.Steady.{Steady, steady-carried, steady-front, steady-serve, steady-shown, steady-input}
-use Rattle.process_core.specs.Processes.{is_application}
 use Rattle.run_laws.proofs.event_order.Runs.{at_prefixes}
 use Rattle.run_laws.proofs.event_order.Steps.{Cases, law_of, is_quiet_item, carried, kernel_carried}
 use Rattle.run_laws.proofs.timer_deadlines.Early.{timer_ledger, Balances, Timely, Free, timely-free, IsTimely, ledger-other, timely-other, less-balanced, later-balanced, turn_timely, turn_early}

@@ -1,28 +1,7 @@
 -- Nobody is told that p ended while p goes on.
-use Rattle.std.proofs.Common.{◌≡◌, ℕ, Bool, true, false, not, ◌&&◌, ◌||◌, List, [], ◌∷◌, ◌++◌, refl, ◌∙◌, arith, append_assoc}
-use Rattle.std.specs.Prelude.{Option, Some, None, map, slice_get, if◌then◌else◌, ◌==◌}
-use Rattle.std.specs.List.{list_all, list_any}
-use Rattle.std.proofs.lemmas.Bool.Decides.{nat_tests}
-use Rattle.mote_types.specs.declared.call.Call.{Call}
-use Rattle.mote_types.specs.declared.reply.Reply.{Reply}
-use Rattle.mote_types.specs.declared.refusal.Refusal.{Refusal}
-use Rattle.mote_types.specs.declared.event.Stimulus.{Stimulus}
-use Rattle.mote_types.specs.declared.event.Event.{Event}
-use Rattle.mote_types.specs.declared.event.Origin.{Origin}
-use Rattle.mote_types.specs.EventNumbers.{INIT, POLL, EXITED}
-use Rattle.mote_types.specs.Codes.{plain_event, number_event}
-use Rattle.process_core.specs.declared.state.State.{State}
-use Rattle.process_core.specs.Agenda.{Queued, Item}
-use Rattle.process_core.specs.Processes.{numbers, without, is_ending}
-use Rattle.process_core.specs.Requests.{farewells, killed_by, kill_refusal, synch_refusal, given_in_turn}
-use Rattle.process_core.specs.Scheduler.{Scheduler, after_item, delivery, first_event, of_event, in_front, state_in, put_in_state}
-use Rattle.timer_core.specs.declared.timer.Timer.{Timer}
-use Rattle.kernel_core.specs.Machine.{Machine, scheduled}
-use Rattle.kernel_core.specs.Calls.{after_call, unless_refused, event_of, is_callback_timer}
-use Rattle.kernel_core.specs.Expiries.{cancelled_if}
-use Rattle.kernel_core.specs.KernelProcesses.{serve}
-use Rattle.kernel_core.specs.TimerProcesses.{expiry_of}
-use Rattle.run_laws.specs.TimerLaws.{is_number}
+use Rattle.std.proofs.Common.{◌≡◌, ℕ, Bool, true, false, not, ◌&&◌, ◌||◌, List, [], ◌∷◌, ◌++◌, refl, ◌∙◌, arith, append_assoc, Option, Some, None, map, slice_get, if◌then◌else◌, ◌==◌}
+use Rattle.run_laws.proofs.Common.{list_all, list_any, nat_tests, Call, Reply, Refusal, Stimulus, Event, Origin, INIT, POLL, EXITED, plain_event, number_event, State, Queued, Item, numbers, without, is_ending, farewells, killed_by, kill_refusal, Scheduler, after_item, delivery, first_event, of_event, in_front, state_in, put_in_state, Timer, Machine, scheduled, after_call, unless_refused, event_of, is_callback_timer, cancelled_if, serve, expiry_of, is_number}
+use Rattle.process_core.specs.Requests.{synch_refusal, given_in_turn}
 use Rattle.run_laws.proofs.Changes.{Changes, of_changes, is_notice}
 use Rattle.run_laws.proofs.event_order.Tally.{ends_in}
 use Rattle.run_laws.proofs.event_order.Shape.{is_give_exit, is_exit_turn, to_all}
@@ -107,10 +86,9 @@ no_farewell-broadcast p [] event h = refl
 no_farewell-broadcast p (n ∷ ns) event h = grind (arith, no_farewell-given p n Origin.Event event h, no_farewell-broadcast p ns event h)
 
 no_farewell-delivery : (p : ℕ) (ns : List ℕ) (events : List (Queued Bool)) → list_all is_no_exited events ≡ true → has_farewell p (delivery ns (slice_get events 0)) ≡ false
-no_farewell-delivery p ns [] h = refl
 no_farewell-delivery p ns (Queued.To q event ∷ events) h = grind (arith, no_farewell-given p q Origin.Event event (grind (arith, h)))
 no_farewell-delivery p ns (Queued.ToAll event ∷ events) h = no_farewell-broadcast p ns event (grind (arith, h))
-no_farewell-delivery p ns (Queued.Expiry q c x ∷ events) h = refl
+no_farewell-delivery p ns _ h = refl
 
 -- where p isn't doomed after, it wasn't before
 spared-before : (a b : Bool) → (a ≡ true → b ≡ true) → b ≡ false → a ≡ false
@@ -119,10 +97,7 @@ spared-before false b h n = refl
 
 pub carried-doomed : (p : ℕ) (item : Item) (items : List Item) (s : Scheduler Bool) → is_quiet_item item ≡ true
     → is_doomed p (after_item item (with_agenda items s)).agenda ≡ false → is_doomed p (item ∷ items) ≡ false
-carried-doomed p (Item.GiveExit q) items s n h = grind (arith, nat_tests, h)
-carried-doomed p (Item.Turn q origin stimulus) items s n h = absurd (grind (arith, n))
-carried-doomed p item items s n h =
-    spared-before (is_doomed p items) (is_doomed p (after_item item (with_agenda items s)).agenda) (carried-any (dooms p) item items s) h
+carried-doomed p item items s n h = grind (arith, nat_tests, spared-before, carried-any)
 
 pub carried-farewell : (p : ℕ) (item : Item) (items : List Item) (s : Scheduler Bool) → list_all is_no_exited s.events ≡ true
     → has_farewell p (item ∷ items) ≡ false → has_farewell p (after_item item (with_agenda items s)).agenda ≡ false

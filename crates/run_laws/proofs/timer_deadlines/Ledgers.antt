@@ -1,20 +1,8 @@
 -- Timer t of p by the turns of p, from the first on.
-use Rattle.std.proofs.Common.{◌≡◌, ℕ, ◌+◌, Bool, true, false, ◌&&◌, ◌||◌, List, [], ◌∷◌, ◌++◌, refl, ◌∙◌, sym, arith}
-use Rattle.std.specs.Prelude.{Option, Some, None, option_to_list, fold, find, if◌then◌else◌, ◌==◌, nat_le}
-use Rattle.std.specs.List.{cons_option}
-use Rattle.std.specs.Option.{option_map_or}
-use Rattle.mote_types.specs.declared.call.Call.{Call}
-use Rattle.mote_types.specs.declared.reply.Reply.{Reply}
-use Rattle.mote_types.specs.declared.event.Stimulus.{Stimulus}
-use Rattle.mote_types.specs.declared.event.Origin.{Origin}
-use Rattle.mote_types.specs.declared.event.Pid.{Pid}
-use Rattle.mote_types.specs.declared.entry.Entry.{Entry}
-use Rattle.timer_core.specs.declared.timer.Cell.{Cell}
-use Rattle.timer_core.specs.Timers.{zero_cell, deadline}
-use Rattle.kernel_core.specs.Run.{heard}
-use Rattle.run_laws.specs.OwnTurns.{is_done, OwnTurn, own, own_from, own_turn, reply_of, ticks_in}
-use Rattle.run_laws.specs.TimerLaws.{clock_after}
-use Rattle.run_laws.specs.TimerLaws.{arms, stops, cell_after, is_arming, is_arming_or_stop, cell_at, stood_until, ripe_from, ripe_armings, is_timer_event, timer_events}
+use Rattle.std.proofs.lemmas.Bool.Decides.{nat_tests}
+use Rattle.std.proofs.Common.{◌≡◌, ℕ, ◌+◌, Bool, true, false, ◌&&◌, ◌||◌, List, [], ◌∷◌, ◌++◌, refl, ◌∙◌, sym, arith, Option, Some, None, option_to_list, fold, find, if◌then◌else◌, ◌==◌, nat_le}
+use Rattle.run_laws.proofs.Common.{cons_option, option_map_or, Call, Reply, Stimulus, Origin, Pid, Entry, Cell, zero_cell, deadline, heard, is_done, OwnTurn, own, own_from, own_turn, reply_of, ticks_in, clock_after, arms, stops, cell_after, is_arming, is_arming_or_stop, ripe_armings, is_timer_event, timer_events}
+use Rattle.run_laws.specs.TimerLaws.{cell_at, stood_until, ripe_from}
 use Rattle.run_laws.proofs.event_order.Tally.{reply_or, reply_or-none, heard-turn, heard-other, is_turn, cons_option-append, cons_option-nil}
 
 -- the turns of p, where the reply to the last one is k unless the entries show it
@@ -49,9 +37,7 @@ told-front p q stimulus k same = rw same refl
 
 reply-told : (k : Option Reply) (b : Bool) (stimulus : Stimulus) (l : List Stimulus)
     → reply_or k (l ++ option_to_list (if b then Some stimulus else None)) ≡ reply_or (if b then reply_of stimulus else k) l
-reply-told k true stimulus [] = refl
-reply-told k false stimulus [] = refl
-reply-told k b stimulus (first ∷ l) = refl
+reply-told k b stimulus l = grind (arith, nat_tests)
 
 turn-more : (k : Option Reply) (p clock : ℕ) (entry : Entry) (X : List Entry) (pid : Pid) (origin : Origin) (stimulus : Stimulus) (call : Call)
     → own_turn_or k p clock entry (X ++ Entry.Turn pid origin stimulus call ∷ []) ≡ own_turn_or (told_reply p pid.0 stimulus k) p clock entry X
@@ -63,14 +49,7 @@ pub turns-turn : (k : Option Reply) (p clock : ℕ) (X : List Entry) (pid : Pid)
     → turns_or k p clock (X ++ Entry.Turn pid origin stimulus call ∷ [])
     ≡ turns_or (told_reply p pid.0 stimulus k) p clock X ++ option_to_list (own_turn_or k p (clock_from clock X) (Entry.Turn pid origin stimulus call) [])
 turns-turn k p clock [] pid origin stimulus call = cons_option-nil _
-turns-turn k p clock (entry ∷ X) pid origin stimulus call =
-    let e : Entry = Entry.Turn pid origin stimulus call in
-    let k' : Option Reply = told_reply p pid.0 stimulus k in
-    rw (
-      turn-more k p clock entry X pid origin stimulus call,
-      turns-turn k p (clock + ticks_in entry) X pid origin stimulus call,
-      cons_option-append (own_turn_or k' p clock entry X) (turns_or k' p (clock + ticks_in entry) X) (option_to_list (own_turn_or k p (clock_from clock (entry ∷ X)) e [])),
-    )
+turns-turn k p clock (entry ∷ X) pid origin stimulus call = grind (arith, nat_tests, turn-more, cons_option-append, turns-turn k p (clock + ticks_in entry) X pid origin stimulus call)
 
 turn-other : (k : Option Reply) (p clock : ℕ) (entry : Entry) (X : List Entry) (e : Entry) → is_turn e ≡ false
     → own_turn_or k p clock entry (X ++ e ∷ []) ≡ own_turn_or k p clock entry X
@@ -79,9 +58,7 @@ turn-other k p clock _ X e h = refl
 
 pub turns-other : (k : Option Reply) (p clock : ℕ) (X : List Entry) (e : Entry) → is_turn e ≡ false → turns_or k p clock (X ++ e ∷ []) ≡ turns_or k p clock X
 turns-other k p clock [] (Entry.Turn pid origin stimulus call) h = absurd (grind (arith, h))
-turns-other k p clock [] (Entry.Note n) h = refl
-turns-other k p clock [] (Entry.Input n) h = refl
-turns-other k p clock [] Entry.Halt h = refl
+turns-other k p clock [] _ h = refl
 turns-other k p clock (entry ∷ X) e h = rw (turn-other k p clock entry X e h, turns-other k p (clock + ticks_in entry) X e h)
 
 pub fold-append : {A B : Type 0} (f : B → A → B) (b : B) (xs ys : List A) → fold f b (xs ++ ys) ≡ fold f (fold f b xs) ys
@@ -151,20 +128,10 @@ pub ripe-ledger : (t clock : ℕ) (ledger : Ledger) (turns : List OwnTurn)
     → ripe_at clock (fold (ledger_after t) ledger turns)
     ≡ ledger.after_items + (one_if (ledger.is_set && nat_le (deadline ledger.cell) (stood_until t clock turns)) + ripe_from t clock ledger.cell turns)
 ripe-ledger t clock ledger [] = omega arith
-ripe-ledger t clock ledger (turn ∷ later) =
-    ripe-ledger t clock (ledger_after t ledger turn) later ∙ ripe-step t clock ledger turn later
+ripe-ledger t clock ledger (turn ∷ later) = grind (arith, nat_tests, ripe-step, ripe-ledger t clock (ledger_after t ledger turn) later)
 
 given_after : (t : ℕ) (ledger : Ledger) (turn : OwnTurn) → (ledger_after t ledger turn).given ≡ ledger.given + one_if (is_timer_event t turn.stimulus)
-given_after t ledger turn = go (is_arming_or_stop t turn)
-  where
-    go : (b : Bool) → (if b then record {
-      cell = cell_at t turn ledger.cell;
-      is_set = is_arming t turn;
-      after_items = ledger.after_items + one_if (ledger.is_set && nat_le (deadline ledger.cell) turn.clock);
-      given = ledger.given + one_if (is_timer_event t turn.stimulus);
-    } else record ledger { given = ledger.given + one_if (is_timer_event t turn.stimulus) }).given ≡ ledger.given + one_if (is_timer_event t turn.stimulus)
-    go true = refl
-    go false = refl
+given_after t ledger turn = grind (arith, nat_tests)
 
 given-fold : (t : ℕ) (ledger : Ledger) (turns : List OwnTurn)
     → (fold (ledger_after t) ledger turns).given ≡ fold (λ n turn. n + one_if (is_timer_event t turn.stimulus)) ledger.given turns
@@ -176,5 +143,4 @@ pub timer_events-ledger : (X : List Entry) (p t : ℕ) → timer_events X p t �
 timer_events-ledger X p t = rw (turns-none p 0 X) (sym (given-fold t blank (own p X)))
 
 pub ripe_armings-ledger : (X : List Entry) (p t : ℕ) → ripe_armings X p t ≡ ripe_at (clock_after X) (ledger_of t (turns_or None p 0 X))
-ripe_armings-ledger X p t =
-    rw (turns-none p 0 X) (sym (ripe-ledger t (clock_after X) blank (own p X) ∙ omega arith))
+ripe_armings-ledger X p t = grind (arith, nat_tests, turns-none, ripe-ledger)

@@ -1,36 +1,8 @@
 -- No timer is lost.
-use Rattle.std.proofs.Common.{◌≡◌, ℕ, ◌≤◌, Bool, true, false, ◌||◌, List, [], ◌∷◌, ◌++◌, length, refl, ◌∙◌, subst, arith}
-use Rattle.std.specs.Prelude.{Option, Some, None, nat_le, nat_lt}
-use Rattle.std.specs.List.{list_all, list_any, range_with_len}
-use Rattle.std.proofs.lemmas.Bool.Decides.{nat_tests}
-use Rattle.mote_types.specs.declared.refusal.Refusal.{Refusal}
-use Rattle.mote_types.specs.declared.call.Call.{Call}
-use Rattle.mote_types.specs.declared.event.Stimulus.{Stimulus}
-use Rattle.mote_types.specs.declared.event.Event.{Event}
-use Rattle.mote_types.specs.declared.event.Origin.{Origin}
-use Rattle.mote_types.specs.declared.entry.Input.{Input}
-use Rattle.mote_types.specs.declared.entry.Note.{Note}
-use Rattle.mote_types.specs.declared.entry.Entry.{Entry}
-use Rattle.mote_types.specs.Applications.{Applications}
-use Rattle.process_core.specs.Agenda.{Item}
-use Rattle.process_core.specs.Processes.{is_kernel_process}
-use Rattle.process_core.specs.Scheduler.{in_front}
-use Rattle.timer_core.specs.declared.timer.Timer.{Timer}
-use Rattle.timer_core.specs.Names.{is_timer}
-use Rattle.timer_core.specs.Timers.{Timers, is_armed, cell_of, is_due, deadline}
-use Rattle.device_core.specs.PacketQueue.{free_slot}
-use Rattle.kernel_core.specs.declared.config.Config.{Config}
-use Rattle.kernel_core.specs.Machine.{Machine, scheduled, is_bootable}
-use Rattle.kernel_core.specs.Calls.{after_call}
-use Rattle.kernel_core.specs.KernelProcesses.{serve}
-use Rattle.run_laws.specs.EventLaws.{has_ended}
-use Rattle.run_laws.specs.TimerLaws.{clock_after}
-use Rattle.run_laws.specs.TimerLaws.{Standing, standing, NoLostTimerFor}
-use Rattle.kernel_core.specs.Inputs.{effect, frame_held, frame_refusal, held_unless_lost}
-use Rattle.kernel_core.specs.Run.{Running, Runs, is_at_rest, at_start, with_more_work}
-use Rattle.process_core.specs.Processes.{is_application}
+use Rattle.std.proofs.Common.{◌≡◌, ℕ, ◌≤◌, Bool, true, false, ◌||◌, List, [], ◌∷◌, ◌++◌, length, refl, ◌∙◌, subst, arith, Option, Some, None, nat_le, nat_lt}
+use Rattle.run_laws.proofs.Common.{list_all, list_any, range_with_len, nat_tests, Refusal, Call, Stimulus, Event, Origin, Input, Note, Entry, Applications, Item, is_kernel_process, in_front, Timer, is_timer, Timers, is_armed, cell_of, is_due, deadline, free_slot, Config, Machine, scheduled, is_bootable, after_call, serve, has_ended, clock_after, Standing, standing, effect, frame_held, frame_refusal, held_unless_lost, Running, Runs, is_at_rest, at_start, with_more_work, is_application}
+use Rattle.run_laws.specs.TimerLaws.{NoLostTimerFor}
 use Rattle.run_laws.proofs.event_order.Items.{facing}
-use Rattle.run_laws.proofs.timer_deadlines.Ledgers.{blank, turns_or}
 use Rattle.run_laws.proofs.event_order.Sound.{Sound, SoundFree, IsInOrder, sound-free}
 use Rattle.run_laws.proofs.event_order.Events.{SoundOf, SoundFreeOf, sound_cases, boot-sound, nothing_on, nothing_queued}
 use Rattle.run_laws.proofs.timer_deadlines.Fronts.{none-mapped, carried-queue}
@@ -45,7 +17,7 @@ use Rattle.run_laws.proofs.timer_deadlines.Watched.{Watched, is_timer_due, witho
 use Rattle.run_laws.proofs.timer_deadlines.WatchedCalls.{watched-turn, watched-input, watched-boot, rest-not_due}
 use Rattle.run_laws.proofs.timer_deadlines.Farewells.{is_no_exited, is_doomed, is_farewell, after-events, serve-events}
 use Rattle.run_laws.proofs.timer_deadlines.Awaited.{is_expected}
-use Rattle.run_laws.proofs.timer_deadlines.Attended.{Heeded, HeededFree, heeded-free, heeded-carried, heeded-serve, heeded-turn, heeded-other, standing_of, standing-none, fresh_standing, agree-fold}
+use Rattle.run_laws.proofs.timer_deadlines.Attended.{Heeded, HeededFree, heeded-free, heeded-carried, heeded-serve, heeded-turn, heeded-other, standing_of, standing-none, agree-fold}
 
 pub record Attended (p t : ℕ) (m : Machine) (X : List Entry) : Type 0 where
   pub timely : Timely p t m X
@@ -210,8 +182,7 @@ due_listed p t clock timers (x ∷ xs) d h = go (is_timer (own_timer p t) x) ref
 
 -- the standing has the timer's own cell
 standing-cell : (p t : ℕ) (m : Machine) (X : List Entry) → FrontIs p None m.scheduler.agenda → Timely p t m X → nat_le t 7 ≡ true → cell_of (own_timer p t) m.timers ≡ (standing_of p t None X).cell
-standing-cell p t m X front h number =
-    (h.balanced None front).cell number ∙ (agree-fold t blank fresh_standing (turns_or None p 0 X) (record { cell = refl })).cell
+standing-cell p t m X front h number = grind (arith, nat_tests, agree-fold)
 
 abbrev pub IsGivenAtRest : ℕ → ℕ → List Entry → Type 0
 IsGivenAtRest p t X =

@@ -1,20 +1,7 @@
 -- What a call does to a timer: an accepted arming puts it on the list with its new cell, a stop takes it off, and no other call moves it.
-use Rattle.std.proofs.Common.{◌≡◌, ℕ, ◌+◌, Bool, true, false, not, ◌&&◌, ◌||◌, List, ◌∷◌, refl, ◌∙◌, sym, subst, arith}
-use Rattle.std.specs.Prelude.{Option, Some, None, if◌then◌else◌, ◌==◌, nat_le, nat_lt}
-use Rattle.std.proofs.lemmas.Bool.Decides.{nat_tests}
-use Rattle.mote_types.specs.declared.call.Call.{Call}
-use Rattle.mote_types.specs.declared.reply.Reply.{Reply}
-use Rattle.mote_types.specs.declared.refusal.Refusal.{Refusal}
-use Rattle.process_core.specs.Agenda.{Item}
-use Rattle.timer_core.specs.declared.timer.Timer.{Timer}
-use Rattle.timer_core.specs.declared.timer.Cell.{Cell}
-use Rattle.timer_core.specs.Names.{all_timers, event_timer, callback_timer, is_timer}
-use Rattle.timer_core.specs.Timers.{Timers, cell_of, is_armed, armed_with, set_timer, stop_timer, restart_timer, reset_timer, can_reset}
-use Rattle.kernel_core.specs.Machine.{Machine, with_timers, mark}
-use Rattle.kernel_core.specs.Expiries.{expiries_cancelled}
-use Rattle.kernel_core.specs.Calls.{after_call, done, unless_refused, is_callback_timer}
-use Rattle.run_laws.specs.OwnTurns.{reply_of, is_done}
-use Rattle.run_laws.specs.TimerLaws.{arms, stops, cell_after}
+use Rattle.std.proofs.Common.{◌≡◌, ℕ, ◌+◌, Bool, true, false, not, ◌&&◌, ◌||◌, List, ◌∷◌, refl, ◌∙◌, sym, subst, arith, Option, Some, None, if◌then◌else◌, ◌==◌, nat_le, nat_lt}
+use Rattle.run_laws.proofs.Common.{nat_tests, Call, Reply, Refusal, Item, Timer, Cell, all_timers, event_timer, callback_timer, is_timer, Timers, cell_of, is_armed, armed_with, set_timer, stop_timer, restart_timer, reset_timer, Machine, with_timers, mark, expiries_cancelled, after_call, done, unless_refused, is_callback_timer, reply_of, is_done, arms, stops, cell_after}
+use Rattle.timer_core.specs.Timers.{can_reset}
 use Rattle.run_laws.proofs.timer_deadlines.Timing.{cell_names, armed-names, cell-armed_own, cell-armed_other, armed-own, armed-other, stopped-own, stopped-other}
 
 abbrev pub own_timer : ℕ → ℕ → Timer
@@ -43,40 +30,8 @@ after-timers call q m h = grind (arith, h)
 pub after-clock : (call : Call) (q : ℕ) (m : Machine) → (after_call call q m).clock ≡ m.clock
 after-clock call q m = grind arith
 
--- an arming keeps the names, accepted or refused
-arming-names : (b : Bool) (q : ℕ) (timer : Timer) (cell : Cell) (m : Machine) (after : Machine) → after.timers ≡ armed_with timer cell m.timers
-    → cell_names (unless_refused (if b then None else Some Refusal.BadName) q m (done q after)).timers.cells ≡ cell_names m.timers.cells
-arming-names true q timer cell m after e = rw e (armed-names timer cell m.timers)
-arming-names false q timer cell m after e = refl
-
 pub after-names : (call : Call) (q : ℕ) (m : Machine) → cell_names (after_call call q m).timers.cells ≡ cell_names m.timers.cells
-after-names (Call.TimerSet u interval) q m =
-    arming-names (nat_lt u 8) q (event_timer q u) (record { start = m.clock; interval = interval }) m (mark 0 (with_timers (set_timer m.clock (event_timer q u) interval m.timers) m)) refl
-after-names (Call.TimerRestart u) q m =
-    arming-names (nat_lt u 8) q (event_timer q u) (record (cell_of (event_timer q u) m.timers) { start = m.clock }) m
-    (mark 0 (with_timers (restart_timer m.clock (event_timer q u) m.timers) m)) refl
-after-names (Call.TimerReset u) q m = go (nat_lt u 8) (can_reset (event_timer q u) m.timers)
-  where
-    cell : Cell
-    cell = cell_of (event_timer q u) m.timers
-
-    after : Machine
-    after = mark 0 (with_timers (reset_timer (event_timer q u) m.timers) m)
-
-    go : (b can : Bool)
-        → cell_names (unless_refused (if not b then Some Refusal.BadName else if can then None else Some Refusal.Range) q m (done q after)).timers.cells ≡ cell_names m.timers.cells
-    go false can = refl
-    go true false = refl
-    go true true = armed-names (event_timer q u) (record cell { start = cell.start + cell.interval }) m.timers
-after-names (Call.CallbackSet c interval) q m =
-    arming-names (nat_lt c 4) q (callback_timer q c) (record { start = m.clock; interval = interval }) m
-    (mark 0 (expiries_cancelled (is_callback_timer q c) (with_timers (set_timer m.clock (callback_timer q c) interval m.timers) m))) refl
-after-names (Call.TimerStop u) q m = grind arith
-after-names (Call.CallbackStop c) q m = grind arith
-after-names call q m = plain call (grind arith)
-  where
-    plain : (call : Call) → is_timer_call call ≡ false → cell_names (after_call call q m).timers.cells ≡ cell_names m.timers.cells
-    plain call n = rw (after-timers call q m n) refl
+after-names call q m = grind (arith, nat_tests, armed-names, after-timers)
 
 -- p's timers have cells
 pub record Setting (p : ℕ) (timers : Timers) : Type 0 where

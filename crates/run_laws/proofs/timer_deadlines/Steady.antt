@@ -1,26 +1,6 @@
 -- The clock, the names of the cells and the codes in the queue, step by step.
-use Rattle.std.proofs.Common.{◌≡◌, ℕ, ◌+◌, true, List, [], ◌∷◌, ◌++◌, length, refl, ◌∙◌, arith}
-use Rattle.std.specs.Prelude.{Option, Some, None, nat_le}
-use Rattle.std.specs.List.{list_all}
-use Rattle.std.proofs.lemmas.Bool.Decides.{nat_tests}
-use Rattle.mote_types.specs.declared.call.Call.{Call}
-use Rattle.mote_types.specs.declared.refusal.Refusal.{Refusal}
-use Rattle.mote_types.specs.declared.event.Stimulus.{Stimulus}
-use Rattle.mote_types.specs.declared.event.Event.{Event}
-use Rattle.mote_types.specs.declared.event.Origin.{Origin}
-use Rattle.mote_types.specs.declared.entry.Input.{Input}
-use Rattle.mote_types.specs.declared.entry.Note.{Note}
-use Rattle.mote_types.specs.declared.entry.Entry.{Entry}
-use Rattle.process_core.specs.Agenda.{Item}
-use Rattle.process_core.specs.Scheduler.{after_item, in_front}
-use Rattle.device_core.specs.PacketQueue.{free_slot}
-use Rattle.timer_core.specs.Names.{all_timers}
-use Rattle.kernel_core.specs.Machine.{Machine, scheduled}
-use Rattle.kernel_core.specs.Calls.{after_call, is_callback_timer}
-use Rattle.kernel_core.specs.KernelProcesses.{serve}
-use Rattle.run_laws.specs.OwnTurns.{ticks_in}
-use Rattle.run_laws.specs.TimerLaws.{clock_after}
-use Rattle.kernel_core.specs.Inputs.{effect, frame_held, frame_refusal, held_unless_lost}
+use Rattle.std.proofs.Common.{◌≡◌, ℕ, ◌+◌, true, List, [], ◌∷◌, ◌++◌, length, refl, ◌∙◌, arith, Option, Some, None, nat_le}
+use Rattle.run_laws.proofs.Common.{list_all, nat_tests, Call, Refusal, Stimulus, Event, Origin, Input, Note, Entry, Item, after_item, in_front, free_slot, all_timers, Machine, scheduled, after_call, is_callback_timer, serve, ticks_in, clock_after, effect, frame_held, frame_refusal, held_unless_lost}
 use Rattle.run_laws.proofs.timer_deadlines.Ledgers.{fold-append}
 use Rattle.run_laws.proofs.event_order.Items.{with_agenda, facing}
 use Rattle.run_laws.proofs.Untouched.{serve-untouched}

@@ -1,21 +1,6 @@
 -- The TIMER events of timer t of p are no more than the ripe armings.
-use Rattle.std.proofs.Common.{◌≡◌, ℕ, ◌+◌, ◌≤◌, Bool, true, false, not, ◌&&◌, ◌||◌, List, [], ◌∷◌, ◌++◌, refl, ◌∙◌, sym, arith}
-use Rattle.std.specs.Prelude.{Some, find, filter, map, if◌then◌else◌, ◌==◌, nat_le}
-use Rattle.std.specs.List.{list_any, list_all}
-use Rattle.std.proofs.lemmas.Bool.Decides.{nat_tests}
-use Rattle.mote_types.specs.declared.event.Stimulus.{Stimulus}
-use Rattle.mote_types.specs.declared.event.Event.{Event}
-use Rattle.mote_types.specs.EventNumbers.{TIMER}
-use Rattle.process_core.specs.Agenda.{Queued, Item}
-use Rattle.process_core.specs.Scheduler.{of_event}
-use Rattle.timer_core.specs.declared.timer.Timer.{Timer}
-use Rattle.timer_core.specs.Names.{event_timer, is_timer, is_event_timer_of, is_callback_timer_of}
-use Rattle.timer_core.specs.Timers.{Timers, cell_of, is_armed, stop_timer, deadline, is_due, first_due, without_callback_timers}
-use Rattle.kernel_core.specs.Machine.{Machine, with_event, with_timers}
-use Rattle.kernel_core.specs.Expiries.{cancelled_if, expiries_cancelled}
-use Rattle.kernel_core.specs.KernelProcesses.{serve}
-use Rattle.kernel_core.specs.TimerProcesses.{expiry_of, post_expiry}
-use Rattle.run_laws.specs.TimerLaws.{is_timer_event}
+use Rattle.std.proofs.Common.{◌≡◌, ℕ, ◌+◌, ◌≤◌, Bool, true, false, not, ◌&&◌, ◌||◌, List, [], ◌∷◌, ◌++◌, refl, ◌∙◌, sym, arith, Some, find, filter, map, if◌then◌else◌, ◌==◌, nat_le}
+use Rattle.run_laws.proofs.Common.{list_any, list_all, nat_tests, Stimulus, Event, TIMER, Queued, Item, of_event, Timer, event_timer, is_timer, is_event_timer_of, is_callback_timer_of, Timers, cell_of, is_armed, stop_timer, deadline, is_due, first_due, without_callback_timers, Machine, with_event, with_timers, cancelled_if, expiries_cancelled, serve, expiry_of, post_expiry, is_timer_event}
 use Rattle.run_laws.proofs.Changes.{Changes, of_changes, is_notice}
 use Rattle.run_laws.proofs.timer_deadlines.Fronts.{all-more, all-cancelled}
 use Rattle.run_laws.proofs.timer_deadlines.Ledgers.{Ledger, one_if}
@@ -102,21 +87,12 @@ drop_armed p t old new clock waiting ledger was is e f less same b =
 
 pub any-filter : (test keep : Timer → Bool) (xs : List Timer) → list_any test (filter keep xs) ≡ true → list_any test xs ≡ true
 any-filter test keep [] h = h
-any-filter test keep (x ∷ xs) h = go (keep x) h (any-filter test keep xs)
-  where
-    go : (b : Bool) → list_any test (if b then x ∷ filter keep xs else filter keep xs) ≡ true → (list_any test (filter keep xs) ≡ true → list_any test xs ≡ true) → (test x || list_any test xs) ≡ true
-    go true h on = grind (arith, h, on)
-    go false h on = grind (arith, h, on)
+any-filter test keep (x ∷ xs) h = grind (arith, nat_tests, any-filter test keep xs)
 
 -- the first that passes does pass, and is on the list
 pub found : (clock : ℕ) (timers : Timers) (timer : Timer) (xs : List Timer) → find (is_due clock timers) xs ≡ Some timer → is_due clock timers timer ≡ true
 found clock timers timer [] e = cc
-found clock timers timer (x ∷ xs) e = go (is_due clock timers x) refl e (found clock timers timer xs)
-  where
-    go : (b : Bool) → is_due clock timers x ≡ b → (if b then Some x else find (is_due clock timers) xs) ≡ Some timer
-        → (find (is_due clock timers) xs ≡ Some timer → is_due clock timers timer ≡ true) → is_due clock timers timer ≡ true
-    go true d e on = let same : x ≡ timer = cc in rw (sym same) d
-    go false d e on = on e
+found clock timers timer (x ∷ xs) e = grind (arith, nat_tests, found clock timers timer xs)
 
 pub itself : (timer : Timer) → is_timer timer timer ≡ true
 itself (Timer.Event p t) = grind (arith, nat_tests)
@@ -124,12 +100,7 @@ itself (Timer.Callback p t) = grind (arith, nat_tests)
 
 pub listed : (clock : ℕ) (timers : Timers) (timer : Timer) (xs : List Timer) → find (is_due clock timers) xs ≡ Some timer → list_any (is_timer timer) xs ≡ true
 listed clock timers timer [] e = cc
-listed clock timers timer (x ∷ xs) e = go (is_due clock timers x) e (listed clock timers timer xs)
-  where
-    go : (b : Bool) → (if b then Some x else find (is_due clock timers) xs) ≡ Some timer
-        → (find (is_due clock timers) xs ≡ Some timer → list_any (is_timer timer) xs ≡ true) → (is_timer timer x || list_any (is_timer timer) xs) ≡ true
-    go true e on = let same : x ≡ timer = cc in rw (same, itself timer) refl
-    go false e on = grind (arith, on e)
+listed clock timers timer (x ∷ xs) e = grind (arith, nat_tests, itself, listed clock timers timer xs)
 
 pub that_timer : (p t : ℕ) (timer : Timer) → is_timer (event_timer p t) timer ≡ true → timer ≡ event_timer p t
 that_timer p t (Timer.Event q u) h = let a : q.0 ≡ p = grind (arith, nat_tests, h) in let b : u ≡ t = grind (arith, nat_tests, h) in rw (← a, ← b) refl

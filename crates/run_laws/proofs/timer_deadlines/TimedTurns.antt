@@ -1,14 +1,7 @@
 -- A turn keeps the balance of timers.
-use Rattle.std.proofs.Common.{◌≡◌, ℕ, ◌+◌, ◌≤◌, Bool, true, false, ◌&&◌, ◌||◌, refl, ◌∙◌, sym, arith}
-use Rattle.std.specs.Prelude.{Option, if◌then◌else◌, ◌==◌, nat_le}
-use Rattle.mote_types.specs.declared.call.Call.{Call}
-use Rattle.mote_types.specs.declared.reply.Reply.{Reply}
-use Rattle.mote_types.specs.declared.event.Stimulus.{Stimulus}
-use Rattle.mote_types.specs.declared.event.Origin.{Origin}
-use Rattle.timer_core.specs.declared.timer.Cell.{Cell}
-use Rattle.timer_core.specs.Timers.{Timers, cell_of, is_armed, deadline}
-use Rattle.run_laws.specs.OwnTurns.{OwnTurn, is_done}
-use Rattle.run_laws.specs.TimerLaws.{arms, stops, is_arming, is_arming_or_stop, cell_after, is_timer_event}
+use Rattle.std.proofs.lemmas.Bool.Decides.{nat_tests}
+use Rattle.std.proofs.Common.{◌≡◌, ℕ, ◌+◌, ◌≤◌, Bool, true, false, ◌&&◌, ◌||◌, refl, ◌∙◌, sym, arith, Option, if◌then◌else◌, ◌==◌, nat_le}
+use Rattle.run_laws.proofs.Common.{Call, Reply, Stimulus, Origin, Cell, Timers, cell_of, is_armed, deadline, OwnTurn, is_done, arms, stops, is_arming, is_arming_or_stop, cell_after, is_timer_event}
 use Rattle.run_laws.proofs.timer_deadlines.Ledgers.{Ledger, one_if, ledger_after}
 use Rattle.run_laws.proofs.timer_deadlines.Timed.{Balanced, timer_for}
 use Rattle.run_laws.proofs.timer_deadlines.Moves.{own_timer, Moves}
@@ -61,9 +54,7 @@ gift t turn = one_if (is_timer_event t turn.stimulus)
 
 pub ledger-arms : (t : ℕ) (ledger : Ledger) (turn : OwnTurn) → is_arming t turn ≡ true
     → ledger_after t ledger turn ≡ armed_ledger (gift t turn) turn.clock (cell_after t turn.clock turn.call ledger.cell) ledger
-ledger-arms t ledger turn h =
-    let both : is_arming_or_stop t turn ≡ true = grind (arith, h) in
-    rw (both, h) refl
+ledger-arms t ledger turn h = grind (arith, nat_tests)
 
 pub ledger-stops : (t : ℕ) (ledger : Ledger) (turn : OwnTurn) → is_done turn.reply ≡ true → arms t turn.call ≡ false → stops t turn.call ≡ true
     → ledger_after t ledger turn ≡ stopped_ledger (gift t turn) turn.clock ledger

@@ -1,24 +1,16 @@
 -- The machine's timers against the ledger.
-use Rattle.std.proofs.Common.{◌≡◌, ℕ, ◌+◌, ◌-◌, ◌<◌, ◌≤◌, Bool, true, false, not, ◌||◌, List, [], ◌∷◌, ◌++◌, refl, ◌∙◌, sym, arith}
-use Rattle.std.specs.Prelude.{map, filter, flat_map, if◌then◌else◌, ◌==◌, nat_le, nat_lt}
-use Rattle.std.specs.List.{list_any, range_with_len}
+use Rattle.std.proofs.Common.{◌≡◌, ℕ, ◌+◌, ◌-◌, ◌<◌, ◌≤◌, Bool, true, false, not, ◌||◌, List, [], ◌∷◌, ◌++◌, refl, ◌∙◌, arith, map, filter, flat_map, if◌then◌else◌, ◌==◌, nat_le, nat_lt}
+use Rattle.run_laws.proofs.Common.{list_any, range_with_len, nat_tests, Timer, Cell, all_timers, event_timer, callback_timer, is_timer, Timers, zero_cell, cell_of, is_armed, armed_with}
 use Rattle.std.proofs.lemmas.Bool.{eq-eqb, eqb-true}
-use Rattle.std.proofs.lemmas.Bool.Decides.{nat_tests}
 use Rattle.std.proofs.lemmas.List.Folds.{list_any-append, list_any_at}
 use Rattle.std.proofs.lemmas.List.FromFn.{length-range_with_len, get_or-range_with_len}
-use Rattle.timer_core.specs.declared.timer.Timer.{Timer}
-use Rattle.timer_core.specs.declared.timer.Cell.{Cell}
-use Rattle.timer_core.specs.Names.{all_timers, event_timer, callback_timer, is_timer}
-use Rattle.timer_core.specs.Timers.{NamedCell, Timers, zero_cell, cell_under, cell_of, given_cell, with_cell, is_armed, armed_with}
+use Rattle.timer_core.specs.Timers.{NamedCell, cell_under, given_cell, with_cell}
 
 -- names
 
 same_timer : (timer : Timer) → is_timer timer timer ≡ true
 same_timer (Timer.Event p t) = grind (arith, nat_tests)
 same_timer (Timer.Callback p t) = grind (arith, nat_tests)
-
-trans : (a b c : Timer) → is_timer a c ≡ true → is_timer b c ≡ is_timer b a
-trans a b c h = grind (arith, nat_tests, h)
 
 pub symm : (a b : Timer) → is_timer a b ≡ is_timer b a
 symm a b = grind (arith, nat_tests)
@@ -30,11 +22,7 @@ abbrev pub cell_names : List NamedCell → List Timer
 cell_names cells = map (λ named. named.timer) cells
 
 given-name : (timer : Timer) (cell : Cell) (named : NamedCell) → (given_cell timer cell named).timer ≡ named.timer
-given-name timer cell named = go (is_timer timer named.timer)
-  where
-    go : (b : Bool) → (if b then record named { cell = cell } else named).timer ≡ named.timer
-    go true = refl
-    go false = refl
+given-name timer cell named = grind (arith, nat_tests)
 
 with_cell-names : (timer : Timer) (cell : Cell) (cells : List NamedCell) → cell_names (with_cell timer cell cells) ≡ cell_names cells
 with_cell-names timer cell [] = refl
@@ -52,26 +40,14 @@ zero-names (timer ∷ timers) = rw (zero-names timers) refl
 
 pub zero-cells : (timer : Timer) (timers : List Timer) → cell_under timer (map (λ timer. record { timer = timer; cell = zero_cell }) timers) ≡ zero_cell
 zero-cells timer [] = refl
-zero-cells timer (other ∷ others) = go (is_timer timer other) refl (zero-cells timer others)
-  where
-    go : (b : Bool) → is_timer timer other ≡ b → cell_under timer (map (λ timer. record { timer = timer; cell = zero_cell }) others) ≡ zero_cell
-        → cell_under timer (map (λ timer. record { timer = timer; cell = zero_cell }) (other ∷ others)) ≡ zero_cell
-    go true e h = rw e refl
-    go false e h = rw e h
+zero-cells timer (other ∷ others) = grind (arith, nat_tests, zero-cells timer others)
 
 -- after an arming
 
 under-other : (timer other : Timer) (cell : Cell) (cells : List NamedCell) → is_timer timer other ≡ false
     → cell_under timer (with_cell other cell cells) ≡ cell_under timer cells
 under-other timer other cell [] n = refl
-under-other timer other cell (named ∷ cells) n = go (is_timer other named.timer) (is_timer timer named.timer) refl refl (under-other timer other cell cells n)
-  where
-    go : (changed found : Bool) → is_timer other named.timer ≡ changed → is_timer timer named.timer ≡ found
-        → cell_under timer (with_cell other cell cells) ≡ cell_under timer cells
-        → cell_under timer (with_cell other cell (named ∷ cells)) ≡ cell_under timer (named ∷ cells)
-    go true found e f h = let unlike : is_timer timer named.timer ≡ false = rw (trans other timer named.timer e) n in rw (e, unlike) h
-    go false true e f h = rw (e, f) refl
-    go false false e f h = rw (e, f) h
+under-other timer other cell (named ∷ cells) n = grind (arith, nat_tests, under-other timer other cell cells n)
 
 pub cell-armed_other : (timer other : Timer) (cell : Cell) (timers : Timers) → is_timer timer other ≡ false
     → cell_of timer (armed_with other cell timers) ≡ cell_of timer timers
@@ -80,13 +56,7 @@ cell-armed_other timer other cell timers n = under-other timer other cell timers
 under-own : (timer : Timer) (cell : Cell) (cells : List NamedCell) → list_any (is_timer timer) (cell_names cells) ≡ true
     → cell_under timer (with_cell timer cell cells) ≡ cell
 under-own timer cell [] n = absurd (cc)
-under-own timer cell (named ∷ cells) n = go (is_timer timer named.timer) refl n (under-own timer cell cells)
-  where
-    go : (found : Bool) → is_timer timer named.timer ≡ found → (found || list_any (is_timer timer) (cell_names cells)) ≡ true
-        → (list_any (is_timer timer) (cell_names cells) ≡ true → cell_under timer (with_cell timer cell cells) ≡ cell)
-        → cell_under timer (with_cell timer cell (named ∷ cells)) ≡ cell
-    go true e h more = rw (e, e) refl
-    go false e h more = rw (e, e) (more h)
+under-own timer cell (named ∷ cells) n = grind (arith, nat_tests, under-own timer cell cells)
 
 -- every application has its event timers
 
@@ -117,36 +87,17 @@ cell-armed_own p t cell timers l a b c = under-own (event_timer p t) cell timers
 -- the list
 
 pub armed-own : (timer : Timer) (cell : Cell) (timers : Timers) → is_armed timer (armed_with timer cell timers) ≡ true
-armed-own timer cell timers = go (is_armed timer timers) refl
-  where
-    go : (b : Bool) → is_armed timer timers ≡ b → list_any (is_timer timer) (if b then timers.armed else timer ∷ timers.armed) ≡ true
-    go true e = e
-    go false e = rw (same_timer timer) refl
+armed-own timer cell timers = grind (arith, nat_tests, same_timer)
 
 pub armed-other : (timer other : Timer) (cell : Cell) (timers : Timers) → is_timer timer other ≡ false
     → is_armed timer (armed_with other cell timers) ≡ is_armed timer timers
-armed-other timer other cell timers n = go (is_armed other timers)
-  where
-    go : (b : Bool) → list_any (is_timer timer) (if b then timers.armed else other ∷ timers.armed) ≡ list_any (is_timer timer) timers.armed
-    go true = refl
-    go false = rw n refl
+armed-other timer other cell timers n = grind (arith, nat_tests)
 
 pub stopped-own : (timer : Timer) (armed : List Timer) → list_any (is_timer timer) (filter (λ other. not (is_timer timer other)) armed) ≡ false
 stopped-own timer [] = refl
-stopped-own timer (x ∷ xs) = go (is_timer timer x) refl (stopped-own timer xs)
-  where
-    go : (b : Bool) → is_timer timer x ≡ b → list_any (is_timer timer) (filter (λ other. not (is_timer timer other)) xs) ≡ false
-        → list_any (is_timer timer) (if not b then x ∷ filter (λ other. not (is_timer timer other)) xs else filter (λ other. not (is_timer timer other)) xs) ≡ false
-    go true e h = h
-    go false e h = rw (e, h) refl
+stopped-own timer (x ∷ xs) = grind (arith, nat_tests, stopped-own timer xs)
 
 pub stopped-other : (timer other : Timer) (armed : List Timer) → is_timer other timer ≡ false
     → list_any (is_timer timer) (filter (λ x. not (is_timer other x)) armed) ≡ list_any (is_timer timer) armed
 stopped-other timer other [] n = refl
-stopped-other timer other (x ∷ xs) n = go (is_timer other x) refl (stopped-other timer other xs n)
-  where
-    go : (b : Bool) → is_timer other x ≡ b → list_any (is_timer timer) (filter (λ x. not (is_timer other x)) xs) ≡ list_any (is_timer timer) xs
-        → list_any (is_timer timer) (if not b then x ∷ filter (λ x. not (is_timer other x)) xs else filter (λ x. not (is_timer other x)) xs)
-        ≡ (is_timer timer x || list_any (is_timer timer) xs)
-    go true e h = rw h (sym (rw (trans other timer x e, symm timer other, n) refl))
-    go false e h = rw h refl
+stopped-other timer other (x ∷ xs) n = grind (arith, nat_tests, symm, stopped-other timer other xs n)

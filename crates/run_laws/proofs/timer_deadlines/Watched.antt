@@ -1,24 +1,6 @@
 -- While a timer is due, etimer is marked or its POLL is on the agenda.
-use Rattle.std.proofs.Common.{◌≡◌, ℕ, Bool, true, false, not, ◌&&◌, ◌||◌, List, [], ◌∷◌, refl, ◌∙◌, arith}
-use Rattle.std.specs.Prelude.{Some, is_some, find, filter, if◌then◌else◌, ◌==◌}
-use Rattle.std.specs.List.{list_any}
-use Rattle.std.proofs.lemmas.Bool.Decides.{nat_tests}
-use Rattle.mote_types.specs.declared.event.Stimulus.{Stimulus}
-use Rattle.mote_types.specs.declared.event.Event.{Event}
-use Rattle.mote_types.specs.declared.event.Origin.{Origin}
-use Rattle.mote_types.specs.EventNumbers.{POLL}
-use Rattle.process_core.specs.declared.state.State.{State}
-use Rattle.process_core.specs.Agenda.{Item}
-use Rattle.process_core.specs.declared.process.Process.{Process}
-use Rattle.process_core.specs.Processes.{is_process, is_marked, with_state, with_mark, without}
-use Rattle.process_core.specs.Scheduler.{Scheduler, after_item, in_front}
-use Rattle.timer_core.specs.declared.timer.Timer.{Timer}
-use Rattle.timer_core.specs.Names.{is_timer, is_event_timer_of, is_callback_timer_of}
-use Rattle.timer_core.specs.Timers.{Timers, is_due, stop_timer, without_callback_timers}
-use Rattle.kernel_core.specs.Machine.{Machine, scheduled, with_event, with_timers, free_places, mark}
-use Rattle.kernel_core.specs.KernelProcesses.{serve}
-use Rattle.kernel_core.specs.Repeating.{times}
-use Rattle.kernel_core.specs.TimerProcesses.{post_expiry, post_first_due, post_due, is_any_due, forget_callback_timers}
+use Rattle.std.proofs.Common.{◌≡◌, ℕ, Bool, true, false, not, ◌&&◌, ◌||◌, List, [], ◌∷◌, refl, ◌∙◌, arith, Some, is_some, find, filter, if◌then◌else◌, ◌==◌}
+use Rattle.run_laws.proofs.Common.{list_any, nat_tests, Stimulus, Event, Origin, POLL, State, Item, Process, is_process, is_marked, with_state, with_mark, without, Scheduler, after_item, in_front, Timer, is_timer, is_event_timer_of, is_callback_timer_of, Timers, is_due, stop_timer, without_callback_timers, Machine, scheduled, with_event, with_timers, free_places, mark, serve, times, post_expiry, post_first_due, post_due, is_any_due, forget_callback_timers}
 use Rattle.run_laws.proofs.Changes.{Changes, of_changes, with_devices, times-keeps}
 use Rattle.run_laws.proofs.event_order.Items.{with_agenda, facing}
 use Rattle.run_laws.proofs.timer_deadlines.Fronts.{any-append, carried-any}
@@ -90,21 +72,7 @@ carried-home item items s r h = grind (arith, h, home-with_state, home-with_mark
 
 carried-watched : (item : Item) (items : List Item) (s : Scheduler Bool) → is_quiet_item item ≡ true → is_served item ≡ false → is_regular item ≡ true
     → is_watched (with_agenda (item ∷ items) s) ≡ true → is_watched (after_item item (with_agenda items s)) ≡ true
-carried-watched (Item.Start q) items s n k r h = grind (arith, h)
-carried-watched (Item.Give q origin stimulus) items s n k r h =
-    let free : is_etimer_poll (Item.Give q origin stimulus) ≡ false = grind (arith, nat_tests, k) in
-    grind (arith, h, free, marks-with_state)
-carried-watched (Item.GiveExit q) items s n k r h = grind (arith, h, marks-with_state)
-carried-watched (Item.Remove q) items s n k r h = let other : (q == 0) ≡ false = grind (arith, nat_tests, r) in grind (arith, h, marks-without q s.processes other)
-carried-watched Item.Polls items s n k r h = grind (arith, h, carried-any is_etimer_poll Item.Polls items s)
-carried-watched (Item.PollOne q) items s n k r h = go (q == 0) refl
-  where
-    go : (b : Bool) → (q == 0) ≡ b → is_watched (after_item (Item.PollOne q) (with_agenda items s)) ≡ true
-    go true e = grind (arith, nat_tests, h, e)
-    go false e = grind (arith, h, marks-other q false s.processes e)
-carried-watched Item.Deliver items s n k r h = grind (arith, h, carried-any is_etimer_poll Item.Deliver items s)
-carried-watched (Item.Turn q origin stimulus) items s n k r h = absurd (grind (arith, n))
-carried-watched (Item.Show entry) items s n k r h = absurd (grind (arith, n))
+carried-watched item items s n k r h = grind (arith, nat_tests, marks-with_state, marks-without, carried-any, marks-other)
 
 pub watched-carried : (item : Item) (items : List Item) (m : Machine) → is_quiet_item item ≡ true → is_served item ≡ false → is_regular item ≡ true
     → Watched (facing (item ∷ items) m) → Watched (carried item items m)
@@ -122,11 +90,7 @@ first_due-processes m = grind arith
 
 some-find : (test : Timer → Bool) (xs : List Timer) → is_some (find test xs) ≡ list_any test xs
 some-find test [] = refl
-some-find test (x ∷ xs) = go (test x) (some-find test xs)
-  where
-    go : (b : Bool) → is_some (find test xs) ≡ list_any test xs → is_some (if b then Some x else find test xs) ≡ (b || list_any test xs)
-    go true h = refl
-    go false h = h
+some-find test (x ∷ xs) = grind (arith, nat_tests, some-find test xs)
 
 -- after its POLL nothing is due, or etimer is marked again
 watched-due : (m : Machine) → is_home m.scheduler.processes ≡ true → Watched (post_due m)

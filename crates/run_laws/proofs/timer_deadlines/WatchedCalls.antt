@@ -1,31 +1,13 @@
 -- Calls and inputs that make a timer due mark etimer.
-use Rattle.std.proofs.Common.{◌≡◌, ℕ, Bool, true, false, not, ◌||◌, List, [], ◌∷◌, length, refl, ap, ◌∙◌, arith}
-use Rattle.std.specs.Prelude.{Option, Some, None}
-use Rattle.mote_types.specs.declared.call.Call.{Call}
-use Rattle.mote_types.specs.declared.reply.Reply.{Reply}
-use Rattle.mote_types.specs.declared.refusal.Refusal.{Refusal}
-use Rattle.mote_types.specs.declared.event.Stimulus.{Stimulus}
-use Rattle.mote_types.specs.declared.event.Origin.{Origin}
-use Rattle.mote_types.specs.declared.entry.Input.{Input}
-use Rattle.mote_types.specs.declared.entry.Note.{Note}
-use Rattle.mote_types.specs.declared.entry.Entry.{Entry}
-use Rattle.process_core.specs.Agenda.{Item}
-use Rattle.process_core.specs.declared.process.Process.{Process}
-use Rattle.process_core.specs.Processes.{is_marked, is_any_marked}
-use Rattle.timer_core.specs.Names.{event_timer, callback_timer, is_timer}
-use Rattle.timer_core.specs.Timers.{is_due, stop_timer, set_timer, reset_timer, restart_timer}
-use Rattle.device_core.specs.PacketQueue.{free_slot}
-use Rattle.kernel_core.specs.declared.config.Config.{Config}
-use Rattle.kernel_core.specs.Machine.{Machine, with_timers, mark}
-use Rattle.kernel_core.specs.Expiries.{expiries_cancelled}
-use Rattle.kernel_core.specs.Calls.{after_call, unless_refused, done, is_callback_timer, timer_refusal, callback_refusal, reset_refusal}
-use Rattle.kernel_core.specs.Inputs.{effect, frame_held, frame_refusal, held_unless_lost}
-use Rattle.kernel_core.specs.Run.{at_start}
+use Rattle.std.proofs.lemmas.Bool.Decides.{nat_tests}
+use Rattle.std.proofs.Common.{◌≡◌, ℕ, true, false, not, ◌||◌, List, [], ◌∷◌, length, refl, ap, ◌∙◌, arith, Option, Some, None}
+use Rattle.run_laws.proofs.Common.{Call, Reply, Refusal, Stimulus, Origin, Input, Note, Entry, Item, Process, is_marked, is_any_marked, event_timer, callback_timer, is_timer, is_due, stop_timer, set_timer, reset_timer, restart_timer, free_slot, Config, Machine, with_timers, mark, expiries_cancelled, after_call, unless_refused, done, is_callback_timer, effect, frame_held, frame_refusal, held_unless_lost, at_start}
+use Rattle.kernel_core.specs.Calls.{timer_refusal, callback_refusal, reset_refusal}
 use Rattle.run_laws.proofs.event_order.Items.{facing}
 use Rattle.run_laws.proofs.timer_deadlines.Fronts.{after-any}
 use Rattle.run_laws.proofs.timer_deadlines.Timed.{any-filter}
 use Rattle.run_laws.proofs.timer_deadlines.Moves.{is_timer_call, after-timers, after-clock}
-use Rattle.run_laws.proofs.timer_deadlines.Watched.{is_etimer_poll, Watched, is_watched, is_polled, is_home, is_timer_due, alike, marked_too, without_item, watched-front, marks-with_state, marks-with_mark, marks-home, home-with_state, home-with_mark}
+use Rattle.run_laws.proofs.timer_deadlines.Watched.{Watched, is_watched, is_home, is_timer_due, alike, marked_too, without_item, watched-front, marks-with_state, marks-with_mark, marks-home, home-with_state, home-with_mark}
 
 after-marks : (call : Call) (q : ℕ) (m : Machine) → is_marked 0 m.scheduler.processes ≡ true → is_marked 0 (after_call call q m).scheduler.processes ≡ true
 after-marks call q m h = grind (arith, h, marks-with_state, marks-with_mark)
@@ -34,11 +16,7 @@ after-home : (call : Call) (q : ℕ) (m : Machine) → is_home m.scheduler.proce
 after-home call q m h = grind (arith, h, home-with_state, home-with_mark)
 
 after-watched : (call : Call) (q : ℕ) (m : Machine) → is_watched m.scheduler ≡ true → is_watched (after_call call q m).scheduler ≡ true
-after-watched call q m h = go (is_marked 0 m.scheduler.processes) refl h
-  where
-    go : (b : Bool) → is_marked 0 m.scheduler.processes ≡ b → (b || is_polled m.scheduler.agenda) ≡ true → is_watched (after_call call q m).scheduler ≡ true
-    go true e k = rw (after-marks call q m e) refl
-    go false e k = grind (arith, after-any is_etimer_poll call q m k)
+after-watched call q m h = grind (arith, nat_tests, after-marks, after-any)
 
 -- a call that makes no more timers due
 fewer : (call : Call) (q : ℕ) (m : Machine) → Watched m → (is_timer_due m.clock (after_call call q m).timers ≡ true → is_timer_due m.clock m.timers ≡ true) → Watched (after_call call q m)
@@ -129,11 +107,4 @@ unmarked [] h = refl
 unmarked (x ∷ xs) h = grind (arith, h, unmarked xs)
 
 pub rest-not_due : (m : Machine) → m.scheduler.agenda ≡ [] → is_any_marked m.scheduler.processes ≡ false → Watched m → is_timer_due m.clock m.timers ≡ false
-rest-not_due m e r h = go (is_timer_due m.clock m.timers) h.due
-  where
-    calm : is_marked 0 m.scheduler.processes ≡ false
-    calm = unmarked m.scheduler.processes r
-
-    go : (b : Bool) → (b ≡ true → is_watched m.scheduler ≡ true) → b ≡ false
-    go false due = refl
-    go true due = absurd (grind (arith, calm, rw e at (due refl)))
+rest-not_due m e r h = grind (arith, nat_tests, unmarked)

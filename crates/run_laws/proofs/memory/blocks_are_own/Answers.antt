@@ -1,22 +1,17 @@
 use Rattle.run_laws.proofs.memory.blocks_are_own.Goals as goal
 use Rattle.run_laws.proofs.Callers.{every-sent}
-use Rattle.run_laws.proofs.Heap.{heap-reads, heap-live, heap-unused}
-use Rattle.run_laws.proofs.Managed.{managed-reads, managed-live, managed-unused}
+use Rattle.run_laws.proofs.Heap.{heap-keeps}
+use Rattle.run_laws.proofs.HeapStores.{heap_store}
+use Rattle.run_laws.proofs.Managed.{managed-keeps}
+use Rattle.run_laws.proofs.OwnBlocks.{are-own}
+use Rattle.run_laws.proofs.Stores.{managed_store}
 
 pub returns : goal.returns
 returns c = record {
   own = λ config says inputs after runs boots.
       record {
-        managed = record {
-          reads = managed-reads config says inputs after runs;
-          live = managed-live config says inputs after runs;
-          unused = managed-unused config says inputs after runs;
-        };
-        heap = record {
-          reads = heap-reads config says inputs after runs;
-          live = heap-live config says inputs after runs;
-          unused = heap-unused config says inputs after runs;
-        };
+        managed = are-own managed_store managed-keeps config says inputs after runs;
+        heap = are-own heap_store heap-keeps config says inputs after runs;
         sent = every-sent config says inputs after runs boots;
       };
 }

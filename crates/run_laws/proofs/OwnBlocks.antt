@@ -1,0 +1,184 @@
+-- The blocks of a process are what its own calls make of them: through each call, and so in every run.
+use Rattle.std.proofs.Common.{◌≡◌, ℕ, ◌≤◌, Bool, true, false, ◌&&◌, List, [], ◌∷◌, ◌++◌, length, refl, ◌∙◌, sym, ap, arith, subst, subst₂, append-nil, Option, Some, None, ◌==◌, if◌then◌else◌, nat_le, drop, slice_get}
+use Rattle.run_laws.proofs.Common.{list_all, nat_tests, Call, Reply, Refusal, Origin, Stimulus, Input, Entry, Applications, number_of, Frame, front_slot, with_block, Memory, with_managed, ask, Item, is_kernel_process, Config, Machine, booted, after_call, unless_refused, done, front_refusal, front_dropped, Running, Runs, at_start, Blocks, no_blocks, own, is_done, up_to_call}
+use Rattle.std.specs.Option.{option_map}
+use Rattle.std.proofs.lemmas.List.{length-set}
+use Rattle.node_memory.specs.Frames.{frame_dropped}
+use Rattle.node_memory.specs.Parts.{is_memory_call}
+use Rattle.kernel_core.specs.Calls.{asked_of_memory}
+use Rattle.run_laws.specs.BlockHistory.{over_accepted}
+use Rattle.run_laws.specs.RunLaws.{AreOwn}
+use Rattle.run_laws.proofs.Marks.{marks, due}
+use Rattle.run_laws.proofs.KindLaws.{KindLaw, Store, IsChange, EveryCall, accepted, at_first, blocks-told, every-own}
+use Rattle.run_laws.proofs.Stores.{ask-shape}
+use Rattle.run_laws.proofs.Knowledge.{Laws, answered}
+use Rattle.run_laws.proofs.Whole.{run-told, call-law}
+
+-- what memory answers is told next
+
+told_next : (p : ℕ) (reply : Reply) (items : List Item) → due (marks p (Item.Turn p Origin.Answer (Stimulus.Answer reply) ∷ items)) ≡ Some reply
+told_next p reply items = grind (arith, nat_tests)
+
+asks : (call : Call) (p : ℕ) (m : Machine) → is_memory_call call ≡ true → after_call call p m ≡ asked_of_memory call p m
+asks call p m e = grind (arith, nat_tests)
+
+pub told-reply : (call : Call) (p : ℕ) (m : Machine) → is_memory_call call ≡ true → due (marks p (after_call call p m).scheduler.agenda) ≡ Some (ask call p m.memory).1
+told-reply call p m e =
+    ap (λ (x : Machine). due (marks p x.scheduler.agenda)) (asks call p m e) ∙ told_next p (ask call p m.memory).1 m.scheduler.agenda
+
+pub one_reply : (o : Option Reply) (a b : Reply) → o ≡ Some a → o ≡ Some b → a ≡ b
+one_reply o a b e f = cc
+
+-- what a call leaves of memory and frames
+
+abbrev is_packet_done : Call → Bool
+is_packet_done Call.PacketDone = true
+is_packet_done _ = false
+
+memory-stays : (call : Call) (q : ℕ) (m : Machine) → is_memory_call call ≡ false → is_packet_done call ≡ false → (after_call call q m).memory ≡ m.memory
+memory-stays call q m e n = grind (arith, nat_tests)
+
+frames-stay : (call : Call) (q : ℕ) (m : Machine) → is_packet_done call ≡ false → (after_call call q m).packets.frames ≡ m.packets.frames
+frames-stay call q m n = grind (arith, nat_tests)
+
+-- what holds as it is, of what memory answers, and where the front frame is dropped, holds after each call
+module _ (P : Memory → List Frame → Type 0) (q : ℕ) (m : Machine) (same : P m.memory m.packets.frames) (dropped : (slot : ℕ) → front_slot m.packets ≡ Some slot → P (frame_dropped slot m.memory) (drop 1 m.packets.frames)) where
+  by_part : (call : Call) (b : Bool) → is_packet_done call ≡ false → is_memory_call call ≡ b → P (ask call q m.memory).0 m.packets.frames
+      → P (after_call call q m).memory (after_call call q m).packets.frames
+  by_part call true n e asked = subst (λ (x : Machine). P x.memory x.packets.frames) (sym (asks call q m e)) asked
+  by_part call false n e asked = subst₂ P (sym (memory-stays call q m e n)) (sym (frames-stay call q m n)) same
+
+  pub each-call : (call : Call) → P (ask call q m.memory).0 m.packets.frames → P (after_call call q m).memory (after_call call q m).packets.frames
+  each-call Call.PacketDone asked = go (front_refusal q m)
+    where
+      at : (o : Option ℕ) → front_slot m.packets ≡ o → P (front_dropped o m).memory (front_dropped o m).packets.frames
+      at None e = same
+      at (Some slot) e = dropped slot e
+
+      go : (o : Option Refusal) → P (unless_refused o q m (done q (front_dropped (front_slot m.packets) m))).memory (unless_refused o q m (done q (front_dropped (front_slot m.packets) m))).packets.frames
+      go None = at (front_slot m.packets) refl
+      go (Some refusal) = same
+  each-call call asked = by_part call (is_memory_call call) refl refl asked
+
+-- 272 names have places, and frames lie under names of process 3
+
+abbrev are_slots : List Frame → Bool
+are_slots frames = list_all (λ frame. nat_le frame.slot 15) frames
+
+pub record IsSound (m : Memory) (frames : List Frame) : Type 0 where
+  pub size : length m.managed.blocks ≡ 272
+  pub slots : are_slots frames ≡ true
+
+front_low : (frames : List Frame) (slot : ℕ) → are_slots frames ≡ true → option_map (λ (frame : Frame). frame.slot) (slice_get frames 0) ≡ Some slot → nat_le slot 15 ≡ true
+front_low [] slot h e = absurd (cc)
+front_low (frame ∷ frames) slot h e = let same : frame.slot ≡ slot = cc in grind (arith, h, same)
+
+fewer_slots : (frames : List Frame) → are_slots frames ≡ true → are_slots (drop 1 frames) ≡ true
+fewer_slots [] h = refl
+fewer_slots (frame ∷ frames) h = grind (arith, h)
+
+more_slots : (frames : List Frame) (slot len : ℕ) → slot ≤ 15 → are_slots frames ≡ true → are_slots (frames ++ record { slot = slot; len = len } ∷ []) ≡ true
+more_slots [] slot len low h = grind (arith, nat_tests)
+more_slots (frame ∷ frames) slot len low h = grind (arith, nat_tests, h, more_slots frames slot len low)
+
+call-sound : (call : Call) (q : ℕ) (m : Machine) → IsSound m.memory m.packets.frames → IsSound (after_call call q m).memory (after_call call q m).packets.frames
+call-sound call q m h =
+    each-call IsSound q m h
+    (λ slot e. record { size = length-set m.memory.managed.blocks (number_of 3 slot) None ∙ h.size; slots = fewer_slots m.packets.frames h.slots })
+    call (record { size = (ask-shape call q m.memory).size ∙ h.size; slots = h.slots })
+
+-- A kind of memory where each call keeps what it should.
+pub record Keeps (store : Store) : Type 0 where
+  pub law : (call : Call) (p : ℕ) (m : Machine) (reply : Reply)
+      → due (marks p (after_call call p m).scheduler.agenda) ≡ Some reply → KindLaw store.kind (store.blocks p m.memory) call reply
+  pub asked : (call : Call) → store.changes call ≡ true → is_memory_call call ≡ true
+  pub change : (call : Call) (q : ℕ) (m : Memory) → store.changes call ≡ true → IsChange store call q m (ask call q m)
+  -- other calls
+  pub plain : (call : Call) (blocks : Blocks) → store.changes call ≡ false → store.change call blocks ≡ blocks
+  pub rest : (call : Call) (q p : ℕ) (m : Memory) → store.changes call ≡ false → store.blocks p (ask call q m).0 ≡ store.blocks p m
+  -- frames come and go
+  pub framed : (slot p : ℕ) (bytes : Option (List ℕ)) (m : Memory) → nat_le slot 15 ≡ true → is_kernel_process p ≡ false
+      → store.blocks p (with_managed (with_block 3 slot bytes m.managed) m) ≡ store.blocks p m
+  pub boot : (p : ℕ) (c : Config) → store.blocks p (booted c).memory ≡ no_blocks
+  pub told : (p : ℕ) (entries : List Entry) → over_accepted store.change (own p entries) ≡ store.kind.block entries p
+
+module _ (store : Store) where
+  -- The machine has p's blocks as p's turns made them
+  pub record HasBlocks (p : ℕ) (m : Memory) (frames : List Frame) (blocks : Blocks) : Type 0 where
+    pub sound : IsSound m frames
+    pub own : is_kernel_process p ≡ false → store.blocks p m ≡ blocks
+
+module _ (store : Store) (keeps : Keeps store) (p : ℕ) (few : p ≤ 19) where
+  -- a call that changes none of p's blocks: no call for it, or another's
+  left-after : (call : Call) (q : ℕ) (m : Machine) → (store.changes call && q == p) ≡ false → is_kernel_process p ≡ false → IsSound m.memory m.packets.frames
+      → store.blocks p (after_call call q m).memory ≡ store.blocks p m.memory
+  left-after call q m n k sound =
+      each-call (λ x frames. store.blocks p x ≡ store.blocks p m.memory) q m refl
+      (λ slot e. keeps.framed slot p None m.memory (front_low m.packets.frames slot sound.slots e) k)
+      call (go (store.changes call) refl n)
+    where
+      go : (b : Bool) → store.changes call ≡ b → (b && q == p) ≡ false → store.blocks p (ask call q m.memory).0 ≡ store.blocks p m.memory
+      go true e other = (keeps.change call q m.memory e).others p other k
+      go false e other = keeps.rest call q p m.memory e
+
+  plain-answer : (call : Call) (reply : Option Reply) (blocks : Blocks) → store.changes call ≡ false → answered (accepted store.change) (Some call) reply blocks ≡ blocks
+  plain-answer call None blocks e = refl
+  plain-answer call (Some reply) blocks e = go (is_done (Some reply))
+    where
+      go : (b : Bool) → (if b then store.change call blocks else blocks) ≡ blocks
+      go true = keeps.plain call blocks e
+      go false = refl
+
+  own-after : (call : Call) (m : Machine) (b : Bool) (reply : Option Reply) → store.changes call ≡ b → is_kernel_process p ≡ false → IsSound m.memory m.packets.frames
+      → due (marks p (after_call call p m).scheduler.agenda) ≡ reply
+      → store.blocks p (after_call call p m).memory ≡ answered (accepted store.change) (Some call) reply (store.blocks p m.memory)
+  own-after call m true reply e k sound d =
+      let is_asked = keeps.asked call e in
+      let told : Some (ask call p m.memory).1 ≡ reply = sym (told-reply call p m is_asked) ∙ d in
+      subst (λ (r : Option Reply). store.blocks p (after_call call p m).memory ≡ answered (accepted store.change) (Some call) r (store.blocks p m.memory)) told
+      (ap (λ (x : Machine). store.blocks p x.memory) (asks call p m is_asked) ∙ (keeps.change call p m.memory e).own few k sound.size)
+  own-after call m false reply e k sound d = left-after call p m (rw e refl) k sound ∙ sym (plain-answer call reply (store.blocks p m.memory) e)
+
+  call-has : (call : Call) (m : Machine) (blocks : Blocks) (reply : Option Reply) → HasBlocks store p m.memory m.packets.frames blocks
+      → due (marks p (after_call call p m).scheduler.agenda) ≡ reply
+      → HasBlocks store p (after_call call p m).memory (after_call call p m).packets.frames (answered (accepted store.change) (Some call) reply blocks)
+  call-has call m blocks reply has d =
+      record {
+        sound = call-sound call p m has.sound;
+        own = λ k. own-after call m (store.changes call) reply refl k has.sound d ∙ ap (λ (b : Blocks). answered (accepted store.change) (Some call) reply b) (has.own k);
+      }
+
+  pub own-laws : Laws (accepted store.change) (KindLaw store.kind) (HasBlocks store p) p
+  own-laws =
+      record {
+        self = λ call m blocks reply k has rest e.
+            (subst (λ (b : Blocks). KindLaw store.kind b call reply) (has.own k) (keeps.law call p m reply e), call-has call m blocks (Some reply) has e);
+        silent = λ call m blocks k has e. call-has call m blocks None has e;
+        other = λ call q m blocks n has.
+            record { sound = call-sound call q m has.sound; own = λ k. left-after call q m (grind (arith, n)) k has.sound ∙ has.own k };
+        frame = λ slot len bytes memory frames blocks low has.
+            record {
+              sound = record {
+                size = length-set memory.managed.blocks (number_of 3 slot) (Some bytes) ∙ has.sound.size;
+                slots = more_slots frames slot len low has.sound.slots;
+              };
+              own = λ k. keeps.framed slot p (Some bytes) memory (grind (arith, nat_tests, low)) k ∙ has.own k;
+            };
+      }
+
+pub boot-has : (store : Store) → Keeps store → (p : ℕ) (c : Config) → HasBlocks store p (booted c).memory [] no_blocks
+boot-has store keeps p c = record { sound = record { size = refl; slots = refl }; own = λ k. keeps.boot p c }
+
+-- the run
+
+every-call : (store : Store) → Keeps store → (c : Config) (says : Applications) (inputs : List Input) (after : Running) → Runs says (at_start c) inputs after
+    → EveryCall store.kind after.entries
+every-call store keeps c says inputs after runs before p origin stimulus call reply few has =
+    let so_far = up_to_call before p origin stimulus call in
+    let well = run-told (accepted store.change) (KindLaw store.kind) (HasBlocks store p) p (own-laws store keeps p few) at_first c says inputs after runs (boot-has store keeps p c) after.entries [] (append-nil after.entries) in
+    let law = call-law (accepted store.change) (KindLaw store.kind) (HasBlocks store p) p at_first after.entries before origin stimulus call reply well has in
+    subst (λ (blocks : Blocks). KindLaw store.kind blocks call reply) (sym (blocks-told store.change p so_far) ∙ keeps.told p so_far) law
+
+pub are-own : (store : Store) → Keeps store → (c : Config) (says : Applications) (inputs : List Input) (after : Running) → Runs says (at_start c) inputs after
+    → AreOwn store.kind after.entries
+are-own store keeps c says inputs after runs = every-own store.kind after.entries (every-call store keeps c says inputs after runs)
