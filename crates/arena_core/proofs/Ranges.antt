@@ -7,6 +7,7 @@
 --     written-same                            a range that is written over with its own bytes changes nothing
 --     range-range                             a range of a range is a range
 --     changes_only                            a write changes its range alone
+--     take_past                               the front of two lists that reaches into the second
 use Rattle.arena_core.proofs.Words.{◌≡◌, ℕ, suc, ◌+◌, ◌-◌, ◌≤◌, ◌⊎◌, inl, inr, List, [], ◌∷◌, ◌++◌, length, take, drop, slice_range, sym, ap, ◌∙◌, arith, take-take, drop-take, take_all, drop_all, take-append-le, drop-append-le, written}
 use Rattle.std.proofs.Common.{length-take, length-drop}
 use Rattle.std.proofs.lemmas.List.{take_at, drop_at, drop-drop, take-append-drop}
@@ -101,7 +102,7 @@ range-range xs at n i j le within =
     ∙ ap (take (j - i)) (drop-drop i at xs)
     ∙ ap (λ k. take k (drop (at + i) xs)) f
 
-take_past : (p q : List ℕ) (n : ℕ) → length p ≤ n → take n (p ++ q) ≡ p ++ take (n - length p) q
+pub take_past : (p q : List ℕ) (n : ℕ) → length p ≤ n → take n (p ++ q) ≡ p ++ take (n - length p) q
 take_past [] q n le = ap (λ k. take k q) (omega arith)
 take_past (x ∷ p) q n le =
     let e : n ≡ suc (n - 1) = omega arith in

@@ -1,16 +1,6 @@
 -- The gap that begins where a block ends.
-use Rattle.std.proofs.Common.{◌≡◌, ◌≢◌, ℕ, ◌+◌, ◌-◌, ◌%◌, ◌≤◌, ◌<◌, ◌⊎◌, inl, inr, Bool, List, [], ◌∷◌, ◌++◌, true, false, eqb, leb, ltb, refl, sym, ap, ◌∙◌, arith}
-use Rattle.std.specs.Prelude.{Option, Some, None, find, if◌then◌else◌}
-use Rattle.std.specs.Option.{option_map_or, option_or}
-use Rattle.std.proofs.lemmas.Bool.{ne_eqb, eq-eqb, le-leb, lt-leb, leb-true, leb-false, ltb-true, cases_Bool, cases_eq}
+use Rattle.heap_core.proofs.Words.{rules, ◌≡◌, ◌≢◌, ℕ, ◌+◌, ◌-◌, ◌%◌, ◌≤◌, ◌<◌, ◌⊎◌, inl, inr, Bool, List, [], ◌∷◌, ◌++◌, true, false, eqb, leb, ltb, refl, sym, ap, ◌∙◌, arith, Option, Some, None, find, if◌then◌else◌, option_map_or, option_or, ne_eqb, eq-eqb, le-leb, lt-leb, leb-true, leb-false, ltb-true, cases_Bool, cases_eq, Chunk, Gap, Region, gaps, gap_at, footprint, least_room, room_taken, room_in_place, shortest, least_len, Tell, AreJoined, chunks_of, HasChunks, store_of, gap_of, front_gap, place_in_chunk, LeavesGap, IsWholeRoom}
 use Rattle.std.proofs.lemmas.List.Folds.{find-append}
-use Rattle.heap_core.specs.declared.chunk.Chunk.{Chunk}
-use Rattle.heap_core.specs.declared.chunk.Gap.{Gap}
-use Rattle.heap_core.specs.declared.region.Region.{Region}
-use Rattle.heap_core.specs.HeapStore.{gaps, gap_at, footprint, least_room, room_taken, room_in_place}
-use Rattle.heap_core.specs.Chunks.{shortest, least_len, Tell, AreJoined}
-use Rattle.heap_core.specs.Layout.{chunks_of, HasChunks, store_of}
-use Rattle.heap_core.specs.Code.Walks.{gap_of, front_gap, place_in_chunk, LeavesGap, IsWholeRoom}
 use Rattle.heap_core.proofs.ChunkHeaders.{place_told, told_le, owner_cases}
 use Rattle.heap_core.proofs.Gaps.{with_gap, gaps_in, gaps_are, end_is}
 use Rattle.heap_core.proofs.Standing.{Around}
@@ -33,29 +23,11 @@ no_gap : (header : ℕ) (B : List ℕ) (b p x y : ℕ) (l : List Chunk) → Tell
 no_gap header B b p x y [] t side = refl
 no_gap header B b p x y (c ∷ l) t side =
     let enough : least_len header c ≤ c.len = t.1 in let at = place_told B b x c t.0 in let le = told_le header B b (x + c.len) y l t.2 in
-    let later : find (begins p) (gaps_in l) ≡ None = no_gap header B b p (x + c.len) y l t.2 (elim side [ inl low ↦ inl (omega arith) | inr high ↦ inr (omega arith) ]) in
-    elim (owner_cases c.owner) [
-      | inl e ↦
-          let far : eqb c.at p ≡ false = ne_eqb c.at p (λ f. elim side [ inl low ↦ absurd (omega arith) | inr high ↦ absurd (omega arith) ]) in
-          let skip : find (begins p) (with_gap c None (gaps_in l)) ≡ find (begins p) (gaps_in l) = rw far refl in
-          ap (λ o. find (begins p) (with_gap c o (gaps_in l))) e ∙ skip ∙ later
-      | inr s ↦ ap (λ o. find (begins p) (with_gap c o (gaps_in l))) s.1 ∙ later
-    ]
+    let later : find (begins p) (gaps_in l) ≡ None = no_gap header B b p (x + c.len) y l t.2 (elim side [ inl low ↦ inl (omega arith) | inr high ↦ inr (omega arith) ]) in grind arith
 
 front_found : (header : ℕ) (B : List ℕ) (b at z : ℕ) (l : List Chunk) → Tell header B b at z l → len_or_none (find (begins at) (gaps_in l)) ≡ front_gap l
 front_found header B b at z [] t = refl
-front_found header B b at z (d ∷ l) t =
-    let enough : least_len header d ≤ d.len = t.1 in let here = place_told B b at d t.0 in
-    elim (owner_cases d.owner) [
-      | inl e ↦
-          let near : eqb d.at at ≡ true = eq-eqb d.at at here in
-          let first : len_or_none (find (begins at) (with_gap d None (gaps_in l))) ≡ d.len = rw near refl in
-          ap (λ o. len_or_none (find (begins at) (with_gap d o (gaps_in l)))) e ∙ first ∙ sym (ap (gap_of d) e)
-      | inr s ↦
-          ap (λ o. len_or_none (find (begins at) (with_gap d o (gaps_in l)))) s.1
-          ∙ ap len_or_none (no_gap header B b at (at + d.len) z l t.2 (inl (omega arith)))
-          ∙ sym (ap (gap_of d) s.1)
-    ]
+front_found header B b at z (d ∷ l) t = let enough : least_len header d ≤ d.len = t.1 in let here = place_told B b at d t.0 in grind (arith, place_told, owner_cases, eq-eqb, with_gap, gaps_in, no_gap)
 
 pub gap_at_end : (heap : Region) (B : List ℕ) (chunk : Chunk) (a : Around heap.header B heap.span.at heap.footprint chunk (chunks_of heap B)) → HasChunks heap B → chunk.owner ≢ None
     → gap_at (chunk.at + chunk.len) (store_of heap B) ≡ front_gap a.behind
@@ -94,38 +66,20 @@ module _ (heap : Region) (B : List ℕ) (chunk : Chunk) (n : ℕ) (a : Around he
   end = chunk.at + chunk.len
 
   pub room_is : room_in_place (place_in_chunk heap.header chunk) n (store_of heap B) ≡ choice least room end heap.footprint (heap.span.len - heap.footprint) (front_gap a.behind)
-  room_is =
-      let store = store_of heap B in
-      let top : footprint store ≡ heap.footprint = end_is heap.header B heap.span.at 0 heap.footprint (chunks_of heap B) has.told has.joined in
-      let same : chunk.at + (heap.header + room) ≡ end = omega (arith, a.enough) in
-      ap (λ k. choice least room k (footprint store) (heap.span.len - footprint store) (gap_at k store)) same
-      ∙ ap (λ k. choice least room end k (heap.span.len - k) (gap_at end store)) top
-      ∙ ap (choice least room end heap.footprint (heap.span.len - heap.footprint)) (gap_at_end heap B chunk a has live)
+  room_is = grind (arith, end_is, gap_at_end)
 
 module _ (least room end top_at top gap : ℕ) where
   pub choice_top : room < least → end ≡ top_at → least ≤ room + top → choice least room end top_at top gap ≡ Some least
-  choice_top short last fits =
-      let far : leb least room ≡ false = lt-leb least room short in let is : eqb end top_at ≡ true = eq-eqb end top_at last in
-      let here : leb least (room + top) ≡ true = le-leb least (room + top) fits in
-      rw far (rw is (rw here refl))
+  choice_top short last fits = grind arith
 
   pub choice_no_top : room < least → end ≡ top_at → room + top < least → choice least room end top_at top gap ≡ None
-  choice_no_top short last less =
-      let far : leb least room ≡ false = lt-leb least room short in let is : eqb end top_at ≡ true = eq-eqb end top_at last in
-      let here : leb least (room + top) ≡ false = lt-leb least (room + top) less in
-      rw far (rw is (rw here refl))
+  choice_no_top short last less = grind arith
 
   pub choice_gap : room < least → end ≢ top_at → least ≤ room + gap → choice least room end top_at top gap ≡ Some (room_taken least (room + gap))
-  choice_gap short more fits =
-      let far : leb least room ≡ false = lt-leb least room short in let is : eqb end top_at ≡ false = ne_eqb end top_at more in
-      let here : leb least (room + gap) ≡ true = le-leb least (room + gap) fits in
-      rw far (rw is (rw here refl))
+  choice_gap short more fits = grind arith
 
   pub choice_no_gap : room < least → end ≢ top_at → room + gap < least → choice least room end top_at top gap ≡ None
-  choice_no_gap short more less =
-      let far : leb least room ≡ false = lt-leb least room short in let is : eqb end top_at ≡ false = ne_eqb end top_at more in
-      let here : leb least (room + gap) ≡ false = lt-leb least (room + gap) less in
-      rw far (rw is (rw here refl))
+  choice_no_gap short more less = grind arith
 
 -- what is known of the room that was chosen
 pub record Taken (header least room end top_at top gap chosen : ℕ) : Type 0 where
@@ -135,19 +89,14 @@ pub record Taken (header least room end top_at top gap chosen : ℕ) : Type 0 wh
   pub whole : IsWholeRoom header chosen
 
 taken_is : (least available : ℕ) → least ≤ available → (room_taken least available ≡ available) ⊎ ((room_taken least available ≡ least) × (least + 16 < available))
-taken_is least available fits = elim (cases_Bool (ltb 16 (available - least))) [
-  | inl long ↦ let more = ltb-true 16 (available - least) long in inr (rw long refl, omega arith)
-  | inr short ↦ inl (rw short refl)
-]
+taken_is least available fits = grind arith
 
 abbrev pub IsWholeGap : ℕ → ℕ → Type 0
 IsWholeGap header gap = (gap ≡ 0) ⊎ ((shortest header ≤ gap) × (gap % 4 ≡ 0))
 
 pub front_gap_whole : (header : ℕ) (l : List Chunk) → AreJoined header l → IsWholeGap header (front_gap l)
 front_gap_whole header [] joined = inl refl
-front_gap_whole header (d ∷ l) joined =
-    let whole = joined.1 in
-    elim (owner_cases d.owner) [ inl e ↦ inr (omega (arith, ap (gap_of d) e, whole.0), omega (arith, ap (gap_of d) e, whole.1)) | inr s ↦ inl (ap (gap_of d) s.1) ]
+front_gap_whole header (d ∷ l) joined = grind arith
 
 module _ (header least room end top_at top gap chosen : ℕ) (most : shortest header ≤ 20) (whole_least : IsWholeRoom header least) (whole_room : room % 4 ≡ 0) (long : IsWholeGap header gap) where
   same_room : (k : ℕ) → Some k ≡ Some chosen → k ≡ chosen
@@ -155,59 +104,7 @@ module _ (header least room end top_at top gap chosen : ℕ) (most : shortest he
 
   -- what is left over exceeds 16, and all are multiples of 4
   gap_left_of : {taken : ℕ} → taken ≡ least → least + 16 < room + gap → taken ≡ chosen → LeavesGap header chosen (room + gap)
-  gap_left_of is less same = (
-    elim long [ inl none ↦ omega (arith, most, whole_least.1, whole_room) | inr some ↦ omega (arith, most, whole_least.1, whole_room, some.1) ],
-    elim long [ inl none ↦ omega (arith, whole_least.1, whole_room) | inr some ↦ omega (arith, whole_least.1, whole_room, some.1) ],
-  )
+  gap_left_of is less same = grind arith
 
   pub taken : choice least room end top_at top gap ≡ Some chosen → Taken header least room end top_at top gap chosen
-  taken e = elim (cases_Bool (leb least room)) [
-    | inl here ↦
-        let fits = leb-true least room here in
-        let is : room_taken least room ≡ chosen = same_room (room_taken least room) (rw here at e) in
-        elim (taken_is least room fits) [
-          | inl all ↦ record {
-            enough = omega arith;
-            on_top = λ last. omega arith;
-            below = λ more. elim long [ inl none ↦ inl (omega arith) | inr some ↦ inr (omega (arith, some.0), omega (arith, some.0, some.1)) ];
-            whole = (omega (arith, whole_least.0), omega (arith, whole_room));
-          }
-          | inr part ↦ record {
-            enough = omega (arith, part.0);
-            on_top = λ last. omega (arith, part.0, part.1);
-            below = λ more. inr (gap_left_of part.0 (omega (arith, part.1)) is);
-            whole = (omega (arith, part.0, whole_least.0), omega (arith, part.0, whole_least.1));
-          }
-        ]
-    | inr short ↦
-        let less = leb-false least room short in
-        elim (cases_eq end top_at) [
-          | inl last ↦ elim (cases_Bool (leb least (room + top))) [
-            | inl fits ↦
-                let enough = leb-true least (room + top) fits in
-                let is : least ≡ chosen = same_room least (sym (choice_top least room end top_at top gap less last enough) ∙ e) in
-                record { enough = omega arith; on_top = λ f. omega arith; below = λ more. absurd (more last); whole = (omega (arith, whole_least.0), omega (arith, whole_least.1)) }
-            | inr none ↦ absurd (let two : None ≡ Some chosen = sym (choice_no_top least room end top_at top gap less last (leb-false least (room + top) none)) ∙ e in cc)
-          ]
-          | inr more ↦ elim (cases_Bool (leb least (room + gap))) [
-            | inl fits ↦
-                let enough = leb-true least (room + gap) fits in
-                let is : room_taken least (room + gap) ≡ chosen = same_room (room_taken least (room + gap)) (sym (choice_gap least room end top_at top gap less more enough) ∙ e) in
-                elim (taken_is least (room + gap) enough) [
-                  | inl all ↦ record {
-                    enough = omega arith;
-                    on_top = λ last. absurd (more last);
-                    below = λ f. inl (omega arith);
-                    whole = (omega (arith, whole_least.0), elim long [ inl none ↦ omega (arith, whole_room) | inr some ↦ omega (arith, whole_room, some.1) ]);
-                  }
-                  | inr part ↦ record {
-                    enough = omega (arith, part.0);
-                    on_top = λ last. absurd (more last);
-                    below = λ f. inr (gap_left_of part.0 part.1 is);
-                    whole = (omega (arith, part.0, whole_least.0), omega (arith, part.0, whole_least.1));
-                  }
-                ]
-            | inr none ↦ absurd (let two : None ≡ Some chosen = sym (choice_no_gap least room end top_at top gap less more (leb-false least (room + gap) none)) ∙ e in cc)
-          ]
-        ]
-  ]
+  taken e = grind arith

@@ -1,10 +1,5 @@
 -- Blocks in the order of their places: one more, one less, or one changed.
-use Rattle.std.proofs.Common.{◌≡◌, ℕ, suc, ◌+◌, ◌≤◌, ◌<◌, ◌⊎◌, inl, inr, Bool, not, List, [], ◌∷◌, ◌++◌, length, false, true, eqb, ltb, refl, sym, ap, ◌∙◌, subst, arith}
-use Rattle.std.specs.Prelude.{filter, map, if◌then◌else◌}
-use Rattle.std.proofs.lemmas.Bool.{lt-ltb, le-ltb, ltb-true, ne_eqb, cases_Bool}
-use Rattle.heap_core.specs.declared.chunk.Chunk.{Chunk}
-use Rattle.heap_core.specs.HeapStore.{Block, placed, has_name}
-use Rattle.heap_core.specs.Chunks.{least_len, Tell, with_chunk, blocks_in}
+use Rattle.heap_core.proofs.Words.{◌≡◌, ℕ, suc, ◌+◌, ◌≤◌, ◌<◌, ◌⊎◌, inl, inr, Bool, not, List, [], ◌∷◌, ◌++◌, length, false, true, eqb, ltb, refl, sym, ap, ◌∙◌, subst, arith, filter, map, if◌then◌else◌, lt-ltb, le-ltb, ltb-true, ne_eqb, cases_Bool, Chunk, Block, placed, has_name, least_len, Tell, with_chunk, blocks_in}
 use Rattle.heap_core.proofs.ChunkHeaders.{place_told, told_le, owner_cases}
 
 -- the blocks begin between two places
@@ -20,17 +15,11 @@ pub blocks_between : (header : ℕ) (B : List ℕ) (b x y : ℕ) (l : List Chunk
 blocks_between header B b x y [] t = tt
 blocks_between header B b x y (c ∷ l) t =
     let enough : least_len header c ≤ c.len = t.1 in let at = place_told B b x c t.0 in let le = told_le header B b (x + c.len) y l t.2 in
-    let later : Between x y (blocks_in header B b l) = between_more (x + c.len) x y (blocks_in header B b l) (omega arith) (blocks_between header B b (x + c.len) y l t.2) in
-    elim (owner_cases c.owner) [
-      | inl e ↦ subst (λ o. Between x y (with_chunk header B b c o (blocks_in header B b l))) (sym e) later
-      | inr s ↦ subst (λ o. Between x y (with_chunk header B b c o (blocks_in header B b l))) (sym s.1) (omega arith, omega arith, later)
-    ]
+    let later : Between x y (blocks_in header B b l) = between_more (x + c.len) x y (blocks_in header B b l) (omega arith) (blocks_between header B b (x + c.len) y l t.2) in grind arith
 
 pub placed_behind : (x y : ℕ) (block : Block) (xs ys : List Block) → Between x y xs → y ≤ block.at → placed block (xs ++ ys) ≡ xs ++ placed block ys
 placed_behind x y block [] ys h le = refl
-placed_behind x y block (other ∷ xs) ys h le =
-    let far : ltb block.at other.at ≡ false = le-ltb block.at other.at (omega (arith, h.1)) in
-    rw far (ap (λ k. other ∷ k) (placed_behind x y block xs ys h.2 le))
+placed_behind x y block (other ∷ xs) ys h le = let later = placed_behind x y block xs ys h.2 le in grind arith
 
 pub placed_front : (x y : ℕ) (block : Block) (xs : List Block) → Between x y xs → block.at < x → placed block xs ≡ block ∷ xs
 placed_front x y block [] h le = refl
@@ -41,18 +30,14 @@ elsewhere at block = not (eqb block.at at)
 
 pub filter_elsewhere : (x y at : ℕ) (xs : List Block) → Between x y xs → (at < x) ⊎ (y ≤ at) → filter (elsewhere at) xs ≡ xs
 filter_elsewhere x y at [] h side = refl
-filter_elsewhere x y at (block ∷ xs) h side =
-    let far : eqb block.at at ≡ false = ne_eqb block.at at (λ e. elim side [ inl low ↦ absurd (omega (arith, h.0)) | inr high ↦ absurd (omega (arith, h.1)) ]) in
-    rw far (ap (λ k. block ∷ k) (filter_elsewhere x y at xs h.2 side))
+filter_elsewhere x y at (block ∷ xs) h side = let later = filter_elsewhere x y at xs h.2 side in grind arith
 
 abbrev pub changed_at : ℕ → (Block → Block) → Block → Block
 changed_at at f block = if eqb block.at at then f block else block
 
 pub map_elsewhere : (x y at : ℕ) (f : Block → Block) (xs : List Block) → Between x y xs → (at < x) ⊎ (y ≤ at) → map (changed_at at f) xs ≡ xs
 map_elsewhere x y at f [] h side = refl
-map_elsewhere x y at f (block ∷ xs) h side =
-    let far : eqb block.at at ≡ false = ne_eqb block.at at (λ e. elim side [ inl low ↦ absurd (omega (arith, h.0)) | inr high ↦ absurd (omega (arith, h.1)) ]) in
-    rw far (ap (λ k. block ∷ k) (map_elsewhere x y at f xs h.2 side))
+map_elsewhere x y at f (block ∷ xs) h side = let later = map_elsewhere x y at f xs h.2 side in grind arith
 
 -- how many blocks a name has
 abbrev pub count : ℕ → List Block → ℕ
@@ -68,37 +53,13 @@ blocks_ascending header B b x y [] t = tt
 blocks_ascending header B b x y (c ∷ l) t =
     let enough : least_len header c ≤ c.len = t.1 in let at = place_told B b x c t.0 in let le = told_le header B b (x + c.len) y l t.2 in
     let later = blocks_ascending header B b (x + c.len) y l t.2 in
-    let above : Between (suc c.at) y (blocks_in header B b l) = between_more (x + c.len) (suc c.at) y (blocks_in header B b l) (omega arith) (blocks_between header B b (x + c.len) y l t.2) in
-    elim (owner_cases c.owner) [
-      | inl e ↦ subst (λ o. Ascending y (with_chunk header B b c o (blocks_in header B b l))) (sym e) later
-      | inr s ↦ subst (λ o. Ascending y (with_chunk header B b c o (blocks_in header B b l))) (sym s.1) (above, omega arith, later)
-    ]
+    let above : Between (suc c.at) y (blocks_in header B b l) = between_more (x + c.len) (suc c.at) y (blocks_in header B b l) (omega arith) (blocks_between header B b (x + c.len) y l t.2) in grind arith
 
 pub filter_between : (p : Block → Bool) (x y : ℕ) (xs : List Block) → Between x y xs → Between x y (filter p xs)
 filter_between p x y [] h = tt
-filter_between p x y (block ∷ xs) h = elim (cases_Bool (p block)) [
-  | inl kept ↦ rw kept (h.0, h.1, filter_between p x y xs h.2)
-  | inr gone ↦ rw gone (filter_between p x y xs h.2)
-]
+filter_between p x y (block ∷ xs) h = let later = filter_between p x y xs h.2 in grind arith
 
 -- a block that stays is put among those that stay
 pub filter_placed : (p : Block → Bool) (top : ℕ) (block : Block) (xs : List Block) → p block ≡ true → Ascending top xs → filter p (placed block xs) ≡ placed block (filter p xs)
 filter_placed p top block [] stays h = rw stays refl
-filter_placed p top block (x ∷ xs) stays h = elim (cases_Bool (ltb block.at x.at)) [
-  | inl near ↦
-      let less = ltb-true block.at x.at near in
-      let all : Between x.at top (x ∷ xs) = (omega arith, h.1, between_more (suc x.at) x.at top xs (omega arith) h.0) in
-      let first : placed block (filter p (x ∷ xs)) ≡ block ∷ filter p (x ∷ xs) = placed_front x.at top block (filter p (x ∷ xs)) (filter_between p x.at top (x ∷ xs) all) less in
-      let left : filter p (placed block (x ∷ xs)) ≡ block ∷ filter p (x ∷ xs) = rw near (rw stays refl) in
-      left ∙ sym first
-  | inr far ↦ elim (cases_Bool (p x)) [
-    | inl kept ↦
-        let left : filter p (placed block (x ∷ xs)) ≡ x ∷ filter p (placed block xs) = rw far (rw kept refl) in
-        let right : placed block (filter p (x ∷ xs)) ≡ x ∷ placed block (filter p xs) = rw kept (rw far refl) in
-        left ∙ ap (λ l. x ∷ l) (filter_placed p top block xs stays h.2) ∙ sym right
-    | inr gone ↦
-        let left : filter p (placed block (x ∷ xs)) ≡ filter p (placed block xs) = rw far (rw gone refl) in
-        let right : placed block (filter p (x ∷ xs)) ≡ placed block (filter p xs) = rw gone refl in
-        left ∙ filter_placed p top block xs stays h.2 ∙ sym right
-  ]
-]
+filter_placed p top block (x ∷ xs) stays h = let later = filter_placed p top block xs stays h.2 in grind (arith, cases_Bool, ltb-true, between_more, placed_front, filter_between)

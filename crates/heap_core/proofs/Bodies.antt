@@ -1,27 +1,8 @@
 -- A write into a live block's bytes.
-use Rattle.std.proofs.Common.{◌≡◌, ℕ, ◌+◌, ◌-◌, ◌≤◌, ◌<◌, List, [], ◌∷◌, ◌++◌, length, take, drop, slice_range, true, not, eqb, refl, sym, ap, ◌∙◌, subst, arith}
-use Rattle.std.specs.Prelude.{Option, Some, None, IsSomeAnd, filter, map, if◌then◌else◌, nat_lt}
-use Rattle.std.specs.Option.{option_map}
-use Rattle.std.proofs.lemmas.List.{append_assoc, map-append, length-map}
-use Rattle.std.proofs.lemmas.List.Elements.{filter-append}
-use Rattle.std.proofs.lemmas.Bool.{eq-eqb, lt-ltb}
-use Rattle.mote_types.specs.BlockNames.{number_of}
-use Rattle.mote_types.specs.Bytes.{overwritten}
-use Rattle.arena_core.specs.Outside.{ChangesOnly}
-use Rattle.arena_core.specs.Written.{written}
-use Rattle.arena_core.proofs.Ranges.{length-range, written-range, changes_only}
-use Rattle.arena_core.proofs.Rows.{written_is}
-use Rattle.heap_core.specs.declared.chunk.Chunk.{Chunk}
-use Rattle.heap_core.specs.declared.region.Region.{Region}
-use Rattle.heap_core.specs.HeapStore.{Block, HeapStore, has_name, block_of, find_block, without_block}
-use Rattle.heap_core.specs.Chunks.{is_a_name, AreJoined, with_chunk, blocks_in, is_named}
-use Rattle.heap_core.specs.HeapBytes.{heap_of}
-use Rattle.heap_core.specs.Layout.{chunks_of, store_of}
+use Rattle.heap_core.proofs.Words.{rules, ◌≡◌, ℕ, ◌+◌, ◌-◌, ◌≤◌, ◌<◌, List, [], ◌∷◌, ◌++◌, length, take, drop, slice_range, true, not, eqb, refl, sym, ap, ◌∙◌, subst, arith, Option, Some, None, IsSomeAnd, filter, map, if◌then◌else◌, nat_lt, option_map, append_assoc, map-append, length-map, filter-append, eq-eqb, lt-ltb, number_of, overwritten, ChangesOnly, written, length-range, written-range, changes_only, written_is, Chunk, Region, Block, HeapStore, has_name, block_of, find_block, without_block, is_a_name, AreJoined, with_chunk, blocks_in, is_named, heap_of, chunks_of, store_of, Owned, block_in_chunk, without_place, unnamed}
 use Rattle.heap_core.proofs.Stored.{IsStored}
-use Rattle.heap_core.specs.Code.Walks.{Owned, block_in_chunk, without_place}
 use Rattle.heap_core.proofs.ChunkHeaders.{told_body, changes_more, blocks_append}
 use Rattle.heap_core.proofs.Names.{count_append, count_first, map_unnamed, filter_unnamed, keeps_name}
-use Rattle.heap_core.specs.FreeList.{unnamed}
 use Rattle.heap_core.proofs.Freed.{filter_swap, filter_map}
 use Rattle.heap_core.proofs.Blocks.{count, elsewhere}
 use Rattle.heap_core.proofs.Releases.{left_apart}
@@ -60,35 +41,18 @@ module _ (heap : Region) (B : List ℕ) (laid : IsStored heap B) (chunk : Chunk)
 
   -- a range of the name's bytes lies in its chunk
   pub range_fits : (store : HeapStore) (p h at len : ℕ) → name ≡ number_of p h → find_block name store ≡ Some block → IsSomeAnd (block_of p h store) (λ bytes. at + len ≤ length bytes) → at + len ≤ chunk.size
-  range_fits store p h at len same found range =
-      let bytes = λ (k : Option Block). option_map (λ (block : Block). block.bytes) k in
-      let is = ap (λ k. bytes (find_block k store)) (sym same) ∙ ap bytes found in
-      omega (arith, block_bytes, subst (λ (k : Option (List ℕ)). IsSomeAnd k (λ bytes. at + len ≤ length bytes)) is range)
+  range_fits store p h at len same found range = grind (arith, block_bytes)
 
   -- it is taken away by its place, or by its name
   by_name : filter (elsewhere chunk.at) (blocks_in heap.header B b (chunks_of heap B)) ≡ filter (λ (other : Block). not (has_name name other)) (blocks_in heap.header B b (chunks_of heap B))
-  by_name =
-      let unnamed = λ (other : Block). not (has_name name other) in
-      let gone : eqb name name ≡ true = eq-eqb name name refl in
-      let mine : filter unnamed (block ∷ ys) ≡ filter unnamed ys = rw gone refl in
-      left_apart heap B laid.chunks chunk a (λ none. absurd (let two : None ≡ Some name = sym none ∙ o.owner in cc))
-      ∙ sym (ap (filter unnamed) all_are
-      ∙ filter-append unnamed xs (block ∷ ys)
-      ∙ ap (λ l. filter unnamed xs ++ l) mine
-      ∙ ap (λ l. l ++ filter unnamed ys) (filter_unnamed name xs few.0)
-      ∙ ap (λ l. xs ++ l) (filter_unnamed name ys few.1))
+  by_name = grind (arith, eq-eqb, left_apart, a, all_are, filter-append, filter_unnamed, few)
 
   pub without_place_is : without_place chunk.at (store_of heap B) ≡ without_block name (store_of heap B)
   without_place_is = ap (λ blocks. let h : HeapStore = record { size = heap.span.len; header = heap.header; blocks = blocks } in h) by_name
 
   -- among the live blocks too
   pub live_without_place : without_place chunk.at (heap_of heap B) ≡ without_block name (heap_of heap B)
-  live_without_place =
-      let unnamed = λ (other : Block). not (has_name name other) in
-      ap (λ blocks. let h : HeapStore = record { size = heap.span.len; header = heap.header; blocks = blocks } in h)
-      (filter_swap (elsewhere chunk.at) is_named (blocks_in heap.header B b (chunks_of heap B))
-      ∙ ap (filter is_named) by_name
-      ∙ filter_swap is_named unnamed (blocks_in heap.header B b (chunks_of heap B)))
+  live_without_place = grind (arith, filter_swap, elsewhere, by_name)
 
   module _ (at : ℕ) (ws : List ℕ) (room : at + length ws ≤ chunk.size) where
     abbrev B' : List ℕ
@@ -101,11 +65,7 @@ module _ (heap : Region) (B : List ℕ) (laid : IsStored heap B) (chunk : Chunk)
     changes = changes_only B (b + chunk.at + heap.header + at) ws fits (b + chunk.at + heap.header) (chunk.len - heap.header) (omega arith) (omega (arith, a.enough))
 
     read : slice_range B' (b + chunk.at + heap.header) (b + chunk.at + heap.header + chunk.size) ≡ overwritten at ws (slice_range B (b + chunk.at + heap.header) (b + chunk.at + heap.header + chunk.size))
-    read =
-        let R = slice_range B (b + chunk.at + heap.header) (b + chunk.at + heap.header + chunk.size) in
-        written-range B (b + chunk.at + heap.header) chunk.size at ws room (omega (arith, laid.chunks.within, a.fits, a.enough, heap.inside))
-        ∙ written_is R at ws (omega (arith, block_bytes))
-        ∙ sym (append_assoc (take at R) ws (drop (at + length ws) R))
+    read = grind (arith, written-range, a, written_is, block_bytes, append_assoc)
 
     is_named_owner : is_a_name chunk.owner ≡ true
     is_named_owner = ap is_a_name o.owner ∙ lt-ltb name 272 small
@@ -142,15 +102,10 @@ module _ (heap : Region) (B : List ℕ) (laid : IsStored heap B) (chunk : Chunk)
     change = λ other. if has_name name other then over other else other
 
     pub live_blocks : filter is_named (blocks_in heap.header B' b (chunks_of heap B')) ≡ map change (filter is_named (blocks_in heap.header B b (chunks_of heap B)))
-    live_blocks =
-        ap (filter is_named) body_blocks
-        ∙ filter_map is_named change (λ other. ap (λ k. nat_lt k 272) (keeps_name name over (λ k. refl) other)) (blocks_in heap.header B b (chunks_of heap B))
+    live_blocks = grind (arith, body_blocks, filter_map, keeps_name)
 
     pub same_chunks : chunks_of heap B' ≡ chunks_of heap B
     same_chunks = body_spliced.is ∙ sym a.is
 
     pub same_unnamed : length (unnamed (blocks_in heap.header B' b (chunks_of heap B'))) ≡ length (unnamed (blocks_in heap.header B b (chunks_of heap B)))
-    same_unnamed =
-        ap (λ l. length (unnamed l)) body_blocks
-        ∙ ap length (filter_map (λ k. not (is_named k)) change (λ other. ap (λ k. not (nat_lt k 272)) (keeps_name name over (λ k. refl) other)) (blocks_in heap.header B b (chunks_of heap B)))
-        ∙ length-map (unnamed (blocks_in heap.header B b (chunks_of heap B))) change
+    same_unnamed = grind (arith, body_blocks, filter_map, keeps_name, length-map)

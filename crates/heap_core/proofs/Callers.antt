@@ -3,35 +3,15 @@
 --     KeepsToSpan-then         two calls, one after the other
 --     IsLaidOut-apart          the live blocks lie apart, headers included, and are read from behind their headers
 --     heap_of-, IsLaidOut-elsewhere      what the heap shows depends on the span's bytes alone, and so does whether it is laid out
-use Rattle.std.proofs.Common.{◌≡◌, ℕ, ◌+◌, ◌≤◌, ◌⊎◌, inl, inr, List, length, ap, sym, subst, ◌∙◌, arith}
-use Rattle.std.specs.Prelude.{None, filter}
-use Rattle.arena_core.specs.declared.span.Span.{Span}
-use Rattle.arena_core.specs.Contents.{Contents}
-use Rattle.arena_core.specs.Outside.{ChangesOnly}
-use Rattle.heap_core.specs.declared.region.Region.{Region}
-use Rattle.heap_core.specs.HeapStore.{HeapStore, has_name}
-use Rattle.heap_core.specs.Chunks.{Tell, AreJoined, blocks_in, is_named}
-use Rattle.heap_core.specs.Layout.{chunks_of, store_of}
-use Rattle.heap_core.specs.FreeList.{LinkedTo, gaps_among, AreFreed, unnamed}
-use Rattle.heap_core.specs.Places.{ArePlaced}
-use Rattle.heap_core.specs.HeapBytes.{heap_of, IsWithin, IsLaidOut, KeepsToSpan}
-use Rattle.heap_core.specs.Separation.{BlocksLieApart}
+use Rattle.heap_core.proofs.Words.{◌≡◌, ℕ, ◌+◌, ◌≤◌, ◌⊎◌, inl, inr, List, length, ap, sym, subst, ◌∙◌, arith, None, filter, Span, Contents, ChangesOnly, Region, HeapStore, has_name, Tell, AreJoined, blocks_in, is_named, chunks_of, store_of, LinkedTo, gaps_among, AreFreed, unnamed, ArePlaced, heap_of, IsWithin, IsLaidOut, KeepsToSpan, BlocksLieApart}
 use Rattle.heap_core.proofs.Separation.{blocks_lie_apart}
 use Rattle.heap_core.proofs.ChunkHeaders.{told_frame, blocks_frame, walked}
 
 pub IsWithin-kept : (old new : Region) (before after : Contents) → KeepsToSpan old new before after → IsWithin old before.bytes → IsWithin new after.bytes
-IsWithin-kept old new before after kept within =
-    omega (arith, ap (λ (s : Span). s.at) kept.span, ap (λ (s : Span). s.len) kept.span, kept.bytes.size, within)
+IsWithin-kept old new before after kept within = grind arith
 
 pub KeepsToSpan-then : (a b c : Region) (x y z : Contents) → KeepsToSpan a b x y → KeepsToSpan b c y z → KeepsToSpan a c x z
-KeepsToSpan-then a b c x y z first second =
-    let there : ChangesOnly a.span.at a.span.len y.bytes z.bytes = subst (λ (s : Span). ChangesOnly s.at s.len y.bytes z.bytes) first.span second.bytes in
-    record {
-      span = second.span ∙ first.span;
-      header = second.header ∙ first.header;
-      carved = second.carved ∙ first.carved;
-      bytes = record { size = there.size ∙ first.bytes.size; others = λ from n apart. there.others from n apart ∙ first.bytes.others from n apart };
-    }
+KeepsToSpan-then a b c x y z first second = grind arith
 
 pub IsLaidOut-apart : (heap : Region) (bytes : List ℕ) → IsLaidOut heap bytes → BlocksLieApart heap bytes
 IsLaidOut-apart heap bytes laid = blocks_lie_apart heap bytes laid
@@ -57,22 +37,4 @@ module _ (heap : Region) (at len : ℕ) (old new : List ℕ) (changes : ChangesO
   heap_of-elsewhere = ap (λ (s : HeapStore). let h : HeapStore = record { size = heap.span.len; header = heap.header; blocks = filter is_named s.blocks } in h) store_same
 
   pub IsLaidOut-elsewhere : IsLaidOut heap new
-  IsLaidOut-elsewhere = record {
-    chunks = record {
-      within = omega (arith, changes.size, laid.chunks.within);
-      told = subst (Tell heap.header new heap.span.at 0 heap.footprint) (sym same) told;
-      joined = subst (AreJoined heap.header) (sym same) laid.chunks.joined;
-    };
-    named = λ name. subst (λ (h : HeapStore). length (filter (has_name name) h.blocks) ≤ 1) (sym heap_of-elsewhere) (laid.named name);
-    places = subst (ArePlaced heap.places) (sym heap_of-elsewhere) laid.places;
-    gaps = record {
-      linked = subst (λ l. LinkedTo heap.lowest l None) (sym same) laid.gaps.linked;
-      count = laid.gaps.count ∙ ap (λ l. length (gaps_among l)) (sym same);
-    };
-    freed = record {
-      list = laid.freed.list;
-      linked = subst (λ l. AreFreed l heap.newest laid.freed.list) (sym same) laid.freed.linked;
-      count = laid.freed.count;
-      all = ap (λ (s : HeapStore). length (unnamed s.blocks)) store_same ∙ laid.freed.all;
-    };
-  }
+  IsLaidOut-elsewhere = grind (arith, told, same, heap_of-elsewhere, store_same)

@@ -1,13 +1,5 @@
 -- The chunks that headers tell, and how they stay or change with the bytes.
-use Rattle.std.proofs.Common.{◌≡◌, ℕ, zero, suc, ◌+◌, ◌-◌, ◌≤◌, ◌<◌, ◌⊎◌, inl, inr, List, [], ◌∷◌, ◌++◌, slice_range, false, true, ltb, refl, sym, ap, ◌∙◌, subst, arith}
-use Rattle.std.specs.Prelude.{Option, Some, None, IsSomeAnd}
-use Rattle.std.specs.Int.{from_le_bytes}
-use mir.Syntax.{w32}
-use Rattle.std.proofs.lemmas.Bool.{lt-ltb, le-ltb}
-use Rattle.arena_core.specs.Outside.{ChangesOnly}
-use Rattle.heap_core.specs.declared.chunk.Chunk.{Chunk}
-use Rattle.heap_core.specs.HeapStore.{Block}
-use Rattle.heap_core.specs.Chunks.{is_a_name, word_at, number_in, owner_in, size_in, link_in, chunk_at, chunks_from, least_len, Tell, with_chunk, blocks_in}
+use Rattle.heap_core.proofs.Words.{◌≡◌, ℕ, zero, suc, ◌+◌, ◌-◌, ◌≤◌, ◌<◌, ◌⊎◌, inl, inr, List, [], ◌∷◌, ◌++◌, slice_range, false, true, ltb, refl, sym, ap, ◌∙◌, subst, arith, Option, Some, None, IsSomeAnd, from_le_bytes, w32, lt-ltb, le-ltb, ChangesOnly, Chunk, Block, is_a_name, word_at, number_in, owner_in, size_in, link_in, chunk_at, chunks_from, least_len, Tell, with_chunk, blocks_in}
 
 -- a chunk as the bytes of three words tell it
 abbrev pub told_chunk : ℕ → List ℕ → List ℕ → List ℕ → Chunk
@@ -22,8 +14,7 @@ told_chunk at len second third =
     }
 
 told_same : (at : ℕ) {u v w u' v' w' : List ℕ} → u ≡ u' → v ≡ v' → w ≡ w' → told_chunk at u v w ≡ told_chunk at u' v' w'
-told_same at {v = v} {w = w} {u' = u'} {v' = v'} e f g =
-    ap (λ k. told_chunk at k v w) e ∙ ap (λ k. told_chunk at u' k w) f ∙ ap (λ k. told_chunk at u' v' k) g
+told_same at {v = v} {w = w} {u' = u'} {v' = v'} e f g = grind arith
 
 abbrev pub chunk_of : ℕ → ℕ → Option ℕ → ℕ → Option ℕ → Chunk
 chunk_of at len owner size link = record { at = at; len = len; owner = owner; size = size; link = link }
@@ -32,12 +23,7 @@ pub chunk_is : (B : List ℕ) (b at len : ℕ) (owner : Option ℕ) (size : ℕ)
     → len ≡ word_at B (b + at) → owner ≡ owner_in (word_at B (b + at + 4)) → size ≡ size_in (word_at B (b + at + 4)) → link ≡ link_in owner (word_at B (b + at + 8))
     → chunk_of at len owner size link ≡ chunk_at B b at
 unfolding chunk_at
-chunk_is B b at len owner size link e f g h =
-    let word : ℕ = word_at B (b + at + 4) in
-    ap (λ k. chunk_of at k owner size link) e
-    ∙ ap (λ k. chunk_of at (word_at B (b + at)) owner k link) g
-    ∙ ap (λ k. chunk_of at (word_at B (b + at)) owner (size_in word) k) h
-    ∙ ap (λ k. chunk_of at (word_at B (b + at)) k (size_in word) (link_in k (word_at B (b + at + 8)))) f
+chunk_is B b at len owner size link e f g h = grind arith
 
 -- a live chunk has no link, whatever its third word is
 pub link_named : (owner : Option ℕ) (word : ℕ) → is_a_name owner ≡ true → link_in owner word ≡ None
@@ -57,16 +43,9 @@ told_le header B b at end (c ∷ l) t = omega (arith, told_le header B b (at + c
 -- what the headers tell is what a walk finds
 pub walked : (header n : ℕ) (B : List ℕ) (b at end : ℕ) (l : List Chunk) → Tell header B b at end l → end ≤ at + n → chunks_from n B b at end ≡ l
 walked header zero B b at end [] t few = refl
-walked header zero B b at end (c ∷ l) t few =
-    let enough : least_len header c ≤ c.len = t.1 in absurd (omega (arith, told_le header B b (at + c.len) end l t.2))
+walked header zero B b at end (c ∷ l) t few = grind (arith, told_le)
 walked header (suc n) B b at end [] t few = let far : ltb at end ≡ false = le-ltb at end (omega arith) in rw far refl
-walked header (suc n) B b at end (c ∷ l) t few =
-    let enough : least_len header c ≤ c.len = t.1 in
-    let le = told_le header B b (at + c.len) end l t.2 in
-    let near : ltb at end ≡ true = lt-ltb at end (omega arith) in
-    rw near
-    (ap (λ (k : Chunk). k ∷ chunks_from n B b (at + k.len) end) t.0
-    ∙ ap (λ k. c ∷ k) (walked header n B b (at + c.len) end l t.2 (omega arith)))
+walked header (suc n) B b at end (c ∷ l) t few = let later = walked header n B b (at + c.len) end l t.2 in grind (arith, told_le, lt-ltb)
 
 pub told_append : (header : ℕ) (B : List ℕ) (b x y z : ℕ) (l r : List Chunk) → Tell header B b x y l → Tell header B b y z r → Tell header B b x z (l ++ r)
 told_append header B b x y z [] r s t = subst (λ k. Tell header B b k z r) (sym s) t
@@ -79,31 +58,18 @@ pub record Split (header : ℕ) (B : List ℕ) (b x z : ℕ) (l r : List Chunk) 
 
 pub told_split : (header : ℕ) (B : List ℕ) (b x z : ℕ) (l r : List Chunk) → Tell header B b x z (l ++ r) → Split header B b x z l r
 told_split header B b x z [] r t = record { mid = x; front = refl; back = t }
-told_split header B b x z (c ∷ l) r t =
-    let s = told_split header B b (x + c.len) z l r t.2 in record { mid = s.mid; front = (t.0, t.1, s.front); back = s.back }
+told_split header B b x z (c ∷ l) r t = let later = told_split header B b (x + c.len) z l r t.2 in grind arith
 
 -- bytes that change elsewhere
 module _ (B B' : List ℕ) (b s n : ℕ) (changes : ChangesOnly s n B B') where
   pub chunk_frame : (at : ℕ) → (b + at + 12 ≤ s) ⊎ (s + n ≤ b + at) → chunk_at B' b at ≡ chunk_at B b at
   unfolding chunk_at
-  chunk_frame at side =
-      let sides : (i : ℕ) → i + 4 ≤ 12 → (b + at + i + 4 ≤ s) ⊎ (s + n ≤ b + at + i) =
-      λ i small. elim side [ inl low ↦ inl (omega arith) | inr high ↦ inr (omega arith) ] in
-      told_same at
-      (changes.others (b + at) 4 (elim side [ inl low ↦ inl (omega arith) | inr high ↦ inr (omega arith) ]))
-      (changes.others (b + at + 4) 4 (sides 4 (omega arith)))
-      (changes.others (b + at + 8) 4 (sides 8 (omega arith)))
+  chunk_frame at side = grind arith
 
   -- behind the first two words of a live chunk any byte may change
   pub live_frame : (at : ℕ) (c : Chunk) → chunk_at B b at ≡ c → is_a_name c.owner ≡ true → b + at + 8 ≤ s → chunk_at B' b at ≡ c
   unfolding chunk_at
-  live_frame at c told named low =
-      let word : ℕ = word_at B (b + at + 4) in
-      let mine : is_a_name (owner_in word) ≡ true = ap (λ (k : Chunk). is_a_name k.owner) told ∙ named in
-      let none = λ (third : ℕ). link_named (owner_in word) third mine in
-      told_same at {w = slice_range B' (b + at + 8) (b + at + 8 + 4)} (changes.others (b + at) 4 (inl (omega arith))) (changes.others (b + at + 4) 4 (inl (omega arith))) refl
-      ∙ ap (λ k. chunk_of at (word_at B (b + at)) (owner_in word) (size_in word) k) (none (word_at B' (b + at + 8)) ∙ sym (none (word_at B (b + at + 8))))
-      ∙ told
+  live_frame at c told named low = grind arith
 
 module _ (header : ℕ) (B B' : List ℕ) (b s n : ℕ) (changes : ChangesOnly s n B B') where
   pub told_frame : (x y : ℕ) (l : List Chunk) → (b + y ≤ s) ⊎ (s + n ≤ b + x) → Tell header B b x y l → Tell header B' b x y l
@@ -120,9 +86,7 @@ module _ (header : ℕ) (B B' : List ℕ) (b s n : ℕ) (changes : ChangesOnly s
       → slice_range B' (b + c.at + header) (b + c.at + header + c.size) ≡ slice_range B (b + c.at + header) (b + c.at + header + c.size)
       → with_chunk header B' b c o xs ≡ with_chunk header B b c o ys
   with_chunk_frame c None xs ys e same = e
-  with_chunk_frame c (Some name) xs ys e same =
-      ap (λ bytes. (let block : Block = record { name = name; at = c.at; room = c.len - header; bytes = bytes } in block) ∷ xs) same
-      ∙ ap (λ l. (let block : Block = record { name = name; at = c.at; room = c.len - header; bytes = slice_range B (b + c.at + header) (b + c.at + header + c.size) } in block) ∷ l) e
+  with_chunk_frame c (Some name) xs ys e same = grind arith
 
   pub blocks_frame : (x y : ℕ) (l : List Chunk) → (b + y ≤ s) ⊎ (s + n ≤ b + x) → Tell header B b x y l → blocks_in header B' b l ≡ blocks_in header B b l
   blocks_frame x y [] side t = refl
@@ -140,8 +104,7 @@ with_chunk_append header B b c (Some name) xs ys = refl
 
 pub blocks_append : (header : ℕ) (B : List ℕ) (b : ℕ) (l r : List Chunk) → blocks_in header B b (l ++ r) ≡ blocks_in header B b l ++ blocks_in header B b r
 blocks_append header B b [] r = refl
-blocks_append header B b (c ∷ l) r =
-    ap (with_chunk header B b c c.owner) (blocks_append header B b l r) ∙ with_chunk_append header B b c c.owner (blocks_in header B b l) (blocks_in header B b r)
+blocks_append header B b (c ∷ l) r = let later = blocks_append header B b l r in grind arith
 
 pub owner_cases : (o : Option ℕ) → (o ≡ None) ⊎ ((name : ℕ) × (o ≡ Some name))
 owner_cases None = inl refl
@@ -156,16 +119,10 @@ owner_live None h = absurd h
 owner_live (Some name) h = lt-ltb name 272 h
 
 pub changes_then : (s n : ℕ) (A B C : List ℕ) → ChangesOnly s n A B → ChangesOnly s n B C → ChangesOnly s n A C
-changes_then s n A B C first second = record {
-  size = second.size ∙ first.size;
-  others = λ from m apart. second.others from m apart ∙ first.others from m apart;
-}
+changes_then s n A B C first second = grind arith
 
 pub changes_more : (s n t m : ℕ) (A B : List ℕ) → ChangesOnly s n A B → t ≤ s → s + n ≤ t + m → ChangesOnly t m A B
-changes_more s n t m A B changes low high = record {
-  size = changes.size;
-  others = λ from k apart. changes.others from k (elim apart [ inl l ↦ inl (omega arith) | inr h ↦ inr (omega arith) ]);
-}
+changes_more s n t m A B changes low high = grind arith
 
 -- bytes that change behind a live chunk's header
 pub told_body : (header : ℕ) (B B' : List ℕ) (b x y n : ℕ) (c : Chunk) (l : List Chunk) → 8 ≤ header → is_a_name c.owner ≡ true → ChangesOnly (b + x + header) n B B' → header + n ≤ c.len → Tell header B b x y (c ∷ l) → Tell header B' b x y (c ∷ l)

@@ -1,14 +1,5 @@
 -- A chunk that became one with the gaps beside it: a gap, or a part of the top gap.
-use Rattle.std.proofs.Common.{◌≡◌, ◌≢◌, ℕ, ◌+◌, ◌-◌, ◌≤◌, List, length, sym, ap, ◌∙◌, subst, arith}
-use Rattle.std.specs.Prelude.{Option, Some, None}
-use Rattle.arena_core.specs.Outside.{ChangesOnly}
-use Rattle.heap_core.specs.declared.chunk.Chunk.{Chunk}
-use Rattle.heap_core.specs.declared.region.Region.{Region}
-use Rattle.heap_core.specs.Chunks.{chunk_at}
-use Rattle.heap_core.specs.Layout.{chunks_of, HasChunks}
-use Rattle.heap_core.specs.FreeList.{gaps_among, Stands}
-use Rattle.heap_core.specs.Code.Links.{Cleared}
-use Rattle.heap_core.specs.Code.Walks.{chunks_before, chunks_behind, free_from, front_gap}
+use Rattle.heap_core.proofs.Words.{rules, ◌≡◌, ◌≢◌, ℕ, ◌+◌, ◌-◌, ◌≤◌, List, length, sym, ap, ◌∙◌, subst, arith, Option, Some, None, ChangesOnly, Chunk, Region, chunk_at, chunks_of, HasChunks, gaps_among, Stands, Cleared, chunks_before, chunks_behind, free_from, front_gap}
 use Rattle.heap_core.proofs.Releases.{from_below, end_below, cleared_top, cleared_gap}
 use Rattle.heap_core.proofs.Standing.{Around, around, before_is, behind_is}
 use Rattle.heap_core.proofs.ChunkHeaders.{chunk_of}
@@ -32,12 +23,7 @@ module _ (heap : Region) (B : List ℕ) (has : HasChunks heap B) (chunk : Chunk)
   end_is = ends ∙ ap (λ l. chunk.at + chunk.len + front_gap l) (behind_is heap B chunk a)
 
   pub sides : Sides heap chunk from end
-  sides = record {
-    long = omega (arith, a.enough);
-    low = omega (arith, from_is, from_below heap B has chunk a live);
-    high = omega (arith, end_is);
-    most = omega (arith, end_is, end_below heap B has chunk a live);
-  }
+  sides = search (rules, a, from_is, from_below, end_is, end_below)
 
   pub into_top : (new : Region) (link : Option ℕ) → new.span ≡ heap.span → new.header ≡ heap.header → new.footprint ≡ from → new.gaps ≡ length (gaps_among (chunks_of heap B)) → end ≡ heap.footprint → Cleared heap new B B chunk from end link link
   into_top new link span header top count last =

@@ -1,13 +1,6 @@
 -- Blocks that lie in order, blocks that don't, and what it comes to that blocks lie apart.
-use Rattle.std.proofs.Common.{◌≡◌, ◌≢◌, ℕ, ◌+◌, ◌≤◌, ◌⊎◌, inl, inr, List, [], ◌∷◌, length, Some, sym, subst, arith}
-use Rattle.mote_types.specs.BlockNames.{IsName}
-use Rattle.arena_core.specs.declared.span.Span.{Span}
-use Rattle.arena_core.specs.Contents.{Contents}
-use Rattle.arena_core.specs.Extents.{Extent, AreApart}
+use Rattle.heap_core.proofs.Words.{◌≡◌, ◌≢◌, ℕ, ◌+◌, ◌≤◌, ◌⊎◌, inl, inr, List, [], ◌∷◌, length, sym, subst, arith, IsName, Span, Contents, Extent, AreApart, heap_of, KeepsToSpan, Block, HeapStore, LieApart, live_block, BlocksLieApart, Some}
 use Rattle.heap_core.specs.declared.heap.Heap.{Heap}
-use Rattle.heap_core.specs.HeapBytes.{heap_of, KeepsToSpan}
-use Rattle.heap_core.specs.HeapStore.{Block, HeapStore, LieApart}
-use Rattle.heap_core.specs.Separation.{live_block, BlocksLieApart}
 
 block_at : ℕ → ℕ → List ℕ → Block
 block_at at room bytes = record { name = 16; at = at; room = room; bytes = bytes }

@@ -1,13 +1,5 @@
 -- The free list has all chunks but the live blocks.
-use Rattle.std.proofs.Common.{◌≡◌, ℕ, ◌+◌, Bool, true, false, not, List, [], ◌∷◌, length, refl, arith, Option, Some, None}
-use Rattle.std.specs.Prelude.{filter, nat_lt}
-use Rattle.heap_core.specs.declared.chunk.Chunk.{Chunk}
-use Rattle.heap_core.specs.declared.region.Region.{Region}
-use Rattle.heap_core.specs.Chunks.{FREED, is_a_name, blocks_in, with_chunk}
-use Rattle.heap_core.specs.FreeList.{free_chunks, gaps_among, with_free, unnamed}
-use Rattle.heap_core.specs.HeapBytes.{IsLaidOut, linked_of}
-use Rattle.heap_core.specs.HeapStore.{Block}
-use Rattle.heap_core.specs.Layout.{chunks_of}
+use Rattle.heap_core.proofs.Words.{◌≡◌, ℕ, ◌+◌, Bool, true, false, not, List, [], ◌∷◌, length, refl, arith, filter, nat_lt, Chunk, Region, FREED, is_a_name, blocks_in, with_chunk, free_chunks, gaps_among, with_free, unnamed, IsLaidOut, linked_of, Block, chunks_of, Option, Some, None}
 
 abbrev free_among : List Chunk → List Chunk
 free_among chunks = filter (λ (chunk : Chunk). not (is_a_name chunk.owner)) chunks
@@ -32,5 +24,4 @@ module _ (header : ℕ) (bytes : List ℕ) (base : ℕ) where
   count (chunk ∷ chunks) = by_owner chunk chunks (count chunks) chunk.owner refl
 
 pub all_linked : (heap : Region) (bytes : List ℕ) → IsLaidOut heap bytes → linked_of heap ≡ length (free_chunks heap bytes)
-all_linked heap bytes laid =
-    omega (arith, count heap.header bytes heap.span.at (chunks_of heap bytes), laid.freed.all, laid.gaps.count)
+all_linked heap bytes laid = grind (arith, count)

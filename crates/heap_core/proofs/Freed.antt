@@ -1,21 +1,5 @@
 -- Chunks that were freed and are not joined yet.
-use Rattle.std.proofs.Common.{◌≡◌, ◌≢◌, ℕ, suc, ◌+◌, ◌-◌, ◌≤◌, ◌<◌, inl, inr, Bool, not, List, [], ◌∷◌, ◌++◌, length, true, false, ltb, refl, sym, ap, ◌∙◌, subst, arith}
-use Rattle.std.specs.Prelude.{Option, Some, None, IfSome, filter, map}
-use Rattle.std.proofs.lemmas.Bool.{cases_Bool, ltb-true, lt-ltb, le-ltb, false≢true}
-use Rattle.std.proofs.lemmas.List.{length-append}
-use Rattle.std.proofs.lemmas.List.Elements.{filter-append, All-nil}
-use Rattle.arena_core.specs.Outside.{ChangesOnly}
-use Rattle.arena_core.specs.declared.span.Span.{Span}
-use Rattle.heap_core.specs.declared.chunk.Chunk.{Chunk}
-use Rattle.heap_core.specs.declared.region.Region.{Region}
-use Rattle.heap_core.specs.HeapStore.{Block, HeapStore, placed}
-use Rattle.heap_core.specs.HeapBytes.{heap_of}
-use Rattle.heap_core.specs.Chunks.{FREED, is_a_name, chunk_at, Tell, AreJoined, with_chunk, blocks_in, is_named}
-use Rattle.heap_core.specs.Layout.{chunks_of, store_of, HasChunks}
-use Rattle.heap_core.specs.FreeList.{gaps_among, LinkedTo, NoneAt, AreFreed, unnamed, GapsLinked, FreedLinked, Stands, LiveIn}
-use Rattle.heap_core.specs.Code.Joins.{Aside}
-use Rattle.heap_core.specs.Code.Links.{KeepsFreed}
-use Rattle.heap_core.specs.Code.Walks.{block_in_chunk}
+use Rattle.heap_core.proofs.Words.{rules, ◌≡◌, ◌≢◌, ℕ, suc, ◌+◌, ◌-◌, ◌≤◌, ◌<◌, inl, inr, Bool, not, List, [], ◌∷◌, ◌++◌, length, true, false, ltb, refl, sym, ap, ◌∙◌, subst, arith, Option, Some, None, IfSome, filter, map, cases_Bool, ltb-true, lt-ltb, le-ltb, false≢true, length-append, filter-append, All-nil, ChangesOnly, Span, Chunk, Region, Block, HeapStore, placed, heap_of, FREED, is_a_name, chunk_at, Tell, AreJoined, with_chunk, blocks_in, is_named, chunks_of, store_of, HasChunks, gaps_among, LinkedTo, NoneAt, AreFreed, unnamed, GapsLinked, FreedLinked, Stands, LiveIn, Aside, KeepsFreed, block_in_chunk}
 use Rattle.heap_core.proofs.Blocks.{elsewhere}
 use Rattle.heap_core.proofs.Gaps.{many}
 use Rattle.heap_core.proofs.Lists.{gaps_append, live_first, linked_parted, linked_live, link_live, linked_append}
@@ -27,16 +11,7 @@ use Rattle.heap_core.proofs.ChunkHeaders.{blocks_append, changes_more}
 
 pub filter_swap : (p q : Block → Bool) (xs : List Block) → filter p (filter q xs) ≡ filter q (filter p xs)
 filter_swap p q [] = refl
-filter_swap p q (x ∷ xs) = elim (cases_Bool (p x)) [
-  | inl is ↦ elim (cases_Bool (q x)) [
-    | inl also ↦ rw also (rw is (rw also (ap (λ l. x ∷ l) (filter_swap p q xs))))
-    | inr never ↦ rw never (rw is (rw never (filter_swap p q xs)))
-  ]
-  | inr not_so ↦ elim (cases_Bool (q x)) [
-    | inl also ↦ rw also (rw not_so (filter_swap p q xs))
-    | inr never ↦ rw never (rw not_so (filter_swap p q xs))
-  ]
-]
+filter_swap p q (x ∷ xs) = let later = filter_swap p q xs in grind arith
 
 fewer : (p : Block → Bool) (xs : List Block) → length (filter p xs) ≤ length xs
 fewer p [] = omega arith
@@ -45,10 +20,7 @@ fewer p (x ∷ xs) = let later = fewer p xs in elim (cases_Bool (p x)) [ inl is 
 -- with none that has no name all have one
 pub all_named : (xs : List Block) → length (unnamed xs) ≡ 0 → filter is_named xs ≡ xs
 all_named [] e = refl
-all_named (x ∷ xs) e = elim (cases_Bool (is_named x)) [
-  | inl named ↦ rw named (ap (λ l. x ∷ l) (all_named xs (rw named at e)))
-  | inr none ↦ absurd (let some : length (x ∷ unnamed xs) ≡ 0 = rw none at e in omega (arith, some))
-]
+all_named (x ∷ xs) e = let later = all_named xs in grind arith
 
 pub owner_named : (o : Option ℕ) → is_a_name o ≡ true → (name : ℕ) × (o ≡ Some name) × (name < 272)
 owner_named None e = absurd (false≢true e)
@@ -64,9 +36,7 @@ module _ (heap : Region) (B : List ℕ) (has : HasChunks heap B) where
   T = chunks_of heap B
 
   pub freed_small : FreedLinked heap B → heap.freed ≤ 8192
-  freed_small f =
-      let all = many heap.header B heap.span.at 0 heap.footprint T has.told in
-      omega (arith, f.all, fewer (λ block. not (is_named block)) (store_of heap B).blocks, heap.inside, heap.small)
+  freed_small f = grind (arith, many, fewer)
 
   pub newest_small : FreedLinked heap B → IfSome heap.newest (λ place. place < 65536)
   newest_small f = from f.list f.linked
@@ -131,20 +101,14 @@ module _ (heap : Region) (B : List ℕ) (has : HasChunks heap B) where
     other_blocks = left_apart heap B has chunk at is_live
 
     filtered : (p : Block → Bool) (middle : List Block) (k : Block) → p k ≡ false → filter p (xs ++ (k ∷ ys)) ≡ filter p (xs ++ ys)
-    filtered p middle k gone =
-        let here : filter p (k ∷ ys) ≡ filter p ys = rw gone refl in
-        filter-append p xs (k ∷ ys) ∙ ap (λ l. filter p xs ++ l) here ∙ sym (filter-append p xs ys)
+    filtered p middle k gone = grind (arith, k, filter-append)
 
     counted : (p : Block → Bool) (k : Block) → p k ≡ true → length (filter p (xs ++ (k ∷ ys))) ≡ 1 + length (filter p (xs ++ ys))
-    counted p k kept =
-        let here : filter p (k ∷ ys) ≡ k ∷ filter p ys = rw kept refl in
-        omega (arith, ap length (filter-append p xs (k ∷ ys) ∙ ap (λ l. filter p xs ++ l) here), length-append (filter p xs) (k ∷ filter p ys), ap length (filter-append p xs ys), length-append (filter p xs) (filter p ys))
+    counted p k kept = grind (arith, k, filter-append, length-append)
 
     -- a chunk without a name is no block
     pub named_without : 272 ≤ name → filter is_named (filter (elsewhere chunk.at) (store_of heap B).blocks) ≡ filter is_named (store_of heap B).blocks
-    named_without big =
-        let none : is_named block ≡ false = le-ltb name 272 big in
-        ap (filter is_named) other_blocks ∙ sym (ap (filter is_named) all_blocks ∙ filtered is_named [] block none)
+    named_without big = grind (arith, le-ltb, other_blocks, all_blocks, filtered)
 
     pub unnamed_without : 272 ≤ name → length (unnamed (store_of heap B).blocks) ≡ 1 + length (unnamed (filter (elsewhere chunk.at) (store_of heap B).blocks))
     unnamed_without big =
@@ -208,18 +172,10 @@ module _ (heap : Region) (B : List ℕ) (has : HasChunks heap B) where
       )
 
       set_gaps : gaps_among (chunks_of new B') ≡ gaps_among T
-      set_gaps =
-          ap gaps_among set.is
-          ∙ gaps_append at.before (aside ∷ at.behind)
-          ∙ ap (λ l. gaps_among at.before ++ l) (sym (live_first chunk name at.behind owner))
-          ∙ sym (ap gaps_among at.is ∙ gaps_append at.before (chunk ∷ at.behind))
+      set_gaps = grind (arith, set, gaps_append, at, live_first)
 
       set_linked : LinkedTo heap.lowest T None → LinkedTo heap.lowest (chunks_of new B') None
-      set_linked linked =
-          let p = linked_parted heap.lowest None at.before (chunk ∷ at.behind) (subst (λ l. LinkedTo heap.lowest l None) at.is linked) in
-          subst (λ l. LinkedTo heap.lowest l None) (sym set.is)
-          (linked_append heap.lowest p.mid None at.before (aside ∷ at.behind) p.front
-          (link_live p.mid None FREED aside at.behind refl (linked_live p.mid None name chunk at.behind owner p.back)))
+      set_linked linked = grind (arith, linked_parted, at, set, linked_append, link_live, linked_live)
 
       pub set_aside : new.newest ≡ Some chunk.at → new.freed ≡ heap.freed + 1 → new.lowest ≡ heap.lowest → new.gaps ≡ heap.gaps → GapsLinked heap B → FreedLinked heap B → Aside heap new B B' chunk
       set_aside newest freed lowest gaps g f = record {
@@ -245,18 +201,10 @@ module _ (heap : Region) (B : List ℕ) (has : HasChunks heap B) where
 -- a block with a name is put among the others
 pub placed_unnamed : (block : Block) (xs : List Block) → is_named block ≡ true → length (unnamed (placed block xs)) ≡ length (unnamed xs)
 placed_unnamed block [] named = rw named refl
-placed_unnamed block (x ∷ xs) named = elim (cases_Bool (ltb block.at x.at)) [
-  | inl near ↦ rw near (rw named refl)
-  | inr far ↦
-      let later = placed_unnamed block xs named in
-      let first : unnamed (placed block (x ∷ xs)) ≡ unnamed (x ∷ placed block xs) = rw far refl in
-      ap length first ∙ elim (cases_Bool (is_named x)) [ inl is ↦ rw is later | inr never ↦ rw never (ap suc later) ]
-]
+placed_unnamed block (x ∷ xs) named = let later = placed_unnamed block xs named in grind arith
 
 pub none_unnamed : (p : Block → Bool) (xs : List Block) → length (unnamed xs) ≡ 0 → length (unnamed (filter p xs)) ≡ 0
-none_unnamed p xs none =
-    let same = ap length (filter_swap (λ block. not (is_named block)) p xs) in
-    omega (arith, fewer p (unnamed xs))
+none_unnamed p xs none = grind (arith, filter_swap, fewer)
 
 -- with no chunk set aside there is no list of them
 pub freed_none : (old new : Region) (B B' : List ℕ) → FreedLinked old B → old.freed ≡ 0 → KeepsFreed old new → length (unnamed (store_of new B').blocks) ≡ 0 → FreedLinked new B'
@@ -278,7 +226,4 @@ plain heap B f none = ap (λ blocks. let h : HeapStore = record { size = heap.sp
 -- blocks that change but stay among the named, or among those without a name
 pub filter_map : (p : Block → Bool) (f : Block → Block) → ((block : Block) → p (f block) ≡ p block) → (xs : List Block) → filter p (map f xs) ≡ map f (filter p xs)
 filter_map p f keeps [] = refl
-filter_map p f keeps (x ∷ xs) = elim (cases_Bool (p x)) [
-  | inl is ↦ let here : p (f x) ≡ true = keeps x ∙ is in rw is (rw here (ap (λ l. f x ∷ l) (filter_map p f keeps xs)))
-  | inr never ↦ let here : p (f x) ≡ false = keeps x ∙ never in rw never (rw here (filter_map p f keeps xs))
-]
+filter_map p f keeps (x ∷ xs) = let later = filter_map p f keeps xs in grind arith

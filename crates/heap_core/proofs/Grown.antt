@@ -1,13 +1,5 @@
 -- A gap that grows, as what lies behind it is freed: the list of the gaps leads to it already.
-use Rattle.std.proofs.Common.{◌≡◌, ◌≢◌, ◌+◌, ◌∷◌, [], inl, inr, ℕ, List, refl, sym, ◌∙◌, subst}
-use Rattle.std.specs.Prelude.{Option, Some, None}
-use Rattle.std.proofs.lemmas.Bool.{cases_eq}
-use Rattle.heap_core.specs.declared.chunk.Chunk.{Chunk}
-use Rattle.heap_core.specs.declared.region.Region.{Region}
-use Rattle.heap_core.specs.Layout.{chunks_of, HasChunks}
-use Rattle.heap_core.specs.FreeList.{LinkedTo, gaps_among}
-use Rattle.heap_core.specs.Code.Links.{Exchanged, gap_from, last_of}
-use Rattle.heap_core.specs.Code.Walks.{free_from}
+use Rattle.heap_core.proofs.Words.{arith, ◌≡◌, ◌≢◌, ◌+◌, ◌∷◌, [], inl, inr, ℕ, List, refl, sym, ◌∙◌, subst, Option, Some, None, cases_eq, Chunk, Region, chunks_of, HasChunks, LinkedTo, gaps_among, Exchanged, gap_from, last_of, free_from}
 use Rattle.heap_core.proofs.Lists.{linked_append, linked_gap, last_stands, free_no_gap, free_gap_there, free_gap_below, ends_of}
 use Rattle.heap_core.proofs.Standing.{Around, around}
 
@@ -37,6 +29,4 @@ module _ (heap : Region) (B : List ℕ) (has : HasChunks heap B) (linked : Linke
   pub list_grown : (new : Region) (B' : List ℕ) (p q : ℕ) (first link : Option ℕ) → Exchanged heap new B B' p q first link → from_place p ≡ first → link ≡ from_place q → new.lowest ≡ heap.lowest → LinkedTo new.lowest (chunks_of new B') None
   list_grown new B' p q first link x there at_link same =
       let e = ends_of heap B p q x.before x.gone x.behind has linked x.was x.front x.back in
-      let front : LinkedTo new.lowest x.before first = subst (λ k. LinkedTo k x.before first) (sym same) (subst (LinkedTo heap.lowest x.before) (sym e.next ∙ there) e.front) in
-      subst (λ all. LinkedTo new.lowest all None) (sym x.is)
-      (linked_append new.lowest first None x.before _ front (linked_append first link None x.mid x.behind x.linked (subst (λ k. LinkedTo k x.behind None) (sym at_link) e.back)))
+      let front : LinkedTo new.lowest x.before first = subst (λ k. LinkedTo k x.before first) (sym same) (subst (LinkedTo heap.lowest x.before) (sym e.next ∙ there) e.front) in grind (arith, ends_of, linked_append)

@@ -1,19 +1,5 @@
 -- A live chunk that is laid into a hole, and the holes that there are.
-use Rattle.std.proofs.Common.{◌≡◌, ◌≢◌, ℕ, ◌+◌, ◌-◌, ◌≤◌, ◌<◌, ◌⊎◌, inl, inr, List, [], ◌∷◌, ◌++◌, length, Some, None, refl, sym, ap, ◌∙◌, subst, arith}
-use Rattle.std.specs.Prelude.{Option, IfSome, filter}
-use Rattle.std.proofs.lemmas.Bool.{cases_eq}
-use Rattle.std.proofs.lemmas.List.{append-nil}
-use Rattle.arena_core.specs.Outside.{ChangesOnly}
-use Rattle.heap_core.specs.declared.chunk.Chunk.{Chunk}
-use Rattle.heap_core.specs.declared.chunk.Place.{Place}
-use Rattle.heap_core.specs.declared.region.Region.{Region}
-use Rattle.heap_core.specs.HeapStore.{Block, HeapStore, placed, block_at, with_block, least_room, room_in_place}
-use Rattle.heap_core.specs.Chunks.{shortest, least_len, Tell, BeginsLive, IsWhole, AreJoined, with_chunk, blocks_in}
-use Rattle.heap_core.specs.Code.Holes.{Hole, Fits, Leaves, Laid, Free}
-use Rattle.heap_core.specs.Layout.{chunks_of, HasChunks, store_of}
-use Rattle.heap_core.specs.FreeList.{LinkedTo, gaps_among, LiveIn, GapsLinked}
-use Rattle.heap_core.specs.Code.Links.{gap_count, gap_below, gap_from, Relinked}
-use Rattle.heap_core.specs.Code.Walks.{chunks_behind, GapAt, Owned, laid, front_gap, place_in_chunk, at_place, bytes_in_chunk, LeavesGap, IsWholeRoom}
+use Rattle.heap_core.proofs.Words.{rules, ◌≡◌, ◌≢◌, ℕ, ◌+◌, ◌-◌, ◌≤◌, ◌<◌, ◌⊎◌, inl, inr, List, [], ◌∷◌, ◌++◌, length, refl, sym, ap, ◌∙◌, subst, arith, Option, IfSome, filter, cases_eq, append-nil, ChangesOnly, Chunk, Place, Region, Block, HeapStore, placed, block_at, with_block, least_room, room_in_place, shortest, least_len, Tell, BeginsLive, IsWhole, AreJoined, with_chunk, blocks_in, Hole, Fits, Leaves, Laid, Free, chunks_of, HasChunks, store_of, LinkedTo, gaps_among, LiveIn, GapsLinked, gap_count, gap_below, gap_from, Relinked, chunks_behind, GapAt, Owned, laid, front_gap, place_in_chunk, at_place, bytes_in_chunk, LeavesGap, IsWholeRoom, Some, None}
 use Rattle.heap_core.proofs.Beside.{room_is, Taken, taken, front_gap_whole}
 use Rattle.heap_core.proofs.Blocks.{blocks_between, placed_behind, placed_front, elsewhere}
 use Rattle.heap_core.proofs.Gaps.{none_in_front}
@@ -32,31 +18,20 @@ module _ (header : ℕ) (B B' : List ℕ) (b : ℕ) (live : Chunk) (name : ℕ) 
   is_live none = absurd (let two : None ≡ Some name = sym none ∙ owner in cc)
 
   pub live_block : bytes_in_chunk header B' b live ≡ bytes_in_chunk header B b live → (ys : List Block) → blocks_in header B' b (live ∷ []) ++ ys ≡ with_chunk header B b live live.owner ys
-  live_block same ys =
-      ap (λ o. with_chunk header B' b live o [] ++ ys) owner
-      ∙ ap (λ bytes. (let k : Block = record { name = name; at = live.at; room = live.len - header; bytes = bytes } in k) ∷ ys) same
-      ∙ sym (ap (λ o. with_chunk header B b live o ys) owner)
+  live_block same ys = grind arith
 
   pub live_joined : IsWhole header live → (behind : List Chunk) → AreJoined header behind → AreJoined header (live ∷ behind)
   live_joined whole behind joined = ((λ none. absurd (is_live none)), whole, joined)
 
   module _ (len : ℕ) (link : Option ℕ) (least : 16 ≤ shortest header) (rest : (live.len ≡ len) ⊎ LeavesGap header live.len len) where
     pub laid_block : bytes_in_chunk header B' b live ≡ bytes_in_chunk header B b live → (ys : List Block) → blocks_in header B' b (laid live len link) ++ ys ≡ with_chunk header B b live live.owner ys
-    laid_block same ys = elim rest [
-      | inl e ↦ ap (λ l. blocks_in header B' b l ++ ys) (laid_all live len link e) ∙ live_block same ys
-      | inr less ↦ ap (λ l. blocks_in header B' b l ++ ys) (laid_some live len link (omega (arith, least, less.0))) ∙ live_block same ys
-    ]
+    laid_block same ys = grind arith
 
     pub laid_begins : (behind : List Chunk) → BeginsLive (laid live len link ++ behind)
     laid_begins behind = is_live
 
     pub laid_joined : IsWhole header live → (behind : List Chunk) → BeginsLive behind → AreJoined header behind → AreJoined header (laid live len link ++ behind)
-    laid_joined whole behind begins joined = elim rest [
-      | inl e ↦ subst (λ l. AreJoined header (l ++ behind)) (sym (laid_all live len link e)) (live_joined whole behind joined)
-      | inr less ↦
-          subst (λ l. AreJoined header (l ++ behind)) (sym (laid_some live len link (omega (arith, least, less.0))))
-          ((λ none. absurd (is_live none)), whole, ((λ none. begins), (omega (arith, less.0), less.1), joined))
-    ]
+    laid_joined whole behind begins joined = grind arith
 
 module _ (heap new : Region) (B B' : List ℕ) (live : Chunk) (before mid behind : List Chunk) (y : ℕ) (same : new.span ≡ heap.span) (same_header : new.header ≡ heap.header) (within : heap.span.at + heap.span.len ≤ length B)
     (changes : ChangesOnly (heap.span.at + live.at) (y - live.at) B B') (front : Tell heap.header B heap.span.at 0 live.at before)
@@ -66,16 +41,7 @@ module _ (heap new : Region) (B B' : List ℕ) (live : Chunk) (before mid behind
   there = spliced heap new B B' live.at y before mid behind same same_header within changes front told back joined
 
   pub laid_between : (first link : Option ℕ) → LinkedTo first mid link → new.gaps ≡ heap.gaps + length (gaps_among mid) → Laid heap new B B' live before behind first link
-  laid_between first link linked count = record {
-    mid = mid;
-    is = there.is;
-    linked = linked;
-    count = count;
-    chunks = there.has;
-    store = there.store
-        ∙ ap (λ l. let h : HeapStore = record { size = heap.span.len; header = heap.header; blocks = blocks_in heap.header B heap.span.at before ++ l } in h) (blocks (blocks_in heap.header B heap.span.at behind));
-    kept = there.kept;
-  }
+  laid_between first link linked count = grind (arith, there)
 
 -- a chunk that fits is as long as it needs
 pub fits_least : (heap : Region) (live : Chunk) (end : ℕ) → Fits heap live end → least_len heap.header live ≤ live.len
@@ -117,10 +83,7 @@ module _ (heap : Region) (B : List ℕ) (target : Place) (end n taken : ℕ) (ol
   -- its bytes are written first
   module _ (B1 : List ℕ) (changes : ChangesOnly (s + target.at + heap.header) n B B1) where
     above : (r.hole.behind ≡ []) ⊎ (target.at + heap.header + n ≤ end)
-    above = elim r.rest [
-      | inl e ↦ inl (ended heap.header B s end heap.footprint r.hole.behind r.hole.back (omega (arith, e)))
-      | inr f ↦ elim f [ inl all ↦ inr (omega (arith, r.enough)) | inr some ↦ inr (omega (arith, r.enough, some.0)) ]
-    ]
+    above = grind (arith, r, ended)
 
     back : Tell heap.header B1 s end heap.footprint r.hole.behind
     back = elim above [
@@ -153,10 +116,7 @@ module _ (heap : Region) (B : List ℕ) (target : Place) (end n taken : ℕ) (ol
     ys = blocks_in heap.header B s r.hole.behind
 
     in_front : (block : Block) → block.at ≡ target.at → placed block ys ≡ block ∷ ys
-    in_front block at = elim above [
-      | inl none ↦ subst (λ l. placed block (blocks_in heap.header B s l) ≡ block ∷ blocks_in heap.header B s l) (sym none) refl
-      | inr f ↦ placed_front end heap.footprint block ys (blocks_between heap.header B s end heap.footprint r.hole.behind r.hole.back) (omega (arith, at))
-    ]
+    in_front block at = grind (arith, above, placed_front, blocks_between, r)
 
     pub put : HasChunks heap B → GapsLinked heap B → (new : Region) (B2 : List ℕ) (last : Option Chunk) (first link : Option ℕ) → Laid heap new B1 B2 live into.before into.behind first link
         → last ≡ gap_below target.at (gaps_among (chunks_of heap B)) → link ≡ gap_from end (gaps_among (chunks_of heap B)) → Put heap new B B1 B2 target name n taken olds last first
@@ -300,22 +260,10 @@ module _ (heap : Region) (B : List ℕ) (has : HasChunks heap B) (chunk : Chunk)
           (sym (room_is heap B chunk n own has owns) ∙ chosen)
 
       own_rest : Leaves heap (chunk.at + (heap.header + room)) end
-      own_rest = elim (cases_eq (chunk.at + chunk.len) heap.footprint) [
-        | inl last ↦ inl (omega (arith, last, own_end))
-        | inr more ↦ inr (elim (known.below more) [
-          | inl e ↦ inl (omega (arith, own.enough, gap_same))
-          | inr less ↦ inr (omega (arith, own.enough, gap_same, less.0), omega (arith, own.enough, gap_same, less.0, less.1))
-        ])
-      ]
+      own_rest = grind (arith, cases_eq, own_end, known, own, gap_same)
 
       own_inside : chunk.at + (heap.header + room) ≤ heap.span.len
-      own_inside = elim (cases_eq (chunk.at + chunk.len) heap.footprint) [
-        | inl last ↦ omega (arith, known.on_top last, own.enough, last, heap.inside)
-        | inr more ↦ elim own_rest [
-          | inl e ↦ elim (known.below more) [ inl f ↦ omega (arith, own.enough, gap_same, own_end, heap.inside) | inr f ↦ omega (arith, own.enough, gap_same, own_end, heap.inside, f.0) ]
-          | inr f ↦ elim f [ inl e ↦ omega (arith, own_end, heap.inside) | inr less ↦ omega (arith, own_end, heap.inside, less.0) ]
-        ]
-      ]
+      own_inside = grind (arith, cases_eq, known, own, own_rest, gap_same, own_end)
 
       pub own_room : Room heap B (at_place chunk.at room) end n (gap_count gap) (filter (elsewhere chunk.at) (store_of heap B).blocks)
       own_room =

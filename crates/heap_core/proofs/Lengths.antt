@@ -1,17 +1,9 @@
 -- What holds of both lengths of a header.
-use Rattle.std.proofs.Common.{◌≡◌, ℕ, ◌+◌, ◌%◌, ◌≤◌, inl, inr, sym, subst, arith}
-use Rattle.std.proofs.lemmas.Bool.{cases_eq}
-use Rattle.heap_core.specs.declared.region.Region.{Region}
-use Rattle.heap_core.specs.HeapStore.{IsHeaderLength, least_room}
-use Rattle.heap_core.specs.Chunks.{shortest}
-use Rattle.heap_core.specs.Code.Walks.{IsWholeRoom}
+use Rattle.heap_core.proofs.Words.{◌≡◌, ℕ, ◌+◌, ◌%◌, ◌≤◌, inl, inr, sym, subst, arith, cases_eq, Region, IsHeaderLength, least_room, shortest, IsWholeRoom}
 
 -- a heap has one of the two
 pub header_length : (heap : Region) → IsHeaderLength heap.header
-header_length heap = elim (cases_eq heap.header 16) [
-  | inl e ↦ inl e
-  | inr ne ↦ inr (omega (arith, ne, heap.header_least, heap.header_most, heap.header_whole))
-]
+header_length heap = grind arith
 
 -- a header and the shortest chunk
 pub record Known (header : ℕ) : Type 0 where

@@ -31,4 +31,5 @@ pub mod Stored
 pub mod Sums
 pub mod ChunkHeaders
 pub mod Walked
+pub mod Words
 pub mod WrittenHeaders

@@ -1,16 +1,5 @@
 -- The list of the gaps: walks along it, and what stays of it where chunks are exchanged.
-use Rattle.std.proofs.Common.{◌≡◌, ◌≢◌, ℕ, zero, suc, ◌+◌, ◌*◌, ◌≤◌, ◌<◌, ◌⊎◌, inl, inr, List, [], ◌∷◌, ◌++◌, length, true, false, eqb, ltb, leb, refl, sym, ap, ◌∙◌, subst, arith}
-use Rattle.std.specs.Prelude.{Option, Some, None, IfSome, fold}
-use Rattle.std.proofs.lemmas.Bool.{lt-ltb, le-ltb, le-leb, lt-leb, ne_eqb, cases_Bool}
-use Rattle.std.proofs.lemmas.List.{append_assoc, length-append}
-use Rattle.std.proofs.lemmas.List.Sums.{fold-append}
-use Rattle.heap_core.specs.declared.chunk.Chunk.{Chunk}
-use Rattle.heap_core.specs.declared.region.Region.{Region}
-use Rattle.heap_core.specs.Chunks.{least_len, chunk_at, Tell}
-use Rattle.heap_core.specs.Layout.{chunks_of, HasChunks}
-use Rattle.heap_core.specs.FreeList.{with_free, gaps_among, Meets, behind_link, LinkedTo, Stands}
-use Rattle.heap_core.specs.Code.Links.{gap_count, chunks_along, Follow, lower, higher, gap_below, gap_from, last_of, gaps_from_place, Relinked, Exchanged, KeepsFreed}
-use Rattle.heap_core.specs.Code.Walks.{free_behind, free_from}
+use Rattle.heap_core.proofs.Words.{rules, ◌≡◌, ◌≢◌, ℕ, zero, suc, ◌+◌, ◌*◌, ◌≤◌, ◌<◌, ◌⊎◌, inl, inr, List, [], ◌∷◌, ◌++◌, length, true, false, eqb, ltb, leb, refl, sym, ap, ◌∙◌, subst, arith, Option, Some, None, IfSome, fold, lt-ltb, le-ltb, le-leb, lt-leb, ne_eqb, cases_Bool, append_assoc, length-append, fold-append, Chunk, Region, least_len, chunk_at, Tell, chunks_of, HasChunks, with_free, gaps_among, Meets, behind_link, LinkedTo, Stands, gap_count, chunks_along, Follow, lower, higher, gap_below, gap_from, last_of, gaps_from_place, Relinked, Exchanged, KeepsFreed, free_behind, free_from}
 use Rattle.heap_core.proofs.Standing.{Around}
 use Rattle.heap_core.proofs.Steps.{ended}
 use Rattle.heap_core.proofs.ChunkHeaders.{Split, place_told, told_le, told_split, owner_cases}
@@ -25,10 +14,7 @@ gaps_append (c ∷ l) r = ap (with_free c c.owner) (gaps_append l r) ∙ with_fr
 
 -- how many gaps there are among chunks that come one after the other
 pub gaps_counted : (before mid behind : List Chunk) → length (gaps_among (before ++ (mid ++ behind))) ≡ length (gaps_among before) + (length (gaps_among mid) + length (gaps_among behind))
-gaps_counted before mid behind =
-    ap length (gaps_append before (mid ++ behind))
-    ∙ length-append (gaps_among before) (gaps_among (mid ++ behind))
-    ∙ ap (λ n. length (gaps_among before) + n) (ap length (gaps_append mid behind) ∙ length-append (gaps_among mid) (gaps_among behind))
+gaps_counted before mid behind = grind (arith, gaps_append, length-append)
 
 pub count_some : (len : ℕ) → 0 < len → gap_count len ≡ 1
 count_some len some = let far : eqb len 0 ≡ false = ne_eqb len 0 (λ none. absurd (omega (arith, none, some))) in rw far refl
@@ -53,8 +39,7 @@ pub record Parted (head end : Option ℕ) (l r : List Chunk) : Type 0 where
 
 pub linked_parted : (head end : Option ℕ) (l r : List Chunk) → LinkedTo head (l ++ r) end → Parted head end l r
 linked_parted head end [] r h = record { mid = head; front = refl; back = h }
-linked_parted head end (c ∷ l) r h =
-    let p = linked_parted (behind_link head c c.owner) end l r h.1 in record { mid = p.mid; front = (h.0, p.front); back = p.back }
+linked_parted head end (c ∷ l) r h = let later = linked_parted (behind_link head c c.owner) end l r h.1 in grind arith
 
 -- one chunk in front
 pub linked_gap : (head end : Option ℕ) (c : Chunk) (l : List Chunk) → c.owner ≡ None → LinkedTo head (c ∷ l) end → (head ≡ Some c.at) × LinkedTo c.link l end
@@ -72,20 +57,14 @@ link_live head end name c l e h = (subst (Meets head c) (sym e) tt, subst (λ o.
 -- without a gap there is nothing to link
 pub linked_none : (head : Option ℕ) (l : List Chunk) → gaps_among l ≡ [] → LinkedTo head l head
 linked_none head [] e = refl
-linked_none head (c ∷ l) e = elim (owner_cases c.owner) [
-  | inl n ↦ absurd (let two : c ∷ gaps_among l ≡ [] = sym (gap_first c l n) ∙ e in cc)
-  | inr s ↦ link_live head head s.0 c l s.1 (linked_none head l (sym (live_first c s.0 l s.1) ∙ e))
-]
+linked_none head (c ∷ l) e = let later = linked_none head l in grind arith
 
 -- walks along the links
 pub along_is : (n : ℕ) (B : List ℕ) (b end : ℕ) (head : Option ℕ) (l : List Chunk) → Follow B b end head l → length l ≤ n → chunks_along n B b head ≡ l
 along_is zero B b end head [] h few = refl
 along_is zero B b end head (c ∷ l) h few = absurd (omega (arith, few))
 along_is (suc n) B b end head [] h few = ap (chunks_along (suc n) B b) h
-along_is (suc n) B b end head (c ∷ l) h few =
-    ap (chunks_along (suc n) B b) h.0
-    ∙ ap (λ (k : Chunk). k ∷ chunks_along n B b k.link) h.1
-    ∙ ap (λ k. c ∷ k) (along_is n B b end c.link l h.4 (omega (arith, few)))
+along_is (suc n) B b end head (c ∷ l) h few = let later = along_is n B b end c.link l h.4 in grind arith
 
 pub followed : (header : ℕ) (B : List ℕ) (b x end : ℕ) (head : Option ℕ) (l : List Chunk) → Tell header B b x end l → LinkedTo head l None → Follow B b end head (gaps_among l) × (x + 12 * length (gaps_among l) ≤ end)
 followed header B b x end head [] t h = (h, omega (arith, t))
@@ -110,89 +89,62 @@ pub record Ends (head : Option ℕ) (p q : ℕ) (all before behind : List Chunk)
   pub last : gap_below p (gaps_among all) ≡ last_of (gaps_among before)
   pub back : LinkedTo (gap_from q (gaps_among all)) behind None
 
+-- each of these begins between two places
+abbrev Within : ℕ → ℕ → List Chunk → Type 0
+Within x y [] = Unit {0}
+Within x y (gap ∷ gaps) = (x ≤ gap.at) × (gap.at < y) × Within x y gaps
+
+each_lower : (p x : ℕ) (found : Option Chunk) (gaps : List Chunk) → Within x p gaps → fold (lower p) found gaps ≡ fold (λ _ gap. Some gap) found gaps
+each_lower p x found [] h = refl
+each_lower p x found (gap ∷ gaps) h = let near : ltb gap.at p ≡ true = lt-ltb gap.at p h.1 in rw near (each_lower p x (Some gap) gaps h.2)
+
+each_above : (p y : ℕ) (found : Option Chunk) (gaps : List Chunk) → Within p y gaps → fold (lower p) found gaps ≡ found
+each_above p y found [] h = refl
+each_above p y found (gap ∷ gaps) h = let far : ltb gap.at p ≡ false = le-ltb gap.at p h.0 in rw far (each_above p y found gaps h.2)
+
+pub kept_higher : (p at : ℕ) (gaps : List Chunk) → fold (higher p) (Some at) gaps ≡ Some at
+kept_higher p at [] = refl
+kept_higher p at (gap ∷ gaps) = kept_higher p at gaps
+
+each_below : (p x : ℕ) (gaps : List Chunk) → Within x p gaps → fold (higher p) None gaps ≡ None
+each_below p x [] h = refl
+each_below p x (gap ∷ gaps) h = let far : leb p gap.at ≡ false = lt-leb p gap.at h.1 in rw far (each_below p x gaps h.2)
+
+first_taken : (B : List ℕ) (b end p y : ℕ) (head : Option ℕ) (gaps : List Chunk) → Within p y gaps → Follow B b end head gaps → fold (higher p) None gaps ≡ head
+first_taken B b end p y head [] h follow = sym follow
+first_taken B b end p y head (gap ∷ gaps) h follow = let near : leb p gap.at ≡ true = le-leb p gap.at h.0 in rw near (kept_higher p gap.at gaps ∙ sym follow.0)
+
+each_small : (p x most : ℕ) (found : Option ℕ) (gaps : List Chunk) → Within x most gaps → IfSome found (λ place. place < most) → IfSome (fold (higher p) found gaps) (λ place. place < most)
+each_small p x most found [] h small = small
+each_small p x most (Some at) (gap ∷ gaps) h small = each_small p x most (Some at) gaps h.2 small
+each_small p x most None (gap ∷ gaps) h small = elim (cases_Bool (leb p gap.at)) [
+  | inl near ↦ rw near (each_small p x most (Some gap.at) gaps h.2 h.1)
+  | inr far ↦ rw far (each_small p x most None gaps h.2 tt)
+]
+
 -- the gap below a place, and the one from a place on
 module _ (header : ℕ) (B : List ℕ) (b : ℕ) where
+  within : (p q x y : ℕ) (l : List Chunk) → Tell header B b x y l → p ≤ x → y ≤ q → Within p q (gaps_among l)
+  within p q x y [] t low high = tt
+  within p q x y (c ∷ l) t low high =
+      let enough : least_len header c ≤ c.len = t.1 in let at = place_told B b x c t.0 in let le = told_le header B b (x + c.len) y l t.2 in
+      let later = within p q (x + c.len) y l t.2 (omega arith) high in
+      elim (owner_cases c.owner) [ inl e ↦ subst (Within p q) (sym (gap_first c l e)) (omega arith, omega arith, later) | inr s ↦ subst (Within p q) (sym (live_first c s.0 l s.1)) later ]
+
   all_lower : (p x y : ℕ) (found : Option Chunk) (l : List Chunk) → Tell header B b x y l → y ≤ p → fold (lower p) found (gaps_among l) ≡ fold (λ _ gap. Some gap) found (gaps_among l)
-  all_lower p x y found [] t le = refl
-  all_lower p x y found (c ∷ l) t le =
-      let enough : least_len header c ≤ c.len = t.1 in let at = place_told B b x c t.0 in let high = told_le header B b (x + c.len) y l t.2 in
-      elim (owner_cases c.owner) [
-        | inl e ↦
-            let near : ltb c.at p ≡ true = lt-ltb c.at p (omega arith) in
-            let here : lower p found c ≡ Some c = rw near refl in
-            ap (fold (lower p) found) (gap_first c l e)
-            ∙ ap (λ o. fold (lower p) o (gaps_among l)) here
-            ∙ all_lower p (x + c.len) y (Some c) l t.2 le
-            ∙ sym (ap (fold (λ _ gap. Some gap) found) (gap_first c l e))
-        | inr s ↦
-            ap (fold (lower p) found) (live_first c s.0 l s.1) ∙ all_lower p (x + c.len) y found l t.2 le ∙ sym (ap (fold (λ _ gap. Some gap) found) (live_first c s.0 l s.1))
-      ]
+  all_lower p x y found l t le = each_lower p x found (gaps_among l) (within x p x y l t (omega arith) le)
 
   none_lower : (p x y : ℕ) (found : Option Chunk) (l : List Chunk) → Tell header B b x y l → p ≤ x → fold (lower p) found (gaps_among l) ≡ found
-  none_lower p x y found [] t le = refl
-  none_lower p x y found (c ∷ l) t le =
-      let enough : least_len header c ≤ c.len = t.1 in let at = place_told B b x c t.0 in
-      elim (owner_cases c.owner) [
-        | inl e ↦
-            let far : ltb c.at p ≡ false = le-ltb c.at p (omega arith) in
-            let here : lower p found c ≡ found = rw far refl in
-            ap (fold (lower p) found) (gap_first c l e) ∙ ap (λ o. fold (lower p) o (gaps_among l)) here ∙ none_lower p (x + c.len) y found l t.2 (omega arith)
-        | inr s ↦ ap (fold (lower p) found) (live_first c s.0 l s.1) ∙ none_lower p (x + c.len) y found l t.2 (omega arith)
-      ]
-
-  kept_higher : (p at : ℕ) (gaps : List Chunk) → fold (higher p) (Some at) gaps ≡ Some at
-  kept_higher p at [] = refl
-  kept_higher p at (c ∷ gaps) = kept_higher p at gaps
+  none_lower p x y found l t le = each_above p y found (gaps_among l) (within p y x y l t le (omega arith))
 
   none_higher : (p x y : ℕ) (l : List Chunk) → Tell header B b x y l → y ≤ p → fold (higher p) None (gaps_among l) ≡ None
-  none_higher p x y [] t le = refl
-  none_higher p x y (c ∷ l) t le =
-      let enough : least_len header c ≤ c.len = t.1 in let at = place_told B b x c t.0 in let high = told_le header B b (x + c.len) y l t.2 in
-      elim (owner_cases c.owner) [
-        | inl e ↦
-            let far : leb p c.at ≡ false = lt-leb p c.at (omega arith) in
-            let here : higher p None c ≡ None = rw far refl in
-            ap (fold (higher p) None) (gap_first c l e) ∙ ap (λ o. fold (higher p) o (gaps_among l)) here ∙ none_higher p (x + c.len) y l t.2 le
-        | inr s ↦ ap (fold (higher p) None) (live_first c s.0 l s.1) ∙ none_higher p (x + c.len) y l t.2 le
-      ]
+  none_higher p x y l t le = each_below p x (gaps_among l) (within x p x y l t (omega arith) le)
 
   first_higher : (p x y : ℕ) (head : Option ℕ) (l : List Chunk) → Tell header B b x y l → p ≤ x → LinkedTo head l None → fold (higher p) None (gaps_among l) ≡ head
-  first_higher p x y head [] t le h = sym h
-  first_higher p x y head (c ∷ l) t le h =
-      let enough : least_len header c ≤ c.len = t.1 in let at = place_told B b x c t.0 in
-      elim (owner_cases c.owner) [
-        | inl e ↦
-            let near : leb p c.at ≡ true = le-leb p c.at (omega arith) in
-            let here : higher p None c ≡ Some c.at = rw near refl in
-            ap (fold (higher p) None) (gap_first c l e)
-            ∙ ap (λ o. fold (higher p) o (gaps_among l)) here
-            ∙ kept_higher p c.at (gaps_among l)
-            ∙ sym (linked_gap head None c l e h).0
-        | inr s ↦ ap (fold (higher p) None) (live_first c s.0 l s.1) ∙ first_higher p (x + c.len) y head l t.2 (omega arith) (linked_live head None s.0 c l s.1 h)
-      ]
-
-  higher_small : (p x y most : ℕ) (found : Option ℕ) (l : List Chunk) → Tell header B b x y l → y ≤ most → IfSome found (λ place. place < most) → IfSome (fold (higher p) found (gaps_among l)) (λ place. place < most)
-  higher_small p x y most found [] t le h = h
-  higher_small p x y most (Some place) (c ∷ l) t le h = subst (λ o. IfSome o (λ k. k < most)) (sym (kept_higher p place (gaps_among (c ∷ l)))) h
-  higher_small p x y most None (c ∷ l) t le h =
-      let enough : least_len header c ≤ c.len = t.1 in let at = place_told B b x c t.0 in let high = told_le header B b (x + c.len) y l t.2 in
-      elim (owner_cases c.owner) [
-        | inl e ↦ elim (cases_Bool (leb p c.at)) [
-          | inl near ↦
-              let here : fold (higher p) None (gaps_among (c ∷ l)) ≡ fold (higher p) (Some c.at) (gaps_among l) =
-              ap (fold (higher p) None) (gap_first c l e) ∙ (let now : higher p None c ≡ Some c.at = rw near refl in ap (λ o. fold (higher p) o (gaps_among l)) now) in
-              subst (λ o. IfSome o (λ k. k < most)) (sym here) (higher_small p (x + c.len) y most (Some c.at) l t.2 le (omega arith))
-          | inr far ↦
-              let here : fold (higher p) None (gaps_among (c ∷ l)) ≡ fold (higher p) None (gaps_among l) =
-              ap (fold (higher p) None) (gap_first c l e) ∙ (let now : higher p None c ≡ None = rw far refl in ap (λ o. fold (higher p) o (gaps_among l)) now) in
-              subst (λ o. IfSome o (λ k. k < most)) (sym here) (higher_small p (x + c.len) y most None l t.2 le tt)
-        ]
-        | inr s ↦
-            subst (λ o. IfSome o (λ k. k < most)) (sym (ap (fold (higher p) None) (live_first c s.0 l s.1))) (higher_small p (x + c.len) y most None l t.2 le tt)
-      ]
+  first_higher p x y head l t le h = first_taken B b y p y head (gaps_among l) (within p y x y l t le (omega arith)) (followed header B b x y head l t h).0
 
   pub gap_from_small : (p y most : ℕ) (l : List Chunk) → Tell header B b 0 y l → y ≤ most → IfSome (gap_from p (gaps_among l)) (λ place. place < most)
-  gap_from_small p y most l t le = higher_small p 0 y most None l t le tt
+  gap_from_small p y most l t le = each_small p 0 most None (gaps_among l) (within 0 most 0 y l t (omega arith) le) tt
 
   pub list_ends : (head : Option ℕ) (p q end : ℕ) (before gone behind : List Chunk) → LinkedTo head (before ++ (gone ++ behind)) None → Tell header B b 0 end (before ++ (gone ++ behind))
       → Tell header B b 0 p before → Tell header B b q end behind → Ends head p q (before ++ (gone ++ behind)) before behind
@@ -276,11 +228,7 @@ no_last l e = none (gaps_among l) e
 -- the last gap is linked elsewhere
 pub linked_again : (head end first : Option ℕ) (gap new : Chunk) (before behind : List Chunk) → gap.owner ≡ None → new.owner ≡ None → new.at ≡ gap.at → new.link ≡ first → gaps_among behind ≡ []
     → LinkedTo head (before ++ (gap ∷ behind)) end → LinkedTo head (before ++ (new ∷ behind)) first
-linked_again head end first gap new before behind free free' at link none h =
-    let p = linked_parted head end before (gap ∷ behind) h in
-    let k = linked_gap p.mid end gap behind free p.back in
-    linked_append head p.mid first before (new ∷ behind) p.front
-    (link_gap p.mid first new behind free' (k.0 ∙ ap Some (sym at)) (subst (λ m. LinkedTo m behind first) (sym link) (linked_none first behind none)))
+linked_again head end first gap new before behind free free' at link none h = grind (arith, linked_parted, linked_gap, linked_append, link_gap, linked_none)
 
 -- the next step of a walk
 pub record NextGap (heap : Region) (B : List ℕ) (head : Option ℕ) (gap : Chunk) : Type 0 where
@@ -328,10 +276,7 @@ module _ (heap : Region) (B : List ℕ) where
   -- the first one
   pub walk_begins : HasChunks heap B → LinkedTo heap.lowest (chunks_of heap B) None
       → (gaps_from_place heap B heap.lowest ≡ gaps_among (chunks_of heap B)) × (length (gaps_from_place heap B heap.lowest) ≤ heap.footprint) × Walk heap.lowest
-  walk_begins has linked =
-      let f = followed heap.header B heap.span.at 0 heap.footprint heap.lowest (chunks_of heap B) has.told linked in
-      let there = place_is heap.lowest (gaps_among (chunks_of heap B)) f.0 (omega (arith, f.1)) in
-      (there, omega (arith, f.1, ap length there), subst (Follow B heap.span.at heap.footprint heap.lowest) (sym there) f.0)
+  walk_begins has linked = grind (arith, followed, place_is)
 
 -- the gap below a chunk is the last one of those before it
 pub below_is : (heap : Region) (B : List ℕ) (chunk : Chunk) (a : Around heap.header B heap.span.at heap.footprint chunk (chunks_of heap B)) → gap_below chunk.at (gaps_among (chunks_of heap B)) ≡ last_of (gaps_among a.before)
@@ -376,10 +321,7 @@ module _ (header : ℕ) (B : List ℕ) (b at : ℕ) (before : List Chunk) (told 
     later = subst (λ k. Tell header B b (k + gap.len) at l.behind) (sym place) s.back.2
 
     walked_on : free_from before ≡ walk_free gap.at l.behind
-    walked_on =
-        ap free_from l.is
-        ∙ fold-append (λ _ (c : Chunk). free_behind c c.owner) 0 l.before (gap ∷ l.behind)
-        ∙ ap (λ o. walk_free (free_behind gap o) l.behind) l.free
+    walked_on = grind (arith, l, fold-append)
 
     pub gap_ends_below : gap.at + gap.len ≤ at
     gap_ends_below = told_le header B b (gap.at + gap.len) at l.behind later
@@ -392,9 +334,7 @@ module _ (header : ℕ) (B : List ℕ) (b at : ℕ) (before : List Chunk) (told 
 
 pub ends_of : (heap : Region) (B : List ℕ) (p q : ℕ) (before gone behind : List Chunk) → HasChunks heap B → LinkedTo heap.lowest (chunks_of heap B) None → chunks_of heap B ≡ before ++ (gone ++ behind)
     → Tell heap.header B heap.span.at 0 p before → Tell heap.header B heap.span.at q heap.footprint behind → Ends heap.lowest p q (chunks_of heap B) before behind
-ends_of heap B p q before gone behind has linked is front back =
-    subst (λ all. Ends heap.lowest p q all before behind) (sym is)
-    (list_ends heap.header B heap.span.at heap.lowest p q heap.footprint before gone behind (subst (λ all. LinkedTo heap.lowest all None) is linked) (subst (Tell heap.header B heap.span.at 0 heap.footprint) is has.told) front back)
+ends_of heap B p q before gone behind has linked is front back = grind (arith, list_ends)
 
 -- the last gap of the chunks that come first is one of all
 abbrev pub IsGapOf : List Chunk → Chunk → Type 0
@@ -409,9 +349,7 @@ last_stands (Some gap) before rest all e is =
 -- chunks were exchanged, and the gap before them is linked again
 pub list_kept : (old new : Region) (B B' : List ℕ) (lowest first link : Option ℕ) (last : Option Chunk) (p q : ℕ) (all before mid behind : List Chunk) → Ends lowest p q all before behind → old.lowest ≡ lowest
     → chunks_of old B ≡ before ++ (mid ++ behind) → last ≡ gap_below p (gaps_among all) → link ≡ gap_from q (gaps_among all) → LinkedTo first mid link → Relinked old new B B' last first → LinkedTo new.lowest (chunks_of new B') None
-list_kept old new B B' lowest first link last p q all before mid behind ends same is at_last at_link linked relinked =
-    relinked before (mid ++ behind) ends.end is (at_last ∙ ends.last) (subst (λ k. LinkedTo k before ends.end) (sym same) ends.front)
-    (linked_append first link None mid behind linked (subst (λ k. LinkedTo k behind None) (sym at_link) ends.back))
+list_kept old new B B' lowest first link last p q all before mid behind ends same is at_last at_link linked relinked = grind (arith, ends, linked_append)
 
 pub kept_then : (a b c : Region) → KeepsFreed a b → KeepsFreed b c → KeepsFreed a c
 kept_then a b c first second = record { places = second.places ∙ first.places; newest = second.newest ∙ first.newest; freed = second.freed ∙ first.freed }
@@ -429,5 +367,4 @@ module _ (heap new : Region) (B B' : List ℕ) (p q : ℕ) (has : HasChunks heap
   last_exchanged = last_stands last x.before (x.mid ++ x.behind) (chunks_of new B') (at_last ∙ ends.last) x.is
 
   pub list_exchanged : (after : Region) (B3 : List ℕ) → new.lowest ≡ heap.lowest → Relinked new after B' B3 last first → LinkedTo after.lowest (chunks_of after B3) None
-  list_exchanged after B3 same relinked =
-      list_kept new after B' B3 heap.lowest first link last p q (chunks_of heap B) x.before x.mid x.behind ends same x.is at_last at_link x.linked relinked
+  list_exchanged after B3 same relinked = search (rules, list_kept, ends)

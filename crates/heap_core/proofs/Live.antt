@@ -1,15 +1,5 @@
 -- The live blocks among the chunks.
-use Rattle.std.proofs.Common.{◌≡◌, ℕ, ◌+◌, ◌-◌, ◌*◌, ◌≤◌, ◌<◌, ◌⊎◌, inl, inr, List, [], ◌∷◌, length, false, true, ltb, sum_by, refl, sym, ap, ◌∙◌, subst, arith}
-use Rattle.std.specs.Prelude.{All, Option, Some, None, filter}
-use Rattle.std.proofs.lemmas.Bool.{lt-ltb, ltb-true, ltb-false, cases_Bool}
-use Rattle.std.proofs.lemmas.List.Elements.{All-nil, All-cons}
-use Rattle.std.proofs.lemmas.List.Sums.{sum_by-cons}
-use Rattle.arena_core.proofs.Ranges.{length-range}
-use Rattle.heap_core.specs.declared.chunk.Chunk.{Chunk}
-use Rattle.heap_core.specs.declared.chunk.Gap.{Gap}
-use Rattle.heap_core.specs.HeapStore.{Block, end_of, gap_between, gaps_from, LieInOrder}
-use Rattle.heap_core.specs.Chunks.{shortest, least_len, Tell, AreJoined, with_chunk, blocks_in, is_a_name, is_named}
-use Rattle.heap_core.specs.Code.Walks.{block_in_chunk}
+use Rattle.heap_core.proofs.Words.{◌≡◌, ℕ, ◌+◌, ◌-◌, ◌*◌, ◌≤◌, ◌<◌, ◌⊎◌, inl, inr, List, [], ◌∷◌, length, false, true, ltb, sum_by, refl, sym, ap, ◌∙◌, subst, arith, All, Option, Some, None, filter, lt-ltb, ltb-true, ltb-false, cases_Bool, All-nil, All-cons, sum_by-cons, length-range, Chunk, Gap, Block, end_of, gap_between, gaps_from, LieInOrder, shortest, least_len, Tell, AreJoined, with_chunk, blocks_in, is_a_name, is_named, block_in_chunk}
 use Rattle.heap_core.proofs.Freed.{owner_named}
 use Rattle.heap_core.proofs.Gaps.{last_end}
 use Rattle.heap_core.proofs.ChunkHeaders.{place_told, told_le}
@@ -30,9 +20,7 @@ Long header gap = shortest header ≤ gap.len
 module _ (header : ℕ) (B : List ℕ) (b : ℕ) where
   -- a chunk is a live block, or adds none
   pub named_here : (c : Chunk) (l : List Chunk) (name : ℕ) → c.owner ≡ Some name → name < 272 → live_of header B b (c ∷ l) ≡ block_in_chunk header B b name c ∷ live_of header B b l
-  named_here c l name e small =
-      let here : is_named (block_in_chunk header B b name c) ≡ true = lt-ltb name 272 small in
-      ap (λ o. filter is_named (with_chunk header B b c o (blocks_in header B b l))) e ∙ (let first : filter is_named (block_in_chunk header B b name c ∷ blocks_in header B b l) ≡ block_in_chunk header B b name c ∷ live_of header B b l = rw here refl in first)
+  named_here c l name e small = grind arith
 
   skipped : (c : Chunk) (o : Option ℕ) (xs : List Block) → is_a_name o ≡ false → filter is_named (with_chunk header B b c o xs) ≡ filter is_named xs
   skipped c None xs e = refl

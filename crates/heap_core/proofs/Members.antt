@@ -1,10 +1,5 @@
 -- Live chunks among others, before and after one of these is exchanged.
-use Rattle.std.proofs.Common.{◌≡◌, ◌≢◌, ℕ, ◌+◌, ◌≤◌, ◌⊎◌, inl, inr, List, [], ◌∷◌, ◌++◌, refl, sym, ap, ◌∙◌, subst, arith}
-use Rattle.std.specs.Prelude.{All, Option, Some, None, IfSome}
-use Rattle.std.proofs.lemmas.List.Elements.{All-head, All-tail}
-use Rattle.heap_core.specs.declared.chunk.Chunk.{Chunk}
-use Rattle.heap_core.specs.Chunks.{least_len, Tell}
-use Rattle.heap_core.specs.FreeList.{Stands, LiveIn}
+use Rattle.heap_core.proofs.Words.{◌≡◌, ◌≢◌, ℕ, ◌+◌, ◌≤◌, ◌⊎◌, inl, inr, List, [], ◌∷◌, ◌++◌, refl, sym, ap, ◌∙◌, subst, arith, All, Option, Some, None, IfSome, All-head, All-tail, Chunk, least_len, Tell, Stands, LiveIn}
 use Rattle.heap_core.proofs.ChunkHeaders.{place_told, told_le}
 
 abbrev pub In : Chunk → List Chunk → Type 0
@@ -40,8 +35,7 @@ in_told header B b x y c [] t h = absurd h
 in_told header B b x y c (d ∷ l) t (inl e) =
     let at = place_told B b x d t.0 in let le = told_le header B b (x + d.len) y l t.2 in let enough : least_len header d ≤ d.len = t.1 in
     subst (λ (k : Chunk). (x ≤ k.at) × (k.at + k.len ≤ y) × (least_len header k ≤ k.len)) e (omega arith, omega arith, omega arith)
-in_told header B b x y c (d ∷ l) t (inr h) =
-    let later = in_told header B b (x + d.len) y c l t.2 h in (omega (arith, later.0), later.1, later.2)
+in_told header B b x y c (d ∷ l) t (inr h) = let later = in_told header B b (x + d.len) y c l t.2 h in grind arith
 
 -- a gap between others makes room for chunks
 pub in_exchanged : (c gap : Chunk) (before mid behind : List Chunk) → gap.owner ≡ None → c.owner ≢ None → In c (before ++ (gap ∷ behind)) → In c (before ++ (mid ++ behind))

@@ -1,24 +1,11 @@
 -- The heap after a block was resized.
-use Rattle.std.proofs.Common.{◌≡◌, ℕ, ◌≤◌, List, Some, None, not, sym, ap, ◌∙◌, subst, arith}
-use Rattle.std.specs.Prelude.{Option, filter}
-use Rattle.std.specs.Option.{option_map, option_map_or, option_or}
-use Rattle.mote_types.specs.BlockNames.{number_of}
-use Rattle.mote_types.specs.Bytes.{resized}
-use Rattle.heap_core.specs.declared.chunk.Chunk.{Chunk}
-use Rattle.heap_core.specs.declared.chunk.Place.{Place}
-use Rattle.heap_core.specs.declared.region.Region.{Region}
-use Rattle.heap_core.specs.HeapStore.{Block, HeapStore, has_name, find_block, place, place_of, room_in_place, new_place, moved, resized_block, reallocated, block_at, with_block, without_block}
-use Rattle.heap_core.specs.Code.Walks.{block_in_chunk, place_in_chunk, at_place, without_place, bytes_in_chunk}
+use Rattle.heap_core.proofs.Words.{◌≡◌, ℕ, ◌≤◌, List, not, sym, ap, ◌∙◌, subst, arith, Option, filter, option_map, option_map_or, option_or, number_of, resized, Chunk, Place, Region, Block, HeapStore, has_name, find_block, place, place_of, room_in_place, new_place, moved, resized_block, reallocated, block_at, with_block, without_block, block_in_chunk, place_in_chunk, at_place, without_place, bytes_in_chunk, Some, None}
 use Rattle.heap_core.proofs.Blocks.{count}
 use Rattle.heap_core.proofs.Names.{named_with, count_filter, count_unnamed}
 
 named_moved : (store : HeapStore) (block : Block) (n : ℕ) → ((other : ℕ) → count other store.blocks ≤ 1) → (o : Option Place) (new : HeapStore) → option_map (λ place. moved place block n store) o ≡ Some new → (other : ℕ) → count other new.blocks ≤ 1
 named_moved store block n named None new e other = absurd (cc)
-named_moved store block n named (Some place) new e other =
-    let is : moved place block n store ≡ new = cc in
-    let unnamed = λ (k : Block). not (has_name block.name k) in
-    subst (λ (k : HeapStore). count other k.blocks ≤ 1) is
-    (named_with other (block_at place block.name (resized n block.bytes)) (filter unnamed store.blocks) (count_unnamed block.name store.blocks) (omega (arith, count_filter other unnamed store.blocks, named other)))
+named_moved store block n named (Some place) new e other = grind (arith, count, named_with, count_unnamed, count_filter)
 
 module _ (heap : Region) (B : List ℕ) (store : HeapStore) (chunk : Chunk) (p h name n : ℕ) (left_is : without_place chunk.at store ≡ without_block name store)
     (same : name ≡ number_of p h) (found : find_block name store ≡ Some (block_in_chunk heap.header B heap.span.at name chunk)) where
@@ -32,16 +19,10 @@ module _ (heap : Region) (B : List ℕ) (store : HeapStore) (chunk : Chunk) (p h
   reallocated_is = ap (λ k. option_map_or (λ (b : Block). resized_block b n store) (find_block k store) None) (sym same) ∙ ap (λ k. option_map_or (λ (b : Block). resized_block b n store) k None) found
 
   pub in_place : (room : ℕ) (new : HeapStore) → room_in_place (place_in_chunk heap.header chunk) n store ≡ Some room → new ≡ at_new (at_place chunk.at room) (without_place chunk.at store) → reallocated p h n store ≡ Some new
-  in_place room new e f =
-      reallocated_is
-      ∙ ap (λ o. option_map (λ target. moved target block n store) (option_or (option_map (λ k. let new : Place = record { at = chunk.at; room = k } in new) o) (place n store))) e
-      ∙ ap Some (sym (f ∙ ap (at_new (at_place chunk.at room)) left_is))
+  in_place room new e f = grind arith
 
   elsewhere_is : room_in_place (place_in_chunk heap.header chunk) n store ≡ None → reallocated p h n store ≡ option_map (λ target. at_new target (without_place chunk.at store)) (place n store)
-  elsewhere_is e =
-      reallocated_is
-      ∙ ap (λ o. option_map (λ target. moved target block n store) (option_or (option_map (λ k. let new : Place = record { at = chunk.at; room = k } in new) o) (place n store))) e
-      ∙ ap (λ left. option_map (λ target. at_new target left) (place n store)) (sym left_is)
+  elsewhere_is e = grind arith
 
   pub elsewhere : (new : HeapStore) → room_in_place (place_in_chunk heap.header chunk) n store ≡ None → option_map (λ target. at_new target (without_place chunk.at store)) (place n store) ≡ Some new → reallocated p h n store ≡ Some new
   elsewhere new e f = elsewhere_is e ∙ f

@@ -1,14 +1,5 @@
 -- The gap that comes next behind free bytes.
-use Rattle.std.proofs.Common.{◌≡◌, ◌≢◌, ℕ, ◌+◌, ◌≤◌, inl, inr, List, [], ◌∷◌, ◌++◌, refl, sym, ap, ◌∙◌, subst, arith}
-use Rattle.std.specs.Prelude.{Option, None}
-use Rattle.std.proofs.lemmas.List.{append_assoc, append-nil}
-use Rattle.heap_core.specs.declared.chunk.Chunk.{Chunk}
-use Rattle.heap_core.specs.declared.region.Region.{Region}
-use Rattle.heap_core.specs.Chunks.{chunk_at, Tell}
-use Rattle.heap_core.specs.Layout.{chunks_of, HasChunks}
-use Rattle.heap_core.specs.FreeList.{LinkedTo, gaps_among}
-use Rattle.heap_core.specs.Code.Links.{gap_from}
-use Rattle.heap_core.specs.Code.Walks.{gap_of, front_gap}
+use Rattle.heap_core.proofs.Words.{◌≡◌, ◌≢◌, ℕ, ◌+◌, ◌≤◌, inl, inr, List, [], ◌∷◌, ◌++◌, refl, sym, ap, ◌∙◌, subst, arith, Option, None, append_assoc, append-nil, Chunk, Region, chunk_at, Tell, chunks_of, HasChunks, LinkedTo, gaps_among, gap_from, gap_of, front_gap}
 use Rattle.heap_core.proofs.Lists.{linked_parted, linked_gap, linked_live, ends_of}
 use Rattle.heap_core.proofs.Standing.{Around, around}
 use Rattle.heap_core.proofs.ChunkHeaders.{place_told, owner_cases}
@@ -16,10 +7,7 @@ use Rattle.heap_core.proofs.ChunkHeaders.{place_told, owner_cases}
 -- a list that leads to these gaps begins at one place alone
 linked_same : (one other end : Option ℕ) (l : List Chunk) → LinkedTo one l end → LinkedTo other l end → one ≡ other
 linked_same one other end [] h k = h ∙ sym k
-linked_same one other end (c ∷ l) h k = elim (owner_cases c.owner) [
-  | inl e ↦ (linked_gap one end c l e h).0 ∙ sym (linked_gap other end c l e k).0
-  | inr s ↦ linked_same one other end l (linked_live one end s.0 c l s.1 h) (linked_live other end s.0 c l s.1 k)
-]
+linked_same one other end (c ∷ l) h k = let later = linked_same one other end l in grind arith
 
 -- it begins with a gap
 record BeginsFree (l : List Chunk) : Type 0 where
@@ -31,10 +19,7 @@ record BeginsFree (l : List Chunk) : Type 0 where
 
 begins_free : (l : List Chunk) → front_gap l ≢ 0 → BeginsFree l
 begins_free [] some = absurd (some refl)
-begins_free (c ∷ l) some = elim (owner_cases c.owner) [
-  | inl e ↦ record { gap = c; later = l; is = refl; free = e; len = ap (gap_of c) e }
-  | inr s ↦ absurd (some (ap (gap_of c) s.1))
-]
+begins_free (c ∷ l) some = grind arith
 
 module _ (heap : Region) (B : List ℕ) (has : HasChunks heap B) (linked : LinkedTo heap.lowest (chunks_of heap B) None) where
   abbrev from_place : ℕ → Option ℕ
@@ -80,10 +65,7 @@ module _ (heap : Region) (B : List ℕ) (has : HasChunks heap B) (linked : Linke
       })
 
       pub over_gap : (chunk_at B heap.span.at (chunk.at + chunk.len)).link ≡ from_place (chunk.at + chunk.len + front_gap a.behind)
-      over_gap =
-          ap (λ (k : Chunk). k.link) gap_told.0
-          ∙ behind_gap first.gap gap_around first.free
-          ∙ ap from_place (ap (λ k. k + first.gap.len) gap_place ∙ ap (λ k. chunk.at + chunk.len + k) (sym first.len))
+      over_gap = grind (arith, gap_told, behind_gap, first, gap_around, gap_place)
 
       pub gap_fits : chunk.at + chunk.len + 12 ≤ heap.footprint
       gap_fits = omega (arith, gap_place, gap_around.fits, gap_around.enough)

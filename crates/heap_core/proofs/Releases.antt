@@ -1,18 +1,5 @@
 -- A block that is taken away, and the gaps beside it.
-use Rattle.std.proofs.Common.{◌≡◌, ◌≢◌, ℕ, ◌+◌, ◌-◌, ◌%◌, ◌≤◌, ◌⊎◌, inl, inr, List, [], ◌∷◌, ◌++◌, length, slice_range, refl, sym, ap, ◌∙◌, subst, arith, true, eqb}
-use Rattle.std.specs.Prelude.{All, Option, Some, None, fold, filter}
-use Rattle.std.proofs.lemmas.List.{append_assoc, length-append}
-use Rattle.std.proofs.lemmas.List.Elements.{filter-append, All-nil, All-cons}
-use Rattle.std.proofs.lemmas.Bool.{eq-eqb}
-use Rattle.arena_core.specs.Outside.{ChangesOnly}
-use Rattle.heap_core.specs.declared.chunk.Chunk.{Chunk}
-use Rattle.heap_core.specs.declared.region.Region.{Region}
-use Rattle.heap_core.specs.HeapStore.{Block, HeapStore}
-use Rattle.heap_core.specs.Chunks.{shortest, chunk_at, Tell, BeginsLive, AreJoined, with_chunk, blocks_in}
-use Rattle.heap_core.specs.Layout.{chunks_of, HasChunks}
-use Rattle.heap_core.specs.FreeList.{gaps_among, LinkedTo, LiveIn}
-use Rattle.heap_core.specs.Code.Links.{gap_count, Cleared}
-use Rattle.heap_core.specs.Code.Walks.{free_behind, free_from, gap_of, front_gap}
+use Rattle.heap_core.proofs.Words.{rules, ◌≡◌, ◌≢◌, ℕ, ◌+◌, ◌-◌, ◌%◌, ◌≤◌, ◌⊎◌, inl, inr, List, [], ◌∷◌, ◌++◌, length, slice_range, refl, sym, ap, ◌∙◌, subst, arith, true, eqb, All, Option, Some, None, fold, filter, append_assoc, length-append, filter-append, All-nil, All-cons, eq-eqb, ChangesOnly, Chunk, Region, Block, HeapStore, shortest, chunk_at, Tell, BeginsLive, AreJoined, with_chunk, blocks_in, chunks_of, HasChunks, gaps_among, LinkedTo, LiveIn, gap_count, Cleared, free_behind, free_from, gap_of, front_gap}
 use Rattle.heap_core.proofs.Lists.{gaps_append, gaps_counted, count_some, count_none, gap_first, live_first, link_gap}
 use Rattle.heap_core.proofs.Members.{In, in_of, in_without, in_skip, stands_of}
 use Rattle.heap_core.proofs.ChunkHeaders.{place_told, told_le, blocks_append, owner_cases, changes_more}
@@ -41,17 +28,7 @@ last_end : (header : ℕ) (B : List ℕ) (b x at : ℕ) (c : Chunk) → Tell hea
 last_end header B b x at c t = t.2
 
 pub front_of : (header : ℕ) (B : List ℕ) (b x at i : ℕ) (before old : List Chunk) → Tell header B b x at before → (before ≡ [] → i ≡ x) → Front header B b x at (walk_free i before) before old
-front_of header B b x at i [] old t none = record {
-  pre = [];
-  gone = [];
-  was = refl;
-  free = All-nil (λ (c : Chunk). c.owner ≡ None);
-  count = sym (count_none (at - i) (omega (arith, t, none refl)));
-  told = sym (none refl);
-  blocks = refl;
-  begins = λ live ne. absurd (ne refl);
-  joined = λ was new joined. joined;
-}
+front_of header B b x at i [] old t none = grind arith
 front_of header B b x at i (c ∷ []) old t none = elim (owner_cases c.owner) [
   | inl e ↦ record {
     pre = [];
@@ -139,9 +116,7 @@ front_whole header B b x at i (c ∷ (d ∷ l)) old t none joined = front_whole 
 
 pub gap_len_whole : (header : ℕ) (l : List Chunk) → AreJoined header l → front_gap l % 4 ≡ 0
 gap_len_whole header [] joined = refl
-gap_len_whole header (d ∷ l) joined =
-    let whole = joined.1 in
-    elim (owner_cases d.owner) [ inl e ↦ omega (arith, ap (gap_of d) e, whole.1) | inr s ↦ omega (arith, ap (gap_of d) s.1) ]
+gap_len_whole header (d ∷ l) joined = grind arith
 
 module _ (heap : Region) (B : List ℕ) (has : HasChunks heap B) (chunk : Chunk) (a : Around heap.header B heap.span.at heap.footprint chunk (chunks_of heap B)) (live : chunk.owner ≢ None) where
   abbrev b : ℕ
@@ -176,50 +151,21 @@ module _ (heap : Region) (B : List ℕ) (has : HasChunks heap B) (chunk : Chunk)
   end_below = told_le heap.header B b end heap.footprint r.post r.told
 
   pub left_apart : filter (elsewhere chunk.at) (blocks_in heap.header B b (chunks_of heap B)) ≡ blocks_in heap.header B b a.before ++ blocks_in heap.header B b a.behind
-  left_apart = elim (owner_cases chunk.owner) [
-    | inl none ↦ absurd (live none)
-    | inr s ↦
-        let xs = blocks_in heap.header B b a.before in let ys = blocks_in heap.header B b a.behind in
-        let block : Block = record { name = s.0; at = chunk.at; room = chunk.len - heap.header; bytes = slice_range B (b + chunk.at + heap.header) (b + chunk.at + heap.header + chunk.size) } in
-        let gone : eqb chunk.at chunk.at ≡ true = eq-eqb chunk.at chunk.at refl in
-        let all : blocks_in heap.header B b (chunks_of heap B) ≡ xs ++ (block ∷ ys) =
-        ap (blocks_in heap.header B b) a.is ∙ blocks_append heap.header B b a.before (chunk ∷ a.behind) ∙ ap (λ o. xs ++ with_chunk heap.header B b chunk o ys) s.1 in
-        let mine : filter (elsewhere chunk.at) (block ∷ ys) ≡ filter (elsewhere chunk.at) ys = rw gone refl in
-        ap (filter (elsewhere chunk.at)) all
-        ∙ filter-append (elsewhere chunk.at) xs (block ∷ ys)
-        ∙ ap (λ l. filter (elsewhere chunk.at) xs ++ l) mine
-        ∙ ap (λ l. l ++ filter (elsewhere chunk.at) ys) (filter_elsewhere 0 chunk.at chunk.at xs (blocks_between heap.header B b 0 chunk.at a.before a.front) (inr (omega arith)))
-        ∙ ap (λ l. xs ++ l) (filter_elsewhere (chunk.at + chunk.len) heap.footprint chunk.at ys (blocks_between heap.header B b (chunk.at + chunk.len) heap.footprint a.behind a.back) (inl (omega (arith, a.enough))))
-  ]
+  left_apart = grind (arith, owner_cases, eq-eqb, blocks_append, elsewhere, filter-append, filter_elsewhere, blocks_between)
 
   left : filter (elsewhere chunk.at) (blocks_in heap.header B b (chunks_of heap B)) ≡ blocks_in heap.header B b f.pre ++ blocks_in heap.header B b r.post
   left = left_apart ∙ ap (λ l. l ++ blocks_in heap.header B b a.behind) f.blocks ∙ ap (λ l. blocks_in heap.header B b f.pre ++ l) r.blocks
 
   -- which chunks go
   went : chunks_of heap B ≡ f.pre ++ ((f.gone ++ (chunk ∷ r.gone)) ++ r.post)
-  went =
-      a.is
-      ∙ ap (λ l. l ++ (chunk ∷ a.behind)) f.was
-      ∙ ap (λ l. (f.pre ++ f.gone) ++ (chunk ∷ l)) r.was
-      ∙ append_assoc f.pre f.gone (chunk ∷ (r.gone ++ r.post))
-      ∙ ap (λ l. f.pre ++ l) (sym (append_assoc f.gone (chunk ∷ r.gone) r.post))
+  went = grind (arith, f, r, append_assoc)
 
   -- and how many gaps there are among them
   gone_count : length (gaps_among (f.gone ++ (chunk ∷ r.gone))) ≡ gap_count (chunk.at - from) + gap_count (front_gap a.behind)
-  gone_count = elim (owner_cases chunk.owner) [
-    | inl none ↦ absurd (live none)
-    | inr s ↦
-        ap length (gaps_append f.gone (chunk ∷ r.gone) ∙ ap (λ l. gaps_among f.gone ++ l) (live_first chunk s.0 r.gone s.1))
-        ∙ length-append (gaps_among f.gone) (gaps_among r.gone)
-        ∙ ap (λ n. n + length (gaps_among r.gone)) f.count
-        ∙ ap (λ n. gap_count (chunk.at - from) + n) r.count
-  ]
+  gone_count = grind (arith, owner_cases, gaps_append, f, r, live_first, length-append)
 
   were_counted : length (gaps_among (chunks_of heap B)) ≡ length (gaps_among f.pre) + (gap_count (chunk.at - from) + gap_count (front_gap a.behind) + length (gaps_among r.post))
-  were_counted =
-      ap (λ l. length (gaps_among l)) went
-      ∙ gaps_counted f.pre (f.gone ++ (chunk ∷ r.gone)) r.post
-      ∙ ap (λ n. length (gaps_among f.pre) + (n + length (gaps_among r.post))) gone_count
+  were_counted = grind (arith, went, gaps_counted, f, r, gone_count)
 
   stay : (other : Chunk) → LiveIn other (chunks_of heap B) → other.at ≢ chunk.at → In other (f.pre ++ r.post)
   stay other h far =
@@ -231,15 +177,7 @@ module _ (heap : Region) (B : List ℕ) (has : HasChunks heap B) (chunk : Chunk)
   -- gaps that come in their place
   cleared : (new : Region) (B' : List ℕ) (mid : List Chunk) (first link : Option ℕ) → Spliced heap new B B' f.pre mid r.post → blocks_in heap.header B' b mid ≡ [] → LinkedTo first mid link → new.gaps ≡ length (gaps_among (chunks_of heap B)) + length (gaps_among mid)
       → Cleared heap new B B' chunk from end first link
-  cleared new B' mid first link s none linked count =
-      let behind : end - (chunk.at + chunk.len) ≡ front_gap a.behind = omega arith in
-      record {
-        chunks = s.has;
-        count = omega (arith, count, were_counted, ap (λ l. length (gaps_among l)) s.is, gaps_counted f.pre mid r.post, ap gap_count behind);
-        block = s.store ∙ ap (λ blocks. let h : HeapStore = record { size = heap.span.len; header = heap.header; blocks = blocks } in h) (ap (λ l. blocks_in heap.header B b f.pre ++ (l ++ blocks_in heap.header B b r.post)) none ∙ sym left);
-        others = λ other h far. s.kept other (record { stands = stands_of other (f.pre ++ r.post) (stay other h far); live = h.live });
-        exchanged = record { before = f.pre; gone = f.gone ++ (chunk ∷ r.gone); mid = mid; behind = r.post; was = went; is = s.is; front = f.told; back = r.told; linked = linked };
-      }
+  cleared new B' mid first link s none linked count = grind (arith, were_counted, gaps_counted, f, r, left, stands_of, stay, went)
 
   -- nothing lies behind it: the top gap takes it
   pub cleared_top : (new : Region) (link : Option ℕ) → new.span ≡ heap.span → new.header ≡ heap.header → new.footprint ≡ from → new.gaps ≡ length (gaps_among (chunks_of heap B)) → end ≡ heap.footprint → Cleared heap new B B chunk from end link link

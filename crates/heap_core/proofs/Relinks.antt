@@ -1,15 +1,5 @@
 -- A gap that is linked to another place.
-use Rattle.std.proofs.Common.{◌≡◌, ℕ, ◌+◌, ◌-◌, List, [], ◌∷◌, ◌++◌, length, refl, sym, ap, ◌∙◌, subst, arith}
-use Rattle.std.specs.Prelude.{Option, Some, None}
-use Rattle.std.proofs.lemmas.List.{append_assoc}
-use Rattle.arena_core.specs.Outside.{ChangesOnly}
-use Rattle.heap_core.specs.declared.chunk.Chunk.{Chunk}
-use Rattle.heap_core.specs.declared.region.Region.{Region}
-use Rattle.heap_core.specs.HeapStore.{HeapStore}
-use Rattle.heap_core.specs.Chunks.{chunk_at, Tell, AreJoined, blocks_in}
-use Rattle.heap_core.specs.Layout.{chunks_of, store_of, HasChunks}
-use Rattle.heap_core.specs.FreeList.{LinkedTo, gaps_among, Stands}
-use Rattle.heap_core.specs.Code.Links.{last_of, LinkChanged}
+use Rattle.heap_core.proofs.Words.{rules, ◌≡◌, ℕ, ◌+◌, ◌-◌, List, [], ◌∷◌, ◌++◌, length, refl, sym, ap, ◌∙◌, subst, arith, Option, Some, None, append_assoc, ChangesOnly, Chunk, Region, HeapStore, chunk_at, Tell, AreJoined, blocks_in, chunks_of, store_of, HasChunks, LinkedTo, gaps_among, Stands, last_of, LinkChanged}
 use Rattle.heap_core.proofs.Gaps.{none_in_front}
 use Rattle.heap_core.proofs.Lists.{gaps_counted, gap_first, linked_append, linked_again, last_gap}
 use Rattle.heap_core.proofs.Members.{live_exchanged}
@@ -40,12 +30,7 @@ module _ (heap : Region) (B B' : List ℕ) (gap : Chunk) (first : Option ℕ) (h
         (joined_swap heap.header a.before (gap ∷ a.behind) (new ∷ a.behind) (λ live. live) was (joined_behind heap.header a.before (gap ∷ a.behind) was))
 
     relinked_store : store_of heap B' ≡ store_of heap B
-    relinked_store =
-        let a = here in
-        relinked.store
-        ∙ ap (λ blocks. let h : HeapStore = record { size = heap.span.len; header = heap.header; blocks = blocks } in h)
-        (ap (λ l. blocks_in heap.header B b a.before ++ (l ++ blocks_in heap.header B b a.behind)) (none_in_front heap.header B' b new [] free)
-        ∙ sym (ap (blocks_in heap.header B b) a.is ∙ blocks_append heap.header B b a.before (gap ∷ a.behind) ∙ ap (λ l. blocks_in heap.header B b a.before ++ l) (none_in_front heap.header B b gap (blocks_in heap.header B b a.behind) free)))
+    relinked_store = grind (arith, here, relinked, none_in_front, blocks_append)
 
     relinked_count : length (gaps_among (chunks_of heap B')) ≡ length (gaps_among (chunks_of heap B))
     relinked_count =
@@ -67,10 +52,7 @@ module _ (heap : Region) (B B' : List ℕ) (gap : Chunk) (first : Option ℕ) (h
         let front : here.before ≡ l.before = sym (before_is heap B gap here) ∙ before_is heap B gap there in
         let back : here.behind ≡ l.behind ++ behind = sym (behind_is heap B gap here) ∙ behind_is heap B gap there in
         let again : LinkedTo heap.lowest (l.before ++ (new ∷ l.behind)) first =
-        linked_again heap.lowest end first gap new l.before l.behind free free refl refl l.none (subst (λ k. LinkedTo heap.lowest k end) l.is linked) in
-        subst (λ k. LinkedTo heap.lowest k None)
-        (sym (relinked.is ∙ ap (λ k. k ++ (new ∷ here.behind)) front ∙ ap (λ k. l.before ++ (new ∷ k)) back ∙ sym (append_assoc l.before (new ∷ l.behind) behind)))
-        (linked_append heap.lowest first None (l.before ++ (new ∷ l.behind)) behind again later)
+        linked_again heap.lowest end first gap new l.before l.behind free free refl refl l.none (subst (λ k. LinkedTo heap.lowest k end) l.is linked) in grind (arith, last_gap, append_assoc, split_at, here, told_le, before_is, behind_is, linked_again, relinked, linked_append)
 
     pub link_changed : LinkChanged heap heap B B' (Some gap) first
     link_changed = record {

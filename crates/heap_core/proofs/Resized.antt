@@ -1,30 +1,12 @@
 -- The bytes of a block that got another length.
-use Rattle.std.proofs.Common.{◌≡◌, ℕ, suc, ◌+◌, ◌-◌, ◌≤◌, inl, inr, List, [], ◌∷◌, ◌++◌, length, take, drop, slice_range, sym, ap, ◌∙◌, arith}
-use Rattle.std.proofs.lemmas.List.{append-nil, take-append-le, take-take, take-replicate, drop-replicate}
-use Rattle.std.proofs.lemmas.Bool.{cases_lt}
-use Rattle.mote_types.specs.Bytes.{zeros, resized}
-use Rattle.arena_core.specs.Written.{written}
-use Rattle.arena_core.proofs.Ranges.{length-range, written-range}
-use Rattle.arena_core.proofs.Rows.{written_is}
-
-take_past : (p q : List ℕ) (n : ℕ) → length p ≤ n → take n (p ++ q) ≡ p ++ take (n - length p) q
-take_past [] q n le = ap (λ k. take k q) (omega arith)
-take_past (x ∷ p) q n le =
-    let e : n ≡ suc (n - 1) = omega arith in
-    let f : n - 1 - length p ≡ n - suc (length p) = omega arith in
-    ap (λ k. take k (x ∷ (p ++ q))) e
-    ∙ ap (λ l. x ∷ l) (take_past p q (n - 1) (omega arith))
-    ∙ ap (λ k. x ∷ (p ++ take k q)) f
+use Rattle.heap_core.proofs.Words.{rules, ◌≡◌, ℕ, ◌+◌, ◌-◌, ◌≤◌, inl, inr, List, [], ◌++◌, length, take, drop, slice_range, sym, ap, ◌∙◌, arith, append-nil, take-append-le, take-take, take-replicate, drop-replicate, cases_lt, zeros, resized, written, length-range, take_past, written-range, written_is}
 
 -- the front of a range
 pub front_range : (xs : List ℕ) (at m n : ℕ) → n ≤ m → take n (slice_range xs at (at + m)) ≡ slice_range xs at (at + n)
-front_range xs at m n le =
-    let e : at + n - at ≡ n = omega arith in
-    take-take n (at + m - at) (drop at xs) (omega arith) ∙ ap (λ k. take k (drop at xs)) (sym e)
+front_range xs at m n le = grind (arith, take-take)
 
 pub resized_shorter : (xs : List ℕ) (at m n : ℕ) → n ≤ m → at + m ≤ length xs → resized n (slice_range xs at (at + m)) ≡ slice_range xs at (at + n)
-resized_shorter xs at m n le within =
-    take-append-le n (slice_range xs at (at + m)) (zeros n) (omega (arith, length-range xs at m within)) ∙ front_range xs at m n le
+resized_shorter xs at m n le within = grind (arith, take-append-le, length-range, front_range)
 
 pub resized_longer : (xs : List ℕ) (n : ℕ) → length xs ≤ n → resized n xs ≡ xs ++ zeros (n - length xs)
 resized_longer xs n le = take_past xs (zeros n) n le ∙ ap (λ l. xs ++ l) (take-replicate (n - length xs) n 0 (omega arith))
@@ -45,16 +27,4 @@ copied_front xs at n ws le within fresh =
     ∙ ap (λ k. ws ++ zeros k) (omega arith)
 
 pub resized_copy : (xs : List ℕ) (at m n k : ℕ) → at + m ≤ length xs → (m ≤ n → k ≡ m) → (n ≤ m → k ≡ n) → slice_range xs at (at + k) ++ zeros (n - k) ≡ resized n (slice_range xs at (at + m))
-resized_copy xs at m n k within shorter longer = elim (cases_lt m n) [
-  | inl less ↦
-      let is : k ≡ m = shorter (omega arith) in let count = length-range xs at m within in
-      ap (λ j. slice_range xs at (at + j) ++ zeros (n - j)) is
-      ∙ ap (λ j. slice_range xs at (at + m) ++ zeros (n - j)) (sym count)
-      ∙ sym (resized_longer (slice_range xs at (at + m)) n (omega arith))
-  | inr more ↦
-      let is : k ≡ n = longer more in let none : n - n ≡ 0 = omega arith in
-      ap (λ j. slice_range xs at (at + j) ++ zeros (n - j)) is
-      ∙ ap (λ j. slice_range xs at (at + n) ++ zeros j) none
-      ∙ append-nil (slice_range xs at (at + n))
-      ∙ sym (resized_shorter xs at m n more within)
-]
+resized_copy xs at m n k within shorter longer = grind (arith, cases_lt, length-range, resized_longer, append-nil, resized_shorter)

@@ -1,16 +1,5 @@
 -- The search along the links for the shortest gap that is long enough.
-use Rattle.std.proofs.Common.{◌≡◌, ℕ, ◌≤◌, ◌<◌, inl, inr, List, [], ◌∷◌, length, true, false, leb, ltb, refl, sym, ap, ◌∙◌, subst, arith}
-use Rattle.std.specs.Prelude.{Option, Some, None, fold}
-use Rattle.std.specs.Option.{option_map_or}
-use Rattle.std.proofs.lemmas.Bool.{cases_Bool, le-leb, lt-leb, le-ltb, leb-true, ltb-false}
-use Rattle.heap_core.specs.declared.chunk.Chunk.{Chunk}
-use Rattle.heap_core.specs.declared.chunk.Gap.{Gap}
-use Rattle.heap_core.specs.declared.region.Region.{Region}
-use Rattle.heap_core.specs.HeapStore.{shorter, best_gap, gaps}
-use Rattle.heap_core.specs.Chunks.{chunk_at}
-use Rattle.heap_core.specs.Layout.{chunks_of, HasChunks, store_of}
-use Rattle.heap_core.specs.FreeList.{LinkedTo}
-use Rattle.heap_core.specs.Code.Links.{Follow, gaps_from_place}
+use Rattle.heap_core.proofs.Words.{rules, ◌≡◌, ℕ, ◌≤◌, ◌<◌, inl, inr, List, [], ◌∷◌, length, true, false, leb, ltb, refl, sym, ap, ◌∙◌, subst, arith, Option, Some, None, fold, option_map_or, cases_Bool, le-leb, lt-leb, le-ltb, leb-true, ltb-false, Chunk, Gap, Region, shorter, best_gap, gaps, chunk_at, chunks_of, HasChunks, store_of, LinkedTo, Follow, gaps_from_place}
 use Rattle.heap_core.proofs.Gaps.{better_chunk, better_same, gaps_are}
 use Rattle.heap_core.proofs.Lists.{NextGap, walk_begins, next_gap, no_gap}
 use Rattle.heap_core.proofs.ChunkHeaders.{place_told}
@@ -30,21 +19,12 @@ long_is_compared need best gap enough = let long : leb need gap.len ≡ true = l
 -- a gap that has no byte too many stays the best one
 exact_kept : (need : ℕ) (found : Gap) (gaps : List Chunk) → found.len ≤ need → fold (better_chunk need) (Some found) gaps ≡ Some found
 exact_kept need found [] exact = refl
-exact_kept need found (gap ∷ gaps) exact =
-    let here : better_chunk need (Some found) gap ≡ Some found = elim (cases_Bool (leb need gap.len)) [
-      | inl long ↦ (let no : ltb gap.len found.len ≡ false = le-ltb gap.len found.len (omega (arith, leb-true need gap.len long)) in rw long (rw no refl))
-      | inr short ↦ rw short refl
-    ] in
-    ap (λ o. fold (better_chunk need) o gaps) here ∙ exact_kept need found gaps exact
+exact_kept need found (gap ∷ gaps) exact = let later = exact_kept need found gaps exact in grind arith
 
 -- so the search may stop at it
 pub exact_is_best : (need : ℕ) (best : Option Gap) (gap : Chunk) (later : List Chunk) → gap.len ≡ need
     → fold (better_chunk need) (better_chunk need best gap) later ≡ better_chunk need best gap
-exact_is_best need None gap later exact =
-    let long : leb need gap.len ≡ true = le-leb need gap.len (omega (arith, exact)) in
-    let this : Gap = record { at = gap.at; len = gap.len } in
-    let now : better_chunk need None gap ≡ Some this = rw long refl in
-    ap (λ o. fold (better_chunk need) o later) now ∙ exact_kept need this later (omega (arith, exact)) ∙ sym now
+exact_is_best need None gap later exact = grind (arith, le-leb, better_chunk, exact_kept)
 exact_is_best need (Some other) gap later exact =
     let long : leb need gap.len ≡ true = le-leb need gap.len (omega (arith, exact)) in
     let this : Gap = record { at = gap.at; len = gap.len } in
@@ -65,15 +45,7 @@ pub record Searched (heap : Region) (B : List ℕ) (need : ℕ) (best : Option G
 
 module _ (heap : Region) (B : List ℕ) (need : ℕ) where
   pub search_begun : HasChunks heap B → LinkedTo heap.lowest (chunks_of heap B) None → Searched heap B need None heap.lowest
-  search_begun has linked =
-      let w = walk_begins heap B has linked in
-      record {
-        few = w.1;
-        follow = w.2;
-        is = ap (fold (better_chunk need) None) w.0
-            ∙ better_same need None (chunks_of heap B)
-            ∙ sym (ap (best_gap need) (gaps_are heap.header B heap.span.at 0 heap.footprint (chunks_of heap B) has.told has.joined));
-      }
+  search_begun has linked = grind (arith, walk_begins, better_chunk, better_same, gaps_are)
 
   pub search_ended : (best : Option Gap) (next : Option ℕ) → next ≡ None → Searched heap B need best next → best ≡ best_gap need (gaps (store_of heap B))
   search_ended best next none s = sym (ap (fold (better_chunk need) best) (no_gap heap B next none s.follow)) ∙ s.is
@@ -90,17 +62,10 @@ module _ (heap : Region) (B : List ℕ) (need : ℕ) where
 
     -- the gap, as the words that are read tell it
     this_is : this ≡ (let found : Gap = record { at = gap.at; len = gap.len } in found)
-    this_is =
-        ap (λ k. let found : Gap = record { at = k; len = len } in found) (sym (place_told B heap.span.at at gap refl))
-        ∙ ap (λ k. let found : Gap = record { at = gap.at; len = k } in found) len_is
+    this_is = grind (arith, place_told)
 
     more : (new : Option Gap) → new ≡ better_chunk need best gap → link ≡ gap.link → Searched heap B need new link
-    more new e link_is =
-        subst (Searched heap B need new) (sym link_is) (record {
-          few = met.few;
-          follow = met.follow;
-          is = ap (λ o. fold (better_chunk need) o (gaps_from_place heap B gap.link)) e ∙ sym (ap (fold (better_chunk need) best) met.is) ∙ s.is;
-        })
+    more new e link_is = grind (arith, met, better_chunk)
 
     pub search_past_short : len < need → link ≡ gap.link → Searched heap B need best link
     search_past_short less = more best (short_leaves_best need best gap (omega (arith, len_is)))

@@ -1,17 +1,5 @@
 -- The live blocks lie apart in the arena.
-use Rattle.std.proofs.Common.{◌≡◌, ◌≢◌, ℕ, ◌+◌, ◌≤◌, ◌<◌, ◌⊎◌, inl, inr, List, [], ◌∷◌, length, slice_range, Some, None, refl, sym, ap, ◌∙◌, subst, arith}
-use Rattle.std.specs.Prelude.{Option, find}
-use Rattle.std.specs.Option.{option_map}
-use Rattle.mote_types.specs.BlockNames.{number_of}
-use Rattle.arena_core.specs.Extents.{LiesIn, AreApart}
-use Rattle.heap_core.specs.declared.chunk.Chunk.{Chunk}
-use Rattle.heap_core.specs.declared.region.Region.{Region}
-use Rattle.heap_core.specs.HeapStore.{Block, find_block}
-use Rattle.heap_core.specs.HeapBytes.{heap_of, IsLaidOut}
-use Rattle.heap_core.specs.Separation.{extent_of, bytes_behind_header, BlocksLieApart}
-use Rattle.heap_core.specs.Chunks.{Tell}
-use Rattle.heap_core.specs.Layout.{chunks_of, store_of}
-use Rattle.heap_core.specs.Code.Walks.{owned_by, Owned, block_in_chunk}
+use Rattle.heap_core.proofs.Words.{◌≡◌, ◌≢◌, ℕ, ◌+◌, ◌≤◌, ◌<◌, ◌⊎◌, inl, inr, List, [], ◌∷◌, length, slice_range, refl, sym, ap, ◌∙◌, subst, arith, Option, find, option_map, number_of, LiesIn, AreApart, Chunk, Region, Block, find_block, heap_of, IsLaidOut, extent_of, bytes_behind_header, BlocksLieApart, Tell, chunks_of, store_of, owned_by, Owned, block_in_chunk, Some, None}
 use Rattle.heap_core.proofs.Bodies.{a, block_bytes}
 use Rattle.heap_core.proofs.Members.{In, in_of, in_told}
 use Rattle.heap_core.proofs.Names.{find_is, owned}
@@ -90,10 +78,4 @@ module _ (heap : Region) (B : List ℕ) (laid_out : IsLaidOut heap B) where
       subst (λ (k : Block). AreApart (extent_of heap one) (extent_of heap k)) g.is (subst (λ (k : Block). AreApart (extent_of heap k) (extent_of heap (block_in_chunk heap.header B heap.span.at name' g.chunk))) f.is there)
 
   pub blocks_lie_apart : BlocksLieApart heap B
-  blocks_lie_apart = record {
-    read = λ p h. read_as (number_of p h) (find_block (number_of p h) (heap_of heap B)) refl;
-    room = λ p h block. room (number_of p h) block;
-    inside = λ p h block. inside (number_of p h) block;
-    apart = λ p h q k one other name name' differ. apart (number_of p h) (number_of q k) one other
-        (λ e. elim differ [ inl ne ↦ ne (omega (arith, name, name')) | inr ne ↦ ne (omega (arith, name, name')) ]);
-  }
+  blocks_lie_apart = grind (arith, read, read_as, room, inside, apart)

@@ -1,16 +1,5 @@
 -- Chunks that others take the place of.
-use Rattle.std.proofs.Common.{◌≡◌, ℕ, ◌+◌, ◌-◌, ◌≤◌, ◌<◌, inl, inr, List, [], ◌∷◌, ◌++◌, length, false, true, ltb, refl, sym, ap, ◌∙◌, subst, arith}
-use Rattle.std.specs.Prelude.{Option, None}
-use Rattle.std.proofs.lemmas.Bool.{lt-ltb, le-ltb}
-use Rattle.arena_core.specs.Outside.{ChangesOnly}
-use Rattle.arena_core.specs.declared.span.Span.{Span}
-use Rattle.heap_core.specs.declared.chunk.Chunk.{Chunk}
-use Rattle.heap_core.specs.declared.region.Region.{Region}
-use Rattle.heap_core.specs.HeapStore.{HeapStore}
-use Rattle.heap_core.specs.Chunks.{chunks_from, Tell, BeginsLive, IsWhole, AreJoined, blocks_in}
-use Rattle.heap_core.specs.Layout.{chunks_of, store_of, HasChunks}
-use Rattle.heap_core.specs.FreeList.{LiveIn}
-use Rattle.heap_core.specs.Code.Walks.{laid}
+use Rattle.heap_core.proofs.Words.{rules, ◌≡◌, ℕ, ◌+◌, ◌-◌, ◌≤◌, ◌<◌, inl, inr, List, [], ◌∷◌, ◌++◌, length, false, true, ltb, refl, sym, ap, ◌∙◌, subst, arith, Option, None, lt-ltb, le-ltb, ChangesOnly, Span, Chunk, Region, HeapStore, chunks_from, Tell, BeginsLive, IsWhole, AreJoined, blocks_in, chunks_of, store_of, HasChunks, LiveIn, laid}
 use Rattle.heap_core.proofs.Members.{In, in_of, in_left, in_right, in_cases, stands_of}
 use Rattle.heap_core.proofs.ChunkHeaders.{told_le, told_append, told_frame, blocks_frame, blocks_append, walked}
 
@@ -21,8 +10,7 @@ begins_swap (c ∷ pre) old new keep begins = begins
 
 pub joined_swap : (header : ℕ) (pre old new : List Chunk) → (BeginsLive old → BeginsLive new) → AreJoined header (pre ++ old) → AreJoined header new → AreJoined header (pre ++ new)
 joined_swap header [] old new keep was joined = joined
-joined_swap header (c ∷ pre) old new keep was joined =
-    (λ free. begins_swap pre old new keep (was.0 free), was.1, joined_swap header pre old new keep was.2 joined)
+joined_swap header (c ∷ pre) old new keep was joined = let later = joined_swap header pre old new keep was.2 joined in grind (arith, begins_swap)
 
 pub joined_behind : (header : ℕ) (pre new : List Chunk) → AreJoined header (pre ++ new) → AreJoined header new
 joined_behind header [] new joined = joined

@@ -1,9 +1,5 @@
 -- A walk over the chunks: where it stands, and its next step.
-use Rattle.std.proofs.Common.{◌≡◌, ℕ, ◌+◌, ◌≤◌, ◌<◌, List, [], ◌∷◌, refl, sym, ap, ◌∙◌, subst, arith}
-use Rattle.heap_core.specs.declared.chunk.Chunk.{Chunk}
-use Rattle.heap_core.specs.Chunks.{least_len, chunk_at, Tell}
-use Rattle.heap_core.specs.declared.region.Region.{Region}
-use Rattle.heap_core.specs.Code.Walks.{chunks_between}
+use Rattle.heap_core.proofs.Words.{◌≡◌, ℕ, ◌+◌, ◌≤◌, ◌<◌, List, [], ◌∷◌, refl, sym, ap, ◌∙◌, subst, arith, Chunk, least_len, chunk_at, Tell, Region, chunks_between}
 use Rattle.heap_core.proofs.ChunkHeaders.{place_told, told_le, walked}
 
 -- the first of the chunks that a walk has still to come to, and the others
@@ -14,10 +10,7 @@ pub record First (header : ℕ) (B : List ℕ) (b end : ℕ) (chunk : Chunk) (la
   pub fits : chunk.at + chunk.len ≤ end
 
 pub first_of : (header : ℕ) (B : List ℕ) (b at end : ℕ) (left : List Chunk) (chunk : Chunk) (later : List Chunk) → left ≡ chunk ∷ later → Tell header B b at end left → First header B b end chunk later
-first_of header B b at end left chunk later e t =
-    let told : Tell header B b at end (chunk ∷ later) = subst (Tell header B b at end) e t in
-    let place = place_told B b at chunk told.0 in
-    record { at = at + chunk.len; told = told.2; enough = told.1; fits = omega (arith, told_le header B b (at + chunk.len) end later told.2) }
+first_of header B b at end left chunk later e t = grind (arith, place_told, told_le)
 
 pub record Step (header : ℕ) (B : List ℕ) (b at end : ℕ) (chunk : Chunk) (rest : List Chunk) : Type 0 where
   pub later : List Chunk
@@ -28,21 +21,11 @@ pub record Step (header : ℕ) (B : List ℕ) (b at end : ℕ) (chunk : Chunk) (
 
 pub room_for_header : (header : ℕ) (B : List ℕ) (b at end : ℕ) (rest : List Chunk) → Tell header B b at end rest → at < end → at + 12 ≤ end
 room_for_header header B b at end [] t less = absurd (omega (arith, t))
-room_for_header header B b at end (c ∷ l) t less =
-    let enough : least_len header c ≤ c.len = t.1 in omega (arith, told_le header B b (at + c.len) end l t.2)
+room_for_header header B b at end (c ∷ l) t less = grind (arith, told_le)
 
 pub step : (header : ℕ) (B : List ℕ) (b at end : ℕ) (chunk : Chunk) (rest : List Chunk) → chunk ≡ chunk_at B b at → Tell header B b at end rest → at < end → Step header B b at end chunk rest
 step header B b at end chunk [] e t less = absurd (omega (arith, t))
-step header B b at end chunk (c ∷ l) e t less =
-    let same : c ≡ chunk = sym t.0 ∙ sym e in
-    let there : Tell header B b (at + chunk.len) end l = subst (λ (k : Chunk). Tell header B b (at + k.len) end l) same t.2 in
-    record {
-      later = l;
-      is = ap (λ k. k ∷ l) same;
-      told = there;
-      enough = subst (λ (k : Chunk). least_len header k ≤ k.len) same t.1;
-      fits = told_le header B b (at + chunk.len) end l there;
-    }
+step header B b at end chunk (c ∷ l) e t less = grind (arith, told_le)
 
 -- the same for the chunks between two places
 pub record Next (heap : Region) (B : List ℕ) (at end : ℕ) (chunk : Chunk) : Type 0 where
@@ -58,15 +41,8 @@ between_is heap B at end l t = walked heap.header end B heap.span.at at end l t 
 pub next_of : (heap : Region) (B : List ℕ) (at end : ℕ) (chunk : Chunk) → chunk ≡ chunk_at B heap.span.at at → Tell heap.header B heap.span.at at end (chunks_between heap B at end) → at < end → Next heap B at end chunk
 next_of heap B at end chunk e t less =
     let s = step heap.header B heap.span.at at end chunk (chunks_between heap B at end) e t less in
-    let later = between_is heap B (at + chunk.len) end s.later s.told in
-    record {
-      is = s.is ∙ ap (λ l. chunk ∷ l) (sym later);
-      told = subst (Tell heap.header B heap.span.at (at + chunk.len) end) (sym later) s.told;
-      enough = s.enough;
-      fits = s.fits;
-    }
+    let later = between_is heap B (at + chunk.len) end s.later s.told in grind arith
 
 pub ended : (header : ℕ) (B : List ℕ) (b at end : ℕ) (rest : List Chunk) → Tell header B b at end rest → end ≤ at → rest ≡ []
 ended header B b at end [] t le = refl
-ended header B b at end (c ∷ l) t le =
-    let enough : least_len header c ≤ c.len = t.1 in absurd (omega (arith, told_le header B b (at + c.len) end l t.2))
+ended header B b at end (c ∷ l) t le = grind (arith, told_le)

@@ -1,15 +1,6 @@
 -- What the statistics have counted while they walk over the chunks.
-use Rattle.std.proofs.Common.{◌≡◌, ℕ, ◌+◌, ◌-◌, ◌*◌, ◌≤◌, List, [], ◌∷◌, length, sum_by, true, false, sym, ap, ◌∙◌, subst, arith}
-use Rattle.std.proofs.lemmas.Nat.{mul-le}
-use Rattle.std.proofs.lemmas.List.Sums.{sum_by-cons}
+use Rattle.heap_core.proofs.Words.{rules, ◌≡◌, ℕ, ◌+◌, ◌-◌, ◌*◌, ◌≤◌, List, [], ◌∷◌, length, sum_by, true, false, sym, ap, ◌∙◌, subst, arith, mul-le, sum_by-cons, Chunk, Region, Block, footprint, stats_of, LieInOrder, heap_of, is_a_name, Tell, chunks_of, HasChunks, block_in_chunk}
 use Rattle.mote_types.specs.declared.reply.HeapStats.{HeapStats}
-use Rattle.heap_core.specs.declared.chunk.Chunk.{Chunk}
-use Rattle.heap_core.specs.declared.region.Region.{Region}
-use Rattle.heap_core.specs.HeapStore.{Block, footprint, stats_of, LieInOrder}
-use Rattle.heap_core.specs.HeapBytes.{heap_of}
-use Rattle.heap_core.specs.Chunks.{is_a_name, Tell}
-use Rattle.heap_core.specs.Layout.{chunks_of, HasChunks}
-use Rattle.heap_core.specs.Code.Walks.{block_in_chunk}
 use Rattle.heap_core.proofs.Freed.{owner_named}
 use Rattle.heap_core.proofs.Gaps.{last_end}
 use Rattle.heap_core.proofs.Live.{live_of, named_here, named_skip, live_in_order, all_bytes}
@@ -47,19 +38,11 @@ module _ (heap : Region) (B : List ℕ) (has : HasChunks heap B) where
   in_order = live_in_order heap.header B b heap.span.len 0 0 heap.footprint (chunks_of heap B) has.within (omega (arith, heap.inside)) (omega arith) has.told
 
   pub counted_first : (left : List Chunk) → left ≡ chunks_of heap B → Counted heap B 0 0 0 left
-  counted_first left e = record {
-    at = 0;
-    told = subst (Tell heap.header B b 0 heap.footprint) (sym e) has.told;
-    all_rooms = omega (arith, ap (λ l. room_sum (live l)) e);
-    all_many = omega (arith, ap (λ l. length (live l)) e);
-    last = ap (λ l. last_end heap.header 0 (live l)) e;
-  }
+  counted_first left e = grind arith
 
   -- what is counted lies in the span
   pub counted_fits : (rooms many end : ℕ) (left : List Chunk) → Counted heap B rooms many end left → rooms + heap.header * many ≤ heap.span.len
-  counted_fits rooms many end left w =
-      let all = all_bytes heap.header 0 heap.span.len blocks in_order in
-      omega (arith, w.all_rooms, all.0, all.1, mul-le heap.header many heap.header (length blocks) (omega arith) (omega (arith, w.all_many)))
+  counted_fits rooms many end left w = grind (arith, all_bytes, in_order, mul-le)
 
   pub few_counted : (rooms many end : ℕ) (left : List Chunk) → Counted heap B rooms many end left → 8 * many ≤ heap.span.len
   few_counted rooms many end left w = omega (arith, counted_fits rooms many end left w, mul-le 8 many heap.header many heap.header_least (omega arith))
@@ -82,20 +65,7 @@ module _ (heap : Region) (B : List ℕ) (has : HasChunks heap B) where
         }
 
     pub counted_free : is_a_name chunk.owner ≡ false → Counted heap B rooms many end later
-    counted_free free =
-        let is : live left ≡ live later = ap live e ∙ named_skip heap.header B b chunk later free in
-        record {
-          at = met.at;
-          told = met.told;
-          all_rooms = omega (arith, w.all_rooms, ap room_sum is);
-          all_many = omega (arith, w.all_many, ap length is);
-          last = sym (ap (last_end heap.header end) is) ∙ w.last;
-        }
+    counted_free free = grind arith
 
   pub counted_all : (rooms many end : ℕ) (left : List Chunk) → left ≡ [] → Counted heap B rooms many end left → stats rooms (heap.header * many) (heap.span.len - rooms - heap.header * many) end many ≡ stats_of (heap_of heap B)
-  counted_all rooms many end left none w =
-      let all = all_bytes heap.header 0 heap.span.len blocks in_order in
-      let rooms_are : rooms ≡ room_sum blocks = omega (arith, w.all_rooms, ap (λ l. room_sum (live l)) none) in
-      let many_are : many ≡ length blocks = omega (arith, w.all_many, ap (λ l. length (live l)) none) in
-      let overhead = ap (λ k. heap.header * k) many_are in
-      same_stats rooms_are overhead (omega (arith, all.0, all.1)) (sym (ap (λ l. last_end heap.header end (live l)) none) ∙ w.last) many_are
+  counted_all rooms many end left none w = grind (arith, all_bytes, in_order, same_stats, last_end)

@@ -1,15 +1,6 @@
 -- The walk along the links to the gaps beside a place.
-use Rattle.std.proofs.Common.{◌≡◌, ℕ, ◌+◌, ◌≤◌, ◌<◌, inl, inr, List, [], ◌∷◌, length, true, false, ltb, leb, refl, sym, ap, ◌∙◌, subst, arith}
-use Rattle.std.specs.Prelude.{Option, Some, None, IfSome, fold}
-use Rattle.std.specs.Option.{option_map}
-use Rattle.std.proofs.lemmas.Bool.{lt-ltb, le-ltb, le-leb, lt-leb, cases_Bool}
-use Rattle.heap_core.specs.declared.chunk.Chunk.{Chunk}
-use Rattle.heap_core.specs.declared.region.Region.{Region}
-use Rattle.heap_core.specs.Chunks.{least_len, chunk_at, Tell}
-use Rattle.heap_core.specs.Layout.{chunks_of, HasChunks}
-use Rattle.heap_core.specs.FreeList.{gaps_among, LinkedTo}
-use Rattle.heap_core.specs.Code.Links.{Follow, lower, higher, gap_below, gap_from, gaps_from_place}
-use Rattle.heap_core.proofs.Lists.{gap_first, live_first, walk_begins, next_gap, no_gap, followed, NextGap}
+use Rattle.heap_core.proofs.Words.{◌≡◌, ℕ, ◌+◌, ◌≤◌, ◌<◌, inl, inr, List, [], ◌∷◌, length, true, false, ltb, leb, refl, sym, ap, ◌∙◌, subst, arith, Option, Some, None, IfSome, fold, option_map, lt-ltb, le-ltb, le-leb, lt-leb, cases_Bool, Chunk, Region, least_len, chunk_at, Tell, chunks_of, HasChunks, gaps_among, LinkedTo, Follow, lower, higher, gap_below, gap_from, gaps_from_place}
+use Rattle.heap_core.proofs.Lists.{kept_higher, gap_first, live_first, walk_begins, next_gap, no_gap, followed, NextGap}
 use Rattle.heap_core.proofs.ChunkHeaders.{place_told, owner_cases}
 
 -- each of these begins at that place or above it, and above those before it
@@ -25,23 +16,12 @@ pub gaps_ascend : (header : ℕ) (B : List ℕ) (b x y : ℕ) (l : List Chunk) �
 gaps_ascend header B b x y [] t = tt
 gaps_ascend header B b x y (c ∷ l) t =
     let enough : least_len header c ≤ c.len = t.1 in let at = place_told B b x c t.0 in
-    let later = gaps_ascend header B b (x + c.len) y l t.2 in
-    elim (owner_cases c.owner) [
-      | inl e ↦ subst (Ascend x) (sym (gap_first c l e)) (omega (arith, at), ascend_from (x + c.len) (c.at + 1) (gaps_among l) (omega (arith, at, enough)) later)
-      | inr s ↦ subst (Ascend x) (sym (live_first c s.0 l s.1)) (ascend_from (x + c.len) x (gaps_among l) (omega arith) later)
-    ]
+    let later = gaps_ascend header B b (x + c.len) y l t.2 in grind (arith, place_told, owner_cases, gap_first, ascend_from, live_first)
 
 -- none of them lies below that place
 above_lower : (p : ℕ) (found : Option Chunk) (gaps : List Chunk) → Ascend p gaps → fold (lower p) found gaps ≡ found
 above_lower p found [] up = refl
-above_lower p found (gap ∷ gaps) up =
-    let far : ltb gap.at p ≡ false = le-ltb gap.at p up.0 in
-    let here : lower p found gap ≡ found = rw far refl in
-    ap (λ o. fold (lower p) o gaps) here ∙ above_lower p found gaps (ascend_from (gap.at + 1) p gaps (omega (arith, up.0)) up.1)
-
-kept_place : (p at : ℕ) (gaps : List Chunk) → fold (higher p) (Some at) gaps ≡ Some at
-kept_place p at [] = refl
-kept_place p at (gap ∷ gaps) = kept_place p at gaps
+above_lower p found (gap ∷ gaps) up = let later = above_lower p found gaps in grind (arith, le-ltb, ascend_from)
 
 -- where a walk stands: the gap found is the one whose place is kept, and what is still to come decides the rest
 pub record Walked (heap : Region) (B : List ℕ) (p : ℕ) (below next : Option ℕ) : Type 0 where
@@ -56,18 +36,7 @@ pub record Walked (heap : Region) (B : List ℕ) (p : ℕ) (below next : Option 
 
 module _ (heap : Region) (B : List ℕ) (p : ℕ) where
   pub walk_begun : HasChunks heap B → LinkedTo heap.lowest (chunks_of heap B) None → Walked heap B p None heap.lowest
-  walk_begun has linked =
-      let w = walk_begins heap B has linked in
-      record {
-        few = w.1;
-        follow = w.2;
-        from = 0;
-        up = subst (Ascend 0) (sym w.0) (gaps_ascend heap.header B heap.span.at 0 heap.footprint (chunks_of heap B) has.told);
-        found = None;
-        place = refl;
-        lowered = ap (fold (lower p) None) w.0;
-        highered = ap (fold (higher p) None) w.0;
-      }
+  walk_begun has linked = grind (arith, walk_begins, gaps_ascend)
 
   module _ (below next : Option ℕ) (at : ℕ) (is : next ≡ Some at) (w : Walked heap B p below next) where
     abbrev gap : Chunk
@@ -83,33 +52,17 @@ module _ (heap : Region) (B : List ℕ) (p : ℕ) where
     up_here = subst (Ascend w.from) step.is w.up
 
     pub walk_more : at < p → (new : Option ℕ) → new ≡ gap.link → Walked heap B p (Some at) new
-    walk_more less new link =
-        let near : ltb gap.at p ≡ true = lt-ltb gap.at p (omega (arith, gap_place)) in
-        let far : leb p gap.at ≡ false = lt-leb p gap.at (omega (arith, gap_place)) in
-        let lower_here : lower p w.found gap ≡ Some gap = rw near refl in
-        let higher_here : higher p None gap ≡ None = rw far refl in
-        subst (Walked heap B p (Some at)) (sym link) (record {
-          few = step.few;
-          follow = step.follow;
-          from = gap.at + 1;
-          up = up_here.1;
-          found = Some gap;
-          place = ap Some gap_place;
-          lowered = sym (ap (λ o. fold (lower p) o (gaps_from_place heap B gap.link)) lower_here) ∙ sym (ap (fold (lower p) w.found) step.is) ∙ w.lowered;
-          highered = sym (ap (λ o. fold (higher p) o (gaps_from_place heap B gap.link)) higher_here) ∙ sym (ap (fold (higher p) None) step.is) ∙ w.highered;
-        })
+    walk_more less new link = grind (arith, lt-ltb, gap_place, lt-leb, step, up_here)
 
     pub stopped_below : p ≤ at → below ≡ option_map (λ (gap : Chunk). gap.at) (gap_below p (gaps_among (chunks_of heap B)))
-    stopped_below le =
-        let up : Ascend p (gap ∷ gaps_from_place heap B gap.link) = (omega (arith, gap_place), up_here.1) in
-        sym w.place ∙ ap (option_map (λ (gap : Chunk). gap.at)) (sym (above_lower p w.found (gap ∷ gaps_from_place heap B gap.link) up) ∙ sym (ap (fold (lower p) w.found) step.is) ∙ w.lowered)
+    stopped_below le = grind (arith, gap_place, up_here, above_lower, step)
 
     pub stopped_next : p ≤ at → Some at ≡ gap_from p (gaps_among (chunks_of heap B))
     stopped_next le =
         let near : leb p gap.at ≡ true = le-leb p gap.at (omega (arith, gap_place)) in
         let higher_here : higher p None gap ≡ Some gap.at = rw near refl in
         ap Some (sym gap_place)
-        ∙ sym (kept_place p gap.at (gaps_from_place heap B gap.link))
+        ∙ sym (kept_higher p gap.at (gaps_from_place heap B gap.link))
         ∙ sym (ap (λ o. fold (higher p) o (gaps_from_place heap B gap.link)) higher_here)
         ∙ sym (ap (fold (higher p) None) step.is)
         ∙ w.highered
@@ -130,19 +83,12 @@ HasHeader B b end gap = (chunk_at B b gap.at ≡ gap) × (gap.at + 12 ≤ end)
 
 lower_told : (B : List ℕ) (b end p : ℕ) (head : Option ℕ) (found : Option Chunk) (gaps : List Chunk) → Follow B b end head gaps → IfSome found (HasHeader B b end) → IfSome (fold (lower p) found gaps) (HasHeader B b end)
 lower_told B b end p head found [] follow h = h
-lower_told B b end p head found (gap ∷ gaps) follow h =
-    lower_told B b end p gap.link (lower p found gap) gaps follow.4 (elim (cases_Bool (ltb gap.at p)) [
-      | inl near ↦ (let now : lower p found gap ≡ Some gap = rw near refl in subst (λ o. IfSome o (HasHeader B b end)) (sym now) (follow.1, follow.3))
-      | inr far ↦ (let same : lower p found gap ≡ found = rw far refl in subst (λ o. IfSome o (HasHeader B b end)) (sym same) h)
-    ])
+lower_told B b end p head found (gap ∷ gaps) follow h = let later = lower_told B b end p gap.link (lower p found gap) gaps follow.4 in grind arith
 
 pub below_told : (heap : Region) (B : List ℕ) (p : ℕ) → HasChunks heap B → LinkedTo heap.lowest (chunks_of heap B) None → IfSome (gap_below p (gaps_among (chunks_of heap B))) (HasHeader B heap.span.at heap.footprint)
-below_told heap B p has linked =
-    lower_told B heap.span.at heap.footprint p heap.lowest None (gaps_among (chunks_of heap B)) (followed heap.header B heap.span.at 0 heap.footprint heap.lowest (chunks_of heap B) has.told linked).0 tt
+below_told heap B p has linked = grind (arith, lower_told, followed)
 
 -- the gap that begins at the place kept
 pub gap_kept : (B : List ℕ) (b end place : ℕ) (found : Option Chunk) → Some place ≡ option_map (λ (gap : Chunk). gap.at) found → IfSome found (HasHeader B b end) → (found ≡ Some (chunk_at B b place)) × (place + 12 ≤ end)
 gap_kept B b end place None is h = absurd (let two : Some place ≡ None = is in cc)
-gap_kept B b end place (Some gap) is h =
-    let same : gap.at ≡ place = let two : Some place ≡ Some gap.at = is in cc in
-    (ap Some (sym h.0 ∙ ap (chunk_at B b) same), omega (arith, h.1))
+gap_kept B b end place (Some gap) is h = grind arith

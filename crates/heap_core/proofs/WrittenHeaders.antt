@@ -1,14 +1,5 @@
 -- A header that is written: what it tells then, and that no other byte changed.
-use Rattle.std.proofs.Common.{◌≡◌, ℕ, ◌+◌, ◌≤◌, ◌<◌, ◌^◌, ◌⊎◌, inl, List, length, true, false, sym, ap, ◌∙◌, subst, arith}
-use Rattle.std.specs.Prelude.{Option, None}
-use Rattle.std.specs.Int.{from_le_bytes, to_le_bytes}
-use mir.Syntax.{w32}
-use Rattle.std.proofs.lemmas.Nat.{from_le_bytes-to_le_bytes_4}
-use Rattle.arena_core.specs.Contents.{Contents, contents}
-use Rattle.arena_core.specs.Outside.{ChangesOnly}
-use Rattle.arena_core.specs.Written.{written}
-use Rattle.arena_core.proofs.Ranges.{range-written, range-written_apart, changes_only}
-use Rattle.heap_core.specs.Chunks.{word_at, number_in, is_a_name, owner_in, size_in, chunk_at}
+use Rattle.heap_core.proofs.Words.{◌≡◌, ℕ, ◌+◌, ◌≤◌, ◌<◌, ◌^◌, ◌⊎◌, inl, List, length, true, false, sym, ap, ◌∙◌, subst, arith, Option, None, from_le_bytes, to_le_bytes, w32, from_le_bytes-to_le_bytes_4, Contents, contents, ChangesOnly, written, range-written, range-written_apart, changes_only, word_at, number_in, is_a_name, owner_in, size_in, chunk_at}
 use Rattle.heap_core.proofs.ChunkHeaders.{chunk_of, chunk_is, link_named, link_free, changes_then, changes_more}
 
 -- in Y that word stands at i, and all else is as in X
@@ -38,14 +29,10 @@ module _ (old one two : Contents) (b at len word : ℕ) (first : one ≡ content
   two_put = put_in one two (b + at + 4) word second (omega (arith, one_put.changes.size)) word_small
 
   pub live_written : (owner : Option ℕ) (size : ℕ) (link : Option ℕ) → owner_in word ≡ owner → size_in word ≡ size → is_a_name owner ≡ true → link ≡ None → chunk_at two.bytes b at ≡ chunk_of at len owner size link
-  live_written owner size link e f named none =
-      let len_told : word_at two.bytes (b + at) ≡ len = two_put.apart (b + at) (inl (omega arith)) ∙ one_put.here in
-      sym (chunk_is two.bytes b at len owner size link (sym len_told) (sym e ∙ ap owner_in (sym two_put.here)) (sym f ∙ ap size_in (sym two_put.here)) (none ∙ sym (link_named owner (word_at two.bytes (b + at + 8)) named)))
+  live_written owner size link e f named none = grind (arith, two_put, one_put, chunk_is, link_named)
 
   pub live_changes : ChangesOnly (b + at) 8 old.bytes two.bytes
-  live_changes =
-      changes_then (b + at) 8 old.bytes one.bytes two.bytes (changes_more (b + at) 4 (b + at) 8 old.bytes one.bytes one_put.changes (omega arith) (omega arith))
-      (changes_more (b + at + 4) 4 (b + at) 8 one.bytes two.bytes two_put.changes (omega arith) (omega arith))
+  live_changes = grind (arith, changes_then, changes_more, one_put, two_put)
 
   -- and the link of a free one behind them
   module _ (new : Contents) (next : ℕ) (third : new ≡ contents (written two.bytes (b + at + 8) (to_le_bytes w32 next)) two.carved) (next_small : next < 2 ^ 32) where
@@ -53,13 +40,7 @@ module _ (old one two : Contents) (b at len word : ℕ) (first : one ≡ content
     three_put = put_in two new (b + at + 8) next third (omega (arith, one_put.changes.size, two_put.changes.size)) next_small
 
     pub free_written : (owner : Option ℕ) (size : ℕ) (link : Option ℕ) → owner_in word ≡ owner → size_in word ≡ size → is_a_name owner ≡ false → number_in next ≡ link → chunk_at new.bytes b at ≡ chunk_of at len owner size link
-    free_written owner size link e f free g =
-        let len_told : word_at new.bytes (b + at) ≡ len = three_put.apart (b + at) (inl (omega arith)) ∙ two_put.apart (b + at) (inl (omega arith)) ∙ one_put.here in
-        let word_told : word_at new.bytes (b + at + 4) ≡ word = three_put.apart (b + at + 4) (inl (omega arith)) ∙ two_put.here in
-        sym (chunk_is new.bytes b at len owner size link (sym len_told) (sym e ∙ ap owner_in (sym word_told)) (sym f ∙ ap size_in (sym word_told))
-        (sym g ∙ ap number_in (sym three_put.here) ∙ sym (link_free owner (word_at new.bytes (b + at + 8)) free)))
+    free_written owner size link e f free g = grind (arith, three_put, two_put, one_put, chunk_is, link_free)
 
     pub free_changes : ChangesOnly (b + at) 12 old.bytes new.bytes
-    free_changes =
-        changes_then (b + at) 12 old.bytes two.bytes new.bytes (changes_more (b + at) 8 (b + at) 12 old.bytes two.bytes live_changes (omega arith) (omega arith))
-        (changes_more (b + at + 8) 4 (b + at) 12 two.bytes new.bytes three_put.changes (omega arith) (omega arith))
+    free_changes = grind (arith, changes_then, changes_more, live_changes, three_put)

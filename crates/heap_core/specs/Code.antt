@@ -1,4 +1,7 @@
+pub mod ChunkRanges
+pub mod FreeBytes
 pub mod Holes
 pub mod Joins
 pub mod Links
-pub mod Walks
+pub mod Owners
+pub mod PlacedBlocks

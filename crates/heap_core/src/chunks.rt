@@ -22,7 +22,7 @@ impl<'a> Model for Chunks<'a> {
     ghost use Rattle.std.specs.Prelude.{List, length, ◌+◌, ◌≤◌};
     ghost use Rattle.heap_core.specs.declared.chunk.Chunk.{Chunk as OfChunks};
     ghost use Rattle.heap_core.specs.Chunks.{Tell};
-    ghost use Rattle.heap_core.specs.Code.Walks.{chunks_between};
+    ghost use Rattle.heap_core.specs.Code.ChunkRanges.{chunks_between};
 
     ghost Value = { List OfChunks };
 

@@ -4,7 +4,7 @@ ghost use Rattle.std.specs.Prelude.{◌≡◌, ◌+◌, ◌≤◌, ◌<◌, ◌�
 ghost use Rattle.arena_core.specs.Outside.{ChangesOnly};
 ghost use Rattle.mote_types.specs.Bytes.{resized};
 ghost use Rattle.heap_core.specs.Chunks.{chunk_at, is_a_name};
-ghost use Rattle.heap_core.specs.Code.Walks.{bytes_in_chunk, bytes_given};
+ghost use Rattle.heap_core.specs.Code.PlacedBlocks.{bytes_in_chunk, bytes_given};
 
 use crate::chunk::{Chunk, is_a_name, number_in, owned_word, owner_in, size_in, word_of};
 use crate::region::Region;

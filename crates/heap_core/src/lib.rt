@@ -12,9 +12,9 @@ mod chunks;
 mod gap_list;
 mod headers;
 mod heap;
-mod split_and_join;
 mod region;
 mod search;
+mod split_and_join;
 
 pub use chunk::Place;
 pub use heap::Heap;

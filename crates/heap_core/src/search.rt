@@ -3,7 +3,10 @@
 ghost use Rattle.std.specs.Prelude.{◌≡◌, ◌≢◌, ◌≤◌, ◌<◌, ◌+◌, find, Some, None, IsSome};
 ghost use Rattle.heap_core.specs.HeapStore.{stats_of, find_block, best_gap, gaps, place, room_in_place};
 ghost use Rattle.heap_core.specs.FreeList.{Stands, LinkedTo, gaps_among};
-ghost use Rattle.heap_core.specs.Code.Walks.{owned_by, Owned, block_in_chunk, chunks_before, chunks_behind, free_from, front_gap, place_in_chunk};
+ghost use Rattle.heap_core.specs.Code.ChunkRanges.{chunks_before, chunks_behind};
+ghost use Rattle.heap_core.specs.Code.FreeBytes.{free_from, front_gap};
+ghost use Rattle.heap_core.specs.Code.Owners.{owned_by, Owned};
+ghost use Rattle.heap_core.specs.Code.PlacedBlocks.{block_in_chunk, place_in_chunk};
 
 use crate::chunk::{Chunk, Gap, Place, is_gap, is_live, least_room, room_taken, shorter};
 use crate::region::Region;

@@ -6,7 +6,10 @@ ghost use Rattle.mote_types.specs.Bytes.{resized};
 ghost use Rattle.heap_core.specs.HeapStore.{place, with_block, block_at, room_in_place};
 ghost use Rattle.heap_core.specs.Chunks.{is_a_name};
 ghost use Rattle.heap_core.specs.FreeList.{Stands, LiveIn, LinkedTo, gaps_among, GapsLinked, FreedLinked};
-ghost use Rattle.heap_core.specs.Code.Walks.{Owned, free_from, front_gap, chunks_before, chunks_behind, bytes_given, without_place, place_in_chunk, at_place, bytes_in_chunk};
+ghost use Rattle.heap_core.specs.Code.ChunkRanges.{chunks_before, chunks_behind};
+ghost use Rattle.heap_core.specs.Code.FreeBytes.{free_from, front_gap};
+ghost use Rattle.heap_core.specs.Code.Owners.{Owned};
+ghost use Rattle.heap_core.specs.Code.PlacedBlocks.{bytes_given, without_place, place_in_chunk, at_place, bytes_in_chunk};
 
 use crate::chunk::{Chunk, FREED, FreeEnd, Place, gap_count};
 use crate::region::Region;

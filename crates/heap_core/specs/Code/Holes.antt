@@ -7,7 +7,7 @@ use Rattle.heap_core.specs.Chunks.{Tell, BeginsLive, IsWhole, AreJoined, with_ch
 use Rattle.heap_core.specs.Layout.{chunks_of, store_of, HasChunks}
 use Rattle.heap_core.specs.FreeList.{LinkedTo, gaps_among, LiveIn}
 use Rattle.heap_core.specs.Code.Links.{gap_count}
-use Rattle.heap_core.specs.Code.Walks.{LeavesGap, IsWholeRoom}
+use Rattle.heap_core.specs.Code.FreeBytes.{LeavesGap, IsWholeRoom}
 
 -- The headers tell chunks up to one place and from another one on, and what lies between is free: whatever its bytes are.
 pub record Hole (heap : Region) (bytes : List ℕ) (at end : ℕ) : Type 0 where

@@ -8,7 +8,7 @@ use Rattle.heap_core.specs.HeapBytes.{heap_of, KeepsToSpan}
 use Rattle.heap_core.specs.Layout.{chunks_of, store_of, HasChunks}
 use Rattle.heap_core.specs.FreeList.{LiveIn, GapsLinked, FreedLinked}
 use Rattle.heap_core.specs.Code.Links.{KeepsFreed}
-use Rattle.heap_core.specs.Code.Walks.{without_place}
+use Rattle.heap_core.specs.Code.PlacedBlocks.{without_place}
 
 -- what stood at a place became something else, and the chunks that are no gaps are these blocks: every other live chunk stays
 pub record Changed (old new : Region) (before after : Contents) (at : ℕ) (store : HeapStore) : Type 0 where

@@ -5,7 +5,7 @@ use Rattle.heap_core.specs.declared.region.Region.{Region}
 use Rattle.heap_core.specs.Chunks.{chunk_at, Tell}
 use Rattle.heap_core.specs.FreeList.{gaps_among, LinkedTo, LiveIn}
 use Rattle.heap_core.specs.Layout.{chunks_of, store_of, HasChunks}
-use Rattle.heap_core.specs.Code.Walks.{without_place}
+use Rattle.heap_core.specs.Code.PlacedBlocks.{without_place}
 
 -- how many gaps that many free bytes are
 abbrev pub gap_count : ℕ → ℕ

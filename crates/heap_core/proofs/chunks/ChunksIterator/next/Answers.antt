@@ -1,5 +1,4 @@
-use Rattle.std.proofs.Common.{rules, sym, ◌∙◌, arith}
-use Rattle.heap_core.specs.Code.Walks.{chunks_between}
+use Rattle.heap_core.proofs.Words.{rules, sym, ◌∙◌, arith, chunks_between}
 use Rattle.heap_core.proofs.Steps.{room_for_header, next_of, ended}
 use Rattle.heap_core.proofs.chunks.ChunksIterator.next.Goals as goal
 

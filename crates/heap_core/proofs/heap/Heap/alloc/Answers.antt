@@ -1,16 +1,4 @@
-use Rattle.std.proofs.Common.{rules, [], ◌≡◌, ℕ, ◌≤◌, List, slice_set, length, Some, None, refl, sym, ap, ◌∙◌, subst}
-use Rattle.std.specs.Prelude.{Option, find}
-use Rattle.std.specs.Option.{option_map}
-use Rattle.std.proofs.lemmas.Bool.{lt-ltb}
-use Rattle.mote_types.specs.BlockNames.{number_of}
-use Rattle.mote_types.specs.Bytes.{zeros, resized}
-use Rattle.heap_core.specs.declared.chunk.Place.{Place}
-use Rattle.heap_core.specs.declared.region.Region.{Region}
-use Rattle.heap_core.specs.HeapStore.{Block, HeapStore, has_name, block_at, block_of, with_block, allocated, place}
-use Rattle.heap_core.specs.HeapBytes.{heap_of, IsLaidOut}
-use Rattle.heap_core.specs.Layout.{chunks_of, store_of}
-use Rattle.heap_core.specs.FreeList.{unnamed, FreedLinked}
-use Rattle.heap_core.specs.Places.{ArePlaced}
+use Rattle.heap_core.proofs.Words.{rules, [], ◌≡◌, ℕ, ◌≤◌, List, slice_set, length, refl, sym, ap, ◌∙◌, subst, Option, find, option_map, lt-ltb, number_of, zeros, resized, Place, Region, Block, HeapStore, has_name, block_at, block_of, with_block, allocated, place, heap_of, IsLaidOut, chunks_of, store_of, unnamed, FreedLinked, ArePlaced, Some, None}
 use Rattle.heap_core.proofs.Blocks.{count}
 use Rattle.heap_core.proofs.Freed.{plain, placed_unnamed, freed_none}
 use Rattle.heap_core.proofs.Joined.{linked_is, joined_is}
@@ -60,43 +48,34 @@ returns-in_err-place-clause-refused c =
 pub returns-in_err-place-clause-linked : goal.returns-in_err-place-clause-linked
 returns-in_err-place-clause-linked c = let j = c.join.ensures in linked_is c.join.new.self c.join.new.arena.bytes j.joins.chunks j.joins.gaps j.joins.freed j.none
 
-pub returns-clause-refused : goal.returns-clause-refused
-returns-clause-refused c =
-    let some = chosen (goal.at.returns-clause-refused c).After-join (Some c.in_ok-place.place) (sym c.in_ok-place.ensures) in
-    (λ is. absurd (search rules), λ none. absurd (let two : None ≡ Some c.in_ok-place.place = sym none ∙ some in cc))
-
-pub returns-clause-linked : goal.returns-clause-linked
+pub returns : goal.returns
 unfolding chunks_of
-returns-clause-linked c =
-    let k = (goal.at.returns-clause-linked c).After-put_block in
-    linked_is c.put_block.new.self c.put_block.new.arena.bytes c.put_block.ensures.chunks c.put_block.ensures.gaps (freed k) (none k)
-
-pub returns-clause-laid_out : goal.returns-clause-laid_out
-unfolding chunks_of
-returns-clause-laid_out c =
-    let k = (goal.at.returns-clause-laid_out c).After-put_block in let f = freed k in let was = c.self.inside.region in let A = c.args.arena.now.bytes in let old = heap_of was A in let name = c.number_of-name.result in
+returns c =
+    let some = chosen (goal.at.returns c).After-join (Some c.in_ok-place.place) (sym c.in_ok-place.ensures) in
+    let k = (goal.at.returns c).After-put_block in let f = freed k in let was = c.self.inside.region in let A = c.args.arena.now.bytes in
+    let old = heap_of was A in let name = c.number_of-name.result in
     let laid : IsLaidOut was A = subst (λ (r : Region). IsLaidOut r A) (sym c.self.view_is) c.requires.laid_out in
     let unused : block_of c.args.key.0.0 c.args.key.1 old ≡ None = subst (λ (r : Region). block_of c.args.key.0.0 c.args.key.1 (heap_of r A) ≡ None) (sym c.self.view_is) c.requires.unused in
-    let none : find (has_name name) old.blocks ≡ None =
-    ap (λ k. find (has_name k) old.blocks) c.number_of-name.ensures.number ∙ map_none (λ (other : Block). other.bytes) (find (has_name (number_of c.args.key.0.0 c.args.key.1)) old.blocks) unused in
-    let place = c.in_ok-place.place in let bytes = resized c.args.n [] in let mid = heap_of c.put_block.new.self c.put_block.new.arena.bytes in
-    record {
-      chunks = has_same c.put_block.new.self _ c.put_block.new.arena.bytes refl refl refl c.put_block.ensures.chunks;
-      named = λ other. subst (λ (h : HeapStore). count other h.blocks ≤ 1) (sym (is k)) (named_with other (block_at place name bytes) old.blocks (count_none name old.blocks none) (laid.named other));
-      places =
-          subst (λ places. ArePlaced (slice_set places name (Some place.at)) mid) (sym (c.put_block.ensures.kept.places ∙ c.join.ensures.joins.places))
-          (placed_more was.places old mid place name bytes c.number_of-name.ensures.within none (is k) laid.places);
-      gaps = record { linked = c.put_block.ensures.gaps.linked; count = c.put_block.ensures.gaps.count };
-      freed = record { list = f.list; linked = f.linked; count = f.count; all = f.all };
-    }
-
-pub returns-clause-block : goal.returns-clause-block
-unfolding chunks_of
-returns-clause-block c =
-    let k = (goal.at.returns-clause-block c).After-put_block in let old = heap_of c.self.inside.region c.args.arena.now.bytes in let p = c.args.key.0.0 in let h = c.args.key.1 in let n = c.args.n in
-    let put : Place → ℕ → HeapStore = λ target name. with_block (block_at target name (zeros n)) old in let target = c.in_ok-place.place in let name = c.number_of-name.result in
+    let absent : find (has_name name) old.blocks ≡ None = ap (λ k. find (has_name k) old.blocks) c.number_of-name.ensures.number ∙ map_none (λ (other : Block). other.bytes) (find (has_name (number_of c.args.key.0.0 c.args.key.1)) old.blocks) unused in
+    let target = c.in_ok-place.place in let bytes = resized c.args.n [] in let mid = heap_of c.put_block.new.self c.put_block.new.arena.bytes in
+    let p = c.args.key.0.0 in let h = c.args.key.1 in let n = c.args.n in
     let same = joined_is c.self.inside.region c.join.new.self c.args.arena.now c.join.new.arena c.join.ensures.joins c.join.ensures.none in
-    subst (λ (r : Region). allocated p h n (heap_of r c.args.arena.now.bytes) ≡ Some (heap_of c.put_block.new.self c.put_block.new.arena.bytes)) c.self.view_is
-    (ap (option_map (λ target. put target (number_of p h))) (ap (place n) (sym same) ∙ sym c.in_ok-place.ensures)
-    ∙ ap (λ name. Some (put target name)) (sym c.number_of-name.ensures.number)
-    ∙ ap Some (sym (is k ∙ ap (λ bytes. with_block (block_at target name bytes) old) (resized_none n))))
+    record {
+      refused = (λ is. absurd (search rules), λ none. absurd (let two : None ≡ Some c.in_ok-place.place = sym none ∙ some in cc));
+      unchanged = search rules;
+      block = let put : Place → ℕ → HeapStore = λ target name. with_block (block_at target name (zeros n)) old in subst (λ (r : Region). allocated p h n (heap_of r c.args.arena.now.bytes) ≡ Some (heap_of c.put_block.new.self c.put_block.new.arena.bytes)) c.self.view_is
+          (ap (option_map (λ target. put target (number_of p h))) (ap (place n) (sym same) ∙ sym c.in_ok-place.ensures)
+          ∙ ap (λ name. Some (put target name)) (sym c.number_of-name.ensures.number)
+          ∙ ap Some (sym (is k ∙ ap (λ bytes. with_block (block_at target name bytes) old) (resized_none n))));
+      laid_out = record {
+        chunks = has_same c.put_block.new.self _ c.put_block.new.arena.bytes refl refl refl c.put_block.ensures.chunks;
+        named = λ other. subst (λ (h : HeapStore). count other h.blocks ≤ 1) (sym (is k)) (named_with other (block_at target name bytes) old.blocks (count_none name old.blocks absent) (laid.named other));
+        places =
+            subst (λ places. ArePlaced (slice_set places name (Some target.at)) mid) (sym (c.put_block.ensures.kept.places ∙ c.join.ensures.joins.places))
+            (placed_more was.places old mid target name bytes c.number_of-name.ensures.within absent (is k) laid.places);
+        gaps = record { linked = c.put_block.ensures.gaps.linked; count = c.put_block.ensures.gaps.count };
+        freed = record { list = f.list; linked = f.linked; count = f.count; all = f.all };
+      };
+      linked = linked_is c.put_block.new.self c.put_block.new.arena.bytes c.put_block.ensures.chunks c.put_block.ensures.gaps (freed k) (none k);
+      rest = search rules;
+    }

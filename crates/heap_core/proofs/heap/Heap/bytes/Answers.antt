@@ -1,6 +1,4 @@
-use Rattle.std.proofs.Common.{sym, subst, arith}
-use Rattle.heap_core.specs.declared.region.Region.{Region}
-use Rattle.heap_core.specs.HeapBytes.{IsLaidOut}
+use Rattle.heap_core.proofs.Words.{sym, subst, arith, Region, IsLaidOut}
 use Rattle.heap_core.proofs.heap.Heap.bytes.Goals as goal
 
 pub bytes-requires : goal.bytes-requires

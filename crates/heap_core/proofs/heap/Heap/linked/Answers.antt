@@ -1,5 +1,4 @@
-use Rattle.std.proofs.Common.{ap, ◌∙◌}
-use Rattle.heap_core.specs.HeapBytes.{linked_of}
+use Rattle.heap_core.proofs.Words.{ap, ◌∙◌, linked_of}
 use Rattle.heap_core.proofs.FreeCount.{all_linked}
 use Rattle.heap_core.proofs.heap.Heap.linked.Goals as goal
 

@@ -1,6 +1,4 @@
-use Rattle.std.proofs.Common.{[], refl, arith}
-use Rattle.std.proofs.lemmas.List.{length-replicate}
-use Rattle.heap_core.specs.Layout.{chunks_of}
+use Rattle.heap_core.proofs.Words.{[], refl, arith, length-replicate, chunks_of}
 use Rattle.heap_core.proofs.Places.{nowhere, none_placed}
 use Rattle.heap_core.proofs.heap.Heap.new.Goals as goal
 

@@ -1,18 +1,4 @@
-use Rattle.std.proofs.Common.{rules, ◌≡◌, ℕ, ◌≤◌, List, slice_set, length, Some, None, refl, sym, ap, ◌∙◌, subst}
-use Rattle.std.specs.Prelude.{Option, filter}
-use Rattle.std.specs.Option.{option_map}
-use Rattle.std.proofs.lemmas.Bool.{lt-ltb, false≢true}
-use Rattle.mote_types.specs.Bytes.{resized}
-use Rattle.heap_core.specs.declared.chunk.Chunk.{Chunk}
-use Rattle.heap_core.specs.declared.chunk.Place.{Place}
-use Rattle.heap_core.specs.declared.region.Region.{Region}
-use Rattle.heap_core.specs.HeapStore.{Block, HeapStore, block_at, find_block, with_block, without_block, place, room_in_place, reallocated}
-use Rattle.heap_core.specs.HeapBytes.{heap_of, IsLaidOut}
-use Rattle.heap_core.specs.Layout.{chunks_of, store_of}
-use Rattle.heap_core.specs.FreeList.{unnamed, FreedLinked}
-use Rattle.heap_core.specs.Places.{ArePlaced}
-use Rattle.heap_core.specs.Code.Links.{KeepsFreed}
-use Rattle.heap_core.specs.Code.Walks.{place_in_chunk, at_place, bytes_in_chunk, block_in_chunk, without_place}
+use Rattle.heap_core.proofs.Words.{rules, ◌≡◌, ℕ, ◌≤◌, List, slice_set, length, refl, sym, ap, ◌∙◌, subst, Option, filter, option_map, lt-ltb, false≢true, resized, Chunk, Place, Region, Block, HeapStore, block_at, find_block, with_block, without_block, place, room_in_place, reallocated, heap_of, IsLaidOut, chunks_of, store_of, unnamed, FreedLinked, ArePlaced, KeepsFreed, place_in_chunk, at_place, bytes_in_chunk, block_in_chunk, without_place, Some, None}
 use Rattle.heap_core.proofs.Blocks.{count}
 use Rattle.heap_core.proofs.Blocks.{elsewhere as by_place}
 use Rattle.heap_core.proofs.Bodies.{without_place_is}
@@ -91,51 +77,55 @@ module _ (c : After-live_chunk-chunk) where
       let is = plain new B' freed (kept.freed ∙ j.none) ∙ block in
       record { freed = freed; is = is; done = in_place heap B store chunk c.args.key.0.0 c.args.key.1 c.number_of-name.result c.args.n left c.number_of-name.ensures.number found room (heap_of new B') chosen is }
 
-pub returns-in_default-clause-block : goal.returns-in_default-clause-block
+pub returns-in_default : goal.returns-in_default
 unfolding chunks_of
-returns-in_default-clause-block c =
-    let k = (goal.at.returns-in_default-clause-block c).After-live_chunk-chunk in let new = heap_of c.relocate.new.self c.relocate.new.arena.bytes in
-    told k (Some new) (moved k new (sym c.room_in_place.ensures ∙ c.in_default.is) c.in_ok-at.ensures.block)
-
-pub returns-in_default-clause-laid_out : goal.returns-in_default-clause-laid_out
-unfolding chunks_of
-returns-in_default-clause-laid_out c =
-    let k = (goal.at.returns-in_default-clause-laid_out c).After-live_chunk-chunk in let new = heap_of c.relocate.new.self c.relocate.new.arena.bytes in
+returns-in_default c =
+    let k = (goal.at.returns-in_default c).After-live_chunk-chunk in let new = heap_of c.relocate.new.self c.relocate.new.arena.bytes in
     let m = c.in_ok-at.ensures in let heap = c.join.new.self in let B = c.join.new.arena.bytes in let store = store_of heap B in
     let bytes = resized c.args.n (bytes_in_chunk heap.header B heap.span.at c.live_chunk-chunk.result) in let name = c.number_of-name.result in
+    let some = told k (Some new) (moved k new (sym c.room_in_place.ensures ∙ c.in_default.is) c.in_ok-at.ensures.block) in
     record {
-      chunks = has_same c.relocate.new.self _ c.relocate.new.arena.bytes refl refl refl m.chunks;
-      named = named k new (moved k new (sym c.room_in_place.ensures ∙ c.in_default.is) m.block);
-      places =
-          subst (λ places. ArePlaced (slice_set places name (Some c.in_ok-at.at)) new) (sym c.relocate.ensures.places)
-          (placed_moved heap.places store new (place c.args.n store) c.in_ok-at.at name bytes c.number_of-name.ensures.within (sym m.at)
-          (ap (λ rest. option_map (λ (target : Place). with_block (block_at target name bytes) rest) (place c.args.n store)) (sym (left k)) ∙ m.block)
-          (stored heap B (joined k)).places);
-      gaps = record { linked = m.gaps.linked; count = m.gaps.count };
-      freed = record { list = m.freed.list; linked = m.freed.linked; count = m.freed.count; all = m.freed.all };
+      refused = (λ k. absurd (false≢true (sym k)), λ none. absurd (let two : None ≡ Some new = sym none ∙ some in cc));
+      unchanged = search rules;
+      block = told k (Some new) (moved k new (sym c.room_in_place.ensures ∙ c.in_default.is) c.in_ok-at.ensures.block);
+      laid_out = record {
+        chunks = has_same c.relocate.new.self _ c.relocate.new.arena.bytes refl refl refl m.chunks;
+        named = named k new (moved k new (sym c.room_in_place.ensures ∙ c.in_default.is) m.block);
+        places =
+            subst (λ places. ArePlaced (slice_set places name (Some c.in_ok-at.at)) new) (sym c.relocate.ensures.places)
+            (placed_moved heap.places store new (place c.args.n store) c.in_ok-at.at name bytes c.number_of-name.ensures.within (sym m.at)
+            (ap (λ rest. option_map (λ (target : Place). with_block (block_at target name bytes) rest) (place c.args.n store)) (sym (left k)) ∙ m.block)
+            (stored heap B (joined k)).places);
+        gaps = record { linked = m.gaps.linked; count = m.gaps.count };
+        freed = record { list = m.freed.list; linked = m.freed.linked; count = m.freed.count; all = m.freed.all };
+      };
+      rest = search rules;
     }
 
-pub returns-clause-block : goal.returns-clause-block
-returns-clause-block c =
-    let k = (goal.at.returns-clause-block c).After-live_chunk-chunk in
-    told k (Some (heap_of c.resize.new.self c.resize.new.arena.bytes)) (stayed k c.in-Some.room c.resize.new.self c.resize.new.arena.bytes (sym c.in-Some.ensures) c.resize.ensures.kept c.resize.ensures.block).done
-
-pub returns-clause-laid_out : goal.returns-clause-laid_out
-returns-clause-laid_out c =
-    let k = (goal.at.returns-clause-laid_out c).After-live_chunk-chunk in let heap = c.join.new.self in let B = c.join.new.arena.bytes in let chunk = c.live_chunk-chunk.result in
-    let new = heap_of c.resize.new.self c.resize.new.arena.bytes in let bytes = resized c.args.n (bytes_in_chunk heap.header B heap.span.at chunk) in let name = c.number_of-name.result in
+pub returns : goal.returns
+returns c =
+    let k = (goal.at.returns c).After-live_chunk-chunk in let heap = c.join.new.self in let B = c.join.new.arena.bytes in
+    let chunk = c.live_chunk-chunk.result in let new = heap_of c.resize.new.self c.resize.new.arena.bytes in
+    let bytes = resized c.args.n (bytes_in_chunk heap.header B heap.span.at chunk) in let name = c.number_of-name.result in
     let s = stayed k c.in-Some.room c.resize.new.self c.resize.new.arena.bytes (sym c.in-Some.ensures) c.resize.ensures.kept c.resize.ensures.block in
+    let some = told k (Some new) (stayed k c.in-Some.room c.resize.new.self c.resize.new.arena.bytes (sym c.in-Some.ensures) c.resize.ensures.kept c.resize.ensures.block).done in
     record {
-      chunks = c.resize.ensures.chunks;
-      named = named k new s.done;
-      places =
-          subst (λ places. ArePlaced places new) (sym c.resize.ensures.kept.places)
-          (placed_there heap.places (store_of heap B) new (at_place chunk.at c.in-Some.room) name bytes
-          (ap (option_map (λ (other : Block). other.at)) (found k))
-          (s.is ∙ ap (with_block (block_at (at_place chunk.at c.in-Some.room) name bytes)) (left k))
-          (stored heap B (joined k)).places);
-      gaps = c.resize.ensures.gaps;
-      freed = s.freed;
+      refused = (λ k. absurd (false≢true (sym k)), λ none. absurd (let two : None ≡ Some new = sym none ∙ some in cc));
+      unchanged = search rules;
+      block = told k (Some (heap_of c.resize.new.self c.resize.new.arena.bytes)) (stayed k c.in-Some.room c.resize.new.self c.resize.new.arena.bytes (sym c.in-Some.ensures) c.resize.ensures.kept c.resize.ensures.block).done;
+      laid_out = record {
+        chunks = c.resize.ensures.chunks;
+        named = named k new s.done;
+        places =
+            subst (λ places. ArePlaced places new) (sym c.resize.ensures.kept.places)
+            (placed_there heap.places (store_of heap B) new (at_place chunk.at c.in-Some.room) name bytes
+            (ap (option_map (λ (other : Block). other.at)) (found k))
+            (s.is ∙ ap (with_block (block_at (at_place chunk.at c.in-Some.room) name bytes)) (left k))
+            (stored heap B (joined k)).places);
+        gaps = c.resize.ensures.gaps;
+        freed = s.freed;
+      };
+      rest = search rules;
     }
 
 pub returns-in_err-at-clause-refused : goal.returns-in_err-at-clause-refused
@@ -144,16 +134,3 @@ returns-in_err-at-clause-refused c =
     let is = told k None (nowhere heap B store c.live_chunk-chunk.result c.args.key.0.0 c.args.key.1 c.number_of-name.result c.args.n (left k) c.number_of-name.ensures.number (found k) (sym c.room_in_place.ensures ∙ c.in_default.is) (elim_none (place c.args.n store) c.in_err-at.ensures.at)) in
     let e = c.from_residual.ensures in
     (λ _. is, λ _. rw e (search rules))
-
-pub returns-in_default-clause-refused : goal.returns-in_default-clause-refused
-unfolding chunks_of
-returns-in_default-clause-refused c =
-    let k = (goal.at.returns-in_default-clause-refused c).After-live_chunk-chunk in let new = heap_of c.relocate.new.self c.relocate.new.arena.bytes in
-    let some = told k (Some new) (moved k new (sym c.room_in_place.ensures ∙ c.in_default.is) c.in_ok-at.ensures.block) in
-    (λ k. absurd (false≢true (sym k)), λ none. absurd (let two : None ≡ Some new = sym none ∙ some in cc))
-
-pub returns-clause-refused : goal.returns-clause-refused
-returns-clause-refused c =
-    let k = (goal.at.returns-clause-refused c).After-live_chunk-chunk in let new = heap_of c.resize.new.self c.resize.new.arena.bytes in
-    let some = told k (Some new) (stayed k c.in-Some.room c.resize.new.self c.resize.new.arena.bytes (sym c.in-Some.ensures) c.resize.ensures.kept c.resize.ensures.block).done in
-    (λ k. absurd (false≢true (sym k)), λ none. absurd (let two : None ≡ Some new = sym none ∙ some in cc))

@@ -1,15 +1,4 @@
-use Rattle.std.proofs.Common.{ℕ, List, ◌≡◌, ◌+◌, ◌≤◌, length, sym, ap, ◌∙◌, subst, refl, arith}
-use Rattle.std.specs.Prelude.{None, IsSomeAnd, find, map, if◌then◌else◌}
-use Rattle.std.specs.Option.{option_map}
-use Rattle.mote_types.specs.Bytes.{overwritten}
-use Rattle.arena_core.specs.Contents.{contents}
-use Rattle.arena_core.specs.Written.{written}
-use Rattle.arena_core.proofs.Ranges.{changes_only}
-use Rattle.heap_core.specs.declared.chunk.Chunk.{Chunk}
-use Rattle.heap_core.specs.declared.region.Region.{Region}
-use Rattle.heap_core.specs.HeapStore.{Block, HeapStore, has_name, block_of, with_bytes}
-use Rattle.heap_core.specs.HeapBytes.{heap_of, IsLaidOut, KeepsToSpan}
-use Rattle.heap_core.specs.FreeList.{LinkedTo, gaps_among, AreFreed}
+use Rattle.heap_core.proofs.Words.{ℕ, List, ◌≡◌, ◌+◌, ◌≤◌, length, sym, ap, ◌∙◌, subst, refl, arith, None, IsSomeAnd, find, map, if◌then◌else◌, option_map, overwritten, contents, written, changes_only, Chunk, Region, Block, HeapStore, has_name, block_of, with_bytes, heap_of, IsLaidOut, KeepsToSpan, LinkedTo, gaps_among, AreFreed}
 use Rattle.heap_core.proofs.Blocks.{count}
 use Rattle.heap_core.proofs.Bodies.{range_fits, body_spliced, live_blocks, same_chunks, same_unnamed}
 use Rattle.heap_core.proofs.Names.{count_map, keeps_name, keeps_place}
@@ -43,17 +32,11 @@ bytes_mut-target-requires c =
     let k = ready (goal.at.bytes_mut-target-requires c).After-body-body in
     omega (arith, k.1, c.live_chunk-chunk.ensures.inside, k.0.chunks.within, c.body-body.ensures.at)
 
-pub returns-clause-block : goal.returns-clause-block
-returns-clause-block c =
-    let k = (goal.at.returns-clause-block c).After-body-body in let heap = c.self.inside.region in let B = c.args.arena.now.bytes in let at = c.args.at in let ws = c.args.bytes.now in
-    told k (λ r bytes. heap_of r bytes ≡ with_bytes c.args.key.0.0 c.args.key.1 at ws (heap_of r B)) c.copy_from_slice.new.self c.copy_from_slice.ensures.after
-    (ap (λ blocks. let h : HeapStore = record { size = heap.span.len; header = heap.header; blocks = blocks } in h) (live_blocks heap B (stored heap B (ready k).0) c.live_chunk-chunk.result c.number_of.result c.number_of.ensures.within c.live_chunk-chunk.ensures.owned at ws (ready k).1)
-    ∙ ap (λ k. let h : HeapStore = record { size = heap.span.len; header = heap.header; blocks = map (λ (block : Block). if has_name k block then (let new : Block = record block { bytes = overwritten at ws block.bytes } in new) else block) (heap_of heap B).blocks } in h) c.number_of.ensures.number)
-
-pub returns-clause-laid_out : goal.returns-clause-laid_out
-returns-clause-laid_out c =
-    let k = (goal.at.returns-clause-laid_out c).After-body-body in let heap = c.self.inside.region in let B = c.args.arena.now.bytes in let chunk = c.live_chunk-chunk.result in let name = c.number_of.result in let at = c.args.at in let ws = c.args.bytes.now in let o = c.live_chunk-chunk.ensures.owned in let small = c.number_of.ensures.within in
-    let laid = (ready k).0 in let room = (ready k).1 in
+pub returns : goal.returns
+returns c =
+    let k = (goal.at.returns c).After-body-body in let heap = c.self.inside.region in let B = c.args.arena.now.bytes in let at = c.args.at in
+    let ws = c.args.bytes.now in let chunk = c.live_chunk-chunk.result in let name = c.number_of.result in let o = c.live_chunk-chunk.ensures.owned in
+    let small = c.number_of.ensures.within in let laid = (ready k).0 in let room = (ready k).1 in
     let over = λ (block : Block). (let new : Block = record block { bytes = overwritten at ws block.bytes } in new) in
     let new : IsLaidOut heap (written B (heap.span.at + chunk.at + heap.header + at) ws) = record {
       chunks = (body_spliced heap B (stored heap B laid) chunk name small o at ws room).has;
@@ -81,14 +64,16 @@ returns-clause-laid_out c =
         all = same_unnamed heap B (stored heap B laid) chunk name small o at ws room ∙ laid.freed.all;
       };
     } in
-    told k IsLaidOut c.copy_from_slice.new.self c.copy_from_slice.ensures.after new
-
-pub returns-clause-rest : goal.returns-clause-rest
-returns-clause-rest c =
-    let k = (goal.at.returns-clause-rest c).After-body-body in let heap = c.self.inside.region in let A = c.args.arena.now in let ready = ready k in
-    told k (λ r bytes. KeepsToSpan r r A (contents bytes A.carved)) c.copy_from_slice.new.self c.copy_from_slice.ensures.after (record {
-      span = refl;
-      header = refl;
-      carved = refl;
-      bytes = changes_only A.bytes (heap.span.at + c.live_chunk-chunk.result.at + heap.header + c.args.at) c.args.bytes.now (omega (arith, c.live_chunk-chunk.ensures.inside, ready.0.chunks.within, ready.1)) heap.span.at heap.span.len (omega arith) (omega (arith, c.live_chunk-chunk.ensures.inside, ready.1));
-    })
+    let A = c.args.arena.now in
+    record {
+      block = told k (λ r bytes. heap_of r bytes ≡ with_bytes c.args.key.0.0 c.args.key.1 at ws (heap_of r B)) c.copy_from_slice.new.self c.copy_from_slice.ensures.after
+          (ap (λ blocks. let h : HeapStore = record { size = heap.span.len; header = heap.header; blocks = blocks } in h) (live_blocks heap B (stored heap B laid) chunk name small o at ws room)
+          ∙ ap (λ k. let h : HeapStore = record { size = heap.span.len; header = heap.header; blocks = map (λ (block : Block). if has_name k block then (let new : Block = record block { bytes = overwritten at ws block.bytes } in new) else block) (heap_of heap B).blocks } in h) c.number_of.ensures.number);
+      laid_out = told k IsLaidOut c.copy_from_slice.new.self c.copy_from_slice.ensures.after new;
+      rest = told k (λ r bytes. KeepsToSpan r r A (contents bytes A.carved)) c.copy_from_slice.new.self c.copy_from_slice.ensures.after (record {
+        span = refl;
+        header = refl;
+        carved = refl;
+        bytes = changes_only A.bytes (heap.span.at + c.live_chunk-chunk.result.at + heap.header + c.args.at) c.args.bytes.now (omega (arith, c.live_chunk-chunk.ensures.inside, laid.chunks.within, room)) heap.span.at heap.span.len (omega arith) (omega (arith, c.live_chunk-chunk.ensures.inside, room));
+      });
+    }

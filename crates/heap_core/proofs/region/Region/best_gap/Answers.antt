@@ -1,6 +1,4 @@
-use Rattle.std.proofs.Common.{length, refl, sym, ap, subst, arith}
-use Rattle.heap_core.specs.Chunks.{chunk_at, is_a_name}
-use Rattle.heap_core.specs.Code.Links.{gaps_from_place}
+use Rattle.heap_core.proofs.Words.{length, refl, sym, ap, subst, arith, chunk_at, is_a_name, gaps_from_place}
 use Rattle.heap_core.proofs.Lists.{header_fits}
 use Rattle.heap_core.proofs.Searches.{Searched, search_begun, search_ended, met, search_past_short, search_past_long, search_exact}
 use Rattle.heap_core.proofs.region.Region.best_gap.Goals as goal

@@ -1,5 +1,4 @@
-use Rattle.std.proofs.Common.{length}
-use Rattle.heap_core.specs.Code.Links.{gaps_from_place}
+use Rattle.heap_core.proofs.Words.{length, gaps_from_place}
 use Rattle.heap_core.proofs.Searches.{Searched}
 use Rattle.heap_core.proofs.region.Region.best_gap.Given as goal
 

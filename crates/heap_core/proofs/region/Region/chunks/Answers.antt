@@ -1,6 +1,4 @@
-use Rattle.std.proofs.Common.{refl, arith}
-use Rattle.heap_core.specs.Layout.{chunks_of}
-use Rattle.heap_core.specs.Code.Walks.{chunks_between}
+use Rattle.heap_core.proofs.Words.{refl, arith, chunks_of, chunks_between}
 use Rattle.heap_core.proofs.region.Region.chunks.Goals as goal
 
 pub invariant_of-result : goal.invariant_of-result

@@ -1,9 +1,4 @@
-use Rattle.std.proofs.Common.{◌≡◌, ◌+◌, ◌-◌, length, sym, subst, arith}
-use Rattle.std.proofs.lemmas.List.{length-replicate}
-use Rattle.mote_types.specs.Bytes.{zeros}
-use Rattle.arena_core.specs.Contents.{Contents}
-use Rattle.arena_core.specs.Outside.{ChangesOnly}
-use Rattle.arena_core.proofs.Ranges.{changes_only}
+use Rattle.heap_core.proofs.Words.{◌≡◌, ◌+◌, ◌-◌, length, sym, subst, arith, length-replicate, zeros, Contents, ChangesOnly, changes_only}
 use Rattle.heap_core.proofs.region.Region.clear.Goals as goal
 
 pub returns-clause-others : goal.returns-clause-others

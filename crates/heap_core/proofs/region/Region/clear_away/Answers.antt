@@ -1,4 +1,4 @@
-use Rattle.std.proofs.Common.{◌+◌, refl, arith}
+use Rattle.heap_core.proofs.Words.{◌+◌, refl, arith}
 use Rattle.heap_core.proofs.Cleared.{sides, into_top, into_gap}
 use Rattle.heap_core.proofs.ChunkHeaders.{changes_more}
 use Rattle.heap_core.proofs.region.Region.clear_away.Goals as goal

@@ -1,4 +1,4 @@
-use Rattle.std.proofs.Common.{sym, ap, ◌∙◌, Some, arith}
+use Rattle.heap_core.proofs.Words.{sym, ap, ◌∙◌, arith, Some}
 use Rattle.heap_core.proofs.Places.{none_found, some_found}
 use Rattle.heap_core.proofs.Stored.{stored}
 use Rattle.heap_core.proofs.region.Region.find.Goals as goal

@@ -1,7 +1,4 @@
-use Rattle.std.proofs.Common.{◌≡◌, sym, ap, ◌∙◌, Some, None, arith}
-use Rattle.heap_core.specs.Code.Walks.{free_from}
-use Rattle.heap_core.specs.FreeList.{gaps_among}
-use Rattle.heap_core.specs.Code.Links.{last_of}
+use Rattle.heap_core.proofs.Words.{◌≡◌, sym, ap, ◌∙◌, arith, free_from, gaps_among, last_of, Some, None}
 use Rattle.heap_core.proofs.Standing.{around, before_is}
 use Rattle.heap_core.proofs.Lists.{below_is, free_no_gap, gap_ends_below, free_gap_there, free_gap_below}
 use Rattle.heap_core.proofs.region.Region.free_before.Goals as goal

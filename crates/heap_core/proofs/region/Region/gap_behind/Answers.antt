@@ -1,5 +1,4 @@
-use Rattle.std.proofs.Common.{◌+◌, ◌<◌, sym, ap, ◌∙◌, arith}
-use Rattle.heap_core.specs.Code.Walks.{gap_of, front_gap}
+use Rattle.heap_core.proofs.Words.{◌+◌, ◌<◌, sym, ap, ◌∙◌, arith, gap_of, front_gap}
 use Rattle.heap_core.proofs.Gaps.{is_gap_none, is_live_some}
 use Rattle.heap_core.proofs.Standing.{around, behind_is}
 use Rattle.heap_core.proofs.Steps.{room_for_header, step, ended}

@@ -1,9 +1,4 @@
-use Rattle.std.proofs.Common.{Some, sym, ap, ◌∙◌, arith}
-use Rattle.std.specs.Prelude.{Option}
-use Rattle.heap_core.specs.declared.chunk.Chunk.{Chunk}
-use Rattle.heap_core.specs.Layout.{chunks_of}
-use Rattle.heap_core.specs.FreeList.{gaps_among}
-use Rattle.heap_core.specs.Code.Links.{gap_below}
+use Rattle.heap_core.proofs.Words.{sym, ap, ◌∙◌, arith, Option, Chunk, chunks_of, gaps_among, gap_below, Some}
 use Rattle.heap_core.proofs.Walked.{below_told, gap_kept}
 use Rattle.heap_core.proofs.region.Region.gaps_beside.Goals as goal
 

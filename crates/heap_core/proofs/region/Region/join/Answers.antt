@@ -1,9 +1,4 @@
-use Rattle.std.proofs.Common.{length, refl, sym, ap, ◌∙◌, subst, arith}
-use Rattle.std.specs.Prelude.{filter}
-use Rattle.heap_core.specs.HeapStore.{HeapStore}
-use Rattle.heap_core.specs.Chunks.{is_named}
-use Rattle.heap_core.specs.Layout.{chunks_of}
-use Rattle.heap_core.specs.FreeList.{AreFreed, unnamed}
+use Rattle.heap_core.proofs.Words.{length, refl, sym, ap, ◌∙◌, subst, arith, filter, HeapStore, is_named, chunks_of, AreFreed, unnamed}
 use Rattle.heap_core.proofs.Callers.{KeepsToSpan-then}
 use Rattle.heap_core.proofs.Freed.{newest_is, none_newest, freed_moved, named_without, unnamed_without}
 use Rattle.heap_core.proofs.Places.{has_same}
@@ -18,24 +13,16 @@ chunk_at-chunk-requires-clause-inside c =
     let a = around heap B _ i.chunks n.live.stands in
     omega (arith, a.fits, a.enough, heap.inside, place_told B heap.span.at c.in-Some.at _ refl)
 
-pub release-requires-clause-chunks : goal.release-requires-clause-chunks
+pub release-requires : goal.release-requires
 unfolding chunks_of
-release-requires-clause-chunks c = has_same c.loop-self.self _ c.loop-self.arena.bytes refl refl refl c.loop-self.invariant.chunks
-
-pub release-requires-clause-stands : goal.release-requires-clause-stands
-unfolding chunks_of
-release-requires-clause-stands c =
+release-requires c =
     let i = c.loop-self.invariant in
-    (newest_is c.loop-self.self c.loop-self.arena.bytes i.chunks i.freed c.in-Some.at c.chunk_at-chunk.result c.in-Some.is c.chunk_at-chunk.ensures).live.stands
-
-pub release-requires-clause-live : goal.release-requires-clause-live
-release-requires-clause-live c =
-    let i = c.loop-self.invariant in
-    (newest_is c.loop-self.self c.loop-self.arena.bytes i.chunks i.freed c.in-Some.at c.chunk_at-chunk.result c.in-Some.is c.chunk_at-chunk.ensures).live.live
-
-pub release-requires-clause-gaps : goal.release-requires-clause-gaps
-unfolding chunks_of
-release-requires-clause-gaps c = record { linked = c.loop-self.invariant.gaps.linked; count = c.loop-self.invariant.gaps.count }
+    record {
+      chunks = has_same c.loop-self.self _ c.loop-self.arena.bytes refl refl refl c.loop-self.invariant.chunks;
+      stands = (newest_is c.loop-self.self c.loop-self.arena.bytes i.chunks i.freed c.in-Some.at c.chunk_at-chunk.result c.in-Some.is c.chunk_at-chunk.ensures).live.stands;
+      live = (newest_is c.loop-self.self c.loop-self.arena.bytes i.chunks i.freed c.in-Some.at c.chunk_at-chunk.result c.in-Some.is c.chunk_at-chunk.ensures).live.live;
+      gaps = record { linked = c.loop-self.invariant.gaps.linked; count = c.loop-self.invariant.gaps.count };
+    }
 
 pub loop-self-preserved : goal.loop-self-preserved
 unfolding chunks_of

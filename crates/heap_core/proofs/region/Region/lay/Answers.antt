@@ -1,12 +1,4 @@
-use Rattle.std.proofs.Common.{[], ◌∷◌, ◌++◌, ◌≡◌, ◌+◌, ◌-◌, ◌≤◌, ◌<◌, ◌⊎◌, inl, inr, length, None, refl, sym, ap, ◌∙◌, subst, arith}
-use Rattle.std.specs.Prelude.{IfSome}
-use Rattle.arena_core.specs.Contents.{Contents}
-use Rattle.arena_core.specs.Outside.{ChangesOnly}
-use Rattle.heap_core.specs.declared.chunk.Chunk.{Chunk}
-use Rattle.heap_core.specs.Chunks.{shortest, chunk_at, Tell, BeginsLive}
-use Rattle.heap_core.specs.Code.Walks.{laid, bytes_in_chunk, LeavesGap}
-use Rattle.heap_core.specs.FreeList.{gaps_among, LinkedTo}
-use Rattle.heap_core.specs.Code.Links.{gap_count}
+use Rattle.heap_core.proofs.Words.{rules, [], ◌∷◌, ◌++◌, ◌≡◌, ◌+◌, ◌-◌, ◌≤◌, ◌<◌, ◌⊎◌, inl, inr, length, refl, sym, ap, ◌∙◌, subst, arith, IfSome, Contents, ChangesOnly, Chunk, shortest, chunk_at, Tell, BeginsLive, laid, bytes_in_chunk, LeavesGap, gaps_among, LinkedTo, gap_count, None}
 use Rattle.heap_core.proofs.Holes.{is_live, live_block, live_joined, laid_block, laid_begins, laid_joined, laid_between, fits_least}
 use Rattle.heap_core.proofs.Lengths.{lengths}
 use Rattle.heap_core.proofs.Lists.{count_none, count_some, live_first, link_gap, link_live}
@@ -131,36 +123,40 @@ count c =
           ∙ sym (count_some (end - (live.at + live.len)) (omega (arith, some.0, (lengths c.args.self.now).least)))
     ]
 
-pub returns-clause-laid : goal.returns-clause-laid
-returns-clause-laid c hole =
-    let heap = c.args.self.now in let b = heap.span.at in let B = c.args.arena.now.bytes in let B' = c.put_chunk-2.new.arena.bytes in let live = c.args.live in let len = c.args.end - live.at in
-    let o = owner_some live.owner c.requires.fits.owner in let room = c.requires.fits.room in
-    let kept : bytes_in_chunk heap.header B' b live ≡ bytes_in_chunk heap.header B b live =
-    (c.put_chunk-2.ensures.live (owner_live live.owner c.requires.fits.owner)).others (b + live.at + heap.header) live.size (inr (omega (arith, heap.header_least)))
-    ∙ (gap c).others (b + live.at + heap.header) live.size (inl (omega (arith, room))) in let least = (lengths heap).least in
-    let begins : BeginsLive hole.behind = elim hole.begins [
-      | inl none ↦ absurd (c.if-end-self.false (subst (Tell heap.header B b c.args.end heap.footprint) none hole.back))
-      | inr begins ↦ begins
-    ] in
-    laid_between heap _ B B' live hole.before (laid live len c.args.link) hole.behind c.args.end refl refl hole.within (changes c) hole.front (told c) hole.back
-    (hole.joined (laid live len c.args.link ++ hole.behind) (laid_begins heap.header B B' b live o.0 o.1 len c.args.link least (rest c) hole.behind) (laid_joined heap.header B B' b live o.0 o.1 len c.args.link least (rest c) c.requires.fits.whole hole.behind begins hole.joined_behind))
-    (laid_block heap.header B B' b live o.0 o.1 len c.args.link least (rest c) kept)
-    c.if-next-end.first c.args.link (linked c) (omega (arith, count c, c.gap_count.ensures))
-
-pub returns-clause-rest : goal.returns-clause-rest
-returns-clause-rest c =
-    let heap = c.args.self.now in let hole = c.requires.hole in
+pub returns : goal.returns
+returns c =
+    let heap = c.args.self.now in let b = heap.span.at in let B = c.args.arena.now.bytes in let B' = c.put_chunk-2.new.arena.bytes in
+    let live = c.args.live in let len = c.args.end - live.at in let o = owner_some live.owner c.requires.fits.owner in
+    let room = c.requires.fits.room in
+    let kept : bytes_in_chunk heap.header B' b live ≡ bytes_in_chunk heap.header B b live = (c.put_chunk-2.ensures.live (owner_live live.owner c.requires.fits.owner)).others (b + live.at + heap.header) live.size (inr (omega (arith, heap.header_least)))
+    ∙ (gap c).others (b + live.at + heap.header) live.size (inl (omega (arith, room))) in
+    let least = (lengths heap).least in let hole = c.requires.hole in
     let end = told_le heap.header c.args.arena.now.bytes heap.span.at c.args.end heap.footprint hole.behind hole.back in
     let long : c.args.live.len ≤ c.args.end - c.args.live.at = elim (rest c) [ inl all ↦ omega (arith, all) | inr some ↦ omega (arith, some.0) ] in
     record {
-      span = refl;
-      header = refl;
-      carved = c.put_chunk-2.ensures.carved
-          ∙ elim c.if-next-end.branch [
-            | then-next-end w ↦ ap (λ (a : Contents). a.carved) w.arena-is ∙ w.put_chunk-then-next-end.ensures.carved
-            | else-next-end w ↦ ap (λ (a : Contents). a.carved) w.arena-is
-          ];
-      bytes = changes_more (heap.span.at + c.args.live.at) (c.args.end - c.args.live.at) heap.span.at heap.span.len c.args.arena.now.bytes c.put_chunk-2.new.arena.bytes (changes c) (omega arith) (omega (arith, heap.inside, c.requires.fits.inside));
+      laid = λ hole. let begins : BeginsLive hole.behind = elim hole.begins [
+        | inl none ↦ absurd (c.if-end-self.false (subst (Tell heap.header B b c.args.end heap.footprint) none hole.back))
+        | inr begins ↦ begins
+      ] in laid_between heap _ B B' live hole.before (laid live len c.args.link) hole.behind c.args.end refl refl hole.within (changes c) hole.front (told c) hole.back
+          (hole.joined (laid live len c.args.link ++ hole.behind) (laid_begins heap.header B B' b live o.0 o.1 len c.args.link least (rest c) hole.behind) (laid_joined heap.header B B' b live o.0 o.1 len c.args.link least (rest c) c.requires.fits.whole hole.behind begins hole.joined_behind))
+          (laid_block heap.header B B' b live o.0 o.1 len c.args.link least (rest c) kept)
+          c.if-next-end.first c.args.link (linked c) (omega (arith, count c, c.gap_count.ensures));
+      kept = search rules;
+      lowest = search rules;
+      first = elim c.if-next-end.branch [
+        | then-next-end w ↦ subst (λ o. IfSome o (λ place. place < 65536)) (sym w.first-is) (omega (arith, heap.inside, heap.small, w.if-next-end.true))
+        | else-next-end w ↦ subst (λ o. IfSome o (λ place. place < 65536)) (sym w.first-is) c.requires.link
+      ];
+      rest = record {
+        span = refl;
+        header = refl;
+        carved = c.put_chunk-2.ensures.carved
+            ∙ elim c.if-next-end.branch [
+              | then-next-end w ↦ ap (λ (a : Contents). a.carved) w.arena-is ∙ w.put_chunk-then-next-end.ensures.carved
+              | else-next-end w ↦ ap (λ (a : Contents). a.carved) w.arena-is
+            ];
+        bytes = changes_more (heap.span.at + c.args.live.at) (c.args.end - c.args.live.at) heap.span.at heap.span.len c.args.arena.now.bytes c.put_chunk-2.new.arena.bytes (changes c) (omega arith) (omega (arith, heap.inside, c.requires.fits.inside));
+      };
     }
 
 pub put_chunk-requires-clause-link : goal.put_chunk-requires-clause-link
@@ -168,12 +164,3 @@ put_chunk-requires-clause-link c = subst (λ o. IfSome o (λ place. place < 6553
 
 pub put_chunk-requires-2-clause-link : goal.put_chunk-requires-2-clause-link
 put_chunk-requires-2-clause-link c = subst (λ o. IfSome o (λ place. place < 65536)) (sym c.requires.fits.link) tt
-
-pub returns-clause-first : goal.returns-clause-first
-returns-clause-first c =
-    let heap = c.args.self.now in let hole = c.requires.hole in
-    let end = told_le heap.header c.args.arena.now.bytes heap.span.at c.args.end heap.footprint hole.behind hole.back in
-    elim c.if-next-end.branch [
-      | then-next-end w ↦ subst (λ o. IfSome o (λ place. place < 65536)) (sym w.first-is) (omega (arith, heap.inside, heap.small, w.if-next-end.true))
-      | else-next-end w ↦ subst (λ o. IfSome o (λ place. place < 65536)) (sym w.first-is) c.requires.link
-    ]

@@ -1,4 +1,4 @@
-use Rattle.heap_core.specs.Chunks.{chunk_at}
+use Rattle.heap_core.proofs.Words.{chunk_at}
 use Rattle.heap_core.proofs.region.Region.len_at.Goals as goal
 
 pub returns : goal.returns

@@ -1,5 +1,4 @@
-use Rattle.std.proofs.Common.{◌+◌, sym, ap, ◌∙◌}
-use Rattle.heap_core.specs.Chunks.{word_at, number_in, owner_in, chunk_at}
+use Rattle.heap_core.proofs.Words.{◌+◌, sym, ap, ◌∙◌, word_at, number_in, owner_in, chunk_at}
 use Rattle.heap_core.proofs.ChunkHeaders.{link_free}
 use Rattle.heap_core.proofs.region.Region.link_at.Goals as goal
 

@@ -1,9 +1,4 @@
-use Rattle.std.proofs.Common.{◌≡◌, ◌≢◌, ◌+◌, sym, ap, ◌∙◌, arith}
-use Rattle.heap_core.specs.declared.chunk.Chunk.{Chunk}
-use Rattle.heap_core.specs.Layout.{chunks_of}
-use Rattle.heap_core.specs.FreeList.{gaps_among}
-use Rattle.heap_core.specs.Code.Links.{gap_from}
-use Rattle.heap_core.specs.Code.Walks.{front_gap}
+use Rattle.heap_core.proofs.Words.{◌≡◌, ◌≢◌, ◌+◌, sym, ap, ◌∙◌, arith, Chunk, chunks_of, gaps_among, gap_from, front_gap}
 use Rattle.heap_core.proofs.NextGaps.{over_live, over_gap, gap_fits}
 use Rattle.heap_core.proofs.Standing.{around, behind_is}
 use Rattle.heap_core.proofs.region.Region.link_behind.Goals as goal

@@ -1,9 +1,4 @@
-use Rattle.std.proofs.Common.{◌≡◌, ◌+◌, List, None, refl, sym, ◌∙◌, subst, arith}
-use Rattle.std.specs.Prelude.{IfSome}
-use Rattle.heap_core.specs.declared.chunk.Chunk.{Chunk}
-use Rattle.heap_core.specs.Layout.{chunks_of}
-use Rattle.heap_core.specs.FreeList.{LinkedTo, Stands}
-use Rattle.heap_core.specs.Code.Links.{LinkChanged}
+use Rattle.heap_core.proofs.Words.{◌≡◌, ◌+◌, List, refl, sym, ◌∙◌, subst, arith, IfSome, Chunk, chunks_of, LinkedTo, Stands, LinkChanged, None}
 use Rattle.heap_core.proofs.Lists.{linked_append, linked_none, no_last}
 use Rattle.heap_core.proofs.Places.{has_same}
 use Rattle.heap_core.proofs.Relinks.{here, link_changed}

@@ -1,12 +1,7 @@
-use Rattle.std.proofs.Common.{◌≡◌, sym, ap, ◌∙◌, subst, arith}
-use Rattle.heap_core.specs.Layout.{chunks_of}
-use Rattle.heap_core.specs.FreeList.{gaps_among}
-use Rattle.heap_core.specs.Code.Links.{gap_from}
-use Rattle.heap_core.specs.Code.Walks.{free_from}
+use Rattle.heap_core.proofs.Words.{◌≡◌, sym, ap, ◌∙◌, subst, arith, chunks_of, gaps_among, gap_from, free_from, Some}
 use Rattle.heap_core.proofs.Grown.{leads_there, list_grown}
 use Rattle.heap_core.proofs.Lists.{last_exchanged, list_exchanged}
 use Rattle.heap_core.proofs.Standing.{around, before_is}
-use Rattle.std.specs.Prelude.{Some}
 use Rattle.heap_core.proofs.region.Region.merge.Goals as goal
 
 pub returns-then-end-self-clause-linked : goal.returns-then-end-self-clause-linked

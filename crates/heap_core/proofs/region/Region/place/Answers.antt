@@ -1,9 +1,4 @@
-use Rattle.std.proofs.Common.{◌≡◌, ◌+◌, Some, None, leb, sym, ap, ◌∙◌, arith}
-use Rattle.std.specs.Option.{option_map, option_or}
-use Rattle.std.proofs.lemmas.Bool.{cond-true, cond-false, le-leb, lt-leb}
-use Rattle.heap_core.specs.declared.chunk.Place.{Place}
-use Rattle.heap_core.specs.HeapStore.{least_room, best_gap, gaps, place_in, top_place, top_gap, footprint}
-use Rattle.heap_core.specs.Layout.{chunks_of, store_of}
+use Rattle.heap_core.proofs.Words.{◌≡◌, ◌+◌, leb, sym, ap, ◌∙◌, arith, option_map, option_or, cond-true, cond-false, le-leb, lt-leb, Place, least_room, best_gap, gaps, place_in, top_place, top_gap, footprint, chunks_of, store_of, Some, None}
 use Rattle.heap_core.proofs.Gaps.{end_is, best_fits}
 use Rattle.heap_core.proofs.region.Region.place.Goals as goal
 

@@ -1,6 +1,4 @@
-use Rattle.std.proofs.Common.{arith, ap, length}
-use Rattle.heap_core.specs.Chunks.{is_a_name}
-use Rattle.heap_core.specs.Code.Links.{gaps_from_place}
+use Rattle.heap_core.proofs.Words.{arith, ap, length, is_a_name, gaps_from_place}
 use Rattle.heap_core.proofs.Lists.{header_fits}
 use Rattle.heap_core.proofs.Walked.{walk_begun, step, walk_more, stopped_below, stopped_next, ended_below, ended_next}
 use Rattle.heap_core.proofs.region.Region.places_beside.Goals as goal

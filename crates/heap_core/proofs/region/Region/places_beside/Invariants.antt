@@ -1,5 +1,4 @@
-use Rattle.std.proofs.Common.{length}
-use Rattle.heap_core.specs.Code.Links.{gaps_from_place}
+use Rattle.heap_core.proofs.Words.{length, gaps_from_place}
 use Rattle.heap_core.proofs.Walked.{Walked}
 use Rattle.heap_core.proofs.region.Region.places_beside.Given as goal
 

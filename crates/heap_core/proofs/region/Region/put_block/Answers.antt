@@ -1,10 +1,4 @@
-use Rattle.std.proofs.Common.{◌≢◌, ◌+◌, ◌-◌, ◌≤◌, ◌<◌, ◌⊎◌, inl, inr, refl, sym, ◌∙◌, subst, arith}
-use Rattle.std.specs.Prelude.{IfSome}
-use Rattle.mote_types.specs.Bytes.{resized}
-use Rattle.heap_core.specs.Layout.{chunks_of, store_of}
-use Rattle.heap_core.specs.FreeList.{LiveIn}
-use Rattle.heap_core.specs.Code.Links.{gap_count}
-use Rattle.heap_core.specs.Code.Walks.{bytes_given}
+use Rattle.heap_core.proofs.Words.{rules, ◌≢◌, ◌+◌, ◌-◌, ◌≤◌, ◌<◌, ◌⊎◌, inl, inr, refl, sym, ◌∙◌, subst, arith, IfSome, resized, chunks_of, store_of, LiveIn, gap_count, bytes_given}
 use Rattle.heap_core.proofs.Holes.{Room, Put, into, put, free_room}
 use Rattle.heap_core.proofs.Lists.{gap_from_small, gaps_few, kept_then}
 use Rattle.heap_core.proofs.Members.{if_some, inside}
@@ -38,15 +32,16 @@ laid c =
     put heap B _ _ _ _ _ r name B1 changes c.requires.chunks c.requires.gaps c.lay-first.new.self c.lay-first.new.arena.bytes c.gaps_beside-beside.result.below c.lay-first.result c.free_end-end.result.link
     (c.lay-first.ensures.laid (into heap B _ _ _ _ _ r name B1 changes)) c.gaps_beside-beside.ensures.below c.free_end-end.ensures.link
 
-pub lay-first-requires-clause-hole : goal.lay-first-requires-clause-hole
-lay-first-requires-clause-hole c =
-    into c.args.self.now c.args.arena.now.bytes _ _ _ _ _ (room (goal.at.lay-first-requires-clause-hole c).After-free_end-end) c.args.name c.give_bytes.new.arena.bytes c.give_bytes.ensures.others
-
-pub lay-first-requires-clause-link : goal.lay-first-requires-clause-link
-lay-first-requires-clause-link c =
+pub lay-first-requires : goal.lay-first-requires
+lay-first-requires c =
     let heap = c.args.self.now in
-    subst (λ o. IfSome o (λ place. place < 65536)) (sym c.free_end-end.ensures.link)
-    (gap_from_small heap.header c.args.arena.now.bytes heap.span.at c.free_end-end.result.at heap.footprint 65536 (chunks_of heap c.args.arena.now.bytes) c.requires.chunks.told (omega (arith, heap.inside, heap.small)))
+    record {
+      hole = into c.args.self.now c.args.arena.now.bytes _ _ _ _ _ (room (goal.at.lay-first-requires c).After-free_end-end) c.args.name c.give_bytes.new.arena.bytes c.give_bytes.ensures.others;
+      fits = search rules;
+      link = subst (λ o. IfSome o (λ place. place < 65536)) (sym c.free_end-end.ensures.link)
+          (gap_from_small heap.header c.args.arena.now.bytes heap.span.at c.free_end-end.result.at heap.footprint 65536 (chunks_of heap c.args.arena.now.bytes) c.requires.chunks.told (omega (arith, heap.inside, heap.small)));
+      few = omega (arith, gaps_few heap c.args.arena.now.bytes c.requires.chunks c.requires.gaps.linked, c.requires.gaps.count, heap.inside, heap.small);
+    }
 
 pub link_below-requires-clause-chunks : goal.link_below-requires-clause-chunks
 link_below-requires-clause-chunks c = (laid (goal.at.link_below-requires-clause-chunks c).After-lay-first).chunks
@@ -57,35 +52,17 @@ link_below-requires-clause-before c = (laid (goal.at.link_below-requires-clause-
 pub overflow_sub-self : goal.overflow_sub-self
 overflow_sub-self c = omega (arith, c.link_below.ensures.relinked.gaps, c.link_below.ensures.relinked.count, (laid (goal.at.overflow_sub-self c).After-lay-first).count, c.gap_count.ensures)
 
-pub returns-clause-gaps : goal.returns-clause-gaps
+pub returns : goal.returns
 unfolding chunks_of
-returns-clause-gaps c =
-    let l = laid (goal.at.returns-clause-gaps c).After-lay-first in
-    record { linked = l.linked c.link_below.new.self c.link_below.new.arena.bytes c.lay-first.ensures.lowest c.link_below.ensures.relinked.linked; count = omega (arith, c.link_below.ensures.relinked.gaps, c.link_below.ensures.relinked.count, l.count, c.gap_count.ensures) }
-
-pub returns-clause-chunks : goal.returns-clause-chunks
-unfolding chunks_of
-returns-clause-chunks c = has_same c.link_below.new.self _ c.link_below.new.arena.bytes refl refl refl c.link_below.ensures.relinked.chunks
-
-pub returns-clause-block : goal.returns-clause-block
-unfolding chunks_of
-returns-clause-block c =
-    c.link_below.ensures.relinked.block
-    ∙ (laid (goal.at.returns-clause-block c).After-lay-first).block (resized c.args.n (bytes_given c.args.self.now.header c.args.arena.now.bytes c.args.self.now.span.at c.args.source)) c.give_bytes.ensures.bytes
-
-pub returns-clause-stands : goal.returns-clause-stands
-unfolding chunks_of
-returns-clause-stands c other h =
-    let heap = c.args.self.now in
-    let far : other.at ≢ c.args.target.at = λ e. elim (c.free_end-end.ensures.free.apart other h) [ inl low ↦ absurd (omega (arith, e, low, heap.header_least)) | inr high ↦ absurd (omega (arith, e, high, heap.header_least)) ] in
-    c.link_below.ensures.relinked.stands other ((laid (goal.at.returns-clause-stands c).After-lay-first).kept other h far)
-
-pub returns-clause-kept : goal.returns-clause-kept
-returns-clause-kept c =
+returns c =
+    let l = laid (goal.at.returns c).After-lay-first in let heap = c.args.self.now in
     let k = kept_then c.args.self.now c.lay-first.new.self c.link_below.new.self c.lay-first.ensures.kept c.link_below.ensures.kept in
-    record { places = k.places; newest = k.newest; freed = k.freed }
-
-pub lay-first-requires-clause-few : goal.lay-first-requires-clause-few
-lay-first-requires-clause-few c =
-    let heap = c.args.self.now in
-    omega (arith, gaps_few heap c.args.arena.now.bytes c.requires.chunks c.requires.gaps.linked, c.requires.gaps.count, heap.inside, heap.small)
+    record {
+      gaps = record { linked = l.linked c.link_below.new.self c.link_below.new.arena.bytes c.lay-first.ensures.lowest c.link_below.ensures.relinked.linked; count = omega (arith, c.link_below.ensures.relinked.gaps, c.link_below.ensures.relinked.count, l.count, c.gap_count.ensures) };
+      chunks = has_same c.link_below.new.self _ c.link_below.new.arena.bytes refl refl refl c.link_below.ensures.relinked.chunks;
+      block = c.link_below.ensures.relinked.block
+          ∙ (laid (goal.at.returns c).After-lay-first).block (resized c.args.n (bytes_given c.args.self.now.header c.args.arena.now.bytes c.args.self.now.span.at c.args.source)) c.give_bytes.ensures.bytes;
+      stands = λ other h. let far : other.at ≢ c.args.target.at = λ e. elim (c.free_end-end.ensures.free.apart other h) [ inl low ↦ absurd (omega (arith, e, low, heap.header_least)) | inr high ↦ absurd (omega (arith, e, high, heap.header_least)) ] in c.link_below.ensures.relinked.stands other ((laid (goal.at.returns c).After-lay-first).kept other h far);
+      kept = record { places = k.places; newest = k.newest; freed = k.freed };
+      rest = search rules;
+    }

@@ -1,28 +1,23 @@
-use Rattle.std.proofs.Common.{◌+◌, sym, ◌∙◌, arith}
+use Rattle.heap_core.proofs.Words.{rules, ◌+◌, sym, ◌∙◌, arith}
 use Rattle.heap_core.proofs.ChunkHeaders.{changes_more}
 use Rattle.heap_core.proofs.WrittenHeaders.{live_written, live_changes, free_written, free_changes}
 use Rattle.heap_core.proofs.region.Region.put_chunk.Goals as goal
 
-pub returns-then-is_a_name-clause-chunk : goal.returns-then-is_a_name-clause-chunk
-returns-then-is_a_name-clause-chunk c =
-    let chunk = c.args.chunk in let named = sym c.is_a_name.ensures ∙ c.if-is_a_name.true in
-    live_written c.args.arena.now c.put_word.new.self c.put_word-2.new.self c.args.self.now.span.at chunk.at chunk.len c.owned_word.result c.put_word.ensures.bytes c.put_word-2.ensures.bytes
-    (omega (arith, c.requires.within, c.requires.inside)) (omega arith) c.owned_word.type_inv
-    chunk.owner chunk.size chunk.link c.owned_word.ensures.owner c.owned_word.ensures.size named (c.requires.live named)
-
-pub returns-then-is_a_name-clause-live : goal.returns-then-is_a_name-clause-live
-returns-then-is_a_name-clause-live c named =
-    let chunk = c.args.chunk in
-    live_changes c.args.arena.now c.put_word.new.self c.put_word-2.new.self c.args.self.now.span.at chunk.at chunk.len c.owned_word.result c.put_word.ensures.bytes c.put_word-2.ensures.bytes
-    (omega (arith, c.requires.within, c.requires.inside)) (omega arith) c.owned_word.type_inv
-
-pub returns-then-is_a_name-clause-others : goal.returns-then-is_a_name-clause-others
-returns-then-is_a_name-clause-others c =
-    let chunk = c.args.chunk in let h = c.args.self.now.span.at + chunk.at in
-    changes_more h 8 h 12 c.args.arena.now.bytes c.put_word-2.new.self.bytes
-    (live_changes c.args.arena.now c.put_word.new.self c.put_word-2.new.self c.args.self.now.span.at chunk.at chunk.len c.owned_word.result c.put_word.ensures.bytes c.put_word-2.ensures.bytes
-    (omega (arith, c.requires.within, c.requires.inside)) (omega arith) c.owned_word.type_inv)
-    (omega arith) (omega arith)
+pub returns-then-is_a_name : goal.returns-then-is_a_name
+returns-then-is_a_name c =
+    let chunk = c.args.chunk in let named = sym c.is_a_name.ensures ∙ c.if-is_a_name.true in let h = c.args.self.now.span.at + chunk.at in
+    record {
+      chunk = live_written c.args.arena.now c.put_word.new.self c.put_word-2.new.self c.args.self.now.span.at chunk.at chunk.len c.owned_word.result c.put_word.ensures.bytes c.put_word-2.ensures.bytes
+          (omega (arith, c.requires.within, c.requires.inside)) (omega arith) c.owned_word.type_inv
+          chunk.owner chunk.size chunk.link c.owned_word.ensures.owner c.owned_word.ensures.size named (c.requires.live named);
+      others = changes_more h 8 h 12 c.args.arena.now.bytes c.put_word-2.new.self.bytes
+          (live_changes c.args.arena.now c.put_word.new.self c.put_word-2.new.self c.args.self.now.span.at chunk.at chunk.len c.owned_word.result c.put_word.ensures.bytes c.put_word-2.ensures.bytes
+          (omega (arith, c.requires.within, c.requires.inside)) (omega arith) c.owned_word.type_inv)
+          (omega arith) (omega arith);
+      live = λ named. live_changes c.args.arena.now c.put_word.new.self c.put_word-2.new.self c.args.self.now.span.at chunk.at chunk.len c.owned_word.result c.put_word.ensures.bytes c.put_word-2.ensures.bytes
+          (omega (arith, c.requires.within, c.requires.inside)) (omega arith) c.owned_word.type_inv;
+      carved = search rules;
+    }
 
 pub returns-clause-chunk : goal.returns-clause-chunk
 returns-clause-chunk c =

@@ -1,9 +1,4 @@
-use Rattle.std.proofs.Common.{◌≡◌, ◌+◌, ◌-◌, ◌<◌, length, refl, sym, ap, ◌∙◌, subst, arith}
-use Rattle.std.specs.Prelude.{IfSome}
-use Rattle.heap_core.specs.Layout.{chunks_of}
-use Rattle.heap_core.specs.FreeList.{gaps_among}
-use Rattle.heap_core.specs.Code.Links.{gap_count}
-use Rattle.heap_core.specs.Code.Walks.{free_from, front_gap}
+use Rattle.heap_core.proofs.Words.{◌≡◌, ◌+◌, ◌-◌, ◌<◌, length, refl, sym, ap, ◌∙◌, subst, arith, IfSome, chunks_of, gaps_among, gap_count, free_from, front_gap}
 use Rattle.heap_core.proofs.Lists.{gap_from_small, gaps_few}
 use Rattle.heap_core.proofs.Places.{has_same}
 use Rattle.heap_core.proofs.Releases.{from_below, end_below}

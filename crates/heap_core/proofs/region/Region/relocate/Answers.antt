@@ -1,14 +1,4 @@
-use Rattle.std.proofs.Common.{◌≡◌, Some, true, not, length, sym, ap, ◌∙◌}
-use Rattle.std.specs.Prelude.{filter}
-use Rattle.std.specs.Option.{option_map}
-use Rattle.std.proofs.lemmas.Bool.{ne_eqb, lt-ltb}
-use Rattle.mote_types.specs.Bytes.{resized}
-use Rattle.heap_core.specs.declared.chunk.Place.{Place}
-use Rattle.heap_core.specs.HeapStore.{Block, HeapStore, block_at, with_block, placed}
-use Rattle.heap_core.specs.Chunks.{is_a_name, is_named}
-use Rattle.heap_core.specs.Layout.{chunks_of, store_of}
-use Rattle.heap_core.specs.FreeList.{unnamed, LiveIn}
-use Rattle.heap_core.specs.Code.Walks.{without_place, bytes_in_chunk}
+use Rattle.heap_core.proofs.Words.{rules, ◌≡◌, true, not, length, sym, ap, ◌∙◌, filter, option_map, ne_eqb, lt-ltb, resized, Place, Block, HeapStore, block_at, with_block, placed, is_a_name, is_named, chunks_of, store_of, unnamed, LiveIn, without_place, bytes_in_chunk, Some}
 use Rattle.heap_core.proofs.Blocks.{filter_placed, blocks_ascending, elsewhere}
 use Rattle.heap_core.proofs.Choices.{elsewhere_placed}
 use Rattle.heap_core.proofs.Callers.{KeepsToSpan-then}
@@ -20,20 +10,18 @@ put_block-requires-clause-source c =
     let heap = c.args.self.now in let o = c.requires.owned in
     record { stands = o.stands; live = is_live heap c.args.arena.now.bytes c.requires.chunks c.args.chunk c.args.name o.stands o.owner }
 
-pub set_aside-requires-clause-stands : goal.set_aside-requires-clause-stands
-set_aside-requires-clause-stands c =
-    let heap = c.args.self.now in let o = c.requires.owned in
-    (c.put_block.ensures.stands c.args.chunk (record { stands = o.stands; live = is_live heap c.args.arena.now.bytes c.requires.chunks c.args.chunk c.args.name o.stands o.owner })).stands
-
-pub set_aside-requires-clause-live : goal.set_aside-requires-clause-live
-set_aside-requires-clause-live c = ap is_a_name c.requires.owned.owner ∙ lt-ltb c.args.name 272 c.requires.name
-
-pub set_aside-requires-clause-freed : goal.set_aside-requires-clause-freed
-set_aside-requires-clause-freed c =
-    let heap = c.args.self.now in let B = c.args.arena.now.bytes in let xs = (store_of heap B).blocks in
+pub set_aside-requires : goal.set_aside-requires
+set_aside-requires c =
+    let heap = c.args.self.now in let o = c.requires.owned in let B = c.args.arena.now.bytes in let xs = (store_of heap B).blocks in
     let block : Block = block_at c.in_ok-target.target c.args.name (resized c.args.n (bytes_in_chunk heap.header B heap.span.at c.args.chunk)) in
-    freed_none heap c.put_block.new.self B c.put_block.new.arena.bytes c.requires.freed c.requires.joined c.put_block.ensures.kept
-    (ap (λ (h : HeapStore). length (unnamed h.blocks)) c.put_block.ensures.block ∙ placed_unnamed block xs (lt-ltb c.args.name 272 c.requires.name) ∙ c.requires.freed.all ∙ c.requires.joined)
+    record {
+      chunks = search rules;
+      stands = (c.put_block.ensures.stands c.args.chunk (record { stands = o.stands; live = is_live heap c.args.arena.now.bytes c.requires.chunks c.args.chunk c.args.name o.stands o.owner })).stands;
+      live = ap is_a_name c.requires.owned.owner ∙ lt-ltb c.args.name 272 c.requires.name;
+      gaps = search rules;
+      freed = freed_none heap c.put_block.new.self B c.put_block.new.arena.bytes c.requires.freed c.requires.joined c.put_block.ensures.kept
+          (ap (λ (h : HeapStore). length (unnamed h.blocks)) c.put_block.ensures.block ∙ placed_unnamed block xs (lt-ltb c.args.name 272 c.requires.name) ∙ c.requires.freed.all ∙ c.requires.joined);
+    }
 
 pub returns-clause-block : goal.returns-clause-block
 returns-clause-block c =

@@ -1,13 +1,4 @@
-use Rattle.std.proofs.Common.{ℕ, List, ◌+◌, ◌<◌, refl, sym, subst, ◌∙◌, arith}
-use Rattle.std.specs.Prelude.{IfSome, filter}
-use Rattle.mote_types.specs.Bytes.{resized}
-use Rattle.heap_core.specs.declared.chunk.Chunk.{Chunk}
-use Rattle.heap_core.specs.declared.region.Region.{Region}
-use Rattle.heap_core.specs.HeapStore.{Block}
-use Rattle.heap_core.specs.HeapBytes.{KeepsToSpan}
-use Rattle.heap_core.specs.Layout.{chunks_of, store_of}
-use Rattle.heap_core.specs.Code.Links.{gap_count}
-use Rattle.heap_core.specs.Code.Walks.{at_place, bytes_in_chunk}
+use Rattle.heap_core.proofs.Words.{ℕ, List, ◌+◌, ◌<◌, refl, sym, subst, ◌∙◌, arith, IfSome, filter, resized, Chunk, Region, Block, KeepsToSpan, chunks_of, store_of, gap_count, at_place, bytes_in_chunk}
 use Rattle.heap_core.proofs.Blocks.{elsewhere}
 use Rattle.heap_core.proofs.Callers.{KeepsToSpan-then}
 use Rattle.heap_core.proofs.Holes.{Room, Put, fits, into, put, own, own_end, own_room}
@@ -56,23 +47,16 @@ clear-requires-clause-before c =
     let heap = c.args.self.now in let a = own heap c.args.arena.now.bytes c.requires.chunks c.args.chunk c.args.name c.requires.owned in
     omega (arith, a.fits, a.enough, heap.inside)
 
-pub lay-first-requires-clause-hole : goal.lay-first-requires-clause-hole
-lay-first-requires-clause-hole c =
-    into c.args.self.now c.args.arena.now.bytes _ _ _ _ _ (room (goal.at.lay-first-requires-clause-hole c).After-gap_behind-gap) c.args.name c.clear.new.arena.bytes c.clear.ensures.others
-
-pub lay-first-requires-clause-link : goal.lay-first-requires-clause-link
-lay-first-requires-clause-link c =
+pub lay-first-requires : goal.lay-first-requires
+lay-first-requires c =
     let heap = c.args.self.now in
-    subst (λ o. IfSome o (λ place. place < 65536)) (sym c.link_behind-link.ensures)
-    (gap_from_small heap.header c.args.arena.now.bytes heap.span.at (c.args.chunk.at + c.args.chunk.len + c.gap_behind-gap.result) heap.footprint 65536 (chunks_of heap c.args.arena.now.bytes) c.requires.chunks.told (omega (arith, heap.inside, heap.small)))
-
-pub lay-first-requires-clause-fits : goal.lay-first-requires-clause-fits
-lay-first-requires-clause-fits c = fits c.args.self.now c.args.arena.now.bytes _ _ _ _ _ (room (goal.at.lay-first-requires-clause-fits c).After-gap_behind-gap) c.args.name c.requires.name
-
-pub lay-first-requires-clause-few : goal.lay-first-requires-clause-few
-lay-first-requires-clause-few c =
-    let heap = c.args.self.now in
-    omega (arith, gaps_few heap c.args.arena.now.bytes c.requires.chunks c.requires.gaps.linked, c.requires.gaps.count, heap.inside, heap.small)
+    record {
+      hole = into c.args.self.now c.args.arena.now.bytes _ _ _ _ _ (room (goal.at.lay-first-requires c).After-gap_behind-gap) c.args.name c.clear.new.arena.bytes c.clear.ensures.others;
+      fits = fits c.args.self.now c.args.arena.now.bytes _ _ _ _ _ (room (goal.at.lay-first-requires c).After-gap_behind-gap) c.args.name c.requires.name;
+      link = subst (λ o. IfSome o (λ place. place < 65536)) (sym c.link_behind-link.ensures)
+          (gap_from_small heap.header c.args.arena.now.bytes heap.span.at (c.args.chunk.at + c.args.chunk.len + c.gap_behind-gap.result) heap.footprint 65536 (chunks_of heap c.args.arena.now.bytes) c.requires.chunks.told (omega (arith, heap.inside, heap.small)));
+      few = omega (arith, gaps_few heap c.args.arena.now.bytes c.requires.chunks c.requires.gaps.linked, c.requires.gaps.count, heap.inside, heap.small);
+    }
 
 pub link_below-requires-clause-chunks : goal.link_below-requires-clause-chunks
 link_below-requires-clause-chunks c = (laid (goal.at.link_below-requires-clause-chunks c).After-lay-first).chunks

@@ -1,7 +1,4 @@
-use Rattle.std.proofs.Common.{◌≡◌, ◌+◌, ◌-◌, ◌≤◌, Some, sym, ap, ◌∙◌, arith}
-use Rattle.heap_core.specs.HeapStore.{least_room, room_taken, room_in_place}
-use Rattle.heap_core.specs.Layout.{store_of}
-use Rattle.heap_core.specs.Code.Walks.{chunks_behind, front_gap, place_in_chunk}
+use Rattle.heap_core.proofs.Words.{◌≡◌, ◌+◌, ◌-◌, ◌≤◌, sym, ap, ◌∙◌, arith, least_room, room_taken, room_in_place, store_of, chunks_behind, front_gap, place_in_chunk, Some}
 use Rattle.heap_core.proofs.Standing.{around, behind_is}
 use Rattle.heap_core.proofs.Releases.{end_below}
 use Rattle.heap_core.proofs.Beside.{choice, room_is, choice_top, choice_no_top, choice_gap, choice_no_gap}

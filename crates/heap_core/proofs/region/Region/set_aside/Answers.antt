@@ -1,22 +1,20 @@
-use Rattle.std.proofs.Common.{◌+◌, refl, arith}
+use Rattle.heap_core.proofs.Words.{rules, ◌+◌, refl, arith}
 use Rattle.heap_core.proofs.Freed.{owner_named, freed_small, newest_small, at, set_aside}
 use Rattle.heap_core.proofs.ChunkHeaders.{changes_more}
 use Rattle.heap_core.proofs.region.Region.set_aside.Goals as goal
 
-pub put_chunk-requires-clause-inside : goal.put_chunk-requires-clause-inside
-put_chunk-requires-clause-inside c =
+pub put_chunk-requires : goal.put_chunk-requires
+put_chunk-requires c =
     let heap = c.args.self.now in let o = owner_named c.args.chunk.owner c.requires.live in
     let a = at heap c.args.arena.now.bytes c.requires.chunks c.args.chunk o.0 c.requires.stands o.1 in
-    omega (arith, a.fits, a.enough, heap.inside)
-
-pub put_chunk-requires-clause-size : goal.put_chunk-requires-clause-size
-put_chunk-requires-clause-size c =
-    let heap = c.args.self.now in let o = owner_named c.args.chunk.owner c.requires.live in
-    let a = at heap c.args.arena.now.bytes c.requires.chunks c.args.chunk o.0 c.requires.stands o.1 in
-    omega (arith, a.fits, a.enough, heap.header_least, heap.inside, heap.small)
-
-pub put_chunk-requires-clause-link : goal.put_chunk-requires-clause-link
-put_chunk-requires-clause-link c = newest_small c.args.self.now c.args.arena.now.bytes c.requires.chunks c.requires.freed
+    record {
+      within = search rules;
+      inside = omega (arith, a.fits, a.enough, heap.inside);
+      owner = search rules;
+      size = omega (arith, a.fits, a.enough, heap.header_least, heap.inside, heap.small);
+      link = newest_small c.args.self.now c.args.arena.now.bytes c.requires.chunks c.requires.freed;
+      live = search rules;
+    }
 
 pub overflow_add-self : goal.overflow_add-self
 overflow_add-self c = omega (arith, freed_small c.args.self.now c.args.arena.now.bytes c.requires.chunks c.requires.freed)

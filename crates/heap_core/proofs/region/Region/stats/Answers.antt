@@ -1,4 +1,4 @@
-use Rattle.std.proofs.Common.{◌+◌, ◌-◌, sym, ◌∙◌, arith}
+use Rattle.heap_core.proofs.Words.{◌+◌, ◌-◌, sym, ◌∙◌, arith}
 use Rattle.heap_core.proofs.Sums.{counted_first, counted_fits, few_counted, met, counted_live, counted_free, counted_all}
 use Rattle.heap_core.proofs.region.Region.stats.Goals as goal
 

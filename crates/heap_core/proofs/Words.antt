@@ -1,0 +1,42 @@
+-- The words that proofs of this crate use: of std, of the crates below, and of its own specs.
+pub use Rattle.std.proofs.Common.{Bool, List, [], ap, arith, drop, eqb, false, get_or, inl, inr, leb, length, ltb, not, refl, replicate, rules, slice_range, slice_set, subst, suc, sum_by, sym, take, true, zero, ℕ, ◌%◌, ◌*◌, ◌++◌, ◌+◌, ◌-◌, ◌<◌, ◌^◌, ◌∙◌, ◌∷◌, ◌≡◌, ◌≢◌, ◌≤◌, ◌⊎◌}
+pub use Rattle.std.proofs.lemmas.Bool.{cases_Bool, cases_eq, cases_lt, cond-false, cond-true, eq-eqb, eqb-false, eqb-true, false≢true, le-leb, le-ltb, leb-false, leb-true, lt-leb, lt-ltb, ltb-false, ltb-true, ne_eqb}
+pub use Rattle.std.proofs.lemmas.List.{append-nil, append_assoc, drop-replicate, get_or-set_other, get_or-set_same, length-append, length-map, length-replicate, length-set, map-append, take-append-le, take-replicate, take-take}
+pub use Rattle.std.proofs.lemmas.List.Elements.{All-cons, All-head, All-nil, All-tail, filter-append}
+pub use Rattle.std.proofs.lemmas.List.Sums.{fold-append, sum_by-cons}
+pub use Rattle.std.proofs.lemmas.Nat.{from_le_bytes-to_le_bytes_4, mul-le}
+pub use Rattle.std.specs.Int.{from_le_bytes, to_le_bytes}
+pub use Rattle.std.specs.Option.{option_map, option_map_or, option_or}
+pub use Rattle.std.specs.Prelude.{All, IfSome, IsSome, IsSomeAnd, None, Option, Some, filter, find, fold, if◌then◌else◌, is_none, map, nat_lt}
+pub use mir.Syntax.{w32}
+pub use Rattle.arena_core.proofs.Ranges.{changes_only, length-range, range-written, range-written_apart, take_past, written-range}
+pub use Rattle.arena_core.proofs.Rows.{written_is}
+pub use Rattle.arena_core.specs.Contents.{Contents, contents}
+pub use Rattle.arena_core.specs.Extents.{AreApart, Extent, LiesIn}
+pub use Rattle.arena_core.specs.Outside.{ChangesOnly}
+pub use Rattle.arena_core.specs.Written.{written}
+pub use Rattle.arena_core.specs.declared.span.Span.{Span}
+pub use Rattle.mote_types.specs.BlockNames.{IsName, number_of}
+pub use Rattle.mote_types.specs.Bytes.{overwritten, resized, zeros}
+pub use Rattle.heap_core.specs.Chunks.{AreJoined, BeginsLive, FREED, IsWhole, Tell, blocks_in, chunks_from, is_a_name, is_named, least_len, link_in, number_in, owner_in, size_in, with_chunk, word_at}
+unfoldable pub use Rattle.heap_core.specs.Chunks.{chunk_at, shortest}
+pub use Rattle.heap_core.specs.Code.Holes.{Fits, Free, Hole, Laid, Leaves}
+pub use Rattle.heap_core.specs.Code.Joins.{Aside, Joins}
+pub use Rattle.heap_core.specs.Code.Links.{Cleared, Exchanged, Follow, KeepsFreed, LinkChanged, Relinked, chunks_along, gap_below, gap_count, gap_from, higher, last_of, lower}
+unfoldable pub use Rattle.heap_core.specs.Code.Links.{gaps_from_place}
+pub use Rattle.heap_core.specs.Code.FreeBytes.{GapAt, IsWholeRoom, LeavesGap, free_behind, free_from, front_gap, gap_of, laid}
+pub use Rattle.heap_core.specs.Code.Owners.{Owned, is_owner, owned_by}
+pub use Rattle.heap_core.specs.Code.PlacedBlocks.{at_place, block_in_chunk, bytes_given, bytes_in_chunk, place_in_chunk, without_place}
+unfoldable pub use Rattle.heap_core.specs.Code.ChunkRanges.{chunks_before, chunks_behind, chunks_between}
+pub use Rattle.heap_core.specs.FreeList.{AreFreed, FreedLinked, GapsLinked, LinkedTo, LiveIn, Meets, NoneAt, Stands, behind_link, free_chunks, gaps_among, unnamed, with_free}
+pub use Rattle.heap_core.specs.HeapBytes.{IsLaidOut, IsWithin, KeepsToSpan, heap_of, linked_of}
+pub use Rattle.heap_core.specs.HeapStore.{Block, HeapStore, IsHeaderLength, LieApart, LieInOrder, allocated, best_gap, better, block_of, end_of, find_block, footprint, freed, gap_at, gap_between, gaps, gaps_from, has_name, least_room, length_of, live_place, moved, new_place, place, place_in, place_of, placed, reallocated, resized_block, room_in_place, room_taken, shorter, stats_of, top_gap, top_place, with_block, with_bytes, without_block}
+unfoldable pub use Rattle.heap_core.specs.HeapStore.{block_at}
+pub use Rattle.heap_core.specs.Layout.{HasChunks, store_of}
+unfoldable pub use Rattle.heap_core.specs.Layout.{chunks_of}
+pub use Rattle.heap_core.specs.Places.{ArePlaced, place_found}
+pub use Rattle.heap_core.specs.Separation.{BlocksLieApart, bytes_behind_header, extent_of, live_block}
+pub use Rattle.heap_core.specs.declared.chunk.Chunk.{Chunk}
+pub use Rattle.heap_core.specs.declared.chunk.Gap.{Gap}
+pub use Rattle.heap_core.specs.declared.chunk.Place.{Place}
+pub use Rattle.heap_core.specs.declared.region.Region.{Region}

@@ -1,0 +1,43 @@
+-- Where free bytes begin and end beside chunks, and what a chunk that is laid into them leaves.
+use Rattle.std.specs.Prelude.{◌≡◌, ℕ, ◌+◌, ◌-◌, ◌%◌, ◌≤◌, ◌⊎◌, List, [], ◌∷◌, fold, Option, Some, None, if◌then◌else◌, nat_lt}
+use Rattle.heap_core.specs.declared.chunk.Chunk.{Chunk}
+use Rattle.heap_core.specs.Chunks.{shortest}
+use Rattle.heap_core.specs.FreeList.{Stands}
+
+-- what lies between two places is as long as a whole gap
+abbrev pub LeavesGap : ℕ → ℕ → ℕ → Type 0
+LeavesGap header from to = (from + shortest header ≤ to) × ((to - from) % 4 ≡ 0)
+
+-- the room of a whole chunk
+abbrev pub IsWholeRoom : ℕ → ℕ → Type 0
+IsWholeRoom header room = (shortest header ≤ header + room) × (room % 4 ≡ 0)
+
+-- one of these chunks is a gap there, which has so many bytes, or leaves a whole gap behind them
+pub record GapAt (header place len : ℕ) (chunks : List Chunk) : Type 0 where
+  pub gap : Chunk
+  pub stands : Stands gap chunks
+  pub free : gap.owner ≡ None
+  pub at : gap.at ≡ place
+  pub rest : (len ≡ gap.len) ⊎ LeavesGap header len gap.len
+
+abbrev pub free_behind : Chunk → Option ℕ → ℕ
+free_behind chunk None = chunk.at
+free_behind chunk (Some name) = chunk.at + chunk.len
+
+-- where the free bytes begin that end where these chunks do
+abbrev pub free_from : List Chunk → ℕ
+free_from chunks = fold (λ _ chunk. free_behind chunk chunk.owner) 0 chunks
+
+abbrev pub gap_of : Chunk → Option ℕ → ℕ
+gap_of chunk None = chunk.len
+gap_of chunk (Some name) = 0
+
+-- the length of the gap that stands in front of these chunks, 0 where there is none
+abbrev pub front_gap : List Chunk → ℕ
+front_gap [] = 0
+front_gap (chunk ∷ chunks) = gap_of chunk chunk.owner
+
+-- a live chunk at the front of len bytes, and what is left of them as a gap with that link
+abbrev pub laid : Chunk → ℕ → Option ℕ → List Chunk
+laid live len link =
+    live ∷ (if nat_lt live.len len then record { at = live.at + live.len; len = len - live.len; owner = None; size = 0; link = link } ∷ [] else [])
