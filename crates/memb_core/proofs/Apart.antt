@@ -1,12 +1,6 @@
 -- The blocks of a pool share no byte of the arena.
-use Rattle.std.proofs.Common.{◌≡◌, ℕ, ◌+◌, inl, inr, List, [], true, slice_range, refl, sym, ap, ◌∙◌, arith}
-use Rattle.std.specs.Prelude.{Option, Some, None, IfSome, is_some, unwrap_or}
-use Rattle.memb_core.specs.PoolTable.{PoolTable}
-use Rattle.memb_core.specs.BlockPool.{block_of, is_live}
-use Rattle.memb_core.specs.PoolBytes.{place_of, pool_of, usable_bytes, region_of, IsWithin}
-use Rattle.memb_core.specs.Links.{is_used}
+use Rattle.memb_core.proofs.Words.{◌≡◌, ℕ, ◌+◌, List, [], true, slice_range, sym, ap, ◌∙◌, arith, Option, Some, None, IfSome, is_some, unwrap_or, PoolTable, block_of, is_live, place_of, pool_of, usable_bytes, region_of, IsWithin, is_used, FillsSpan}
 use Rattle.memb_core.specs.Separation.{BlocksLieApart}
-use Rattle.memb_core.specs.Code.Sizes.{FillsSpan}
 use Rattle.memb_core.proofs.Blocks.{live_is}
 use Rattle.memb_core.proofs.Bytes.{block_inside, blocks_apart, block_is, bytes_read, live_below}
 
@@ -23,9 +17,4 @@ module _ (pool : PoolTable) (fills : FillsSpan pool) (bytes : List ℕ) (within 
       ∙ ap (λ k. slice_range bytes k (k + pool.usable)) (omega arith)
 
   pub lie_apart : BlocksLieApart pool bytes
-  lie_apart =
-      record {
-        inside = λ b below. let inside = block_inside pool fills b below in (omega arith, omega arith);
-        apart = λ b c ne. elim (blocks_apart pool b c ne) [ inl before ↦ inl (omega arith) | inr behind ↦ inr (omega arith) ];
-        read = λ b. read b (block_of b (pool_of pool bytes)) refl;
-      }
+  lie_apart = grind (arith, block_inside, blocks_apart, read)

@@ -1,13 +1,5 @@
 -- What the numbers of a pool stand for, by whether each is used and by the bytes of each.
-use Rattle.std.proofs.Common.{◌≡◌, ◌≢◌, ℕ, zero, suc, ◌+◌, ◌<◌, inl, inr, Bool, true, false, not, List, [], ◌∷◌, ◌++◌, length, take, get_or, set, refl, sym, ap, ◌∙◌, subst, arith}
-use Rattle.std.specs.Prelude.{Option, Some, None, is_some, is_none, filter, replicate, if◌then◌else◌}
-use Rattle.std.specs.List.{position, position_or_len, refill}
-use Rattle.std.proofs.lemmas.List.{drop_all, take_all, append-nil, length-set, ext_get_or, get_or-set_same, get_or-set_other, get_or_past}
-use Rattle.std.proofs.lemmas.Bool.{cases_eq, cases_lt, false≢true}
-use Rattle.memb_core.specs.PoolTable.{PoolTable}
-use Rattle.memb_core.specs.BlockPool.{is_live, first_unused, unused_count}
-use Rattle.memb_core.specs.PoolBytes.{blocks_from, usable_bytes, region_of, pool_of}
-use Rattle.memb_core.specs.Links.{is_used}
+use Rattle.memb_core.proofs.Words.{◌≡◌, ◌≢◌, ℕ, zero, suc, ◌+◌, ◌<◌, inl, inr, Bool, true, false, not, List, [], ◌∷◌, length, get_or, set, refl, sym, ap, ◌∙◌, subst, arith, Option, Some, None, is_some, is_none, filter, if◌then◌else◌, position, position_or_len, length-set, ext_get_or, get_or-set_same, get_or-set_other, get_or_past, cases_eq, cases_lt, false≢true, PoolTable, is_live, first_unused, unused_count, blocks_from, usable_bytes, region_of, pool_of, is_used, replicate}
 
 -- what number b stands for
 abbrev pub entry : (ℕ → List ℕ) → List Bool → ℕ → Option (List ℕ)
@@ -16,13 +8,10 @@ entry bytes_at used b = if get_or used b false then Some (bytes_at b) else None
 get_or-from : (f : ℕ → List ℕ) (n : ℕ) (used : List Bool) (b : ℕ) → get_or (blocks_from f n used) b None ≡ (if get_or used b false then Some (f (n + b)) else None)
 get_or-from f n [] b = refl
 get_or-from f n (u ∷ used) zero = let e : n ≡ n + 0 = omega arith in ap (λ k. if u then Some (f k) else None) e
-get_or-from f n (u ∷ used) (suc b) =
-    let e : n + 1 + b ≡ n + suc b = omega arith in
-    get_or-from f (n + 1) used b ∙ ap (λ k. if get_or used b false then Some (f k) else None) e
+get_or-from f n (u ∷ used) (suc b) = let later = get_or-from f (n + 1) used b in grind arith
 
 pub get_or-blocks : (f : ℕ → List ℕ) (used : List Bool) (b : ℕ) → get_or (blocks_from f 0 used) b None ≡ entry f used b
-get_or-blocks f used b =
-    let e : 0 + b ≡ b = omega arith in get_or-from f 0 used b ∙ ap (λ k. if get_or used b false then Some (f k) else None) e
+get_or-blocks f used b = grind (arith, get_or-from)
 
 length-from : (f : ℕ → List ℕ) (n : ℕ) (used : List Bool) → length (blocks_from f n used) ≡ length used
 length-from f n [] = refl
@@ -75,9 +64,7 @@ none_if false bytes = refl
 
 pub live_is : (b : ℕ) (pool : PoolTable) (bytes : List ℕ) → is_live b (pool_of pool bytes) ≡ is_used b pool
 unfolding pool_of
-live_is b pool bytes =
-    let f = usable_bytes pool (region_of pool bytes) in
-    ap is_some (get_or-blocks f pool.used b) ∙ some_if (get_or pool.used b false) (f b)
+live_is b pool bytes = grind (arith, get_or-blocks, some_if)
 
 -- the unused ones
 place_from : (f : ℕ → List ℕ) (n : ℕ) (us : List Bool) → position_or_len is_none (blocks_from f n us) ≡ position_or_len not us
@@ -87,10 +74,7 @@ place_from f n (false ∷ us) = refl
 
 pub first_unused_is : (pool : PoolTable) (bytes : List ℕ) → first_unused (pool_of pool bytes) ≡ position not pool.used
 unfolding pool_of
-first_unused_is pool bytes =
-    let f = usable_bytes pool (region_of pool bytes) in
-    let place = place_from f 0 pool.used in let many = length-from f 0 pool.used in
-    rw (place, many) refl
+first_unused_is pool bytes = grind (arith, place_from, length-from)
 
 count_from : (f : ℕ → List ℕ) (n : ℕ) (us : List Bool) → length (filter is_none (blocks_from f n us)) ≡ length (filter not us)
 count_from f n [] = refl
@@ -104,15 +88,6 @@ unused_count_is pool bytes = count_from (usable_bytes pool (region_of pool bytes
 pub all_unused : (f : ℕ → List ℕ) (n count : ℕ) → blocks_from f n (replicate count false) ≡ replicate count None
 all_unused f n zero = refl
 all_unused f n (suc count) = ap (λ l. None ∷ l) (all_unused f (n + 1) count)
-
--- the flags after a write of one of them
-pub refilled : (us flags : List Bool) (b : ℕ) (u : Bool) → flags ≡ us → refill (length us) us (set flags b u) ≡ set us b u
-refilled us flags b u same =
-    let long : length (set us b u) ≡ length us = length-set us b u in
-    ap (λ l. refill (length us) us (set l b u)) same
-    ∙ ap (λ l. take (length us) (set us b u ++ l)) (drop_all (length (set us b u)) us (omega arith))
-    ∙ ap (take (length us)) (append-nil (set us b u))
-    ∙ take_all (length us) (set us b u) (omega arith)
 
 -- a block that was used still is when another one, or the same, is taken into use
 pub still_used : (us : List Bool) (b c : ℕ) → get_or us c false ≡ true → get_or (set us b true) c false ≡ true

@@ -1,28 +1,12 @@
 -- The bytes of a pool's span after a write to a block, or to a link.
-use Rattle.std.proofs.Common.{◌≡◌, ◌≢◌, ℕ, ◌+◌, ◌^◌, ◌≤◌, ◌<◌, ◌⊎◌, inl, inr, Bool, true, false, List, [], length, take, drop, get_or, set, slice_range, refl, sym, ap, ◌∙◌, subst, arith}
-use Rattle.std.specs.Prelude.{Option, Some, None, is_some, IsSomeAnd, unwrap_or}
-use Rattle.std.specs.Int.{from_le_bytes, to_le_bytes}
-use Rattle.std.proofs.lemmas.Bool.{cases_eq, cases_order}
-use Rattle.std.proofs.lemmas.List.{append_assoc, length-replicate, length-set, get_or-set_same, get_or-set_other}
+use Rattle.memb_core.proofs.Words.{◌≡◌, ◌≢◌, ℕ, ◌+◌, ◌^◌, ◌≤◌, ◌<◌, ◌⊎◌, inl, inr, Bool, true, false, List, length, set, slice_range, refl, sym, ap, ◌∙◌, subst, arith, Option, Some, None, is_some, IsSomeAnd, from_le_bytes, to_le_bytes, cases_eq, cases_order, append_assoc, length-replicate, length-set, get_or-set_same, get_or-set_other, w32, zeros, overwritten, Contents, contents, written, length-range, length-written, range-written, range-written_apart, written-range, range-range, changes_only, PoolTable, FillsSpan, with_bytes, block_of, is_live, place_of, region_of, usable_bytes, blocks_from, pool_of, IsWithin, KeepsToSpan, named_by, link_of, is_used}
 use Rattle.std.proofs.lemmas.Nat.{mul-le, from_le_bytes-to_le_bytes_4}
-use mir.Syntax.{w32}
-use Rattle.mote_types.specs.Bytes.{zeros, overwritten}
-use Rattle.arena_core.specs.Contents.{Contents, contents}
-use Rattle.arena_core.specs.Written.{written}
-use Rattle.arena_core.proofs.Ranges.{length-range, length-written, range-written, range-written_apart, written-range, range-range, changes_only}
 use Rattle.arena_core.proofs.Rows.{written_is}
-use Rattle.memb_core.specs.PoolTable.{PoolTable}
-use Rattle.memb_core.specs.Code.Sizes.{FillsSpan}
-use Rattle.memb_core.specs.BlockPool.{BlockPool, with_bytes, block_of, is_live}
-use Rattle.memb_core.specs.PoolBytes.{place_of, region_of, usable_bytes, blocks_from, pool_of, IsWithin, KeepsToSpan}
-use Rattle.memb_core.specs.Links.{named_by, link_of, is_used}
 use Rattle.memb_core.proofs.Blocks.{entry, get_or-blocks, blocks_changed, blocks_same, entry_used, entry_unused, entry_same, used_below, live_is}
 
 -- each block lies in the span, and before or behind each other one
 pub block_inside : (pool : PoolTable) → FillsSpan pool → (b : ℕ) → b < length pool.used → place_of pool b + 4 + pool.usable ≤ pool.span.len
-block_inside pool fills b below =
-    let size = pool.usable + 4 in
-    omega (arith, fills.whole, mul-le (b + 1) size (length pool.used) size (omega arith) (omega arith))
+block_inside pool fills b below = grind arith
 
 pub blocks_apart : (pool : PoolTable) (b c : ℕ) → b ≢ c → (place_of pool b + 4 + pool.usable ≤ place_of pool c) ⊎ (place_of pool c + 4 + pool.usable ≤ place_of pool b)
 blocks_apart pool b c ne =
@@ -42,8 +26,7 @@ module _ (pool : PoolTable) (B : List ℕ) (within : IsWithin pool B) where
   -- what number b stands for
   pub block_is : (b : ℕ) → is_used b pool ≡ true → block_of b (pool_of pool B) ≡ Some (usable_bytes pool (region_of pool B) b)
   unfolding pool_of
-  block_is b used =
-      let f = usable_bytes pool (region_of pool B) in get_or-blocks f pool.used b ∙ entry_used f pool.used b used
+  block_is b used = grind (arith, get_or-blocks, entry_used)
 
   -- a block of which it is said that it is used, or what its bytes are
   pub live_below : (b : ℕ) → is_live b (pool_of pool B) ≡ true → b < length pool.used
@@ -58,10 +41,7 @@ module _ (pool : PoolTable) (B : List ℕ) (within : IsWithin pool B) where
 
   -- block c is given back
   pub blocks_freed : (c : ℕ) → c < length pool.used → blocks_from (usable_bytes pool (region_of pool B)) 0 (set pool.used c false) ≡ set (blocks_from (usable_bytes pool (region_of pool B)) 0 pool.used) c None
-  blocks_freed c below =
-      let f = usable_bytes pool (region_of pool B) in let us = pool.used in let vs = set us c false in
-      blocks_changed f f us vs c None (length-set us c false) below (entry_unused f vs c (get_or-set_same us c false false below))
-      (λ b l ne. entry_same f f us vs b refl (get_or-set_other us c b false false ne))
+  blocks_freed c below = grind (arith, blocks_changed, length-set, entry_unused, get_or-set_same, entry_same, get_or-set_other)
 
 module _ (pool : PoolTable) (fills : FillsSpan pool) (B : List ℕ) (within : IsWithin pool B) where
   abbrev R : List ℕ
@@ -74,25 +54,14 @@ module _ (pool : PoolTable) (fills : FillsSpan pool) (B : List ℕ) (within : Is
   length-region = length-range B pool.span.at pool.span.len within
 
   pub bytes_read : (b : ℕ) → b < count → usable_bytes pool R b ≡ slice_range B (pool.span.at + (place_of pool b + 4)) (pool.span.at + (place_of pool b + 4) + pool.usable)
-  bytes_read b below =
-      let inside = block_inside pool fills b below in
-      range-range B pool.span.at pool.span.len (place_of pool b + 4) (place_of pool b + 4 + pool.usable) (omega arith) (omega arith)
-      ∙ ap (slice_range B (pool.span.at + (place_of pool b + 4))) (omega arith)
+  bytes_read b below = grind (arith, block_inside, range-range)
 
   pub length-usable : (b : ℕ) → b < count → length (usable_bytes pool R b) ≡ pool.usable
-  length-usable b below =
-      let inside = block_inside pool fills b below in
-      let long = length-region in
-      length-range R (place_of pool b + 4) pool.usable (omega arith)
+  length-usable b below = grind (arith, block_inside, length-region, length-range)
 
   pub link_read : (b : ℕ) → b < count → link_of pool B b ≡ named_by (from_le_bytes w32 (slice_range B (pool.span.at + place_of pool b) (pool.span.at + place_of pool b + 4)))
   unfolding link_of
-  link_read b below =
-      let inside = block_inside pool fills b below in
-      let read : slice_range R (place_of pool b) (place_of pool b + 4) ≡ slice_range B (pool.span.at + place_of pool b) (pool.span.at + place_of pool b + 4) =
-      range-range B pool.span.at pool.span.len (place_of pool b) (place_of pool b + 4) (omega arith) (omega arith)
-      ∙ ap (slice_range B (pool.span.at + place_of pool b)) (omega arith) in
-      ap (λ bytes. named_by (from_le_bytes w32 bytes)) read
+  link_read b below = grind (arith, block_inside, range-range)
 
   pub room_of : (b n : ℕ) → IsSomeAnd (block_of b (pool_of pool B)) (λ block. n ≤ length block) → (is_used b pool ≡ true) × (n ≤ pool.usable)
   room_of b n h =
@@ -119,16 +88,11 @@ module _ (pool : PoolTable) (fills : FillsSpan pool) (B : List ℕ) (within : Is
     moved = written-range B pool.span.at pool.span.len x ws inside within
 
     usable_kept : (b : ℕ) → (place_of pool b + 4 + pool.usable ≤ x) ⊎ (x + length ws ≤ place_of pool b + 4) → usable_bytes pool (region_of pool B') b ≡ usable_bytes pool R b
-    usable_kept b side =
-        let long = length-region in
-        ap (λ r. usable_bytes pool r b) moved ∙ range-written_apart R x ws (omega arith) (place_of pool b + 4) pool.usable side
+    usable_kept b side = grind (arith, length-region, moved, range-written_apart)
 
     link_kept : (b : ℕ) → (place_of pool b + 4 ≤ x) ⊎ (x + length ws ≤ place_of pool b) → link_of pool B' b ≡ link_of pool B b
     unfolding link_of
-    link_kept b side =
-        let long = length-region in
-        ap (λ r. named_by (from_le_bytes w32 (slice_range r (place_of pool b) (place_of pool b + 4)))) moved
-        ∙ ap (λ bytes. named_by (from_le_bytes w32 bytes)) (range-written_apart R x ws (omega arith) (place_of pool b) 4 side)
+    link_kept b side = grind (arith, length-region, moved, range-written_apart)
 
   -- a write to the usable bytes of block c
   module _ (c at : ℕ) (ws : List ℕ) (below : c < count) (room : at + length ws ≤ pool.usable) where
@@ -142,33 +106,17 @@ module _ (pool : PoolTable) (fills : FillsSpan pool) (B : List ℕ) (within : Is
     C = written B (pool.span.at + place) ws
 
     usable_others : (b : ℕ) → b ≢ c → usable_bytes pool (region_of pool C) b ≡ usable_bytes pool R b
-    usable_others b ne =
-        usable_kept place ws write_inside b (elim (blocks_apart pool b c ne) [ inl before ↦ inl (omega arith) | inr behind ↦ inr (omega arith) ])
+    usable_others b ne = grind (arith, usable_kept, write_inside, blocks_apart)
 
     pub links_kept : (b : ℕ) → link_of pool C b ≡ link_of pool B b
-    links_kept b = link_kept place ws write_inside b (elim (cases_eq b c) [
-      | inl e ↦ let same : place_of pool b ≡ place_of pool c = ap (place_of pool) e in inl (omega arith)
-      | inr ne ↦ elim (blocks_apart pool b c ne) [ inl before ↦ inl (omega arith) | inr behind ↦ inr (omega arith) ]
-    ])
+    links_kept b = grind (arith, link_kept, write_inside, cases_eq, blocks_apart)
 
     usable_written : usable_bytes pool (region_of pool C) c ≡ overwritten at ws (usable_bytes pool R c)
-    usable_written =
-        let long = length-region in let fits = block_inside pool fills c below in
-        ap (λ r. usable_bytes pool r c) (moved place ws write_inside)
-        ∙ written-range R (place_of pool c + 4) pool.usable at ws room (omega arith)
-        ∙ written_is (usable_bytes pool R c) at ws (omega (arith, length-usable c below))
-        ∙ sym (append_assoc (take at (usable_bytes pool R c)) ws (drop (at + length ws) (usable_bytes pool R c)))
+    usable_written = grind (arith, length-region, block_inside, moved, write_inside, written-range, written_is, length-usable, append_assoc)
 
     pub pool_written : is_used c pool ≡ true → pool_of pool C ≡ with_bytes c at ws (pool_of pool B)
     unfolding pool_of
-    pool_written used =
-        let f = usable_bytes pool R in let g = usable_bytes pool (region_of pool C) in let us = pool.used in
-        let read : unwrap_or (get_or (blocks_from f 0 us) c None) [] ≡ f c =
-        ap (λ o. unwrap_or o []) (get_or-blocks f us c ∙ entry_used f us c used) in
-        let here : entry g us c ≡ Some (overwritten at ws (f c)) = entry_used g us c used ∙ ap Some usable_written in
-        ap (λ (blocks : List (Option (List ℕ))). let p : BlockPool = record { usable = pool.usable; blocks = blocks } in p)
-        (blocks_changed f g us us c (Some (overwritten at ws (f c))) refl below here (λ b l ne. entry_same f g us us b (usable_others b ne) refl)
-        ∙ ap (λ bytes. set (blocks_from f 0 us) c (Some (overwritten at ws bytes))) (sym read))
+    pool_written used = grind (arith, get_or-blocks, entry_used, entry, usable_written, blocks_changed, entry_same, usable_others)
 
   -- block c is taken into use, its usable bytes all 0
   module _ (c : ℕ) (below : c < count) where
@@ -182,25 +130,13 @@ module _ (pool : PoolTable) (fills : FillsSpan pool) (B : List ℕ) (within : Is
     zeros_inside = omega (arith, block_inside pool fills c below, length-zeros pool.usable)
 
     zeros_read : usable_bytes pool (region_of pool Z) c ≡ zeros pool.usable
-    zeros_read =
-        let ws = zeros pool.usable in let long = length-region in let many = length-zeros pool.usable in let inside = zeros_inside in
-        let e : first + pool.usable ≡ first + length ws = omega arith in
-        ap (λ r. usable_bytes pool r c) (moved first ws zeros_inside)
-        ∙ ap (slice_range (written R first ws) first) e
-        ∙ range-written R first ws (omega arith)
+    zeros_read = grind (arith, length-region, length-zeros, zeros_inside, moved, range-written)
 
     zeros_others : (b : ℕ) → b ≢ c → usable_bytes pool (region_of pool Z) b ≡ usable_bytes pool R b
-    zeros_others b ne =
-        let many = length-zeros pool.usable in
-        usable_kept first (zeros pool.usable) zeros_inside b (elim (blocks_apart pool b c ne) [ inl before ↦ inl (omega arith) | inr behind ↦ inr (omega arith) ])
+    zeros_others b ne = grind (arith, length-zeros, usable_kept, zeros_inside, blocks_apart)
 
     pub zeros_links : (b : ℕ) → link_of pool Z b ≡ link_of pool B b
-    zeros_links b =
-        let many = length-zeros pool.usable in
-        link_kept first (zeros pool.usable) zeros_inside b (elim (cases_eq b c) [
-          | inl e ↦ let same : place_of pool b ≡ place_of pool c = ap (place_of pool) e in inl (omega arith)
-          | inr ne ↦ elim (blocks_apart pool b c ne) [ inl before ↦ inl (omega arith) | inr behind ↦ inr (omega arith) ]
-        ])
+    zeros_links b = grind (arith, length-zeros, link_kept, zeros_inside, cases_eq, blocks_apart)
 
     pub zeros_within : IsWithin pool Z
     zeros_within = still_within first (zeros pool.usable) zeros_inside
@@ -212,11 +148,7 @@ module _ (pool : PoolTable) (fills : FillsSpan pool) (B : List ℕ) (within : Is
     blocks_after = blocks_from (usable_bytes pool (region_of pool Z)) 0
 
     pub blocks_allocated : blocks_after (set pool.used c true) ≡ set (blocks_from (usable_bytes pool R) 0 pool.used) c (Some (zeros pool.usable))
-    blocks_allocated =
-        let f = usable_bytes pool R in let g = usable_bytes pool (region_of pool Z) in let us = pool.used in let vs = set us c true in
-        let here : entry g vs c ≡ Some (zeros pool.usable) = entry_used g vs c (get_or-set_same us c true false below) ∙ ap Some zeros_read in
-        blocks_changed f g us vs c (Some (zeros pool.usable)) (length-set us c true) below here
-        (λ b l ne. entry_same f g us vs b (zeros_others b ne) (get_or-set_other us c b true false ne))
+    blocks_allocated = grind (arith, entry, entry_used, get_or-set_same, zeros_read, blocks_changed, length-set, entry_same, zeros_others, get_or-set_other)
 
   -- a write to the link of block c
   module _ (c word : ℕ) (below : c < count) (small : word < 2 ^ 32) where
@@ -251,6 +183,4 @@ module _ (pool : PoolTable) (fills : FillsSpan pool) (B : List ℕ) (within : Is
 
     pub link_blocks : pool_of pool L ≡ pool_of pool B
     unfolding pool_of
-    link_blocks =
-        ap (λ (blocks : List (Option (List ℕ))). let p : BlockPool = record { usable = pool.usable; blocks = blocks } in p)
-        (blocks_same (usable_bytes pool R) (usable_bytes pool (region_of pool L)) pool.used (λ b l. link_usable b))
+    link_blocks = grind (arith, blocks_same, link_usable)

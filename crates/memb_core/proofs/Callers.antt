@@ -4,42 +4,27 @@
 --     AreLinked-same                       so does whether they are linked
 --     pool_of-, list_of-, AreLinked-elsewhere      so all three stay when only bytes of another span changed
 --     listed_there, listed_nowhere, not_elsewhere      what it means that a block is in a list, in none, or in no other one
-use Rattle.std.proofs.Common.{◌≡◌, ◌≢◌, Bool, true, false, refl, ℕ, ◌+◌, ◌≤◌, ◌⊎◌, List, slice_range, ap, sym, arith}
-use Rattle.std.specs.Prelude.{Option, Some, None, if◌then◌else◌}
-use Rattle.std.specs.Int.{from_le_bytes}
-use mir.Syntax.{w32}
-use Rattle.arena_core.specs.declared.span.Span.{Span}
-use Rattle.arena_core.specs.Contents.{Contents}
+use Rattle.memb_core.proofs.Words.{◌≡◌, ◌≢◌, Bool, true, false, refl, ℕ, ◌+◌, ◌≤◌, ◌⊎◌, List, ap, sym, arith, Option, Some, None, if◌then◌else◌, Contents, PoolTable, ListHeads, ListName, has_number, holder_of, region_of, pool_of, IsWithin, KeepsToSpan, start_of, link_of, all_along, list_of, AreLinked}
 use Rattle.arena_core.specs.Outside.{ChangesOnly}
-use Rattle.memb_core.specs.PoolTable.{PoolTable, ListHeads}
-use Rattle.memb_core.specs.declared.list_name.ListName.{ListName}
-use Rattle.memb_core.specs.BlockLists.{has_number, holder_of}
-use Rattle.memb_core.specs.BlockPool.{BlockPool}
-use Rattle.memb_core.specs.PoolBytes.{place_of, usable_bytes, blocks_from, region_of, pool_of, IsWithin, KeepsToSpan}
-use Rattle.memb_core.specs.Links.{start_of, named_by, link_of, all_along, list_of, AreLinked}
 use Rattle.memb_core.proofs.Linked.{still_linked}
 
 pub IsWithin-kept : (old new : PoolTable) (before after : Contents) → KeepsToSpan old new before after → IsWithin old before.bytes → IsWithin new after.bytes
-IsWithin-kept old new before after kept within =
-    omega (arith, ap (λ (s : Span). s.at) kept.span, ap (λ (s : Span). s.len) kept.span, kept.bytes.size, within)
+IsWithin-kept old new before after kept within = grind arith
 
 -- equal bytes of the span
 pub pool_of-same : (pool : PoolTable) (xs ys : List ℕ) → region_of pool xs ≡ region_of pool ys → pool_of pool xs ≡ pool_of pool ys
 unfolding pool_of
-pool_of-same pool xs ys same =
-    ap (λ region. let p : BlockPool = record { usable = pool.usable; blocks = blocks_from (usable_bytes pool region) 0 pool.used } in p) same
+pool_of-same pool xs ys same = grind arith
 
 link_of-same : (pool : PoolTable) (xs ys : List ℕ) → region_of pool xs ≡ region_of pool ys → link_of pool xs ≡ link_of pool ys
 unfolding link_of
-link_of-same pool xs ys same =
-    ap (λ region. λ b. named_by (from_le_bytes w32 (slice_range region (place_of pool b) (place_of pool b + 4)))) same
+link_of-same pool xs ys same = grind arith
 
 pub list_of-same : (name : ListName) (lists : ListHeads) (pool : PoolTable) (xs ys : List ℕ) → region_of pool xs ≡ region_of pool ys → list_of name lists pool xs ≡ list_of name lists pool ys
 list_of-same name lists pool xs ys same = ap (λ link. all_along link (start_of name lists)) (link_of-same pool xs ys same)
 
 pub AreLinked-same : (lists : ListHeads) (pool : PoolTable) (xs ys : List ℕ) → region_of pool xs ≡ region_of pool ys → IsWithin pool ys → AreLinked lists pool xs → AreLinked lists pool ys
-AreLinked-same lists pool xs ys same within linked =
-    (still_linked lists pool pool xs ys linked within linked.few (λ name c had. (ap (λ link. link c) (sym (link_of-same pool xs ys same)), (linked.each name).used c had))).0
+AreLinked-same lists pool xs ys same within linked = grind (arith, still_linked, link_of-same)
 
 -- only bytes of another span changed
 module _ (pool : PoolTable) (at len : ℕ) (old new : List ℕ) (changes : ChangesOnly at len old new) (apart : (pool.span.at + pool.span.len ≤ at) ⊎ (at + len ≤ pool.span.at)) where

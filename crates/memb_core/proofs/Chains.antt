@@ -1,10 +1,5 @@
 -- Links that name the blocks of a list: what is read along them, and how a change of links changes the list.
-use Rattle.std.proofs.Common.{◌≡◌, ◌≢◌, ℕ, zero, suc, ◌≤◌, ◌<◌, inl, inr, true, false, List, [], ◌∷◌, ◌++◌, length, get_or, eqb, refl, sym, ap, ◌∙◌, subst, arith}
-use Rattle.std.specs.Prelude.{Option, Some, None, IfSome}
-use Rattle.std.proofs.lemmas.List.{append_assoc, append-nil, length-append}
-use Rattle.std.proofs.lemmas.Bool.{eq-eqb, ne_eqb, cases_eq}
-use Rattle.memb_core.specs.BlockLists.{has_number, without, head_of, next_of, put_behind}
-use Rattle.memb_core.specs.Links.{along, all_along, Names, AreDistinct}
+use Rattle.memb_core.proofs.Words.{◌≡◌, ◌≢◌, ℕ, zero, suc, ◌≤◌, ◌<◌, inl, inr, true, false, List, [], ◌∷◌, ◌++◌, length, get_or, eqb, refl, sym, ap, ◌∙◌, subst, arith, Option, Some, None, IfSome, append_assoc, append-nil, length-append, eq-eqb, ne_eqb, cases_eq, has_number, without, head_of, next_of, put_behind, along, all_along, Names, AreDistinct}
 use Rattle.memb_core.proofs.Numbers.{has_first, has_later, has_cases, none_parts, differ, without_head, has_at, behind_cases}
 
 -- what the links name is what is read along them
@@ -12,8 +7,7 @@ along_is : (n : ℕ) (link : ℕ → Option ℕ) (start : Option ℕ) (list : Li
 along_is zero link start [] names few = refl
 along_is zero link start (b ∷ list) names few = absurd (omega arith)
 along_is (suc n) link start [] names few = rw names refl
-along_is (suc n) link start (b ∷ list) names few =
-    rw names.0 (ap (λ l. b ∷ l) (along_is n link (link b) list names.1 (omega arith)))
+along_is (suc n) link start (b ∷ list) names few = let later = along_is n link (link b) list names.1 in grind arith
 
 pub all_along_is : (link : ℕ → Option ℕ) (start : Option ℕ) (list : List ℕ) → Names link start list → length list ≤ 16 → all_along link start ≡ list
 unfolding all_along
@@ -35,8 +29,7 @@ all_along_none link = refl
 -- links that are the same at each block of the list
 pub names_agree : (link new : ℕ → Option ℕ) (start : Option ℕ) (list : List ℕ) → ((c : ℕ) → has_number c list ≡ true → new c ≡ link c) → Names link start list → Names new start list
 names_agree link new start [] same names = names
-names_agree link new start (b ∷ list) same names =
-    (names.0, subst (λ s. Names new s list) (sym (same b (has_first b list))) (names_agree link new (link b) list (λ c h. same c (has_later c b list h)) names.1))
+names_agree link new start (b ∷ list) same names = let later = names_agree link new (link b) list in grind arith
 
 -- the head, and what follows a block
 pub head_named : (link : ℕ → Option ℕ) (start : Option ℕ) (list : List ℕ) → Names link start list → start ≡ head_of list
@@ -45,24 +38,13 @@ head_named link start (b ∷ list) names = names.0
 
 pub next_named : (link : ℕ → Option ℕ) (start : Option ℕ) (b : ℕ) (list : List ℕ) → Names link start list → has_number b list ≡ true → link b ≡ next_of b list
 next_named link start b [] names h = absurd (cc)
-next_named link start b (x ∷ list) names h = elim (cases_eq x b) [
-  | inl e ↦ let here : eqb x b ≡ true = eq-eqb x b e in rw here (ap link (sym e) ∙ head_named link (link x) list names.1)
-  | inr ne ↦
-      let far : eqb x b ≡ false = ne_eqb x b ne in
-      rw far (next_named link (link x) b list names.1 (elim (has_cases b x list h) [ inl e ↦ absurd (ne e) | inr later ↦ later ]))
-]
+next_named link start b (x ∷ list) names h = let later = next_named link (link x) b list names.1 in grind (arith, cases_eq, eq-eqb, head_named, ne_eqb, has_cases)
 
 -- a link of a block of the list names a block of the list
 pub link_listed : (P : ℕ → Type 0) (link : ℕ → Option ℕ) (start : Option ℕ) (b : ℕ) (list : List ℕ) → Names link start list → has_number b list ≡ true → ((c : ℕ) → has_number c list ≡ true → P c) → IfSome (link b) P
 link_listed P link start b [] names h all = absurd (cc)
-link_listed P link start b (x ∷ []) names h all = elim (has_cases b x [] h) [
-  | inl e ↦ let none : link b ≡ None = ap link (sym e) ∙ names.1 in rw none tt
-  | inr later ↦ absurd (cc)
-]
-link_listed P link start b (x ∷ (y ∷ list)) names h all = elim (has_cases b x (y ∷ list) h) [
-  | inl e ↦ let some : link b ≡ Some y = ap link (sym e) ∙ names.1.0 in rw some (all y (has_later y x (y ∷ list) (has_first y list)))
-  | inr later ↦ link_listed P link (link x) b (y ∷ list) names.1 later (λ c k. all c (has_later c x (y ∷ list) k))
-]
+link_listed P link start b (x ∷ []) names h all = grind arith
+link_listed P link start b (x ∷ (y ∷ list)) names h all = let later = link_listed P link (link x) b (y ∷ list) names.1 in grind arith
 
 -- the block at place i + 1 is taken out: the one before it gets its link
 pub names_without : (link new : ℕ → Option ℕ) (start : Option ℕ) (b i : ℕ) (list : List ℕ) → suc i < length list → get_or list (suc i) 0 ≡ b → AreDistinct list
@@ -70,12 +52,7 @@ pub names_without : (link new : ℕ → Option ℕ) (start : Option ℕ) (b i : 
     → Names link start list → Names new start (without b list)
 names_without link new start b i [] within at distinct here others names = absurd (omega arith)
 names_without link new start b i (x ∷ []) within at distinct here others names = absurd (omega arith)
-names_without link new start b zero (x ∷ (y ∷ list)) within at distinct here others names =
-    let apart = none_parts x y list distinct.0 in
-    let far : eqb x b ≡ false = ne_eqb x b (λ e. apart.0 (at ∙ sym e)) in
-    let rest : without b (y ∷ list) ≡ list = ap (λ k. without k (y ∷ list)) (sym at) ∙ without_head y list distinct.1.0 in
-    let kept : Names new (link y) list = names_agree link new (link y) list (λ c h. others c (has_later c x (y ∷ list) (has_later c y list h)) (differ c x list h apart.1)) names.1.1 in
-    rw (far, rest) (names.0, subst (λ s. Names new s list) (sym (here ∙ ap link (sym at))) kept)
+names_without link new start b zero (x ∷ (y ∷ list)) within at distinct here others names = grind (arith, none_parts, ne_eqb, without_head, names_agree, has_later, differ)
 names_without link new start b (suc i) (x ∷ (y ∷ list)) within at distinct here others names =
     let listed : has_number (get_or (y ∷ list) i 0) (y ∷ list) ≡ true = has_at i (y ∷ list) (omega arith) in
     let listed' : has_number b (y ∷ list) ≡ true = subst (λ k. has_number k (y ∷ list) ≡ true) at (has_at (suc i) (y ∷ list) (omega arith)) in
@@ -105,11 +82,7 @@ pub record IsWalked (link : ℕ → Option ℕ) (here : Option ℕ) (items list 
   pub names : Names link here rest
 
 pub walk_begun : (link : ℕ → Option ℕ) (start here : Option ℕ) (items list : List ℕ) → here ≡ start → items ≡ [] → Names link start list → IsWalked link here items list
-walk_begun link start here items list e none names = record {
-  rest = list;
-  whole = ap (λ l. l ++ list) none;
-  names = subst (λ h. Names link h list) (sym e) names;
-}
+walk_begun link start here items list e none names = grind arith
 
 -- one step along the links
 pub record Steps (link : ℕ → Option ℕ) (b : ℕ) (items list : List ℕ) : Type 0 where
@@ -123,28 +96,13 @@ has_middle b (x ∷ items) rest = has_later b x (items ++ b ∷ rest) (has_middl
 
 step_along : (link : ℕ → Option ℕ) (b : ℕ) (items rest list : List ℕ) → items ++ rest ≡ list → Names link (Some b) rest → Steps link b items list
 step_along link b items [] list whole names = absurd (cc)
-step_along link b items (x ∷ rest) list whole names =
-    let same : b ≡ x = cc in
-    let whole' : items ++ b ∷ rest ≡ list = ap (λ k. items ++ k ∷ rest) same ∙ whole in
-    record {
-      walked = record {
-        rest = rest;
-        whole = append_assoc items (b ∷ []) rest ∙ whole';
-        names = subst (λ k. Names link (link k) rest) (sym same) names.1;
-      };
-      listed = subst (λ l. has_number b l ≡ true) whole' (has_middle b items rest);
-      shorter = omega (arith, ap length whole', length-append items (b ∷ rest));
-    }
+step_along link b items (x ∷ rest) list whole names = grind (arith, append_assoc, has_middle, length-append)
 
 pub walk_step : (link : ℕ → Option ℕ) (here : Option ℕ) (b : ℕ) (items list : List ℕ) → here ≡ Some b → IsWalked link here items list → Steps link b items list
 walk_step link here b items list e walked = step_along link b items walked.rest list walked.whole (subst (λ h. Names link h walked.rest) e walked.names)
 
 pub walk_more : (link : ℕ → Option ℕ) (next : Option ℕ) (b : ℕ) (items more list : List ℕ) → next ≡ link b → more ≡ items ++ b ∷ [] → Steps link b items list → IsWalked link next more list
-walk_more link next b items more list e m step = record {
-  rest = step.walked.rest;
-  whole = ap (λ l. l ++ step.walked.rest) m ∙ step.walked.whole;
-  names = subst (λ h. Names link h step.walked.rest) (sym e) step.walked.names;
-}
+walk_more link next b items more list e m step = grind arith
 
 ends_here : (link : ℕ → Option ℕ) (items rest list : List ℕ) → items ++ rest ≡ list → Names link None rest → items ≡ list
 ends_here link items [] list whole names = sym (append-nil items) ∙ whole

@@ -6,3 +6,4 @@ pub mod Chains
 mod Examples
 pub mod Linked
 pub mod Numbers
+pub mod Words

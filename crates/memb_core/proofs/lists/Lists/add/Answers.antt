@@ -1,5 +1,4 @@
-use Rattle.std.proofs.Common.{◌≡◌, [], ◌∷◌, ◌++◌, sym, ap, ◌∙◌}
-use Rattle.memb_core.specs.Links.{list_of}
+use Rattle.memb_core.proofs.Words.{◌≡◌, [], ◌∷◌, ◌++◌, sym, ap, ◌∙◌, list_of}
 use Rattle.memb_core.proofs.Linked.{absent_after}
 use Rattle.memb_core.proofs.Numbers.{has_tail, behind_tail, no_tail}
 use Rattle.memb_core.proofs.lists.Lists.add.Goals as goal

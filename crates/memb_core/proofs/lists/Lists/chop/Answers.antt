@@ -1,5 +1,4 @@
-use Rattle.std.proofs.Common.{sym, ◌∙◌}
-use Rattle.memb_core.specs.Links.{list_of}
+use Rattle.memb_core.proofs.Words.{sym, ◌∙◌, list_of}
 use Rattle.memb_core.proofs.Numbers.{without_tail}
 use Rattle.memb_core.proofs.lists.Lists.chop.Goals as goal
 

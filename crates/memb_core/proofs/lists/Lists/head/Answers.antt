@@ -1,6 +1,4 @@
-use Rattle.std.proofs.Common.{sym, ap, ◌∙◌}
-use Rattle.memb_core.specs.PoolTable.{ListHeads}
-use Rattle.memb_core.specs.Links.{start_of}
+use Rattle.memb_core.proofs.Words.{sym, ap, ◌∙◌, ListHeads, start_of}
 use Rattle.memb_core.proofs.Chains.{head_named}
 use Rattle.memb_core.proofs.lists.Lists.head.Goals as goal
 

@@ -1,6 +1,4 @@
-use Rattle.std.proofs.Common.{ap, ◌∙◌}
-use Rattle.memb_core.specs.BlockLists.{has_number}
-use Rattle.memb_core.specs.Links.{list_of}
+use Rattle.memb_core.proofs.Words.{ap, ◌∙◌, has_number, list_of}
 use Rattle.memb_core.proofs.Linked.{absent_after}
 use Rattle.memb_core.proofs.Numbers.{other_stays}
 use Rattle.memb_core.proofs.lists.Lists.insert.Goals as goal

@@ -1,6 +1,4 @@
-use Rattle.std.proofs.Common.{◌≡◌, None, refl}
-use Rattle.memb_core.specs.declared.list_name.ListName.{ListName}
-use Rattle.memb_core.specs.Links.{start_of}
+use Rattle.memb_core.proofs.Words.{◌≡◌, refl, ListName, start_of, None}
 use Rattle.memb_core.proofs.Linked.{none_listed, empty_linked}
 use Rattle.memb_core.proofs.lists.Lists.new.Goals as goal
 

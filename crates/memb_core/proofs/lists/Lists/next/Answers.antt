@@ -1,5 +1,4 @@
-use Rattle.std.proofs.Common.{◌∙◌}
-use Rattle.memb_core.specs.Links.{start_of, link_of, list_of}
+use Rattle.memb_core.proofs.Words.{◌∙◌, start_of, link_of, list_of}
 use Rattle.memb_core.proofs.Chains.{next_named}
 use Rattle.memb_core.proofs.Linked.{listed_below, link_small}
 use Rattle.memb_core.proofs.lists.Lists.next.Goals as goal

@@ -1,5 +1,4 @@
-use Rattle.std.proofs.Common.{arith}
-use Rattle.memb_core.specs.Links.{start_of, link_of, list_of}
+use Rattle.memb_core.proofs.Words.{rules, arith, start_of, link_of, list_of}
 use Rattle.memb_core.proofs.Chains.{walk_begun, walk_step, walk_more, walk_ended, length-all_along}
 use Rattle.memb_core.proofs.Linked.{listed_below, link_small}
 use Rattle.memb_core.proofs.lists.Lists.numbers.Goals as goal
@@ -16,17 +15,15 @@ push-requires c =
     let step = walk_step (link_of pool bytes) c.loop-link.link c.in-Some.b c.loop-link.numbers.items (list_of c.args.name lists pool bytes) c.in-Some.is c.loop-link.invariant in
     omega (arith, step.shorter, length-all_along (link_of pool bytes) (start_of c.args.name lists))
 
-pub link-link-requires-clause-block : goal.link-link-requires-clause-block
-link-link-requires-clause-block c =
+pub link-link-requires : goal.link-link-requires
+link-link-requires c =
     let lists = c.args.self.now in let pool = c.args.pool.now in let bytes = c.args.arena.now.bytes in
     let step = walk_step (link_of pool bytes) c.loop-link.link c.in-Some.b c.loop-link.numbers.items (list_of c.args.name lists pool bytes) c.in-Some.is c.loop-link.invariant in
-    listed_below c.args.name lists pool bytes c.in-Some.b c.requires step.listed
-
-pub link-link-requires-clause-number : goal.link-link-requires-clause-number
-link-link-requires-clause-number c =
-    let lists = c.args.self.now in let pool = c.args.pool.now in let bytes = c.args.arena.now.bytes in
-    let step = walk_step (link_of pool bytes) c.loop-link.link c.in-Some.b c.loop-link.numbers.items (list_of c.args.name lists pool bytes) c.in-Some.is c.loop-link.invariant in
-    link_small c.args.name lists pool bytes c.in-Some.b c.requires step.listed
+    record {
+      within = search rules;
+      block = listed_below c.args.name lists pool bytes c.in-Some.b c.requires step.listed;
+      number = link_small c.args.name lists pool bytes c.in-Some.b c.requires step.listed;
+    }
 
 pub loop-link-smaller : goal.loop-link-smaller
 loop-link-smaller c =

@@ -1,5 +1,4 @@
-use Rattle.std.proofs.Common.{◌-◌, length}
-use Rattle.memb_core.specs.Links.{link_of, list_of}
+use Rattle.memb_core.proofs.Words.{◌-◌, length, link_of, list_of}
 use Rattle.memb_core.proofs.Chains.{IsWalked}
 use Rattle.memb_core.proofs.lists.Lists.numbers.Given as goal
 

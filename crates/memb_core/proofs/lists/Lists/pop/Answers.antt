@@ -1,7 +1,4 @@
-use Rattle.std.proofs.Common.{◌≡◌, refl, sym, ap, ◌∙◌}
-use Rattle.memb_core.specs.BlockLists.{popped}
-use Rattle.memb_core.specs.Links.{link_of, list_of}
-use Rattle.memb_core.specs.Code.Changes.{with_start}
+use Rattle.memb_core.proofs.Words.{rules, ◌≡◌, refl, sym, ap, ◌∙◌, popped, link_of, list_of, with_start}
 use Rattle.memb_core.proofs.Linked.{listed_below, link_small, start_listed, head_out, listed, leaves}
 use Rattle.memb_core.proofs.lists.Lists.pop.Goals as goal
 
@@ -15,18 +12,14 @@ link-next-requires-clause-number c =
     let had = start_listed c.args.name c.args.self.now c.args.pool.now c.args.arena.now.bytes c.in_ok-head.head c.requires (sym c.in_ok-head.ensures.start) in
     link_small c.args.name c.args.self.now c.args.pool.now c.args.arena.now.bytes c.in_ok-head.head c.requires had
 
-pub returns-clause-list : goal.returns-clause-list
-returns-clause-list c =
+pub returns : goal.returns
+returns c =
     let old = c.args.self.now in let pool = c.args.pool.now in let bytes = c.args.arena.now.bytes in let head = c.in_ok-head.head in
-    let same : c.put_head.new.self ≡ with_start c.args.name (link_of pool bytes head) old =
-    c.put_head.ensures ∙ ap (λ s. with_start c.args.name s old) c.link-next.ensures in
-    listed c.args.name pool old c.put_head.new.self bytes bytes (popped (list_of c.args.name old pool bytes)) c.requires
-    (head_out c.args.name pool old bytes c.requires head c.put_head.new.self (sym c.in_ok-head.ensures.start) same)
-
-pub returns-clause-others : goal.returns-clause-others
-returns-clause-others c =
-    let old = c.args.self.now in let pool = c.args.pool.now in let bytes = c.args.arena.now.bytes in let head = c.in_ok-head.head in
-    let same : c.put_head.new.self ≡ with_start c.args.name (link_of pool bytes head) old =
-    c.put_head.ensures ∙ ap (λ s. with_start c.args.name s old) c.link-next.ensures in
-    leaves c.args.name pool old c.put_head.new.self bytes bytes (popped (list_of c.args.name old pool bytes)) c.requires
-    (head_out c.args.name pool old bytes c.requires head c.put_head.new.self (sym c.in_ok-head.ensures.start) same) refl
+    let same : c.put_head.new.self ≡ with_start c.args.name (link_of pool bytes head) old = c.put_head.ensures ∙ ap (λ s. with_start c.args.name s old) c.link-next.ensures in
+    record {
+      head = search rules;
+      list = listed c.args.name pool old c.put_head.new.self bytes bytes (popped (list_of c.args.name old pool bytes)) c.requires
+          (head_out c.args.name pool old bytes c.requires head c.put_head.new.self (sym c.in_ok-head.ensures.start) same);
+      others = leaves c.args.name pool old c.put_head.new.self bytes bytes (popped (list_of c.args.name old pool bytes)) c.requires
+          (head_out c.args.name pool old bytes c.requires head c.put_head.new.self (sym c.in_ok-head.ensures.start) same) refl;
+    }

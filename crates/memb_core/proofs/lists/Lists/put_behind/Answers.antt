@@ -1,7 +1,4 @@
-use Rattle.std.proofs.Common.{◌≡◌, ◌≢◌, true, sym, ◌∙◌}
-use Rattle.memb_core.specs.BlockLists.{put_behind}
-use Rattle.memb_core.specs.PoolBytes.{IsWithin}
-use Rattle.memb_core.specs.Links.{list_of, is_used}
+use Rattle.memb_core.proofs.Words.{◌≡◌, ◌≢◌, true, sym, ◌∙◌, put_behind, IsWithin, list_of, is_used}
 use Rattle.memb_core.proofs.Blocks.{live_is, used_below}
 use Rattle.memb_core.proofs.Callers.{IsWithin-kept}
 use Rattle.memb_core.proofs.Linked.{link_small, Changes, behind_in, listed, leaves}

@@ -1,6 +1,4 @@
-use Rattle.std.proofs.Common.{◌≡◌, ◌∷◌, true, sym, ◌∙◌}
-use Rattle.memb_core.specs.PoolBytes.{IsWithin}
-use Rattle.memb_core.specs.Links.{list_of, is_used}
+use Rattle.memb_core.proofs.Words.{◌≡◌, ◌∷◌, true, sym, ◌∙◌, IsWithin, list_of, is_used}
 use Rattle.memb_core.proofs.Blocks.{live_is, used_below}
 use Rattle.memb_core.proofs.Callers.{IsWithin-kept}
 use Rattle.memb_core.proofs.Linked.{Changes, front_in, listed, leaves}

@@ -1,11 +1,4 @@
-use Rattle.std.proofs.Common.{◌≡◌, ℕ, suc, ◌-◌, ◌<◌, List, Some, None, true, eqb, get_or, length, refl, sym, ap, subst, ◌∙◌, arith}
-use Rattle.std.specs.List.{position}
-use Rattle.std.proofs.lemmas.Bool.{eqb-true}
-use Rattle.std.proofs.lemmas.List.Quantifiers.{position-Some}
-use Rattle.memb_core.specs.BlockLists.{has_number, without}
-use Rattle.memb_core.specs.PoolBytes.{IsWithin}
-use Rattle.memb_core.specs.Links.{link_of, list_of}
-use Rattle.memb_core.specs.Code.Changes.{with_start}
+use Rattle.memb_core.proofs.Words.{rules, ◌≡◌, ℕ, suc, ◌-◌, ◌<◌, List, true, eqb, get_or, length, refl, sym, ap, subst, ◌∙◌, arith, position, eqb-true, position-Some, has_number, without, IsWithin, link_of, list_of, with_start, Some, None}
 use Rattle.memb_core.proofs.Callers.{IsWithin-kept}
 use Rattle.memb_core.proofs.Linked.{Changes, listed_below, link_small, head_out, first_out, later_out, listed, leaves}
 use Rattle.memb_core.proofs.Numbers.{no_place, has_at, without_none}
@@ -31,17 +24,15 @@ found b place items list same e =
     let at = eqb-true (get_or list place 0) b some.1 in
     record { within = some.0; at = at; had = subst (λ k. has_number k list ≡ true) at (has_at place list some.0) }
 
-pub link-next-requires-clause-block : goal.link-next-requires-clause-block
-link-next-requires-clause-block c =
+pub link-next-requires : goal.link-next-requires
+link-next-requires c =
     let list = list_of c.args.name c.args.self.now c.args.pool.now c.args.arena.now.bytes in
     let here = found c.args.b c.in-Some.place c.deref.result.now list (c.deref.ensures.0 ∙ c.numbers-numbers.ensures) c.in-Some.ensures in
-    listed_below c.args.name c.args.self.now c.args.pool.now c.args.arena.now.bytes c.args.b c.requires here.had
-
-pub link-next-requires-clause-number : goal.link-next-requires-clause-number
-link-next-requires-clause-number c =
-    let list = list_of c.args.name c.args.self.now c.args.pool.now c.args.arena.now.bytes in
-    let here = found c.args.b c.in-Some.place c.deref.result.now list (c.deref.ensures.0 ∙ c.numbers-numbers.ensures) c.in-Some.ensures in
-    link_small c.args.name c.args.self.now c.args.pool.now c.args.arena.now.bytes c.args.b c.requires here.had
+    record {
+      within = search rules;
+      block = listed_below c.args.name c.args.self.now c.args.pool.now c.args.arena.now.bytes c.args.b c.requires here.had;
+      number = link_small c.args.name c.args.self.now c.args.pool.now c.args.arena.now.bytes c.args.b c.requires here.had;
+    }
 
 pub put_link-requires-clause-block : goal.put_link-requires-clause-block
 put_link-requires-clause-block c =

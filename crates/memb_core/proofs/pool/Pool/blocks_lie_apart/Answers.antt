@@ -1,5 +1,4 @@
-use Rattle.std.proofs.Common.{subst}
-use Rattle.memb_core.specs.Code.Sizes.{FillsSpan}
+use Rattle.memb_core.proofs.Words.{subst, FillsSpan}
 use Rattle.memb_core.proofs.Apart.{lie_apart}
 use Rattle.memb_core.proofs.pool.Pool.blocks_lie_apart.Goals as goal
 

@@ -1,5 +1,4 @@
-use Rattle.std.proofs.Common.{◌≡◌, sym, ◌∙◌, rules}
-use Rattle.memb_core.specs.Links.{is_used}
+use Rattle.memb_core.proofs.Words.{◌≡◌, sym, ◌∙◌, rules, is_used}
 use Rattle.memb_core.proofs.Blocks.{live_is}
 use Rattle.memb_core.proofs.pool.Pool.is_live.Goals as goal
 

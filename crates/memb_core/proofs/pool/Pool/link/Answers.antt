@@ -1,8 +1,4 @@
-use Rattle.std.proofs.Common.{◌≡◌, ℕ, ◌+◌, ◌<◌, slice_range, sym, ap, subst, ◌∙◌}
-use Rattle.std.specs.Prelude.{Option, IfSome}
-use Rattle.std.specs.Int.{from_le_bytes}
-use mir.Syntax.{w32}
-use Rattle.memb_core.specs.Links.{named_by, link_of}
+use Rattle.memb_core.proofs.Words.{◌≡◌, ℕ, ◌+◌, ◌<◌, slice_range, sym, ap, subst, ◌∙◌, Option, IfSome, from_le_bytes, w32, named_by, link_of}
 use Rattle.memb_core.proofs.Bytes.{link_read}
 use Rattle.memb_core.proofs.pool.Pool.link.Goals as goal
 

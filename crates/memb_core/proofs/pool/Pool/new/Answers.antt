@@ -1,8 +1,4 @@
-use Rattle.std.proofs.Common.{◌≡◌, ◌+◌, ◌*◌, slice_range, ℕ, false, List, take, replicate, ap, ◌∙◌}
-use Rattle.std.specs.Prelude.{Option}
-use Rattle.std.proofs.lemmas.List.{take-replicate}
-use Rattle.memb_core.specs.BlockPool.{BlockPool}
-use Rattle.memb_core.specs.PoolBytes.{pool_of, blocks_from}
+use Rattle.memb_core.proofs.Words.{◌≡◌, ◌+◌, ◌*◌, slice_range, ℕ, false, List, take, replicate, ap, ◌∙◌, Option, take-replicate, BlockPool, pool_of, blocks_from}
 use Rattle.memb_core.proofs.Blocks.{all_unused}
 use Rattle.memb_core.proofs.pool.Pool.new.Goals as goal
 

@@ -1,6 +1,4 @@
-use Rattle.std.proofs.Common.{ap, sym, ◌∙◌, length, not}
-use Rattle.std.specs.Prelude.{filter}
-use Rattle.memb_core.specs.PoolTable.{PoolTable}
+use Rattle.memb_core.proofs.Words.{ap, sym, ◌∙◌, length, not, filter, PoolTable}
 use Rattle.memb_core.proofs.Blocks.{unused_count_is}
 use Rattle.memb_core.proofs.pool.Pool.num_free.Goals as goal
 

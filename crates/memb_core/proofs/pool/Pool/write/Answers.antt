@@ -1,9 +1,4 @@
-use Rattle.std.proofs.Common.{◌≡◌, ℕ, ◌+◌, List, length, refl, sym, ap, subst, ◌∙◌, arith}
-use Rattle.arena_core.specs.Contents.{contents}
-use Rattle.arena_core.specs.Written.{written}
-use Rattle.arena_core.proofs.Ranges.{length-range}
-use Rattle.memb_core.specs.PoolBytes.{place_of, pool_of, KeepsToSpan}
-use Rattle.memb_core.specs.Links.{KeepsLists}
+use Rattle.memb_core.proofs.Words.{◌≡◌, ℕ, ◌+◌, List, length, refl, sym, ap, subst, ◌∙◌, arith, contents, written, length-range, place_of, pool_of, KeepsToSpan, KeepsLists}
 use Rattle.memb_core.proofs.Blocks.{used_below}
 use Rattle.memb_core.proofs.Bytes.{used_if_room, room_of, write_inside, pool_written, links_kept, still_within, kept}
 use Rattle.memb_core.proofs.Linked.{keeps_lists}
@@ -47,38 +42,19 @@ copy_from_slice-requires c =
     ap length c.bytes_mut-target.ensures.value
     ∙ length-range c.args.arena.now.bytes (c.usable_span-block.result.at + c.args.at) (length c.args.bytes.now) (omega arith)
 
-pub returns-clause-block : goal.returns-clause-block
-returns-clause-block c =
+pub returns : goal.returns
+returns c =
     let pool = c.args.self.now in let bytes = c.args.arena.now.bytes in let ws = c.args.bytes.now in
     let room = room_of pool c.usable_span-block.ensures.fills bytes c.requires.within c.args.b (c.args.at + length ws) c.requires.range in
     let at : c.usable_span-block.result.at + c.args.at ≡ pool.span.at + (place_of pool c.args.b + 4 + c.args.at) = omega (arith, c.usable_span-block.ensures.at) in
-    let after : written bytes (c.usable_span-block.result.at + c.args.at) c.copy_from_slice.new.self ≡ written bytes (pool.span.at + (place_of pool c.args.b + 4 + c.args.at)) ws =
-    written_same bytes at c.copy_from_slice.ensures.after in
-    ap (pool_of pool) after
-    ∙ pool_written pool c.usable_span-block.ensures.fills bytes c.requires.within c.args.b c.args.at ws (used_below pool.used c.args.b room.0) room.1 room.0
-
-pub returns-clause-lists : goal.returns-clause-lists
-returns-clause-lists c =
-    let pool = c.args.self.now in let bytes = c.args.arena.now.bytes in let ws = c.args.bytes.now in let b = c.args.b in
-    let room = room_of pool c.usable_span-block.ensures.fills bytes c.requires.within b (c.args.at + length ws) c.requires.range in
-    let below = used_below pool.used b room.0 in
-    let place = place_of pool b + 4 + c.args.at in
-    let inside = write_inside pool c.usable_span-block.ensures.fills bytes c.requires.within b c.args.at ws below room.1 in
-    let at : c.usable_span-block.result.at + c.args.at ≡ pool.span.at + (place_of pool c.args.b + 4 + c.args.at) = omega (arith, c.usable_span-block.ensures.at) in
-    let after : written bytes (c.usable_span-block.result.at + c.args.at) c.copy_from_slice.new.self ≡ written bytes (pool.span.at + (place_of pool c.args.b + 4 + c.args.at)) ws =
-    written_same bytes at c.copy_from_slice.ensures.after in
-    subst (λ after. KeepsLists pool pool bytes after) (sym after)
-    (keeps_lists pool pool bytes (written bytes (pool.span.at + place) ws) (still_within pool c.usable_span-block.ensures.fills bytes c.requires.within place ws inside) c.usable_span-block.ensures.fills.few
-    (λ d used. (links_kept pool c.usable_span-block.ensures.fills bytes c.requires.within b c.args.at ws below room.1 d, used)))
-
-pub returns-clause-rest : goal.returns-clause-rest
-returns-clause-rest c =
-    let pool = c.args.self.now in let bytes = c.args.arena.now.bytes in let ws = c.args.bytes.now in let b = c.args.b in
-    let room = room_of pool c.usable_span-block.ensures.fills bytes c.requires.within b (c.args.at + length ws) c.requires.range in
-    let place = place_of pool b + 4 + c.args.at in
-    let inside = write_inside pool c.usable_span-block.ensures.fills bytes c.requires.within b c.args.at ws (used_below pool.used b room.0) room.1 in
-    let at : c.usable_span-block.result.at + c.args.at ≡ pool.span.at + (place_of pool c.args.b + 4 + c.args.at) = omega (arith, c.usable_span-block.ensures.at) in
-    let after : written bytes (c.usable_span-block.result.at + c.args.at) c.copy_from_slice.new.self ≡ written bytes (pool.span.at + (place_of pool c.args.b + 4 + c.args.at)) ws =
-    written_same bytes at c.copy_from_slice.ensures.after in
-    subst (λ after. KeepsToSpan pool pool c.args.arena.now (contents after c.args.arena.now.carved)) (sym after)
-    (kept pool c.usable_span-block.ensures.fills bytes c.requires.within place ws inside pool c.args.arena.now.carved refl)
+    let after : written bytes (c.usable_span-block.result.at + c.args.at) c.copy_from_slice.new.self ≡ written bytes (pool.span.at + (place_of pool c.args.b + 4 + c.args.at)) ws = written_same bytes at c.copy_from_slice.ensures.after in
+    let b = c.args.b in let place = place_of pool b + 4 + c.args.at in
+    record {
+      block = ap (pool_of pool) after
+          ∙ pool_written pool c.usable_span-block.ensures.fills bytes c.requires.within c.args.b c.args.at ws (used_below pool.used c.args.b room.0) room.1 room.0;
+      lists = let room = room_of pool c.usable_span-block.ensures.fills bytes c.requires.within b (c.args.at + length ws) c.requires.range in let below = used_below pool.used b room.0 in let inside = write_inside pool c.usable_span-block.ensures.fills bytes c.requires.within b c.args.at ws below room.1 in subst (λ after. KeepsLists pool pool bytes after) (sym after)
+          (keeps_lists pool pool bytes (written bytes (pool.span.at + place) ws) (still_within pool c.usable_span-block.ensures.fills bytes c.requires.within place ws inside) c.usable_span-block.ensures.fills.few
+          (λ d used. (links_kept pool c.usable_span-block.ensures.fills bytes c.requires.within b c.args.at ws below room.1 d, used)));
+      rest = let room = room_of pool c.usable_span-block.ensures.fills bytes c.requires.within b (c.args.at + length ws) c.requires.range in let inside = write_inside pool c.usable_span-block.ensures.fills bytes c.requires.within b c.args.at ws (used_below pool.used b room.0) room.1 in subst (λ after. KeepsToSpan pool pool c.args.arena.now (contents after c.args.arena.now.carved)) (sym after)
+          (kept pool c.usable_span-block.ensures.fills bytes c.requires.within place ws inside pool c.args.arena.now.carved refl);
+    }
