@@ -1,5 +1,5 @@
 -- The gap that begins where a block ends.
-use Rattle.heap_core.proofs.Words.{rules, ◌≡◌, ◌≢◌, ℕ, ◌+◌, ◌-◌, ◌%◌, ◌≤◌, ◌<◌, ◌⊎◌, inl, inr, Bool, List, [], ◌∷◌, ◌++◌, true, false, eqb, leb, ltb, refl, sym, ap, ◌∙◌, arith, Option, Some, None, find, if◌then◌else◌, option_map_or, option_or, ne_eqb, eq-eqb, le-leb, lt-leb, leb-true, leb-false, ltb-true, cases_Bool, cases_eq, Chunk, Gap, Region, gaps, gap_at, footprint, least_room, room_taken, room_in_place, shortest, least_len, Tell, AreJoined, chunks_of, HasChunks, store_of, gap_of, front_gap, place_in_chunk, LeavesGap, IsWholeRoom}
+use Rattle.heap_core.proofs.Words.{◌≡◌, ◌≢◌, ℕ, ◌+◌, ◌-◌, ◌%◌, ◌≤◌, ◌<◌, ◌⊎◌, inl, inr, Bool, List, [], ◌∷◌, ◌++◌, eqb, leb, refl, ap, ◌∙◌, arith, Option, Some, None, find, if◌then◌else◌, option_map_or, option_or, eq-eqb, Chunk, Gap, Region, gaps, gap_at, footprint, least_room, room_taken, room_in_place, shortest, least_len, Tell, AreJoined, chunks_of, HasChunks, store_of, front_gap, place_in_chunk, LeavesGap, IsWholeRoom}
 use Rattle.std.proofs.lemmas.List.Folds.{find-append}
 use Rattle.heap_core.proofs.ChunkHeaders.{place_told, told_le, owner_cases}
 use Rattle.heap_core.proofs.Gaps.{with_gap, gaps_in, gaps_are, end_is}
@@ -99,12 +99,5 @@ front_gap_whole header [] joined = inl refl
 front_gap_whole header (d ∷ l) joined = grind arith
 
 module _ (header least room end top_at top gap chosen : ℕ) (most : shortest header ≤ 20) (whole_least : IsWholeRoom header least) (whole_room : room % 4 ≡ 0) (long : IsWholeGap header gap) where
-  same_room : (k : ℕ) → Some k ≡ Some chosen → k ≡ chosen
-  same_room k e = cc
-
-  -- what is left over exceeds 16, and all are multiples of 4
-  gap_left_of : {taken : ℕ} → taken ≡ least → least + 16 < room + gap → taken ≡ chosen → LeavesGap header chosen (room + gap)
-  gap_left_of is less same = grind arith
-
   pub taken : choice least room end top_at top gap ≡ Some chosen → Taken header least room end top_at top gap chosen
   taken e = grind arith

@@ -1,6 +1,6 @@
 -- Blocks in the order of their places: one more, one less, or one changed.
-use Rattle.heap_core.proofs.Words.{◌≡◌, ℕ, suc, ◌+◌, ◌≤◌, ◌<◌, ◌⊎◌, inl, inr, Bool, not, List, [], ◌∷◌, ◌++◌, length, false, true, eqb, ltb, refl, sym, ap, ◌∙◌, subst, arith, filter, map, if◌then◌else◌, lt-ltb, le-ltb, ltb-true, ne_eqb, cases_Bool, Chunk, Block, placed, has_name, least_len, Tell, with_chunk, blocks_in}
-use Rattle.heap_core.proofs.ChunkHeaders.{place_told, told_le, owner_cases}
+use Rattle.heap_core.proofs.Words.{◌≡◌, ℕ, suc, ◌+◌, ◌≤◌, ◌<◌, ◌⊎◌, Bool, not, List, [], ◌∷◌, ◌++◌, length, true, eqb, ltb, refl, arith, filter, map, if◌then◌else◌, lt-ltb, ltb-true, cases_Bool, Chunk, Block, placed, has_name, least_len, Tell, blocks_in}
+use Rattle.heap_core.proofs.ChunkHeaders.{place_told, told_le}
 
 -- the blocks begin between two places
 abbrev pub Between : ℕ → ℕ → List Block → Type 0

@@ -1,5 +1,5 @@
 -- A write into a live block's bytes.
-use Rattle.heap_core.proofs.Words.{rules, ◌≡◌, ℕ, ◌+◌, ◌-◌, ◌≤◌, ◌<◌, List, [], ◌∷◌, ◌++◌, length, take, drop, slice_range, true, not, eqb, refl, sym, ap, ◌∙◌, subst, arith, Option, Some, None, IsSomeAnd, filter, map, if◌then◌else◌, nat_lt, option_map, append_assoc, map-append, length-map, filter-append, eq-eqb, lt-ltb, number_of, overwritten, ChangesOnly, written, length-range, written-range, changes_only, written_is, Chunk, Region, Block, HeapStore, has_name, block_of, find_block, without_block, is_a_name, AreJoined, with_chunk, blocks_in, is_named, heap_of, chunks_of, store_of, Owned, block_in_chunk, without_place, unnamed}
+use Rattle.heap_core.proofs.Words.{◌≡◌, ℕ, ◌+◌, ◌-◌, ◌≤◌, ◌<◌, List, [], ◌∷◌, ◌++◌, length, slice_range, true, not, eqb, refl, sym, ap, ◌∙◌, subst, arith, Some, IsSomeAnd, filter, map, if◌then◌else◌, append_assoc, map-append, length-map, filter-append, eq-eqb, lt-ltb, number_of, overwritten, ChangesOnly, written, length-range, written-range, changes_only, written_is, Chunk, Region, Block, HeapStore, has_name, block_of, find_block, without_block, is_a_name, AreJoined, with_chunk, blocks_in, is_named, heap_of, chunks_of, store_of, Owned, block_in_chunk, without_place, unnamed}
 use Rattle.heap_core.proofs.Stored.{IsStored}
 use Rattle.heap_core.proofs.ChunkHeaders.{told_body, changes_more, blocks_append}
 use Rattle.heap_core.proofs.Names.{count_append, count_first, map_unnamed, filter_unnamed, keeps_name}

@@ -1,5 +1,5 @@
 -- Where a block is placed: on top, or in a gap among the chunks.
-use Rattle.heap_core.proofs.Words.{rules, ◌≡◌, ◌≢◌, ℕ, ◌+◌, ◌-◌, ◌≤◌, ◌<◌, ◌⊎◌, inl, inr, List, ltb, leb, refl, sym, ap, ◌∙◌, subst, arith, Option, Some, None, if◌then◌else◌, option_map, option_or, cases_Bool, leb-true, ltb-true, Gap, Place, Region, least_room, best_gap, gaps, place, place_in, top_place, top_gap, footprint, chunks_of, HasChunks, store_of, Stands, LiveIn, GapAt, IsWholeRoom, chunk_at, AreJoined, Chunk}
+use Rattle.heap_core.proofs.Words.{◌≡◌, ◌≢◌, ℕ, ◌+◌, ◌-◌, ◌≤◌, ◌<◌, ◌⊎◌, inl, inr, List, refl, sym, ap, ◌∙◌, subst, arith, Option, Some, None, option_map, option_or, cases_Bool, leb-true, Gap, Place, Region, least_room, best_gap, gaps, place, place_in, top_place, footprint, chunks_of, HasChunks, store_of, Stands, LiveIn, GapAt, IsWholeRoom, chunk_at, AreJoined, Chunk}
 use Rattle.heap_core.proofs.Gaps.{end_is, best_fits}
 use Rattle.heap_core.proofs.Lengths.{lengths, needed}
 use Rattle.heap_core.proofs.Splice.{whole_at}

@@ -1,5 +1,5 @@
 -- A chunk that became one with the gaps beside it: a gap, or a part of the top gap.
-use Rattle.heap_core.proofs.Words.{rules, ◌≡◌, ◌≢◌, ℕ, ◌+◌, ◌-◌, ◌≤◌, List, length, sym, ap, ◌∙◌, subst, arith, Option, Some, None, ChangesOnly, Chunk, Region, chunk_at, chunks_of, HasChunks, gaps_among, Stands, Cleared, chunks_before, chunks_behind, free_from, front_gap}
+use Rattle.heap_core.proofs.Words.{rules, ◌≡◌, ◌≢◌, ℕ, ◌+◌, ◌-◌, ◌≤◌, List, length, sym, ap, ◌∙◌, subst, Option, Some, None, ChangesOnly, Chunk, Region, chunk_at, chunks_of, HasChunks, gaps_among, Stands, Cleared, chunks_before, chunks_behind, free_from, front_gap}
 use Rattle.heap_core.proofs.Releases.{from_below, end_below, cleared_top, cleared_gap}
 use Rattle.heap_core.proofs.Standing.{Around, around, before_is, behind_is}
 use Rattle.heap_core.proofs.ChunkHeaders.{chunk_of}

@@ -1,5 +1,5 @@
 -- The free list has all chunks but the live blocks.
-use Rattle.heap_core.proofs.Words.{◌≡◌, ℕ, ◌+◌, Bool, true, false, not, List, [], ◌∷◌, length, refl, arith, filter, nat_lt, Chunk, Region, FREED, is_a_name, blocks_in, with_chunk, free_chunks, gaps_among, with_free, unnamed, IsLaidOut, linked_of, Block, chunks_of, Option, Some, None}
+use Rattle.heap_core.proofs.Words.{◌≡◌, ℕ, ◌+◌, Bool, true, false, not, List, [], ◌∷◌, length, refl, arith, filter, nat_lt, Chunk, Region, FREED, is_a_name, blocks_in, with_chunk, free_chunks, gaps_among, with_free, unnamed, IsLaidOut, linked_of, Block, Option, Some, None}
 
 abbrev free_among : List Chunk → List Chunk
 free_among chunks = filter (λ (chunk : Chunk). not (is_a_name chunk.owner)) chunks

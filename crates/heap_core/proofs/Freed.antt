@@ -1,5 +1,5 @@
 -- Chunks that were freed and are not joined yet.
-use Rattle.heap_core.proofs.Words.{rules, ◌≡◌, ◌≢◌, ℕ, suc, ◌+◌, ◌-◌, ◌≤◌, ◌<◌, inl, inr, Bool, not, List, [], ◌∷◌, ◌++◌, length, true, false, ltb, refl, sym, ap, ◌∙◌, subst, arith, Option, Some, None, IfSome, filter, map, cases_Bool, ltb-true, lt-ltb, le-ltb, false≢true, length-append, filter-append, All-nil, ChangesOnly, Span, Chunk, Region, Block, HeapStore, placed, heap_of, FREED, is_a_name, chunk_at, Tell, AreJoined, with_chunk, blocks_in, is_named, chunks_of, store_of, HasChunks, gaps_among, LinkedTo, NoneAt, AreFreed, unnamed, GapsLinked, FreedLinked, Stands, LiveIn, Aside, KeepsFreed, block_in_chunk}
+use Rattle.heap_core.proofs.Words.{◌≡◌, ◌≢◌, ℕ, ◌+◌, ◌-◌, ◌≤◌, ◌<◌, inl, inr, Bool, not, List, [], ◌∷◌, ◌++◌, length, true, false, refl, sym, ap, ◌∙◌, subst, arith, Option, Some, None, IfSome, filter, map, cases_Bool, ltb-true, lt-ltb, le-ltb, false≢true, length-append, filter-append, All-nil, ChangesOnly, Span, Chunk, Region, Block, HeapStore, placed, heap_of, FREED, is_a_name, chunk_at, Tell, AreJoined, with_chunk, blocks_in, is_named, chunks_of, store_of, HasChunks, gaps_among, LinkedTo, NoneAt, AreFreed, unnamed, GapsLinked, FreedLinked, Stands, LiveIn, Aside, KeepsFreed, block_in_chunk}
 use Rattle.heap_core.proofs.Blocks.{elsewhere}
 use Rattle.heap_core.proofs.Gaps.{many}
 use Rattle.heap_core.proofs.Lists.{gaps_append, live_first, linked_parted, linked_live, link_live, linked_append}

@@ -1,5 +1,5 @@
 -- The gaps that the blocks leave are the gaps among the chunks; and what follows from it for the places of a heap.
-use Rattle.heap_core.proofs.Words.{◌≡◌, ℕ, ◌+◌, ◌-◌, ◌*◌, ◌≤◌, ◌<◌, ◌⊎◌, inl, inr, List, [], ◌∷◌, ◌++◌, length, suc, false, true, ltb, leb, refl, sym, ap, ◌∙◌, arith, Option, Some, None, is_none, fold, lt-ltb, le-ltb, cases_Bool, leb-true, false≢true, Chunk, Gap, Block, end_of, gap_between, gaps_from, better, best_gap, least_len, Tell, BeginsLive, AreJoined, with_chunk, blocks_in, with_free, gaps_among}
+use Rattle.heap_core.proofs.Words.{◌≡◌, ℕ, ◌+◌, ◌-◌, ◌*◌, ◌≤◌, ◌<◌, ◌⊎◌, inl, inr, List, [], ◌∷◌, ◌++◌, length, false, true, ltb, refl, sym, ap, ◌∙◌, arith, Option, Some, None, is_none, fold, le-ltb, false≢true, Chunk, Gap, Block, end_of, gap_between, gaps_from, better, best_gap, least_len, Tell, BeginsLive, AreJoined, with_chunk, blocks_in, gaps_among}
 use Rattle.heap_core.proofs.ChunkHeaders.{place_told, owner_cases}
 
 abbrev pub with_gap : Chunk → Option ℕ → List Gap → List Gap
@@ -16,9 +16,6 @@ last_end header from blocks = fold (λ _ block. end_of header block) from blocks
 
 gap_none : (x : ℕ) (gaps : List Gap) → gap_between x x gaps ≡ gaps
 gap_none x gaps = let none : ltb x x ≡ false = le-ltb x x (omega arith) in rw none refl
-
-gap_some : (x y : ℕ) (gaps : List Gap) → x < y → gap_between x y gaps ≡ (let gap : Gap = record { at = x; len = y - x } in gap) ∷ gaps
-gap_some x y gaps h = let some : ltb x y ≡ true = lt-ltb x y h in rw some refl
 
 module _ (header : ℕ) (B : List ℕ) (b : ℕ) where
   pub none_in_front : (c : Chunk) (xs : List Block) → c.owner ≡ None → with_chunk header B b c c.owner xs ≡ xs

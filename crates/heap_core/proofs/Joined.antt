@@ -1,5 +1,5 @@
 -- A heap whose chunks are joined.
-use Rattle.heap_core.proofs.Words.{◌≡◌, ℕ, ◌+◌, ◌≤◌, List, length, sym, ap, ◌∙◌, subst, arith, filter, Contents, Region, HeapStore, has_name, gaps, heap_of, IsLaidOut, Joins, chunks_of, store_of, HasChunks, GapsLinked, FreedLinked, ArePlaced}
+use Rattle.heap_core.proofs.Words.{◌≡◌, ℕ, ◌+◌, List, length, sym, ◌∙◌, arith, Contents, Region, gaps, heap_of, IsLaidOut, Joins, store_of, HasChunks, GapsLinked, FreedLinked}
 use Rattle.heap_core.proofs.Freed.{plain}
 use Rattle.heap_core.proofs.Gaps.{gaps_are, gaps_many}
 

@@ -1,5 +1,5 @@
 -- What holds of both lengths of a header.
-use Rattle.heap_core.proofs.Words.{◌≡◌, ℕ, ◌+◌, ◌%◌, ◌≤◌, inl, inr, sym, subst, arith, cases_eq, Region, IsHeaderLength, least_room, shortest, IsWholeRoom}
+use Rattle.heap_core.proofs.Words.{◌≡◌, ℕ, ◌+◌, ◌%◌, ◌≤◌, inl, inr, sym, subst, arith, Region, IsHeaderLength, least_room, shortest, IsWholeRoom}
 
 -- a heap has one of the two
 pub header_length : (heap : Region) → IsHeaderLength heap.header

@@ -1,5 +1,5 @@
 -- The live blocks among the chunks.
-use Rattle.heap_core.proofs.Words.{◌≡◌, ℕ, ◌+◌, ◌-◌, ◌*◌, ◌≤◌, ◌<◌, ◌⊎◌, inl, inr, List, [], ◌∷◌, length, false, true, ltb, sum_by, refl, sym, ap, ◌∙◌, subst, arith, All, Option, Some, None, filter, lt-ltb, ltb-true, ltb-false, cases_Bool, All-nil, All-cons, sum_by-cons, length-range, Chunk, Gap, Block, end_of, gap_between, gaps_from, LieInOrder, shortest, least_len, Tell, AreJoined, with_chunk, blocks_in, is_a_name, is_named, block_in_chunk}
+use Rattle.heap_core.proofs.Words.{◌≡◌, ℕ, ◌+◌, ◌-◌, ◌*◌, ◌≤◌, ◌<◌, ◌⊎◌, inl, inr, List, [], ◌∷◌, length, false, ltb, sum_by, refl, sym, ap, ◌∙◌, subst, arith, All, Option, Some, None, filter, ltb-true, ltb-false, cases_Bool, All-nil, All-cons, sum_by-cons, length-range, Chunk, Gap, Block, end_of, gap_between, gaps_from, LieInOrder, shortest, least_len, Tell, AreJoined, with_chunk, blocks_in, is_a_name, is_named, block_in_chunk}
 use Rattle.heap_core.proofs.Freed.{owner_named}
 use Rattle.heap_core.proofs.Gaps.{last_end}
 use Rattle.heap_core.proofs.ChunkHeaders.{place_told, told_le}

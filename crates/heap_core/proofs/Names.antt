@@ -1,6 +1,5 @@
 -- The block of a name, and how many blocks a name has.
-use Rattle.heap_core.proofs.Words.{◌≡◌, ◌≢◌, ℕ, suc, ◌+◌, ◌≤◌, inl, inr, Bool, false, true, not, List, [], ◌∷◌, ◌++◌, length, eqb, ltb, refl, sym, ap, ◌∙◌, subst, arith, Option, Some, None, IsSome, filter, find, map, if◌then◌else◌, option_map, cases_Bool, cases_eq, eqb-true, eqb-false, false≢true, length-append, filter-append, Chunk, Block, has_name, placed, with_chunk, blocks_in, is_owner, owned_by, Owned, block_in_chunk}
-use Rattle.heap_core.proofs.ChunkHeaders.{owner_cases}
+use Rattle.heap_core.proofs.Words.{◌≡◌, ◌≢◌, ℕ, ◌+◌, ◌≤◌, inl, inr, Bool, true, not, List, [], ◌∷◌, ◌++◌, length, eqb, refl, sym, ap, ◌∙◌, arith, Option, Some, None, IsSome, filter, find, map, if◌then◌else◌, option_map, cases_Bool, cases_eq, eqb-true, false≢true, length-append, filter-append, Chunk, Block, has_name, placed, blocks_in, is_owner, owned_by, Owned, block_in_chunk}
 use Rattle.heap_core.proofs.Blocks.{count}
 
 pub find_is : (header : ℕ) (B : List ℕ) (b name : ℕ) (l : List Chunk) → find (has_name name) (blocks_in header B b l) ≡ option_map (block_in_chunk header B b name) (find (owned_by name) l)

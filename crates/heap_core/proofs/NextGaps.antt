@@ -1,5 +1,5 @@
 -- The gap that comes next behind free bytes.
-use Rattle.heap_core.proofs.Words.{◌≡◌, ◌≢◌, ℕ, ◌+◌, ◌≤◌, inl, inr, List, [], ◌∷◌, ◌++◌, refl, sym, ap, ◌∙◌, subst, arith, Option, None, append_assoc, append-nil, Chunk, Region, chunk_at, Tell, chunks_of, HasChunks, LinkedTo, gaps_among, gap_from, gap_of, front_gap}
+use Rattle.heap_core.proofs.Words.{◌≡◌, ◌≢◌, ℕ, ◌+◌, ◌≤◌, inl, inr, List, [], ◌∷◌, ◌++◌, refl, sym, ap, ◌∙◌, subst, arith, Option, None, append_assoc, append-nil, Chunk, Region, chunk_at, Tell, chunks_of, HasChunks, LinkedTo, gaps_among, gap_from, front_gap}
 use Rattle.heap_core.proofs.Lists.{linked_parted, linked_gap, linked_live, ends_of}
 use Rattle.heap_core.proofs.Standing.{Around, around}
 use Rattle.heap_core.proofs.ChunkHeaders.{place_told, owner_cases}

@@ -1,5 +1,5 @@
 -- The table of places: what is found of a name after a change of one block.
-use Rattle.heap_core.proofs.Words.{rules, ◌≡◌, ◌≢◌, ℕ, ◌+◌, ◌≤◌, ◌<◌, inl, inr, true, false, not, List, [], ◌∷◌, length, get_or, slice_set, replicate, zero, suc, eqb, refl, sym, ap, ◌∙◌, subst, arith, Option, Some, None, filter, find, map, if◌then◌else◌, nat_lt, option_map, get_or-set_same, get_or-set_other, length-set, cases_Bool, cases_eq, eq-eqb, ne_eqb, eqb-true, Span, Chunk, Place, Region, Block, HeapStore, has_name, find_block, placed, with_block, without_block, block_at, chunk_at, chunks_from, Tell, AreJoined, chunks_of, HasChunks, place_found, ArePlaced, owned_by, block_in_chunk}
+use Rattle.heap_core.proofs.Words.{rules, ◌≡◌, ◌≢◌, ℕ, ◌+◌, ◌≤◌, ◌<◌, inl, inr, true, false, not, List, [], ◌∷◌, get_or, slice_set, replicate, zero, suc, refl, sym, ap, ◌∙◌, subst, arith, Option, Some, None, filter, find, map, option_map, get_or-set_same, get_or-set_other, length-set, cases_eq, eq-eqb, ne_eqb, Chunk, Place, Region, Block, HeapStore, has_name, find_block, placed, with_block, without_block, block_at, chunk_at, chunks_of, HasChunks, place_found, ArePlaced, owned_by, block_in_chunk}
 use Rattle.heap_core.proofs.Stored.{IsStored}
 use Rattle.heap_core.proofs.Names.{find_is, owned}
 use Rattle.heap_core.proofs.Standing.{around}

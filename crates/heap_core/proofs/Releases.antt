@@ -1,5 +1,5 @@
 -- A block that is taken away, and the gaps beside it.
-use Rattle.heap_core.proofs.Words.{rules, ◌≡◌, ◌≢◌, ℕ, ◌+◌, ◌-◌, ◌%◌, ◌≤◌, ◌⊎◌, inl, inr, List, [], ◌∷◌, ◌++◌, length, slice_range, refl, sym, ap, ◌∙◌, subst, arith, true, eqb, All, Option, Some, None, fold, filter, append_assoc, length-append, filter-append, All-nil, All-cons, eq-eqb, ChangesOnly, Chunk, Region, Block, HeapStore, shortest, chunk_at, Tell, BeginsLive, AreJoined, with_chunk, blocks_in, chunks_of, HasChunks, gaps_among, LinkedTo, LiveIn, gap_count, Cleared, free_behind, free_from, gap_of, front_gap}
+use Rattle.heap_core.proofs.Words.{◌≡◌, ◌≢◌, ℕ, ◌+◌, ◌-◌, ◌%◌, ◌≤◌, ◌⊎◌, inl, inr, List, [], ◌∷◌, ◌++◌, length, refl, sym, ap, ◌∙◌, subst, arith, All, Option, Some, None, fold, filter, append_assoc, length-append, filter-append, All-nil, All-cons, eq-eqb, ChangesOnly, Chunk, Region, shortest, chunk_at, Tell, BeginsLive, AreJoined, with_chunk, blocks_in, chunks_of, HasChunks, gaps_among, LinkedTo, LiveIn, gap_count, Cleared, free_behind, free_from, gap_of, front_gap}
 use Rattle.heap_core.proofs.Lists.{gaps_append, gaps_counted, count_some, count_none, gap_first, live_first, link_gap}
 use Rattle.heap_core.proofs.Members.{In, in_of, in_without, in_skip, stands_of}
 use Rattle.heap_core.proofs.ChunkHeaders.{place_told, told_le, blocks_append, owner_cases, changes_more}

@@ -1,5 +1,5 @@
 -- A gap that is linked to another place.
-use Rattle.heap_core.proofs.Words.{rules, ◌≡◌, ℕ, ◌+◌, ◌-◌, List, [], ◌∷◌, ◌++◌, length, refl, sym, ap, ◌∙◌, subst, arith, Option, Some, None, append_assoc, ChangesOnly, Chunk, Region, HeapStore, chunk_at, Tell, AreJoined, blocks_in, chunks_of, store_of, HasChunks, LinkedTo, gaps_among, Stands, last_of, LinkChanged}
+use Rattle.heap_core.proofs.Words.{◌≡◌, ℕ, ◌+◌, ◌-◌, List, [], ◌∷◌, ◌++◌, length, refl, sym, ap, ◌∙◌, subst, arith, Option, Some, None, append_assoc, ChangesOnly, Chunk, Region, chunk_at, Tell, AreJoined, chunks_of, store_of, HasChunks, LinkedTo, gaps_among, Stands, last_of, LinkChanged}
 use Rattle.heap_core.proofs.Gaps.{none_in_front}
 use Rattle.heap_core.proofs.Lists.{gaps_counted, gap_first, linked_append, linked_again, last_gap}
 use Rattle.heap_core.proofs.Members.{live_exchanged}

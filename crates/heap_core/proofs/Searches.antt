@@ -1,5 +1,5 @@
 -- The search along the links for the shortest gap that is long enough.
-use Rattle.heap_core.proofs.Words.{rules, ◌≡◌, ℕ, ◌≤◌, ◌<◌, inl, inr, List, [], ◌∷◌, length, true, false, leb, ltb, refl, sym, ap, ◌∙◌, subst, arith, Option, Some, None, fold, option_map_or, cases_Bool, le-leb, lt-leb, le-ltb, leb-true, ltb-false, Chunk, Gap, Region, shorter, best_gap, gaps, chunk_at, chunks_of, HasChunks, store_of, LinkedTo, Follow, gaps_from_place}
+use Rattle.heap_core.proofs.Words.{◌≡◌, ℕ, ◌≤◌, ◌<◌, inl, inr, List, [], ◌∷◌, length, true, false, leb, ltb, refl, sym, ap, ◌∙◌, arith, Option, Some, None, fold, option_map_or, cases_Bool, le-leb, lt-leb, ltb-false, Chunk, Gap, Region, shorter, best_gap, gaps, chunk_at, chunks_of, HasChunks, store_of, LinkedTo, Follow, gaps_from_place}
 use Rattle.heap_core.proofs.Gaps.{better_chunk, better_same, gaps_are}
 use Rattle.heap_core.proofs.Lists.{NextGap, walk_begins, next_gap, no_gap}
 use Rattle.heap_core.proofs.ChunkHeaders.{place_told}

@@ -1,5 +1,5 @@
 -- The live blocks lie apart in the arena.
-use Rattle.heap_core.proofs.Words.{◌≡◌, ◌≢◌, ℕ, ◌+◌, ◌≤◌, ◌<◌, ◌⊎◌, inl, inr, List, [], ◌∷◌, length, slice_range, refl, sym, ap, ◌∙◌, subst, arith, Option, find, option_map, number_of, LiesIn, AreApart, Chunk, Region, Block, find_block, heap_of, IsLaidOut, extent_of, bytes_behind_header, BlocksLieApart, Tell, chunks_of, store_of, owned_by, Owned, block_in_chunk, Some, None}
+use Rattle.heap_core.proofs.Words.{◌≡◌, ◌≢◌, ℕ, ◌+◌, ◌≤◌, ◌<◌, ◌⊎◌, inl, inr, List, [], ◌∷◌, length, slice_range, refl, sym, ap, ◌∙◌, subst, arith, Option, find, option_map, LiesIn, AreApart, Chunk, Region, Block, find_block, heap_of, IsLaidOut, extent_of, bytes_behind_header, BlocksLieApart, Tell, chunks_of, store_of, owned_by, Owned, block_in_chunk, Some, None}
 use Rattle.heap_core.proofs.Bodies.{a, block_bytes}
 use Rattle.heap_core.proofs.Members.{In, in_of, in_told}
 use Rattle.heap_core.proofs.Names.{find_is, owned}

@@ -1,5 +1,5 @@
 -- Chunks that others take the place of.
-use Rattle.heap_core.proofs.Words.{rules, ◌≡◌, ℕ, ◌+◌, ◌-◌, ◌≤◌, ◌<◌, inl, inr, List, [], ◌∷◌, ◌++◌, length, false, true, ltb, refl, sym, ap, ◌∙◌, subst, arith, Option, None, lt-ltb, le-ltb, ChangesOnly, Span, Chunk, Region, HeapStore, chunks_from, Tell, BeginsLive, IsWhole, AreJoined, blocks_in, chunks_of, store_of, HasChunks, LiveIn, laid}
+use Rattle.heap_core.proofs.Words.{◌≡◌, ℕ, ◌+◌, ◌-◌, ◌≤◌, ◌<◌, inl, inr, List, [], ◌∷◌, ◌++◌, length, false, true, ltb, refl, sym, ap, ◌∙◌, subst, arith, Option, None, lt-ltb, le-ltb, ChangesOnly, Span, Chunk, Region, HeapStore, chunks_from, Tell, BeginsLive, IsWhole, AreJoined, blocks_in, chunks_of, store_of, HasChunks, LiveIn, laid}
 use Rattle.heap_core.proofs.Members.{In, in_of, in_left, in_right, in_cases, stands_of}
 use Rattle.heap_core.proofs.ChunkHeaders.{told_le, told_append, told_frame, blocks_frame, blocks_append, walked}
 

@@ -1,5 +1,5 @@
 -- A chunk that stands among the others.
-use Rattle.heap_core.proofs.Words.{◌≡◌, ℕ, ◌+◌, ◌≤◌, List, ◌∷◌, ◌++◌, refl, sym, ap, ◌∙◌, subst, arith, Chunk, Region, least_len, chunk_at, Tell, chunks_of, HasChunks, Stands, chunks_before, chunks_behind}
+use Rattle.heap_core.proofs.Words.{◌≡◌, ℕ, ◌+◌, ◌≤◌, List, ◌∷◌, ◌++◌, arith, Chunk, Region, least_len, chunk_at, Tell, chunks_of, HasChunks, Stands, chunks_before, chunks_behind}
 use Rattle.heap_core.proofs.ChunkHeaders.{place_told, told_le, told_split, walked}
 
 pub record Around (header : ℕ) (B : List ℕ) (b end : ℕ) (chunk : Chunk) (chunks : List Chunk) : Type 0 where

@@ -1,5 +1,5 @@
 -- A walk over the chunks: where it stands, and its next step.
-use Rattle.heap_core.proofs.Words.{◌≡◌, ℕ, ◌+◌, ◌≤◌, ◌<◌, List, [], ◌∷◌, refl, sym, ap, ◌∙◌, subst, arith, Chunk, least_len, chunk_at, Tell, Region, chunks_between}
+use Rattle.heap_core.proofs.Words.{◌≡◌, ℕ, ◌+◌, ◌≤◌, ◌<◌, List, [], ◌∷◌, refl, arith, Chunk, least_len, chunk_at, Tell, Region, chunks_between}
 use Rattle.heap_core.proofs.ChunkHeaders.{place_told, told_le, walked}
 
 -- the first of the chunks that a walk has still to come to, and the others

@@ -1,5 +1,5 @@
 -- What is known of all chunks, those that were freed and are not joined yet among them.
-use Rattle.heap_core.proofs.Words.{◌≡◌, ℕ, ◌≤◌, ◌<◌, List, [], ◌∷◌, length, true, false, inl, inr, refl, sym, ap, ◌∙◌, subst, arith, Some, filter, find, option_map, cases_Bool, eqb-true, lt-ltb, ltb-true, false≢true, Region, Block, has_name, IsLaidOut, heap_of, is_named, block_in_chunk, chunks_of, owned_by, find_block, number_of, Chunk, Option, store_of, HasChunks, ArePlaced}
+use Rattle.heap_core.proofs.Words.{◌≡◌, ℕ, ◌≤◌, ◌<◌, List, [], ◌∷◌, length, true, false, refl, arith, Some, filter, find, option_map, eqb-true, lt-ltb, Region, Block, has_name, IsLaidOut, heap_of, is_named, block_in_chunk, chunks_of, owned_by, find_block, number_of, Chunk, Option, store_of, HasChunks, ArePlaced}
 use Rattle.heap_core.proofs.Names.{find_is}
 
 -- the headers in the heap's span tell chunks, each name has one at most, and the table tells where it is

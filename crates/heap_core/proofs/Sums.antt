@@ -1,9 +1,9 @@
 -- What the statistics have counted while they walk over the chunks.
-use Rattle.heap_core.proofs.Words.{rules, ◌≡◌, ℕ, ◌+◌, ◌-◌, ◌*◌, ◌≤◌, List, [], ◌∷◌, length, sum_by, true, false, sym, ap, ◌∙◌, subst, arith, mul-le, sum_by-cons, Chunk, Region, Block, footprint, stats_of, LieInOrder, heap_of, is_a_name, Tell, chunks_of, HasChunks, block_in_chunk}
+use Rattle.heap_core.proofs.Words.{◌≡◌, ℕ, ◌+◌, ◌-◌, ◌*◌, ◌≤◌, List, [], ◌∷◌, length, sum_by, true, false, sym, ap, ◌∙◌, arith, mul-le, sum_by-cons, Chunk, Region, Block, footprint, stats_of, LieInOrder, heap_of, is_a_name, Tell, chunks_of, HasChunks, block_in_chunk}
 use Rattle.mote_types.specs.declared.reply.HeapStats.{HeapStats}
 use Rattle.heap_core.proofs.Freed.{owner_named}
 use Rattle.heap_core.proofs.Gaps.{last_end}
-use Rattle.heap_core.proofs.Live.{live_of, named_here, named_skip, live_in_order, all_bytes}
+use Rattle.heap_core.proofs.Live.{live_of, named_here, live_in_order, all_bytes}
 use Rattle.heap_core.proofs.Steps.{First, first_of}
 
 abbrev room_sum : List Block → ℕ

@@ -1,5 +1,5 @@
 -- A header that is written: what it tells then, and that no other byte changed.
-use Rattle.heap_core.proofs.Words.{◌≡◌, ℕ, ◌+◌, ◌≤◌, ◌<◌, ◌^◌, ◌⊎◌, inl, List, length, true, false, sym, ap, ◌∙◌, subst, arith, Option, None, from_le_bytes, to_le_bytes, w32, from_le_bytes-to_le_bytes_4, Contents, contents, ChangesOnly, written, range-written, range-written_apart, changes_only, word_at, number_in, is_a_name, owner_in, size_in, chunk_at}
+use Rattle.heap_core.proofs.Words.{◌≡◌, ℕ, ◌+◌, ◌≤◌, ◌<◌, ◌^◌, ◌⊎◌, List, length, true, false, sym, ap, ◌∙◌, subst, arith, Option, None, from_le_bytes, to_le_bytes, w32, from_le_bytes-to_le_bytes_4, Contents, contents, ChangesOnly, written, range-written, range-written_apart, changes_only, word_at, number_in, is_a_name, owner_in, size_in, chunk_at}
 use Rattle.heap_core.proofs.ChunkHeaders.{chunk_of, chunk_is, link_named, link_free, changes_then, changes_more}
 
 -- in Y that word stands at i, and all else is as in X
