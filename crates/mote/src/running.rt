@@ -83,6 +83,9 @@ pub fn run_words<'a, S: ByteSource, K: ByteSink>(
     ensures read_fault { IsErrOf result Refused.Read ↔ (S.failure_count source.old < S.failure_count source.new) }
     ensures write_fault { IsErrOf result Refused.Write ↔ (K.failure_count sink.old < K.failure_count sink.new) }
 {
-    let prepared = prepare(alloc, words)?;
-    run_prepared(alloc, prepared, source, sink)
+    // No `?`: it would clear and copy the room of a kernel three times more.
+    match prepare(alloc, words) {
+        Ok(prepared) => run_prepared(alloc, prepared, source, sink),
+        Err(failure) => Err(failure),
+    }
 }
