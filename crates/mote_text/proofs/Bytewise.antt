@@ -7,17 +7,8 @@ use Rattle.std.proofs.lemmas.List.Splits.{slice_split-cons_yes, slice_split-cons
 use Rattle.std.proofs.Math.Seq.{take-nil}
 use Rattle.mote_text.specs.declared.script.End.{End}
 use Rattle.mote_text.proofs.WholeLines.{some_part}
+use Rattle.mote_text.specs.Code.Reading.{read_on}
 use Rattle.mote_text.specs.Script.{Reading, with_line, read_line, read_lines, line_limit, script_limit, with_last_line, parts, inputs}
-
--- what the rest of a script gives, where its present line, of this number, begins so, and where so many more bytes may
--- be read
-unfoldable pub read_on : ℕ → List ℕ → ℕ → List ℕ → Reading
-read_on number line room [] = with_line number (read_line line) ([], End.Finished)
-read_on number line zero (byte ∷ rest) = ([], End.TooLong)
-read_on number line (suc room) (byte ∷ rest) =
-    if byte == 10 then with_line number (read_line line) (read_on (number + 1) [] room rest)
-    else if nat_lt (length line) line_limit then read_on number (line ++ byte ∷ []) room rest
-    else ([], End.BadLine number)
 
 -- the same by lines
 

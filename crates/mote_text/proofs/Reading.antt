@@ -5,16 +5,12 @@ use Rattle.mote_types.specs.declared.entry.Input.{Input}
 use Rattle.mote_text.specs.declared.script.End.{End}
 use Rattle.mote_text.specs.Script.{preceded_by, with_line, read_line, line_limit, script_limit, inputs, read_lines, whole_lines}
 use Rattle.mote_text.proofs.WholeLines.{inputs_of_short, whole_lines_stay, lines_end_whole}
-use Rattle.mote_text.proofs.Bytewise.{read_on, inputs_by_bytes}
+use Rattle.mote_text.specs.Code.Reading.{Before, read_on}
+use Rattle.mote_text.proofs.Bytewise.{inputs_by_bytes}
 
 pub script_limit_is : script_limit ≡ 16_777_216
 unfolding script_limit
 script_limit_is = refl
-
--- these bytes were taken: they end the lines of these inputs, and begin the present line, which has this number
-pub record Before (taken : List ℕ) (earlier : List Input) (number : ℕ) (line : List ℕ) : Type 0 where
-  pub whole : read_lines 1 End.Finished (whole_lines taken) ≡ (earlier, End.Finished)
-  pub onward : (rest : List ℕ) → inputs (taken ++ rest) ≡ preceded_by earlier (read_on number line (script_limit - length taken) rest)
 
 -- what every script gives that begins with these bytes
 abbrev pub Gives : List ℕ → List Input → End → Type 0

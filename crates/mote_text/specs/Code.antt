@@ -1,3 +1,4 @@
 pub mod CallWords
 pub mod LineAnswers
 pub mod Lines
+pub mod Reading
