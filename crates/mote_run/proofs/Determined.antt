@@ -13,7 +13,7 @@ use Rattle.mote_run.specs.RunText.{IsRunText}
 use Rattle.kernel_core.specs.Run.{at_start, Running, Runs, ComesToRest, after_step, after_steps, answers_after, one_step, is_still, with_input}
 use Rattle.kernel_core.proofs.Still.{still_after_steps}
 
-steps_plus : (says : Applications) (n k : ℕ) (r : Running) → after_steps says (n + k) r ≡ after_steps says k (after_steps says n r)
+pub steps_plus : (says : Applications) (n k : ℕ) (r : Running) → after_steps says (n + k) r ≡ after_steps says k (after_steps says n r)
 steps_plus says zero k r = rw zero-add refl
 steps_plus says (suc n) k r = rw suc-add (steps_plus says n k (after_step says r))
 
@@ -54,40 +54,6 @@ pub runs_one : (says : Applications) (inputs : List Input) (a b c : Running) →
 runs_one says [] a b c x y = rest_one says a b c x y
 runs_one says (input ∷ later) a b c (m, e, stop, go) (k, h, stop', go') =
     runs_one_on says input later b c m k (runs_one says later) (rest_one says a m k e h) stop go stop' go' m.machine.is_halted refl
-
--- the entries of a run stay: others come behind them
-pub record Extends (old new : Running) : Type 0 where
-  pub more : List Entry
-  pub entries : new.entries ≡ old.entries ++ more
-
-extends_on : (a b c : Running) → Extends a b → Extends b c → Extends a c
-extends_on a b c x y = record { more = x.more ++ y.more; entries = rw (y.entries, x.entries) (append_assoc a.entries x.more y.more) }
-
-extends_here : (a : Running) → Extends a a
-extends_here a = record { more = []; entries = sym (append-nil a.entries) }
-
-steps_extend : (says : Applications) (n : ℕ) (a : Running) → Extends a (after_steps says n a)
-steps_extend says zero a = extends_here a
-steps_extend says (suc n) a =
-    let first : Extends a (after_step says a) = record { more = option_to_list (one_step (answers_after says a.entries) a.machine).1; entries = refl } in
-    extends_on a (after_step says a) (after_steps says n (after_step says a)) first (steps_extend says n (after_step says a))
-
-rest_extends : (says : Applications) (a b : Running) → ComesToRest says a b → Extends a b
-rest_extends says a b (n, e, still) = rw e at (steps_extend says n a)
-
-run_goes_on : (says : Applications) (input : Input) (later : List Input) (m w : Running) → ((a w : Running) → Runs says a later w → Extends a w) →
-    (m.machine.is_halted ≡ true → w ≡ m) → (m.machine.is_halted ≡ false → Runs says (with_input input m) later w) →
-    (h : Bool) → m.machine.is_halted ≡ h → Extends m w
-run_goes_on says input later m w grow stop go true h = rw (stop h) (extends_here m)
-run_goes_on says input later m w grow stop go false h =
-    let e = grow (with_input input m) w (go h) in
-    record { more = e.more; entries = e.entries }
-
-pub run_extends : (says : Applications) (later : List Input) (a w : Running) → Runs says a later w → Extends a w
-run_extends says [] a w r = rest_extends says a w r
-run_extends says (input ∷ later) a w (m, rests, stop, go) =
-    extends_on a m w (rest_extends says a m rests)
-    (run_goes_on says input later m w (λ a w r. run_extends says later a w r) stop go m.machine.is_halted refl)
 
 module _ {config : Config} {says : Applications} {quiet : Bool} {script out also : List ℕ} {end ends : End} where
   one_last : (x : IsRunText config says quiet script out end) (y : IsRunText config says quiet script also ends) → x.last ≡ y.last

@@ -1,40 +1,33 @@
 -- Worked examples: what counts as read, and a run on a script that was read to its end.
-use Rattle.std.proofs.Common.{◌≡◌, ℕ, Bool, true, List, [], ◌∷◌, ◌++◌, refl, sym, subst, ap, append-nil, ◌∙◌}
+use Rattle.std.proofs.Common.{◌≡◌, ℕ, Bool, true, List, [], ◌∷◌, ◌++◌, refl, sym, subst, append-nil}
 use Rattle.mote_types.specs.Applications.{Applications}
 use Rattle.mote_text.specs.declared.script.End.{End}
 use Rattle.kernel_core.specs.declared.config.Config.{Config}
-use Rattle.mote_run.specs.RunText.{HasRead, HasRun, HasRunInPart, IsRunText}
+use Rattle.mote_run.specs.RunText.{Exchange, HasRead, HasRun, HasRunInPart, IsRunText}
 
 -- two bytes, behind one that was read before
 two_read : HasRead 2 (116 ∷ []) (116 ∷ 105 ∷ 99 ∷ [])
 two_read = record { bytes = 105 ∷ 99 ∷ []; taken = refl; size = refl }
 
--- where all of a script was read, and the text of its run was written, that is a run
+-- all of a script was read
+abbrev all_of : List ℕ → List ℕ → Exchange
+all_of script out = record { read = script; is_ended = true; written = out }
+
+-- where the text of its run was written, that is a run
 whole_run : (config : Config) (says : Applications) (quiet : Bool) (script out : List ℕ) (end : End) → IsRunText config says quiet script out end →
-    HasRun config says quiet [] script true [] out end
-whole_run config says quiet script out end run =
-    record {
-      bytes = script;
-      out = out;
-      taken = refl;
-      given = refl;
-      is_text = λ more none.
-          let all : script ++ more ≡ script = rw (none refl) (append-nil script) in
-          subst (λ (bytes : List ℕ). IsRunText config says quiet bytes out end) (sym all) run;
-    }
+    HasRun config says quiet (all_of script out) end
+whole_run config says quiet script out end run = λ more none.
+    let all : script ++ more ≡ script = rw (none refl) (append-nil script) in
+    subst (λ (bytes : List ℕ). IsRunText config says quiet bytes out end) (sym all) run
 
 -- and no other text is
-text_of_run : (config : Config) (says : Applications) (quiet : Bool) (script out : List ℕ) (end : End) → HasRun config says quiet [] script true [] out end →
+text_of_run : (config : Config) (says : Applications) (quiet : Bool) (script out : List ℕ) (end : End) → HasRun config says quiet (all_of script out) end →
     IsRunText config says quiet script out end
 text_of_run config says quiet script out end run =
-    let all : run.bytes ++ [] ≡ script = append-nil run.bytes ∙ sym run.taken in
-    subst (λ (written : List ℕ). IsRunText config says quiet script written end) (sym run.given)
-    (subst (λ (bytes : List ℕ). IsRunText config says quiet bytes run.out end) all (run.is_text [] (λ ended. refl)))
+    subst (λ (bytes : List ℕ). IsRunText config says quiet bytes out end) (append-nil script) (run [] (λ ended. refl))
 
 -- where a device failed behind the end of a script, what was written begins its text
-front_of_text : (config : Config) (says : Applications) (quiet : Bool) (script out whole : List ℕ) (end : End) → HasRunInPart config says quiet [] script true [] out → IsRunText config says quiet script whole end →
+front_of_text : (config : Config) (says : Applications) (quiet : Bool) (script out whole : List ℕ) (end : End) → HasRunInPart config says quiet (all_of script out) → IsRunText config says quiet script whole end →
     (rest : List ℕ) × (whole ≡ out ++ rest)
 front_of_text config says quiet script out whole end part text =
-    let all : script ≡ part.bytes ++ [] = part.taken ∙ sym (append-nil part.bytes) in
-    let front = part.is_front [] (λ ended. refl) whole end (subst (λ (bytes : List ℕ). IsRunText config says quiet bytes whole end) all text) in
-    (front.0, front.1 ∙ ap (λ (written : List ℕ). written ++ front.0) (sym part.given))
+    part [] (λ ended. refl) whole end (subst (λ (bytes : List ℕ). IsRunText config says quiet bytes whole end) (sym (append-nil script)) text)

@@ -1,6 +1,6 @@
 -- A line that is read as a frame gives at least one byte, and one that is read as a tick a number below 2 ^ 32.
 use Rattle.std.proofs.Common.{◌≡◌, ℕ, ◌*◌, ◌<◌, ◌^◌, Bool, true, false, cond, List, length, refl, ap, subst, sym, arith}
-use Rattle.std.specs.Prelude.{Option, Some, None, Result, Ok, Err, option_map, option_and_then, nat_le, nat_lt, unwrap_or, codes, ◌&&◌}
+use Rattle.std.specs.Prelude.{Option, Some, None, Result, Ok, Err, option_map, option_and_then, nat_le, nat_lt, unwrap_or, codes, ◌&&◌, IfOk}
 use Rattle.std.specs.Option.{option_or}
 use Rattle.std.specs.Result.{result_ok}
 use Rattle.std.specs.Str.Parse.{digits_value}
@@ -11,7 +11,8 @@ use Rattle.mote_types.specs.declared.entry.Input.{Input}
 use Rattle.mote_text.specs.Script.{argument_of, is_number, read_bytes, read_number, read_frame, read_line, read_serial, read_tick, read_words, line_limit, says_nothing}
 use Rattle.kernel_core.specs.Inputs.{has_bytes, ticks_of}
 use Rattle.mote_text.specs.declared.lines.Taken.{Taken}
-use Rattle.mote_run.specs.Code.Reading.{Took, said}
+use Rattle.mote_text.specs.declared.script.BadLine.{BadLine}
+use Rattle.mote_run.specs.Code.Reading.{CanBeFed, ReadPart, said}
 
 -- what a choice gives, one of the two gives
 either_gives : {A : Type 0} (P : A → Type 0) (a b : Option A) → ((x : A) → a ≡ Some x → P x) → ((x : A) → b ≡ Some x → P x) →
@@ -57,10 +58,6 @@ small_number text n e =
     let same : digits_value 10 text ≡ n = ap (λ o. unwrap_or o 0) t.1 in
     grind (arith, nat_tests, t.0, same)
 
--- what can be handed in
-abbrev pub CanBeFed : Input → Type 0
-CanBeFed input = (has_bytes input ≡ true) × (ticks_of input < 2 ^ 32)
-
 words_give : (line : List ℕ) (input : Input) → read_words line ≡ Some input → CanBeFed input
 words_give line =
     let Has : Input → Type 0 = λ input. CanBeFed input in
@@ -89,8 +86,8 @@ said_can_be_fed Taken.Line bytes input says = input_can_be_fed bytes input says
 said_can_be_fed Taken.More bytes input says = absurd (let e : None ≡ Some input = ap (λ o. unwrap_or o None) says in cc)
 said_can_be_fed Taken.TooWide bytes input says = absurd (cc)
 
-pub took_can_be_fed : {line piece line_later later : List ℕ} {count count_later number number_later : ℕ} {input : Input} →
-    Took line piece line_later later count count_later number number_later (Ok true) input → CanBeFed input
-took_can_be_fed {input = input} t =
-    let says : said t.last t.bytes ≡ Some (Some input) = sym t.says_so in
-    said_can_be_fed t.last t.bytes input says
+pub part_can_be_fed : {line piece line_later : List ℕ} {used number number_later : ℕ} {input : Input} (says : Result Bool BadLine) →
+    ReadPart line piece line_later used number number_later says input → IfOk says (λ is_input. is_input ≡ true → CanBeFed input)
+part_can_be_fed {input = input} (Ok true) r = λ h. said_can_be_fed r.last r.bytes input (sym r.says_so)
+part_can_be_fed (Ok false) r = λ h. absurd (cc)
+part_can_be_fed (Err fault) r = tt

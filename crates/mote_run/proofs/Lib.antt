@@ -1,13 +1,13 @@
 pub mod Determined
-pub mod Ended
 mod Examples
-pub mod Fronts
 pub mod GivenBytes
-pub mod InRun
-pub mod NextPart
+pub mod HandedOn
+pub mod LoopInvariant
 pub mod Pieces
+pub mod Promise
+pub mod ReadOn
 pub mod ReadSoFar
-pub mod Settling
-pub mod Trace
+pub mod Steps
+pub mod Ways
 pub mod Windows
 pub mod Writing

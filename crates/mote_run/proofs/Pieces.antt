@@ -1,7 +1,8 @@
 -- Small facts on results and on front parts.
 use Rattle.std.proofs.Common.{◌≡◌, ◌+◌, ◌-◌, ◌++◌, ◌≤◌, ◌∙◌, ℕ, List, length, take, drop, ap, subst, sym, arith, append_assoc}
-use Rattle.std.specs.Prelude.{IfOk, IsErrOf, OnErr, OnOk, Ok, Err, Result}
+use Rattle.std.specs.Prelude.{Bool, true, false, IfErr, IfOk, IsErr, IsErrOf, OnErr, OnOk, Ok, Err, Result}
 use Rattle.std.specs.Result.{IsErrAnd}
+use Rattle.mote_run.specs.declared.run.RunFault.{RunFault}
 use Rattle.std.proofs.Math.Seq.{take-add}
 use Rattle.std.proofs.lemmas.List.{take_all, length-drop}
 
@@ -22,25 +23,26 @@ pub on_err : {T E P : Type 0} (r : Result T E) → P → OnErr r P
 on_err (Ok value) p = tt
 on_err (Err e) p = p
 
--- a success with this value
-pub ended_with : {T E : Type 0} {Q : Type 0} (P : T → Type 0) (r : Result T E) (value : T) → IfOk r (λ x. x ≡ value) → OnOk r Q → (Q → P value) → IfOk r P
-ended_with P (Ok x) value is q f = subst P (sym is) (f q)
-ended_with P (Err e) value is q f = tt
+-- and what is asked of a value alone, holds of an error
+pub no_ok : {T E : Type 0} (P : Type 0) (r : Result T E) → IsErr r → OnOk r P
+no_ok P (Ok value) h = absurd (let bad : false ≡ true = h in cc)
+no_ok P (Err e) h = tt
 
--- a success after which this holds
-pub succeeded_with : {T E Q P : Type 0} (r : Result T E) → OnOk r Q → (Q → P) → OnOk r P
-succeeded_with (Ok value) q f = f q
-succeeded_with (Err e) q f = tt
+pub no_value : {T E : Type 0} (P : T → Type 0) (r : Result T E) → IsErr r → IfOk r P
+no_value P (Ok value) h = absurd (let bad : false ≡ true = h in cc)
+no_value P (Err e) h = tt
+
+-- a write that failed is no read
+pub not_read : {T : Type 0} (r : Result T RunFault) → IsErrAnd r (λ fault. fault ≡ RunFault.Write) → IsErrOf r RunFault.Read → ⊥
+not_read r is_write is_read = absurd (let e : RunFault.Read ≡ RunFault.Write = subst (λ v. IsErrAnd v (λ fault. fault ≡ RunFault.Write)) is_read is_write in cc)
+
+pub no_read : {T : Type 0} (r : Result T RunFault) → IfErr r (λ fault. fault ≡ RunFault.Write) → IsErrOf r RunFault.Read → ⊥
+no_read r is_write is_read = absurd (let e : RunFault.Read ≡ RunFault.Write = subst (λ v. IfErr v (λ fault. fault ≡ RunFault.Write)) is_read is_write in cc)
 
 -- a failure after which this holds
 pub failed_with : {T E Q P : Type 0} (r : Result T E) → OnErr r Q → (Q → P) → OnErr r P
 failed_with (Ok value) q f = tt
 failed_with (Err e) q f = f q
-
--- a success after which this holds
-pub ok_then : {T E : Type 0} {P Q : T → Type 0} (r : Result T E) → IfOk r P → ((x : T) → P x → Q x) → IfOk r Q
-ok_then (Ok value) p f = f value p
-ok_then (Err e) p f = tt
 
 -- a `?` hands on the same error
 pub same_error : {T U E : Type 0} (r : Result T E) (e kind : E) → IsErrAnd r (λ x. x ≡ e) → IsErrOf r kind → IsErrOf {T = U} (Err e) kind

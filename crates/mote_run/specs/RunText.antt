@@ -1,5 +1,5 @@
 -- What a run writes.
-use Rattle.std.specs.Prelude.{◌≡◌, ℕ, Bool, true, length, List, [], ◌++◌}
+use Rattle.std.specs.Prelude.{◌≡◌, ℕ, Bool, true, length, List, [], ◌++◌, Result, IfOk, OnErr, IsErrOf}
 use Rattle.mote_types.specs.Applications.{Applications}
 use Rattle.mote_types.specs.declared.entry.Input.{Input}
 use Rattle.mote_text.specs.declared.script.End.{End}
@@ -10,50 +10,65 @@ use Rattle.kernel_core.specs.Machine.{booted, is_bootable}
 use Rattle.kernel_core.specs.Mote.{Mote}
 use Rattle.kernel_core.specs.Run.{Running, Runs, at_start}
 
--- out is the text of the machine's run on the script's inputs, all of it and nothing else, and this is how it ends. A quiet text
--- has the lines of the entries alone that are shown in it
-pub record IsRunText (config : Config) (says : Applications) (quiet : Bool) (script out : List ℕ) (end : End) : Type 0 where
-  pub last : Running
-  pub runs : Runs says (at_start config) (inputs script).0 last
-  pub ends : end ≡ end_of last.entries (inputs script).1
-  pub is_text : out ≡ text (shown quiet last.entries) end
-
 -- so many bytes were read
 pub record HasRead (count : ℕ) (taken_old taken_new : List ℕ) : Type 0 where
   pub bytes : List ℕ
   pub taken : taken_new ≡ taken_old ++ bytes
   pub size : length bytes ≡ count
 
--- what was read and written is a run of the script, for whatever more the script has where its end was not read
-pub record HasRun (config : Config) (says : Applications) (quiet : Bool) (taken_old taken_new : List ℕ) (is_ended : Bool) (given_old given_new : List ℕ) (end : End) : Type 0 where
-  pub bytes : List ℕ
-  pub out : List ℕ
-  pub taken : taken_new ≡ taken_old ++ bytes
-  pub given : given_new ≡ given_old ++ out
-  pub is_text : (more : List ℕ) → (is_ended ≡ true → more ≡ []) → IsRunText config says quiet (bytes ++ more) out end
+-- what went through the two devices of a run
+pub record Exchange : Type 0 where
+  -- the bytes that were read, and whether their end was
+  pub read : List ℕ
+  pub is_ended : Bool
+  -- the bytes that were written
+  pub written : List ℕ
 
--- A device failed: what was written is a front part of the text of every script that begins with the bytes read; of their own
--- text, where their end was read
-pub record HasRunInPart (config : Config) (says : Applications) (quiet : Bool) (taken_old taken_new : List ℕ) (is_ended : Bool) (given_old given_new : List ℕ) : Type 0 where
-  pub bytes : List ℕ
-  pub out : List ℕ
-  pub taken : taken_new ≡ taken_old ++ bytes
-  pub given : given_new ≡ given_old ++ out
-  pub is_front : (more : List ℕ) → (is_ended ≡ true → more ≡ []) → (whole : List ℕ) (end : End) →
-      IsRunText config says quiet (bytes ++ more) whole end → (rest : List ℕ) × (whole ≡ out ++ rest)
+-- this holds of what went through devices, of which so much had been taken and given before, and was after it
+pub record Exchanged (taken_old taken_new : List ℕ) (is_ended : Bool) (given_old given_new : List ℕ) (P : Exchange → Type 0) : Type 0 where
+  pub read : List ℕ
+  pub written : List ℕ
+  pub taken : taken_new ≡ taken_old ++ read
+  pub given : given_new ≡ given_old ++ written
+  pub holds : P (record { read = read; is_ended = is_ended; written = written })
 
--- Reading failed: each whole line among the bytes read has a form, and what was written is the text of the machine's run on
--- their inputs, all of it and nothing else
-pub record HasRunOnWholeLines (config : Config) (says : Applications) (quiet : Bool) (taken_old taken_new given_old given_new : List ℕ) : Type 0 where
-  pub bytes : List ℕ
-  pub out : List ℕ
-  pub taken : taken_new ≡ taken_old ++ bytes
-  pub given : given_new ≡ given_old ++ out
-  pub inputs : List Input
-  pub have_form : read_lines 1 End.Finished (whole_lines bytes) ≡ (inputs, End.Finished)
-  pub last : Running
-  pub runs : Runs says (at_start config) inputs last
-  pub is_text : out ≡ text (shown quiet last.entries) End.Finished
+-- this holds of each script that begins with the bytes read; of these alone, where their end was read
+abbrev pub OfEachScript : Exchange → (List ℕ → Type 0) → Type 0
+OfEachScript exchange P = (more : List ℕ) → (exchange.is_ended ≡ true → more ≡ []) → P (exchange.read ++ more)
+
+module _ (config : Config) (says : Applications) (quiet : Bool) where
+  -- out is the text of the machine's run on the script's inputs, all of it and nothing else, and this is how it ends. A quiet
+  -- text has the lines of the entries alone that are shown in it
+  pub record IsRunText (script out : List ℕ) (end : End) : Type 0 where
+    pub last : Running
+    pub runs : Runs says (at_start config) (inputs script).0 last
+    pub ends : end ≡ end_of last.entries (inputs script).1
+    pub is_text : out ≡ text (shown quiet last.entries) end
+
+  -- what was read and written is a run of the script, for whatever more the script has where its end was not read
+  abbrev pub HasRun : Exchange → End → Type 0
+  HasRun exchange end = OfEachScript exchange (λ script. IsRunText script exchange.written end)
+
+  -- A device failed: what was written is a front part of the text of every script that begins with the bytes read; of their own
+  -- text, where their end was read
+  abbrev pub HasRunInPart : Exchange → Type 0
+  HasRunInPart exchange =
+      OfEachScript exchange (λ script. (whole : List ℕ) (end : End) → IsRunText script whole end → (rest : List ℕ) × (whole ≡ exchange.written ++ rest))
+
+  -- Reading failed: each whole line among the bytes read has a form, and what was written is the text of the machine's run on
+  -- their inputs, all of it and nothing else
+  pub record HasRunOnWholeLines (exchange : Exchange) : Type 0 where
+    pub inputs : List Input
+    pub have_form : read_lines 1 End.Finished (whole_lines exchange.read) ≡ (inputs, End.Finished)
+    pub last : Running
+    pub runs : Runs says (at_start config) inputs last
+    pub is_text : exchange.written ≡ text (shown quiet last.entries) End.Finished
+
+  -- what was read and written is what a run comes to that is answered so, where a fault like this says that reading failed
+  pub record HasRunTo {Fault : Type 0} (read_failed : Fault) (answer : Result End Fault) (exchange : Exchange) : Type 0 where
+    pub text : IfOk answer (HasRun exchange)
+    pub front : OnErr answer (HasRunInPart exchange)
+    pub after_read_fault : IsErrOf answer read_failed → HasRunOnWholeLines exchange
 
 -- the kernel was just booted, for so many applications
 abbrev pub WasBooted : Mote → ℕ → Type 0

@@ -1,18 +1,24 @@
 //! Text that is due: gathered first, and written in pieces.
 
-ghost use Rattle.std.specs.Prelude.{◌≡◌, ◌<◌, ◌≤◌, ◌+◌, ◌-◌, ◌^◌, [], ℕ, List, length, IfErr, OnErr, OnOk};
+ghost use Rattle.std.specs.Prelude.{◌≡◌, ◌<◌, ◌≤◌, ◌+◌, ◌-◌, ◌^◌, ◌++◌, ◌∷◌, [], ℕ, List, length, OnErr, OnOk};
 ghost use Rattle.mote_types.specs.declared.entry.Entry.{Entry as MadeEntry};
-ghost use Rattle.mote_text.specs.EntryText.{entry_line, entry_line_limit};
-ghost use Rattle.mote_run.specs.Code.Writing.{WritesOn};
+ghost use Rattle.mote_text.specs.EntryText.{entry_line_limit};
+ghost use Rattle.mote_text.specs.Transcript.{final_line};
+ghost use Rattle.kernel_core.specs.Code.Steps.{entry_of};
+ghost use Rattle.mote_run.specs.Code.Reading.{HasFrameLine};
+ghost use Rattle.mote_run.specs.Code.Writing.{CountsFailure, WritesOn, lines};
 
 use crate::device::write_all;
+use crate::reader::LineInput;
 use crate::run::RunFault;
-use mote_text::line::{MOST_OF_LINE, OutputBuffer};
-use mote_text::transcript::{push_entry, push_input_line, push_turn_line};
-use mote_types::call::Call;
+use kernel_core::turn::Turn;
+use mote_text::line::OutputBuffer;
+use mote_text::script::End;
+use mote_text::transcript::{
+    final_text, is_shown, is_turn_shown, push_entry, push_input_line, push_turn_line,
+};
 use mote_types::device::ByteSink;
 use mote_types::entry::{Entry, Input};
-use mote_types::event::{Origin, Pid, Stimulus};
 
 /// The text that was made and is not written yet.
 #[derive(Drop)]
@@ -35,96 +41,79 @@ impl PendingText {
         ensures written { OnOk result (K.is_named → WritesOn (K.given sink.old) self.old.text.items (K.given sink.new) [] []) }
         ensures empty { OnOk result (self.new.text.items ≡ []) }
         ensures cut_off { OnErr result (K.is_named → (lost : List ℕ) × WritesOn (K.given sink.old) self.old.text.items (K.given sink.new) lost []) }
-        ensures succeeded { OnOk result (K.failure_count sink.new ≡ K.failure_count sink.old) }
-        ensures fault { IfErr result (λ fault. fault ≡ RunFault.Write) }
-        ensures failed { OnErr result (K.failure_count sink.new ≡ K.failure_count sink.old + 1) }
+        ensures failures { CountsFailure result (K.failure_count sink.old) (K.failure_count sink.new) }
     {
         write_all(sink, self.text.as_slice())?;
         self.text.clear();
         Ok(())
     }
 
-    /// Writes all of it, where there may be no room for another line behind it.
+    /// Writes all of it, where there is no room for so many bytes behind it.
     // Each line asks for it.
     #[inline(always)]
-    fn make_room<K: ByteSink>(&mut self, sink: &mut K) -> Result<(), RunFault>
+    pub fn make_room<K: ByteSink>(&mut self, sink: &mut K, room: usize) -> Result<(), RunFault>
+        requires some { room ≤ 4_096 }
         requires countable { K.failure_count sink.old < 2 ^ 64 - 1 }
         ensures written { OnOk result (K.is_named → WritesOn (K.given sink.old) self.old.text.items (K.given sink.new) self.new.text.items []) }
-        ensures room { OnOk result (length self.new.text.items + entry_line_limit ≤ 4_096) }
+        ensures room { OnOk result (length self.new.text.items + room ≤ 4_096) }
         ensures cut_off { OnErr result (K.is_named → (lost : List ℕ) × WritesOn (K.given sink.old) self.old.text.items (K.given sink.new) lost []) }
-        ensures succeeded { OnOk result (K.failure_count sink.new ≡ K.failure_count sink.old) }
-        ensures fault { IfErr result (λ fault. fault ≡ RunFault.Write) }
-        ensures failed { OnErr result (K.failure_count sink.new ≡ K.failure_count sink.old + 1) }
+        ensures failures { CountsFailure result (K.failure_count sink.old) (K.failure_count sink.new) }
     {
-        if self.text.remaining_capacity() < MOST_OF_LINE {
+        if self.text.remaining_capacity() < room {
             self.flush(sink)?;
         }
         Ok(())
     }
 
-    /// Puts the line of an entry behind it. Where there may be no room for that, what is due is written first.
-    pub fn put_entry<K: ByteSink>(&mut self, sink: &mut K, entry: &Entry) -> Result<(), RunFault>
-        requires countable { K.failure_count sink.old < 2 ^ 64 - 1 }
-        ensures written { OnOk result (K.is_named → WritesOn (K.given sink.old) self.old.text.items (K.given sink.new) self.new.text.items (entry_line entry.now)) }
-        ensures cut_off { OnErr result (K.is_named → (lost : List ℕ) × WritesOn (K.given sink.old) self.old.text.items (K.given sink.new) lost (entry_line entry.now)) }
-        ensures succeeded { OnOk result (K.failure_count sink.new ≡ K.failure_count sink.old) }
-        ensures fault { IfErr result (λ fault. fault ≡ RunFault.Write) }
-        ensures failed { OnErr result (K.failure_count sink.new ≡ K.failure_count sink.old + 1) }
+    /// Puts the line of an entry behind it, if it is shown.
+    // Out of the way of turns, which most entries are.
+    #[inline(never)]
+    pub fn put_entry(&mut self, entry: &Entry, quiet: bool)
+        requires { length self.old.text.items + entry_line_limit ≤ 4_096 }
+        ensures { self.new.text.items ≡ self.old.text.items ++ lines quiet (entry.now ∷ []) }
     {
-        self.make_room(sink)?;
-        push_entry(entry, &mut self.text);
-        Ok(())
-    }
-
-    /// Puts the line of a turn behind it, as `put_entry` does.
-    pub fn put_turn<K: ByteSink>(
-        &mut self,
-        sink: &mut K,
-        pid: Pid,
-        origin: Origin,
-        stimulus: &Stimulus,
-        call: &Call,
-    ) -> Result<(), RunFault>
-        requires countable { K.failure_count sink.old < 2 ^ 64 - 1 }
-        ensures written { OnOk result (K.is_named → WritesOn (K.given sink.old) self.old.text.items (K.given sink.new) self.new.text.items (entry_line (MadeEntry.Turn pid origin stimulus.now call.now))) }
-        ensures cut_off { OnErr result (K.is_named → (lost : List ℕ) × WritesOn (K.given sink.old) self.old.text.items (K.given sink.new) lost (entry_line (MadeEntry.Turn pid origin stimulus.now call.now))) }
-        ensures succeeded { OnOk result (K.failure_count sink.new ≡ K.failure_count sink.old) }
-        ensures fault { IfErr result (λ fault. fault ≡ RunFault.Write) }
-        ensures failed { OnErr result (K.failure_count sink.new ≡ K.failure_count sink.old + 1) }
-    {
-        self.make_room(sink)?;
-        push_turn_line(pid, origin, stimulus, call, &mut self.text);
-        Ok(())
-    }
-
-    /// Puts the line of an input that is handed in behind it, as `put_entry` does.
-    pub fn put_input<K: ByteSink>(&mut self, sink: &mut K, input: &Input) -> Result<(), RunFault>
-        requires countable { K.failure_count sink.old < 2 ^ 64 - 1 }
-        ensures written { OnOk result (K.is_named → WritesOn (K.given sink.old) self.old.text.items (K.given sink.new) self.new.text.items (entry_line (MadeEntry.Input input.now))) }
-        ensures cut_off { OnErr result (K.is_named → (lost : List ℕ) × WritesOn (K.given sink.old) self.old.text.items (K.given sink.new) lost (entry_line (MadeEntry.Input input.now))) }
-        ensures succeeded { OnOk result (K.failure_count sink.new ≡ K.failure_count sink.old) }
-        ensures fault { IfErr result (λ fault. fault ≡ RunFault.Write) }
-        ensures failed { OnErr result (K.failure_count sink.new ≡ K.failure_count sink.old + 1) }
-    {
-        self.make_room(sink)?;
-        push_input_line(input, &mut self.text);
-        Ok(())
-    }
-
-    /// Puts more text behind it. Where there is no room for that, what is due is written first.
-    pub fn put<K: ByteSink>(&mut self, sink: &mut K, text: &[u8]) -> Result<(), RunFault>
-        requires fits { length text.now ≤ 4_096 }
-        requires countable { K.failure_count sink.old < 2 ^ 64 - 1 }
-        ensures written { OnOk result (K.is_named → WritesOn (K.given sink.old) self.old.text.items (K.given sink.new) self.new.text.items text.now) }
-        ensures cut_off { OnErr result (K.is_named → (lost : List ℕ) × WritesOn (K.given sink.old) self.old.text.items (K.given sink.new) lost text.now) }
-        ensures succeeded { OnOk result (K.failure_count sink.new ≡ K.failure_count sink.old) }
-        ensures fault { IfErr result (λ fault. fault ≡ RunFault.Write) }
-        ensures failed { OnErr result (K.failure_count sink.new ≡ K.failure_count sink.old + 1) }
-    {
-        if self.text.remaining_capacity() < text.len() {
-            self.flush(sink)?;
+        if is_shown(entry, quiet) {
+            push_entry(entry, &mut self.text);
         }
-        self.text.push(text);
-        Ok(())
+    }
+
+    /// Puts the line of a turn behind it, if it is shown.
+    pub fn put_turn(&mut self, turn: &Turn, quiet: bool)
+        requires { length self.old.text.items + entry_line_limit ≤ 4_096 }
+        ensures { self.new.text.items ≡ self.old.text.items ++ lines quiet (entry_of turn.now ∷ []) }
+    {
+        if is_turn_shown(&turn.call, quiet) {
+            push_turn_line(turn.pid, turn.origin, &turn.stimulus, &turn.call, &mut self.text);
+        }
+    }
+
+    /// Puts the line of an input that was handed in behind it, if it is shown. That of a frame is at hand.
+    pub fn put_input(&mut self, line_input: &LineInput, quiet: bool)
+        requires room { length self.old.text.items + entry_line_limit ≤ 4_096 }
+        requires frame_room { length self.old.text.items + length line_input.now.frame_line.items ≤ 4_096 }
+        requires frame { HasFrameLine line_input.now }
+        ensures { self.new.text.items ≡ self.old.text.items ++ lines quiet (MadeEntry.Input line_input.now.input ∷ []) }
+    {
+        if quiet {
+            return;
+        }
+        match line_input.input {
+            Input::Frame(_) => self.text.push(line_input.frame_line.as_slice()),
+            _ => push_input_line(&line_input.input, &mut self.text),
+        }
+    }
+
+    /// Writes it, and the last line of a run that ends so.
+    pub fn close<K: ByteSink>(&mut self, sink: &mut K, end: End) -> Result<(), RunFault>
+        requires { K.failure_count sink.old < 2 ^ 64 - 1 }
+        ensures written { OnOk result (K.is_named → WritesOn (K.given sink.old) self.old.text.items (K.given sink.new) [] (final_line end)) }
+        ensures cut_off { OnErr result (K.is_named → (lost : List ℕ) × WritesOn (K.given sink.old) self.old.text.items (K.given sink.new) lost (final_line end)) }
+        ensures failures { CountsFailure result (K.failure_count sink.old) (K.failure_count sink.new) }
+    {
+        let mut line = OutputBuffer::new();
+        final_text(end, &mut line);
+        self.make_room(sink, line.as_slice().len())?;
+        self.text.push(line.as_slice());
+        self.flush(sink)
     }
 }

@@ -27,8 +27,7 @@ pub fn refill<S: ByteSource, K: ByteSink>(
     ensures written { OnOk result (K.is_named → WritesOn (K.given sink.old) due.old.text.items (K.given sink.new) due.new.text.items []) }
     ensures used_up { OnErr result (length piece.old ≡ 0) }
     ensures nothing_taken { OnErr result (S.is_named → S.taken source.new ≡ S.taken source.old) }
-    ensures all_written { IsErrOf result RunFault.Read → K.is_named → WritesOn (K.given sink.old) due.old.text.items (K.given sink.new) [] [] }
-    ensures cut_off { OnErr result (K.is_named → (lost : List ℕ) × WritesOn (K.given sink.old) due.old.text.items (K.given sink.new) lost []) }
+    ensures cut_off { OnErr result (K.is_named → (lost : List ℕ) × WritesOn (K.given sink.old) due.old.text.items (K.given sink.new) lost [] × (IsErrOf result RunFault.Read → lost ≡ [])) }
     ensures read_succeeded { OnOk result (S.failure_count source.new ≡ S.failure_count source.old) }
     ensures write_succeeded { OnOk result (K.failure_count sink.new ≡ K.failure_count sink.old) }
     ensures read_fault { IsErrOf result RunFault.Read ↔ (S.failure_count source.old < S.failure_count source.new) }

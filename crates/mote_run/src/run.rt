@@ -1,27 +1,22 @@
 //! The run: what a mote makes of a script.
 
-ghost use Rattle.std.specs.Prelude.{◌≡◌, ◌<◌, ◌≤◌, ◌+◌, ◌-◌, ◌^◌, ◌↔◌, [], ℕ, List, false, length, IfOk, OnOk, OnErr, IfErr, IsErrOf};
+ghost use Rattle.std.specs.Prelude.{◌≡◌, ◌<◌, ◌≤◌, ◌+◌, ◌-◌, ◌^◌, ◌↔◌, ℕ, false, length, IsErrOf};
 ghost use Rattle.mote_types.specs.Applications.{says_of};
-ghost use Rattle.mote_text.specs.Transcript.{final_line};
 ghost use Rattle.kernel_core.specs.declared.config.Config.{Config};
 ghost use Rattle.kernel_core.specs.Machine.{booted};
-ghost use Rattle.mote_run.specs.RunText.{HasRead, HasRun, HasRunInPart, HasRunOnWholeLines, WasBooted};
-ghost use Rattle.mote_run.specs.Trace.{TraceSatisfies};
-ghost use Rattle.run_laws.specs.RunLaws.{BlocksAreOwn, EventsArriveInOrder, ProcessesAreIsolated, TimersAreKept};
-ghost use Rattle.mote_run.specs.Code.Writing.{WritesOn};
+ghost use Rattle.mote_run.specs.RunText.{Exchanged, HasRead, WasBooted};
+ghost use Rattle.mote_run.specs.Trace.{RunPromise};
 
-use crate::pending_text::PendingText;
-use crate::law::text_exists;
+use crate::settle::Work;
 use crate::work::take_script;
 use kernel_core::kernel::Kernel;
-use mote_text::line::OutputBuffer;
 use mote_text::script::End;
-use mote_text::transcript::final_text;
 use mote_types::app::App;
 use mote_types::device::{ByteSink, ByteSource};
 use run_laws::events::events_arrive_in_order;
 use run_laws::isolation::processes_are_isolated;
 use run_laws::memory::blocks_are_own;
+use run_laws::rest::run_exists;
 use run_laws::timers::timers_are_kept;
 use thiserror::Error;
 
@@ -32,50 +27,6 @@ pub enum RunFault {
     Read,
     #[error("write failed")]
     Write,
-}
-
-/// Writes the last line, behind all that is due, and answers how the run ends.
-fn close<K: ByteSink>(sink: &mut K, due: &mut PendingText, end: End) -> Result<End, RunFault>
-    requires { K.failure_count sink.old < 2 ^ 64 - 1 }
-    ensures end { IfOk result (λ ends. ends ≡ end) }
-    ensures written { OnOk result (K.is_named → WritesOn (K.given sink.old) due.old.text.items (K.given sink.new) [] (final_line end)) }
-    ensures cut_off { OnErr result (K.is_named → (lost : List ℕ) × WritesOn (K.given sink.old) due.old.text.items (K.given sink.new) lost (final_line end)) }
-    ensures succeeded { OnOk result (K.failure_count sink.new ≡ K.failure_count sink.old) }
-    ensures fault { IfErr result (λ fault. fault ≡ RunFault.Write) }
-    ensures failed { OnErr result (K.failure_count sink.new ≡ K.failure_count sink.old + 1) }
-{
-    let mut line = OutputBuffer::new();
-    final_text(end, &mut line);
-    due.put(sink, line.as_slice())?;
-    due.flush(sink)?;
-    Ok(end)
-}
-
-/// Carries out the script, and writes the text of the run.
-fn write_run<S: ByteSource, K: ByteSink>(
-    source: &mut S,
-    sink: &mut K,
-    kernel: &mut Kernel,
-    apps: &mut [Box<dyn App>],
-    quiet: bool,
-) -> Result<End, RunFault>
-    requires booted { WasBooted kernel.old (length apps.old) }
-    requires unended { S.is_ended source.old ≡ false }
-    requires countable_reads { S.failure_count source.old < 2 ^ 64 - 1 }
-    requires countable_writes { K.failure_count sink.old < 2 ^ 64 - 1 }
-    ensures text { IfOk result (λ end. S.is_named → K.is_named → (config : Config) → kernel.old.machine ≡ booted config →
-        HasRun config (says_of says apps.old) quiet (S.taken source.old) (S.taken source.new) (S.is_ended source.new) (K.given sink.old) (K.given sink.new) end) }
-    ensures front { OnErr result (S.is_named → K.is_named → (config : Config) → kernel.old.machine ≡ booted config →
-        HasRunInPart config (says_of says apps.old) quiet (S.taken source.old) (S.taken source.new) (S.is_ended source.new) (K.given sink.old) (K.given sink.new)) }
-    ensures after_read_fault { IsErrOf result RunFault.Read → S.is_named → K.is_named → (config : Config) → kernel.old.machine ≡ booted config →
-        HasRunOnWholeLines config (says_of says apps.old) quiet (S.taken source.old) (S.taken source.new) (K.given sink.old) (K.given sink.new) }
-    ensures few { S.is_named → (count : ℕ) × (count ≤ 16_777_216 + 1) × HasRead count (S.taken source.old) (S.taken source.new) }
-    ensures read_fault { IsErrOf result RunFault.Read ↔ (S.failure_count source.old < S.failure_count source.new) }
-    ensures write_fault { IsErrOf result RunFault.Write ↔ (K.failure_count sink.old < K.failure_count sink.new) }
-{
-    let mut due = PendingText::new();
-    let end = take_script(source, sink, &mut due, kernel, apps, quiet)?;
-    close(sink, &mut due, end)
 }
 
 /// Runs the applications over a script: reads it in pieces of at most 4,096 bytes, hands each line's input to the mote, and
@@ -102,30 +53,21 @@ pub fn run<S: ByteSource, K: ByteSink>(
     requires unended { S.is_ended source.old ≡ false }
     requires countable_reads { S.failure_count source.old < 2 ^ 64 - 1 }
     requires countable_writes { K.failure_count sink.old < 2 ^ 64 - 1 }
-    ensures text { IfOk result (λ end. S.is_named → K.is_named → (config : Config) → kernel.machine ≡ booted config →
-        HasRun config (says_of says apps.old) quiet (S.taken source.old) (S.taken source.new) (S.is_ended source.new) (K.given sink.old) (K.given sink.new) end) }
-    ensures front { OnErr result (S.is_named → K.is_named → (config : Config) → kernel.machine ≡ booted config →
-        HasRunInPart config (says_of says apps.old) quiet (S.taken source.old) (S.taken source.new) (S.is_ended source.new) (K.given sink.old) (K.given sink.new)) }
-    ensures after_read_fault { IsErrOf result RunFault.Read → S.is_named → K.is_named → (config : Config) → kernel.machine ≡ booted config →
-        HasRunOnWholeLines config (says_of says apps.old) quiet (S.taken source.old) (S.taken source.new) (K.given sink.old) (K.given sink.new) }
+    ensures promise { S.is_named → K.is_named → (config : Config) → kernel.machine ≡ booted config →
+        Exchanged (S.taken source.old) (S.taken source.new) (S.is_ended source.new) (K.given sink.old) (K.given sink.new)
+        (RunPromise config (says_of says apps.old) quiet result) }
     ensures few { S.is_named → (count : ℕ) × (count ≤ 16_777_216 + 1) × HasRead count (S.taken source.old) (S.taken source.new) }
     ensures read_fault { IsErrOf result RunFault.Read ↔ (S.failure_count source.old < S.failure_count source.new) }
     ensures write_fault { IsErrOf result RunFault.Write ↔ (K.failure_count sink.old < K.failure_count sink.new) }
-    ensures memory { S.is_named → K.is_named → (config : Config) → kernel.machine ≡ booted config →
-        TraceSatisfies BlocksAreOwn config (says_of says apps.old) quiet (S.taken source.old) (S.taken source.new) (S.is_ended source.new) (K.given sink.old) (K.given sink.new) result }
-    ensures events { S.is_named → K.is_named → (config : Config) → kernel.machine ≡ booted config →
-        TraceSatisfies (EventsArriveInOrder config.apps) config (says_of says apps.old) quiet (S.taken source.old) (S.taken source.new) (S.is_ended source.new) (K.given sink.old) (K.given sink.new) result }
-    ensures timers { S.is_named → K.is_named → (config : Config) → kernel.machine ≡ booted config →
-        TraceSatisfies (TimersAreKept config.apps) config (says_of says apps.old) quiet (S.taken source.old) (S.taken source.new) (S.is_ended source.new) (K.given sink.old) (K.given sink.new) result }
-    ensures isolation { S.is_named → K.is_named → (config : Config) → kernel.machine ≡ booted config →
-        TraceSatisfies (ProcessesAreIsolated config.quota config.apps) config (says_of says apps.old) quiet (S.taken source.old) (S.taken source.new) (S.is_ended source.new) (K.given sink.old) (K.given sink.new) result }
 {
     // Laws of every run of the machine.
     blocks_are_own();
     events_arrive_in_order();
     timers_are_kept();
     processes_are_isolated();
-    text_exists();
-    let mut kernel = kernel;
-    write_run(source, sink, &mut kernel, apps, quiet)
+    run_exists();
+    let mut work = Work::new(kernel);
+    let end = take_script(source, sink, &mut work, apps, quiet)?;
+    work.due.close(sink, end)?;
+    Ok(end)
 }

@@ -1,9 +1,9 @@
 //! A script as far as it was read and used.
 
-ghost use Rattle.std.specs.Prelude.{◌≡◌, ◌≢◌, ◌<◌, ◌≤◌, ◌+◌, [], true, length, IfOk, OnOk};
-ghost use Rattle.mote_text.specs.Code.Lines.{has_no_end, nothing_taken, unfinished};
-ghost use Rattle.mote_text.specs.declared.lines.Taken.{Taken as Stopped};
-ghost use Rattle.mote_run.specs.Code.Reading.{HasFrameLine, Took};
+ghost use Rattle.std.specs.Prelude.{◌≡◌, ◌<◌, ◌≤◌, ◌+◌, [], ℕ, List, true, length, IfOk, OnOk};
+ghost use Rattle.mote_types.specs.declared.entry.Input.{Input as Handed};
+ghost use Rattle.mote_text.specs.Code.Lines.{nothing_taken};
+ghost use Rattle.mote_run.specs.Code.Reading.{CanBeFed, HasFrameLine, IsReady, ReadSoFar, Takes};
 
 use crate::piece::Piece;
 use crate::reader::Reader;
@@ -42,18 +42,13 @@ impl Script {
     ///
     /// `BadLine` where the line has no form, as soon as it is longer than a line may be.
     pub fn take(&mut self) -> Result<bool, BadLine>
-        requires narrow { self.old.reader.lines.last ≢ Stopped.TooWide }
-        requires endless { has_no_end (unfinished self.old.reader.lines) ≡ true }
-        requires number { self.old.reader.number ≤ self.old.taken + 1 }
+        requires ready { IsReady self.old }
         requires room { self.old.taken < LIMIT }
         requires some { 0 < length self.old.piece }
-        ensures took { Took (unfinished self.old.reader.lines) self.old.piece (unfinished self.new.reader.lines) self.new.piece self.old.taken self.new.taken self.old.reader.number self.new.reader.number result self.new.reader.place.input }
+        ensures takes { (read : List ℕ) (earlier : List Handed) → ReadSoFar read earlier self.old → Takes read earlier self.new result }
         ensures frame { IfOk result (λ is_input. is_input ≡ true → HasFrameLine self.new.reader.place) }
-        ensures narrow { OnOk result (self.new.reader.lines.last ≢ Stopped.TooWide) }
-        ensures endless { has_no_end (unfinished self.new.reader.lines) ≡ true }
-        ensures number { self.new.reader.number ≤ self.new.taken + 1 }
-        ensures few { self.new.taken ≤ LIMIT }
-        ensures more { self.old.taken ≤ self.new.taken }
+        ensures input { IfOk result (λ is_input. is_input ≡ true → CanBeFed self.new.reader.place.input) }
+        ensures ready { OnOk result (IsReady self.new) }
         ensures some { OnOk result (self.old.taken < self.new.taken) }
         ensures bytes { self.new.taken + length self.new.piece ≡ self.old.taken + length self.old.piece }
     {

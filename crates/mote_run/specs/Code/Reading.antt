@@ -1,14 +1,18 @@
--- What was used of a script, and what that says.
-use Rattle.std.specs.Prelude.{◌≡◌, ◌≢◌, ℕ, ◌+◌, ◌<◌, ◌≤◌, Bool, true, false, List, ◌∷◌, ◌++◌, length, take, Option, Some, None, Result, OnOk, OnErr}
+-- What was read of a script, and what that says.
+use Rattle.std.specs.Prelude.{◌≡◌, ◌≢◌, ℕ, ◌+◌, ◌^◌, ◌<◌, ◌≤◌, Bool, true, false, List, [], ◌∷◌, ◌++◌, length, take, Option, Some, None, Result, Ok, Err, OnOk, OnErr}
 use Rattle.mote_types.specs.declared.entry.Entry.{Entry}
 use Rattle.mote_types.specs.declared.entry.Input.{Input}
 use Rattle.mote_text.specs.declared.script.BadLine.{BadLine}
+use Rattle.mote_text.specs.declared.script.End.{End}
 use Rattle.mote_text.specs.EntryText.{entry_line}
-use Rattle.mote_text.specs.Code.Lines.{GoesOnAt, has_no_end, unfinished_after, with_end}
-use Rattle.mote_text.specs.Script.{line_limit, read_line, script_limit}
+use Rattle.mote_text.specs.Code.Lines.{GoesOnAt, has_no_end, unfinished, unfinished_after, with_end}
+use Rattle.mote_text.specs.Code.Reading.{Before}
+use Rattle.mote_text.specs.Script.{inputs, line_limit, read_line}
 use Rattle.mote_text.specs.Code.LineAnswers.{line_said}
 use Rattle.mote_text.specs.declared.lines.Taken.{Taken}
+use Rattle.kernel_core.specs.Inputs.{has_bytes, ticks_of}
 use Rattle.mote_run.specs.declared.reader.LineInput.{LineInput}
+use Rattle.mote_run.specs.declared.script.Script.{Script}
 
 -- a line says what it is read as, bytes before a line's end say nothing, and a line that is too wide has no form
 abbrev pub said : Taken → List ℕ → Option (Option Input)
@@ -31,6 +35,10 @@ is_frame (Input.Frame bytes) = true
 abbrev pub HasFrameLine : LineInput → Type 0
 HasFrameLine place = is_frame place.input ≡ true → place.frame_line.items ≡ entry_line (Entry.Input place.input)
 
+-- what can be handed in
+abbrev pub CanBeFed : Input → Type 0
+CanBeFed input = (has_bytes input ≡ true) × (ticks_of input < 2 ^ 32)
+
 -- so many bytes of a piece were used, up to the end of the present line, whose number this is. That is what they say
 pub record ReadPart (line piece line_later : List ℕ) (used number number_later : ℕ) (says : Result Bool BadLine) (input : Input) : Type 0 where
   pub last : Taken
@@ -44,33 +52,24 @@ pub record ReadPart (line piece line_later : List ℕ) (used number number_later
   pub same_number : OnErr says (number_later ≡ number)
   pub too_wide : last ≡ Taken.TooWide → (length bytes ≡ line_limit) × GoesOnAt piece used
 
--- what a take used of a piece, behind the bytes of the present line, and what it left
-pub record TakenPart (line piece later : List ℕ) (count count_later : ℕ) (last : Taken) (bytes : List ℕ) : Type 0 where
-  pub part : List ℕ
-  pub parts : piece ≡ part ++ later
-  pub used : line ++ part ≡ with_end last bytes
-  pub counts : count_later ≡ count + length part
-  pub within : count_later ≤ script_limit
-  pub narrow : length bytes ≤ line_limit
-  pub endless : has_no_end bytes ≡ true
+-- what always holds of a script between two takes
+pub record IsReady (script : Script) : Type 0 where
+  pub narrow : script.reader.lines.last ≢ Taken.TooWide
+  pub endless : has_no_end (unfinished script.reader.lines) ≡ true
+  pub number : script.reader.number ≤ script.taken + 1
+  pub few : script.taken ≤ 16_777_216
 
--- the bytes are as many as a line may have, and another one of the same line stands behind them, within what a script may have
-pub record IsOverlong (ended : ℕ) (bytes later : List ℕ) : Type 0 where
-  pub full : length bytes ≡ line_limit
-  pub room : ended + length bytes < script_limit
-  pub byte : ℕ
-  pub tail : List ℕ
-  pub is : later ≡ byte ∷ tail
-  pub other : byte ≢ 10
+-- These bytes were read. Their lines that have ended say these inputs; then come the bytes of the present line, and those that
+-- are not used yet
+pub record ReadSoFar (read : List ℕ) (inputs : List Input) (script : Script) : Type 0 where
+  pub ended : List ℕ
+  pub parts : read ≡ ended ++ (unfinished script.reader.lines ++ script.piece)
+  pub size : length ended + length (unfinished script.reader.lines) ≡ script.taken
+  pub narrow : length (unfinished script.reader.lines) ≤ line_limit
+  pub before : Before ended inputs script.reader.number []
 
--- Bytes of a piece were used up to the end of the present line, whose number this is. That is what they say, and another line
--- was begun. An input that they say lies in its place
-pub record Took (line piece line_later later : List ℕ) (count count_later number number_later : ℕ) (says : Result Bool BadLine) (input : Input) : Type 0 where
-  pub last : Taken
-  pub bytes : List ℕ
-  pub part : TakenPart line piece later count count_later last bytes
-  pub begun : line_later ≡ unfinished_after last bytes
-  pub says_so : line_said says input ≡ said last bytes
-  pub numbered : OnOk says (number_later ≡ number_after last number)
-  pub same_number : OnErr says (number_later ≡ number)
-  pub goes_on : last ≡ Taken.TooWide → (ended : ℕ) → ended + length bytes ≡ count_later → IsOverlong ended bytes later
+-- what a take answers of bytes that were read: whether they say an input, or that every script which begins with them ends there
+abbrev pub Takes : List ℕ → List Input → Script → Result Bool BadLine → Type 0
+Takes read earlier script (Ok false) = ReadSoFar read earlier script
+Takes read earlier script (Ok true) = ReadSoFar read (earlier ++ script.reader.place.input ∷ []) script
+Takes read earlier script (Err fault) = (more : List ℕ) → inputs (read ++ more) ≡ (earlier, End.BadLine script.reader.number)

@@ -1,28 +1,45 @@
-use Rattle.std.proofs.Common.{◌≡◌, ◌∙◌, true, sym}
+use Rattle.std.proofs.Common.{◌≡◌, ◌∙◌, true, sym, refl}
 use Rattle.kernel_core.specs.Machine.{is_bootable}
-use Rattle.run_laws.specs.RunLaws.{BlocksAreOwn, EventsArriveInOrder, ProcessesAreIsolated, TimersAreKept}
-use Rattle.mote_run.proofs.Trace.{boots_so, err_under, ok_under, shows}
+use Rattle.mote_run.proofs.Pieces.{no_value, not_read}
+use Rattle.mote_run.proofs.Promise.{Laws, boots_so, closed, promised, ran_failed}
 use Rattle.mote_run.proofs.run.run.Goals as goal
 
-pub returns-clause-memory : goal.returns-clause-memory
-returns-clause-memory g c = λ s k config boots.
+pub returns-in_err-end-clause-promise : goal.returns-in_err-end-clause-promise
+returns-in_err-end-clause-promise g c = λ s k config boots.
     let bootable : is_bootable config ≡ true = boots_so config c.requires.booted.0.0 (sym boots ∙ c.requires.booted.0.3) c.requires.booted.0.1 in
-    shows BlocksAreOwn config _ _ _ _ _ _ _ (λ says inputs after runs. c.blocks_are_own.ensures.own config says inputs after runs bootable) _
-    (c.text_exists.ensures.exists config) (ok_under _ _ _ c.write_run.ensures.text s k config boots) (err_under _ _ _ c.write_run.ensures.front s k config boots)
+    let laws : Laws config = record {
+      exists = c.run_exists.ensures.exists config;
+      memory = λ says inputs after runs. c.blocks_are_own.ensures.own config says inputs after runs bootable;
+      events = c.events_arrive_in_order.ensures.in_order config;
+      timers = λ says inputs after runs. c.timers_are_kept.ensures.kept config says inputs after runs bootable;
+      isolation = λ says inputs after runs. c.processes_are_isolated.ensures.isolated config says inputs after runs bootable;
+    } in
+    promised (ran_failed c.from_residual.ensures.0 c.from_residual.ensures.1 (rw (c.new-work.ensures.due, c.new-work.ensures.kernel, boots) at (c.in_err-end.ensures.ran s k))) laws
 
-pub returns-clause-events : goal.returns-clause-events
-returns-clause-events g c = λ s k config boots.
-    shows (EventsArriveInOrder config.apps) config _ _ _ _ _ _ _ (c.events_arrive_in_order.ensures.in_order config) _
-    (c.text_exists.ensures.exists config) (ok_under _ _ _ c.write_run.ensures.text s k config boots) (err_under _ _ _ c.write_run.ensures.front s k config boots)
-
-pub returns-clause-timers : goal.returns-clause-timers
-returns-clause-timers g c = λ s k config boots.
+pub returns-in_err-close-clause-promise : goal.returns-in_err-close-clause-promise
+returns-in_err-close-clause-promise g c = λ s k config boots.
     let bootable : is_bootable config ≡ true = boots_so config c.requires.booted.0.0 (sym boots ∙ c.requires.booted.0.3) c.requires.booted.0.1 in
-    shows (TimersAreKept config.apps) config _ _ _ _ _ _ _ (λ says inputs after runs. c.timers_are_kept.ensures.kept config says inputs after runs bootable) _
-    (c.text_exists.ensures.exists config) (ok_under _ _ _ c.write_run.ensures.text s k config boots) (err_under _ _ _ c.write_run.ensures.front s k config boots)
+    let laws : Laws config = record {
+      exists = c.run_exists.ensures.exists config;
+      memory = λ says inputs after runs. c.blocks_are_own.ensures.own config says inputs after runs bootable;
+      events = c.events_arrive_in_order.ensures.in_order config;
+      timers = λ says inputs after runs. c.timers_are_kept.ensures.kept config says inputs after runs bootable;
+      isolation = λ says inputs after runs. c.processes_are_isolated.ensures.isolated config says inputs after runs bootable;
+    } in
+    let ran = rw (c.new-work.ensures.due, c.new-work.ensures.kernel, boots) at (c.in_ok-end.ensures.ran s k) in
+    let answer = c.from_residual-in_err-close.result in
+    promised (closed ran (c.in_err-close.ensures.cut_off k).1
+    (λ failed. not_read answer (rw c.in_err-close.ensures.failures.2 at c.from_residual-in_err-close.ensures.1) failed) (no_value _ answer c.from_residual-in_err-close.ensures.0)) laws
 
-pub returns-clause-isolation : goal.returns-clause-isolation
-returns-clause-isolation g c = λ s k config boots.
+pub returns-clause-promise : goal.returns-clause-promise
+returns-clause-promise g c = λ s k config boots.
     let bootable : is_bootable config ≡ true = boots_so config c.requires.booted.0.0 (sym boots ∙ c.requires.booted.0.3) c.requires.booted.0.1 in
-    shows (ProcessesAreIsolated config.quota config.apps) config _ _ _ _ _ _ _ (λ says inputs after runs. c.processes_are_isolated.ensures.isolated config says inputs after runs bootable) _
-    (c.text_exists.ensures.exists config) (ok_under _ _ _ c.write_run.ensures.text s k config boots) (err_under _ _ _ c.write_run.ensures.front s k config boots)
+    let laws : Laws config = record {
+      exists = c.run_exists.ensures.exists config;
+      memory = λ says inputs after runs. c.blocks_are_own.ensures.own config says inputs after runs bootable;
+      events = c.events_arrive_in_order.ensures.in_order config;
+      timers = λ says inputs after runs. c.timers_are_kept.ensures.kept config says inputs after runs bootable;
+      isolation = λ says inputs after runs. c.processes_are_isolated.ensures.isolated config says inputs after runs bootable;
+    } in
+    let ran = rw (c.new-work.ensures.due, c.new-work.ensures.kernel, boots) at (c.in_ok-end.ensures.ran s k) in
+    promised (closed ran (c.in_ok-close.ensures.written k) (λ is. absurd (cc)) (refl, refl)) laws

@@ -1,132 +1,166 @@
-use Rattle.std.proofs.Common.{rules, ◌≡◌, ◌≤◌, ◌+◌, ◌∙◌, [], length, refl, sym, arith, false}
+use Rattle.std.proofs.Common.{rules, ◌≡◌, ◌≤◌, ◌+◌, ◌-◌, ◌∙◌, ℕ, [], length, refl, sym, arith, true, false}
+use Rattle.std.proofs.lemmas.List.{append-nil}
 use Rattle.mote_text.specs.Script.{script_limit}
 use Rattle.mote_text.specs.declared.script.End.{End}
 use Rattle.mote_text.proofs.Reading.{script_limit_is}
 use Rattle.mote_run.specs.declared.run.RunFault.{RunFault}
-use Rattle.mote_run.proofs.Pieces.{failed_with, ok_then, on_err, same_error}
+use Rattle.mote_run.proofs.Pieces.{same_error}
 use Rattle.mote_run.proofs.ReadSoFar.{read_more, read_nothing}
-use Rattle.mote_run.proofs.Fronts.{part_failed, start_cut_off}
-use Rattle.mote_run.proofs.NextPart.{is_none}
-use Rattle.mote_run.proofs.InRun.{in_run_halted, in_run_read_fault, in_run_refilled, in_run_start, in_run_stops, too_long}
+use Rattle.mote_run.proofs.ReadOn.{is_none}
+use Rattle.mote_run.proofs.LoopInvariant.{ends_here, fails_at_start, come_input, come_refilled, come_took, input_fails, ran_to_end, reading_starts, refill_fails, too_long, wrote_whole_lines}
 use Rattle.mote_run.proofs.work.take_script.Goals as goal
 
-pub returns-in_err-settle-clause-front : goal.returns-in_err-settle-clause-front
-returns-in_err-settle-clause-front g c = on_err c.from_residual.result (λ s k config boots.
-    start_cut_off config _ _ _ _ _ _ _ _ boots c.requires.fresh (c.in_err-settle.ensures.cut_off k _ [] (record { each = λ p next later. refl })))
+-- what is read at once keeps within the limit
+within_limit : {taken before after : ℕ} → taken ≤ 16777216 → taken + before ≤ 16777217 → (before ≤ 16777217 - taken → after ≤ 16777217 - taken) → taken + after ≤ 16777217
+within_limit limit few more = omega (arith, limit, few, more (omega (arith, limit, few)))
+
+pub returns-in_err-settle-clause-ran : goal.returns-in_err-settle-clause-ran
+returns-in_err-settle-clause-ran g c = λ s k.
+    fails_at_start c.from_residual.ensures.0 (rw c.in_err-settle.ensures.failures.2 at c.from_residual.ensures.1) (c.in_err-settle.ensures.goes k).1
 
 pub part-init : goal.part-init
 part-init g c = record {
-  in_run = λ s k config boots.
-      rw (c.new-script.ensures.piece, c.new-script.ensures.lines, c.new-script.ensures.number, c.new-script.ensures.taken)
-      (in_run_start config _ _ _ _ _ _ _ _ _ _ boots c.requires.fresh (c.in_ok-settle.ensures.settled k _ [] (record { each = λ p next later. refl })) c.in_ok-settle.ensures.still);
+  has_come = λ s k.
+      let w = c.in_ok-settle.ensures.goes k in record {
+        read = [];
+        earlier = [];
+        taken = sym (append-nil _);
+        so_far = reading_starts c.new-script.result c.new-script.ensures.piece c.new-script.ensures.lines c.new-script.ensures.number c.new-script.ensures.taken;
+        went = rw w.2 at w.1;
+      };
   read = λ s. rw (c.new-script.ensures.piece, c.new-script.ensures.taken) (read_nothing _);
   boxes = search rules;
   still = search rules;
   clock = search rules;
   inputs = search rules;
-  number = rw (c.new-script.ensures.number, c.new-script.ensures.taken) (omega arith);
-  narrow = rw c.new-script.ensures.lines (λ e. absurd (cc));
-  endless = rw c.new-script.ensures.lines refl;
-  taken = rw c.new-script.ensures.taken (omega arith);
+  ready = record {
+    narrow = rw c.new-script.ensures.lines (λ e. absurd (cc));
+    endless = rw c.new-script.ensures.lines refl;
+    number = rw (c.new-script.ensures.number, c.new-script.ensures.taken) (omega arith);
+    few = rw c.new-script.ensures.taken (omega arith);
+  };
   few = rw (c.new-script.ensures.piece, c.new-script.ensures.taken) (omega arith);
   unended = search rules;
   reads = search rules;
   writes = search rules;
 }
 
-pub returns-then-halted-clause-ended : goal.returns-then-halted-clause-ended
-returns-then-halted-clause-ended g c = λ s k config boots.
-    in_run_halted (c.part.invariant.in_run s k config boots) _ (sym c.halted.ensures ∙ c.if-halted.true)
+pub returns-then-halted-clause-ran : goal.returns-then-halted-clause-ran
+returns-then-halted-clause-ran g c = λ s k.
+    let halted : c.part.work.kernel.machine.is_halted ≡ true = sym c.halted.ensures ∙ c.if-halted.true in
+    ends_here (c.part.invariant.has_come s k) _ End.Halted c.part.invariant.still (λ no. absurd (cc)) (rw halted refl)
 
-pub returns-in_err-refill-clause-front : goal.returns-in_err-refill-clause-front
-returns-in_err-refill-clause-front g c = on_err c.from_residual-in_err-refill.result (λ s k config boots.
-    let i = c.part.invariant.in_run s k config boots in
-    let lost = c.in_err-refill.ensures.cut_off k in
-    part_failed i _ _ _ lost.0 (c.in_err-refill.ensures.nothing_taken s) lost.1)
+pub returns-in_err-refill-clause-ran : goal.returns-in_err-refill-clause-ran
+returns-in_err-refill-clause-ran g c = λ s k.
+    let i = c.part.invariant.has_come s k in
+    let cut = c.in_err-refill.ensures.cut_off k in
+    let few : c.part.script.taken ≤ script_limit = omega (arith, script_limit_is, c.part.invariant.ready.few) in
+    refill_fails i c.from_residual-in_err-refill.ensures.0 (c.in_err-refill.ensures.nothing_taken s) cut.1
+    (λ failed. wrote_whole_lines i c.part.invariant.still c.part.invariant.ready.endless few (is_none c.part.script.piece c.in_err-refill.ensures.used_up)
+    (cut.2 (same_error c.from_residual-in_err-refill.result c.in_err-refill.field-0.0 RunFault.Read c.from_residual-in_err-refill.ensures.1 failed)) cut.1)
 
-pub returns-in_err-refill-clause-after_read_fault : goal.returns-in_err-refill-clause-after_read_fault
-returns-in_err-refill-clause-after_read_fault g c = λ failed s k config boots.
-    let i = c.part.invariant.in_run s k config boots in
-    let few : c.part.script.taken ≤ script_limit = omega (arith, script_limit_is, c.part.invariant.taken) in
-    let none = is_none c.part.script.piece c.in_err-refill.ensures.used_up in
-    in_run_read_fault i _ _ few none (c.in_err-refill.ensures.nothing_taken s) (c.in_err-refill.ensures.all_written (same_error c.from_residual-in_err-refill.result c.in_err-refill.field-0.0 RunFault.Read c.from_residual-in_err-refill.ensures.1 failed) k)
-
-pub returns-then-is_empty-clause-ended : goal.returns-then-is_empty-clause-ended
-returns-then-is_empty-clause-ended g c = ok_then c.take_end.result c.take_end.ensures.ended (λ end ends s k config boots.
+pub returns-then-is_empty-clause-ran : goal.returns-then-is_empty-clause-ran
+returns-then-is_empty-clause-ran g c = λ s k.
     let r = c.in_ok-refill.ensures.taken s in
-    let i = in_run_refilled (c.part.invariant.in_run s k config boots) r.0 _ _ _ _ r.1 r.2 (c.in_ok-refill.ensures.written k) in
-    rw (c.in_ok-refill.ensures.ended ∙ (sym c.is_empty.ensures ∙ c.if-is_empty.true)) (ends k config _ _ _ _ i))
+    let i = come_refilled (c.part.invariant.has_come s k) r.0 r.1 r.2 (c.in_ok-refill.ensures.written k) in
+    ran_to_end i (c.in_ok-refill.ensures.ended ∙ (sym c.is_empty.ensures ∙ c.if-is_empty.true)) c.take_end.ensures.failures.2
+    (c.take_end.ensures.ends k i.read i.earlier i.so_far)
 
-pub returns-then-is_empty-clause-front : goal.returns-then-is_empty-clause-front
-returns-then-is_empty-clause-front g c = failed_with c.take_end.result c.take_end.ensures.cut_off (λ cut s k config boots.
+pub returns-then-script-eq-LIMIT-clause-ran : goal.returns-then-script-eq-LIMIT-clause-ran
+returns-then-script-eq-LIMIT-clause-ran g c = λ s k.
     let r = c.in_ok-refill.ensures.taken s in
-    let i = in_run_refilled (c.part.invariant.in_run s k config boots) r.0 _ _ _ _ r.1 r.2 (c.in_ok-refill.ensures.written k) in
-    rw (c.in_ok-refill.ensures.ended ∙ (sym c.is_empty.ensures ∙ c.if-is_empty.true)) (cut k config _ _ _ _ i))
+    let i = come_refilled (c.part.invariant.has_come s k) r.0 r.1 r.2 (c.in_ok-refill.ensures.written k) in
+    let running : c.part.work.kernel.machine.is_halted ≡ false = sym c.halted.ensures ∙ c.if-halted.false in
+    let full : c.part.script.taken ≡ script_limit = omega (arith, script_limit_is, c.if-script-eq-LIMIT.true) in
+    ends_here i _ End.TooLong c.part.invariant.still
+    (λ h more limits. too_long i c.part.invariant.ready.endless full (sym c.is_empty.ensures ∙ c.if-is_empty.false) more) (rw running refl)
+
+pub returns-in_err-settle_input-in-Ok-true-clause-ran : goal.returns-in_err-settle_input-in-Ok-true-clause-ran
+returns-in_err-settle_input-in-Ok-true-clause-ran g c = λ s k.
+    let r = c.in_ok-refill.ensures.taken s in
+    let i = come_refilled (c.part.invariant.has_come s k) r.0 r.1 r.2 (c.in_ok-refill.ensures.written k) in
+    input_fails i c.from_residual-in_err-settle_input-in-Ok-true.ensures.0
+    (rw c.in_err-settle_input-in-Ok-true.ensures.failures.2 at c.from_residual-in_err-settle_input-in-Ok-true.ensures.1)
+    ((rw c.in-Ok-true.field-0-test at c.in-Ok-true.ensures.takes) i.read i.earlier i.so_far) (c.in_err-settle_input-in-Ok-true.ensures.goes k).1
+
+pub returns-in-Err-clause-ran : goal.returns-in-Err-clause-ran
+returns-in-Err-clause-ran g c = λ s k.
+    let r = c.in_ok-refill.ensures.taken s in
+    let i = come_refilled (c.part.invariant.has_come s k) r.0 r.1 r.2 (c.in_ok-refill.ensures.written k) in
+    let running : c.part.work.kernel.machine.is_halted ≡ false = sym c.halted.ensures ∙ c.if-halted.false in
+    ends_here i _ (End.BadLine _) c.part.invariant.still (λ h more limits. c.in-Err.ensures.takes i.read i.earlier i.so_far more) (rw running refl)
 
 pub returns-then-is_empty-clause-few : goal.returns-then-is_empty-clause-few
 returns-then-is_empty-clause-few g c = λ s.
     let r = c.in_ok-refill.ensures.taken s in
-    (c.part.script.taken + length c.refill.new.piece, omega (arith, c.part.invariant.few, c.part.invariant.taken, c.in_ok-refill.ensures.few (omega (arith, c.part.invariant.few, c.part.invariant.taken))), read_more c.part.script.taken c.part.script.piece c.refill.new.piece (c.part.invariant.read s) r.0 r.1 r.2)
-
-pub returns-then-script-eq-LIMIT-clause-ended : goal.returns-then-script-eq-LIMIT-clause-ended
-returns-then-script-eq-LIMIT-clause-ended g c = λ s k config boots.
-    let r = c.in_ok-refill.ensures.taken s in
-    let i = in_run_refilled (c.part.invariant.in_run s k config boots) r.0 _ _ _ _ r.1 r.2 (c.in_ok-refill.ensures.written k) in
-    let running : c.part.kernel.machine.is_halted ≡ false = sym c.halted.ensures ∙ c.if-halted.false in
-    let few : c.part.script.taken ≤ script_limit = omega (arith, script_limit_is, c.part.invariant.taken) in
-    let some = sym c.is_empty.ensures ∙ c.if-is_empty.false in
-    let full : script_limit ≤ c.part.script.taken = omega (arith, script_limit_is, c.if-script-eq-LIMIT.true) in
-    in_run_stops i End.TooLong _ running (λ more limits. too_long i few full some more)
+    let few : c.part.script.taken + length c.refill.new.piece ≤ 16777217 = within_limit c.part.invariant.ready.few c.part.invariant.few c.in_ok-refill.ensures.few in
+    (c.part.script.taken + length c.refill.new.piece, few, read_more c.part.script.taken c.part.script.piece c.refill.new.piece (c.part.invariant.read s) r.0 r.1 r.2)
 
 pub returns-then-script-eq-LIMIT-clause-few : goal.returns-then-script-eq-LIMIT-clause-few
 returns-then-script-eq-LIMIT-clause-few g c = λ s.
     let r = c.in_ok-refill.ensures.taken s in
-    (c.part.script.taken + length c.refill.new.piece, omega (arith, c.part.invariant.few, c.part.invariant.taken, c.in_ok-refill.ensures.few (omega (arith, c.part.invariant.few, c.part.invariant.taken))), read_more c.part.script.taken c.part.script.piece c.refill.new.piece (c.part.invariant.read s) r.0 r.1 r.2)
+    let few : c.part.script.taken + length c.refill.new.piece ≤ 16777217 = within_limit c.part.invariant.ready.few c.part.invariant.few c.in_ok-refill.ensures.few in
+    (c.part.script.taken + length c.refill.new.piece, few, read_more c.part.script.taken c.part.script.piece c.refill.new.piece (c.part.invariant.read s) r.0 r.1 r.2)
 
-pub returns-in_err-take_line-clause-front : goal.returns-in_err-take_line-clause-front
-returns-in_err-take_line-clause-front g c = on_err c.from_residual-in_err-take_line.result (λ s k config boots.
+pub returns-in_err-settle_input-in-Ok-true-clause-few : goal.returns-in_err-settle_input-in-Ok-true-clause-few
+returns-in_err-settle_input-in-Ok-true-clause-few g c = λ s.
     let r = c.in_ok-refill.ensures.taken s in
-    let i = in_run_refilled (c.part.invariant.in_run s k config boots) r.0 _ _ _ _ r.1 r.2 (c.in_ok-refill.ensures.written k) in
-    c.in_err-take_line.ensures.cut_off k config _ _ _ _ _ i)
+    let few : c.part.script.taken + length c.refill.new.piece ≤ 16777217 = within_limit c.part.invariant.ready.few c.part.invariant.few c.in_ok-refill.ensures.few in
+    (c.part.script.taken + length c.refill.new.piece, few, read_more c.part.script.taken c.part.script.piece c.refill.new.piece (c.part.invariant.read s) r.0 r.1 r.2)
 
-pub returns-in_err-take_line-clause-few : goal.returns-in_err-take_line-clause-few
-returns-in_err-take_line-clause-few g c = λ s.
+pub returns-in-Err-clause-few : goal.returns-in-Err-clause-few
+returns-in-Err-clause-few g c = λ s.
     let r = c.in_ok-refill.ensures.taken s in
-    (c.part.script.taken + length c.refill.new.piece, omega (arith, c.part.invariant.few, c.part.invariant.taken, c.in_ok-refill.ensures.few (omega (arith, c.part.invariant.few, c.part.invariant.taken))), read_more c.part.script.taken c.part.script.piece c.refill.new.piece (c.part.invariant.read s) r.0 r.1 r.2)
+    let few : c.part.script.taken + length c.refill.new.piece ≤ 16777217 = within_limit c.part.invariant.ready.few c.part.invariant.few c.in_ok-refill.ensures.few in
+    (c.part.script.taken + length c.refill.new.piece, few, read_more c.part.script.taken c.part.script.piece c.refill.new.piece (c.part.invariant.read s) r.0 r.1 r.2)
 
-pub returns-in-Some-clause-ended : goal.returns-in-Some-clause-ended
-returns-in-Some-clause-ended g c = λ s k config boots.
-    let r = c.in_ok-refill.ensures.taken s in
-    let i = in_run_refilled (c.part.invariant.in_run s k config boots) r.0 _ _ _ _ r.1 r.2 (c.in_ok-refill.ensures.written k) in
-    (rw c.in-Some.is at c.in_ok-take_line.ensures.ended) k config _ _ _ _ _ i
+pub settle_input-requires-clause-bytes : goal.settle_input-requires-clause-bytes
+settle_input-requires-clause-bytes g c = (c.in-Ok-true.ensures.input c.in-Ok-true.field-0-test).0
 
-pub returns-in-Some-clause-few : goal.returns-in-Some-clause-few
-returns-in-Some-clause-few g c = λ s.
-    let r = c.in_ok-refill.ensures.taken s in
-    (c.part.script.taken + length c.refill.new.piece, omega (arith, c.part.invariant.few, c.part.invariant.taken, c.in_ok-refill.ensures.few (omega (arith, c.part.invariant.few, c.part.invariant.taken))), read_more c.part.script.taken c.part.script.piece c.refill.new.piece (c.part.invariant.read s) r.0 r.1 r.2)
+pub settle_input-requires-clause-clock : goal.settle_input-requires-clause-clock
+settle_input-requires-clause-clock g c =
+    let ticks = (c.in-Ok-true.ensures.input c.in-Ok-true.field-0-test).1 in
+    omega (arith, ticks, c.part.invariant.clock, c.part.invariant.ready.few)
 
 pub part-preserved : goal.part-preserved
 part-preserved g c = record {
-  in_run = λ s k config boots.
+  has_come = λ s k.
       let r = c.in_ok-refill.ensures.taken s in
-      let i = in_run_refilled (c.part.invariant.in_run s k config boots) r.0 _ _ _ _ r.1 r.2 (c.in_ok-refill.ensures.written k) in
-      c.in_ok-take_line.ensures.goes_on c.in-None.is k config _ _ _ _ i;
+      let i = come_refilled (c.part.invariant.has_come s k) r.0 r.1 r.2 (c.in_ok-refill.ensures.written k) in
+      come_took i ((rw c.in-Ok-false.field-0-test at c.in-Ok-false.ensures.takes) i.read i.earlier i.so_far);
   read = λ s.
       let r = c.in_ok-refill.ensures.taken s in
-      rw c.in_ok-take_line.ensures.bytes (read_more c.part.script.taken c.part.script.piece c.refill.new.piece (c.part.invariant.read s) r.0 r.1 r.2);
-  boxes = c.in_ok-take_line.ensures.boxes;
-  still = c.in_ok-take_line.ensures.still;
-  clock = c.in_ok-take_line.ensures.clock;
-  inputs = c.in_ok-take_line.ensures.inputs;
-  number = c.in_ok-take_line.ensures.number;
-  narrow = c.in_ok-take_line.ensures.narrow c.in-None.is;
-  endless = c.in_ok-take_line.ensures.endless;
-  taken = c.in_ok-take_line.ensures.few;
-  few = omega (arith, c.in_ok-take_line.ensures.bytes, c.part.invariant.few, c.part.invariant.taken, c.in_ok-refill.ensures.few (omega (arith, c.part.invariant.few, c.part.invariant.taken)));
+      rw c.take.ensures.bytes (read_more c.part.script.taken c.part.script.piece c.refill.new.piece (c.part.invariant.read s) r.0 r.1 r.2);
+  boxes = c.part.invariant.boxes;
+  still = c.part.invariant.still;
+  clock = omega (arith, c.part.invariant.clock, c.in-Ok-false.ensures.some);
+  inputs = omega (arith, c.part.invariant.inputs, c.in-Ok-false.ensures.some);
+  ready = c.in-Ok-false.ensures.ready;
+  few = omega (arith, c.take.ensures.bytes, within_limit c.part.invariant.ready.few c.part.invariant.few c.in_ok-refill.ensures.few);
   unended = c.in_ok-refill.ensures.ended ∙ (sym c.is_empty.ensures ∙ c.if-is_empty.false);
   reads = search rules;
   writes = search rules;
 }
 
-pub part-smaller : goal.part-smaller
-part-smaller g c = omega (arith, c.in_ok-take_line.ensures.some c.in-None.is, c.in_ok-take_line.ensures.few)
+pub part-preserved-in-Continue-branch-3 : goal.part-preserved-in-Continue-branch-3
+part-preserved-in-Continue-branch-3 g c = record {
+  has_come = λ s k.
+      let r = c.in_ok-refill.ensures.taken s in
+      let i = come_refilled (c.part.invariant.has_come s k) r.0 r.1 r.2 (c.in_ok-refill.ensures.written k) in
+      let w = c.in_ok-settle_input-in-Ok-true.ensures.goes k in
+      come_input i _ ((rw c.in-Ok-true.field-0-test at c.in-Ok-true.ensures.takes) i.read i.earlier i.so_far) (rw w.2 at w.1);
+  read = λ s.
+      let r = c.in_ok-refill.ensures.taken s in
+      rw c.take.ensures.bytes (read_more c.part.script.taken c.part.script.piece c.refill.new.piece (c.part.invariant.read s) r.0 r.1 r.2);
+  boxes = search rules;
+  still = c.in_ok-settle_input-in-Ok-true.ensures.still;
+  clock =
+      let ticks = (c.in-Ok-true.ensures.input c.in-Ok-true.field-0-test).1 in
+      omega (arith, ticks, c.part.invariant.clock, c.in_ok-settle_input-in-Ok-true.ensures.clock, c.in-Ok-true.ensures.some);
+  inputs = omega (arith, c.part.invariant.inputs, c.in_ok-settle_input-in-Ok-true.ensures.inputs, c.in-Ok-true.ensures.some);
+  ready = c.in-Ok-true.ensures.ready;
+  few = omega (arith, c.take.ensures.bytes, within_limit c.part.invariant.ready.few c.part.invariant.few c.in_ok-refill.ensures.few);
+  unended = c.in_ok-refill.ensures.ended ∙ (sym c.is_empty.ensures ∙ c.if-is_empty.false);
+  reads = search rules;
+  writes = search rules;
+}

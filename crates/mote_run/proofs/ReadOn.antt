@@ -1,16 +1,18 @@
--- The script as far as its bytes were used, after a take of more of them.
+-- The script as far as it was read, after a take of more of its bytes, and at its end.
 use Rattle.std.proofs.Common.{◌≡◌, ◌≢◌, ◌<◌, ◌≤◌, ◌+◌, ℕ, true, false, List, [], ◌∷◌, ◌++◌, length, take, drop, ◌-◌, refl, ap, sym, ◌∙◌, arith, append_assoc, length-append, ne_eqb, not, ◌==◌}
 use Rattle.std.specs.Prelude.{Bool, OnErr, OnOk, Some, None, Result, Ok, Err, unwrap_or, ◌&&◌}
 use Rattle.std.proofs.lemmas.List.{append-nil, length-take, length-take-le}
-use Rattle.std.proofs.lemmas.List.Folds.{list_all-append}
 use Rattle.mote_types.specs.declared.entry.Input.{Input}
 use Rattle.mote_text.specs.declared.lines.Taken.{Taken}
 use Rattle.mote_text.specs.declared.script.BadLine.{BadLine}
 use Rattle.mote_text.specs.declared.script.End.{End}
-use Rattle.mote_text.specs.Code.Lines.{GoesOnAt, has_no_end, unfinished_after, with_end}
-use Rattle.mote_text.specs.Script.{inputs, line_limit, read_line, script_limit}
-use Rattle.mote_text.proofs.Reading.{Before, Gives, another_byte, line_of_input, line_of_no_form, line_of_nothing, line_too_long, script_limit_is, script_too_long}
-use Rattle.mote_run.specs.Code.Reading.{IsOverlong, TakenPart, number_after, said}
+use Rattle.mote_text.specs.Code.LineAnswers.{line_said}
+use Rattle.mote_text.specs.Code.Lines.{GoesOnAt, has_no_end, unfinished, unfinished_after, with_end}
+use Rattle.mote_text.specs.Code.Reading.{Before, read_on}
+use Rattle.mote_text.specs.Script.{inputs, line_limit, preceded_by, read_line, script_limit, with_line}
+use Rattle.mote_text.proofs.Reading.{Gives, another_byte, line_of_input, line_of_no_form, line_of_nothing, line_too_long, script_limit_is, script_too_long}
+use Rattle.mote_run.specs.declared.script.Script.{Script}
+use Rattle.mote_run.specs.Code.Reading.{IsReady, ReadPart, ReadSoFar, Takes, number_after, said}
 use Rattle.mote_run.proofs.Windows.{next_byte, used_and_later}
 
 -- the bytes that a line's end stands behind, with it
@@ -41,34 +43,14 @@ endless_after Taken.Line bytes endless = refl
 endless_after Taken.More bytes endless = endless
 endless_after Taken.TooWide bytes endless = endless
 
-pub took : (line piece window later : List ℕ) (count used : ℕ) (last : Taken) (bytes : List ℕ) → window ≡ take (16_777_216 - count) piece → later ≡ drop used piece →
-    used ≤ length window → line ++ take used window ≡ with_end last bytes → length bytes ≤ line_limit → has_no_end bytes ≡ true → count ≤ 16_777_216 →
-    TakenPart line piece later count (count + used) last bytes
-took line piece window later count used last bytes front rests few joined narrow endless limit =
-    let room = 16_777_216 - count in
-    let within : used ≤ length (take room piece) = rw front at few in record {
-      part = take used window;
-      parts = rw (front, rests) (used_and_later used room piece within);
-      used = joined;
-      counts = ap (λ n. count + n) (sym (length-take-le used window few));
-      within = omega (arith, within, length-take room piece, limit, script_limit_is);
-      narrow = narrow;
-      endless = endless;
-    }
-
--- the byte behind a line that is too wide stands within what a script may have
-pub goes_on : (line piece window later : List ℕ) (count used ended : ℕ) (bytes : List ℕ) → window ≡ take (16_777_216 - count) piece → later ≡ drop used piece →
-    count ≤ 16_777_216 → ended + length bytes ≡ count + used → length bytes ≡ line_limit → GoesOnAt window used → IsOverlong ended bytes later
-goes_on line piece window later count used ended bytes front rests limit size full at =
-    let room = 16_777_216 - count in
-    let next = next_byte used room piece at.0 (rw front at at.1) in record {
-      full = full;
-      room = omega (arith, size, next.0, length-take room piece, limit, script_limit_is);
-      byte = at.0;
-      tail = next.1.0;
-      is = rests ∙ next.1.1;
-      other = at.2;
-    }
+-- the bytes are as many as a line may have, and another one of the same line stands behind them, within what a script may have
+pub record IsOverlong (ended : ℕ) (bytes later : List ℕ) : Type 0 where
+  pub full : length bytes ≡ line_limit
+  pub room : ended + length bytes < script_limit
+  pub byte : ℕ
+  pub tail : List ℕ
+  pub is : later ≡ byte ∷ tail
+  pub other : byte ≢ 10
 
 both : (a b : Bool) → (a && b) ≡ true → (a ≡ true) × (b ≡ true)
 both true b h = (refl, h)
@@ -76,18 +58,6 @@ both false b h = absurd (cc)
 
 not_end : (byte : ℕ) → not (byte == 10) ≡ true → byte ≢ 10
 not_end byte h = λ e. absurd (let f : not (10 == 10) ≡ true = rw e at h in cc)
-
--- a line end stands in no line
-pub ends_nowhere : (line bytes : List ℕ) → has_no_end line ≡ true → line ≡ bytes ++ 10 ∷ [] → ⊥
-ends_nowhere line bytes endless e =
-    let all = rw (e, list_all-append (λ byte. not (byte == 10)) bytes (10 ∷ [])) at endless in
-    absurd (let no = (both (has_no_end bytes) (has_no_end (10 ∷ [])) all).1 in cc)
-
--- what has ended no line, no byte was used behind
-pub a_line_used_some : (line bytes : List ℕ) (last : Taken) → has_no_end line ≡ true → line ++ [] ≡ with_end last bytes → last ≢ Taken.Line
-a_line_used_some line bytes Taken.Line endless e = λ is. ends_nowhere line bytes endless (sym (append-nil line) ∙ e)
-a_line_used_some line bytes Taken.More endless e = λ is. absurd (cc)
-a_line_used_some line bytes Taken.TooWide endless e = λ is. absurd (cc)
 
 -- bytes without a line end, behind those of the present line
 more_of_line : {taken : List ℕ} {earlier : List Input} {number : ℕ} {line : List ℕ} (bytes : List ℕ) → Before taken earlier number line → has_no_end bytes ≡ true →
@@ -163,10 +133,6 @@ pub is_none : (rest : List ℕ) → length rest ≡ 0 → rest ≡ []
 is_none [] h = refl
 is_none (byte ∷ rest) h = absurd (omega (arith, h))
 
-pub some_left : (rest : List ℕ) → (length rest == 0) ≡ false → 0 < length rest
-some_left [] h = absurd (cc)
-some_left (byte ∷ rest) h = omega arith
-
 pub some_used : (r : Result Bool BadLine) (count used : ℕ) (piece window : List ℕ) → window ≡ take (16_777_216 - count) piece → count < 16_777_216 →
     0 < length piece → OnOk r (0 < length window → 0 < used) → OnOk r (count < count + used)
 some_used (Ok is_input) count used piece window is room rest some =
@@ -181,3 +147,70 @@ number_small (Ok is_input) Taken.Line number number_later count used small some 
 number_small (Ok is_input) Taken.More number number_later count used small some after same = omega (arith, small, some, after)
 number_small (Ok is_input) Taken.TooWide number number_later count used small some after same = omega (arith, small, some, after)
 number_small (Err fault) last number number_later count used small some after same = omega (arith, small, same)
+
+-- what a take answers
+module _ (read : List ℕ) (earlier : List Input) (old new : Script) (used : ℕ) (window : List ℕ) (is_window : window ≡ take (16_777_216 - old.taken) old.piece)
+    (rests : new.piece ≡ drop used old.piece) (counts : new.taken ≡ old.taken + used) (limit : old.taken ≤ 16_777_216) (few : used ≤ length window)
+    (so_far : ReadSoFar read earlier old) where
+  abbrev line : List ℕ
+  line = unfinished old.reader.lines
+
+  within : used ≤ length (take (16_777_216 - old.taken) old.piece)
+  within = rw is_window at few
+
+  module _ (last : Taken) (bytes : List ℕ) (joined : line ++ take used window ≡ with_end last bytes) (narrow : length bytes ≤ line_limit) (endless : has_no_end bytes ≡ true) where
+    all_read : read ≡ so_far.ended ++ (with_end last bytes ++ new.piece)
+    all_read =
+        so_far.parts ∙ ap (λ v. so_far.ended ++ v) (ap (λ v. line ++ v) (used_and_later used (16_777_216 - old.taken) old.piece within)
+        ∙ (sym (append_assoc line (take used (take (16_777_216 - old.taken) old.piece)) (drop used old.piece))
+        ∙ rw (← is_window, joined, rests) refl))
+
+    size : length so_far.ended + length (with_end last bytes) ≡ new.taken
+    size = rw (← joined, counts, ← so_far.size, length-append line (take used window), length-take-le used window few) (omega arith)
+
+    room : length so_far.ended + length (with_end last bytes) ≤ script_limit
+    room = omega (arith, size, counts, within, limit, length-take (16_777_216 - old.taken) old.piece, script_limit_is)
+
+    -- further lines have ended, or none has
+    reads_on : (inputs_later : List Input) → unfinished new.reader.lines ≡ unfinished_after last bytes →
+        Before (so_far.ended ++ ended_by last bytes) inputs_later new.reader.number [] → ReadSoFar read inputs_later new
+    reads_on inputs_later begun before = record {
+      ended = so_far.ended ++ ended_by last bytes;
+      parts = all_read ∙ rw begun (parted last bytes so_far.ended new.piece);
+      size = rw begun (sizes last bytes so_far.ended ∙ size);
+      narrow = rw begun (narrow_after last bytes narrow);
+      before = before;
+    }
+
+    -- the byte behind a line that is too wide stands within what a script may have
+    goes_on : length bytes ≡ line_limit → GoesOnAt window used → with_end last bytes ≡ bytes → IsOverlong (length so_far.ended) bytes new.piece
+    goes_on full at same =
+        let next = next_byte used (16_777_216 - old.taken) old.piece at.0 (rw is_window at at.1) in
+        let whole : length so_far.ended + length bytes ≡ new.taken = ap (λ v. length so_far.ended + length v) (sym same) ∙ size in record {
+          full = full;
+          room = omega (arith, whole, counts, next.0, length-take (16_777_216 - old.taken) old.piece, limit, script_limit_is);
+          byte = at.0;
+          tail = next.1.0;
+          is = rests ∙ next.1.1;
+          other = at.2;
+        }
+
+    takes_so : (says : Result Bool BadLine) → unfinished new.reader.lines ≡ unfinished_after last bytes → line_said says new.reader.place.input ≡ said last bytes →
+        OnOk says (new.reader.number ≡ number_after last old.reader.number) → OnErr says (new.reader.number ≡ old.reader.number) →
+        (last ≡ Taken.TooWide → (length bytes ≡ line_limit) × GoesOnAt window used) → Takes read earlier new says
+    takes_so (Ok false) begun says numbered same wide =
+        reads_on earlier begun (rw numbered (nothing_said so_far.before last bytes room narrow endless (sym says)))
+    takes_so (Ok true) begun says numbered same wide =
+        reads_on _ begun (rw numbered (input_said so_far.before last bytes new.reader.place.input room narrow endless (sym says)))
+    takes_so (Err fault) begun says numbered same wide = λ more.
+        rw (all_read, same) (no_form_said so_far.before last bytes new.piece room narrow endless
+        (λ is. let w = wide is in goes_on w.0 w.1 (rw is refl)) (sym says) more)
+
+  pub takes : (says : Result Bool BadLine) → ReadPart line window (unfinished new.reader.lines) used old.reader.number new.reader.number says new.reader.place.input →
+      Takes read earlier new says
+  takes says r = takes_so r.last r.bytes r.joined r.narrow r.endless says r.begun r.says_so r.numbered r.same_number r.too_wide
+
+pub ready_after : (r : Result Bool BadLine) (script : Script) → OnOk r (script.reader.lines.last ≢ Taken.TooWide) → has_no_end (unfinished script.reader.lines) ≡ true →
+    script.reader.number ≤ script.taken + 1 → script.taken ≤ 16_777_216 → OnOk r (IsReady script)
+ready_after (Ok is_input) script narrow endless number few = record { narrow = narrow; endless = endless; number = number; few = few }
+ready_after (Err fault) script narrow endless number few = tt

@@ -1,0 +1,165 @@
+-- What was read and written keeps the promise of a run.
+use Rattle.std.proofs.Common.{◌≡◌, ℕ, Bool, true, false, List, [], ◌++◌, refl, ap, sym, subst, ◌∙◌, append_assoc}
+use Rattle.std.proofs.lemmas.List.{append-nil}
+use Rattle.std.specs.Prelude.{Result, Ok, Err, IfOk, IsErr, OnErr, IsErrOf, if◌then◌else◌}
+use Rattle.std.specs.List.{list_any}
+use Rattle.std.specs.Result.{IsErrAnd}
+use Rattle.mote_types.specs.Applications.{Applications}
+use Rattle.mote_types.specs.Entries.{is_halt}
+use Rattle.mote_types.specs.declared.entry.Entry.{Entry}
+use Rattle.mote_types.specs.declared.entry.Input.{Input}
+use Rattle.mote_text.specs.declared.script.End.{End}
+use Rattle.mote_text.specs.Script.{inputs}
+use Rattle.mote_text.specs.Transcript.{end_of, final_line, shown, text}
+use Rattle.kernel_core.specs.declared.config.Config.{Config}
+use Rattle.kernel_core.specs.Machine.{Machine, booted, is_bootable}
+use Rattle.kernel_core.specs.Run.{Running, Runs, at_start}
+use Rattle.mote_run.specs.declared.run.RunFault.{RunFault}
+use Rattle.mote_run.specs.RunText.{Exchange, Exchanged, HasRun, HasRunInPart, HasRunOnWholeLines, HasRunTo, IsRunText, OfEachScript}
+use Rattle.mote_run.specs.Trace.{RunPromise, SatisfyingRun, TraceSatisfies}
+use Rattle.mote_run.specs.Code.LoopInvariant.{Ran}
+use Rattle.mote_run.specs.Code.Way.{Follows, Place}
+use Rattle.mote_run.specs.Code.Writing.{WritesOn, lines}
+use Rattle.mote_run.proofs.Pieces.{no_value, same_error}
+use Rattle.run_laws.specs.RunLaws.{BlocksAreOwn, EventsArriveInOrder, ProcessesAreIsolated, TimersAreKept}
+
+-- the machine that was booted tells its configuration
+pub boots_so : (a b : Config) → booted a ≡ booted b → is_bootable b ≡ true → is_bootable a ≡ true
+boots_so a b e h =
+    let mmem : a.mmem ≡ b.mmem = ap (λ (m : Machine). m.memory.managed.capacity) e in
+    let heap : a.heap ≡ b.heap = ap (λ (m : Machine). m.memory.heap.size) e in
+    let apps : a.apps ≡ b.apps = ap (λ (m : Machine). m.scheduler.applications) e in
+    let quota : a.quota ≡ b.quota = ap (λ (m : Machine). m.memory.managed.quota) e in
+    let header : a.header ≡ b.header = ap (λ (m : Machine). m.memory.heap.header) e in
+    rw (mmem, heap, apps, quota, header) h
+
+abbrev pub booting : Config → Applications → Place
+booting config says = record { due = []; says = says; machine = booted config }
+
+same_without_end : (halted : Bool) (lines : List ℕ) → lines ++ final_line (if halted then End.Halted else End.Finished) ≡ lines ++ final_line End.Finished
+same_without_end true lines = refl
+same_without_end false lines = refl
+
+-- the laws of the machine's runs from this configuration
+pub record Laws (config : Config) : Type 0 where
+  pub exists : (says : Applications) (inputs : List Input) → (after : Running) × Runs says (at_start config) inputs after
+  pub memory : (says : Applications) (inputs : List Input) (after : Running) → Runs says (at_start config) inputs after → BlocksAreOwn after.entries
+  pub events : (says : Applications) (inputs : List Input) (after : Running) → Runs says (at_start config) inputs after → EventsArriveInOrder config.apps after.entries
+  pub timers : (says : Applications) (inputs : List Input) (after : Running) → Runs says (at_start config) inputs after → TimersAreKept config.apps after.entries
+  pub isolation : (says : Applications) (inputs : List Input) (after : Running) → Runs says (at_start config) inputs after → ProcessesAreIsolated config.quota config.apps after.entries
+
+module _ {config : Config} {says : Applications} {quiet : Bool} {taken_old taken_new : List ℕ} {is_ended : Bool} {given_old given_new : List ℕ} {answer : Result End RunFault}
+    (ran : Ran quiet taken_old taken_new is_ended given_old given_new (booting config says) (λ end. []) answer) (laws : Laws config) where
+  abbrev exchange : Exchange
+  exchange = record { read = ran.read; is_ended = is_ended; written = ran.out }
+
+  follows : {script out : List ℕ} {end : End} → IsRunText config says quiet script out end → Follows quiet (booting config says) (inputs script) out end
+  follows run = record { last = run.last; runs = run.runs; ends = run.ends; is_text = run.is_text }
+
+  -- the text of a script, and what is left of it
+  pub record Rest (script : List ℕ) : Type 0 where
+    rest : List ℕ
+    end : End
+    run : IsRunText config says quiet script (ran.out ++ rest) end
+    all : IfOk answer (λ answered. (rest ≡ []) × (answered ≡ end))
+
+  if_ok : {P Q : End → Type 0} (r : Result End RunFault) → ((end : End) → P end → Q end) → IfOk r P → IfOk r Q
+  if_ok (Ok end) f p = f end p
+  if_ok (Err fault) f p = tt
+
+  rest_of : OfEachScript exchange Rest
+  rest_of more limits =
+      let script = ran.read ++ more in
+      let run = laws.exists says (inputs script).0 in
+      let end : End = end_of run.0.entries (inputs script).1 in
+      let whole : IsRunText config says quiet script (text (shown quiet run.0.entries) end) end = record { last = run.0; runs = run.1; ends = refl; is_text = refl } in
+      let left = ran.text more limits (text (shown quiet run.0.entries) end) end (follows whole) in record {
+        rest = left.0;
+        end = end;
+        run = subst (λ (out : List ℕ). IsRunText config says quiet script out end) left.1 whole;
+        all = if_ok answer (λ answered e. (e.0, sym e.1)) left.2;
+      }
+
+  text_of : (r : Result End RunFault) → answer ≡ r → IfOk r (HasRun config says quiet exchange)
+  text_of (Err fault) same = tt
+  text_of (Ok answered) same = λ more limits.
+      let r = rest_of more limits in
+      let all : (r.rest ≡ []) × (answered ≡ r.end) = subst (λ v. IfOk v (λ answered. (r.rest ≡ []) × (answered ≡ r.end))) same r.all in
+      subst (λ (out : List ℕ). IsRunText config says quiet (ran.read ++ more) out answered) (append-nil ran.out)
+      (subst (λ (rest : List ℕ). IsRunText config says quiet (ran.read ++ more) (ran.out ++ rest) answered) all.0
+      (subst (λ (e : End). IsRunText config says quiet (ran.read ++ more) (ran.out ++ r.rest) e) (sym all.1) r.run))
+
+  in_part : HasRunInPart config says quiet exchange
+  in_part more limits whole end run = let left = ran.text more limits whole end (follows run) in (left.0, left.1)
+
+  on_err : (r : Result End RunFault) → OnErr r (HasRunInPart config says quiet exchange)
+  on_err (Ok end) = tt
+  on_err (Err fault) = in_part
+
+  whole_lines : IsErrOf answer RunFault.Read → HasRunOnWholeLines config says quiet exchange
+  whole_lines failed =
+      let w = ran.after_read_fault failed in
+      let run = laws.exists says w.whole in
+      let end : End = end_of run.0.entries End.Finished in record {
+        inputs = w.whole;
+        have_form = w.have_form;
+        last = run.0;
+        runs = run.1;
+        is_text =
+            sym (w.all (text (shown quiet run.0.entries) end) end (record { last = run.0; runs = run.1; ends = refl; is_text = refl }))
+            ∙ same_without_end (list_any is_halt run.0.entries) (lines quiet run.0.entries);
+      }
+
+  shows : (Law : List Entry → Type 0) → ((says : Applications) (inputs : List Input) (after : Running) → Runs says (at_start config) inputs after → Law after.entries) →
+      TraceSatisfies config says quiet Law answer exchange
+  shows Law lawful = λ more limits.
+      let r = rest_of more limits in
+      record { rest = r.rest; end = r.end; run = r.run; all = r.all; law = lawful says (inputs (ran.read ++ more)).0 r.run.last r.run.runs }
+
+  pub promised : Exchanged taken_old taken_new is_ended given_old given_new (RunPromise config says quiet answer)
+  promised = record {
+    read = ran.read;
+    written = ran.out;
+    taken = ran.taken;
+    given = ran.given;
+    holds = record {
+      ran = record { text = text_of answer refl; front = on_err answer; after_read_fault = whole_lines };
+      memory = shows BlocksAreOwn laws.memory;
+      events = shows (EventsArriveInOrder config.apps) laws.events;
+      timers = shows (TimersAreKept config.apps) laws.timers;
+      isolation = shows (ProcessesAreIsolated config.quota config.apps) laws.isolation;
+    };
+  }
+
+-- the last line was written behind all that was due
+pub closed : {quiet : Bool} {taken_old taken_new : List ℕ} {is_ended : Bool} {given_old given_new due given_later left : List ℕ} {start : Place} {end : End} {answer : Result End RunFault} →
+    Ran quiet taken_old taken_new is_ended given_old given_new start (λ end. due ++ final_line end) (Ok end) → WritesOn given_new due given_later left (final_line end) →
+    (IsErrOf answer RunFault.Read → ⊥) → IfOk answer (λ answered. (left ≡ []) × (answered ≡ end)) →
+    Ran quiet taken_old taken_new is_ended given_old given_later start (λ end. []) answer
+closed {given_old = given_old} {left = left} {end = end} {answer = answer} ran w no_read all = record {
+  read = ran.read;
+  out = ran.out ++ w.out;
+  taken = ran.taken;
+  given = w.given ∙ (ap (λ v. v ++ w.out) ran.given ∙ append_assoc given_old ran.out w.out);
+  text = λ more limits text ends f.
+      let a = ran.text more limits text ends f in
+      (left, a.1 ∙ (ap (λ v. ran.out ++ v) (a.2.0 ∙ w.parted) ∙ sym (append_assoc ran.out w.out left)), with_end answer ends a.2.1 all);
+  after_read_fault = λ failed. absurd (no_read failed);
+}
+  where
+    with_end : (r : Result End RunFault) (ends : End) → ends ≡ end → IfOk r (λ answered. (left ≡ []) × (answered ≡ end)) → IfOk r (λ answered. (left ≡ []) × (ends ≡ answered))
+    with_end (Ok answered) ends same all = (all.0, same ∙ sym all.1)
+    with_end (Err fault) ends same all = tt
+
+-- a `?` hands on a fault
+pub ran_failed : {quiet : Bool} {taken_old taken_new : List ℕ} {is_ended : Bool} {given_old given_new : List ℕ} {start : Place} {left_at : End → List ℕ} {fault : RunFault} {answer : Result End RunFault} →
+    IsErr answer → IsErrAnd answer (λ x. x ≡ fault) → Ran quiet taken_old taken_new is_ended given_old given_new start left_at (Err fault) →
+    Ran quiet taken_old taken_new is_ended given_old given_new start (λ end. []) answer
+ran_failed {fault = fault} {answer = answer} is_err is_fault ran = record {
+  read = ran.read;
+  out = ran.out;
+  taken = ran.taken;
+  given = ran.given;
+  text = λ more limits text end f. let a = ran.text more limits text end f in (a.0, a.1, no_value _ answer is_err);
+  after_read_fault = λ failed. ran.after_read_fault (same_error answer fault RunFault.Read is_fault failed);
+}

@@ -1,0 +1,207 @@
+-- Ways of a run, one after the other, and the shortest of them.
+use Rattle.std.proofs.Common.{◌≡◌, ℕ, Bool, true, false, List, [], ◌∷◌, ◌++◌, refl, ap, sym, ◌∙◌, append_assoc}
+use Rattle.std.specs.Prelude.{Option, Some, None, flat_map, length, ◌||◌, if◌then◌else◌, Result, Ok, Err, OnOk, OnErr}
+use Rattle.std.specs.List.{list_any}
+use Rattle.std.proofs.lemmas.List.{append-nil}
+use Rattle.std.proofs.lemmas.List.Elements.{filter-append}
+use Rattle.std.proofs.lemmas.List.Folds.{list_any-append}
+use Rattle.std.proofs.lemmas.Grind.{flat_map-append}
+use Rattle.mote_types.specs.Applications.{Applications}
+use Rattle.mote_types.specs.Entries.{is_halt}
+use Rattle.mote_types.specs.declared.call.Call.{Call}
+use Rattle.mote_types.specs.declared.entry.Entry.{Entry}
+use Rattle.mote_types.specs.declared.event.Stimulus.{Stimulus}
+use Rattle.mote_types.specs.declared.entry.Input.{Input}
+use Rattle.mote_types.specs.declared.refusal.Refusal.{Refusal}
+use Rattle.mote_text.specs.EntryText.{entry_line}
+use Rattle.mote_text.specs.Script.{Reading}
+use Rattle.mote_text.specs.Transcript.{end_of, final_line, is_shown, shown}
+use Rattle.mote_text.specs.declared.script.End.{End}
+use Rattle.device_core.specs.PacketQueue.{free_slot}
+use Rattle.kernel_core.specs.declared.step.Step.{Step}
+use Rattle.kernel_core.specs.Inputs.{fed, frame_held, frame_refusal, held_unless_lost}
+use Rattle.kernel_core.specs.Machine.{Machine}
+use Rattle.kernel_core.specs.Run.{Answers, Running, Runs, heard, is_at_rest, is_still, with_input}
+use Rattle.kernel_core.specs.Code.Steps.{GoesOn, made}
+use Rattle.mote_run.specs.Code.Way.{Follows, Goes, IsTold, Leads, Place, Went, end_at}
+use Rattle.mote_run.specs.Code.Writing.{WritesOn, lines}
+use Rattle.mote_run.proofs.Determined.{run_from, still_rest}
+use Rattle.mote_run.proofs.Steps.{behind, made_steps, runs_behind}
+use Rattle.mote_run.proofs.Writing.{nothing_more}
+
+-- the lines of more entries come behind those of the entries before
+lines-append : (quiet : Bool) (entries more : List Entry) → lines quiet (entries ++ more) ≡ lines quiet entries ++ lines quiet more
+lines-append quiet entries more =
+    ap (flat_map entry_line) (filter-append (λ entry. is_shown entry quiet) entries more)
+    ∙ flat_map-append entry_line (shown quiet entries) (shown quiet more)
+
+end_later : (a b c : Bool) (x y : End) → (if a then x else if b || c then x else y) ≡ (if a || b then x else if c then x else y)
+end_later true b c x y = refl
+end_later false true c x y = refl
+end_later false false c x y = refl
+
+ends_later : (old new : Bool) (entries more all : List Entry) (end : End) → all ≡ entries ++ more → new ≡ (old || list_any is_halt entries) →
+    (if old then End.Halted else end_of all end) ≡ (if new then End.Halted else end_of more end)
+ends_later old new entries more all end same halted =
+    rw (same, list_any-append is_halt entries more, halted) (end_later old (list_any is_halt entries) (list_any is_halt more) End.Halted end)
+
+text_later : (quiet : Bool) (due tail : List ℕ) (entries more all : List Entry) → all ≡ entries ++ more →
+    due ++ (lines quiet all ++ tail) ≡ (due ++ lines quiet entries) ++ (lines quiet more ++ tail)
+text_later quiet due tail entries more all same =
+    rw (same, lines-append quiet entries more)
+    (ap (λ v. due ++ v) (append_assoc (lines quiet entries) (lines quiet more) tail) ∙ sym (append_assoc due (lines quiet entries) (lines quiet more ++ tail)))
+
+-- a step of the kernel, whose lines are put behind what is due
+step_leads : (quiet : Bool) (due : List ℕ) (says now : Applications) (old new : Machine) (step : Step) →
+    GoesOn (λ p stimulus. says p (stimulus ∷ [])) old step new → IsTold says (made step) now →
+    new.is_halted ≡ (old.is_halted || list_any is_halt (made step)) →
+    Leads quiet [] [] (record { due = due; says = says; machine = old }) (record { due = due ++ lines quiet (made step); says = now; machine = new })
+step_leads quiet due says now old new step goes told halted = record {
+  onward = λ later text end f.
+      let k = made_steps says old new step goes in
+      let there : Running = record { machine = new; entries = made step } in
+      let after = run_from says (record { machine = old; entries = [] }) there f.last later.0 k.0 k.1 f.runs in
+      let s = runs_behind told later.0 (record { machine = new; entries = [] }) f.last (rw (← append-nil (made step)) at after) in
+      let all : f.last.entries ≡ made step ++ s.0.entries = ap (λ (w : Running). w.entries) s.2 in (
+        text,
+        refl,
+        record {
+          last = s.0;
+          runs = s.1;
+          ends = f.ends ∙ ends_later old.is_halted new.is_halted (made step) s.0.entries f.last.entries later.1 all halted;
+          is_text = f.is_text ∙ text_later quiet due (final_line end) (made step) s.0.entries f.last.entries all;
+        },
+      );
+}
+
+frame_halts : (slot : Option ℕ) (bytes : List ℕ) (m : Machine) → m.is_halted ≡ (frame_held slot bytes m).is_halted
+frame_halts None bytes m = refl
+frame_halts (Some slot) bytes m = refl
+
+held_halts : (refusal : Option Refusal) (bytes : List ℕ) (m : Machine) → m.is_halted ≡ (held_unless_lost refusal bytes m).is_halted
+held_halts (Some refusal) bytes m = refl
+held_halts None bytes m = frame_halts (free_slot m.packets) bytes m
+
+-- an input halts nothing
+fed_halts : (m : Machine) (input : Input) → m.is_halted ≡ (fed input m).is_halted
+fed_halts m (Input.Tick n) = refl
+fed_halts m (Input.Serial bytes) = refl
+fed_halts m (Input.Frame bytes) =
+    let woken : Machine = record m { work = 0 } in held_halts (frame_refusal (length bytes.items) woken) bytes.items woken
+
+-- an input is handed in
+pub input_leads : (quiet : Bool) (due : List ℕ) (says : Applications) (m : Machine) (input : Input) → is_still m ≡ true → m.is_halted ≡ false →
+    Leads quiet (input ∷ []) [] (record { due = due; says = says; machine = m }) (record { due = due; says = says; machine = fed input m })
+input_leads quiet due says m input still running = record {
+  onward = λ later text end f.
+      let here : Running = record { machine = m; entries = [] } in
+      let r = f.runs in
+      let same : r.0 ≡ here = still_rest says here r.0 still r.1 in
+      (text, refl, record { last = f.last; runs = rw same at (r.3 (rw same running)); ends = f.ends ∙ ap (λ (halted : Bool). if halted then End.Halted else end_of f.last.entries later.1) (fed_halts m input); is_text = f.is_text });
+}
+
+either_way : (halted rests : Bool) → rests ≡ true → (halted || rests) ≡ true
+either_way true rests e = refl
+either_way false rests e = e
+
+-- at rest nothing more happens
+pub rest_is_still : (old new : Machine) → ((answers : Answers) → GoesOn answers old Step.Rest new) → is_still new ≡ true
+rest_is_still old new goes = either_way new.is_halted (is_at_rest new) (goes (λ p stimulus. Call.Wait)).at_rest
+
+halts_by : (halted : Bool) → (halted ≡ false → ⊥) → halted ≡ true
+halts_by true h = refl
+halts_by false h = absurd (h refl)
+
+end_is : (halted : Bool) (later : Reading) (answered : End) → (halted ≡ false → later ≡ ([], answered)) →
+    (if halted then End.Halted else end_of [] later.1) ≡ (if halted then End.Halted else answered)
+end_is true later answered none = refl
+end_is false later answered none = ap (λ (reading : Reading). reading.1) (none refl)
+
+abbrev begins : Place → Running
+begins here = record { machine = here.machine; entries = [] }
+
+last_is : (here : Place) → is_still here.machine ≡ true → (later : List Input) (last : Running) → (here.machine.is_halted ≡ false → later ≡ []) →
+    Runs here.says (begins here) later last → last ≡ begins here
+last_is here still [] last none runs = still_rest here.says (begins here) last still runs
+last_is here still (input ∷ later) last none (rested, rests, stop, go) =
+    let same : rested ≡ begins here = still_rest here.says (begins here) rested still rests in
+    let halted : here.machine.is_halted ≡ true = halts_by here.machine.is_halted (λ h. let e = none h in absurd (cc)) in
+    stop (rw same halted) ∙ same
+
+module _ {quiet : Bool} where
+  pub went_on : {inputs more : List Input} {given₀ given₁ given₂ : List ℕ} {from mid to : Place} → Went quiet inputs given₀ given₁ from mid →
+      Went quiet more given₁ given₂ mid to → Went quiet (inputs ++ more) given₀ given₂ from to
+  went_on {inputs} {more} {given₀} first second = record {
+    out = first.out ++ second.out;
+    given = second.given ∙ (ap (λ v. v ++ second.out) first.given ∙ append_assoc given₀ first.out second.out);
+    leads = record {
+      onward = λ later text end f.
+          let a = first.leads.onward (more ++ later.0, later.1) text end (rw (append_assoc inputs more later.0) at f) in
+          let b = second.leads.onward later a.0 end a.2 in
+          (b.0, a.1 ∙ (ap (λ v. first.out ++ v) b.1 ∙ sym (append_assoc first.out second.out b.0)), b.2);
+    };
+  }
+
+  -- with no further input
+  pub went_further : {inputs : List Input} {given₀ given₁ given₂ : List ℕ} {from mid to : Place} → Went quiet inputs given₀ given₁ from mid →
+      Went quiet [] given₁ given₂ mid to → Went quiet inputs given₀ given₂ from to
+  went_further {inputs} first second = rw (append-nil inputs) at (went_on first second)
+
+  -- nothing was written
+  pub went_unseen : {inputs : List Input} {from to : Place} (given : List ℕ) → Leads quiet inputs [] from to → Went quiet inputs given given from to
+  went_unseen given leads = record { out = []; given = sym (append-nil given); leads = leads }
+
+  pub went_nowhere : (given : List ℕ) (here : Place) → Went quiet [] given given here here
+  went_nowhere given here = went_unseen given (record { onward = λ later text end f. (text, refl, f) })
+
+  -- some of what is due was written
+  pub written_leads : {given_old due_old given_new due_new : List ℕ} (says : Applications) (m : Machine) → (w : WritesOn given_old due_old given_new due_new []) →
+      Leads quiet [] w.out (record { due = due_old; says = says; machine = m }) (record { due = due_new; says = says; machine = m })
+  written_leads {given_old} {due_old} {given_new} {due_new} says m w = record {
+    onward = λ later text end f.
+        let rest = lines quiet f.last.entries ++ final_line end in (
+          due_new ++ rest,
+          f.is_text ∙ (ap (λ v. v ++ rest) (sym (append-nil due_old) ∙ w.parted) ∙ append_assoc w.out due_new rest),
+          record { last = f.last; runs = f.runs; ends = f.ends; is_text = refl },
+        );
+  }
+
+  pub went_written : {given_old due_old given_new due_new : List ℕ} (says : Applications) (m : Machine) → WritesOn given_old due_old given_new due_new [] →
+      Went quiet [] given_old given_new (record { due = due_old; says = says; machine = m }) (record { due = due_new; says = says; machine = m })
+  went_written says m w = record { out = w.out; given = w.given; leads = written_leads says m w }
+
+  -- some of what is due was written, and then the kernel made a step
+  pub went_step : {inputs : List Input} {given₀ given₁ given₂ : List ℕ} {from : Place} {due₁ due₂ due₃ : List ℕ} {says now : Applications} {old new : Machine} (step : Step) →
+      Went quiet inputs given₀ given₁ from (record { due = due₁; says = says; machine = old }) → WritesOn given₁ due₁ given₂ due₂ [] →
+      GoesOn (λ p stimulus. says p (stimulus ∷ [])) old step new →
+      ((p : ℕ) (next : Stimulus) (later : List Stimulus) → now p (next ∷ later) ≡ says p (heard p (made step) ++ (next ∷ later))) →
+      new.is_halted ≡ (old.is_halted || list_any is_halt (made step)) → due₃ ≡ due₂ ++ lines quiet (made step) →
+      Went quiet inputs given₀ given₂ from (record { due = due₃; says = now; machine = new })
+  went_step {given₂ = given₂} {due₂ = due₂} {says = says} {now = now} {old = old} {new = new} step so_far writes goes told halted due =
+      rw due (went_further (went_further so_far (went_written says old writes))
+      (went_unseen given₂ (step_leads quiet due₂ says now old new step goes (record { each = told }) halted)))
+
+  -- an input is handed in, and its line is put behind what is due
+  pub went_input : {given₀ given₁ due₀ due₁ due₂ : List ℕ} {says : Applications} {old new : Machine} (input : Input) → is_still old ≡ true → old.is_halted ≡ false →
+      WritesOn given₀ due₀ given₁ due₁ [] → GoesOn (λ p stimulus. says p (stimulus ∷ [])) (fed input old) (Step.Entry (Entry.Input input)) new → new.is_halted ≡ false →
+      due₂ ≡ due₁ ++ lines quiet (Entry.Input input ∷ []) →
+      Went quiet (input ∷ []) given₀ given₁ (record { due = due₀; says = says; machine = old }) (record { due = due₂; says = says; machine = new })
+  went_input {given₀ = given₀} {due₀ = due₀} {says = says} {old = old} {new = new} input still running writes goes runs due =
+      let halted : new.is_halted ≡ ((fed input old).is_halted || false) = rw (runs, ← fed_halts old input, running) refl in
+      went_step (Step.Entry (Entry.Input input)) (went_unseen given₀ (input_leads quiet due₀ says old input still running)) writes goes (λ p next later. refl) halted due
+
+  -- it comes to rest in silence
+  pub went_to_rest : {inputs : List Input} {given₀ given₁ due : List ℕ} {says : Applications} {from : Place} {old new : Machine} →
+      Went quiet inputs given₀ given₁ from (record { due = due; says = says; machine = old }) → GoesOn (λ p stimulus. says p (stimulus ∷ [])) old Step.Rest new →
+      old.is_halted ≡ false → new.is_halted ≡ old.is_halted → Went quiet inputs given₀ given₁ from (record { due = due; says = says; machine = new })
+  went_to_rest {given₁ = given₁} {due = due} so_far goes running same =
+      went_step Step.Rest so_far (nothing_more given₁ due) goes (λ p next later. refl) (rw (same, running) refl) (sym (append-nil due))
+
+  -- what is left where nothing more happens
+  module _ (here : Place) (still : is_still here.machine ≡ true) where
+    pub nothing_follows : (later : Reading) (text : List ℕ) (end answered : End) → (here.machine.is_halted ≡ false → later ≡ ([], answered)) →
+        Follows quiet here later text end → (text ≡ here.due ++ final_line (end_at here.machine answered)) × (end ≡ end_at here.machine answered)
+    nothing_follows later text end answered none f =
+        let same = last_is here still later.0 f.last (λ h. ap (λ (reading : Reading). reading.0) (none h)) f.runs in
+        let ends : end ≡ end_at here.machine answered = (rw same at f.ends) ∙ end_is here.machine.is_halted later answered none in
+        (f.is_text ∙ rw (same, ends) refl, ends)

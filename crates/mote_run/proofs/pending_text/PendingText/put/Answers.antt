@@ -1,9 +1,0 @@
-use Rattle.std.proofs.Common.{◌++◌}
-use Rattle.mote_run.proofs.Pieces.{on_err}
-use Rattle.mote_run.proofs.Writing.{put_behind, then_written}
-use Rattle.mote_run.proofs.pending_text.PendingText.put.Goals as goal
-
-pub returns-in_err-flush-clause-cut_off : goal.returns-in_err-flush-clause-cut_off
-returns-in_err-flush-clause-cut_off g c = on_err c.from_residual.result (λ named.
-    let cut = c.in_err-flush.ensures.cut_off named in
-    (cut.0 ++ c.args.text.now, then_written cut.1 (put_behind _ cut.0 c.args.text.now)))

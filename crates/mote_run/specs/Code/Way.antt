@@ -1,0 +1,53 @@
+-- The way of a run from one place to another, by what is left to be written.
+use Rattle.std.specs.Prelude.{◌≡◌, ℕ, Bool, List, [], ◌∷◌, ◌++◌, Result, OnOk, if◌then◌else◌}
+use Rattle.mote_types.specs.declared.event.Stimulus.{Stimulus}
+use Rattle.mote_types.specs.declared.entry.Entry.{Entry}
+use Rattle.mote_types.specs.declared.entry.Input.{Input}
+use Rattle.mote_types.specs.Applications.{Applications}
+use Rattle.mote_text.specs.Script.{Reading, preceded_by}
+use Rattle.mote_text.specs.Transcript.{end_of, final_line}
+use Rattle.mote_text.specs.declared.script.End.{End}
+use Rattle.kernel_core.specs.Machine.{Machine}
+use Rattle.kernel_core.specs.Run.{Running, Runs, heard}
+use Rattle.mote_run.specs.declared.settle.Work.{Work}
+use Rattle.mote_run.specs.Code.Writing.{lines}
+
+-- each application says now what it said before these entries to all that it heard in them, and to what it is told next
+pub record IsTold (before : Applications) (entries : List Entry) (now : Applications) : Type 0 where
+  pub each : (p : ℕ) (next : Stimulus) (later : List Stimulus) → now p (next ∷ later) ≡ before p (heard p entries ++ (next ∷ later))
+
+-- where a run is: text that is due, what the applications say to what they are told from now on, and the machine
+pub record Place : Type 0 where
+  pub due : List ℕ
+  pub says : Applications
+  pub machine : Machine
+
+abbrev pub place : Work → Applications → Place
+place work says = record { due = work.due.text.items; says = says; machine = work.kernel.machine }
+
+-- how a run ends, by its machine, where its script ends so
+abbrev pub end_at : Machine → End → End
+end_at machine end = if machine.is_halted then End.Halted else end
+
+-- where such inputs are still handed in, and the script ends so, this text is still to be written, and this is how the run ends
+pub record Follows (quiet : Bool) (here : Place) (later : Reading) (text : List ℕ) (end : End) : Type 0 where
+  pub last : Running
+  pub runs : Runs here.says (record { machine = here.machine; entries = [] }) later.0 last
+  pub ends : end ≡ end_at here.machine (end_of last.entries later.1)
+  pub is_text : text ≡ here.due ++ (lines quiet last.entries ++ final_line end)
+
+-- On the way these inputs were handed in, and this was written: with it begins whatever text follows from the one place, and
+-- what is left of it follows from the other
+pub record Leads (quiet : Bool) (inputs : List Input) (out : List ℕ) (from to : Place) : Type 0 where
+  pub onward : (later : Reading) (text : List ℕ) (end : End) → Follows quiet from (preceded_by inputs later) text end →
+      (left : List ℕ) × (text ≡ out ++ left) × Follows quiet to later left end
+
+-- the same way, and what a sink was given on it
+pub record Went (quiet : Bool) (inputs : List Input) (given_old given_new : List ℕ) (from to : Place) : Type 0 where
+  pub out : List ℕ
+  pub given : given_new ≡ given_old ++ out
+  pub leads : Leads quiet inputs out from to
+
+-- it went to this place, or, where the answer is a fault, to some other
+abbrev pub Goes : {T Fault : Type 0} → Result T Fault → Bool → List Input → List ℕ → List ℕ → Place → Place → Type 0
+Goes answer quiet inputs given_old given_new from to = (end : Place) × Went quiet inputs given_old given_new from end × OnOk answer (end ≡ to)
