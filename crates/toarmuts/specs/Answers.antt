@@ -1,0 +1,120 @@
+-- What an answer says of a run.
+use Rattle.std.specs.Prelude.{◌≡◌, ◌+◌, ◌<◌, ◌≤◌, ◌⊎◌, ⊤, ℕ, false, List, [], ◌∷◌, ◌++◌, length, codes, None}
+use Rattle.std.specs.Str.{IsUtf8}
+use Rattle.std.specs.Str.Lines.{lines}
+use Rattle.mote_types.specs.Applications.{says_of}
+use Rattle.mote_text.specs.declared.script.End.{End}
+use Rattle.mote_apps.specs.Bundled.{named}
+use Rattle.call_lists.specs.Applications.{application_says, IsListed, IsNamed}
+use Rattle.call_lists.specs.declared.applications.Application.{Application}
+use Rattle.kernel_core.specs.declared.config.Config.{Config}
+use Rattle.kernel_core.specs.Machine.{is_bootable}
+use Rattle.mote_kit.specs.Runs.{config_of}
+use Rattle.mote_run.specs.RunText.{IsRunText}
+use Rattle.toarmuts.specs.Configurations.{is_quiet, sizes_of}
+use Rattle.toarmuts.specs.declared.configuration.Configuration.{Configuration}
+use Rattle.toarmuts.specs.declared.refusal.Refusal.{Refusal}
+
+-- the line has this text of calls behind its first word
+abbrev pub HasCalls : List ℕ → List ℕ → Type 0
+HasCalls line text = ((line ≡ codes "calls") × (text ≡ [])) ⊎ (line ≡ codes "calls " ++ text)
+
+-- the line names this application, or has its calls
+abbrev pub IsOfLine : List ℕ → Application → Type 0
+IsOfLine line application = IsNamed line application ⊎ ((text : List ℕ) × HasCalls line text × IsListed application)
+
+-- an application for each line, in their order
+abbrev pub AreOfLines : List (List ℕ) → List Application → Type 0
+AreOfLines [] [] = ⊤
+AreOfLines (line ∷ following) (application ∷ others) = IsOfLine line application × AreOfLines following others
+AreOfLines _ _ = ⊥
+
+-- out is the text of the machine's run of the lines' applications on the script, all of it and nothing else, and this is how it
+-- ends
+pub record HasRun (configuration : Configuration) (text script out : List ℕ) (end : End) : Type 0 where
+  pub applications : List Application
+  pub are_of_lines : AreOfLines (lines text) applications
+  pub is_text : IsRunText (config_of (sizes_of configuration) (length applications)) (says_of application_says applications) (is_quiet configuration) script out end
+
+-- the line of this number, from 1 on, names no application of the mote
+pub record NamesNone (all : List (List ℕ)) (number : ℕ) : Type 0 where
+  pub line : List ℕ
+  pub before : List (List ℕ)
+  pub behind : List (List ℕ)
+  pub is_line : all ≡ before ++ line ∷ behind
+  pub is_number : number ≡ length before + 1
+  pub is_none : named line ≡ None
+
+-- why a line is no further application behind so many
+abbrev pub IsRefusedLine : List ℕ → ℕ → Refusal → Type 0
+IsRefusedLine line count (Refusal.NoApplication number) = (number ≡ count + 1) × (named line ≡ None)
+IsRefusedLine line count Refusal.TooManyApplications = 16 ≤ count
+IsRefusedLine line count refusal = ⊥
+
+-- why lines are no applications
+abbrev pub AreRefused : List (List ℕ) → Refusal → Type 0
+AreRefused all (Refusal.NoApplication number) = NamesNone all number
+AreRefused all Refusal.TooManyApplications = 16 < length all
+AreRefused all Refusal.OutOfMemory = ⊤
+AreRefused all refusal = ⊥
+
+-- why there is no run of a mote
+abbrev pub IsRefusedRun : Config → Refusal → Type 0
+IsRefusedRun config Refusal.BadSizes = is_bootable config ≡ false
+IsRefusedRun config Refusal.OutOfMemory = ⊤
+IsRefusedRun config refusal = ⊥
+
+-- why there was no run, each under its own condition; memory may be refused at any time
+abbrev pub Refuses : Configuration → List ℕ → Refusal → Type 0
+Refuses configuration text Refusal.NotText = IsUtf8 text → ⊥
+Refuses configuration text (Refusal.NoApplication number) = NamesNone (lines text) number
+Refuses configuration text Refusal.TooManyApplications = 16 < length (lines text)
+Refuses configuration text Refusal.BadSizes = is_bootable (config_of (sizes_of configuration) (length (lines text))) ≡ false
+Refuses configuration text Refusal.OutOfMemory = ⊤
+
+-- the number of a run's end
+abbrev pub status_of : End → ℕ
+status_of End.Finished = 0
+status_of (End.BadLine line) = 2
+status_of End.Halted = 3
+status_of End.TooLong = 4
+
+-- the number of the line of no form, where there is one
+abbrev pub line_of : End → ℕ
+line_of (End.BadLine line) = line
+line_of end = 0
+
+-- the number of what was refused
+abbrev pub refusal_status : Refusal → ℕ
+refusal_status Refusal.NotText = 16
+refusal_status (Refusal.NoApplication number) = 17
+refusal_status Refusal.TooManyApplications = 18
+refusal_status Refusal.BadSizes = 19
+refusal_status Refusal.OutOfMemory = 21
+
+-- the number of the line that names no application, where that is the reason
+abbrev pub refusal_line : Refusal → ℕ
+refusal_line (Refusal.NoApplication number) = number
+refusal_line refusal = 0
+
+-- out is the text of that run, and status and line are those of its end
+pub record IsRunOf (configuration : Configuration) (text script out : List ℕ) (status line : ℕ) : Type 0 where
+  pub end : End
+  pub has_run : HasRun configuration text script out end
+  pub is_status : status ≡ status_of end
+  pub is_line : line ≡ line_of end
+
+-- that run has a text of so many bytes, for which there is no room
+pub record IsTooLongFor (room : ℕ) (configuration : Configuration) (text script : List ℕ) (size : ℕ) : Type 0 where
+  pub end : End
+  pub out : List ℕ
+  pub has_run : HasRun configuration text script out end
+  pub is_size : size ≡ length out
+  pub is_over : room < size
+
+-- status and line are those of a reason why there was no run
+pub record IsRefusalOf (configuration : Configuration) (text : List ℕ) (status line : ℕ) : Type 0 where
+  pub refusal : Refusal
+  pub is_refused : Refuses configuration text refusal
+  pub is_status : status ≡ refusal_status refusal
+  pub is_line : line ≡ refusal_line refusal

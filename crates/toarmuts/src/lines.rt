@@ -1,0 +1,69 @@
+//! The applications that lines name.
+
+ghost use Rattle.std.specs.Prelude.{◌≡◌, None, IfErr, IfNone, IfOk, IfSome};
+ghost use Rattle.std.specs.Str.Lines.{lines};
+ghost use Rattle.mote_apps.specs.Bundled.{named};
+ghost use Rattle.toarmuts.specs.Answers.{AreOfLines, AreRefused, HasCalls, IsOfLine, IsRefusedLine};
+
+use crate::refusal::Refusal;
+use call_lists::Application;
+use std::alloc::Global;
+
+/// The most applications of a mote.
+const MOST_APPLICATIONS: usize = 16;
+
+/// The text of calls that a line has, where its first word says that it has one.
+fn calls_in(line: &str) -> Option<&str>
+    ensures { IfSome result (λ text. HasCalls line.now text.now) }
+{
+    if line == "calls" {
+        return Some("");
+    }
+    line.strip_prefix("calls ")
+}
+
+/// The application that a line names, or whose calls it has.
+fn application_of(line: &str) -> Option<Application>
+    ensures named { IfSome result (IsOfLine line.now) }
+    ensures none { IfNone result (named line.now ≡ None) }
+{
+    match calls_in(line) {
+        Some(text) => Application::listed(text).ok(),
+        None => Application::named(line).ok(),
+    }
+}
+
+/// The application of a line that stands behind so many others.
+///
+/// # Errors
+///
+/// `TooManyApplications` where these are 16, and `NoApplication`.
+fn next_application(line: &str, count: usize) -> Result<Application, Refusal>
+    ensures named { IfOk result (IsOfLine line.now) }
+    ensures refused { IfErr result (IsRefusedLine line.now count) }
+{
+    if count >= MOST_APPLICATIONS {
+        return Err(Refusal::TooManyApplications);
+    }
+    match application_of(line) {
+        Some(application) => Ok(application),
+        None => Err(Refusal::NoApplication(count as u64 + 1)),
+    }
+}
+
+/// The applications of a text, a line for each.
+///
+/// # Errors
+///
+/// The first line that names none, or more than 16 applications.
+pub fn read_applications(alloc: Global, text: &str) -> Result<Vec<Application>, Refusal>
+    ensures of_lines { IfOk result (λ applications. AreOfLines (lines text.now) applications.items) }
+    ensures refused { IfErr result (AreRefused (lines text.now)) }
+{
+    let mut applications = Vec::new(alloc);
+    for line in text.lines() {
+        let application = next_application(line, applications.len())?;
+        applications.push(application)?;
+    }
+    Ok(applications)
+}
