@@ -1,0 +1,23 @@
+/* Runs blink, and a list of calls, and prints the transcripts. */
+#include "toarmuts.h"
+
+#include <stdio.h>
+#include <string.h>
+
+static int
+run(const char *applications, const char *script)
+{
+  static uint8_t transcript[1 << 16];
+  struct toarmuts_configuration configuration = TOARMUTS_DEFAULTS;
+  struct toarmuts_answer answer;
+  toarmuts_run(&configuration, (const uint8_t *)applications, strlen(applications), (const uint8_t *)script, strlen(script),
+               transcript, sizeof transcript, &answer);
+  fwrite(transcript, 1, answer.status == TOARMUTS_NO_ROOM ? 0 : answer.length, stdout);
+  return (int)answer.status;
+}
+
+int
+main(void)
+{
+  return run("blink", "tick 10\ntick 10\n") | run("calls timer-set 0 5, wait, print 6869", "tick 5\n");
+}
