@@ -3,6 +3,7 @@
 use crate::failure::Failure;
 use clap::builder::ValueParser;
 use clap::{Arg, ArgAction, ArgMatches, Command, Error, value_parser};
+use run_picture::Sizes;
 use std::alloc::{AllocError, Global};
 
 /// The version of the program.
@@ -35,8 +36,7 @@ pub struct Named<'a> {
     pub names: Vec<&'a str>,
     pub from: u64,
     pub to: u64,
-    /// The bytes of managed memory.
-    pub managed: u32,
+    pub sizes: Sizes,
     pub unfolded: bool,
 }
 
@@ -120,6 +120,15 @@ fn are_sizes(matches: &ArgMatches<'_>) -> bool {
         && (header == Some(16) || header == Some(8))
 }
 
+/// The sizes that the options name.
+fn sizes_of(matches: &ArgMatches<'_>) -> Sizes {
+    Sizes {
+        managed: matches.get_one::<u32>("mmem").unwrap_or(4096),
+        heap: matches.get_one::<u32>("heap").unwrap_or(4096),
+        header: matches.get_one::<u32>("header").unwrap_or(16),
+    }
+}
+
 /// What the words name. The first word is the program's name.
 ///
 /// # Errors
@@ -143,7 +152,7 @@ pub fn read_words<'a>(alloc: Global, words: &'a [&'a str]) -> Result<Named<'a>, 
         names,
         from: matches.get_one::<u64>("from").unwrap_or(0),
         to: matches.get_one::<u64>("to").unwrap_or(u64::MAX),
-        managed: matches.get_one::<u32>("mmem").unwrap_or(4096),
+        sizes: sizes_of(&matches),
         unfolded: matches.get_flag("unfolded"),
     })
 }

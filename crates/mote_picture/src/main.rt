@@ -56,7 +56,7 @@ fn draw_picture<R: AllocGlobal + io::Input + Print>(rt: &R, words: &[&str]) -> R
         names: named.names.as_slice(),
         from: named.from,
         to: named.to,
-        managed: named.managed,
+        sizes: named.sizes,
         unfolded: named.unfolded,
     };
     let picture = draw(alloc, lines.as_slice(), &settings)?;

@@ -3,9 +3,13 @@
 //! Rows are those of a picture; whoever reads the transcript tells in which one something comes about.
 #![tactic(auto)]
 
+pub mod heap;
+mod heap_map;
 pub mod managed;
 pub mod memory;
+pub mod pools;
 pub mod stay;
+mod words;
 
-pub use memory::{Memory, Stays};
+pub use memory::{Memory, Sizes, Stays};
 pub use stay::Stay;

@@ -42,6 +42,40 @@ impl Record {
             .position(|stay| stay.pid == pid && stay.name == name)
     }
 
+    /// Whether a block lies at a place.
+    pub(crate) fn is_taken(&self, at: u64) -> bool {
+        self.live.iter().any(|stay| stay.at == at)
+    }
+
+    /// A block's stay begins.
+    pub(crate) fn begin(&mut self, stay: Stay) -> Result<(), AllocError> {
+        self.live.push(stay)?;
+        Ok(())
+    }
+
+    /// The stay of the block at that place in the list ends in a row, if there is one.
+    fn end_of(&mut self, place: Option<usize>, row: usize) -> Result<(), AllocError> {
+        match place {
+            Some(place) if place < self.live.len() => {
+                let stay = self.live.swap_remove(place);
+                self.keep(stay, row)
+            }
+            _ => Ok(()),
+        }
+    }
+
+    /// The stay of a process's block ends in a row, if it has one. The order of the others may change.
+    pub(crate) fn end(&mut self, pid: usize, name: u64, row: usize) -> Result<(), AllocError> {
+        let place = self.find(pid, name);
+        self.end_of(place, row)
+    }
+
+    /// The same for the block that begins at a place.
+    pub(crate) fn end_at(&mut self, at: u64, row: usize) -> Result<(), AllocError> {
+        let place = self.live.iter().position(|stay| stay.at == at);
+        self.end_of(place, row)
+    }
+
     /// A stay has ended in a row. One that was in no other row is not kept.
     pub(crate) fn keep(&mut self, stay: Stay, row: usize) -> Result<(), AllocError> {
         if stay.first < row {

@@ -5,10 +5,11 @@ use crate::labels::{
     push_answer, push_call, push_ending, push_input, push_note, push_told, refusal_in,
 };
 use crate::marks::{Activation, Gift, Life, Marks};
-use crate::markup::Element;
 use crate::page::{CLOCK, Page, ROW};
 use crate::pen::{Area, Pen, Place, text_element, with_span};
+use crate::posts::Curve;
 use crate::row::{Row, Show};
+use picture_markup::Element;
 use std::alloc::{AllocError, Global};
 use transcript_lines::{Line, Origin, Turn, read_line};
 
@@ -86,6 +87,27 @@ pub(crate) fn draw_gifts(pen: &mut Pen, page: &Page, gifts: &[Gift]) -> Result<(
             gift.from, gift.to
         )?;
         pen.line("a", head.as_str(), title.as_str())?;
+    }
+    Ok(())
+}
+
+/// Draws a curve for each event, from where it was posted to where it is told.
+pub(crate) fn draw_curves(pen: &mut Pen, page: &Page, curves: &[Curve]) -> Result<(), AllocError> {
+    for curve in curves {
+        let (from, to) = (page.lane_of(curve.from), page.lane_of(curve.to));
+        let top = page.top_of(curve.first).saturating_add(ROW / 2);
+        let end = page.top_of(curve.last).saturating_add(6);
+        let bow = if from == to { 24 } else { 0 };
+        let middle = (from.saturating_add(to) / 2).saturating_add(bow);
+        let commands = format!(in pen.alloc;
+            "M{from},{top}C{middle},{top} {middle},{end} {to},{end}"
+        )?;
+        let class = class_of(pen.alloc, "cv s", curve.from)?;
+        let title = format!(in pen.alloc;
+            "posted by process {}, told to process {}",
+            curve.from, curve.to
+        )?;
+        pen.line(class.as_str(), commands.as_str(), title.as_str())?;
     }
     Ok(())
 }

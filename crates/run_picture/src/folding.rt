@@ -1,8 +1,8 @@
 //! Which lines share a row.
 
-ghost use Rattle.std.specs.Prelude.{◌≡◌, ◌+◌, ◌-◌, ◌≤◌, ◌<◌, length, IfOk, IfSome};
+ghost use Rattle.std.specs.Prelude.{◌≡◌, ◌+◌, ◌-◌, ◌≤◌, ◌<◌, length, All, IfOk, IfSome};
 ghost use Rattle.std.specs.Bool.{OnTrue};
-ghost use Rattle.run_picture.specs.Rows.{Cover};
+ghost use Rattle.run_picture.specs.Rows.{Cover, IsPlain};
 
 use crate::row::{Row, Show};
 use std::alloc::{AllocError, Global};
@@ -91,7 +91,8 @@ fn row_in_front(lines: &[&str], first: usize) -> Row
 /// A row for each of the lines from one to another.
 pub(crate) fn unfolded_rows(alloc: Global, first: usize, end: usize) -> Result<Vec<Row>, AllocError>
     requires { first ≤ end }
-    ensures { IfOk result (λ rows. Cover first rows.items end) }
+    ensures cover { IfOk result (λ rows. Cover first rows.items end) }
+    ensures plain { IfOk result (λ rows. All IsPlain rows.items) }
 {
     let mut rows = Vec::new(alloc);
     for at in first..end {

@@ -1,12 +1,12 @@
 //! The grounds of the rows, each of which tells its lines when it is pointed at.
 
 ghost use Rattle.std.specs.Prelude.{◌≡◌, map, string_bytes, IfOk};
-ghost use Rattle.run_picture.specs.Titles.{ended_lines};
+ghost use Rattle.run_picture.specs.Rows.{ended_lines};
 
-use crate::markup::Content;
 use crate::page::{Page, ROW};
 use crate::pen::{Area, Place, area_element, title_element};
 use crate::row::{Row, Show};
+use picture_markup::Content;
 use std::alloc::{AllocError, Global};
 
 /// The lines, a line end behind each.

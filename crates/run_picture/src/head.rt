@@ -31,9 +31,10 @@ pub(crate) fn tally_text(
         sent,
         lost,
         refused,
+        late,
     } = *tally;
     format!(in alloc;
-        "{inputs} inputs, {turns} turns, clock {clock}; {printed} bytes printed, {sent} frames sent, {lost} lost, {refused} calls refused; ends: {end}"
+        "{inputs} inputs, {turns} turns, clock {clock}; {printed} bytes printed, {sent} frames sent, {lost} lost, {refused} calls refused, {late} timers late; ends: {end}"
     )
 }
 

@@ -1,8 +1,9 @@
 //! What the lines of a transcript tell together: activations, lives, and what was given at once.
 
-use crate::row::Row;
+use crate::posts::{Curve, Posts};
+use crate::row::{Row, Show};
 use crate::timers::{Arming, Moment, Timers};
-use run_memory::{Memory, Stays};
+use run_memory::{Memory, Sizes, Stays};
 use std::alloc::{AllocError, Global};
 use transcript_lines::{Input, Line, Note, Origin, Turn, read_line, read_turn};
 
@@ -42,6 +43,8 @@ pub(crate) struct Tally {
     pub(crate) sent: u64,
     pub(crate) lost: u64,
     pub(crate) refused: u64,
+    /// Timers that were told after they were due.
+    pub(crate) late: u64,
 }
 
 /// What the rows tell together.
@@ -56,6 +59,7 @@ pub(crate) struct Marks {
     pub(crate) activations: Vec<Activation>,
     pub(crate) lives: Vec<Life>,
     pub(crate) gifts: Vec<Gift>,
+    pub(crate) curves: Vec<Curve>,
     pub(crate) armings: Vec<Arming>,
     pub(crate) stays: Stays,
     pub(crate) tally: Tally,
@@ -78,6 +82,8 @@ struct Process {
     /// The row where its activation began, and the last one of its turns.
     begun: usize,
     last: usize,
+    /// The row where its last activation ended.
+    marked: Option<usize>,
     awaited: Option<Awaited>,
 }
 
@@ -85,28 +91,34 @@ struct Process {
 #[derive(Drop)]
 struct Walk {
     clock: u64,
+    /// Whether the row's lines are repeated ones, which show as little as one of them.
+    is_folded: bool,
     processes: [Process; PROCESSES],
     /// The processes in an activation, the innermost last.
     active: Vec<usize>,
     timers: Timers,
     memory: Memory,
+    posts: Posts,
     marks: Marks,
 }
 
 impl Walk {
-    fn new(alloc: Global) -> Result<Self, AllocError> {
+    fn new(alloc: Global, sizes: Sizes) -> Result<Self, AllocError> {
         let process = Process {
             born: None,
             begun: 0,
             last: 0,
+            marked: None,
             awaited: None,
         };
         Ok(Walk {
             clock: 0,
+            is_folded: false,
             processes: [process; PROCESSES],
             active: Vec::new(alloc),
             timers: Timers::new(alloc)?,
-            memory: Memory::new(alloc),
+            memory: Memory::new(alloc, sizes)?,
+            posts: Posts::new(alloc),
             marks: Marks {
                 start: 0,
                 clocks: Vec::new(alloc),
@@ -114,6 +126,7 @@ impl Walk {
                 activations: Vec::new(alloc),
                 lives: Vec::new(alloc),
                 gifts: Vec::new(alloc),
+                curves: Vec::new(alloc),
                 armings: Vec::new(alloc),
                 stays: Stays::new(alloc),
                 tally: Tally::default(),
@@ -151,11 +164,14 @@ impl Walk {
         let Some(process) = self.processes.get_mut(pid) else {
             return Ok(());
         };
-        if let Some(first) = process.born.take() {
-            let end = Some(row);
-            self.marks.lives.push(Life { pid, first, end })?;
+        match process.born.take() {
+            Some(first) if first < row || !self.is_folded => {
+                let end = Some(row);
+                self.marks.lives.push(Life { pid, first, end })?;
+                Ok(())
+            }
+            _ => Ok(()),
         }
-        Ok(())
     }
 
     /// A process is told the answer to its call, in the line of that number.
@@ -180,13 +196,14 @@ impl Walk {
             return Ok(());
         }
         match lines.get(awaited.number) {
-            Some(line) => self.carry_out(line, awaited.row),
+            Some(line) => self.carry_out(line, turn.stimulus, awaited),
             None => Ok(()),
         }
     }
 
-    /// The call of a line was accepted that was made in a row.
-    fn carry_out(&mut self, line: &str, row: usize) -> Result<(), AllocError> {
+    /// The call of a line was accepted, with that answer.
+    fn carry_out(&mut self, line: &str, answer: &str, call: Awaited) -> Result<(), AllocError> {
+        let Awaited { row, number } = call;
         let Some(turn) = read_turn(line) else {
             return Ok(());
         };
@@ -202,23 +219,34 @@ impl Walk {
                 Ok(pid) => self.end_life(pid, row),
                 Err(_) => Ok(()),
             },
+            "post" | "broadcast" => self.posts.carry_out(&turn, number, row),
             _ => {
                 let clock = self.clock;
-                self.memory.carry_out(turn.pid, turn.call, row)?;
+                self.memory.carry_out(turn.pid, turn.call, answer, row)?;
                 self.timers
                     .carry_out(turn.pid, turn.call, Moment { row, clock })
             }
         }
     }
 
-    /// A process's activation begins in a row.
-    fn begin(&mut self, turn: &Turn<'_>, row: usize) -> Result<(), AllocError> {
-        if turn.origin == Origin::Synch {
-            if let Some(from) = self.active.last() {
+    /// A process is given something at once, by the one whose activation is the innermost, if there is one.
+    fn give(&mut self, to: usize, row: usize) -> Result<(), AllocError> {
+        match self.active.last() {
+            Some(from) if !self.is_folded => {
                 let from = *from;
-                let to = turn.pid;
                 self.marks.gifts.push(Gift { from, to, row })?;
+                Ok(())
             }
+            _ => Ok(()),
+        }
+    }
+
+    /// A process's activation begins in a row.
+    fn begin(&mut self, lines: &[&str], turn: &Turn<'_>, row: usize) -> Result<(), AllocError> {
+        match turn.origin {
+            Origin::Synch => self.give(turn.pid, row)?,
+            Origin::Event => self.posts.tell(lines, turn, row)?,
+            _ => {}
         }
         let clock = self.clock;
         self.timers.tell(turn, Moment { row, clock })?;
@@ -234,30 +262,37 @@ impl Walk {
 
     /// All activations that are still open end: no more is heard of them.
     fn rest(&mut self) -> Result<(), AllocError> {
-        for pid in self.active.as_slice() {
-            let pid = *pid;
+        for _active in 0..self.active.len() {
+            let pid = self.active.pop().unwrap_or(0);
             if let Some(process) = self.processes.get(pid) {
-                let (first, last) = (process.begun, process.last);
-                self.marks
-                    .activations
-                    .push(Activation { pid, first, last })?;
+                let last = process.last;
+                self.mark_activation(pid, last)?;
             }
         }
-        self.active.clear();
+        Ok(())
+    }
+
+    /// A process's activation was one up to a row. Of those that lie in one folded row the first alone is kept.
+    fn mark_activation(&mut self, pid: usize, last: usize) -> Result<(), AllocError> {
+        let Some(process) = self.processes.get_mut(pid) else {
+            return Ok(());
+        };
+        let first = process.begun;
+        let is_marked = process.marked == Some(first);
+        process.marked = Some(last);
+        if first == last && is_marked && self.is_folded {
+            return Ok(());
+        }
+        self.marks
+            .activations
+            .push(Activation { pid, first, last })?;
         Ok(())
     }
 
     /// A process's activation ends in a row.
     fn end(&mut self, pid: usize, row: usize) -> Result<(), AllocError> {
         self.active.retain(|active| *active != pid);
-        if let Some(process) = self.processes.get(pid) {
-            let first = process.begun;
-            let last = row;
-            self.marks
-                .activations
-                .push(Activation { pid, first, last })?;
-        }
-        Ok(())
+        self.mark_activation(pid, row)
     }
 
     /// A turn in a row, told by the line of that number.
@@ -275,7 +310,7 @@ impl Walk {
             self.take_answer(lines, turn, number)?;
         }
         if turn.origin != Origin::Answer || !self.active.as_slice().contains(&turn.pid) {
-            self.begin(turn, row)?;
+            self.begin(lines, turn, row)?;
         }
         self.take_call(turn, Awaited { row, number })
     }
@@ -321,12 +356,14 @@ impl Walk {
         self.marks.gifts.clear();
         self.timers.armings.clear();
         self.memory.forget_rows();
+        self.posts.forget_rows();
         self.marks.start = self.clock;
     }
 
     /// The lines of a row.
     fn take_row(&mut self, lines: &[&str], row: &Row, place: usize) -> Result<(), AllocError> {
         self.marks.answers.push(None)?;
+        self.is_folded = matches!(row.show, Show::Again(_));
         for number in row.first..row.first.saturating_add(row.count) {
             self.take_line(lines, place, number)?;
         }
@@ -335,7 +372,7 @@ impl Walk {
     }
 
     /// What is still going on goes on to the end.
-    fn finish(mut self) -> Result<Marks, AllocError> {
+    fn finish(mut self, alloc: Global) -> Result<Marks, AllocError> {
         self.rest()?;
         for (pid, process) in self.processes.iter().enumerate() {
             if let Some(first) = process.born {
@@ -343,15 +380,22 @@ impl Walk {
                 self.marks.lives.push(Life { pid, first, end })?;
             }
         }
+        self.marks.tally.late = self.timers.late;
         self.marks.armings = self.timers.finish()?;
-        self.marks.stays = self.memory.finish()?;
+        self.marks.curves = self.posts.finish();
+        self.marks.stays = self.memory.finish(alloc)?;
         Ok(self.marks)
     }
 }
 
 /// What rows of a transcript tell together, with what the lines before them left.
-pub(crate) fn marks_of(alloc: Global, lines: &[&str], rows: &[Row]) -> Result<Marks, AllocError> {
-    let mut walk = Walk::new(alloc)?;
+pub(crate) fn marks_of(
+    alloc: Global,
+    lines: &[&str],
+    rows: &[Row],
+    sizes: Sizes,
+) -> Result<Marks, AllocError> {
+    let mut walk = Walk::new(alloc, sizes)?;
     let first = rows.first().map_or(lines.len(), |row| row.first);
     for number in 0..first {
         walk.take_line(lines, 0, number)?;
@@ -360,5 +404,5 @@ pub(crate) fn marks_of(alloc: Global, lines: &[&str], rows: &[Row]) -> Result<Ma
     for (place, row) in rows.iter().enumerate() {
         walk.take_row(lines, row, place)?;
     }
-    walk.finish()
+    walk.finish(alloc)
 }

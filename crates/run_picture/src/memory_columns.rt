@@ -2,8 +2,8 @@
 
 use crate::page::{Page, ROW};
 use crate::pen::{Area, Pen, Place};
-use run_memory::Stay;
 use run_memory::managed::FRAMES;
+use run_memory::{Sizes, Stay};
 use std::alloc::{AllocError, Global};
 
 /// The least width of a box with a name in it.
@@ -93,7 +93,7 @@ fn draw_frame(
     page: &Page,
     column: &Column,
     name: &str,
-    size: u64,
+    range: &str,
 ) -> Result<(), AllocError> {
     let area = Area {
         place: Place {
@@ -107,9 +107,22 @@ fn draw_frame(
     let left = column.left;
     let top = page.top.saturating_sub(24);
     pen.text("b", Place { left, top }, name)?;
-    let range = format!(in pen.alloc; "0 to {} of {size} bytes", column.bytes)?;
     let top = page.top.saturating_sub(12);
-    pen.text("g", Place { left, top }, range.as_str())
+    pen.text("g", Place { left, top }, range)
+}
+
+/// Draws a box, and its name where there is room for it.
+fn draw_box(
+    pen: &mut Pen,
+    page: &Page,
+    column: &Column,
+    stay: &Stay,
+    title: &str,
+) -> Result<(), AllocError> {
+    let area = area_of(page, column, stay);
+    let class = format!(in pen.alloc; "z f{}", stay.pid)?;
+    pen.area(class.as_str(), area, title)?;
+    draw_name(pen, area, stay)
 }
 
 /// Draws managed memory: the lengths of its blocks one behind the other.
@@ -117,23 +130,109 @@ pub(crate) fn draw_managed(
     pen: &mut Pen,
     page: &Page,
     stays: &[Stay],
-    size: u64,
+    size: u32,
 ) -> Result<(), AllocError> {
     if stays.is_empty() {
         return Ok(());
     }
+    let size = size as u64;
     let column = Column {
         left: page.managed_left(),
         width: page.columns.managed,
         bytes: bytes_shown(stays, size),
     };
-    draw_frame(pen, page, &column, "managed memory", size)?;
+    let range = format!(in pen.alloc; "0 to {} of {size} bytes", column.bytes)?;
+    draw_frame(pen, page, &column, "managed memory", range.as_str())?;
     for stay in stays {
-        let area = area_of(page, &column, stay);
-        let class = format!(in pen.alloc; "z f{}", stay.pid)?;
         let title = managed_title(pen.alloc, stay)?;
-        pen.area(class.as_str(), area, title.as_str())?;
-        draw_name(pen, area, stay)?;
+        draw_box(pen, page, &column, stay, title.as_str())?;
     }
     Ok(())
+}
+
+/// What a box of the heap tells.
+fn heap_title(alloc: Global, stay: &Stay, header: u32) -> Result<String, AllocError> {
+    let end = stay.at.saturating_add(stay.taken);
+    let room = stay.taken.saturating_sub(header as u64);
+    format!(in alloc;
+        "heap block {} of process {}: {} bytes, room for {room}, from {} to {end} with its header",
+        stay.name, stay.pid, stay.size, stay.at
+    )
+}
+
+/// A part of a block, so many bytes from its front on, as a stay of its own.
+fn part_of(stay: &Stay, from: u64, bytes: u64) -> Stay {
+    Stay {
+        at: stay.at.saturating_add(from),
+        taken: bytes,
+        ..*stay
+    }
+}
+
+/// Makes the header of a block paler, and the room that it has beyond its length.
+fn draw_pale_parts(
+    pen: &mut Pen,
+    page: &Page,
+    column: &Column,
+    stay: &Stay,
+    header: u32,
+) -> Result<(), AllocError> {
+    let header = header as u64;
+    let front = part_of(stay, 0, header);
+    pen.area("u", area_of(page, column, &front), "a header")?;
+    let used = header.saturating_add(stay.size);
+    let rest = stay.taken.saturating_sub(used);
+    if rest == 0 {
+        return Ok(());
+    }
+    let rest = part_of(stay, used, rest);
+    let title = format!(in pen.alloc; "{} bytes of room beyond the length", rest.taken)?;
+    pen.area("u", area_of(page, column, &rest), title.as_str())
+}
+
+/// Draws the map of the heap: across the places, so that one sees the gaps between the blocks.
+pub(crate) fn draw_heap(
+    pen: &mut Pen,
+    page: &Page,
+    stays: &[Stay],
+    most: usize,
+    sizes: Sizes,
+) -> Result<(), AllocError> {
+    if stays.is_empty() {
+        return Ok(());
+    }
+    let size = sizes.heap as u64;
+    let column = Column {
+        left: page.heap_left(),
+        width: page.columns.heap,
+        bytes: bytes_shown(stays, size),
+    };
+    let range = format!(in pen.alloc;
+        "0 to {} of {size} bytes, at most {most} blocks at once",
+        column.bytes
+    )?;
+    draw_frame(pen, page, &column, "heap", range.as_str())?;
+    for stay in stays {
+        let title = heap_title(pen.alloc, stay, sizes.header)?;
+        draw_box(pen, page, &column, stay, title.as_str())?;
+        draw_pale_parts(pen, page, &column, stay, sizes.header)?;
+    }
+    Ok(())
+}
+
+/// Tells of the first line that a heap of these sizes answers in another way, if there is one.
+pub(crate) fn draw_difference(
+    pen: &mut Pen,
+    page: &Page,
+    line: Option<usize>,
+) -> Result<(), AllocError> {
+    let Some(line) = line else {
+        return Ok(());
+    };
+    let place = Place {
+        left: page.heap_left().saturating_add(40),
+        top: page.top.saturating_sub(24),
+    };
+    let words = format!(in pen.alloc; "not the run's heap from line {line} on: other sizes?")?;
+    pen.text("r", place, words.as_str())
 }

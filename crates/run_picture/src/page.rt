@@ -20,6 +20,12 @@ const LEAST_WIDTH: usize = 760;
 /// The width of the column of managed memory.
 const MANAGED: usize = 180;
 
+/// The width of the heap's map.
+const HEAP: usize = 340;
+
+/// The width of a pool's column.
+pub(crate) const POOL: usize = 80;
+
 /// The room between two columns.
 const BETWEEN: usize = 24;
 
@@ -27,13 +33,18 @@ const BETWEEN: usize = 24;
 #[derive(Clone, Copy, Drop)]
 pub(crate) struct Columns {
     pub(crate) managed: usize,
+    pub(crate) heap: usize,
+    /// How many pools have a column.
+    pub(crate) pools: usize,
 }
 
 impl Columns {
-    /// The columns for a run in which managed memory is used, or isn't.
-    pub(crate) fn new(is_managed: bool) -> Self {
+    /// The columns for a run in which managed memory is used, or isn't, the heap, and so many pools.
+    pub(crate) fn new(is_managed: bool, is_heap: bool, pools: usize) -> Self {
         Columns {
             managed: if is_managed { MANAGED } else { 0 },
+            heap: if is_heap { HEAP } else { 0 },
+            pools,
         }
     }
 }
@@ -117,8 +128,20 @@ impl Page {
         self.words_end().saturating_add(10)
     }
 
-    pub(crate) fn width(&self) -> usize {
+    /// Where the heap's map begins.
+    pub(crate) fn heap_left(&self) -> usize {
         behind(self.managed_left(), self.columns.managed)
+    }
+
+    /// Where the column of a pool begins that has so many others before it.
+    pub(crate) fn pool_left(&self, others: usize) -> usize {
+        behind(self.heap_left(), self.columns.heap).saturating_add(others.saturating_mul(
+            POOL + BETWEEN,
+        ))
+    }
+
+    pub(crate) fn width(&self) -> usize {
+        self.pool_left(self.columns.pools)
             .saturating_add(10)
             .max(LEAST_WIDTH)
     }

@@ -1,7 +1,6 @@
 //! Shapes and texts that are put into a picture, each with what it tells when it is pointed at.
 
-use crate::markup::{Content, Element};
-use crate::names::{Attribute, Tag};
+use picture_markup::{Attribute, Content, Element, Tag};
 use std::alloc::{AllocError, Global};
 
 /// Where something stands, in units of a pixel, from the left and from above.

@@ -1,25 +1,28 @@
 //! The picture of a run.
 
-ghost use Rattle.std.specs.Prelude.{◌≤◌, length, IfOk};
-ghost use Rattle.run_picture.specs.Markup.{IsDocument};
-ghost use Rattle.run_picture.specs.Rows.{Cover};
+ghost use Rattle.std.specs.Prelude.{◌≡◌, ◌-◌, ◌^◌, ◌≤◌, length, All, IfOk};
+ghost use Rattle.std.specs.Bool.{OnTrue};
+ghost use Rattle.picture_markup.specs.Markup.{IsDocument};
+ghost use Rattle.run_picture.specs.Rows.{Cover, IsPlain};
 
-use crate::drawing::{draw_activations, draw_gifts, draw_lives, draw_words};
+use crate::drawing::{draw_activations, draw_curves, draw_gifts, draw_lives, draw_words};
 use crate::folding::{folded_rows, unfolded_rows};
 use crate::grounds::grounds_of;
 use crate::head::{draw_ground, draw_head, draw_lanes, style_of, tally_text};
 use crate::marks::{Marks, marks_of};
-use crate::markup::{Content, Element};
-use crate::memory_columns::draw_managed;
-use crate::names::{Attribute, Tag};
+use crate::memory_columns::{draw_difference, draw_heap, draw_managed};
 use crate::page::{Columns, Page};
 use crate::pen::Pen;
+use crate::pool_columns::{Pools, draw_pools};
 use crate::row::Row;
+use crate::strip::{draw_strip, height_of};
 use crate::timer_lines::draw_timers;
+use picture_markup::{Attribute, Content, Element, Tag};
+use run_memory::{Sizes, Stays};
 use std::alloc::{AllocError, Global};
 use transcript_lines::{Ending, Input, Line, read_line};
 
-/// Where the first row begins.
+/// Where the first row would begin with no overview above it.
 const TOP: usize = 96;
 
 /// What a picture shows of a transcript.
@@ -33,8 +36,8 @@ pub struct Settings<'a> {
     pub from: u64,
     /// The clock at the last line that is shown.
     pub to: u64,
-    /// The bytes of managed memory.
-    pub managed: u32,
+    /// The sizes of the mote's memory.
+    pub sizes: Sizes,
     /// Whether each line has a row of its own.
     pub unfolded: bool,
 }
@@ -72,13 +75,19 @@ fn count_before(lines: &[&str], clock: u64) -> usize
 pub fn shown_of(lines: &[&str], settings: &Settings<'_>) -> Shown
     ensures order { result.first ≤ result.end }
     ensures there { result.end ≤ length lines.now }
+    ensures first { settings.now.from ≡ 0 → result.first ≡ 0 }
+    ensures last { settings.now.to ≡ 2 ^ 64 - 1 → result.end ≡ length lines.now }
 {
     let end = if settings.to == u64::MAX {
         lines.len()
     } else {
         count_before(lines, settings.to.saturating_add(1))
     };
-    let first = count_before(lines, settings.from).min(end);
+    let first = if settings.from == 0 {
+        0
+    } else {
+        count_before(lines, settings.from).min(end)
+    };
     Shown { first, end }
 }
 
@@ -92,6 +101,7 @@ pub fn rows_of(
     requires order { shown.first ≤ shown.end }
     requires there { shown.end ≤ length lines.now }
     ensures cover { IfOk result (λ rows. Cover shown.first rows.items shown.end) }
+    ensures plain { OnTrue unfolded (IfOk result (λ rows. All IsPlain rows.items)) }
 {
     if unfolded {
         unfolded_rows(alloc, shown.first, shown.end)
@@ -131,15 +141,43 @@ fn draw_content(
         .unwrap_or(marks.start);
     let tally = tally_text(alloc, &marks.tally, clock, end_of(lines))?;
     draw_head(&mut pen, page, settings.title, tally.as_str())?;
+    draw_strip(&mut pen, page, marks)?;
     draw_lanes(&mut pen, page, settings.names)?;
     draw_lives(&mut pen, page, marks.lives.as_slice())?;
     draw_timers(&mut pen, page, marks.armings.as_slice())?;
     draw_activations(&mut pen, page, marks.activations.as_slice())?;
     draw_gifts(&mut pen, page, marks.gifts.as_slice())?;
+    draw_curves(&mut pen, page, marks.curves.as_slice())?;
     draw_words(&mut pen, page, lines, rows, marks)?;
-    let managed = marks.stays.managed.as_slice();
-    draw_managed(&mut pen, page, managed, settings.managed as u64)?;
+    draw_memory(&mut pen, page, rows, &marks.stays, settings.sizes)?;
     Ok(pen.content)
+}
+
+/// The columns of memory.
+fn draw_memory(
+    pen: &mut Pen,
+    page: &Page,
+    rows: &[Row],
+    stays: &Stays,
+    sizes: Sizes,
+) -> Result<(), AllocError> {
+    draw_managed(pen, page, stays.managed.as_slice(), sizes.managed)?;
+    draw_heap(pen, page, stays.heap.as_slice(), stays.most, sizes)?;
+    let line = match stays.differs {
+        Some(row) => rows.get(row).map(|row| row.first.saturating_add(1)),
+        None => None,
+    };
+    draw_difference(pen, page, line)?;
+    draw_pools(pen, page, stays.used.as_slice(), stays.linked.as_slice())
+}
+
+/// The columns that the memory of a run takes.
+fn columns_of(stays: &Stays) -> Columns {
+    Columns::new(
+        !stays.managed.is_empty(),
+        !stays.heap.is_empty(),
+        Pools::of(stays.used.as_slice()).count(),
+    )
 }
 
 /// The ground and the style of a picture.
@@ -163,6 +201,30 @@ fn frame_of(alloc: Global, page: &Page) -> Result<Element, AllocError> {
         .with(Attribute::ViewBox, view.as_str())
 }
 
+/// The text of a picture: what stands behind the rows, the rows' grounds, and what stands over them.
+fn document_of(
+    alloc: Global,
+    page: &Page,
+    behind: &Content,
+    grounds: &Content,
+    content: &Content,
+) -> Result<Vec<u8>, AllocError>
+    ensures { IfOk result (λ picture. IsDocument picture.items) }
+{
+    let picture = frame_of(alloc, page)?
+        .around(behind)?
+        .around(grounds)?
+        .around(content)?;
+    picture.document(alloc)
+}
+
+/// The places of the parts of a picture with these rows.
+fn page_of(rows: &[Row], marks: &Marks, names: usize) -> Page {
+    let lanes = names.max(marks.processes.saturating_sub(4)).min(16);
+    let top = TOP.saturating_add(height_of(lanes));
+    Page::new(lanes, rows.len(), top, columns_of(&marks.stays))
+}
+
 /// The picture of a run, from the lines of its transcript: a document in which each element is closed and each text is escaped.
 pub fn draw(alloc: Global, lines: &[&str], settings: &Settings<'_>) -> Result<Vec<u8>, AllocError>
     ensures document { IfOk result (λ picture. IsDocument picture.items) }
@@ -170,19 +232,10 @@ pub fn draw(alloc: Global, lines: &[&str], settings: &Settings<'_>) -> Result<Ve
     let shown = shown_of(lines, settings);
     let rows = rows_of(alloc, lines, shown, settings.unfolded)?;
     let rows = rows.as_slice();
-    let marks = marks_of(alloc, lines, rows)?;
-    let lanes = settings
-        .names
-        .len()
-        .max(marks.processes.saturating_sub(4))
-        .min(16);
-    let columns = Columns::new(!marks.stays.managed.is_empty());
-    let page = Page::new(lanes, rows.len(), TOP, columns);
+    let marks = marks_of(alloc, lines, rows, settings.sizes)?;
+    let page = page_of(rows, &marks, settings.names.len());
+    let behind = draw_behind(alloc, &page)?;
     let grounds = grounds_of(alloc, &page, lines, rows)?;
     let content = draw_content(alloc, &page, lines, rows, &marks, settings)?;
-    let picture = frame_of(alloc, &page)?
-        .around(&draw_behind(alloc, &page)?)?
-        .around(&grounds)?
-        .around(&content)?;
-    picture.document(alloc)
+    document_of(alloc, &page, &behind, &grounds, &content)
 }

@@ -2,8 +2,9 @@
 
 /// The style of a picture, without the colours of the processes: of texts `b` bold, `g` grey, `m` of one width, `p` printed, `r`
 /// refused, `h` the head, `e` ended where it stands, `c` in the middle; of grounds `i` an input, `t` a turn or a note, `x` an
-/// end; of lines `l` a life, `k` its end, `a` what was given at once, `o` a timer, with `q` a callback timer, `y` one told late,
-/// `d` dots; of memory `j` a column, `z` a block, `v` its name.
+/// end; of lines `l` a life, `k` its end, `a` what was given at once, `cv` what was posted, `o` a timer, with `q` a callback timer, `y` one told late,
+/// `d` dots; of memory `j` a column, `z` a block, `v` its name, `u` a paler
+/// part of it, `c0` and `c1` that it is in the first or second list of its pool.
 pub(crate) const STYLE: &str = "\
 svg{font:11px 'DejaVu Sans',Verdana,sans-serif}\
 text{fill:#222;white-space:pre;pointer-events:none}\
@@ -26,10 +27,14 @@ text{fill:#222;white-space:pre;pointer-events:none}\
 .o{fill:none;stroke-width:2}\
 .q{stroke-dasharray:3 2}\
 .y{stroke:#c01818}\
+.cv{fill:none;stroke-width:1.3;opacity:.6}\
 .d{fill:none;stroke:#ccc;stroke-dasharray:1 4}\
 .j{fill:#f7f7f7}\
 .z{stroke:#fff;stroke-width:.7}\
 .f3{fill:#777}\
+.u{fill:#fff;opacity:.45}\
+.c0{fill:#000;opacity:.6}\
+.c1{fill:#fff;opacity:.75}\
 .v{fill:#fff;font-size:9px}";
 
 /// The colours of the processes 4, 5, ..

@@ -69,28 +69,26 @@ fn commands_of(alloc: Global, page: &Page, arming: &Arming) -> Result<String, Al
     format!(in alloc; "M{from},{top}h6M{left},{top}V{end}{head}")
 }
 
-/// Draws a line for each arming that is seen in more than one row.
+/// Draws a line for each arming.
 pub(crate) fn draw_timers(
     pen: &mut Pen,
     page: &Page,
     armings: &[Arming],
 ) -> Result<(), AllocError> {
     for arming in armings {
-        if arming.last != Some(arming.first) {
-            let kind = if is_callback(arming.timer) {
-                "o q"
-            } else {
-                "o"
-            };
-            let class = if is_late(arming) {
-                format!(in pen.alloc; "{kind} y")?
-            } else {
-                format!(in pen.alloc; "{kind} s{}", arming.pid)?
-            };
-            let commands = commands_of(pen.alloc, page, arming)?;
-            let title = title_of(pen.alloc, arming)?;
-            pen.line(class.as_str(), commands.as_str(), title.as_str())?;
-        }
+        let kind = if is_callback(arming.timer) {
+            "o q"
+        } else {
+            "o"
+        };
+        let class = if is_late(arming) {
+            format!(in pen.alloc; "{kind} y")?
+        } else {
+            format!(in pen.alloc; "{kind} s{}", arming.pid)?
+        };
+        let commands = commands_of(pen.alloc, page, arming)?;
+        let title = title_of(pen.alloc, arming)?;
+        pen.line(class.as_str(), commands.as_str(), title.as_str())?;
     }
     Ok(())
 }

@@ -61,6 +61,8 @@ pub(crate) struct Moment {
 pub(crate) struct Timers {
     cells: Vec<Cell>,
     pub(crate) armings: Vec<Arming>,
+    /// How many were told after they were due.
+    pub(crate) late: u64,
 }
 
 impl Timers {
@@ -68,6 +70,7 @@ impl Timers {
         Ok(Timers {
             cells: vec![in alloc; UNUSED; CELLS]?,
             armings: Vec::new(alloc),
+            late: 0,
         })
     }
 
@@ -76,7 +79,7 @@ impl Timers {
         self.cells.as_mut_slice().get_mut(place)
     }
 
-    /// A timer's arming ends, if it is armed.
+    /// A timer's arming ends, if it is armed. One that began in the same row is not kept.
     fn end(
         &mut self,
         pid: usize,
@@ -89,7 +92,10 @@ impl Timers {
         };
         let armed = *cell;
         cell.is_armed = false;
-        if armed.is_armed {
+        if armed.is_armed && told > Some(armed.due()) {
+            self.late = self.late.saturating_add(1);
+        }
+        if armed.is_armed && armed.row < row {
             self.armings.push(Arming {
                 pid,
                 timer,

@@ -1,5 +1,5 @@
 use Rattle.std.proofs.Common.{◌≡◌, ◌++◌, take, map, string_bytes}
-use Rattle.run_picture.specs.Titles.{ended_lines}
+use Rattle.run_picture.specs.Rows.{ended_lines}
 use Rattle.run_picture.proofs.grounds.raw_lines.Given as goal
 
 abbrev pub invariant-loop-line : goal.invariant-loop-line

@@ -1,0 +1,26 @@
+-- An element by its parts.
+use Rattle.std.specs.Prelude.{ℕ, List, ◌++◌}
+use Rattle.picture_markup.specs.declared.names.Tag.{Tag}
+use Rattle.picture_markup.specs.declared.names.Attribute.{Attribute}
+use Rattle.picture_markup.specs.Markup.{attribute_text, element_text, escaped}
+
+pub record Parts : Type 0 where
+  pub tag : Tag
+  -- the text of its attributes
+  pub attributes : List ℕ
+  -- the text of what stands inside
+  pub inside : List ℕ
+
+abbrev pub text_of : Parts → List ℕ
+text_of element = element_text element.tag element.attributes element.inside
+
+abbrev pub with_attribute : Attribute → List ℕ → Parts → Parts
+with_attribute attribute value element = record element { attributes = element.attributes ++ attribute_text attribute value }
+
+-- with a text behind what stands inside
+abbrev pub with_text : List ℕ → Parts → Parts
+with_text text element = record element { inside = element.inside ++ escaped text }
+
+-- with an element behind what stands inside
+abbrev pub with_element : Parts → Parts → Parts
+with_element inner element = record element { inside = element.inside ++ text_of inner }
