@@ -17,7 +17,8 @@ use Rattle.heap_core.specs.HeapStore.{HeapStore}
 use Rattle.mmem_core.specs.ManagedStore.{with_block}
 use Rattle.mote_types.specs.declared.refusal.Refusal.{Refusal}
 use Rattle.mote_types.specs.declared.reply.Reply.{Reply}
-use Rattle.node_memory.specs.Ask.{Asked, ask, ask_part, ask_managed, ask_heap, done_or_no_room, unless_refused}
+use Rattle.node_memory.specs.Ask.{Asked, ask, ask_part, ask_managed, ask_heap, done_or_no_room}
+use Rattle.node_memory.specs.Answered.{unless_refused}
 use Rattle.node_memory.specs.Memory.{pool_in, with_managed, with_pool}
 use Rattle.node_memory.specs.declared.parts.Part.{Part}
 use Rattle.node_memory.specs.Parts.{part_called}

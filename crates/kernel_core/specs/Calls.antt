@@ -20,12 +20,12 @@ use Rattle.timer_core.specs.Names.{event_timer, callback_timer}
 use Rattle.timer_core.specs.Timers.{set_timer, stop_timer, reset_timer, restart_timer, can_reset, is_armed}
 
 -- the call of p is refused, or the machine is as given
-abbrev pub unless_refused : Option Refusal → ℕ → Machine → Machine → Machine
-unless_refused None p m after = after
-unless_refused (Some refusal) p m after = refuse p refusal m
+abbrev pub refused_or : Option Refusal → ℕ → Machine → Machine → Machine
+refused_or None p m after = after
+refused_or (Some refusal) p m after = refuse p refusal m
 
-abbrev pub done : ℕ → Machine → Machine
-done p = answer p Reply.Done
+abbrev pub answer_done : ℕ → Machine → Machine
+answer_done p = answer p Reply.Done
 
 -- the event that a call posts
 abbrev pub event_of : ℕ → Payload → Event
@@ -69,55 +69,55 @@ after_call Call.Wait p m = scheduled (waited p) m
 after_call Call.Exit p m = scheduled (ended p) m
 -- events
 after_call (Call.Post q code payload) p m =
-    unless_refused (post_call_refusal m q code) p m (done p (with_event (Queued.To q (event_of code payload)) m))
+    refused_or (post_call_refusal m q code) p m (answer_done p (with_event (Queued.To q (event_of code payload)) m))
 after_call (Call.Broadcast code payload) p m =
-    unless_refused (broadcast_call_refusal m code) p m (done p (with_event (Queued.ToAll (event_of code payload)) m))
+    refused_or (broadcast_call_refusal m code) p m (answer_done p (with_event (Queued.ToAll (event_of code payload)) m))
 after_call (Call.PostSynch q code payload) p m =
-    unless_refused (synch_refusal m.scheduler q code) p m (scheduled (given_in_turn p q (event_of code payload)) m)
+    refused_or (synch_refusal m.scheduler q code) p m (scheduled (given_in_turn p q (event_of code payload)) m)
 after_call Call.AllocEvent p m =
-    unless_refused (alloc_event_refusal m.scheduler) p m
+    refused_or (alloc_event_refusal m.scheduler) p m
     (answer p (Reply.Num m.scheduler.next_event) (scheduled number_drawn m))
 -- processes
-after_call (Call.Poll q) p m = unless_refused (poll_refusal m.scheduler q) p m (done p (mark q m))
-after_call (Call.Start q) p m = unless_refused (start_refusal m.scheduler q) p m (scheduled (started_by p q) m)
-after_call (Call.Kill q) p m = unless_refused (kill_refusal m.scheduler q) p m (scheduled (killed_by p q) m)
+after_call (Call.Poll q) p m = refused_or (poll_refusal m.scheduler q) p m (answer_done p (mark q m))
+after_call (Call.Start q) p m = refused_or (start_refusal m.scheduler q) p m (scheduled (started_by p q) m)
+after_call (Call.Kill q) p m = refused_or (kill_refusal m.scheduler q) p m (scheduled (killed_by p q) m)
 after_call (Call.IsRunning q) p m =
-    unless_refused (is_running_refusal m.scheduler q) p m (answer p (Reply.Flag (is_alive (state_in m.scheduler q))) m)
+    refused_or (is_running_refusal m.scheduler q) p m (answer p (Reply.Flag (is_alive (state_in m.scheduler q))) m)
 -- event timers
 after_call (Call.TimerSet t interval) p m =
-    unless_refused (timer_refusal t) p m
-    (done p (mark 0 (with_timers (set_timer m.clock (event_timer p t) interval m.timers) m)))
+    refused_or (timer_refusal t) p m
+    (answer_done p (mark 0 (with_timers (set_timer m.clock (event_timer p t) interval m.timers) m)))
 after_call (Call.TimerStop t) p m =
-    unless_refused (timer_refusal t) p m (done p (with_timers (stop_timer (event_timer p t) m.timers) m))
+    refused_or (timer_refusal t) p m (answer_done p (with_timers (stop_timer (event_timer p t) m.timers) m))
 after_call (Call.TimerReset t) p m =
-    unless_refused (reset_refusal p t m) p m
-    (done p (mark 0 (with_timers (reset_timer (event_timer p t) m.timers) m)))
+    refused_or (reset_refusal p t m) p m
+    (answer_done p (mark 0 (with_timers (reset_timer (event_timer p t) m.timers) m)))
 after_call (Call.TimerRestart t) p m =
-    unless_refused (timer_refusal t) p m
-    (done p (mark 0 (with_timers (restart_timer m.clock (event_timer p t) m.timers) m)))
+    refused_or (timer_refusal t) p m
+    (answer_done p (mark 0 (with_timers (restart_timer m.clock (event_timer p t) m.timers) m)))
 after_call (Call.TimerExpired t) p m =
-    unless_refused (timer_refusal t) p m (answer p (Reply.Flag (not (is_armed (event_timer p t) m.timers))) m)
+    refused_or (timer_refusal t) p m (answer p (Reply.Flag (not (is_armed (event_timer p t) m.timers))) m)
 -- callback timers
 after_call (Call.CallbackSet c interval) p m =
-    unless_refused (callback_refusal c) p m
-    (done p
+    refused_or (callback_refusal c) p m
+    (answer_done p
     (mark 0
     (expiries_cancelled (is_callback_timer p c) (with_timers (set_timer m.clock (callback_timer p c) interval m.timers) m))))
 after_call (Call.CallbackStop c) p m =
-    unless_refused (callback_refusal c) p m
-    (done p (expiries_cancelled (is_callback_timer p c) (with_timers (stop_timer (callback_timer p c) m.timers) m)))
+    refused_or (callback_refusal c) p m
+    (answer_done p (expiries_cancelled (is_callback_timer p c) (with_timers (stop_timer (callback_timer p c) m.timers) m)))
 -- the clock, and output
 after_call Call.Clock p m = answer p (Reply.Wide m.clock) m
-after_call (Call.Print chunk) p m = done p m
+after_call (Call.Print chunk) p m = answer_done p m
 -- packets
-after_call Call.PacketOpen p m = unless_refused (open_refusal p m) p m (done p (receiver_claimed p m))
+after_call Call.PacketOpen p m = refused_or (open_refusal p m) p m (answer_done p (receiver_claimed p m))
 after_call (Call.PacketRead at len) p m =
-    unless_refused (front_read_refusal p at len m) p m (answer p (front_read at len m) m)
+    refused_or (front_read_refusal p at len m) p m (answer p (front_read at len m) m)
 after_call Call.PacketDone p m =
-    unless_refused (front_refusal p m) p m (done p (front_dropped (front_slot m.packets) m))
+    refused_or (front_refusal p m) p m (answer_done p (front_dropped (front_slot m.packets) m))
 after_call Call.PacketCount p m = answer p (Reply.Num (length m.packets.frames)) m
 -- the note comes before the answer
 after_call (Call.PacketSend h) p m =
-    unless_refused (send_refusal p h m.memory.managed) p m (shown_first (sent p h m) (done p m))
+    refused_or (send_refusal p h m.memory.managed) p m (shown_first (sent p h m) (answer_done p m))
 -- memory: every other call
 after_call call p m = asked_of_memory call p m

@@ -3,7 +3,8 @@ use Rattle.std.proofs.Common.{◌≡◌, ◌≢◌, ℕ, ◌≤◌, Bool, true, 
 use Rattle.node_memory.proofs.Common.{Refusal, Reply, HeapStore, Asked, realloc_refusal, Memory, with_heap}
 use Rattle.std.specs.Option.{option_map}
 use Rattle.heap_core.specs.HeapStore.{length_of, block_of}
-use Rattle.node_memory.specs.Ask.{unless_refused, done, done_or_no_room}
+use Rattle.node_memory.specs.Ask.{done_or_no_room}
+use Rattle.node_memory.specs.Answered.{unless_refused, done}
 use Rattle.node_memory.specs.HeapCalls.{is_heap_block, is_live, alloc_refusal, free_refusal}
 
 some-length : {X Y : Type 0} (f : X → Y) (found : Option X) → is_some (option_map f found) ≡ is_some found

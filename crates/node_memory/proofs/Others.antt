@@ -19,7 +19,8 @@ use Rattle.node_memory.proofs.HeapBlocks.{Results, alloc-results, realloc-result
 use Rattle.node_memory.specs.ManagedCalls as managed_calls
 use Rattle.node_memory.specs.ManagedCalls.{is_handle, alloc_refusal, copy_refusal}
 use Rattle.node_memory.specs.Memory.{pool_in}
-use Rattle.node_memory.specs.PoolCalls.{unless_refused, done, number_or, free_refusal, write_refusal}
+use Rattle.node_memory.specs.PoolCalls.{number_or, free_refusal, write_refusal}
+use Rattle.node_memory.specs.Answered.{unless_refused, done}
 use Rattle.node_memory.specs.Separation.{LeavesOthers}
 
 -- an element that is set is read back, or nothing changed there
@@ -128,14 +129,14 @@ leaves-frame slot block old low = leaves-block 3 slot block old (omega arith) (g
 
 -- a call on a handle's block, unless it is refused
 leaves-handle : (p h : ℕ) (block : Option (List ℕ)) (old : Memory) (refusal : Option Refusal) → 3 ≤ p → (refusal ≡ None → is_handle h ≡ true)
-    → LeavesOthers (Some (BlockName.Managed p h)) old (asking.unless_refused refusal old (asking.done (with_managed (with_block p h block old.managed) old))).0
+    → LeavesOthers (Some (BlockName.Managed p h)) old (unless_refused refusal old (done (with_managed (with_block p h block old.managed) old))).0
 leaves-handle p h block old None low few = leaves-block p h block old low (few refl)
 leaves-handle p h block old (Some refusal) low few = λ other named differs. refl
 
 -- a call on a block in the heap, unless it is refused or finds no place
 leaves-heap : (p b : ℕ) (bytes : Option (List ℕ)) (old : Memory) (found : Option HeapStore) (refusal : Option Refusal) → 3 ≤ p → (refusal ≡ None → is_handle b ≡ true)
     → (refusal ≡ None → Results p b bytes old.heap found)
-    → LeavesOthers (Some (BlockName.Heap p b)) old (asking.unless_refused refusal old (asking.done_or_no_room found old)).0
+    → LeavesOthers (Some (BlockName.Heap p b)) old (unless_refused refusal old (asking.done_or_no_room found old)).0
 leaves-heap p b bytes old found (Some refusal) low few results = λ other named differs. refl
 leaves-heap p b bytes old None None low few results = λ other named differs. refl
 leaves-heap p b bytes old (Some new) None low few results = others
@@ -150,7 +151,7 @@ leaves-heap p b bytes old (Some new) None low few results = others
 
 -- a read leaves all
 leaves-all : (refusal : Option Refusal) (old : Memory) (reply : Reply) (name : BlockName)
-    → block_named name (asking.unless_refused refusal old (let answer : Asked = (old, reply) in answer)).0 ≡ block_named name old
+    → block_named name (unless_refused refusal old (let answer : Asked = (old, reply) in answer)).0 ≡ block_named name old
 leaves-all None old reply name = refl
 leaves-all (Some refusal) old reply name = refl
 

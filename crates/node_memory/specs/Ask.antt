@@ -13,20 +13,12 @@ use Rattle.node_memory.specs.Parts.{part_called}
 use Rattle.node_memory.specs.HeapCalls as heap
 use Rattle.node_memory.specs.HeapCalls.{realloc_refusal}
 use Rattle.node_memory.specs.PoolCalls.{ask_pool}
+use Rattle.node_memory.specs.Answered.{unless_refused, done}
 use Rattle.node_memory.specs.ManagedCalls.{alloc_refusal, free_refusal, write_refusal, read_refusal, copy_refusal}
 
 -- the memory after a call, and the reply
 abbrev pub Asked : Type 0
 Asked = Memory × Reply
-
--- the call is refused and leaves the memory, or it is answered so
-abbrev pub unless_refused : Option Refusal → Memory → Asked → Asked
-unless_refused None m asked = asked
-unless_refused (Some refusal) m asked = (m, Reply.Refused refusal)
-
--- the call is carried out, and has nothing more to say
-abbrev pub done : Memory → Asked
-done m = (m, Reply.Done)
 
 -- the call is answered with these bytes, and changes nothing
 abbrev pub bytes_read : List ℕ → Memory → Asked

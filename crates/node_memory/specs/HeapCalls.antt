@@ -1,9 +1,9 @@
 -- When a call on heap memory is refused: the refusals of each call in the order in which they are checked. The caller is p. That
 -- there is no place for a block is told of in `ask`.
-use Rattle.std.specs.Prelude.{ℕ, Bool, not, ◌||◌, List, [], Option, Some, None, is_some, unwrap_or, if◌then◌else◌, ◌==◌, nat_le, nat_lt}
-use Rattle.mote_types.specs.Bytes.{is_within}
+use Rattle.std.specs.Prelude.{ℕ, Bool, not, List, [], Option, Some, None, is_some, unwrap_or, if◌then◌else◌, ◌==◌, nat_le}
 use Rattle.mote_types.specs.declared.refusal.Refusal.{Refusal}
 use Rattle.heap_core.specs.HeapStore.{HeapStore, block_of}
+use Rattle.node_memory.specs.BlockRefusals as block
 
 -- blocks are 0 to 15
 abbrev pub is_heap_block : ℕ → Bool
@@ -32,23 +32,10 @@ realloc_refusal p b n heap =
     else None
 
 abbrev pub free_refusal : ℕ → ℕ → HeapStore → Option Refusal
-free_refusal p b heap =
-    if not (is_heap_block b) then Some Refusal.BadName
-    else if not (is_live p b heap) then Some Refusal.NotLive
-    else None
+free_refusal p b heap = block.free_refusal b (block_of p b heap)
 
--- a write of len bytes from that place of the block on
 abbrev pub write_refusal : ℕ → ℕ → ℕ → ℕ → HeapStore → Option Refusal
-write_refusal p b at len heap =
-    if not (is_heap_block b) then Some Refusal.BadName
-    else if not (is_live p b heap) then Some Refusal.NotLive
-    else if not (is_within at len (bytes_of p b heap)) then Some Refusal.Range
-    else None
+write_refusal p b at len heap = block.write_refusal b at len (block_of p b heap)
 
--- a read of len bytes, which may be at most 64
 abbrev pub read_refusal : ℕ → ℕ → ℕ → ℕ → HeapStore → Option Refusal
-read_refusal p b at len heap =
-    if not (is_heap_block b) then Some Refusal.BadName
-    else if not (is_live p b heap) then Some Refusal.NotLive
-    else if nat_lt 64 len || not (is_within at len (bytes_of p b heap)) then Some Refusal.Range
-    else None
+read_refusal p b at len heap = block.read_refusal b at len (block_of p b heap)

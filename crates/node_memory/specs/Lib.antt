@@ -1,5 +1,7 @@
 -- what a reader must believe
+pub mod Answered
 pub mod Ask
+pub mod BlockRefusals
 pub mod Frames
 pub mod HeapCalls
 pub mod ListedPools

@@ -1,8 +1,8 @@
 -- When a call on managed memory is refused: the refusals of each call in the order in which they are checked. The caller is p.
 use Rattle.std.specs.Prelude.{ℕ, Bool, not, ◌||◌, length, Option, Some, None, is_some, if◌then◌else◌, ◌==◌, nat_le, nat_lt}
-use Rattle.mote_types.specs.Bytes.{is_within}
 use Rattle.mote_types.specs.declared.refusal.Refusal.{Refusal}
 use Rattle.mmem_core.specs.ManagedStore.{ManagedStore, block_of, bytes_of, fits, shortage}
+use Rattle.node_memory.specs.BlockRefusals as block
 
 -- handles are 0 to 15
 abbrev pub is_handle : ℕ → Bool
@@ -21,26 +21,13 @@ alloc_refusal p h n store =
     else None
 
 abbrev pub free_refusal : ℕ → ℕ → ManagedStore → Option Refusal
-free_refusal p h store =
-    if not (is_handle h) then Some Refusal.BadName
-    else if not (is_live p h store) then Some Refusal.NotLive
-    else None
+free_refusal p h store = block.free_refusal h (block_of p h store)
 
--- a write of len bytes from that place of the block on
 abbrev pub write_refusal : ℕ → ℕ → ℕ → ℕ → ManagedStore → Option Refusal
-write_refusal p h at len store =
-    if not (is_handle h) then Some Refusal.BadName
-    else if not (is_live p h store) then Some Refusal.NotLive
-    else if not (is_within at len (bytes_of p h store)) then Some Refusal.Range
-    else None
+write_refusal p h at len store = block.write_refusal h at len (block_of p h store)
 
--- a read of len bytes, which may be at most 64
 abbrev pub read_refusal : ℕ → ℕ → ℕ → ℕ → ManagedStore → Option Refusal
-read_refusal p h at len store =
-    if not (is_handle h) then Some Refusal.BadName
-    else if not (is_live p h store) then Some Refusal.NotLive
-    else if nat_lt 64 len || not (is_within at len (bytes_of p h store)) then Some Refusal.Range
-    else None
+read_refusal p h at len store = block.read_refusal h at len (block_of p h store)
 
 -- the source may not be longer than the target
 abbrev pub copy_refusal : ℕ → ℕ → ℕ → ManagedStore → Option Refusal

@@ -1,14 +1,16 @@
 -- The calls on a pool and on its lists, one row each: when the call is refused, and else what the pool and its lists are after
 -- it, and the reply.
-use Rattle.std.specs.Prelude.{ℕ, Bool, not, ◌||◌, length, Option, Some, None, if◌then◌else◌, ◌==◌, nat_le, nat_lt}
-use Rattle.mote_types.specs.Bytes.{is_within, range_of}
+use Rattle.std.specs.Prelude.{ℕ, Bool, not, ◌||◌, length, Option, Some, None, if◌then◌else◌, ◌==◌, nat_le}
+use Rattle.mote_types.specs.Bytes.{range_of}
 use Rattle.mote_types.specs.declared.call.Call.{Call}
 use Rattle.mote_types.specs.declared.reply.Reply.{Reply}
 use Rattle.mote_types.specs.declared.refusal.Refusal.{Refusal}
 use Rattle.memb_core.specs.declared.list_name.ListName.{ListName}
-use Rattle.memb_core.specs.BlockPool.{is_live, first_unused, unused_count, allocated, freed, bytes_of, with_bytes}
+use Rattle.memb_core.specs.BlockPool.{block_of, is_live, first_unused, unused_count, allocated, freed, bytes_of, with_bytes}
 use Rattle.memb_core.specs.BlockLists.{has_number, without, head_of, tail_of, next_of, added, pushed, inserted, popped, chopped}
 use Rattle.node_memory.specs.ListedPools.{PoolWithLists, list_in, other_list, with_list, with_blocks, is_linked, list_named}
+use Rattle.node_memory.specs.BlockRefusals as block
+use Rattle.node_memory.specs.Answered.{unless_refused, done}
 
 -- a pool has blocks 0 to 15
 abbrev pub is_block : ℕ → Bool
@@ -21,21 +23,11 @@ free_refusal b s =
     else if is_linked b s then Some Refusal.Linked
     else None
 
--- a write of len bytes from that place of the block on
 abbrev pub write_refusal : ℕ → ℕ → ℕ → PoolWithLists → Option Refusal
-write_refusal b at len s =
-    if not (is_block b) then Some Refusal.BadName
-    else if not (is_live b s.pool) then Some Refusal.NotLive
-    else if not (is_within at len (bytes_of b s.pool)) then Some Refusal.Range
-    else None
+write_refusal b at len s = block.write_refusal b at len (block_of b s.pool)
 
--- a read of len bytes, which may be at most 64
 abbrev pub read_refusal : ℕ → ℕ → ℕ → PoolWithLists → Option Refusal
-read_refusal b at len s =
-    if not (is_block b) then Some Refusal.BadName
-    else if not (is_live b s.pool) then Some Refusal.NotLive
-    else if nat_lt 64 len || not (is_within at len (bytes_of b s.pool)) then Some Refusal.Range
-    else None
+read_refusal b at len s = block.read_refusal b at len (block_of b s.pool)
 
 -- a block goes into a list where it is live, and not in the other one
 abbrev pub link_refusal : ListName → ℕ → PoolWithLists → Option Refusal
@@ -63,15 +55,6 @@ member_refusal name b s =
 -- the pool and its lists after a call, and the reply
 abbrev pub PoolAsked : Type 0
 PoolAsked = PoolWithLists × Reply
-
--- nothing changes where the call is refused
-abbrev pub unless_refused : Option Refusal → PoolWithLists → PoolAsked → PoolAsked
-unless_refused None s asked = asked
-unless_refused (Some refusal) s asked = (s, Reply.Refused refusal)
-
--- the call is carried out, and has nothing more to say
-abbrev pub done : PoolWithLists → PoolAsked
-done s = (s, Reply.Done)
 
 -- the number that there is, and what follows from it; else the refusal
 abbrev pub number_or : Refusal → Option ℕ → (ℕ → PoolWithLists) → PoolWithLists → PoolAsked

@@ -4,7 +4,7 @@ pub use Rattle.device_core.specs.PacketQueue.{PacketQueue, front_slot}
 unfoldable pub use Rattle.device_core.specs.PacketQueue.{free_slot}
 pub use Rattle.device_core.specs.declared.frame.Frame.{Frame}
 pub use Rattle.heap_core.specs.HeapStore.{HeapStore, reallocated, allocated}
-pub use Rattle.kernel_core.specs.Calls.{unless_refused, done, after_call, event_of, is_callback_timer}
+pub use Rattle.kernel_core.specs.Calls.{refused_or, answer_done, after_call, event_of, is_callback_timer}
 pub use Rattle.kernel_core.specs.Expiries.{cancelled_if, expiries_cancelled}
 pub use Rattle.kernel_core.specs.Inputs.{effect, frame_held, frame_refusal, held_unless_lost, fed}
 pub use Rattle.kernel_core.specs.KernelProcesses.{serve}

@@ -3,6 +3,7 @@ use Rattle.std.proofs.Common.{◌≡◌, ℕ, Bool, true, false, [], refl, ap, a
 use Rattle.run_laws.proofs.Common.{nat_tests, Call, Reply, ArrayVec, HeapStore, allocated, reallocated, Memory, is_heap_block, alloc_refusal, realloc_refusal, ask, done_or_no_room, Config, Machine, booted, after_call, no_blocks}
 use Rattle.heap_core.specs.HeapStore.{block_of}
 use Rattle.node_memory.specs.Ask as memory
+use Rattle.node_memory.specs.Answered.{unless_refused}
 use Rattle.run_laws.specs.MemoryLaws.{heap_kind}
 use Rattle.run_laws.proofs.Marks.{marks, due}
 use Rattle.run_laws.proofs.HeapStores.{own_heap, heap_store, heap-change, ask-rest}
@@ -23,12 +24,12 @@ write-law b at chunk p m =
 
 -- whether or not there is a place
 alloc-law : (result : Option HeapStore) (b n p : ℕ) (m : Memory)
-    → KindLaw heap_kind (own_heap p m) (Call.HeapAlloc b n) (memory.unless_refused (alloc_refusal p b n m.heap) m (done_or_no_room result m)).1
+    → KindLaw heap_kind (own_heap p m) (Call.HeapAlloc b n) (unless_refused (alloc_refusal p b n m.heap) m (done_or_no_room result m)).1
 alloc-law result b n p m =
     record { reads = λ bytes name start k e f. absurd (grind (arith, f)); live = λ names. absurd (grind (arith, names)); unused = λ names. grind (arith, nat_tests, names) }
 
 realloc-law : (result : Option HeapStore) (b n p : ℕ) (m : Memory)
-    → KindLaw heap_kind (own_heap p m) (Call.HeapRealloc b n) (memory.unless_refused (realloc_refusal p b n m.heap) m (done_or_no_room result m)).1
+    → KindLaw heap_kind (own_heap p m) (Call.HeapRealloc b n) (unless_refused (realloc_refusal p b n m.heap) m (done_or_no_room result m)).1
 realloc-law result b n p m =
     record { reads = λ bytes name start k e f. absurd (grind (arith, f)); live = λ names. grind (arith, nat_tests, names); unused = λ names. absurd (grind (arith, names)) }
 

@@ -7,7 +7,7 @@ use Rattle.heap_core.specs.HeapStore.{block_of, freed, with_bytes}
 use Rattle.mmem_core.specs.ManagedStore as managed
 use Rattle.node_memory.specs.HeapCalls.{free_refusal, write_refusal}
 use Rattle.node_memory.specs.ManagedCalls as managed_calls
-use Rattle.node_memory.specs.Ask.{unless_refused}
+use Rattle.node_memory.specs.Answered.{unless_refused}
 use Rattle.node_memory.proofs.HeapBlocks.{Becomes, Results, alloc-results, realloc-results, free-results, write-results}
 use Rattle.run_laws.specs.MemoryLaws.{heap_kind}
 use Rattle.run_laws.proofs.KindLaws.{Store, IsChange, same_blocks}

@@ -1,6 +1,6 @@
 -- The blocks of a process are what its own calls make of them: through each call, and so in every run.
 use Rattle.std.proofs.Common.{◌≡◌, ℕ, ◌≤◌, Bool, true, false, ◌&&◌, List, [], ◌∷◌, ◌++◌, length, refl, ◌∙◌, sym, ap, arith, subst, subst₂, append-nil, Option, Some, None, ◌==◌, if◌then◌else◌, nat_le, drop, slice_get}
-use Rattle.run_laws.proofs.Common.{list_all, nat_tests, Call, Reply, Refusal, Origin, Stimulus, Input, Entry, Applications, number_of, Frame, front_slot, with_block, Memory, with_managed, ask, Item, is_kernel_process, Config, Machine, booted, after_call, unless_refused, done, front_refusal, front_dropped, Running, Runs, at_start, Blocks, no_blocks, own, is_done, up_to_call}
+use Rattle.run_laws.proofs.Common.{list_all, nat_tests, Call, Reply, Refusal, Origin, Stimulus, Input, Entry, Applications, number_of, Frame, front_slot, with_block, Memory, with_managed, ask, Item, is_kernel_process, Config, Machine, booted, after_call, refused_or, answer_done, front_refusal, front_dropped, Running, Runs, at_start, Blocks, no_blocks, own, is_done, up_to_call}
 use Rattle.std.specs.Option.{option_map}
 use Rattle.std.proofs.lemmas.List.{length-set}
 use Rattle.node_memory.specs.Frames.{frame_dropped}
@@ -55,7 +55,7 @@ module _ (P : Memory → List Frame → Type 0) (q : ℕ) (m : Machine) (same : 
       at None e = same
       at (Some slot) e = dropped slot e
 
-      go : (o : Option Refusal) → P (unless_refused o q m (done q (front_dropped (front_slot m.packets) m))).memory (unless_refused o q m (done q (front_dropped (front_slot m.packets) m))).packets.frames
+      go : (o : Option Refusal) → P (refused_or o q m (answer_done q (front_dropped (front_slot m.packets) m))).memory (refused_or o q m (answer_done q (front_dropped (front_slot m.packets) m))).packets.frames
       go None = at (front_slot m.packets) refl
       go (Some refusal) = same
   each-call call asked = by_part call (is_memory_call call) refl refl asked

@@ -1,6 +1,6 @@
 -- Every note of a packet that was sent has a sender, and holds its block.
 use Rattle.std.proofs.Common.{◌≡◌, ℕ, Bool, true, false, List, [], ◌∷◌, ◌++◌, ◌≤◌, refl, ◌∙◌, sym, ap, arith, subst, Option, Some, None, ◌==◌, if◌then◌else◌, fold}
-use Rattle.run_laws.proofs.Common.{nat_tests, fold-append, ArrayVec, Call, Origin, Stimulus, Entry, Note, Input, Applications, bytes_of, list_any, Item, is_kernel_process, Config, Machine, shown_first, booted, after_call, unless_refused, done, effect, Refusal, Running, Runs, with_more_work, at_start, reply_of, is_turn_entry, up_to_call, Blocks, no_blocks, managed_after, managed_block, managed_kind}
+use Rattle.run_laws.proofs.Common.{nat_tests, fold-append, ArrayVec, Call, Origin, Stimulus, Entry, Note, Input, Applications, bytes_of, list_any, Item, is_kernel_process, Config, Machine, shown_first, booted, after_call, refused_or, answer_done, effect, Refusal, Running, Runs, with_more_work, at_start, reply_of, is_turn_entry, up_to_call, Blocks, no_blocks, managed_after, managed_block, managed_kind}
 use Rattle.node_memory.specs.Frames.{send_refusal}
 use Rattle.kernel_core.specs.PacketCalls.{sent}
 use Rattle.run_laws.proofs.Stores.{own_blocks, managed_store}
@@ -77,7 +77,7 @@ module _ (p : ℕ) (few : p ≤ 19) where
 
   sent_now : (handle : Option ℕ) (blocks : Blocks) (h : ℕ) (m : Machine) → handle ≡ Some h → own_blocks p m.memory ≡ blocks
       → (refusal : Option Refusal) → send_refusal p h m.memory.managed ≡ refusal
-      → FrontOf handle blocks (unless_refused refusal p m (shown_first (sent p h m) (done p m))).scheduler.agenda
+      → FrontOf handle blocks (refused_or refusal p m (shown_first (sent p h m) (answer_done p m))).scheduler.agenda
   sent_now handle blocks h m e rel (Some refusal) f = tt
   sent_now handle blocks h m e rel None f = (
     λ k g.

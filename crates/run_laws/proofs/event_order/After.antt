@@ -1,6 +1,6 @@
 -- What a call does to the shape.
 use Rattle.std.proofs.Common.{◌≡◌, ℕ, Bool, true, false, not, ◌&&◌, List, [], ◌∷◌, ◌++◌, refl, ap, sym, arith, append-nil, append_assoc, Option, Some, None, option_to_list, map, if◌then◌else◌, ◌==◌}
-use Rattle.run_laws.proofs.Common.{list_all, nat_tests, Call, Reply, Refusal, Stimulus, Origin, Payload, Entry, Note, EXIT, EXITED, number_event, is_reserved, State, Queued, Item, numbers, without, is_ending, is_application, farewells, kill_refusal, killed_by, Scheduler, of_event, in_front, state_in, put_in_state, has_room, Machine, scheduled, with_event, after_call, unless_refused, event_of, done, is_event_of_code, event_for}
+use Rattle.run_laws.proofs.Common.{list_all, nat_tests, Call, Reply, Refusal, Stimulus, Origin, Payload, Entry, Note, EXIT, EXITED, number_event, is_reserved, State, Queued, Item, numbers, without, is_ending, is_application, farewells, kill_refusal, killed_by, Scheduler, of_event, in_front, state_in, put_in_state, has_room, Machine, scheduled, with_event, after_call, refused_or, event_of, answer_done, is_event_of_code, event_for}
 use Rattle.run_laws.proofs.event_order.Tally.{Known, own_event, ends_in}
 use Rattle.run_laws.proofs.event_order.Shape.{is_plain, is_ordered, ordered-append, seats, seats-with_mark, seats-with_state, state_of-seats, first_state, put, stands, waiting_in, waits, queued, queued_in, posted_for, FrontAgrees}
 use Rattle.run_laws.proofs.event_order.Items.{holds, holds-append, is_quiet}
@@ -62,7 +62,7 @@ after-ordered Call.Exit q m h = go (is_ending (state_in m.scheduler q))
         rw (append_assoc (told_all q m.scheduler) (Item.Remove q ∷ []) m.scheduler.agenda) (ordered-append (told_all q m.scheduler) (Item.Remove q ∷ m.scheduler.agenda) f h)
 after-ordered (Call.Kill r) q m h = go (kill_refusal m.scheduler r)
   where
-    go : (o : Option Refusal) → is_ordered (unless_refused o q m (scheduled (killed_by q r) m)).scheduler.agenda ≡ true
+    go : (o : Option Refusal) → is_ordered (refused_or o q m (scheduled (killed_by q r) m)).scheduler.agenda ≡ true
     go (Some refusal) = h
     go None =
         let f : list_all is_plain (told_all r m.scheduler) ≡ true = farewells-plain (of_event (number_event EXITED r)) (numbers (without r m.scheduler.processes)) in
@@ -89,7 +89,7 @@ after-waits p Call.Exit q m = go (is_ending (state_in m.scheduler q))
         ) refl
 after-waits p (Call.Kill r) q m = go (kill_refusal m.scheduler r)
   where
-    go : (o : Option Refusal) → waits p (unless_refused o q m (scheduled (killed_by q r) m)).scheduler.agenda ≡ waits p m.scheduler.agenda
+    go : (o : Option Refusal) → waits p (refused_or o q m (scheduled (killed_by q r) m)).scheduler.agenda ≡ waits p m.scheduler.agenda
     go (Some refusal) = rw (no_answer p q (Stimulus.Answer (Reply.Refused refusal))) refl
     go None =
         let xs : List Item = Item.GiveExit r ∷ Item.Remove r ∷ Item.Turn q Origin.Answer (Stimulus.Answer Reply.Done) ∷ [] in
@@ -133,8 +133,8 @@ after-queued known p (Call.Post r code payload) q m =
     go (is_application m.scheduler.applications r) (is_reserved code) (has_room m.scheduler) refl
   where
     go : (named reserved room : Bool) → is_reserved code ≡ reserved
-        → FrontAgrees known (unless_refused (post_outcome named reserved room) q m (done q (with_event (Queued.To r (event_of code payload)) m))).scheduler.agenda
-        → queued p (unless_refused (post_outcome named reserved room) q m (done q (with_event (Queued.To r (event_of code payload)) m))).scheduler.events
+        → FrontAgrees known (refused_or (post_outcome named reserved room) q m (answer_done q (with_event (Queued.To r (event_of code payload)) m))).scheduler.agenda
+        → queued p (refused_or (post_outcome named reserved room) q m (answer_done q (with_event (Queued.To r (event_of code payload)) m))).scheduler.events
         ≡ queued p m.scheduler.events ++ own_event known p q (Call.Post r code payload)
     go false reserved room e k = rw k (sym (append-nil (queued p m.scheduler.events)))
     go true true room e k = rw k (sym (append-nil (queued p m.scheduler.events)))
@@ -149,8 +149,8 @@ after-queued known p (Call.Post r code payload) q m =
 after-queued known p (Call.Broadcast code payload) q m = go (is_reserved code) (has_room m.scheduler) refl
   where
     go : (reserved room : Bool) → is_reserved code ≡ reserved
-        → FrontAgrees known (unless_refused (post_outcome true reserved room) q m (done q (with_event (Queued.ToAll (event_of code payload)) m))).scheduler.agenda
-        → queued p (unless_refused (post_outcome true reserved room) q m (done q (with_event (Queued.ToAll (event_of code payload)) m))).scheduler.events
+        → FrontAgrees known (refused_or (post_outcome true reserved room) q m (answer_done q (with_event (Queued.ToAll (event_of code payload)) m))).scheduler.agenda
+        → queued p (refused_or (post_outcome true reserved room) q m (answer_done q (with_event (Queued.ToAll (event_of code payload)) m))).scheduler.events
         ≡ queued p m.scheduler.events ++ own_event known p q (Call.Broadcast code payload)
     go true room e k = rw k (sym (append-nil (queued p m.scheduler.events)))
     go false false e k = rw k (sym (append-nil (queued p m.scheduler.events)))
@@ -227,7 +227,7 @@ after-stands p Call.Exit q origin stimulus m n h = go (is_ending (state_in m.sch
         (turn_other-holds p q origin stimulus (seats p m.scheduler.processes) m.scheduler.agenda (flip p q false e) h))
 after-stands p (Call.Kill r) q origin stimulus m n h = go (kill_refusal m.scheduler r) (p == r) refl
   where
-    go : (o : Option Refusal) (same : Bool) → (p == r) ≡ same → stands p (unless_refused o q m (scheduled (killed_by q r) m)).scheduler ≡ true
+    go : (o : Option Refusal) (same : Bool) → (p == r) ≡ same → stands p (refused_or o q m (scheduled (killed_by q r) m)).scheduler ≡ true
     go (Some refusal) same e = swap p q origin Origin.Answer stimulus (Stimulus.Answer (Reply.Refused refusal)) (seats p m.scheduler.processes) m.scheduler.agenda (grind (arith, n)) h
     go None same e =
         let xs : List Item = Item.GiveExit r ∷ Item.Remove r ∷ Item.Turn q Origin.Answer (Stimulus.Answer Reply.Done) ∷ [] in

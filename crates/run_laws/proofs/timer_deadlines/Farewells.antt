@@ -1,6 +1,6 @@
 -- Nobody is told that p ended while p goes on.
 use Rattle.std.proofs.Common.{◌≡◌, ℕ, Bool, true, false, not, ◌&&◌, ◌||◌, List, [], ◌∷◌, ◌++◌, refl, ◌∙◌, arith, append_assoc, Option, Some, None, map, slice_get, if◌then◌else◌, ◌==◌}
-use Rattle.run_laws.proofs.Common.{list_all, list_any, nat_tests, Call, Reply, Refusal, Stimulus, Event, Origin, INIT, POLL, EXITED, plain_event, number_event, State, Queued, Item, numbers, without, is_ending, farewells, killed_by, kill_refusal, Scheduler, after_item, delivery, first_event, of_event, in_front, state_in, put_in_state, Timer, Machine, scheduled, after_call, unless_refused, event_of, is_callback_timer, cancelled_if, serve, expiry_of, is_number}
+use Rattle.run_laws.proofs.Common.{list_all, list_any, nat_tests, Call, Reply, Refusal, Stimulus, Event, Origin, INIT, POLL, EXITED, plain_event, number_event, State, Queued, Item, numbers, without, is_ending, farewells, killed_by, kill_refusal, Scheduler, after_item, delivery, first_event, of_event, in_front, state_in, put_in_state, Timer, Machine, scheduled, after_call, refused_or, event_of, is_callback_timer, cancelled_if, serve, expiry_of, is_number}
 use Rattle.process_core.specs.Requests.{synch_refusal, given_in_turn}
 use Rattle.run_laws.proofs.Changes.{Changes, of_changes, is_notice}
 use Rattle.run_laws.proofs.event_order.Tally.{ends_in}
@@ -133,8 +133,8 @@ after-farewell p Call.Exit q origin stimulus m n d h = go (is_ending (state_in m
         (any-both (is_farewell p) (told_all q m.scheduler) (Item.Remove q ∷ m.scheduler.agenda) (no_farewell-others p q (numbers (without q m.scheduler.processes)) other) h)
 after-farewell p (Call.Kill r) q origin stimulus m n d h = go (kill_refusal m.scheduler r) d
   where
-    go : (o : Option Refusal) → is_doomed p (unless_refused o q m (scheduled (killed_by q r) m)).scheduler.agenda ≡ false
-        → has_farewell p (unless_refused o q m (scheduled (killed_by q r) m)).scheduler.agenda ≡ false
+    go : (o : Option Refusal) → is_doomed p (refused_or o q m (scheduled (killed_by q r) m)).scheduler.agenda ≡ false
+        → has_farewell p (refused_or o q m (scheduled (killed_by q r) m)).scheduler.agenda ≡ false
     go (Some refusal) d = h
     go None d =
         let xs : List Item = Item.GiveExit r ∷ Item.Remove r ∷ Item.Turn q Origin.Answer (Stimulus.Answer Reply.Done) ∷ [] in
@@ -146,7 +146,7 @@ after-farewell p (Call.Kill r) q origin stimulus m n d h = go (kill_refusal m.sc
 after-farewell p (Call.PostSynch r code payload) q origin stimulus m n d h = go (synch_refusal m.scheduler r code) refl
   where
     go : (o : Option Refusal) → synch_refusal m.scheduler r code ≡ o
-        → has_farewell p (unless_refused o q m (scheduled (given_in_turn q r (event_of code payload)) m)).scheduler.agenda ≡ false
+        → has_farewell p (refused_or o q m (scheduled (given_in_turn q r (event_of code payload)) m)).scheduler.agenda ≡ false
     go (Some refusal) e = h
     go None e =
         let free : (code == EXITED) ≡ false = grind (arith, nat_tests, e) in

@@ -1,6 +1,6 @@
 -- What a call does to a timer: an accepted arming puts it on the list with its new cell, a stop takes it off, and no other call moves it.
 use Rattle.std.proofs.Common.{◌≡◌, ℕ, ◌+◌, Bool, true, false, not, ◌&&◌, ◌||◌, List, ◌∷◌, refl, ◌∙◌, sym, subst, arith, Option, Some, None, if◌then◌else◌, ◌==◌, nat_le, nat_lt}
-use Rattle.run_laws.proofs.Common.{nat_tests, Call, Reply, Refusal, Item, Timer, Cell, all_timers, event_timer, callback_timer, is_timer, Timers, cell_of, is_armed, armed_with, set_timer, stop_timer, restart_timer, reset_timer, Machine, with_timers, mark, expiries_cancelled, after_call, done, unless_refused, is_callback_timer, reply_of, is_done, arms, stops, cell_after}
+use Rattle.run_laws.proofs.Common.{nat_tests, Call, Reply, Refusal, Item, Timer, Cell, all_timers, event_timer, callback_timer, is_timer, Timers, cell_of, is_armed, armed_with, set_timer, stop_timer, restart_timer, reset_timer, Machine, with_timers, mark, expiries_cancelled, after_call, answer_done, refused_or, is_callback_timer, reply_of, is_done, arms, stops, cell_after}
 use Rattle.timer_core.specs.Timers.{can_reset}
 use Rattle.run_laws.proofs.timer_deadlines.Timing.{cell_names, armed-names, cell-armed_own, cell-armed_other, armed-own, armed-other, stopped-own, stopped-other}
 
@@ -105,15 +105,15 @@ armed_moves p t q u clock call k cell old s fits told arm stop value = go (q == 
     go true false e f = other (grind (arith, nat_tests, f))
     go true true e f =
         let number : nat_le t 7 ≡ true = grind (arith, nat_tests, f, fits) in
-        let done : is_done k ≡ true = rw (told e) refl in
-        let armed : is_set_by p t q call k ≡ true = grind (arith, e, done, arm, f) in
+        let answer_done : is_done k ≡ true = rw (told e) refl in
+        let armed : is_set_by p t q call k ≡ true = grind (arith, e, answer_done, arm, f) in
         let same : own_timer p t ≡ own_timer q u = same_timer p t q u e f in
         let on : is_armed (own_timer p t) new ≡ true = subst (λ x. is_armed (own_timer p t) (armed_with x cell old) ≡ true) same (armed-own (own_timer p t) cell old) in
         let own : cell_of (own_timer p t) new ≡ cell =
         subst (λ x. cell_of (own_timer p t) (armed_with x cell old) ≡ cell) same (cell-armed_own p t cell old s.names s.low s.high number) in
         let it : cell ≡ cell_after t clock call (cell_of (own_timer p t) old) = subst (λ x. cell ≡ cell_after t clock call (cell_of x old)) (sym same) (value f) in
         record {
-          kept = λ h. absurd (grind (arith, h, e, done, arm, f));
+          kept = λ h. absurd (grind (arith, h, e, answer_done, arm, f));
           kept_cell = λ h number. absurd (grind (arith, h, armed));
           set = λ h. on;
           set_cell = λ h. own ∙ it;
@@ -141,11 +141,11 @@ stopped_moves p t q u clock k old told = go (q == p) (u == t) refl refl
     go false this e f = other (grind (arith, nat_tests, e))
     go true false e f = other (grind (arith, nat_tests, f))
     go true true e f =
-        let done : is_done k ≡ true = rw (told e) refl in
+        let answer_done : is_done k ≡ true = rw (told e) refl in
         let off : is_armed (own_timer p t) new ≡ false =
         subst (λ x. is_armed (own_timer p t) (stop_timer x old) ≡ false) (same_timer p t q u e f) (stopped-own (own_timer p t) old.armed) in
         record {
-          kept = λ h. absurd (grind (arith, h, e, done, f));
+          kept = λ h. absurd (grind (arith, h, e, answer_done, f));
           kept_cell = λ h number. refl;
           set = λ h. absurd (grind (arith, h));
           set_cell = λ h. absurd (grind (arith, h));
@@ -167,8 +167,8 @@ after-moves p t (Call.TimerSet u interval) q k m s front = go (nat_lt u 8) refl 
     after : Machine
     after = mark 0 (with_timers (set_timer m.clock (event_timer q u) interval m.timers) m)
 
-    go : (b : Bool) → nat_lt u 8 ≡ b → FrontIs p k (unless_refused (if b then None else Some Refusal.BadName) q m (done q after)).scheduler.agenda
-        → Moves p t q m.clock (Call.TimerSet u interval) k m.timers (unless_refused (if b then None else Some Refusal.BadName) q m (done q after)).timers
+    go : (b : Bool) → nat_lt u 8 ≡ b → FrontIs p k (refused_or (if b then None else Some Refusal.BadName) q m (answer_done q after)).scheduler.agenda
+        → Moves p t q m.clock (Call.TimerSet u interval) k m.timers (refused_or (if b then None else Some Refusal.BadName) q m (answer_done q after)).timers
     go false e f = refused_moves p t q m.clock (Call.TimerSet u interval) k Refusal.BadName m.timers f
     go true e f =
         armed_moves p t q u m.clock (Call.TimerSet u interval) k (record { start = m.clock; interval = interval }) m.timers s (number_fits u e) f refl refl (λ this. rw this refl)
@@ -177,8 +177,8 @@ after-moves p t (Call.TimerRestart u) q k m s front = go (nat_lt u 8) refl front
     after : Machine
     after = mark 0 (with_timers (restart_timer m.clock (event_timer q u) m.timers) m)
 
-    go : (b : Bool) → nat_lt u 8 ≡ b → FrontIs p k (unless_refused (if b then None else Some Refusal.BadName) q m (done q after)).scheduler.agenda
-        → Moves p t q m.clock (Call.TimerRestart u) k m.timers (unless_refused (if b then None else Some Refusal.BadName) q m (done q after)).timers
+    go : (b : Bool) → nat_lt u 8 ≡ b → FrontIs p k (refused_or (if b then None else Some Refusal.BadName) q m (answer_done q after)).scheduler.agenda
+        → Moves p t q m.clock (Call.TimerRestart u) k m.timers (refused_or (if b then None else Some Refusal.BadName) q m (answer_done q after)).timers
     go false e f = refused_moves p t q m.clock (Call.TimerRestart u) k Refusal.BadName m.timers f
     go true e f =
         armed_moves p t q u m.clock (Call.TimerRestart u) k (record (cell_of (event_timer q u) m.timers) { start = m.clock }) m.timers s (number_fits u e) f refl refl
@@ -192,8 +192,8 @@ after-moves p t (Call.TimerReset u) q k m s front = go (nat_lt u 8) (can_reset (
     after = mark 0 (with_timers (reset_timer (event_timer q u) m.timers) m)
 
     go : (b can : Bool) → nat_lt u 8 ≡ b
-        → FrontIs p k (unless_refused (if not b then Some Refusal.BadName else if can then None else Some Refusal.Range) q m (done q after)).scheduler.agenda
-        → Moves p t q m.clock (Call.TimerReset u) k m.timers (unless_refused (if not b then Some Refusal.BadName else if can then None else Some Refusal.Range) q m (done q after)).timers
+        → FrontIs p k (refused_or (if not b then Some Refusal.BadName else if can then None else Some Refusal.Range) q m (answer_done q after)).scheduler.agenda
+        → Moves p t q m.clock (Call.TimerReset u) k m.timers (refused_or (if not b then Some Refusal.BadName else if can then None else Some Refusal.Range) q m (answer_done q after)).timers
     go false can e f = refused_moves p t q m.clock (Call.TimerReset u) k Refusal.BadName m.timers f
     go true false e f = refused_moves p t q m.clock (Call.TimerReset u) k Refusal.Range m.timers f
     go true true e f =
@@ -203,8 +203,8 @@ after-moves p t (Call.TimerStop u) q k m s front = go (nat_lt u 8) front
     after : Machine
     after = with_timers (stop_timer (event_timer q u) m.timers) m
 
-    go : (b : Bool) → FrontIs p k (unless_refused (if b then None else Some Refusal.BadName) q m (done q after)).scheduler.agenda
-        → Moves p t q m.clock (Call.TimerStop u) k m.timers (unless_refused (if b then None else Some Refusal.BadName) q m (done q after)).timers
+    go : (b : Bool) → FrontIs p k (refused_or (if b then None else Some Refusal.BadName) q m (answer_done q after)).scheduler.agenda
+        → Moves p t q m.clock (Call.TimerStop u) k m.timers (refused_or (if b then None else Some Refusal.BadName) q m (answer_done q after)).timers
     go false f = refused_moves p t q m.clock (Call.TimerStop u) k Refusal.BadName m.timers f
     go true f = stopped_moves p t q u m.clock k m.timers f
 after-moves p t (Call.CallbackSet c interval) q k m s front = go (nat_lt c 4)
@@ -218,7 +218,7 @@ after-moves p t (Call.CallbackSet c interval) q k m s front = go (nat_lt c 4)
     none : is_moved_by p t q (Call.CallbackSet c interval) k ≡ false
     none = unmoved_by p t q (Call.CallbackSet c interval) k refl refl
 
-    go : (b : Bool) → Moves p t q m.clock (Call.CallbackSet c interval) k m.timers (unless_refused (if b then None else Some Refusal.BadName) q m (done q after)).timers
+    go : (b : Bool) → Moves p t q m.clock (Call.CallbackSet c interval) k m.timers (refused_or (if b then None else Some Refusal.BadName) q m (answer_done q after)).timers
     go false = still_moves p t q m.clock (Call.CallbackSet c interval) k m.timers m.timers none refl (λ number. refl)
     go true =
         still_moves p t q m.clock (Call.CallbackSet c interval) k m.timers (armed_with (callback_timer q c) cell m.timers) none
@@ -232,7 +232,7 @@ after-moves p t (Call.CallbackStop c) q k m s front = go (nat_lt c 4)
     none : is_moved_by p t q (Call.CallbackStop c) k ≡ false
     none = unmoved_by p t q (Call.CallbackStop c) k refl refl
 
-    go : (b : Bool) → Moves p t q m.clock (Call.CallbackStop c) k m.timers (unless_refused (if b then None else Some Refusal.BadName) q m (done q after)).timers
+    go : (b : Bool) → Moves p t q m.clock (Call.CallbackStop c) k m.timers (refused_or (if b then None else Some Refusal.BadName) q m (answer_done q after)).timers
     go false = still_moves p t q m.clock (Call.CallbackStop c) k m.timers m.timers none refl (λ number. refl)
     go true =
         still_moves p t q m.clock (Call.CallbackStop c) k m.timers (stop_timer (callback_timer q c) m.timers) none

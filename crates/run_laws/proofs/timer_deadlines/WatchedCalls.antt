@@ -1,7 +1,7 @@
 -- Calls and inputs that make a timer due mark etimer.
 use Rattle.std.proofs.lemmas.Bool.Decides.{nat_tests}
 use Rattle.std.proofs.Common.{◌≡◌, ℕ, true, false, not, ◌||◌, List, [], ◌∷◌, length, refl, ap, ◌∙◌, arith, Option, Some, None}
-use Rattle.run_laws.proofs.Common.{Call, Reply, Refusal, Stimulus, Origin, Input, Note, Entry, Item, Process, is_marked, is_any_marked, event_timer, callback_timer, is_timer, is_due, stop_timer, set_timer, reset_timer, restart_timer, free_slot, Config, Machine, with_timers, mark, expiries_cancelled, after_call, unless_refused, done, is_callback_timer, effect, frame_held, frame_refusal, held_unless_lost, at_start}
+use Rattle.run_laws.proofs.Common.{Call, Reply, Refusal, Stimulus, Origin, Input, Note, Entry, Item, Process, is_marked, is_any_marked, event_timer, callback_timer, is_timer, is_due, stop_timer, set_timer, reset_timer, restart_timer, free_slot, Config, Machine, with_timers, mark, expiries_cancelled, after_call, refused_or, answer_done, is_callback_timer, effect, frame_held, frame_refusal, held_unless_lost, at_start}
 use Rattle.kernel_core.specs.Calls.{timer_refusal, callback_refusal, reset_refusal}
 use Rattle.run_laws.proofs.event_order.Items.{facing}
 use Rattle.run_laws.proofs.timer_deadlines.Fronts.{after-any}
@@ -24,7 +24,7 @@ fewer call q m h less =
     record { home = after-home call q m h.home; due = λ d. after-watched call q m (h.due (less (rw (after-clock call q m) at d))) }
 
 -- a call that is refused, or else marks etimer
-refused_or_marked : (q : ℕ) (o : Option Refusal) (m after : Machine) → Watched m → after.scheduler ≡ (mark 0 m).scheduler → Watched (unless_refused o q m (done q after))
+refused_or_marked : (q : ℕ) (o : Option Refusal) (m after : Machine) → Watched m → after.scheduler ≡ (mark 0 m).scheduler → Watched (refused_or o q m (answer_done q after))
 refused_or_marked q (Some refusal) m after h e = watched-front (Item.Turn q Origin.Answer (Stimulus.Answer (Reply.Refused refusal)) ∷ []) m h
 refused_or_marked q None m after h e =
     record {
@@ -42,8 +42,8 @@ watched-after (Call.TimerReset u) q m h =
     refused_or_marked q (reset_refusal q u m) m (mark 0 (with_timers (reset_timer (event_timer q u) m.timers) m)) h refl
 watched-after (Call.CallbackSet c interval) q m h = go (callback_refusal c)
   where
-    go : (o : Option Refusal) → Watched (unless_refused o q m
-        (done q (mark 0 (expiries_cancelled (is_callback_timer q c) (with_timers (set_timer m.clock (callback_timer q c) interval m.timers) m)))))
+    go : (o : Option Refusal) → Watched (refused_or o q m
+        (answer_done q (mark 0 (expiries_cancelled (is_callback_timer q c) (with_timers (set_timer m.clock (callback_timer q c) interval m.timers) m)))))
     go (Some refusal) = watched-front (Item.Turn q Origin.Answer (Stimulus.Answer (Reply.Refused refusal)) ∷ []) m h
     go None =
         record {
@@ -52,14 +52,14 @@ watched-after (Call.CallbackSet c interval) q m h = go (callback_refusal c)
         }
 watched-after (Call.TimerStop u) q m h = fewer (Call.TimerStop u) q m h (go (timer_refusal u))
   where
-    go : (o : Option Refusal) → is_timer_due m.clock (unless_refused o q m (done q (with_timers (stop_timer (event_timer q u) m.timers) m))).timers ≡ true
+    go : (o : Option Refusal) → is_timer_due m.clock (refused_or o q m (answer_done q (with_timers (stop_timer (event_timer q u) m.timers) m))).timers ≡ true
         → is_timer_due m.clock m.timers ≡ true
     go (Some refusal) d = d
     go None d = any-filter (is_due m.clock m.timers) (λ other. not (is_timer (event_timer q u) other)) m.timers.armed d
 watched-after (Call.CallbackStop c) q m h = fewer (Call.CallbackStop c) q m h (go (callback_refusal c))
   where
     go : (o : Option Refusal)
-        → is_timer_due m.clock (unless_refused o q m (done q (expiries_cancelled (is_callback_timer q c) (with_timers (stop_timer (callback_timer q c) m.timers) m)))).timers ≡ true
+        → is_timer_due m.clock (refused_or o q m (answer_done q (expiries_cancelled (is_callback_timer q c) (with_timers (stop_timer (callback_timer q c) m.timers) m)))).timers ≡ true
         → is_timer_due m.clock m.timers ≡ true
     go (Some refusal) d = d
     go None d = any-filter (is_due m.clock m.timers) (λ other. not (is_timer (callback_timer q c) other)) m.timers.armed d

@@ -1,5 +1,5 @@
 use Rattle.std.proofs.Common.{arith, ap, ◌∙◌, ◌≡◌, ℕ, Bool, None}
-use Rattle.kernel_core.specs.Calls.{callback_refusal, done, is_callback_timer}
+use Rattle.kernel_core.specs.Calls.{callback_refusal, answer_done, is_callback_timer}
 use Rattle.kernel_core.specs.Expiries.{expiries_cancelled}
 use Rattle.kernel_core.specs.Machine.{mark, with_timers}
 use Rattle.kernel_core.specs.Code.View.{machine_of}
@@ -14,4 +14,4 @@ returns-clause-machine c =
     let renewed = renewed_one c.args.pid.0 c.args.number k.timers.armings c.set_callback.new.self.armings c.set_callback.ensures.cancelled c.set_callback.ensures.others in
     let s = cancelled_machine test k c.set_callback.new.self renewed c.requires.at_turn.events in
     let accepted : callback_refusal c.args.number ≡ None = grind arith in
-    rw accepted (c.answer.ensures.machine ∙ ap (done c.args.pid.0) (rw c.mark.ensures.value (ap (mark 0) s ∙ ap (λ t. mark 0 (expiries_cancelled test (with_timers t (machine_of k)))) (ap (λ t. t.timers) c.set_callback.ensures.changed))))
+    rw accepted (c.answer.ensures.machine ∙ ap (answer_done c.args.pid.0) (rw c.mark.ensures.value (ap (mark 0) s ∙ ap (λ t. mark 0 (expiries_cancelled test (with_timers t (machine_of k)))) (ap (λ t. t.timers) c.set_callback.ensures.changed))))

@@ -1,5 +1,5 @@
 use Rattle.std.proofs.Common.{arith, ap, ◌∙◌, ◌≡◌, ℕ, Bool, None}
-use Rattle.kernel_core.specs.Calls.{callback_refusal, done, is_callback_timer}
+use Rattle.kernel_core.specs.Calls.{callback_refusal, answer_done, is_callback_timer}
 use Rattle.kernel_core.specs.Expiries.{expiries_cancelled}
 use Rattle.kernel_core.specs.Machine.{with_timers}
 use Rattle.kernel_core.specs.Code.View.{machine_of}
@@ -14,4 +14,4 @@ returns-clause-machine c =
     let renewed = renewed_one c.args.pid.0 c.args.number k.timers.armings c.stop_callback.new.self.armings c.stop_callback.ensures.cancelled c.stop_callback.ensures.others in
     let s = cancelled_machine test k c.stop_callback.new.self renewed c.requires.at_turn.events in
     let accepted : callback_refusal c.args.number ≡ None = grind arith in
-    rw accepted (c.answer.ensures.machine ∙ ap (done c.args.pid.0) (s ∙ ap (λ t. expiries_cancelled test (with_timers t (machine_of k))) (ap (λ t. t.timers) c.stop_callback.ensures.changed)))
+    rw accepted (c.answer.ensures.machine ∙ ap (answer_done c.args.pid.0) (s ∙ ap (λ t. expiries_cancelled test (with_timers t (machine_of k))) (ap (λ t. t.timers) c.stop_callback.ensures.changed)))

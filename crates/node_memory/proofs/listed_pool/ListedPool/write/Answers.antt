@@ -1,7 +1,8 @@
 use Rattle.std.proofs.Common.{arith, ap, ◌∙◌, ◌≡◌, [], length, None, unwrap_or}
 use Rattle.node_memory.proofs.Common.{pool_of, seen}
 use Rattle.memb_core.specs.BlockPool.{with_bytes}
-use Rattle.node_memory.specs.PoolCalls.{done, write_refusal}
+use Rattle.node_memory.specs.PoolCalls.{write_refusal}
+use Rattle.node_memory.specs.Answered.{done}
 use Rattle.node_memory.proofs.Listed.{seen-blocks}
 use Rattle.node_memory.proofs.listed_pool.ListedPool.write.Goals as goal
 

@@ -1,0 +1,31 @@
+-- When a call on one block is refused: of managed or heap memory, or of a pool. Blocks are named by 0 to 15; `block` tells the
+-- bytes of the one that is named, if it is live.
+use Rattle.std.specs.Prelude.{ℕ, Bool, not, ◌||◌, List, [], Option, Some, None, is_some, unwrap_or, if◌then◌else◌, nat_le, nat_lt}
+use Rattle.mote_types.specs.Bytes.{is_within}
+use Rattle.mote_types.specs.declared.refusal.Refusal.{Refusal}
+
+abbrev pub is_name : ℕ → Bool
+is_name n = nat_le n 15
+
+-- it is given back
+abbrev pub free_refusal : ℕ → Option (List ℕ) → Option Refusal
+free_refusal n block =
+    if not (is_name n) then Some Refusal.BadName
+    else if not (is_some block) then Some Refusal.NotLive
+    else None
+
+-- len bytes are written from that place of it on
+abbrev pub write_refusal : ℕ → ℕ → ℕ → Option (List ℕ) → Option Refusal
+write_refusal n at len block =
+    if not (is_name n) then Some Refusal.BadName
+    else if not (is_some block) then Some Refusal.NotLive
+    else if not (is_within at len (unwrap_or block [])) then Some Refusal.Range
+    else None
+
+-- len bytes are read, which may be at most 64
+abbrev pub read_refusal : ℕ → ℕ → ℕ → Option (List ℕ) → Option Refusal
+read_refusal n at len block =
+    if not (is_name n) then Some Refusal.BadName
+    else if not (is_some block) then Some Refusal.NotLive
+    else if nat_lt 64 len || not (is_within at len (unwrap_or block [])) then Some Refusal.Range
+    else None
