@@ -2,21 +2,14 @@
 --     IsWithin-kept        the span still lies in the arena after a call
 --     store_of-same        what the handles stand for depends on the span's bytes alone
 --     store_of-elsewhere   so it stays when only bytes of another span changed
-use Rattle.std.proofs.Common.{◌≡◌, ℕ, ◌+◌, ◌≤◌, ◌⊎◌, List, map, ap, arith}
-use Rattle.arena_core.specs.declared.span.Span.{Span}
-use Rattle.arena_core.specs.Contents.{Contents}
-use Rattle.arena_core.specs.Outside.{ChangesOnly}
-use Rattle.mmem_core.specs.ManagedStore.{ManagedStore}
-use Rattle.mmem_core.specs.HandleTable.{HandleTable, region_of, store_of, IsWithin, KeepsToSpan}
+use Rattle.mmem_core.proofs.Words.{rules, ◌≡◌, ℕ, ◌+◌, ◌≤◌, ◌⊎◌, List, map, ap, arith, Span, Contents, ChangesOnly, ManagedStore, HandleTable, region_of, store_of, IsWithin, KeepsToSpan}
 use Rattle.mmem_core.proofs.StoreLemmas.{block_in}
 
 pub IsWithin-kept : (old new : HandleTable) (before after : Contents) → KeepsToSpan old new before after → IsWithin old before.bytes → IsWithin new after.bytes
-IsWithin-kept old new before after kept within =
-    omega (arith, ap (λ (s : Span). s.at) kept.span, ap (λ (s : Span). s.len) kept.span, kept.bytes.size, within)
+IsWithin-kept old new before after kept within = grind arith
 
 pub store_of-same : (table : HandleTable) (xs ys : List ℕ) → region_of table xs ≡ region_of table ys → store_of table xs ≡ store_of table ys
-store_of-same table xs ys same =
-    ap (λ region. let store : ManagedStore = record { capacity = table.span.len; quota = table.quotas.each; blocks = map (block_in region) table.places } in store) same
+store_of-same table xs ys same = grind (arith, block_in)
 
 pub store_of-elsewhere : (table : HandleTable) (at len : ℕ) (old new : List ℕ) → ChangesOnly at len old new → (table.span.at + table.span.len ≤ at) ⊎ (at + len ≤ table.span.at) → store_of table new ≡ store_of table old
 store_of-elsewhere table at len old new changes apart = store_of-same table new old (changes.others table.span.at table.span.len apart)

@@ -1,8 +1,5 @@
 -- What it comes to that a call keeps to its span.
-use Rattle.std.proofs.Common.{◌+◌, ◌≤◌, sym, subst, arith}
-use Rattle.arena_core.specs.declared.span.Span.{Span}
-use Rattle.arena_core.specs.Contents.{Contents}
-use Rattle.mmem_core.specs.HandleTable.{HandleTable, KeepsToSpan}
+use Rattle.mmem_core.proofs.Words.{◌+◌, ◌≤◌, sym, subst, arith, Span, Contents, HandleTable, KeepsToSpan}
 
 -- a span that was handed out stays handed out: what is carved later lies behind it
 stays_handed_out : (old new : HandleTable) (before after : Contents) → KeepsToSpan old new before after → old.span.at + old.span.len ≤ before.carved → new.span.at + new.span.len ≤ after.carved

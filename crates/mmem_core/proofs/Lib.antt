@@ -7,3 +7,4 @@ pub mod Shares
 mod Sliding
 pub mod StoreLemmas
 pub mod TableLemmas
+pub mod Words

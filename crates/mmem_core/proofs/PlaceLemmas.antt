@@ -1,16 +1,6 @@
 -- How the places change, and what the blocks take.
-use Rattle.std.proofs.Common.{◌≡◌, ◌≢◌, ℕ, zero, suc, ◌+◌, ◌-◌, ◌≤◌, ◌<◌, ◌⊎◌, inl, inr, List, [], ◌∷◌, ◌++◌, length, get_or, slice_set, replicate, sum_by, Option, Some, None, if◌then◌else◌, ◌==◌, Bool, true, refl, sym, ap, ◌∙◌, subst, arith, zero-add, append_assoc}
-use Rattle.std.specs.Prelude.{Contains, IsSome, IsSomeAnd, slice_get}
-use Rattle.std.specs.List.{AllByRecursion}
-use Rattle.std.proofs.lemmas.List.{get_or-set_same, get_or-set_other, append-nil}
-use Rattle.std.proofs.lemmas.List.Elements.{Contains-append_left, Contains-append_right, Contains-append_cases, Contains-push}
-use Rattle.std.proofs.lemmas.Bool.{cases_eq, cases_lt, eq-eqb}
-use Rattle.std.proofs.lemmas.List.Sums.{sum_by-cons, sum_by-set, sum_by_push}
-use Rattle.mote_types.specs.Rounding.{up4}
-use Rattle.mmem_core.specs.declared.place.Place.{Place}
-use Rattle.mmem_core.specs.Places.{place_in, end_of, last_end, room_moved, bytes_moved}
-use Rattle.mmem_core.specs.Code.Laid.{at_of, room_of, AreLaid, IsLaidOut, LieApart}
-use Rattle.mmem_core.specs.Code.Ring.{Avoids}
+use Rattle.mmem_core.proofs.Words.{rules, ◌≡◌, ◌≢◌, ℕ, zero, suc, ◌+◌, ◌-◌, ◌≤◌, ◌<◌, ◌⊎◌, inl, inr, List, [], ◌∷◌, ◌++◌, length, get_or, slice_set, replicate, sum_by, Option, Some, None, if◌then◌else◌, ◌==◌, Bool, true, refl, sym, ap, ◌∙◌, subst, arith, zero-add, append_assoc, Contains, IsSome, slice_get, AllByRecursion, get_or-set_same, get_or-set_other, append-nil, Contains-append_left, Contains-append_right, Contains-append_cases, Contains-push, cases_eq, cases_lt, eq-eqb, sum_by-cons, sum_by-set, sum_by_push, up4, Place, place_in, end_of, last_end, room_moved, bytes_moved, at_of, room_of, AreLaid, IsLaidOut, LieApart, Avoids}
+use Rattle.std.specs.Prelude.{IsSomeAnd}
 use Rattle.mmem_core.proofs.RingLemmas.{each_joined}
 
 -- a block's length is not above what it takes
@@ -28,12 +18,7 @@ sum-none zero = refl
 sum-none (suc n) = sum_by-cons room_of None (replicate n None) ∙ zero-add (sum_by room_of (replicate n None)) ∙ sum-none n
 
 pub IsLaidOut-none : (n size : ℕ) → IsLaidOut (replicate n None) [] 0 size
-IsLaidOut-none n size = record {
-  laid = omega arith;
-  listed = λ i live. absurd (live (place_in-none n i));
-  total = sum-none n;
-  fits = omega arith;
-}
+IsLaidOut-none n size = grind (arith, place_in-none, sum-none)
 
 -- a list of places after a change of one
 pub place_in-set_same : (places : List (Option Place)) (i : ℕ) (p : Option Place) → i < length places → place_in (slice_set places i p) i ≡ p
@@ -114,44 +99,24 @@ module _ (places : List (Option Place)) where
 
   pub laid_in : (low : ℕ) (xs : List ℕ) (high i : ℕ) → AreLaid places low xs high → Contains xs i → (low ≤ at i) × (0 < room i) × (at i + room i ≤ high)
   laid_in low [] high i laid h = absurd (omega (arith, h.1))
-  laid_in low (x ∷ xs) high i laid h = elim (contains_cases x xs i h) [
-    | inl e ↦
-        let up = laid_order (at x + room x) xs high laid.2 in
-        subst (λ k. (low ≤ at k) × (0 < room k) × (at k + room k ≤ high)) e (laid.0, laid.1, up)
-    | inr later ↦ let rest = laid_in (at x + room x) xs high i laid.2 later in (omega (arith, laid.0, rest.0), rest.1, rest.2)
-  ]
+  laid_in low (x ∷ xs) high i laid h = let later = laid_in (at x + room x) xs high i laid.2 in grind (arith, contains_cases, laid_order)
 
   laid_apart : (low : ℕ) (xs : List ℕ) (high i j : ℕ) → AreLaid places low xs high → Contains xs i → Contains xs j → i ≢ j → at i ≤ at j → at i + room i ≤ at j
   laid_apart low [] high i j laid h g ne le = absurd (omega (arith, h.1))
-  laid_apart low (x ∷ xs) high i j laid h g ne le = elim (contains_cases x xs i h) [
-    | inl e ↦ elim (contains_cases x xs j g) [
-      | inl f ↦ absurd (ne (sym e ∙ f))
-      | inr later ↦ subst (λ k. at k + room k ≤ at j) e (laid_in (at x + room x) xs high j laid.2 later).0
-    ]
-    | inr later ↦ elim (contains_cases x xs j g) [
-      | inl f ↦
-          let above = (laid_in (at x + room x) xs high i laid.2 later).0 in
-          absurd (omega (arith, laid.1, above, ap at f))
-      | inr later' ↦ laid_apart (at x + room x) xs high i j laid.2 later later' ne le
-    ]
-  ]
+  laid_apart low (x ∷ xs) high i j laid h g ne le = let later = laid_apart (at x + room x) xs high i j laid.2 in grind (arith, contains_cases, laid_in)
 
   -- a block that lies before them all, or behind them all, or nowhere, is none of them
   pub avoids_lower : (low : ℕ) (xs : List ℕ) (high x : ℕ) → AreLaid places low xs high → at x + room x ≤ low → 0 < room x → Avoids x xs
   avoids_lower low [] high x laid le some = tt
-  avoids_lower low (y ∷ ys) high x laid le some =
-      ((λ e. absurd (omega (arith, laid.0, ap at e))), avoids_lower (at y + room y) ys high x laid.2 (omega (arith, laid.0)) some)
+  avoids_lower low (y ∷ ys) high x laid le some = let later = avoids_lower (at y + room y) ys high x laid.2 in grind arith
 
   pub avoids_higher : (low : ℕ) (xs : List ℕ) (high x : ℕ) → AreLaid places low xs high → high ≤ at x → Avoids x xs
   avoids_higher low [] high x laid le = tt
-  avoids_higher low (y ∷ ys) high x laid le =
-      let up = laid_order (at y + room y) ys high laid.2 in
-      ((λ e. absurd (omega (arith, laid.1, ap at e))), avoids_higher (at y + room y) ys high x laid.2 le)
+  avoids_higher low (y ∷ ys) high x laid le = let later = avoids_higher (at y + room y) ys high x laid.2 le in grind (arith, laid_order)
 
   pub avoids_none : (low : ℕ) (xs : List ℕ) (high x : ℕ) → AreLaid places low xs high → place_in places x ≡ None → Avoids x xs
   avoids_none low [] high x laid none = tt
-  avoids_none low (y ∷ ys) high x laid none =
-      ((λ e. absurd (room_some (place_in places y) laid.1 (ap (place_in places) e ∙ none))), avoids_none (at y + room y) ys high x laid.2 none)
+  avoids_none low (y ∷ ys) high x laid none = let later = avoids_none (at y + room y) ys high x laid.2 none in grind (arith, room_some)
 
   pub laid_sum : (low : ℕ) (xs : List ℕ) (high : ℕ) → AreLaid places low xs high → low + sum_by room xs ≤ high
   laid_sum low [] high laid = omega (arith, laid)
@@ -164,9 +129,7 @@ module _ (places places' : List (Option Place)) where
 
   pub laid_kept : (low : ℕ) (xs : List ℕ) (high : ℕ) → Same xs → AreLaid places low xs high → AreLaid places' low xs high
   laid_kept low [] high same laid = laid
-  laid_kept low (x ∷ xs) high same laid =
-      let later = laid_kept (at_of (place_in places x) + room_of (place_in places x)) xs high same.1 laid.2 in
-      rw same.0 (laid.0, laid.1, later)
+  laid_kept low (x ∷ xs) high same laid = let later = laid_kept (at_of (place_in places x) + room_of (place_in places x)) xs high same.1 laid.2 in grind arith
 
   pub sum_kept : (xs : List ℕ) → Same xs → sum_by (λ i. room_of (place_in places' i)) xs ≡ sum_by (λ i. room_of (place_in places i)) xs
   sum_kept [] same = refl
@@ -188,8 +151,7 @@ dead_or_listed xs i None h = inl refl
 dead_or_listed xs i (Some place) h = inr (h (λ e. absurd (cc)))
 
 sum_listed : (xs : List ℕ) (places : List (Option Place)) (low high : ℕ) → AreLaid places low xs high → ((i : ℕ) → place_in places i ≢ None → Contains xs i) → sum_by room_of places ≡ sum_by (λ i. room_of (place_in places i)) xs
-sum_listed [] places low high laid listed =
-    sum_dead places (λ i. elim (dead_or_listed [] i (place_in places i) (listed i)) [ inl dead ↦ dead | inr h ↦ absurd (omega (arith, h.1)) ])
+sum_listed [] places low high laid listed = grind (arith, sum_dead, dead_or_listed)
 sum_listed (x ∷ xs) places low high laid listed =
     let left = slice_set places x None in
     let below = room_below places x laid.1 in
@@ -235,10 +197,7 @@ module _ (places : List (Option Place)) (order : List ℕ) (used size : ℕ) (so
   listed_or_dead i = dead_or_listed order i (place_in places i) (sound.listed i)
 
   ends_by : (high : ℕ) → AreLaid places 0 order high → (i : ℕ) → at_of (place_in places i) + room_of (place_in places i) ≤ high
-  ends_by high laid i = elim (listed_or_dead i) [
-    | inl dead ↦ let e = ap at_of dead in let f = ap room_of dead in omega arith
-    | inr h ↦ (laid_in places 0 order high i laid h).2
-  ]
+  ends_by high laid i = grind (arith, listed_or_dead, laid_in)
 
   pub used_is : used ≡ sum_by (λ i. room_of (place_in places i)) order
   used_is = sym sound.total ∙ sum_listed order places 0 size sound.laid sound.listed
@@ -262,9 +221,7 @@ module _ (places : List (Option Place)) (order : List ℕ) (used size : ℕ) (so
       omega (arith, all, end_le_last places x)
 
   last_of_none : order ≡ [] → last_end places ≡ 0
-  last_of_none e =
-      let none : AreLaid places 0 order 0 = subst (λ xs. AreLaid places 0 xs 0) (sym e) (omega arith) in
-      omega (arith, last_le places 0 (ends_by 0 none))
+  last_of_none e = grind (arith, last_le, ends_by)
 
   last_parted : (xs : List ℕ) (y x : ℕ) → slice_get (y ∷ xs) (length xs) ≡ Some x → (lower : List ℕ) × (y ∷ xs ≡ lower ++ x ∷ [])
   last_parted [] y x e = ([], ap (λ k. k ∷ []) (let same : y ≡ x = cc in same))
@@ -284,15 +241,10 @@ module _ (places : List (Option Place)) (order : List ℕ) (used size : ℕ) (so
 
   -- the block that lies highest is live, and ends where the last one does
   pub last_live : (x : ℕ) → slice_get order (length order - 1) ≡ Some x → IsSome (place_in places x)
-  last_live x e =
-      let parts = last_parts order x e in
-      let laid : AreLaid places 0 (parts.0 ++ x ∷ []) size = subst (λ xs. AreLaid places 0 xs size) parts.1 sound.laid in
-      live_from_room (place_in places x) (laid_back places 0 parts.0 x [] size laid).0
+  last_live x e = grind (arith, last_parts, live_from_room, laid_back)
 
   pub last_ends : (x : ℕ) (place : Place) → slice_get order (length order - 1) ≡ Some x → place_in places x ≡ Some place → last_end places ≡ place.at + up4 place.len
-  last_ends x place e live =
-      let parts = last_parts order x e in let a = ap at_of live in let r = ap room_of live in
-      omega (arith, last_is parts.0 x parts.1)
+  last_ends x place e live = grind (arith, last_parts, last_is)
 
   pub none_ends : slice_get order (length order - 1) ≡ None → last_end places ≡ 0
   none_ends e = last_of_none (empty_order order e)
@@ -304,13 +256,7 @@ module _ (places : List (Option Place)) (order : List ℕ) (used size : ℕ) (so
   live_room i live = (laid_in places 0 order size i sound.laid (sound.listed i live)).1
 
   pub LieApart-from : LieApart places size
-  LieApart-from = record {
-    inside = ends_by size sound.laid;
-    apart = λ i j ne some some' le.
-        laid_apart places 0 order size i j sound.laid
-        (sound.listed i (room_some (place_in places i) some)) (sound.listed j (room_some (place_in places j) some')) ne le;
-    no_empty = live_room;
-  }
+  LieApart-from = grind (arith, ends_by, laid_apart, room_some, live_room)
 
   -- a block is taken away
   pub IsLaidOut-freed : (us : List ℕ) (x : ℕ) (vs : List ℕ) → order ≡ us ++ x ∷ vs → IsLaidOut (slice_set places x None) (us ++ vs) (used - room_of (place_in places x)) size
@@ -364,15 +310,7 @@ pub record AreSliding (places : List (Option Place)) (order : List ℕ) (used si
   pub fits : used ≤ size
 
 pub AreSliding-none : (places : List (Option Place)) (order : List ℕ) (used size : ℕ) → IsLaidOut places order used size → AreSliding places order used size 0 [] order
-AreSliding-none places order used size sound = record {
-  parts = refl;
-  together = omega arith;
-  full = refl;
-  to_come = sound.laid;
-  listed = sound.listed;
-  total = sound.total;
-  fits = sound.fits;
-}
+AreSliding-none places order used size sound = grind arith
 
 module _ (places : List (Option Place)) (order : List ℕ) (used size end : ℕ) (lower : List ℕ) where
   -- the next one slides down
@@ -384,9 +322,7 @@ module _ (places : List (Option Place)) (order : List ℕ) (used size end : ℕ)
     slides_down = let e = ap at_of live in omega (arith, sliding.to_come.0)
 
     pub slides_inside : place.at + up4 place.len ≤ size
-    slides_inside =
-        let e = ap at_of live in let f = ap room_of live in
-        omega (arith, laid_order places (at_of (place_in places x) + room_of (place_in places x)) higher size sliding.to_come.2)
+    slides_inside = grind (arith, laid_order)
 
     -- each other block lies before the end, or behind this one
     pub slides_past : (i : ℕ) → i ≢ x → (at_of (place_in places i) + room_of (place_in places i) ≤ end) ⊎ (place.at + up4 place.len ≤ at_of (place_in places i))
@@ -438,12 +374,7 @@ module _ (places : List (Option Place)) (order : List ℕ) (used size end : ℕ)
     laid_together = subst (λ xs. AreLaid places 0 xs end) (sym all_lower) sliding.together
 
     pub IsLaidOut-slid : IsLaidOut places order used size
-    IsLaidOut-slid = record {
-      laid = laid_to places 0 order end size sliding.to_come laid_together;
-      listed = sliding.listed;
-      total = sliding.total;
-      fits = sliding.fits;
-    }
+    IsLaidOut-slid = grind (arith, laid_to, laid_together)
 
     -- what lies behind the last one is all that is free
     pub last_is_used : last_end places ≡ used
@@ -475,21 +406,10 @@ module _ (places : List (Option Place)) (size i : ℕ) (place : Place) (lie : Li
   -- each other block lies before it, or behind
   side_of : (j : ℕ) (p : Option Place) → j ≢ i → place_in places j ≡ p → (at_of p + room_of p ≤ place.at) ⊎ (place.at + up4 place.len ≤ at_of p)
   side_of j None ne e = inl (omega arith)
-  side_of j (Some other) ne e =
-      let at = ap at_of e in let room = ap room_of e in let a = ap at_of live in let r = ap room_of live in let s = some_size in
-      let positive : 0 < room_of (place_in places j) = lie.no_empty j (λ none. absurd (cc)) in
-      elim (cases_lt place.at other.at) [
-        | inl behind ↦ inr (omega (arith, lie.apart i j (λ f. ne (sym f)) (omega arith) (omega arith) (omega arith)))
-        | inr before ↦ inl (omega (arith, lie.apart j i ne (omega arith) (omega arith) (omega arith)))
-      ]
+  side_of j (Some other) ne e = grind (arith, some_size, cases_lt)
 
   pub sides : (j : ℕ) → (at_of (place_in left j) + room_of (place_in left j) ≤ place.at) ⊎ (place.at + up4 place.len ≤ at_of (place_in left j))
-  sides j = elim (cases_eq j i) [
-    | inl e ↦ inl (let at = ap at_of (left_same j e) in let room = ap room_of (left_same j e) in omega arith)
-    | inr ne ↦
-        let at = ap at_of (left_other j ne) in let room = ap room_of (left_other j ne) in
-        elim (side_of j (place_in places j) ne refl) [ inl before ↦ inl (omega arith) | inr behind ↦ inr (omega arith) ]
-  ]
+  sides j = grind (arith, cases_eq, left_same, left_other, side_of)
 
 if_true : {X : Type 0} (b : Bool) (x y : X) → b ≡ true → (if b then x else y) ≡ x
 if_true b x y e = ap (λ c. if c then x else y) e
@@ -509,11 +429,7 @@ emptied (x ∷ xs) (suc i) p none = ap (λ ys. x ∷ ys) (emptied xs i p none)
 pub begins_behind : (xs : List (Option Place)) (i n : ℕ) → i < length xs → place_in xs i ≡ None
     → (ys : List (Option Place)) → ys ≡ slice_set xs i (Some (record { at = last_end xs; len = n }))
     → IsSomeAnd (place_in ys i) (λ (place : Place). place.at ≡ last_end (slice_set ys i None))
-begins_behind xs i n below none ys is =
-    let fresh : Place = record { at = last_end xs; len = n } in
-    let here : place_in ys i ≡ Some fresh = ap (λ zs. place_in zs i) is ∙ place_in-set_same xs i (Some fresh) below in
-    let ends : last_end xs ≡ last_end (slice_set ys i None) = sym (ap (λ zs. last_end (slice_set zs i None)) is ∙ ap last_end (emptied xs i (Some fresh) none)) in
-    subst (λ p. IsSomeAnd p (λ (place : Place). place.at ≡ last_end (slice_set ys i None))) (sym here) ends
+begins_behind xs i n below none ys is = grind (arith, place_in-set_same, below, emptied)
 
 pub bytes_moved-same : (xs : List (Option Place)) → bytes_moved xs xs ≡ 0
 bytes_moved-same [] = refl

@@ -1,15 +1,9 @@
 -- What an append and a removal make of the ring of links.
-use Rattle.std.proofs.Common.{◌≡◌, ◌≢◌, inl, inr, ℕ, zero, suc, ◌+◌, ◌-◌, ◌≤◌, ◌<◌, ◌==◌, List, [], ◌∷◌, ◌++◌, length, get_or, set, true, false, if◌then◌else◌, refl, sym, ap, ◌∙◌, subst, arith}
-use Rattle.std.specs.List.{AllByRecursion, IsDistinct, list_any}
-use Rattle.std.specs.Prelude.{Contains, Option, Some, None, slice_get}
-use Rattle.std.proofs.lemmas.Bool.{eqb-true, eq-eqb, ne_eqb, or_cases}
-use Rattle.std.proofs.lemmas.List.{get_or-set_same, get_or-set_other, length-set}
+use Rattle.mmem_core.proofs.Words.{rules, ◌≡◌, ◌≢◌, inl, inr, ℕ, zero, suc, ◌+◌, ◌-◌, ◌≤◌, ◌<◌, ◌==◌, List, [], ◌∷◌, ◌++◌, length, get_or, set, true, false, if◌then◌else◌, refl, sym, ap, ◌∙◌, subst, arith, AllByRecursion, IsDistinct, list_any, Contains, slice_get, eqb-true, eq-eqb, ne_eqb, or_cases, get_or-set_same, get_or-set_other, length-set, get_or-replicate, length-replicate, take-append-drop, drop_more, All-set, All-replicate, All, take, drop, numbers_behind, numbers_of, Leads, Avoids, AreDistinct, IsRing}
+use Rattle.std.specs.Prelude.{Option, Some, None}
 use Rattle.std.proofs.lemmas.Map.Steps.{length-le_from_distinct_below}
-use Rattle.std.proofs.lemmas.List.{get_or-replicate, length-replicate, take-append-drop, drop_more}
-use Rattle.std.proofs.lemmas.List.Elements.{All-set, All-replicate}
-use Rattle.std.specs.Prelude.{All, replicate, take, drop}
+use Rattle.std.specs.Prelude.{replicate}
 use Rattle.mmem_core.specs.declared.order.Order.TheInside.{Inside}
-use Rattle.mmem_core.specs.Code.Ring.{numbers_behind, numbers_of, Leads, Avoids, AreDistinct, IsRing}
 
 if_eq : {X : Type 0} (a b : ℕ) (x y : X) → a ≡ b → (if a == b then x else y) ≡ x
 if_eq a b x y e = ap (λ t. if t then x else y) (eq-eqb a b e)
@@ -21,14 +15,8 @@ if_ne a b x y ne = ap (λ t. if t then x else y) (ne_eqb a b ne)
 pub numbers_along : (n : ℕ) (before behind : List ℕ) (from : ℕ) (numbers : List ℕ) → Leads before behind from numbers 272 → Avoids 272 numbers → length numbers ≤ n → numbers_behind n behind from ≡ numbers
 numbers_along zero before behind from [] leads apart few = refl
 numbers_along zero before behind from (x ∷ xs) leads apart few = absurd (omega arith)
-numbers_along (suc n) before behind from [] leads apart few =
-    let next = get_or behind from 0 in if_eq next 272 [] (next ∷ numbers_behind n behind next) leads.0
-numbers_along (suc n) before behind from (x ∷ xs) leads apart few =
-    let next = get_or behind from 0 in
-    let ne : next ≢ 272 = λ e. apart.0 (sym leads.0 ∙ e) in
-    if_ne next 272 [] (next ∷ numbers_behind n behind next) ne
-    ∙ ap (λ k. k ∷ numbers_behind n behind k) leads.0
-    ∙ ap (λ l. x ∷ l) (numbers_along n before behind x xs leads.2 apart.1 (omega arith))
+numbers_along (suc n) before behind from [] leads apart few = grind (arith, if_eq)
+numbers_along (suc n) before behind from (x ∷ xs) leads apart few = let later = numbers_along n before behind x xs leads.2 apart.1 in grind (arith, if_ne)
 
 -- numbers below 272 with no two equal are at most 272
 IsDistinct-from : (xs : List ℕ) → AreDistinct xs → IsDistinct ◌==◌ xs
@@ -42,10 +30,7 @@ IsDistinct-from (x ∷ xs) d = (each xs d.0, IsDistinct-from xs d.1)
 
 below_from_any : (xs : List ℕ) (n q : ℕ) → AllByRecursion (λ x. x < n) xs → list_any (λ y. q == y) xs ≡ true → q < n
 below_from_any [] n q below e = absurd (cc)
-below_from_any (x ∷ xs) n q below e = elim (or_cases (q == x) (list_any (λ y. q == y) xs) e) [
-  | inl here ↦ let same = eqb-true q x here in omega (arith, below.0)
-  | inr later ↦ below_from_any xs n q below.1 later
-]
+below_from_any (x ∷ xs) n q below e = let later = below_from_any xs n q below.1 in grind (arith, or_cases, eqb-true)
 
 pub few_numbers : (xs : List ℕ) (n : ℕ) → AreDistinct xs → AllByRecursion (λ x. x < n) xs → length xs ≤ n
 few_numbers xs n d below = length-le_from_distinct_below xs n (IsDistinct-from xs d) (λ q e. below_from_any xs n q below e)
@@ -103,8 +88,7 @@ module _ (before behind before' behind' : List ℕ) where
       → ((k : ℕ) → k ≢ p → get_or behind' k 0 ≡ get_or behind k 0) → ((k : ℕ) → k ≢ q → get_or before' k 0 ≡ get_or before k 0)
       → Leads before' behind' from numbers to
   leads_kept from [] to p q leads apart apart' ne same same' = (same from apart.0 ∙ leads.0, same' to ne ∙ leads.1)
-  leads_kept from (x ∷ xs) to p q leads apart apart' ne same same' =
-      (same from apart.0 ∙ leads.0, same' x apart'.0 ∙ leads.1, leads_kept x xs to p q leads.2 apart.1 apart'.1 ne same same')
+  leads_kept from (x ∷ xs) to p q leads apart apart' ne same same' = let later = leads_kept x xs to p q leads.2 apart.1 apart'.1 ne same same' in grind arith
 
   -- x comes behind the last one
   pub leads_pushed : (from : ℕ) (numbers : List ℕ) (to x p : ℕ) → Leads before behind from numbers to → p ≡ get_or before to 0
@@ -112,15 +96,8 @@ module _ (before behind before' behind' : List ℕ) where
       → get_or behind' p 0 ≡ x → get_or behind' x 0 ≡ to → ((k : ℕ) → k ≢ p → k ≢ x → get_or behind' k 0 ≡ get_or behind k 0)
       → get_or before' x 0 ≡ p → get_or before' to 0 ≡ x → ((k : ℕ) → k ≢ x → k ≢ to → get_or before' k 0 ≡ get_or before k 0)
       → Leads before' behind' from (numbers ++ x ∷ []) to
-  leads_pushed from [] to x p leads last apart ne out in' d at_p at_x others at_x' at_to others' =
-      let e : p ≡ from = last ∙ leads.1 in
-      (sym (ap (λ k. get_or behind' k 0) e) ∙ at_p, at_x' ∙ e, (at_x, at_to))
-  leads_pushed from (y ∷ ys) to x p leads last apart ne out in' d at_p at_x others at_x' at_to others' =
-      let p_ne : p ≢ from = rw last (entry_before (λ k. k ≢ from) before behind y ys to leads.2 out.0 out.1) in (
-        others from (λ e. p_ne (sym e)) apart.0 ∙ leads.0,
-        others' y apart.1.0 in'.0 ∙ leads.1,
-        leads_pushed y ys to x p leads.2 last apart.1 ne d.0 in'.1 d.1 at_p at_x others at_x' at_to others',
-      )
+  leads_pushed from [] to x p leads last apart ne out in' d at_p at_x others at_x' at_to others' = grind arith
+  leads_pushed from (y ∷ ys) to x p leads last apart ne out in' d at_p at_x others at_x' at_to others' = let later = leads_pushed y ys to x p leads.2 last apart.1 ne d.0 in'.1 d.1 at_p at_x others at_x' at_to others' in grind (arith, entry_before)
 
   -- x is passed over
   pub leads_without : (from : ℕ) (us : List ℕ) (x : ℕ) (vs : List ℕ) (to p n : ℕ) → Leads before behind from (us ++ x ∷ vs) to
@@ -129,15 +106,8 @@ module _ (before behind before' behind' : List ℕ) where
       → get_or behind' p 0 ≡ n → ((k : ℕ) → k ≢ p → get_or behind' k 0 ≡ get_or behind k 0)
       → get_or before' n 0 ≡ p → ((k : ℕ) → k ≢ n → get_or before' k 0 ≡ get_or before k 0)
       → Leads before' behind' from (us ++ vs) to
-  leads_without from [] x [] to p n leads lower higher out in' d at_p others at_n others' =
-      let e : p ≡ from = lower ∙ leads.1 in let f : n ≡ to = higher ∙ leads.2.0 in
-      (sym (ap (λ k. get_or behind' k 0) e) ∙ at_p ∙ f, sym (ap (λ k. get_or before' k 0) f) ∙ at_n ∙ e)
-  leads_without from [] x (y ∷ ys) to p n leads lower higher out in' d at_p others at_n others' =
-      let e : p ≡ from = lower ∙ leads.1 in let f : n ≡ y = higher ∙ leads.2.0 in (
-        sym (ap (λ k. get_or behind' k 0) e) ∙ at_p ∙ f,
-        sym (ap (λ k. get_or before' k 0) f) ∙ at_n ∙ e,
-        leads_kept y ys to p n leads.2.2 (subst (λ k. Avoids k (y ∷ ys)) (sym e) out.1) (subst (λ k. Avoids k ys) (sym f) d.1.0) (λ g. in'.1.0 (sym f ∙ sym g)) others others',
-      )
+  leads_without from [] x [] to p n leads lower higher out in' d at_p others at_n others' = grind arith
+  leads_without from [] x (y ∷ ys) to p n leads lower higher out in' d at_p others at_n others' = grind (arith, leads_kept)
   leads_without from (u ∷ us) x vs to p n leads lower higher out in' d at_p others at_n others' =
       let p_ne : p ≢ from = rw lower (entry_before (λ k. k ≢ from) before behind u us x (leads_front before behind u us x vs to leads.2) out.0 (each_front (λ k. k ≢ from) us (x ∷ vs) out.1)) in
       let n_ne : n ≢ u = rw higher (entry_behind (λ k. k ≢ u) before behind x vs to (leads_back before behind u us x vs to leads.2) (λ g. in'.0 (sym g)) (each_back (λ k. k ≢ u) us (x ∷ vs) d.0).1) in (
@@ -159,28 +129,10 @@ made : (before behind numbers : List ℕ) → length before ≡ 273 → length b
     → Leads before behind 272 numbers 272 → AllByRecursion (λ x. x < 272) numbers → AreDistinct numbers
     → Names (record { before = before; behind = behind }) numbers
 unfolding numbers_of
-made before behind numbers long long' links links' leads within distinct =
-    let e = numbers_along 272 before behind 272 numbers leads (avoided_end numbers within) (few_numbers numbers 272 distinct within) in
-    record {
-      sound = record {
-        entries_before = long;
-        entries_behind = long';
-        links_before = links;
-        links_behind = links';
-        leads = rw e leads;
-        within = rw e within;
-        distinct = rw e distinct;
-      };
-      numbers = e;
-    }
+made before behind numbers long long' links links' leads within distinct = let e = numbers_along 272 before behind 272 numbers leads (avoided_end numbers within) (few_numbers numbers 272 distinct within) in grind arith
 
 pub no_numbers : Names (record { before = replicate 273 272; behind = replicate 273 272 }) []
-no_numbers =
-    let ends : List ℕ = replicate 273 272 in
-    let long : length ends ≡ 273 = length-replicate {A = ℕ} 273 272 in
-    let links : All (λ link. link ≤ 272) ends = All-replicate (λ (link : ℕ). link ≤ 272) 273 272 (omega arith) in
-    let end : get_or ends 272 0 ≡ 272 = get_or-replicate {A = ℕ} 273 272 272 0 (omega arith) in
-    made ends ends [] long long links links (end, end) tt tt
+no_numbers = search (rules, length-replicate, get_or-replicate, made)
 
 module _ (before behind : List ℕ) (sound : IsRing (record { before = before; behind = behind })) where
   abbrev numbers : List ℕ
@@ -252,21 +204,16 @@ module _ (before behind : List ℕ) (sound : IsRing (record { before = before; b
   module _ (named_by : Option ℕ) (link : ℕ) (value : link ≢ 272 → named_by ≡ Some link) (end : link ≡ 272 → named_by ≡ None) where
     next_of : (from : ℕ) (xs : List ℕ) → Leads before behind from xs 272 → AllByRecursion (λ k. k < 272) xs → link ≡ get_or behind from 0 → named_by ≡ slice_get xs 0
     next_of from [] leads within e = end (e ∙ leads.0)
-    next_of from (x ∷ xs) leads within e =
-        let same = e ∙ leads.0 in value (λ f. absurd (omega (arith, f, same, within.0))) ∙ ap Some same
+    next_of from (x ∷ xs) leads within e = grind arith
 
     pub first_named : link ≡ get_or behind 272 0 → named_by ≡ slice_get numbers 0
     first_named e = next_of 272 numbers sound.leads sound.within e
 
     pub next_named : (us : List ℕ) (x : ℕ) (vs : List ℕ) → numbers ≡ us ++ x ∷ vs → link ≡ get_or behind x 0 → named_by ≡ slice_get vs 0
-    next_named us x vs e f =
-        let leads : Leads before behind 272 (us ++ x ∷ vs) 272 = rw e at sound.leads in
-        let within : AllByRecursion (λ k. k < 272) (us ++ x ∷ vs) = rw e at sound.within in
-        next_of x vs (leads_back before behind 272 us x vs 272 leads) (each_back (λ k. k < 272) us (x ∷ vs) within).1 f
+    next_named us x vs e f = grind (arith, next_of, leads_back, each_back)
 
     last_of : (from : ℕ) (xs : List ℕ) (x : ℕ) → Leads before behind from (x ∷ xs) 272 → AllByRecursion (λ k. k < 272) (x ∷ xs) → link ≡ get_or before 272 0 → named_by ≡ slice_get (x ∷ xs) (length xs)
-    last_of from [] x leads within e =
-        let same = e ∙ leads.2.1 in value (λ f. absurd (omega (arith, f, same, within.0))) ∙ ap Some same
+    last_of from [] x leads within e = grind arith
     last_of from (y ∷ ys) x leads within e = last_of x ys y leads.2 within.1 e
 
     pub last_named : link ≡ get_or before 272 0 → named_by ≡ slice_get numbers (length numbers - 1)

@@ -1,46 +1,22 @@
 -- What each process's blocks take, after a change of one place.
-use Rattle.std.proofs.Common.{◌≡◌, ◌≢◌, ℕ, zero, suc, ◌+◌, ◌-◌, ◌*◌, ◌≤◌, ◌<◌, inl, inr, List, [], ◌∷◌, length, get_or, slice_set, replicate, sum_by, Option, Some, None, refl, sym, ap, ◌∙◌, arith, mul-suc}
-use Rattle.std.specs.List.{range_with_len}
-use Rattle.std.proofs.lemmas.Bool.{cases_eq, lt-ltb}
+use Rattle.mmem_core.proofs.Words.{rules, ◌≡◌, ◌≢◌, ℕ, zero, suc, ◌+◌, ◌-◌, ◌*◌, ◌≤◌, ◌<◌, inl, inr, List, [], ◌∷◌, length, get_or, slice_set, replicate, sum_by, Option, Some, None, refl, sym, ap, ◌∙◌, arith, mul-suc, range_with_len, cases_eq, lt-ltb, get_or-set_same, get_or-set_other, length-set, sum_by-cons, sum_by-set, IsName, number_of, Place, Quotas, place_in, room_of, room_by, share, Shares, AreShared}
 use Rattle.std.proofs.lemmas.Bool.Decides.{nat_tests}
-use Rattle.std.proofs.lemmas.List.{get_or-set_same, get_or-set_other, length-set}
-use Rattle.std.proofs.lemmas.List.Sums.{sum_by-cons, sum_by-set}
-use Rattle.mote_types.specs.BlockNames.{IsName, number_of}
-use Rattle.mmem_core.specs.declared.place.Place.{Place}
-use Rattle.mmem_core.specs.declared.quotas.Quotas.{Quotas}
-use Rattle.mmem_core.specs.Places.{place_in}
-use Rattle.mmem_core.specs.Code.Laid.{room_of}
-use Rattle.mmem_core.specs.Code.Shares.{room_by, share, Shares, AreShared}
 use Rattle.mmem_core.proofs.PlaceLemmas.{place_in-none, place_in-set_same, place_in-set_other}
 
 -- sums over numbers one after the other, of functions that agree on these
 pub same_sum : (f g : ℕ → ℕ) (from n : ℕ) → ((i : ℕ) → from ≤ i → i < from + n → f i ≡ g i) → sum_by f (range_with_len from n) ≡ sum_by g (range_with_len from n)
 same_sum f g from zero same = refl
-same_sum f g from (suc n) same =
-    let later = same_sum f g (from + 1) n (λ i low high. same i (omega (arith, low)) (omega (arith, high))) in
-    omega (arith, sum_by-cons f from (range_with_len (from + 1) n), sum_by-cons g from (range_with_len (from + 1) n), same from (omega arith) (omega arith), later)
+same_sum f g from (suc n) same = let later = same_sum f g (from + 1) n in grind (arith, sum_by-cons)
 
 -- and that agree on all of these but one
 sum_changed : (f g : ℕ → ℕ) (h from n : ℕ) → from ≤ h → h < from + n → ((i : ℕ) → i ≢ h → f i ≡ g i)
     → sum_by f (range_with_len from n) + g h ≡ sum_by g (range_with_len from n) + f h
 sum_changed f g h from zero low high same = absurd (omega (arith, low, high))
-sum_changed f g h from (suc n) low high same =
-    let first_f = sum_by-cons f from (range_with_len (from + 1) n) in
-    let first_g = sum_by-cons g from (range_with_len (from + 1) n) in
-    elim (cases_eq from h) [
-      | inl here ↦
-          let later = same_sum f g (from + 1) n (λ i above below. same i (λ e. absurd (omega (arith, above, e, here)))) in
-          omega (arith, first_f, first_g, later, ap f here, ap g here)
-      | inr other ↦
-          let apart : from < h = omega (arith, low, other) in
-          let later = sum_changed f g h (from + 1) n (omega (arith, apart)) (omega (arith, high)) same in
-          omega (arith, first_f, first_g, later, same from other)
-    ]
+sum_changed f g h from (suc n) low high same = let later = sum_changed f g h (from + 1) n in grind (arith, sum_by-cons, cases_eq, same_sum)
 
 -- no block is live
 room_by-none : (n p : ℕ) → room_by p (replicate n None) ≡ 0
-room_by-none n p =
-    same_sum (λ h. room_of (place_in (replicate n None) (number_of p h))) (λ h. 0) 0 16 (λ h low high. ap room_of (place_in-none n (number_of p h)))
+room_by-none n p = grind (arith, same_sum, place_in-none)
 
 nothing_taken : (n i : ℕ) → get_or {A = ℕ} (replicate n 0) i 0 ≡ 0
 nothing_taken zero i = refl
@@ -50,32 +26,17 @@ nothing_taken (suc n) (suc i) = nothing_taken n i
 pub none_shared : (quotas : Quotas) (size : ℕ) → ((quota : ℕ) → quotas.each ≡ Some quota → quota * quotas.owners ≤ size)
     → AreShared quotas (replicate 272 None) (replicate 17 0) 0 size
 unfolding AreShared
-none_shared quotas size fit =
-    record {
-      entries = refl;
-      told = λ p low high. nothing_taken 17 (p - 3) ∙ sym (room_by-none 272 p);
-      total = refl;
-      fit = fit;
-      within = λ quota is i. omega (arith, nothing_taken 17 i);
-    }
+none_shared quotas size fit = search (rules, nothing_taken, room_by-none)
 
 -- the place of another process's block makes no difference
 room_by-other : (p q h : ℕ) (places : List (Option Place)) (x : Option Place) → 3 ≤ p → IsName q h → p ≢ q
     → room_by p (slice_set places (number_of q h) x) ≡ room_by p places
-room_by-other p q h places x low named other =
-    same_sum (λ k. room_of (place_in (slice_set places (number_of q h) x) (number_of p k))) (λ k. room_of (place_in places (number_of p k))) 0 16
-    (λ k _ below. ap room_of (place_in-set_other places (number_of q h) (number_of p k) x (λ same. other (omega (arith, same, low, below, named.0, named.2)))))
+room_by-other p q h places x low named other = grind (arith, same_sum, place_in-set_other)
 
 -- that of one's own does
 room_by-own : (p h : ℕ) (places : List (Option Place)) (x : Option Place) → IsName p h → number_of p h < length places
     → room_by p (slice_set places (number_of p h) x) + room_of (place_in places (number_of p h)) ≡ room_by p places + room_of x
-room_by-own p h places x named below =
-    let new : ℕ → ℕ = λ k. room_of (place_in (slice_set places (number_of p h) x) (number_of p k)) in
-    let old : ℕ → ℕ = λ k. room_of (place_in places (number_of p k)) in
-    let here : new h ≡ room_of x = ap room_of (place_in-set_same places (number_of p h) x below) in
-    let changed = sum_changed new old h 0 16 (omega arith) (omega (arith, named.2))
-    (λ k ne. ap room_of (place_in-set_other places (number_of p h) (number_of p k) x (λ same. ne (omega (arith, same))))) in
-    omega (arith, changed, here)
+room_by-own p h places x named below = grind (arith, place_in-set_same, sum_changed, place_in-set_other)
 
 no_share : (quota i : ℕ) → share quota 0 i ≡ 0
 no_share quota i = grind (arith, nat_tests)
@@ -133,15 +94,7 @@ module _ (quotas : Quotas) (places : List (Option Place)) (taken : List ℕ) (us
 
   pub rooms_kept : (new : List (Option Place)) → ((i : ℕ) → room_of (place_in new i) ≡ room_of (place_in places i)) → AreShared quotas new taken used size
   unfolding AreShared
-  rooms_kept new same =
-      record {
-        entries = shared.entries;
-        told = λ p low high. shared.told p low high
-            ∙ same_sum (λ h. room_of (place_in places (number_of p h))) (λ h. room_of (place_in new (number_of p h))) 0 16 (λ h _ _. sym (same (number_of p h)));
-        total = shared.total;
-        fit = shared.fit;
-        within = shared.within;
-      }
+  rooms_kept new same = grind (arith, shared, same_sum)
 
   module _ (p h : ℕ) (named : IsName p h) (below : number_of p h < length places) where
     pub room_le_taken : room_of (place_in places (number_of p h)) ≤ get_or taken (p - 3) 0
@@ -154,52 +107,17 @@ module _ (quotas : Quotas) (places : List (Option Place)) (taken : List ℕ) (us
         → ((quota : ℕ) → quotas.each ≡ Some quota → rest ≤ share quota quotas.owners (p - 3))
         → AreShared quotas (slice_set places i x) (slice_set taken j rest) left size
     unfolding AreShared
-    place_shared x i j rest left i_is j_is is count most =
-        let entry : p - 3 < length taken = omega (arith, shared.entries, named.0, named.1) in
-        rw (i_is, j_is) (record {
-          entries = length-set taken (p - 3) rest ∙ shared.entries;
-          told = λ q low high. elim (cases_eq q p) [
-            | inl own ↦
-                let mine : get_or (slice_set taken (p - 3) rest) (q - 3) 0 ≡ rest =
-                ap (λ k. get_or (slice_set taken (p - 3) rest) (k - 3) 0) own ∙ get_or-set_same taken (p - 3) rest 0 entry in
-                let own_room = room_by-own p h places x named below in
-                let by = ap (λ k. room_by k (slice_set places (number_of p h) x)) own in
-                omega (arith, mine, own_room, by, is, shared.told p named.0 named.1)
-            | inr other ↦
-                get_or-set_other taken (p - 3) (q - 3) rest 0 (λ e. other (omega (arith, e, low, named.0)))
-                ∙ shared.told q low high
-                ∙ sym (room_by-other q p h places x low named other)
-          ];
-          total = omega (arith, sum_by-set (λ n. n) taken (p - 3) rest 0 entry, shared.total, is, count);
-          fit = shared.fit;
-          within = λ quota each k. elim (cases_eq k (p - 3)) [
-            | inl here ↦
-                let mine : get_or (slice_set taken (p - 3) rest) k 0 ≡ rest =
-                ap (λ n. get_or (slice_set taken (p - 3) rest) n 0) here ∙ get_or-set_same taken (p - 3) rest 0 entry in
-                let same = ap (share quota quotas.owners) here in
-                omega (arith, mine, same, most quota each)
-            | inr other ↦ omega (arith, get_or-set_other taken (p - 3) k rest 0 other, shared.within quota each k)
-          ];
-        })
+    place_shared x i j rest left i_is j_is is count most = grind (arith, shared, length-set, cases_eq, get_or-set_same, room_by-own, get_or-set_other, room_by-other, sum_by-set)
 
     -- a new block of an owner, for which there is room
     pub block_shared : (x : Option Place) (i j n rest left : ℕ) → i ≡ number_of p h → j ≡ p - 3 → place_in places (number_of p h) ≡ None → room_of x ≡ n
         → rest ≡ get_or taken j 0 + n → left ≡ used + n → p ≤ 2 + quotas.owners
         → ((quota : ℕ) → quotas.each ≡ Some quota → rest ≤ quota)
         → AreShared quotas (slice_set places i x) (slice_set taken j rest) left size
-    block_shared x i j n rest left i_is j_is none room rest_is left_is owner most =
-        let nothing = ap room_of none in
-        let entry = ap (λ k. get_or taken k 0) j_is in
-        place_shared x i j rest left i_is j_is (omega (arith, nothing, room, rest_is, entry)) (omega (arith, nothing, room, left_is))
-        (λ quota each. omega (arith, most quota each, share_of_owner quota quotas.owners p named.0 owner))
+    block_shared x i j n rest left i_is j_is none room rest_is left_is owner most = grind (arith, place_shared, share_of_owner)
 
     -- a block is taken away
     pub freed_shared : (i j n rest left : ℕ) → i ≡ number_of p h → j ≡ p - 3 → room_of (place_in places (number_of p h)) ≡ n
         → rest ≡ get_or taken j 0 - n → left ≡ used - n
         → AreShared quotas (slice_set places i None) (slice_set taken j rest) left size
-    freed_shared i j n rest left i_is j_is room rest_is left_is =
-        let entry = ap (λ k. get_or taken k 0) j_is in
-        let some : n ≤ get_or taken (p - 3) 0 = omega (arith, room, room_le_taken) in
-        let few = taken_le_used (p - 3) (omega (arith, named.1)) in
-        place_shared None i j rest left i_is j_is (omega (arith, room, rest_is, entry, some)) (omega (arith, room, left_is, some, few))
-        (λ quota each. omega (arith, shared.within quota each (p - 3), rest_is, entry))
+    freed_shared i j n rest left i_is j_is room rest_is left_is = grind (arith, room_le_taken, taken_le_used, place_shared, shared)

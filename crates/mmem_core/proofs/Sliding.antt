@@ -1,18 +1,6 @@
 -- What holds while the blocks slide together, one after the other.
-use Rattle.std.proofs.Common.{◌≡◌, ℕ, ◌+◌, ◌-◌, ◌≤◌, ◌<◌, ◌^◌, min, inl, inr, List, [], ◌∷◌, ◌++◌, length, slice_set, slice_range, Option, Some, None, refl, sym, ap, ◌∙◌, subst, arith}
-use Rattle.std.specs.Prelude.{slice_get, IfSome, IsSome}
-use Rattle.std.proofs.lemmas.Bool.{cases_eq}
-use Rattle.std.proofs.lemmas.List.{length-set}
-use Rattle.mote_types.specs.Rounding.{up4}
-use Rattle.arena_core.specs.Contents.{Contents, contents}
-use Rattle.arena_core.specs.Written.{written}
+use Rattle.mmem_core.proofs.Words.{rules, ◌≡◌, ℕ, ◌+◌, ◌-◌, ◌≤◌, ◌<◌, ◌^◌, min, inl, inr, List, [], ◌∷◌, ◌++◌, length, slice_set, slice_range, Option, Some, None, refl, sym, ap, ◌∙◌, subst, arith, slice_get, IfSome, IsSome, cases_eq, length-set, up4, Contents, contents, written, Place, unused, place_in, last_end, room_moved, AreShared, at_of, room_of, AreLaid, IsLaidOut, LieApart, HandleTable, store_of, KeepsToSpan, CountsMoved}
 use Rattle.mmem_core.specs.declared.mmem.Mmem.TheInside.{Inside}
-use Rattle.mmem_core.specs.declared.place.Place.{Place}
-use Rattle.mmem_core.specs.ManagedStore.{unused}
-use Rattle.mmem_core.specs.Places.{place_in, last_end, room_moved}
-use Rattle.mmem_core.specs.Code.Shares.{AreShared}
-use Rattle.mmem_core.specs.Code.Laid.{at_of, room_of, AreLaid, IsLaidOut, LieApart}
-use Rattle.mmem_core.specs.HandleTable.{HandleTable, store_of, KeepsToSpan, CountsMoved}
 use Rattle.mmem_core.proofs.PlaceLemmas as places
 use Rattle.mmem_core.proofs.Shares.{rooms_kept}
 use Rattle.mmem_core.proofs.PlaceLemmas.{AreSliding, Same}
@@ -185,8 +173,7 @@ module _ (old now : Inside) (before after : Contents) (end : ℕ) (midway : IsMi
   slid_sound = places.IsLaidOut-slid now.places now.order now.used now.span.len end midway.lower last_sliding
 
   pub slid_shared : AreShared old.quotas old.places old.taken old.used old.span.len → AreShared now.quotas now.places now.taken now.used now.span.len
-  slid_shared shared =
-      rw (midway.same_quotas, midway.same_taken, midway.same_used, midway.same_span) (rooms_kept old.quotas old.places old.taken old.used old.span.len shared now.places midway.same_rooms)
+  slid_shared shared = grind (arith, rooms_kept)
 
   pub slid_apart : LieApart now.places now.span.len
   slid_apart = places.LieApart-from now.places now.order now.used now.span.len slid_sound

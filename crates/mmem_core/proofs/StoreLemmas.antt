@@ -1,18 +1,8 @@
 -- What the handles stand for, after a change of the places and of the region's bytes.
-use Rattle.std.proofs.Common.{◌≡◌, ℕ, zero, suc, ◌+◌, ◌-◌, ◌≤◌, ◌<◌, ◌⊎◌, inl, inr, List, [], ◌∷◌, length, map, take, drop, get_or, slice_set, slice_range, sum_by, Option, Some, None, refl, sym, ap, ◌∙◌, arith}
-use Rattle.std.specs.Option.{option_map}
-use Rattle.std.proofs.lemmas.List.{length-replicate, map-set, set-set, set-get_or, append_assoc}
-use Rattle.std.proofs.lemmas.List.Sums.{sum_by-cons, sum_by-set}
-use Rattle.mote_types.specs.Rounding.{up4}
-use Rattle.mote_types.specs.Bytes.{zeros, overwritten}
-use Rattle.arena_core.specs.Written.{written}
-use Rattle.arena_core.proofs.Ranges.{length-range, range-written, range-written_apart, written-range}
+use Rattle.mmem_core.proofs.Words.{rules, ◌≡◌, ℕ, zero, suc, ◌+◌, ◌-◌, ◌≤◌, ◌<◌, ◌⊎◌, inl, inr, List, [], ◌∷◌, length, map, get_or, slice_set, slice_range, sum_by, Option, Some, None, refl, sym, ap, ◌∙◌, arith, option_map, length-replicate, map-set, set-set, set-get_or, sum_by-cons, sum_by-set, up4, zeros, overwritten, written, length-range, range-written, range-written_apart, written-range, Place, ManagedStore, size_of, unused, place_in, at_of, room_of, LieApart, bytes_at}
+use Rattle.std.proofs.Common.{take, drop}
+use Rattle.std.proofs.lemmas.List.{append_assoc}
 use Rattle.arena_core.proofs.Rows.{written_is}
-use Rattle.mmem_core.specs.declared.place.Place.{Place}
-use Rattle.mmem_core.specs.ManagedStore.{ManagedStore, size_of, unused}
-use Rattle.mmem_core.specs.Places.{place_in}
-use Rattle.mmem_core.specs.Code.Laid.{at_of, room_of, LieApart}
-use Rattle.mmem_core.specs.HandleTable.{bytes_at}
 use Rattle.mmem_core.proofs.PlaceLemmas as places
 
 -- the block of a name, read from a region
@@ -45,31 +35,17 @@ sum_same region (x ∷ xs) h =
 
 -- a new block takes its rounded size of what is unused
 pub unused-added : (store : ManagedStore) (i n : ℕ) → i < length store.blocks → get_or store.blocks i None ≡ None → unused (record store { blocks = slice_set store.blocks i (Some (zeros n)) }) ≡ unused store - up4 n
-unused-added store i n below none =
-    let count : size_of (Some (zeros n)) ≡ up4 n = ap up4 (length-replicate n 0) in
-    let nothing = ap size_of none in
-    omega (arith, sum_by-set size_of store.blocks i (Some (zeros n)) None below, count, nothing)
+unused-added store i n below none = grind (arith, length-replicate, sum_by-set)
 
 -- the bytes of a place, and what they are after a write elsewhere
 block_apart : (region : List ℕ) (at : ℕ) (ws : List ℕ) (p : Option Place) → at + length ws ≤ length region → (at_of p + room_of p ≤ at) ⊎ (at + length ws ≤ at_of p) → block_in (written region at ws) p ≡ block_in region p
 block_apart region at ws None fits apart = refl
-block_apart region at ws (Some place) fits apart =
-    let n = places.len_le_room place.len in
-    ap Some (range-written_apart region at ws fits place.at place.len (elim apart [ inl before ↦ inl (omega arith) | inr behind ↦ inr (omega arith) ]))
+block_apart region at ws (Some place) fits apart = grind (arith, range-written_apart)
 
 -- a new block of n bytes ws from `at` on, behind all others
 pub blocks-added : (region : List ℕ) (xs : List (Option Place)) (at i n : ℕ) (ws : List ℕ) → ((j : ℕ) → at_of (place_in xs j) + room_of (place_in xs j) ≤ at) → length ws ≡ n → at + n ≤ length region →
     map (block_in (written region at ws)) (slice_set xs i (Some (record { at = at; len = n }))) ≡ slice_set (map (block_in region) xs) i (Some ws)
-blocks-added region xs at i n ws behind count fits =
-    let new = written region at ws in
-    let fits' : at + length ws ≤ length region = omega arith in
-    let read : bytes_at new (record { at = at; len = n }) ≡ ws =
-    ap (λ k. slice_range new at (at + k)) (sym count) ∙ range-written region at ws fits' in
-    let kept : map (block_in new) xs ≡ map (block_in region) xs =
-    map_same (block_in new) (block_in region) xs (λ j l. block_apart region at ws (place_in xs j) fits' (inl (behind j))) in
-    map-set (block_in new) xs i (Some (record { at = at; len = n }))
-    ∙ ap (λ l. slice_set l i (Some (bytes_at new (record { at = at; len = n })))) kept
-    ∙ ap (λ b. slice_set (map (block_in region) xs) i (Some b)) read
+blocks-added region xs at i n ws behind count fits = grind (arith, range-written, map_same, block_apart, map-set)
 
 -- a table that has a block at i, as a change of the table without it
 module _ (xs : List (Option Place)) (i : ℕ) (place : Place) (live : place_in xs i ≡ Some place) where

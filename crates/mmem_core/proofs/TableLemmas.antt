@@ -1,23 +1,5 @@
 -- What the handles of a table stand for, after each kind of change of the table and of the arena's bytes.
-use Rattle.std.proofs.Common.{◌≡◌, ◌≢◌, ℕ, ◌+◌, ◌-◌, ◌≤◌, ◌⊎◌, inl, inr, List, [], length, get_or, unwrap_or, slice_set, slice_range, sum_by, map, Option, Some, None, refl, sym, ap, ◌∙◌, arith}
-use Rattle.std.specs.Option.{option_map_or}
-use Rattle.std.proofs.lemmas.Bool.{cases_eq}
-use Rattle.std.proofs.lemmas.List.{length-replicate, map-set}
-use Rattle.mote_types.specs.BlockNames.{number_of}
-use Rattle.mote_types.specs.Rounding.{up4}
-use Rattle.mote_types.specs.Bytes.{zeros, overwritten}
-use Rattle.arena_core.specs.declared.span.Span.{Span}
-use Rattle.arena_core.specs.Contents.{Contents, contents}
-use Rattle.arena_core.specs.Outside.{ChangesOnly}
-use Rattle.arena_core.specs.Written.{written}
-use Rattle.arena_core.proofs.Ranges.{length-range, written-range, range-range, changes_only}
-use Rattle.mmem_core.specs.declared.place.Place.{Place}
-use Rattle.mmem_core.specs.declared.quotas.Quotas.{Quotas}
-use Rattle.mmem_core.specs.ManagedStore.{ManagedStore, size_of, block_of, unused, taken_by, free}
-use Rattle.mmem_core.specs.Places.{place_in, last_end}
-use Rattle.mmem_core.specs.Code.Laid.{at_of, room_of, LieApart}
-use Rattle.mmem_core.specs.Code.Shares.{room_by}
-use Rattle.mmem_core.specs.HandleTable.{HandleTable, store_of, bytes_at, KeepsToSpan}
+use Rattle.mmem_core.proofs.Words.{rules, ◌≡◌, ◌≢◌, ℕ, ◌+◌, ◌-◌, ◌≤◌, ◌⊎◌, inl, inr, List, [], length, get_or, unwrap_or, slice_set, slice_range, sum_by, map, Option, Some, None, refl, sym, ap, ◌∙◌, arith, option_map_or, cases_eq, length-replicate, map-set, number_of, up4, zeros, overwritten, Span, Contents, contents, ChangesOnly, written, length-range, written-range, range-range, changes_only, Place, Quotas, ManagedStore, size_of, block_of, unused, taken_by, free, place_in, last_end, at_of, room_of, LieApart, room_by, HandleTable, store_of, bytes_at, KeepsToSpan}
 use Rattle.mmem_core.proofs.PlaceLemmas as places
 use Rattle.mmem_core.proofs.Shares.{same_sum}
 use Rattle.mmem_core.proofs.StoreLemmas.{block_in, get_or-blocks, no_place, size_same, sum_same, blocks-added, blocks-moved, blocks-written}
@@ -30,17 +12,7 @@ pub kept_same : (old new : HandleTable) (arena : Contents) → new.span ≡ old.
 kept_same old new arena same limits = record { span = same; quotas = limits; carved = refl; bytes = record { size = refl; others = λ from n apart. refl } }
 
 pub kept_both : (first second third : HandleTable) (before middle after : Contents) → KeepsToSpan first second before middle → KeepsToSpan second third middle after → KeepsToSpan first third before after
-kept_both first second third before middle after one two =
-    let bytes : ChangesOnly first.span.at first.span.len middle.bytes after.bytes = rw one.span at two.bytes in
-    record {
-      span = two.span ∙ one.span;
-      quotas = two.quotas ∙ one.quotas;
-      carved = two.carved ∙ one.carved;
-      bytes = record {
-        size = bytes.size ∙ one.bytes.size;
-        others = λ from n apart. bytes.others from n apart ∙ one.bytes.others from n apart;
-      };
-    }
+kept_both first second third before middle after one two = grind arith
 
 module _ (span : Span) (quotas : Quotas) (xs : List (Option Place)) (slid : ℕ) (lie : LieApart xs span.len) (B : List ℕ) (within : span.at + span.len ≤ length B) where
   abbrev T : HandleTable
@@ -64,20 +36,15 @@ module _ (span : Span) (quotas : Quotas) (xs : List (Option Place)) (slid : ℕ)
       (λ h _ _. ap size_of (get_or-blocks region xs (number_of p h)) ∙ size_same region (place_in xs (number_of p h)) (omega (arith, lie.inside (number_of p h))))
 
   pub free_under : (quota p n : ℕ) → quotas.each ≡ Some quota → n ≡ room_by p xs → free p (store_of T B) ≡ quota - n
-  free_under quota p n each room =
-      ap (λ (o : Option ℕ). option_map_or (λ q. q - taken_by p (store_of T B)) o (unused (store_of T B))) each
-      ∙ ap (λ k. quota - k) (taken_by_is p ∙ sym room)
+  free_under quota p n each room = grind (arith, taken_by_is)
 
   pub free_of_all : (p used : ℕ) → quotas.each ≡ None → sum_by room_of xs ≡ used → free p (store_of T B) ≡ span.len - used
-  free_of_all p used each total =
-      ap (λ (o : Option ℕ). option_map_or (λ q. q - taken_by p (store_of T B)) o (unused (store_of T B))) each ∙ unused_is used total
+  free_of_all p used each total = grind (arith, unused_is)
 
   -- a change of the region's bytes and of the places, seen as a change of the blocks
   changed : (ys : List (Option Place)) (slid' at : ℕ) (ws : List ℕ) (blocks : List (Option (List ℕ))) → at + length ws ≤ span.len → map (block_in (written region at ws)) ys ≡ blocks →
       store_of (record { span = span; quotas = quotas; places = ys; slid = slid' }) (written B (span.at + at) ws) ≡ record (store_of T B) { blocks = blocks }
-  changed ys slid' at ws blocks inside e =
-      ap (λ (bs : List (Option (List ℕ))). let store : ManagedStore = record { capacity = span.len; quota = quotas.each; blocks = bs } in store)
-      (ap (λ r. map (block_in r) ys) (written-range B span.at span.len at ws inside within) ∙ e)
+  changed ys slid' at ws blocks inside e = grind (arith, block_in, written-range)
 
   pub unused_place : (i : ℕ) → get_or (store_of T B).blocks i None ≡ None → place_in xs i ≡ None
   unused_place i unused = no_place region (place_in xs i) (sym (get_or-blocks region xs i) ∙ unused)
@@ -90,18 +57,14 @@ module _ (span : Span) (quotas : Quotas) (xs : List (Option Place)) (slid : ℕ)
       (blocks-added region xs (last_end xs) i n (zeros n) (places.end_le_last xs) count (omega arith))
 
   pub taken_away : (slid' i : ℕ) → store_of (record { span = span; quotas = quotas; places = slice_set xs i None; slid = slid' }) B ≡ with_slot i None (store_of T B)
-  taken_away slid' i =
-      ap (λ (bs : List (Option (List ℕ))). let store : ManagedStore = record { capacity = span.len; quota = quotas.each; blocks = bs } in store) (map-set (block_in region) xs i None)
+  taken_away slid' i = grind (arith, map-set, block_in)
 
   module _ (i : ℕ) (place : Place) (live : place_in xs i ≡ Some place) where
     pub place_inside : place.at + up4 place.len ≤ span.len
     place_inside = places.place_inside xs span.len i place lie live
 
     pub bytes_are : bytes_at region place ≡ slice_range B (span.at + place.at) (span.at + place.at + place.len)
-    bytes_are =
-        let g = place_inside in let n = places.len_le_room place.len in
-        range-range B span.at span.len place.at (place.at + place.len) (omega arith) (omega arith)
-        ∙ ap (slice_range B (span.at + place.at)) (omega arith)
+    bytes_are = grind (arith, place_inside, range-range)
 
     pub block_is : get_or (store_of T B).blocks i None ≡ Some (slice_range B (span.at + place.at) (span.at + place.at + place.len))
     block_is = get_or-blocks region xs i ∙ ap (block_in region) live ∙ ap Some bytes_are
@@ -110,8 +73,7 @@ module _ (span : Span) (quotas : Quotas) (xs : List (Option Place)) (slid : ℕ)
     block_read = ap (λ o. unwrap_or o []) (get_or-blocks region xs i ∙ ap (block_in region) live)
 
     pub place_length : length (slice_range B (span.at + place.at) (span.at + place.at + place.len)) ≡ place.len
-    place_length =
-        let g = place_inside in let n = places.len_le_room place.len in length-range B (span.at + place.at) place.len (omega arith)
+    place_length = grind (arith, place_inside, length-range)
 
     pub rewritten : (at : ℕ) (ws : List ℕ) → at + length ws ≤ place.len →
         store_of T (written B (span.at + place.at + at) ws) ≡ with_slot i (Some (overwritten at ws (unwrap_or (get_or (store_of T B).blocks i None) []))) (store_of T B)

@@ -1,12 +1,4 @@
-use Rattle.std.proofs.lemmas.List.{length-map}
-use Rattle.arena_core.specs.declared.span.Span.{Span}
-use Rattle.std.proofs.Common.{length, get_or, rules, ◌≡◌, ◌+◌, ◌-◌, ◌≤◌, ◌<◌, ◌^◌, min, Option, Some, None, refl, sym, ap, subst, ◌∙◌, arith}
-use Rattle.mote_types.specs.Rounding.{up4}
-use Rattle.mote_types.specs.BlockNames.{number_of}
-use Rattle.mmem_core.specs.declared.place.Place.{Place}
-use Rattle.mmem_core.specs.ManagedStore.{ManagedStore, unused}
-use Rattle.mmem_core.specs.Places.{place_in, last_end, bytes_moved}
-use Rattle.mmem_core.specs.HandleTable.{HandleTable, store_of, region_of}
+use Rattle.mmem_core.proofs.Words.{length-map, Span, length, get_or, rules, ◌≡◌, ◌+◌, ◌-◌, ◌≤◌, ◌<◌, ◌^◌, min, Option, Some, None, refl, sym, ap, subst, ◌∙◌, arith, up4, number_of, Place, ManagedStore, unused, place_in, last_end, bytes_moved, HandleTable, store_of, region_of}
 use Rattle.mmem_core.proofs.PlaceLemmas.{begins_behind, bytes_moved-added, bytes_moved-same}
 use Rattle.mmem_core.proofs.StoreLemmas.{no_place, get_or-blocks, block_in, unused-added}
 use Rattle.mmem_core.proofs.mmem.Mmem.alloc.Goals as goal
@@ -29,61 +21,37 @@ make_room-requires-clause-room c =
     let there = c.avail.ensures.there c.args.arena.now.bytes c.requires.within c.requires.owner in
     omega (arith, there, c.if-avail-size.false)
 
-pub returns-clause-refused : goal.returns-clause-refused
-returns-clause-refused c =
-    let left = c.avail.ensures.free c.args.arena.now.bytes c.requires.within in
-    ((λ e. absurd (cc)), (λ less. absurd (omega (arith, left, less, c.rounded-size.ensures, c.if-avail-size.false))))
-
-pub returns-clause-slid : goal.returns-clause-slid
-returns-clause-slid c =
-    let old = c.args.self.now in let middle = c.make_room.new.self in let i = number_of c.args.key.0.0 c.args.key.1 in
+pub returns : goal.returns
+returns c =
+    let left = c.avail.ensures.free c.args.arena.now.bytes c.requires.within in let old = c.args.self.now in let middle = c.make_room.new.self in
+    let i = number_of c.args.key.0.0 c.args.key.1 in
     let none = no_place (region_of old c.args.arena.now.bytes) (place_in old.places i) (sym (get_or-blocks (region_of old c.args.arena.now.bytes) old.places i) ∙ c.requires.unused) in
     let fresh : Option Place = Some (record { at = last_end middle.places; len = c.args.n }) in
     let same = ap (bytes_moved old.places) c.put_last.ensures.place ∙ bytes_moved-added old.places middle.places i fresh none in
-    c.put_last.ensures.slid ∙ c.make_room.ensures.slid ∙ ap (λ k. min (old.slid + k) (2 ^ 64 - 1)) (sym same)
-
-pub returns-clause-still : goal.returns-clause-still
-returns-clause-still c fits =
-    let old = c.args.self.now in let middle = c.make_room.new.self in let i = number_of c.args.key.0.0 c.args.key.1 in
-    let none = no_place (region_of old c.args.arena.now.bytes) (place_in old.places i) (sym (get_or-blocks (region_of old c.args.arena.now.bytes) old.places i) ∙ c.requires.unused) in
-    let fresh : Option Place = Some (record { at = last_end middle.places; len = c.args.n }) in
-    ap (bytes_moved old.places) c.put_last.ensures.place
-    ∙ bytes_moved-added old.places middle.places i fresh none
-    ∙ c.make_room.ensures.still (omega (arith, fits, c.rounded-size.ensures))
-
-pub returns-clause-together : goal.returns-clause-together
-returns-clause-together c moved =
-    let old = c.args.self.now in let middle = c.make_room.new.self in let i = number_of c.args.key.0.0 c.args.key.1 in
-    let bytes = c.args.arena.now.bytes in let n = c.args.n in
-    let none = no_place (region_of old bytes) (place_in old.places i) (sym (get_or-blocks (region_of old bytes) old.places i) ∙ c.requires.unused) in
-    let fresh : Option Place = Some (record { at = last_end middle.places; len = n }) in
-    let same = ap (bytes_moved old.places) c.put_last.ensures.place ∙ bytes_moved-added old.places middle.places i fresh none in
-    let before : last_end middle.places + unused (store_of middle c.make_room.new.arena.bytes) ≤ middle.span.len = c.make_room.ensures.together (omega (arith, same, moved)) in
-    let store = store_of middle c.make_room.new.arena.bytes in
-    let count : length c.self.inside.places ≡ 272 = search rules in
-    let names = ap (λ (t : HandleTable). length t.places) c.self.view_is in
-    let below : i < length (store_of old bytes).blocks =
-    omega (arith, c.requires.named.0, c.requires.named.1, c.requires.named.2, count, names, length-map old.places (block_in (region_of old bytes))) in
+    let bytes = c.args.arena.now.bytes in let n = c.args.n in let store = store_of middle c.make_room.new.arena.bytes in
+    let count : length c.self.inside.places ≡ 272 = search rules in let names = ap (λ (t : HandleTable). length t.places) c.self.view_is in
+    let below : i < length (store_of old bytes).blocks = omega (arith, c.requires.named.0, c.requires.named.1, c.requires.named.2, count, names, length-map old.places (block_in (region_of old bytes))) in
     let below' : i < length store.blocks = subst (λ (s : ManagedStore). i < length s.blocks) (sym c.make_room.ensures.blocks) below in
     let none' : get_or store.blocks i None ≡ None = subst (λ (s : ManagedStore). get_or s.blocks i None ≡ None) (sym c.make_room.ensures.blocks) c.requires.unused in
     let taken : unused (store_of c.put_last.new.self c.put_last.new.arena.bytes) ≡ unused store - up4 n = ap unused c.put_last.ensures.block ∙ unused-added store i n below' none' in
-    let span = ap (λ (s : Span). s.len) c.put_last.ensures.rest.span in
-    omega (arith, before, taken, c.put_last.ensures.end, c.make_room.ensures.room, c.rounded-size.ensures, span)
+    let span = ap (λ (s : Span). s.len) c.put_last.ensures.rest.span in let region = region_of middle c.make_room.new.arena.bytes in
+    let before = length-map old.places (block_in (region_of old bytes)) in let after = length-map middle.places (block_in region) in
+    record {
+      refused = ((λ e. absurd (cc)), (λ less. absurd (omega (arith, left, less, c.rounded-size.ensures, c.if-avail-size.false))));
+      unchanged = search rules;
+      block = search rules;
+      rest = search rules;
+      slid = c.put_last.ensures.slid ∙ c.make_room.ensures.slid ∙ ap (λ k. min (old.slid + k) (2 ^ 64 - 1)) (sym same);
+      still = λ fits. same ∙ c.make_room.ensures.still (omega (arith, fits, c.rounded-size.ensures));
+      together = λ moved.
+          let most : last_end middle.places + unused store ≤ middle.span.len = c.make_room.ensures.together (omega (arith, same, moved)) in
+          omega (arith, most, taken, c.put_last.ensures.end, c.make_room.ensures.room, c.rounded-size.ensures, span);
+      behind =
+          let lengths = ap (λ (s : ManagedStore). length s.blocks) c.make_room.ensures.blocks in
+          let here : i < length middle.places = omega (arith, c.requires.named.0, c.requires.named.1, c.requires.named.2, count, names, lengths, before, after) in
+          begins_behind middle.places i n here (no_place region (place_in middle.places i) (sym (get_or-blocks region middle.places i) ∙ none')) c.put_last.new.self.places c.put_last.ensures.place;
+      last = search rules;
+    }
 
 pub returns-then-avail-size-clause-together : goal.returns-then-avail-size-clause-together
 returns-then-avail-size-clause-together c moved = absurd (omega (arith, moved, bytes_moved-same c.args.self.now.places))
-
-pub returns-clause-behind : goal.returns-clause-behind
-returns-clause-behind c =
-    let middle = c.make_room.new.self in let i = number_of c.args.key.0.0 c.args.key.1 in
-    let old = c.args.self.now in let bytes = c.args.arena.now.bytes in
-    let region = region_of middle c.make_room.new.arena.bytes in
-    let unused' = subst (λ (s : ManagedStore). get_or s.blocks i None ≡ None) (sym c.make_room.ensures.blocks) c.requires.unused in
-    let none = no_place region (place_in middle.places i) (sym (get_or-blocks region middle.places i) ∙ unused') in
-    let same = ap (λ (s : ManagedStore). length s.blocks) c.make_room.ensures.blocks in
-    let count : length c.self.inside.places ≡ 272 = search rules in
-    let names = ap (λ (t : HandleTable). length t.places) c.self.view_is in
-    let before = length-map old.places (block_in (region_of old bytes)) in
-    let after = length-map middle.places (block_in region) in
-    let below : i < length middle.places = omega (arith, c.requires.named.0, c.requires.named.1, c.requires.named.2, count, names, same, before, after) in
-    begins_behind middle.places i c.args.n below none c.put_last.new.self.places c.put_last.ensures.place

@@ -1,6 +1,4 @@
-use Rattle.std.proofs.Common.{◌≡◌, ◌+◌, ◌-◌, ◌≤◌, get_or, sym, ap, subst, ◌∙◌, arith}
-use Rattle.mmem_core.specs.ManagedStore.{free, unused}
-use Rattle.mmem_core.specs.HandleTable.{HandleTable, store_of, IsWithin}
+use Rattle.mmem_core.proofs.Words.{◌≡◌, ◌+◌, ◌-◌, ◌≤◌, get_or, sym, ap, subst, ◌∙◌, arith, free, unused, HandleTable, store_of, IsWithin}
 use Rattle.mmem_core.proofs.Shares.{taken_is, taken_le_quota, share_is_there}
 use Rattle.mmem_core.proofs.TableLemmas.{unused_is, free_under, free_of_all}
 use Rattle.mmem_core.proofs.mmem.Mmem.avail.Goals as goal

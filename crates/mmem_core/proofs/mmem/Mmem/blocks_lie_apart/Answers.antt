@@ -1,6 +1,4 @@
-use Rattle.std.proofs.Common.{sym, subst}
-use Rattle.mmem_core.specs.Separation.{BlocksLieApart}
-use Rattle.mmem_core.specs.HandleTable.{HandleTable, IsWithin}
+use Rattle.mmem_core.proofs.Words.{sym, subst, BlocksLieApart, HandleTable, IsWithin}
 use Rattle.mmem_core.proofs.Apart.{blocks_apart}
 use Rattle.mmem_core.proofs.mmem.Mmem.blocks_lie_apart.Goals as goal
 

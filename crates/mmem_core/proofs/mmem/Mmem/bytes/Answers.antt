@@ -1,8 +1,4 @@
-use Rattle.std.proofs.Common.{◌≡◌, Some, sym, ap, subst, ◌∙◌}
-use Rattle.mote_types.specs.BlockNames.{number_of}
-use Rattle.mmem_core.specs.ManagedStore.{block_of}
-use Rattle.mmem_core.specs.Places.{place_in}
-use Rattle.mmem_core.specs.HandleTable.{HandleTable, store_of, IsWithin}
+use Rattle.mmem_core.proofs.Words.{◌≡◌, Some, sym, ap, subst, ◌∙◌, number_of, block_of, place_in, HandleTable, store_of, IsWithin}
 use Rattle.mmem_core.proofs.TableLemmas.{block_is}
 use Rattle.mmem_core.proofs.mmem.Mmem.bytes.Goals as goal
 

@@ -1,6 +1,4 @@
-use Rattle.std.proofs.Common.{◌+◌, sym, ap, ◌∙◌, arith}
-use Rattle.mmem_core.specs.Places.{last_end}
-use Rattle.mmem_core.specs.HandleTable.{HandleTable}
+use Rattle.mmem_core.proofs.Words.{◌+◌, sym, ap, ◌∙◌, arith, last_end, HandleTable}
 use Rattle.mmem_core.proofs.PlaceLemmas.{last_live, last_ends, none_ends, last_inside}
 use Rattle.mmem_core.proofs.mmem.Mmem.end.Goals as goal
 
@@ -15,18 +13,15 @@ overflow_add-result c =
     let ends = last_ends m.places m.order m.used m.span.len c.self.invariant.0 c.in-Some.number c.unwrap-place.result (sym c.in-Some.ensures.number) c.unwrap-place.ensures in
     omega (arith, ends, last_inside m.places m.order m.used m.span.len c.self.invariant.0, c.rounded.ensures, c.self.invariant.2)
 
-pub returns-in-Some-clause-end : goal.returns-in-Some-clause-end
-returns-in-Some-clause-end c =
-    let m = c.self.inside in
-    let ends = last_ends m.places m.order m.used m.span.len c.self.invariant.0 c.in-Some.number c.unwrap-place.result (sym c.in-Some.ensures.number) c.unwrap-place.ensures in
-    ap (λ n. c.unwrap-place.result.at + n) c.rounded.ensures ∙ sym ends ∙ ap (λ (t : HandleTable). last_end t.places) c.self.view_is
-
-pub returns-in-Some-clause-inside : goal.returns-in-Some-clause-inside
-returns-in-Some-clause-inside c =
+pub returns-in-Some : goal.returns-in-Some
+returns-in-Some c =
     let m = c.self.inside in
     let ends = last_ends m.places m.order m.used m.span.len c.self.invariant.0 c.in-Some.number c.unwrap-place.result (sym c.in-Some.ensures.number) c.unwrap-place.ensures in
     let size = ap (λ (t : HandleTable). t.span.len) c.self.view_is in
-    omega (arith, ends, last_inside m.places m.order m.used m.span.len c.self.invariant.0, c.rounded.ensures, size)
+    record {
+      end = ap (λ n. c.unwrap-place.result.at + n) c.rounded.ensures ∙ sym ends ∙ ap (λ (t : HandleTable). last_end t.places) c.self.view_is;
+      inside = omega (arith, ends, last_inside m.places m.order m.used m.span.len c.self.invariant.0, c.rounded.ensures, size);
+    }
 
 pub returns-in-None-clause-end : goal.returns-in-None-clause-end
 returns-in-None-clause-end c =

@@ -1,9 +1,4 @@
-use Rattle.std.proofs.Common.{◌≡◌, ℕ, ◌+◌, ◌-◌, ◌++◌, ◌^◌, ◌<◌, List, length, get_or, slice_set, slice_index_or, None, min, refl, sym, ap, subst, ◌∙◌, arith}
-use Rattle.mmem_core.specs.ManagedStore.{freed}
-use Rattle.mote_types.specs.BlockNames.{number_of}
-use Rattle.mmem_core.specs.Places.{place_in, bytes_moved}
-use Rattle.mmem_core.specs.Code.Laid.{room_of, IsLaidOut}
-use Rattle.mmem_core.specs.HandleTable.{HandleTable, store_of, IsWithin}
+use Rattle.mmem_core.proofs.Words.{rules, ◌≡◌, ℕ, ◌+◌, ◌-◌, ◌++◌, ◌^◌, ◌<◌, List, length, get_or, slice_set, slice_index_or, None, min, refl, sym, ap, subst, ◌∙◌, arith, freed, number_of, place_in, bytes_moved, room_of, IsLaidOut, HandleTable, store_of, IsWithin}
 use Rattle.mmem_core.proofs.RingLemmas.{parted}
 use Rattle.mmem_core.proofs.PlaceLemmas.{IsLaidOut-freed, LieApart-from, bytes_moved-freed}
 use Rattle.mmem_core.proofs.Shares.{freed_shared, room_le_taken}
@@ -29,25 +24,20 @@ invariant_of-self c =
     (ap (λ n. get_or m.taken c.place_of_process.result 0 - n) (c.rounded-2.ensures ∙ sym c.rounded.ensures)) refl in
     (laid_out, LieApart-from left c.remove.new.self (m.used - c.rounded.result) m.span.len laid_out, c.self.invariant.2, shared)
 
-pub returns-clause-block : goal.returns-clause-block
-returns-clause-block c =
+pub returns : goal.returns
+returns c =
     let m = c.self.inside in let bytes = c.args.arena.now.bytes in let number = c.number_of-number.result in
     let here = subst (λ (t : HandleTable). IsWithin t bytes) (sym c.self.view_is) c.requires.within in
     let result : HandleTable = record { span = m.span; quotas = m.quotas; places = slice_set m.places number None; slid = m.slid } in
-    subst (λ (t : HandleTable). store_of result bytes ≡ freed c.args.key.0.0 c.args.key.1 (store_of t bytes)) c.self.view_is
-    (taken_away m.span m.quotas m.places m.slid c.self.invariant.1 bytes here m.slid number
-    ∙ ap (λ i. with_slot i None (store_of (record { span = m.span; quotas = m.quotas; places = m.places; slid = m.slid }) bytes)) c.number_of-number.ensures.number)
-
-pub returns-clause-slid : goal.returns-clause-slid
-returns-clause-slid c =
-    let m = c.self.inside in let number = c.number_of-number.result in
-    subst (λ (t : HandleTable). m.slid ≡ min (t.slid + bytes_moved t.places (slice_set m.places number None)) (2 ^ 64 - 1)) c.self.view_is
-    (omega (arith, bytes_moved-freed m.places number))
-
-pub returns-clause-still : goal.returns-clause-still
-returns-clause-still c =
-    let m = c.self.inside in let number = c.number_of-number.result in
-    (subst (λ (t : HandleTable). bytes_moved t.places (slice_set m.places number None) ≡ 0) c.self.view_is (bytes_moved-freed m.places number), refl)
+    record {
+      block = subst (λ (t : HandleTable). store_of result bytes ≡ freed c.args.key.0.0 c.args.key.1 (store_of t bytes)) c.self.view_is
+          (taken_away m.span m.quotas m.places m.slid c.self.invariant.1 bytes here m.slid number
+          ∙ ap (λ i. with_slot i None (store_of (record { span = m.span; quotas = m.quotas; places = m.places; slid = m.slid }) bytes)) c.number_of-number.ensures.number);
+      rest = search rules;
+      slid = subst (λ (t : HandleTable). m.slid ≡ min (t.slid + bytes_moved t.places (slice_set m.places number None)) (2 ^ 64 - 1)) c.self.view_is
+          (omega (arith, bytes_moved-freed m.places number));
+      still = (subst (λ (t : HandleTable). bytes_moved t.places (slice_set m.places number None) ≡ 0) c.self.view_is (bytes_moved-freed m.places number), refl);
+    }
 
 pub overflow_sub-self-2 : goal.overflow_sub-self-2
 overflow_sub-self-2 c =

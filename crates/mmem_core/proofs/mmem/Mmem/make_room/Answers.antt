@@ -1,5 +1,4 @@
-use Rattle.std.proofs.Common.{ap, arith}
-use Rattle.mmem_core.specs.HandleTable.{HandleTable}
+use Rattle.mmem_core.proofs.Words.{ap, arith, HandleTable}
 use Rattle.mmem_core.proofs.PlaceLemmas.{bytes_moved-same}
 use Rattle.mmem_core.proofs.mmem.Mmem.make_room.Goals as goal
 

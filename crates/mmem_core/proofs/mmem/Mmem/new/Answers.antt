@@ -1,7 +1,4 @@
-use Rattle.std.proofs.Common.{◌≡◌, ◌≤◌, ◌*◌, List, ℕ, Option, None, Some, replicate, sym, subst, arith}
-use Rattle.std.specs.Prelude.{IfSome}
-use Rattle.mmem_core.specs.declared.place.Place.{Place}
-use Rattle.mmem_core.specs.Code.Laid.{IsLaidOut}
+use Rattle.mmem_core.proofs.Words.{◌≡◌, ◌≤◌, ◌*◌, List, ℕ, Option, None, Some, replicate, sym, subst, arith, IfSome, Place, IsLaidOut}
 use Rattle.mmem_core.proofs.PlaceLemmas.{IsLaidOut-none, LieApart-from}
 use Rattle.mmem_core.proofs.Shares.{none_shared}
 use Rattle.mmem_core.proofs.mmem.Mmem.new.Goals as goal

@@ -1,15 +1,4 @@
-use Rattle.std.proofs.Common.{◌≡◌, ℕ, ◌+◌, ◌≤◌, ◌<◌, ◌++◌, ◌∷◌, [], List, length, get_or, slice_set, Option, Some, None, IsSomeAnd, refl, sym, ap, subst, ◌∙◌, arith}
-use Rattle.std.proofs.lemmas.List.{length-replicate}
-use Rattle.mote_types.specs.Rounding.{up4}
-use Rattle.mote_types.specs.Bytes.{zeros}
-use Rattle.mote_types.specs.BlockNames.{number_of}
-use Rattle.arena_core.specs.Contents.{Contents}
-use Rattle.arena_core.specs.Written.{written}
-use Rattle.mmem_core.specs.declared.place.Place.{Place}
-use Rattle.mmem_core.specs.ManagedStore.{block_of, free, allocated}
-use Rattle.mmem_core.specs.Places.{place_in, last_end}
-use Rattle.mmem_core.specs.Code.Laid.{IsLaidOut}
-use Rattle.mmem_core.specs.HandleTable.{HandleTable, store_of, IsWithin, KeepsToSpan}
+use Rattle.mmem_core.proofs.Words.{rules, ◌≡◌, ℕ, ◌+◌, ◌≤◌, ◌<◌, ◌++◌, ◌∷◌, [], List, length, get_or, slice_set, Option, Some, None, IsSomeAnd, refl, sym, ap, subst, ◌∙◌, arith, length-replicate, up4, zeros, number_of, Contents, written, Place, block_of, free, allocated, place_in, last_end, IsLaidOut, HandleTable, store_of, IsWithin, KeepsToSpan}
 use Rattle.mmem_core.proofs.PlaceLemmas.{IsLaidOut-added, LieApart-from, unlisted, len_le_room, last_end-added, place_in-set_same}
 use Rattle.mmem_core.proofs.Shares.{taken_is, taken_le_used, block_shared}
 use Rattle.mmem_core.proofs.TableLemmas.{free_under, unused_place, added, kept, with_slot}
@@ -53,56 +42,36 @@ invariant_of-self c =
     omega (arith, left, share, len_le_room n, c.requires.some_bytes, c.rounded-2.ensures)) in
     (laid_out, LieApart-from places c.append.new.self (m.used + c.rounded.result) m.span.len laid_out, c.self.invariant.2, shared)
 
-pub returns-clause-block : goal.returns-clause-block
-returns-clause-block c =
+pub returns : goal.returns
+returns c =
     let m = c.self.inside in let bytes = c.args.arena.now.bytes in let number = c.number_of-number.result in let n = c.args.n in
     let here = subst (λ (t : HandleTable). IsWithin t bytes) (sym c.self.view_is) c.requires.within in
     let room : last_end m.places + up4 n ≤ m.span.len = subst (λ (t : HandleTable). last_end t.places + up4 n ≤ t.span.len) (sym c.self.view_is) c.requires.room in
     let at : c.end-at.result ≡ last_end m.places = c.end-at.ensures.end ∙ sym (ap (λ (t : HandleTable). last_end t.places) c.self.view_is) in
     let result : ℕ → HandleTable = λ a. record { span = m.span; quotas = m.quotas; places = slice_set m.places number (Some (record { at = a; len = n })); slid = m.slid } in
-    let filled : store_of (result c.end-at.result) c.fill.new.self.bytes ≡ _ =
-    ap (λ (a : Contents). store_of (result c.end-at.result) a.bytes) c.fill.ensures.bytes in
-    subst (λ (t : HandleTable). store_of (result c.end-at.result) c.fill.new.self.bytes ≡ allocated c.args.key.0.0 c.args.key.1 n (store_of t bytes)) c.self.view_is
-    (filled
-    ∙ ap (λ a. store_of (result a) (written bytes (m.span.at + a) (zeros n))) at
-    ∙ added m.span m.quotas m.places m.slid c.self.invariant.1 bytes here m.slid number n (omega (arith, len_le_room n))
-    ∙ ap (λ i. with_slot i (Some (zeros n)) (store_of (record { span = m.span; quotas = m.quotas; places = m.places; slid = m.slid }) bytes)) c.number_of-number.ensures.number)
-
-pub returns-clause-rest : goal.returns-clause-rest
-returns-clause-rest c =
-    let m = c.self.inside in let bytes = c.args.arena.now.bytes in let number = c.number_of-number.result in let n = c.args.n in
-    let here = subst (λ (t : HandleTable). IsWithin t bytes) (sym c.self.view_is) c.requires.within in
-    let room : last_end m.places + up4 n ≤ m.span.len = subst (λ (t : HandleTable). last_end t.places + up4 n ≤ t.span.len) (sym c.self.view_is) c.requires.room in
-    let at : c.end-at.result ≡ last_end m.places = c.end-at.ensures.end ∙ sym (ap (λ (t : HandleTable). last_end t.places) c.self.view_is) in
+    let filled : store_of (result c.end-at.result) c.fill.new.self.bytes ≡ _ = ap (λ (a : Contents). store_of (result c.end-at.result) a.bytes) c.fill.ensures.bytes in
     let count : length (zeros n) ≡ n = length-replicate n 0 in
-    let result : HandleTable = record { span = m.span; quotas = m.quotas; places = slice_set m.places number (Some (record { at = c.end-at.result; len = n })); slid = m.slid } in
-    subst (λ (t : HandleTable). KeepsToSpan t result c.args.arena.now c.fill.new.self) c.self.view_is
-    (subst (λ (a : Contents). KeepsToSpan (record { span = m.span; quotas = m.quotas; places = m.places; slid = m.slid }) result c.args.arena.now a) (sym c.fill.ensures.bytes)
-    (kept m.span m.quotas m.places m.slid c.self.invariant.1 bytes here result (m.span.at + c.end-at.result) c.args.arena.now.carved (zeros n) refl refl (omega arith) (omega (arith, at, len_le_room n))))
-
-pub returns-clause-end : goal.returns-clause-end
-returns-clause-end c =
-    let m = c.self.inside in let number = c.number_of-number.result in let n = c.args.n in
     let below : number < length m.places = omega (arith, c.number_of-number.ensures.within) in
-    let at : c.end-at.result ≡ last_end m.places = c.end-at.ensures.end ∙ sym (ap (λ (t : HandleTable). last_end t.places) c.self.view_is) in
-    ap (λ (a : ℕ). last_end (slice_set m.places number (Some (record { at = a; len = n })))) at
-    ∙ last_end-added m.places number n below
-    ∙ ap (λ (t : HandleTable). last_end t.places + up4 n) c.self.view_is
-
-pub returns-clause-last : goal.returns-clause-last
-returns-clause-last c =
-    let m = c.self.inside in let number = c.number_of-number.result in let n = c.args.n in
-    let below : number < length m.places = omega (arith, c.number_of-number.ensures.within) in
-    let at : c.end-at.result ≡ last_end m.places = c.end-at.ensures.end ∙ sym (ap (λ (t : HandleTable). last_end t.places) c.self.view_is) in
-    let new : Place = record { at = c.end-at.result; len = n } in
-    let places : List (Option Place) = slice_set m.places number (Some new) in
-    let here : place_in places (number_of c.args.key.0.0 c.args.key.1) ≡ Some new =
-    ap (place_in places) (sym c.number_of-number.ensures.number) ∙ place_in-set_same m.places number (Some new) below in
-    let ends : last_end places ≡ c.end-at.result + up4 n =
-    ap (λ (a : ℕ). last_end (slice_set m.places number (Some (record { at = a; len = n })))) at
+    let new : Place = record { at = c.end-at.result; len = n } in let places : List (Option Place) = slice_set m.places number (Some new) in
+    let ends : last_end places ≡ c.end-at.result + up4 n = ap (λ (a : ℕ). last_end (slice_set m.places number (Some (record { at = a; len = n })))) at
     ∙ last_end-added m.places number n below
     ∙ ap (λ a. a + up4 n) (sym at) in
-    subst (λ (p : Option Place). IsSomeAnd p (λ place. last_end places ≡ place.at + up4 n)) (sym here) ends
+    record {
+      block = subst (λ (t : HandleTable). store_of (result c.end-at.result) c.fill.new.self.bytes ≡ allocated c.args.key.0.0 c.args.key.1 n (store_of t bytes)) c.self.view_is
+          (filled
+          ∙ ap (λ a. store_of (result a) (written bytes (m.span.at + a) (zeros n))) at
+          ∙ added m.span m.quotas m.places m.slid c.self.invariant.1 bytes here m.slid number n (omega (arith, len_le_room n))
+          ∙ ap (λ i. with_slot i (Some (zeros n)) (store_of (record { span = m.span; quotas = m.quotas; places = m.places; slid = m.slid }) bytes)) c.number_of-number.ensures.number);
+      place = search rules;
+      last = let here : place_in places (number_of c.args.key.0.0 c.args.key.1) ≡ Some new = ap (place_in places) (sym c.number_of-number.ensures.number) ∙ place_in-set_same m.places number (Some new) below in subst (λ (p : Option Place). IsSomeAnd p (λ place. last_end places ≡ place.at + up4 n)) (sym here) ends;
+      end = ap (λ (a : ℕ). last_end (slice_set m.places number (Some (record { at = a; len = n })))) at
+          ∙ last_end-added m.places number n below
+          ∙ ap (λ (t : HandleTable). last_end t.places + up4 n) c.self.view_is;
+      rest = let result : HandleTable = record { span = m.span; quotas = m.quotas; places = slice_set m.places number (Some (record { at = c.end-at.result; len = n })); slid = m.slid } in subst (λ (t : HandleTable). KeepsToSpan t result c.args.arena.now c.fill.new.self) c.self.view_is
+          (subst (λ (a : Contents). KeepsToSpan (record { span = m.span; quotas = m.quotas; places = m.places; slid = m.slid }) result c.args.arena.now a) (sym c.fill.ensures.bytes)
+          (kept m.span m.quotas m.places m.slid c.self.invariant.1 bytes here result (m.span.at + c.end-at.result) c.args.arena.now.carved (zeros n) refl refl (omega arith) (omega (arith, at, len_le_room n))));
+      slid = search rules;
+    }
 
 pub overflow_add-self-2 : goal.overflow_add-self-2
 overflow_add-self-2 c =

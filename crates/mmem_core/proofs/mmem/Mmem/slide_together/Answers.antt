@@ -1,5 +1,4 @@
-use Rattle.std.proofs.Common.{◌≡◌, ◌+◌, ◌-◌, ◌^◌, min, sym, ap, ◌∙◌, subst, arith, rules}
-use Rattle.mmem_core.specs.HandleTable.{HandleTable, IsWithin}
+use Rattle.mmem_core.proofs.Words.{◌≡◌, ◌+◌, ◌-◌, ◌^◌, min, sym, ap, ◌∙◌, subst, arith, rules, HandleTable, IsWithin}
 use Rattle.mmem_core.proofs.Sliding.{IsMidway, midway_first, is_live, down, inside, some_room, midway_more, slid_sound, slid_apart, slid_shared, room_behind}
 use Rattle.mmem_core.proofs.PlaceLemmas.{len_le_room}
 use Rattle.mmem_core.proofs.mmem.Mmem.slide_together.Goals as goal
@@ -16,18 +15,16 @@ unwrap-place-requires c =
     is_live c.self.inside m c.args.arena.now c.loop-next.arena c.in-Some.number c.loop-next.end
     (subst (λ next. IsMidway c.self.inside m c.args.arena.now c.loop-next.arena next c.loop-next.end) c.in-Some.is c.loop-next.invariant)
 
-pub slide_down-moved-requires-clause-inside : goal.slide_down-moved-requires-clause-inside
-slide_down-moved-requires-clause-inside c =
+pub slide_down-moved-requires : goal.slide_down-moved-requires
+slide_down-moved-requires c =
     let m = c.loop-next.self-inside in
     let midway = subst (λ next. IsMidway c.self.inside m c.args.arena.now c.loop-next.arena next c.loop-next.end) c.in-Some.is c.loop-next.invariant in
     let i = inside c.self.inside m c.args.arena.now c.loop-next.arena c.in-Some.number c.loop-next.end midway c.unwrap-place.result c.unwrap-place.ensures in
-    omega (arith, i, len_le_room c.unwrap-place.result.len)
-
-pub slide_down-moved-requires-clause-down : goal.slide_down-moved-requires-clause-down
-slide_down-moved-requires-clause-down c =
-    let m = c.loop-next.self-inside in
-    let midway = subst (λ next. IsMidway c.self.inside m c.args.arena.now c.loop-next.arena next c.loop-next.end) c.in-Some.is c.loop-next.invariant in
-    down c.self.inside m c.args.arena.now c.loop-next.arena c.in-Some.number c.loop-next.end midway c.unwrap-place.result c.unwrap-place.ensures
+    record {
+      within = search rules;
+      inside = omega (arith, i, len_le_room c.unwrap-place.result.len);
+      down = down c.self.inside m c.args.arena.now c.loop-next.arena c.in-Some.number c.loop-next.end midway c.unwrap-place.result c.unwrap-place.ensures;
+    }
 
 pub overflow_add-end : goal.overflow_add-end
 overflow_add-end c =

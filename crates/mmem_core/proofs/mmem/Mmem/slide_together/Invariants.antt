@@ -1,4 +1,4 @@
-use Rattle.std.proofs.Common.{◌-◌}
+use Rattle.mmem_core.proofs.Words.{◌-◌}
 use Rattle.mmem_core.proofs.Sliding.{IsMidway}
 use Rattle.mmem_core.proofs.mmem.Mmem.slide_together.Given as goal
 

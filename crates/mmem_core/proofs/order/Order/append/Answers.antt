@@ -1,5 +1,4 @@
-use Rattle.std.proofs.Common.{List, ℕ, ◌∷◌, ◌++◌, [], ap, ◌∙◌, sym, subst}
-use Rattle.mmem_core.specs.Code.Ring.{Avoids}
+use Rattle.mmem_core.proofs.Words.{List, ℕ, ◌∷◌, ◌++◌, [], ap, ◌∙◌, sym, subst, Avoids}
 use Rattle.mmem_core.proofs.RingLemmas.{appended, Avoids-from}
 use Rattle.mmem_core.proofs.order.Order.append.Goals as goal
 

@@ -1,4 +1,5 @@
-use Rattle.std.proofs.Common.{refl, ap, ◌∙◌, get_or, slice_get}
+use Rattle.mmem_core.proofs.Words.{refl, ap, ◌∙◌, get_or}
+use Rattle.std.proofs.Common.{slice_get}
 use Rattle.mmem_core.proofs.RingLemmas.{first_named}
 use Rattle.mmem_core.proofs.order.Order.first.Goals as goal
 

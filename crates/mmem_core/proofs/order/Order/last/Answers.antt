@@ -1,4 +1,5 @@
-use Rattle.std.proofs.Common.{refl, ap, ◌∙◌, ◌-◌, get_or, slice_get, length}
+use Rattle.mmem_core.proofs.Words.{refl, ap, ◌∙◌, ◌-◌, get_or, length}
+use Rattle.std.proofs.Common.{slice_get}
 use Rattle.mmem_core.proofs.RingLemmas.{last_named}
 use Rattle.mmem_core.proofs.order.Order.last.Goals as goal
 

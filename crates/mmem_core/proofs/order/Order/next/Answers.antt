@@ -1,4 +1,4 @@
-use Rattle.std.proofs.Common.{refl, ◌∙◌, get_or}
+use Rattle.mmem_core.proofs.Words.{refl, ◌∙◌, get_or}
 use Rattle.mmem_core.proofs.RingLemmas.{next_named}
 use Rattle.mmem_core.proofs.order.Order.next.Goals as goal
 

@@ -1,4 +1,4 @@
-use Rattle.std.proofs.Common.{◌∙◌}
+use Rattle.mmem_core.proofs.Words.{◌∙◌}
 use Rattle.mmem_core.proofs.RingLemmas.{removed, parted}
 use Rattle.mmem_core.proofs.order.Order.remove.Goals as goal
 
