@@ -1,26 +1,16 @@
 -- What a callback timer's new number strikes out, and what it leaves.
-use Rattle.timer_core.proofs.Words.{◌≡◌, ◌≢◌, ℕ, zero, suc, ◌+◌, ◌<◌, ◌≤◌, false, ◌==◌, refl, sym, ◌∙◌, ap, arith, lit<, lit≤, ◌⊎◌, inl, inr, ne_eqb, cases_eq, length-set, get_or-set_same, get_or-set_other, All-set, All-get_or, All-replicate, Armings, no_armings, callback_place, present_arming, is_present_arming, renumbered, all_renumbered, IsNumbered}
+use Rattle.std.proofs.Common.{rules}
+use Rattle.timer_core.proofs.Words.{◌≡◌, ◌≢◌, ℕ, zero, suc, ◌<◌, ◌≤◌, false, ◌==◌, refl, sym, ◌∙◌, ap, arith, lit<, lit≤, ◌⊎◌, inl, inr, ne_eqb, cases_eq, length-set, get_or-set_same, get_or-set_other, All-replicate, Armings, no_armings, callback_place, present_arming, is_present_arming, renumbered, all_renumbered, IsNumbered}
 
 pub numbered_at_boot : IsNumbered no_armings
 numbered_at_boot = record { places = refl; below = All-replicate (λ arming. arming < 1) 64 0 (lit< tt) }
 
 pub numbered_after : (p c : ℕ) (armings : Armings) → IsNumbered armings → IsNumbered (renumbered p armings c)
-numbered_after p c armings n =
-    record {
-      places = length-set armings.present (callback_place p c) armings.drawn ∙ n.places;
-      below = All-set (λ arming. arming < armings.drawn + 1) armings.present (callback_place p c) armings.drawn (omega arith)
-          (λ k d within. let old = n.below k d within in omega (arith, old));
-    }
-
--- every number that a callback timer has was drawn
-pub present_below : (p c : ℕ) (armings : Armings) → 4 ≤ p → p ≤ 19 → c < 4 → IsNumbered armings → present_arming p c armings < armings.drawn
-present_below p c armings first last number n =
-    All-get_or (λ arming. arming < armings.drawn) armings.present (callback_place p c) 0 (omega (arith, n.places)) n.below
+numbered_after p c armings n = search (rules, length-set)
 
 pub renumbered_here : (p c : ℕ) (armings : Armings) → 4 ≤ p → p ≤ 19 → c < 4 → IsNumbered armings →
     present_arming p c (renumbered p armings c) ≡ armings.drawn
-renumbered_here p c armings first last number n =
-    get_or-set_same armings.present (callback_place p c) armings.drawn 0 (omega (arith, n.places))
+renumbered_here p c armings first last number n = grind (arith, get_or-set_same)
 
 -- another callback timer keeps its number
 pub renumbered_other : (p c q d : ℕ) (armings : Armings) → callback_place q d ≢ callback_place p c →
@@ -32,8 +22,7 @@ places_far p c q d h k b e apart same = apart (omega (arith, same)) (omega (arit
 
 pub renumbered_others : (p c q d : ℕ) (armings : Armings) → 4 ≤ p → 4 ≤ q → c < 4 → d < 4 → (q ≡ p → d ≡ c → ⊥) →
     present_arming q d (renumbered p armings c) ≡ present_arming q d armings
-renumbered_others p c q d armings h k b e apart =
-    renumbered_other p c q d armings (places_far p c q d h k b e (λ same number. apart (sym same) (sym number)))
+renumbered_others p c q d armings h k b e apart = grind (arith, renumbered_other, places_far)
 
 not_present : (p c arming : ℕ) (armings : Armings) → arming < present_arming p c armings → is_present_arming p c arming armings ≡ false
 not_present p c arming armings h = ne_eqb (present_arming p c armings) arming (λ same. absurd (omega (arith, h, same)))
@@ -41,8 +30,7 @@ not_present p c arming armings h = ne_eqb (present_arming p c armings) arming (�
 -- no earlier number is the present one of a callback timer that got a new one
 pub renumbered_strikes : (p c arming : ℕ) (armings : Armings) → 4 ≤ p → p ≤ 19 → c < 4 → IsNumbered armings → arming < armings.drawn →
     is_present_arming p c arming (renumbered p armings c) ≡ false
-renumbered_strikes p c arming armings first last number n earlier =
-    not_present p c arming (renumbered p armings c) (rw (renumbered_here p c armings first last number n) earlier)
+renumbered_strikes p c arming armings first last number n earlier = grind (arith, not_present, renumbered_here)
 
 -- the first n callback timers of p got new numbers, one after another
 abbrev pub renumbered_below : ℕ → ℕ → Armings → Armings
@@ -83,9 +71,7 @@ all_renumbered_strikes p c arming armings first last number h earlier = strikes_
 others_below : (p n q d : ℕ) (armings : Armings) → 4 ≤ p → 4 ≤ q → n ≤ 4 → d < 4 → (p ≡ q → ⊥) →
     present_arming q d (renumbered_below p n armings) ≡ present_arming q d armings
 others_below p zero q d armings h k few b apart = refl
-others_below p (suc n) q d armings h k few b apart =
-    renumbered_other p n q d (renumbered_below p n armings) (places_far p n q d h k (omega arith) b (λ same _. apart same))
-    ∙ others_below p n q d armings h k (omega arith) b apart
+others_below p (suc n) q d armings h k few b apart = let later = others_below p n q d armings h k in grind (arith, renumbered_other, places_far)
 
 -- the callback timers of others keep their numbers
 pub all_renumbered_others : (p q d : ℕ) (armings : Armings) → 4 ≤ p → 4 ≤ q → d < 4 → (p ≡ q → ⊥) →

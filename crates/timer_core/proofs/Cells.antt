@@ -1,5 +1,5 @@
 -- The cells by name are the cells of the table by place.
-use Rattle.timer_core.proofs.Words.{◌≡◌, ◌⊎◌, inl, inr, ℕ, zero, suc, ◌+◌, ◌-◌, ◌<◌, ◌≤◌, true, false, List, [], ◌∷◌, length, refl, sym, ◌∙◌, ap, arith, set, get_or, ◌==◌, ◌&&◌, map, replicate, and_parts, cases_eq, eqb-true, false_from_ne_true, get_or-set_same, Timer, Cell, LinkedCell, IsNamed, all_timers, is_timer, NamedCell, with_cell, cell_under, zero_cell, is_named, place_of, are_placed, named_cells, zero_linked}
+use Rattle.timer_core.proofs.Words.{◌≡◌, ◌⊎◌, inl, inr, ℕ, zero, suc, ◌+◌, ◌-◌, ◌<◌, ◌≤◌, true, false, List, [], ◌∷◌, length, refl, sym, ◌∙◌, ap, arith, set, get_or, map, replicate, and_parts, cases_eq, eqb-true, false_from_ne_true, get_or-set_same, Timer, Cell, LinkedCell, IsNamed, all_timers, is_timer, NamedCell, with_cell, cell_under, zero_cell, place_of, are_placed, named_cells, zero_linked}
 use Rattle.timer_core.proofs.NameLemmas.{same_timer, same_place, place_below, named_from_test}
 
 -- what stands first among placed names
@@ -9,10 +9,7 @@ record IsPlaced (n : ℕ) (timer : Timer) (later : List Timer) : Type 0 where
   pub rest : are_placed (n + 1) later ≡ true
 
 first_placed : (n : ℕ) (timer : Timer) (later : List Timer) → are_placed n (timer ∷ later) ≡ true → IsPlaced n timer later
-first_placed n timer later e =
-    let parts = and_parts (place_of timer == n && is_named timer) (are_placed (n + 1) later) e in
-    let first = and_parts (place_of timer == n) (is_named timer) parts.0 in
-    record { place = eqb-true (place_of timer) n first.0; named = named_from_test timer first.1; rest = parts.1 }
+first_placed n timer later e = grind (arith, and_parts, eqb-true, named_from_test)
 
 apart : (t u : Timer) → (place_of t ≡ place_of u → ⊥) → is_timer t u ≡ false
 apart t u far = false_from_ne_true (is_timer t u) (λ here. far (ap place_of (same_timer t u here)))
@@ -22,11 +19,7 @@ unchanged : (t : Timer) (cell : Cell) (n : ℕ) (names : List Timer) (cells : Li
     with_cell t cell (named_cells names cells) ≡ named_cells names cells
 unchanged t cell n [] cells low e = refl
 unchanged t cell n (u ∷ us) [] low e = refl
-unchanged t cell n (u ∷ us) (c ∷ cs) low e =
-    let p = first_placed n u us e in
-    let other : is_timer t u ≡ false = apart t u (λ same. omega (arith, low, same, p.place)) in
-    let rest = unchanged t cell (n + 1) us cs (omega arith) p.rest in
-    rw (other, rest) refl
+unchanged t cell n (u ∷ us) (c ∷ cs) low e = let later = unchanged t cell (n + 1) us cs in grind (arith, first_placed, apart)
 
 set_from : (t : Timer) (x : LinkedCell) (n : ℕ) (names : List Timer) (cells : List LinkedCell) → IsNamed t → n ≤ place_of t → are_placed n names ≡ true →
     named_cells names (set cells (place_of t - n) x) ≡ with_cell t x.cell (named_cells names cells)
@@ -88,22 +81,18 @@ cells_set cells t x named =
 
 -- what stands in the timer's place
 pub cell_read : (cells : List LinkedCell) (t : Timer) → IsNamed t → cell_under t (named_cells all_timers cells) ≡ (get_or cells (place_of t) zero_linked).cell
-cell_read cells t named =
-    let whole : place_of t - 0 ≡ place_of t = omega arith in
-    rw whole at (read_from t 0 all_timers cells named (omega arith) (omega (arith, count, place_below t named)) all_placed)
+cell_read cells t named = grind (arith, read_from, count, place_below, all_placed)
 
 pub cell_given : (cells : List LinkedCell) (t : Timer) (x : LinkedCell) → IsNamed t → place_of t < length cells →
     cell_under t (named_cells all_timers (set cells (place_of t) x)) ≡ x.cell
-cell_given cells t x named within =
-    cell_read (set cells (place_of t) x) t named ∙ ap (λ (c : LinkedCell). c.cell) (get_or-set_same cells (place_of t) x zero_linked within)
+cell_given cells t x named within = grind (arith, cell_read, get_or-set_same)
 
 kept_at : (names : List Timer) (cells : List LinkedCell) (k : ℕ) (x : LinkedCell) → x.cell ≡ (get_or cells k zero_linked).cell →
     named_cells names (set cells k x) ≡ named_cells names cells
 kept_at [] cells k x e = refl
 kept_at (u ∷ us) [] k x e = refl
 kept_at (u ∷ us) (c ∷ cs) zero x e = ap (λ (cell : Cell). let first : NamedCell = record { timer = u; cell = cell } in first ∷ named_cells us cs) e
-kept_at (u ∷ us) (c ∷ cs) (suc k) x e =
-    ap (λ (rest : List NamedCell). let first : NamedCell = record { timer = u; cell = c.cell } in first ∷ rest) (kept_at us cs k x e)
+kept_at (u ∷ us) (c ∷ cs) (suc k) x e = let later = kept_at us cs k x e in grind arith
 
 -- a write that leaves the cell
 pub cells_kept : (cells : List LinkedCell) (k : ℕ) (x : LinkedCell) → x.cell ≡ (get_or cells k zero_linked).cell →

@@ -1,5 +1,5 @@
 -- What the changes of the table make of the cells and the timer list.
-use Rattle.timer_core.proofs.Words.{◌≡◌, ℕ, ◌<◌, ◌≤◌, true, false, List, length, refl, sym, subst, ◌∙◌, ap, arith, set, get_or, Some, None, replicate, All, ◌^◌, list_any, length-set, All-set, All-get_or, Timer, Cell, LinkedCell, place_of, IsNamed, all_timers, is_timer, NamedCell, Timers, no_timers, armed_with, stop_timer, next_of, flag_of, listed_from, named_cells, AreFlagged, Names, IsTable, timers_of, zero_linked, Follows, IsHead}
+use Rattle.timer_core.proofs.Words.{◌≡◌, ℕ, ◌<◌, ◌≤◌, true, false, List, length, refl, sym, subst, ◌∙◌, ap, arith, set, get_or, Some, None, replicate, All, ◌^◌, list_any, length-set, All-set, All-get_or, Timer, Cell, LinkedCell, place_of, IsNamed, all_timers, is_timer, Timers, no_timers, armed_with, stop_timer, next_of, flag_of, listed_from, named_cells, AreFlagged, Names, IsTable, timers_of, zero_linked, Follows, IsHead}
 use Rattle.timer_core.specs.declared.table.TimerTable.TheInside.{Inside}
 use Rattle.timer_core.proofs.NameLemmas.{place_below}
 use Rattle.timer_core.proofs.Cells.{cells_set, cells_kept, cells_at_boot}
@@ -16,17 +16,11 @@ abbrev HasStarts : List LinkedCell → Type 0
 HasStarts cells = All (λ linked_cell. linked_cell.cell.start ≤ 2 ^ 63) cells
 
 same_timers : (t u : Timers) → t.cells ≡ u.cells → t.armed ≡ u.armed → t ≡ u
-same_timers t u cells armed =
-    ap (λ (new : List NamedCell). let v : Timers = record { cells = new; armed = t.armed } in v) cells
-    ∙ ap (λ (new : List Timer). let v : Timers = record { cells = u.cells; armed = new } in v) armed
+same_timers t u cells armed = grind arith
 
 stands_for : (table : Inside) (timers : Timers) → length table.cells ≡ 192 → HasStarts table.cells → AreFlagged table.cells timers.armed
     → named_cells all_timers table.cells ≡ timers.cells → Relinked table.cells table.first timers.armed → StandsFor table timers
-stands_for table timers places starts flags cells r =
-    record {
-      sound = record { places = places; listed = r.sound; flags = rw r.listed flags; starts = starts };
-      value = same_timers (timers_of table) timers cells r.listed;
-    }
+stands_for table timers places starts flags cells r = grind (arith, same_timers)
 
 -- at boot
 pub timers_at_boot : timers_of (record { cells = replicate 192 zero_linked; first = None }) ≡ no_timers
@@ -111,5 +105,4 @@ link_closed table t before h named earlier f =
 -- the timer was not on the list
 pub nothing_removed : (table : Inside) (timer : Timer) → list_any (is_timer timer) (listed_from table.cells table.first) ≡ false →
     timers_of table ≡ stop_timer timer (timers_of table)
-nothing_removed table timer none =
-    same_timers (timers_of table) (stop_timer timer (timers_of table)) refl (sym (others_none timer (listed_from table.cells table.first) none))
+nothing_removed table timer none = grind (arith, same_timers, others_none)

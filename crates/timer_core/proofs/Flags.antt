@@ -1,14 +1,13 @@
 -- Each cell says whether its timer is on the list.
-use Rattle.timer_core.proofs.Words.{◌≡◌, ◌<◌, Bool, true, false, ◌||◌, List, [], ◌∷◌, length, refl, sym, ◌∙◌, ap, subst, set, list_any, get_or-set_same, get_or-set_other, Timer, LinkedCell, place_of, IsNamed, is_timer, flag_of, AreFlagged, zero_linked}
+use Rattle.std.proofs.Common.{rules}
+use Rattle.timer_core.proofs.Words.{◌||◌, arith, ◌≡◌, ◌<◌, Bool, true, false, List, [], ◌∷◌, length, refl, sym, ◌∙◌, ap, subst, set, list_any, get_or-set_same, get_or-set_other, Timer, LinkedCell, place_of, IsNamed, is_timer, flag_of, AreFlagged, zero_linked}
 use Rattle.timer_core.proofs.NameLemmas.{same_timer, is_timer_itself, is_timer_flips, places_differ}
 use Rattle.timer_core.proofs.Unlinking.{others}
 
 -- a write to a cell changes the flag of that timer alone
 flag_other : (cells : List LinkedCell) (t u : Timer) (x : LinkedCell) → IsNamed t → IsNamed u → is_timer t u ≡ false →
     flag_of (set cells (place_of t) x) u ≡ flag_of cells u
-flag_other cells t u x h k e =
-    let far : place_of u ≡ place_of t → ⊥ = λ same. places_differ t u h k e (sym same) in
-    ap (λ (c : LinkedCell). c.is_armed) (get_or-set_other cells (place_of t) (place_of u) x zero_linked far)
+flag_other cells t u x h k e = grind (arith, places_differ, get_or-set_other)
 
 flag_same : (cells : List LinkedCell) (t : Timer) (x : LinkedCell) → place_of t < length cells → flag_of (set cells (place_of t) x) t ≡ x.is_armed
 flag_same cells t x within = ap (λ (c : LinkedCell). c.is_armed) (get_or-set_same cells (place_of t) x zero_linked within)
@@ -32,9 +31,7 @@ flags_kept cells t x list h within flags same = flags_set cells t x list list h 
 -- the timer becomes the head
 pub flags_added : (cells : List LinkedCell) (t : Timer) (x : LinkedCell) (list : List Timer) → IsNamed t → place_of t < length cells →
     AreFlagged cells list → x.is_armed ≡ true → AreFlagged (set cells (place_of t) x) (t ∷ list)
-flags_added cells t x list h within flags on =
-    flags_set cells t x list (t ∷ list) h within flags (let itself = is_timer_itself t in rw itself on)
-    (λ u apart. let flipped = is_timer_flips t u apart in rw flipped refl)
+flags_added cells t x list h within flags on = search (rules, flags_set, is_timer_itself, is_timer_flips)
 
 none_left : (t : Timer) (list : List Timer) → list_any (is_timer t) (others t list) ≡ false
 none_left t [] = refl
@@ -58,5 +55,4 @@ others_stay t u (v ∷ later) apart = split (is_timer t v) refl (others_stay t u
 -- the timer leaves the list
 pub flags_removed : (cells : List LinkedCell) (t : Timer) (x : LinkedCell) (list : List Timer) → IsNamed t → place_of t < length cells →
     AreFlagged cells list → x.is_armed ≡ false → AreFlagged (set cells (place_of t) x) (others t list)
-flags_removed cells t x list h within flags off =
-    flags_set cells t x list (others t list) h within flags (off ∙ sym (none_left t list)) (λ u apart. others_stay t u list apart)
+flags_removed cells t x list h within flags off = search (rules, flags_set, others, none_left, others_stay)

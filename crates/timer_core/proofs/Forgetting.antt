@@ -62,13 +62,10 @@ pub without_events_at_first : (p : ℕ) (timers : Timers) → timers ≡ without
 without_events_at_first p timers = ap (same_cells timers) (sym (filter_all (λ t. not (is_event_below p 0 t)) (events_none p) timers.armed))
 
 pub without_events_more : (p : Pid) (n : ℕ) (timers : Timers) → stop_timer (Timer.Event p n) (without_events_below p.0 n timers) ≡ without_events_below p.0 (n + 1) timers
-without_events_more p n timers =
-    ap (same_cells timers)
-    (filter_split (λ t. not (is_event_below p.0 n t)) (λ t. not (is_timer (Timer.Event p n) t)) (λ t. not (is_event_below p.0 (n + 1) t)) (events_more p n) timers.armed)
+without_events_more p n timers = grind (arith, filter_split, events_more)
 
 pub without_events_at_last : (p : ℕ) (timers : Timers) → AllNamed timers.armed → without_events_below p 8 timers ≡ without_event_timers p timers
-without_events_at_last p timers h =
-    ap (same_cells timers) (filter_named (λ t. not (is_event_below p 8 t)) (λ t. not (is_event_timer_of p t)) (events_all p) timers.armed h)
+without_events_at_last p timers h = grind (arith, filter_named, events_all)
 
 callbacks_none : (p : ℕ) (t : Timer) → not (is_callback_below p 0 t) ≡ true
 callbacks_none p (Timer.Event q t) = refl
@@ -86,10 +83,7 @@ pub without_callbacks_at_first : (p : ℕ) (timers : Timers) → timers ≡ with
 without_callbacks_at_first p timers = ap (same_cells timers) (sym (filter_all (λ t. not (is_callback_below p 0 t)) (callbacks_none p) timers.armed))
 
 pub without_callbacks_more : (p : Pid) (n : ℕ) (timers : Timers) → stop_timer (Timer.Callback p n) (without_callbacks_below p.0 n timers) ≡ without_callbacks_below p.0 (n + 1) timers
-without_callbacks_more p n timers =
-    ap (same_cells timers)
-    (filter_split (λ t. not (is_callback_below p.0 n t)) (λ t. not (is_timer (Timer.Callback p n) t)) (λ t. not (is_callback_below p.0 (n + 1) t)) (callbacks_more p n) timers.armed)
+without_callbacks_more p n timers = grind (arith, filter_split, callbacks_more)
 
 pub without_callbacks_at_last : (p : ℕ) (timers : Timers) → AllNamed timers.armed → without_callbacks_below p 4 timers ≡ without_callback_timers p timers
-without_callbacks_at_last p timers h =
-    ap (same_cells timers) (filter_named (λ t. not (is_callback_below p 4 t)) (λ t. not (is_callback_timer_of p t)) (callbacks_all p) timers.armed h)
+without_callbacks_at_last p timers h = grind (arith, filter_named, callbacks_all)

@@ -1,5 +1,6 @@
 -- The timer list along the links.
-use Rattle.timer_core.proofs.Words.{◌≡◌, ℕ, zero, suc, ◌<◌, ◌≤◌, Bool, true, false, List, [], ◌∷◌, length, refl, sym, ◌∙◌, ap, arith, eqb, set, get_or, lit≤, subst, inl, inr, Option, Some, None, find, map, replicate, ◌^◌, list_any, IsDistinct, AllByRecursion, or_parts, or_cases, ne_eqb, eqb-true, cases_eq, length-map, get_or-set_same, get_or-set_other, get_or-replicate, All-replicate, Timer, LinkedCell, place_of, IsNamed, is_timer, next_of, linked, listed_from, Names, AreApart, IsList, IsTable, zero_linked}
+use Rattle.std.proofs.Common.{rules}
+use Rattle.timer_core.proofs.Words.{◌≡◌, ℕ, zero, suc, ◌<◌, ◌≤◌, Bool, true, false, List, [], ◌∷◌, length, refl, ◌∙◌, ap, arith, eqb, set, lit≤, Option, Some, None, find, map, replicate, ◌^◌, list_any, IsDistinct, AllByRecursion, or_parts, or_cases, ne_eqb, eqb-true, cases_eq, length-map, get_or-set_same, get_or-set_other, get_or-replicate, All-replicate, Timer, LinkedCell, place_of, IsNamed, is_timer, next_of, linked, listed_from, Names, AreApart, IsList, IsTable, zero_linked}
 use Rattle.std.proofs.lemmas.Map.Steps.{length-le_from_distinct_below}
 use Rattle.timer_core.proofs.NameLemmas.{place_below, places_differ}
 
@@ -9,8 +10,7 @@ pub linked_from_names : (n : ℕ) (cells : List LinkedCell) (link : Option Timer
 linked_from_names zero cells link [] h few = refl
 linked_from_names zero cells link (t ∷ later) h few = absurd (omega arith)
 linked_from_names (suc n) cells link [] h few = rw h refl
-linked_from_names (suc n) cells link (t ∷ later) h few =
-    rw h.0 (ap (λ l. t ∷ l) (linked_from_names n cells (next_of cells t) later h.1.1 (omega arith)))
+linked_from_names (suc n) cells link (t ∷ later) h few = let rest = linked_from_names n cells (next_of cells t) later h.1.1 in grind arith
 
 pub length-linked : (n : ℕ) (cells : List LinkedCell) (link : Option Timer) → length (linked n cells link) ≤ n
 length-linked zero cells link = omega arith
@@ -28,9 +28,7 @@ listed_from_names cells link list h few = linked_from_names 192 cells link list 
 
 pub is_list : (cells : List LinkedCell) (link : Option Timer) (list : List Timer) → Names cells link list → AreApart list → length list ≤ 192 →
     IsList cells link
-is_list cells link list h apart few =
-    let same = listed_from_names cells link list h few in
-    record { ends = rw same h; apart = rw same apart }
+is_list cells link list h apart few = grind (arith, listed_from_names)
 
 pub listed_from_none : (cells : List LinkedCell) → listed_from cells None ≡ []
 unfolding listed_from
@@ -45,14 +43,7 @@ pub record Passes (cells : List LinkedCell) (link : Option Timer) (timer : Timer
 
 passes_names : (cells : List LinkedCell) (timer : Timer) (later : List Timer) → Names cells (Some timer) (timer ∷ later) → AreApart (timer ∷ later)
     → length later ≤ 191 → listed_from cells (Some timer) ≡ timer ∷ later → Passes cells (Some timer) timer
-passes_names cells timer later h apart few e =
-    let same = listed_from_names cells (next_of cells timer) later h.1.1 (omega arith) in
-    record {
-      named = h.1.0;
-      later = is_list cells (next_of cells timer) later h.1.1 apart.1 (omega arith);
-      apart = rw same apart.0;
-      listed = rw same e;
-    }
+passes_names cells timer later h apart few e = grind (arith, listed_from_names, is_list)
 
 passes_some : (cells : List LinkedCell) (timer : Timer) → IsList cells (Some timer) → Passes cells (Some timer) timer
 unfolding listed_from
@@ -87,9 +78,7 @@ all_named cells link (t ∷ later) h = (h.1.0, all_named cells (next_of cells t)
 places_apart : (t : Timer) (list : List Timer) → IsNamed t → AllNamed list → list_any (is_timer t) list ≡ false →
     AllByRecursion (λ place. eqb (place_of t) place ≡ false) (map place_of list)
 places_apart t [] h k none = tt
-places_apart t (u ∷ later) h k none =
-    let parts = or_parts (is_timer t u) (list_any (is_timer t) later) none in
-    (ne_eqb (place_of t) (place_of u) (places_differ t u h k.0 parts.0), places_apart t later h k.1 parts.1)
+places_apart t (u ∷ later) h k none = let rest = places_apart t later h k.1 in grind (arith, or_parts, ne_eqb, places_differ)
 
 places_distinct : (list : List Timer) → AllNamed list → AreApart list → IsDistinct eqb (map place_of list)
 unfolding IsDistinct
@@ -98,11 +87,7 @@ places_distinct (t ∷ later) h apart = (places_apart t later h.0 h.1 apart.0, p
 
 places_below : (list : List Timer) → AllNamed list → (q : ℕ) → list_any (eqb q) (map place_of list) ≡ true → q < 192
 places_below [] h q e = absurd (cc)
-places_below (t ∷ later) h q e =
-    elim (or_cases (eqb q (place_of t)) (list_any (eqb q) (map place_of later)) e) [
-      | inl here ↦ rw (eqb-true q (place_of t) here) (place_below t h.0)
-      | inr there ↦ places_below later h.1 q there
-    ]
+places_below (t ∷ later) h q e = let rest = places_below later h.1 q in grind (arith, or_cases, eqb-true, place_below)
 
 few_timers : (list : List Timer) → AllNamed list → AreApart list → length list ≤ 192
 few_timers list h apart =
@@ -111,9 +96,7 @@ few_timers list h apart =
 -- a write to a cell changes the link of that timer alone
 pub next_of_other : (cells : List LinkedCell) (t u : Timer) (x : LinkedCell) → IsNamed t → IsNamed u → is_timer t u ≡ false →
     next_of (set cells (place_of t) x) u ≡ next_of cells u
-next_of_other cells t u x h k e =
-    let far : place_of u ≡ place_of t → ⊥ = λ same. places_differ t u h k e (sym same) in
-    ap (λ (c : LinkedCell). c.next) (get_or-set_other cells (place_of t) (place_of u) x zero_linked far)
+next_of_other cells t u x h k e = grind (arith, places_differ, get_or-set_other)
 
 pub next_of_same : (cells : List LinkedCell) (t : Timer) (x : LinkedCell) → place_of t < length cells → next_of (set cells (place_of t) x) t ≡ x.next
 next_of_same cells t x within = ap (λ (c : LinkedCell). c.next) (get_or-set_same cells (place_of t) x zero_linked within)
@@ -122,26 +105,17 @@ next_of_same cells t x within = ap (λ (c : LinkedCell). c.next) (get_or-set_sam
 pub names_other : (cells : List LinkedCell) (t : Timer) (x : LinkedCell) (link : Option Timer) (list : List Timer) → IsNamed t →
     list_any (is_timer t) list ≡ false → Names cells link list → Names (set cells (place_of t) x) link list
 names_other cells t x link [] h none names = names
-names_other cells t x link (u ∷ later) h none names =
-    let parts = or_parts (is_timer t u) (list_any (is_timer t) later) none in
-    let same = next_of_other cells t u x h names.1.0 parts.0 in
-    (names.0, (names.1.0, rw same (names_other cells t x (next_of cells u) later h parts.1 names.1.1)))
+names_other cells t x link (u ∷ later) h none names = let rest = names_other cells t x (next_of cells u) later h in grind (arith, or_parts, next_of_other)
 
 -- a write that keeps the link keeps the list
 next_of_kept : (cells : List LinkedCell) (t u : Timer) (x : LinkedCell) → place_of t < length cells → x.next ≡ next_of cells t →
     next_of (set cells (place_of t) x) u ≡ next_of cells u
-next_of_kept cells t u x within e =
-    elim (cases_eq (place_of u) (place_of t)) [
-      | inl same ↦ (let P : ℕ → Type 0 = λ k. (get_or (set cells (place_of t) x) k zero_linked).next ≡ (get_or cells k zero_linked).next in
-          subst P (sym same) (next_of_same cells t x within ∙ e))
-      | inr far ↦ ap (λ (c : LinkedCell). c.next) (get_or-set_other cells (place_of t) (place_of u) x zero_linked far)
-    ]
+next_of_kept cells t u x within e = grind (arith, cases_eq, next_of_same, get_or-set_other)
 
 names_kept : (cells : List LinkedCell) (t : Timer) (x : LinkedCell) (link : Option Timer) (list : List Timer) → place_of t < length cells →
     x.next ≡ next_of cells t → Names cells link list → Names (set cells (place_of t) x) link list
 names_kept cells t x link [] within e names = names
-names_kept cells t x link (u ∷ later) within e names =
-    (names.0, (names.1.0, rw (next_of_kept cells t u x within e) (names_kept cells t x (next_of cells u) later within e names.1.1)))
+names_kept cells t x link (u ∷ later) within e names = let rest = names_kept cells t x (next_of cells u) later within e names.1.1 in grind (arith, next_of_kept)
 
 -- what a change of the links makes of the list
 pub record Relinked (cells : List LinkedCell) (link : Option Timer) (list : List Timer) : Type 0 where
@@ -150,13 +124,11 @@ pub record Relinked (cells : List LinkedCell) (link : Option Timer) (list : List
 
 pub relinked : (cells : List LinkedCell) (link : Option Timer) (list : List Timer) → Names cells link list → AreApart list → length list ≤ 192 →
     Relinked cells link list
-relinked cells link list h apart few =
-    record { sound = is_list cells link list h apart few; listed = listed_from_names cells link list h few }
+relinked cells link list h apart few = grind (arith, is_list, listed_from_names)
 
 pub relinked_kept : (cells : List LinkedCell) (link : Option Timer) (t : Timer) (x : LinkedCell) → place_of t < length cells →
     x.next ≡ next_of cells t → IsList cells link → Relinked (set cells (place_of t) x) link (listed_from cells link)
-relinked_kept cells link t x within e l =
-    relinked _ link (listed_from cells link) (names_kept cells t x link _ within e l.ends) l.apart (length-listed cells link)
+relinked_kept cells link t x within e l = search (rules, relinked, names_kept, length-listed)
 
 pub relinked_first : (cells : List LinkedCell) (link : Option Timer) (t : Timer) (x : LinkedCell) → IsNamed t → place_of t < length cells →
     x.next ≡ link → list_any (is_timer t) (listed_from cells link) ≡ false → IsList cells link →

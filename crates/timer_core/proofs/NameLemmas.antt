@@ -1,5 +1,5 @@
 -- Names of timers and their places.
-use Rattle.timer_core.proofs.Words.{◌≡◌, ℕ, ◌<◌, true, false, refl, ap, arith, ◌==◌, nat_tests, and_parts, and_from, eqb-true, eq-eqb, false_from_ne_true, Pid, Timer, is_named, place_of, IsNamed, is_timer}
+use Rattle.timer_core.proofs.Words.{◌≡◌, ℕ, ◌<◌, true, false, refl, ap, arith, nat_tests, and_parts, and_from, eqb-true, eq-eqb, false_from_ne_true, Pid, Timer, is_named, place_of, IsNamed, is_timer}
 
 same_pid : (p q : Pid) → p.0 ≡ q.0 → p ≡ q
 same_pid p q e = ap (λ (n : ℕ). let pid : Pid = record { 0 = n } in pid) e
@@ -10,16 +10,8 @@ is_timer_itself (Timer.Callback p n) = and_from _ _ (eq-eqb p.0 p.0 refl) (eq-eq
 
 -- two timers of one name are one
 pub same_timer : (t u : Timer) → is_timer t u ≡ true → t ≡ u
-same_timer (Timer.Event p n) (Timer.Event q m) e =
-    let parts = and_parts (p.0 == q.0) (n == m) e in
-    let first = same_pid p q (eqb-true p.0 q.0 parts.0) in
-    let second = eqb-true n m parts.1 in
-    cc
-same_timer (Timer.Callback p n) (Timer.Callback q m) e =
-    let parts = and_parts (p.0 == q.0) (n == m) e in
-    let first = same_pid p q (eqb-true p.0 q.0 parts.0) in
-    let second = eqb-true n m parts.1 in
-    cc
+same_timer (Timer.Event p n) (Timer.Event q m) e = grind (arith, and_parts, same_pid, eqb-true)
+same_timer (Timer.Callback p n) (Timer.Callback q m) e = grind (arith, and_parts, same_pid, eqb-true)
 same_timer (Timer.Event p n) (Timer.Callback q m) e = absurd (cc)
 same_timer (Timer.Callback p n) (Timer.Event q m) e = absurd (cc)
 

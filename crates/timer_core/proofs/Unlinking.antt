@@ -10,9 +10,7 @@ others timer list = filter (λ other. not (is_timer timer other)) list
 
 pub others_none : (t : Timer) (list : List Timer) → list_any (is_timer t) list ≡ false → others t list ≡ list
 others_none t [] none = refl
-others_none t (u ∷ later) none =
-    let parts = or_parts (is_timer t u) (list_any (is_timer t) later) none in
-    rw parts.0 (ap (λ l. u ∷ l) (others_none t later parts.1))
+others_none t (u ∷ later) none = let rest = others_none t later in grind (arith, or_parts)
 
 none_among_others : (t u : Timer) (list : List Timer) → list_any (is_timer t) list ≡ false → list_any (is_timer t) (others u list) ≡ false
 none_among_others t u [] none = none
@@ -62,8 +60,7 @@ pub record IsPassed (cells : List LinkedCell) (link : Option Timer) (timer befor
 
 pub passed_first : (cells : List LinkedCell) (link : Option Timer) (timer before : Timer) → Passes cells link before → is_timer timer before ≡ false →
     IsPassed cells link timer before
-passed_first cells link timer before p e =
-    record { earlier = []; listed = p.listed; absent = refl; differs = e; named = p.named; later = p.later }
+passed_first cells link timer before p e = grind arith
 
 pub passed_more : (cells : List LinkedCell) (link : Option Timer) (timer before other : Timer) → IsPassed cells link timer before →
     next_of cells before ≡ Some other → is_timer timer other ≡ false → IsPassed cells link timer other
@@ -81,9 +78,7 @@ passed_more cells link timer before other w e differs =
 -- at the end: the timer is not on the list
 pub absent_at_end : (cells : List LinkedCell) (link : Option Timer) (timer before : Timer) → IsPassed cells link timer before → next_of cells before ≡ None →
     list_any (is_timer timer) (listed_from cells link) ≡ false
-absent_at_end cells link timer before w e =
-    let last : listed_from cells link ≡ w.earlier ++ before ∷ [] = w.listed ∙ rw (e, listed_from_none) in
-    rw last (list_any-append (is_timer timer) w.earlier (before ∷ []) ∙ rw (w.absent, w.differs))
+absent_at_end cells link timer before w e = grind (arith, listed_from_none, list_any-append)
 
 -- it comes next
 pub follows_here : (cells : List LinkedCell) (link : Option Timer) (timer before other : Timer) → IsPassed cells link timer before →
@@ -102,19 +97,13 @@ follows_here cells link timer before other w next here =
 -- it follows: the list is closed over it
 others_closed : (timer before : Timer) (earlier rest : List Timer) → list_any (is_timer timer) earlier ≡ false → is_timer timer before ≡ false →
     list_any (is_timer timer) rest ≡ false → others timer (earlier ++ before ∷ (timer ∷ rest)) ≡ earlier ++ before ∷ rest
-others_closed timer before [] rest absent differs none =
-    let here = is_timer_itself timer in
-    let same = others_none timer rest none in
-    rw (differs, here, same)
-others_closed timer before (u ∷ earlier) rest absent differs none =
-    let parts = or_parts (is_timer timer u) (list_any (is_timer timer) earlier) absent in
-    rw parts.0 (ap (λ l. u ∷ l) (others_closed timer before earlier rest parts.1 differs none))
+others_closed timer before [] rest absent differs none = grind (arith, is_timer_itself, others_none)
+others_closed timer before (u ∷ earlier) rest absent differs none = let later = others_closed timer before earlier rest in grind (arith, or_parts)
 
 none_behind : (t before : Timer) (earlier rest : List Timer) → list_any (is_timer t) (earlier ++ before ∷ rest) ≡ false →
     (is_timer t before ≡ false) × (list_any (is_timer t) rest ≡ false)
 none_behind t before [] rest none = or_parts (is_timer t before) (list_any (is_timer t) rest) none
-none_behind t before (u ∷ earlier) rest none =
-    none_behind t before earlier rest (or_parts (is_timer t u) (list_any (is_timer t) (earlier ++ before ∷ rest)) none).1
+none_behind t before (u ∷ earlier) rest none = let later = none_behind t before earlier rest (or_parts (is_timer t u) (list_any (is_timer t) (earlier ++ before ∷ rest)) none).1 in grind (arith, or_parts)
 
 apart_behind : (before : Timer) (earlier rest : List Timer) → AreApart (earlier ++ before ∷ rest) → AreApart (before ∷ rest)
 apart_behind before [] rest apart = apart
@@ -123,14 +112,8 @@ apart_behind before (u ∷ earlier) rest apart = apart_behind before earlier res
 names_closed : (cells : List LinkedCell) (link : Option Timer) (timer before : Timer) (x : LinkedCell) (earlier rest : List Timer) → IsNamed before →
     place_of before < length cells → x.next ≡ next_of cells timer → AreApart (earlier ++ before ∷ (timer ∷ rest)) →
     Names cells link (earlier ++ before ∷ (timer ∷ rest)) → Names (set cells (place_of before) x) link (earlier ++ before ∷ rest)
-names_closed cells link timer before x [] rest h within e apart names =
-    let none = (or_parts (is_timer before timer) (list_any (is_timer before) rest) apart.0).1 in
-    let next : next_of (set cells (place_of before) x) before ≡ next_of cells timer = next_of_same cells before x within ∙ e in
-    (names.0, (h, rw next (names_other cells before x (next_of cells timer) rest h none names.1.1.1.1)))
-names_closed cells link timer before x (u ∷ earlier) rest h within e apart names =
-    let parts = none_behind u before earlier (timer ∷ rest) apart.0 in
-    let same = next_of_other cells before u x h names.1.0 (is_timer_flips u before parts.0) in
-    (names.0, (names.1.0, rw same (names_closed cells (next_of cells u) timer before x earlier rest h within e apart.1 names.1.1)))
+names_closed cells link timer before x [] rest h within e apart names = grind (arith, or_parts, next_of_same, names_other)
+names_closed cells link timer before x (u ∷ earlier) rest h within e apart names = let later = names_closed cells (next_of cells u) timer before x earlier rest h within e apart.1 names.1.1 in grind (arith, none_behind, next_of_other, is_timer_flips)
 
 pub relinked_without : (cells : List LinkedCell) (link : Option Timer) (timer before : Timer) (x : LinkedCell) → IsNamed before →
     place_of before < length cells → x.next ≡ next_of cells timer → Follows timer before (listed_from cells link) → IsList cells link →
