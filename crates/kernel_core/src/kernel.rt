@@ -59,7 +59,11 @@ impl Kernel {
         if config.apps > MOST_APPLICATIONS {
             return Err(BootFault::BadSizes);
         }
-        let memory = NodeMemory::new(alloc, config.sizes(), config.apps)?;
+        // No `?`: it would clear and copy the room of all memory's tables three times more.
+        let memory = match NodeMemory::new(alloc, config.sizes(), config.apps) {
+            Ok(memory) => memory,
+            Err(fault) => return Err(fault),
+        };
         let scheduler = Scheduler::new(alloc, config.apps).map_err(|_| BootFault::Memory)?;
         let serial = SerialLine::new(alloc).map_err(|_| BootFault::Memory)?;
         let fields = KernelFields {

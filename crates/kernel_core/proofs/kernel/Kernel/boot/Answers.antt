@@ -14,7 +14,7 @@ use Rattle.kernel_core.proofs.kernel.Kernel.boot.Goals as goal
 
 pub invariant_of-result : goal.invariant_of-result
 invariant_of-result c =
-    let memory : c.in_ok-memory.memory.contents ≡ fresh_memory (sizes_of c.args.config) = rw c.sizes.ensures at c.in_ok-memory.ensures.fresh in
+    let memory : c.in-Ok.memory.contents ≡ fresh_memory (sizes_of c.args.config) = rw c.sizes.ensures at c.in-Ok.ensures.fresh in
     let packets : c.new-5.result ≡ no_packets = search rules in
     let starts = draws-starts (range_with_len 4 c.args.config.apps) in
     record {
@@ -26,13 +26,13 @@ invariant_of-result c =
       inputs = search rules;
       events = search rules;
       frames = rw memory (rw packets (no_frames (sizes_of c.args.config)));
-      owners = c.in_ok-memory.ensures.owners;
+      owners = c.in-Ok.ensures.owners;
       draws = search (rules, starts);
     }
 
 pub returns-clause-booted : goal.returns-clause-booted
 returns-clause-booted c =
-    let memory : c.in_ok-memory.memory.contents ≡ fresh_memory (sizes_of c.args.config) = rw c.sizes.ensures at c.in_ok-memory.ensures.fresh in
+    let memory : c.in-Ok.memory.contents ≡ fresh_memory (sizes_of c.args.config) = rw c.sizes.ensures at c.in-Ok.ensures.fresh in
     let packets : c.new-5.result ≡ no_packets = search rules in
     let pending : c.none.result ≡ no_pending_entries = search rules in
     let serial : c.in_ok-serial.serial ≡ quiet_line = search rules in
