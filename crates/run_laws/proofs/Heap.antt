@@ -1,5 +1,5 @@
 -- Heap memory: what its calls are answered, and that a process's blocks are its own.
-use Rattle.std.proofs.Common.{◌≡◌, ℕ, Bool, true, false, [], refl, ap, arith, subst, Option, Some, None, ◌==◌, if◌then◌else◌}
+use Rattle.std.proofs.Common.{◌≡◌, ℕ, Bool, true, false, refl, ap, arith, subst, Option, Some, None, if◌then◌else◌}
 use Rattle.run_laws.proofs.Common.{nat_tests, Call, Reply, ArrayVec, HeapStore, allocated, reallocated, Memory, is_heap_block, alloc_refusal, realloc_refusal, ask, done_or_no_room, Config, Machine, booted, after_call, no_blocks}
 use Rattle.heap_core.specs.HeapStore.{block_of}
 use Rattle.node_memory.specs.Ask as memory

@@ -4,8 +4,6 @@ use Rattle.run_laws.proofs.Common.{nat_tests, Call, Refusal, number_of, zeros, o
 use Rattle.std.specs.Option.{option_map}
 use Rattle.std.proofs.lemmas.List.{get_or-set_same, get_or-set_other, length-set}
 use Rattle.node_memory.specs.ManagedCalls.{alloc_refusal, free_refusal, write_refusal, copy_refusal}
-use Rattle.heap_core.specs.HeapStore as heap_store
-use Rattle.node_memory.specs.HeapCalls as heap
 use Rattle.node_memory.specs.Answered.{unless_refused, done}
 use Rattle.run_laws.specs.BlockHistory.{copied}
 use Rattle.run_laws.proofs.KindLaws.{Store, IsChange, same_blocks}

@@ -1,5 +1,5 @@
 -- Over a whole run.
-use Rattle.std.proofs.Common.{◌≡◌, ℕ, zero, suc, ◌+◌, ◌≤◌, Bool, true, false, not, List, [], ◌∷◌, ◌++◌, refl, ◌∙◌, sym, arith, subst, append_assoc, Option, Some, None, ◌==◌, if◌then◌else◌, map, length, find, nat_le}
+use Rattle.std.proofs.Common.{◌≡◌, ℕ, zero, suc, ◌+◌, ◌≤◌, Bool, true, false, not, List, [], ◌∷◌, ◌++◌, refl, ◌∙◌, sym, arith, subst, append_assoc, Option, Some, None, ◌==◌, map, length, find, nat_le}
 use Rattle.run_laws.proofs.Common.{list_all, range_with_len, nat_tests, fold-append, Call, Reply, Refusal, Event, Origin, Stimulus, Entry, Input, Note, Applications, Frame, PacketQueue, free_slot, Memory, Item, state_of, Config, Scheduler, after_call, effect, frame_held, frame_refusal, held_unless_lost, serve, Machine, booted, Running, Runs, with_more_work, at_start, reply_of, reply_in, HasCall, up_to_call}
 use Rattle.device_core.specs.PacketQueue.{is_held}
 use Rattle.run_laws.proofs.Marks.{marks, state_of-with_mark}

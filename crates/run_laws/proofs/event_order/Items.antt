@@ -1,5 +1,5 @@
 -- An item that makes no entry keeps the shape.
-use Rattle.std.proofs.Common.{◌≡◌, ℕ, Bool, true, false, not, ◌&&◌, List, [], ◌∷◌, ◌++◌, refl, arith, append-nil, Option, Some, None, map, if◌then◌else◌, ◌==◌}
+use Rattle.std.proofs.Common.{◌≡◌, ℕ, Bool, true, false, not, ◌&&◌, List, [], ◌∷◌, ◌++◌, refl, arith, append-nil, Option, Some, map, ◌==◌}
 use Rattle.run_laws.proofs.Common.{list_all, nat_tests, Stimulus, Origin, EXIT, INIT, plain_event, State, Queued, Item, numbers, is_on_list, is_running, Scheduler, of_event, delivery, after_item, first_event, Machine}
 use Rattle.run_laws.proofs.event_order.Shape.{is_plain, is_ordered, ordered-append, ordered-walk, delivery-ordered, seats-with_state, seats-with_mark, seats-without, state_of-seats, first_state, put, is_placed, is_covered, stands, placed-append, covered-append, is_remove}
 

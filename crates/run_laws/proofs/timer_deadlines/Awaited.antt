@@ -1,5 +1,5 @@
 -- A TIMER event that p waits for isn't lost on its way, and a timer leaves the list for one.
-use Rattle.std.proofs.Common.{◌≡◌, ℕ, Bool, true, false, not, ◌&&◌, ◌||◌, List, [], ◌∷◌, ◌++◌, refl, ◌∙◌, arith, Some, map, filter, drop, slice_get, if◌then◌else◌, ◌==◌, nat_le}
+use Rattle.std.proofs.Common.{◌≡◌, ℕ, Bool, true, false, not, ◌&&◌, ◌||◌, List, [], ◌∷◌, ◌++◌, refl, ◌∙◌, arith, Some, map, filter, drop, slice_get, ◌==◌, nat_le}
 use Rattle.run_laws.proofs.Common.{list_any, nat_tests, Stimulus, Event, Origin, Payload, EXITED, Queued, Item, Scheduler, after_item, delivery, of_event, Timer, event_timer, is_timer, is_event_timer_of, is_callback_timer_of, is_armed, stop_timer, without_callback_timers, Machine, with_event, with_timers, cancelled_if, expiries_cancelled, serve, expiry_of, post_expiry, exited_application, is_number, is_timer_event}
 use Rattle.run_laws.proofs.Changes.{Changes, of_changes}
 use Rattle.run_laws.proofs.event_order.Shape.{is_from_queue, is_ordered, stands}

@@ -1,6 +1,6 @@
 -- A call or an item leaves what is on the agenda, and puts in front of it what passes a test.
 use Rattle.std.proofs.lemmas.Bool.Decides.{nat_tests}
-use Rattle.std.proofs.Common.{◌≡◌, ℕ, Bool, true, false, List, [], ◌∷◌, ◌++◌, refl, arith, Option, Some, None, map, if◌then◌else◌}
+use Rattle.std.proofs.Common.{◌≡◌, ℕ, Bool, true, false, List, [], ◌∷◌, ◌++◌, refl, arith, Option, Some, map}
 use Rattle.run_laws.proofs.Common.{list_all, list_any, Call, Reply, Stimulus, Origin, Entry, Note, Queued, Item, is_application, Scheduler, of_event, delivery, after_item, Machine, after_call, cancelled_if}
 use Rattle.run_laws.proofs.event_order.Items.{with_agenda}
 use Rattle.run_laws.proofs.event_order.After.{call-front}

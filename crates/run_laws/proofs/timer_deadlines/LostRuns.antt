@@ -1,5 +1,5 @@
 -- No timer is lost.
-use Rattle.std.proofs.Common.{◌≡◌, ℕ, ◌≤◌, Bool, true, false, ◌||◌, List, [], ◌∷◌, ◌++◌, length, refl, ◌∙◌, subst, arith, Option, Some, None, nat_le, nat_lt}
+use Rattle.std.proofs.Common.{◌≡◌, ℕ, ◌≤◌, Bool, true, false, ◌||◌, List, [], ◌∷◌, ◌++◌, length, refl, subst, arith, Option, Some, None, nat_le, nat_lt}
 use Rattle.run_laws.proofs.Common.{list_all, list_any, range_with_len, nat_tests, Refusal, Call, Stimulus, Event, Origin, Input, Note, Entry, Applications, Item, is_kernel_process, in_front, Timer, is_timer, Timers, is_armed, cell_of, is_due, deadline, free_slot, Config, Machine, scheduled, is_bootable, after_call, serve, has_ended, clock_after, Standing, standing, effect, frame_held, frame_refusal, held_unless_lost, Running, Runs, is_at_rest, at_start, with_more_work, is_application}
 use Rattle.run_laws.specs.TimerLaws.{NoLostTimerFor}
 use Rattle.run_laws.proofs.event_order.Items.{facing}

@@ -1,5 +1,5 @@
 -- Items and calls add no TIMER event.
-use Rattle.std.proofs.Common.{◌≡◌, ℕ, ◌+◌, ◌≤◌, Bool, true, false, ◌&&◌, List, [], ◌∷◌, ◌++◌, refl, arith, map, drop, slice_get, if◌then◌else◌, ◌==◌}
+use Rattle.std.proofs.Common.{◌≡◌, ℕ, ◌+◌, ◌≤◌, Bool, true, false, ◌&&◌, List, [], ◌∷◌, refl, arith, map, drop, slice_get, ◌==◌}
 use Rattle.run_laws.proofs.Common.{list_all, nat_tests, Call, Reply, Stimulus, Origin, Event, Payload, TIMER, EXITED, plain_event, number_event, is_reserved, Queued, Item, Scheduler, of_event, delivery, after_item, Machine, after_call}
 use Rattle.run_laws.proofs.event_order.Shape.{to_all}
 use Rattle.run_laws.proofs.event_order.Items.{with_agenda}

@@ -1,5 +1,5 @@
 -- The machine's timers against the ledger.
-use Rattle.std.proofs.Common.{◌≡◌, ℕ, ◌+◌, ◌-◌, ◌<◌, ◌≤◌, Bool, true, false, not, ◌||◌, List, [], ◌∷◌, ◌++◌, refl, ◌∙◌, arith, map, filter, flat_map, if◌then◌else◌, ◌==◌, nat_le, nat_lt}
+use Rattle.std.proofs.Common.{◌≡◌, ℕ, ◌+◌, ◌-◌, ◌<◌, ◌≤◌, Bool, true, false, not, ◌||◌, List, [], ◌∷◌, ◌++◌, refl, ◌∙◌, arith, map, filter, flat_map, ◌==◌, nat_le, nat_lt}
 use Rattle.run_laws.proofs.Common.{list_any, range_with_len, nat_tests, Timer, Cell, all_timers, event_timer, callback_timer, is_timer, Timers, zero_cell, cell_of, is_armed, armed_with}
 use Rattle.std.proofs.lemmas.Bool.{eq-eqb, eqb-true}
 use Rattle.std.proofs.lemmas.List.Folds.{list_any-append, list_any_at}
