@@ -1,5 +1,5 @@
 -- What the numbers of a configuration say.
-use Rattle.std.specs.Prelude.{ℕ, Bool, not, Option, Some, None, if◌then◌else◌, ◌==◌}
+use Rattle.std.specs.Prelude.{Bool, not, Some, None, if◌then◌else◌, ◌==◌}
 use Rattle.node_memory.specs.declared.sizes.Sizes.{Sizes}
 use Rattle.toarmuts.specs.declared.configuration.Configuration.{Configuration}
 

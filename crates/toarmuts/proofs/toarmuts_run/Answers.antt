@@ -1,4 +1,4 @@
-use Rattle.std.proofs.Common.{◌≡◌, ◌<◌, ℕ, List, sym, subst, arith}
+use Rattle.std.proofs.Common.{◌<◌, ℕ, List, sym, subst, arith}
 use Rattle.toarmuts.specs.Answers.{HasRun}
 use Rattle.toarmuts.proofs.toarmuts_run.Goals as goal
 

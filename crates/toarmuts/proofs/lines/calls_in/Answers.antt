@@ -1,6 +1,6 @@
-use Rattle.std.proofs.Common.{◌≡◌, ◌∙◌, ℕ, List, ◌++◌, inr, ap, sym, length, drop}
+use Rattle.std.proofs.Common.{◌≡◌, ◌∙◌, ℕ, List, ◌++◌, inr, ap, sym}
 use Rattle.std.specs.Prelude.{Option, Some, None, MatchOption, IfSome, codes}
-use Rattle.std.specs.Str.Pattern.{FindsTextPrefix, LacksTextAt, StripsPrefix}
+use Rattle.std.specs.Str.Pattern.{FindsTextPrefix, StripsPrefix}
 use denote.Ref.{Bor}
 use Rattle.toarmuts.specs.Answers.{HasCalls}
 use Rattle.toarmuts.proofs.lines.calls_in.Goals as goal
