@@ -1,9 +1,9 @@
 //! Whole runs: a mote is booted, and its applications go through a script.
 
-ghost use Rattle.std.specs.Prelude.{◌≡◌, ◌≢◌, ◌<◌, ◌-◌, ◌^◌, ◌↔◌, false, List, ℕ, [], length, take, IfOk, IfErr, OnErr, IsErrOf};
+ghost use Rattle.std.specs.Prelude.{◌≡◌, ◌≢◌, ◌<◌, ◌-◌, ◌^◌, ◌↔◌, false, List, ℕ, [], length, take, IfOk, IfErr, IsErrOf};
 ghost use Rattle.mote_types.specs.Applications.{says_of};
 ghost use Rattle.kernel_core.specs.Machine.{is_bootable};
-ghost use Rattle.mote_run.specs.RunText.{HasRun, HasRunInPart, HasRunOnWholeLines, IsRunText};
+ghost use Rattle.mote_run.specs.RunText.{Exchanged, HasRunTo, IsRunText};
 ghost use Rattle.mote_kit.specs.Runs.{config_of};
 
 use crate::fault::MoteFault;
@@ -48,12 +48,9 @@ pub fn run_boxes<S: ByteSource, K: ByteSink>(
     requires unended { S.is_ended source.old ≡ false }
     requires countable_reads { S.failure_count source.old < 2 ^ 64 - 1 }
     requires countable_writes { K.failure_count sink.old < 2 ^ 64 - 1 }
-    ensures text { IfOk result (λ end. S.is_named → K.is_named →
-        HasRun (config_of sizes (length boxes.old)) (says_of says boxes.old) quiet (S.taken source.old) (S.taken source.new) (S.is_ended source.new) (K.given sink.old) (K.given sink.new) end) }
-    ensures front { OnErr result (S.is_named → K.is_named →
-        HasRunInPart (config_of sizes (length boxes.old)) (says_of says boxes.old) quiet (S.taken source.old) (S.taken source.new) (S.is_ended source.new) (K.given sink.old) (K.given sink.new)) }
-    ensures after_read_fault { IsErrOf result MoteFault.Read → S.is_named → K.is_named →
-        HasRunOnWholeLines (config_of sizes (length boxes.old)) (says_of says boxes.old) quiet (S.taken source.old) (S.taken source.new) (K.given sink.old) (K.given sink.new) }
+    ensures ran { S.is_named → K.is_named →
+        Exchanged (S.taken source.old) (S.taken source.new) (S.is_ended source.new) (K.given sink.old) (K.given sink.new)
+        (HasRunTo (config_of sizes (length boxes.old)) (says_of says boxes.old) quiet MoteFault.Read result) }
     ensures bad_sizes { IsErrOf result MoteFault.BadSizes ↔ (is_bootable (config_of sizes (length boxes.old)) ≡ false) }
     ensures read_fault { IsErrOf result MoteFault.Read ↔ (S.failure_count source.old < S.failure_count source.new) }
     ensures write_fault { IsErrOf result MoteFault.Write ↔ (K.failure_count sink.old < K.failure_count sink.new) }

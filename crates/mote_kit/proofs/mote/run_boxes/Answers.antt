@@ -1,9 +1,15 @@
-use Rattle.std.proofs.Common.{rules, ◌≡◌, ◌∙◌, ap, refl, false, true, Bool, length}
-use Rattle.std.specs.Prelude.{Result, Ok, Err, OnErr}
+use Rattle.std.proofs.Common.{rules, ◌≡◌, ◌∙◌, ap, refl, subst, false, true, Bool, length}
+use Rattle.std.specs.Prelude.{Result, Ok, Err, IsErrOf}
+use Rattle.std.specs.Result.{IsErrAnd}
+use Rattle.mote_types.specs.declared.fault.BootFault.{BootFault}
+use Rattle.mote_text.specs.declared.script.End.{End}
+use Rattle.mote_run.specs.declared.run.RunFault.{RunFault}
+use Rattle.mote_kit.specs.declared.fault.MoteFault.{MoteFault}
+use Rattle.mote_kit.specs.Faults.{fault_at_boot, fault_in_run}
 use Rattle.kernel_core.specs.declared.config.Config.{Config}
 use Rattle.kernel_core.specs.Machine.{booted, is_bootable}
 use Rattle.mote_kit.specs.Runs.{config_of}
-use Rattle.mote_kit.proofs.WholeScript.{nothing_ran}
+use Rattle.mote_run.proofs.HandedOn.{ended, fault_handed_on, nothing_ran}
 use Rattle.mote_kit.proofs.mote.run_boxes.Goals as goal
 
 abbrev is_ok : {T E : Type 0} → Result T E → Bool
@@ -17,24 +23,22 @@ not_false false value error h =
     let bad : true ≡ false = ap is_ok (h refl) in
     search rules
 
--- what holds anyway holds of an error
-on_err : {T E P : Type 0} (r : Result T E) → P → OnErr r P
-on_err (Ok value) p = tt
-on_err (Err error) p = p
+-- a fault at boot is no failed read
+boot_is_other : (fault : BootFault) (r : Result End MoteFault) → IsErrAnd r (λ found. found ≡ fault_at_boot fault) → IsErrOf r MoteFault.Read → ⊥
+boot_is_other BootFault.BadSizes r is_fault is_read = absurd (let e : MoteFault.Read ≡ MoteFault.BadSizes = subst (λ v. IsErrAnd v (λ found. found ≡ MoteFault.BadSizes)) is_read is_fault in cc)
+boot_is_other BootFault.Memory r is_fault is_read = absurd (let e : MoteFault.Read ≡ MoteFault.Memory = subst (λ v. IsErrAnd v (λ found. found ≡ MoteFault.Memory)) is_read is_fault in cc)
 
-on_err_of_named : {T E R : Type 0} (P Q : Type 0) (r : Result T E) → R → OnErr r (P → Q → R)
-on_err_of_named P Q (Ok value) held = tt
-on_err_of_named P Q (Err error) held = λ _ _. held
-
-at_config : {A B X : Type 0} {Q R : X → Type 0} → (A → B → (x : X) → Q x → R x) → (x : X) → Q x → A → B → R x
-at_config f x q a b = f a b x q
+-- and a fault in a run is one only where that is
+read_alike : (fault : RunFault) (r : Result End MoteFault) → IsErrAnd r (λ found. found ≡ fault_in_run fault) → IsErrOf r MoteFault.Read → fault ≡ RunFault.Read
+read_alike RunFault.Read r is_fault is_read = refl
+read_alike RunFault.Write r is_fault is_read = absurd (let e : MoteFault.Read ≡ MoteFault.Write = subst (λ v. IsErrAnd v (λ found. found ≡ MoteFault.Write)) is_read is_fault in cc)
 
 -- where no mote was booted, nothing ran
-pub returns-in_default-clause-front : goal.returns-in_default-clause-front
-returns-in_default-clause-front g c = λ _ _. nothing_ran _ _ _ _ _ _
+pub returns-in_default-clause-ran : goal.returns-in_default-clause-ran
+returns-in_default-clause-ran g c = λ _ _. nothing_ran _ refl (λ is. absurd (cc))
 
-pub returns-in_err-kernel-clause-front : goal.returns-in_err-kernel-clause-front
-returns-in_err-kernel-clause-front g c = on_err_of_named g.S.ByteSource.is_named g.K.ByteSink.is_named c.from_residual.result (nothing_ran _ _ _ _ _ _)
+pub returns-in_err-kernel-clause-ran : goal.returns-in_err-kernel-clause-ran
+returns-in_err-kernel-clause-ran g c = λ _ _. nothing_ran c.from_residual.result c.from_residual.ensures.0 (boot_is_other c.in_err-kernel.field-0.0 _ c.from_residual.ensures.1)
 
 pub run-requires-clause-booted : goal.run-requires-clause-booted
 run-requires-clause-booted g c =
@@ -43,21 +47,15 @@ run-requires-clause-booted g c =
     let same : c.in-Ok.apps ≡ length c.args.boxes.now = search rules in
     ((config, bootable, same, search rules), search rules)
 
-pub returns-clause-text : goal.returns-clause-text
-returns-clause-text g c =
+pub returns-clause-ran : goal.returns-clause-ran
+returns-clause-ran g c =
     let same : c.in-Ok.apps ≡ length c.args.boxes.now = search rules in
-    λ source_named sink_named. c.in_ok-end.ensures.text source_named sink_named (config_of c.args.sizes (length c.args.boxes.now))
-    (c.in_ok-kernel.ensures.booted.0 ∙ ap (λ apps. booted (config_of c.args.sizes apps)) same)
-
-pub returns-in_err-end-clause-front : goal.returns-in_err-end-clause-front
-returns-in_err-end-clause-front g c =
-    let same : c.in-Ok.apps ≡ length c.args.boxes.now = search rules in
-    on_err _ (at_config c.in_err-end.ensures.front (config_of c.args.sizes (length c.args.boxes.now))
+    λ source_named sink_named. ended (c.in_ok-end.ensures.promise source_named sink_named (config_of c.args.sizes (length c.args.boxes.now))
     (c.in_ok-kernel.ensures.booted.0 ∙ ap (λ apps. booted (config_of c.args.sizes apps)) same))
 
-pub returns-in_err-end-clause-after_read_fault : goal.returns-in_err-end-clause-after_read_fault
-returns-in_err-end-clause-after_read_fault g c =
+pub returns-in_err-end-clause-ran : goal.returns-in_err-end-clause-ran
+returns-in_err-end-clause-ran g c =
     let same : c.in-Ok.apps ≡ length c.args.boxes.now = search rules in
-    λ is_read source_named sink_named. c.in_err-end.ensures.after_read_fault (c.in_err-end.ensures.read_fault.1 (search rules))
-    source_named sink_named (config_of c.args.sizes (length c.args.boxes.now))
-    (c.in_ok-kernel.ensures.booted.0 ∙ ap (λ apps. booted (config_of c.args.sizes apps)) same)
+    λ source_named sink_named. fault_handed_on c.from_residual-in_err-end.result c.from_residual-in_err-end.ensures.0 (read_alike c.in_err-end.field-0.0 _ c.from_residual-in_err-end.ensures.1)
+    (c.in_err-end.ensures.promise source_named sink_named (config_of c.args.sizes (length c.args.boxes.now))
+    (c.in_ok-kernel.ensures.booted.0 ∙ ap (λ apps. booted (config_of c.args.sizes apps)) same))

@@ -1,10 +1,10 @@
 use Rattle.std.proofs.Common.{rules, ◌≡◌, ap, [], take}
-use Rattle.mote_kit.proofs.WholeScript.{of_whole_script}
+use Rattle.mote_kit.proofs.WholeScript.{text_of_script}
 use Rattle.mote_kit.proofs.mote.run_fixed.Goals as goal
 
 pub returns-clause-text : goal.returns-clause-text
 returns-clause-text g c =
     let started : take c.new.result.place c.new.result.text.now ≡ [] = ap (λ place. take place c.new.result.text.now) c.new.ensures.place in
     let same : c.run_boxes.new.source.script.text.now ≡ c.args.script.now = search rules in
-    of_whole_script _ _ _ c.args.script.now c.run_boxes.new.source.script.text.now _ _ _ c.run_boxes.new.source.script.place _ _
-    (c.in-Ok.ensures.text tt tt) started c.new-sink.ensures.text same c.run_boxes.new.source.script.at_end
+    text_of_script _ _ _ c.args.script.now c.run_boxes.new.source.script.text.now _ _ _ c.run_boxes.new.source.script.place _ _
+    (c.in-Ok.ensures.ran tt tt) started c.new-sink.ensures.text same c.run_boxes.new.source.script.at_end
