@@ -7,7 +7,6 @@ use Rattle.mote_types.specs.Applications.{Applications, Says, nth_says, says_of}
 use Rattle.mote_types.specs.declared.call.Call.{Call}
 use Rattle.mote_types.specs.declared.event.Stimulus.{Stimulus}
 use Rattle.kernel_core.specs.declared.config.Config.{Config}
-use Rattle.mote_run.specs.RunText.{HasRunInPart}
 
 abbrev itself : Says → Says
 itself says = says
@@ -43,21 +42,3 @@ as_many_more xs grown x ys y pushed same =
 pub said_the_same : {P Q : Type 0} {G : Config → Type 0} (R : Config → Applications → Type 0) (says others : Applications) → says ≡ others →
     (P → Q → (config : Config) → G config → R config says) → P → Q → (config : Config) → G config → R config others
 said_the_same R says others same run p q config given = subst (R config) same (run p q config given)
-
--- where nothing was read and nothing written, that is the front part of each run
-pub nothing_done : (config : Config) (says : Applications) (quiet : Bool) (taken given : List ℕ) (is_ended : Bool) →
-    HasRunInPart config says quiet taken taken is_ended given given
-nothing_done config says quiet taken given is_ended =
-    record {
-      bytes = [];
-      out = [];
-      taken = sym (append-nil taken);
-      given = sym (append-nil given);
-      is_front = λ more ended whole end run. (whole, refl);
-    }
-
--- where memory was refused for the boxes, nothing ran
-pub nothing_ran : {T E : Type 0} (P Q : Type 0) (G : Config → Type 0) (result : Result T E) (says : Applications) (quiet : Bool) (taken given : List ℕ) (is_ended : Bool) →
-    OnErr result (P → Q → (config : Config) → G config → HasRunInPart config says quiet taken taken is_ended given given)
-nothing_ran P Q G (Ok value) says quiet taken given is_ended = tt
-nothing_ran P Q G (Err error) says quiet taken given is_ended = λ _ _ config _. nothing_done config says quiet taken given is_ended

@@ -1,11 +1,11 @@
 -- Which mote the words of the command line name, and what the program may come to on them.
 use Rattle.std.specs.Prelude.{◌≡◌, ◌⊎◌, ⊤, ℕ, Bool, true, false, List, length, Result, Ok, Err}
-use Rattle.mote_types.specs.Applications.{Applications, says_of}
+use Rattle.mote_types.specs.Applications.{says_of}
 use Rattle.mote_apps.specs.Bundled.{bundled_says, named}
 use Rattle.kernel_core.specs.declared.config.Config.{Config}
 use Rattle.kernel_core.specs.Machine.{is_bootable}
 use Rattle.mote_text.specs.declared.script.End.{End}
-use Rattle.mote_run.specs.RunText.{HasRun, HasRunInPart, HasRunOnWholeLines}
+use Rattle.mote_run.specs.RunText.{Exchange, HasRunTo}
 use Rattle.mote_apps.specs.declared.bundled.Bundled.{Bundled}
 use Rattle.mote_words.specs.CommandLine.{AsksForText, NamesApplications, named_in}
 use Rattle.mote_words.specs.CommandLine as of_words
@@ -60,20 +60,9 @@ IsRunFailure Failure.Write = ⊤
 IsRunFailure Failure.OutOfMemory = ⊤
 IsRunFailure _ = ⊥
 
--- what was read and written is a run: all of it where this was answered with the run's end, and else a front part; where
--- reading failed, just the text of the whole lines that were read
-abbrev pub HasRunTo : Config → Applications → Bool → List ℕ → List ℕ → Bool → List ℕ → List ℕ → Result End Failure → Type 0
-HasRunTo config says quiet taken_old taken_new is_ended given_old given_new (Ok end) =
-    HasRun config says quiet taken_old taken_new is_ended given_old given_new end
-HasRunTo config says quiet taken_old taken_new is_ended given_old given_new (Err Failure.Read) =
-    HasRunInPart config says quiet taken_old taken_new is_ended given_old given_new
-    × HasRunOnWholeLines config says quiet taken_old taken_new given_old given_new
-HasRunTo config says quiet taken_old taken_new is_ended given_old given_new (Err failure) =
-    HasRunInPart config says quiet taken_old taken_new is_ended given_old given_new
-
--- of the named applications, at the named sizes, and quiet as they are
-abbrev pub HasRunNamed : Named Bundled → List ℕ → List ℕ → Bool → List ℕ → List ℕ → Result End Failure → Type 0
-HasRunNamed asked = HasRunTo (config_of asked) (says_of bundled_says asked.applications.items) asked.quiet
+-- what was read and written is what a run of the named applications comes to, at the named sizes, and quiet as they are
+abbrev pub HasRunNamed : Named Bundled → Result End Failure → Exchange → Type 0
+HasRunNamed asked = HasRunTo (config_of asked) (says_of bundled_says asked.applications.items) asked.quiet Failure.Read
 
 -- the status of an outcome that the words allow, with which this was done
 pub record IsStatusFor (words : List (List ℕ)) (IsDone : Result End Failure → Type 0) (status : ℕ) : Type 0 where

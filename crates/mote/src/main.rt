@@ -5,6 +5,7 @@ ghost use Rattle.std.specs.Prelude.{◌≡◌, ◌<◌, ◌-◌, ◌^◌, false,
 ghost use Rattle.mote_apps.specs.Bundled.{named};
 ghost use Rattle.mote_words.specs.CommandLine.{named_in};
 ghost use Rattle.mote_shell.specs.declared.failure.Failure.{Failure as Refused};
+ghost use Rattle.mote_run.specs.RunText.{Exchanged};
 ghost use Rattle.mote.specs.CommandLine.{HasRunNamed, IsStatusFor};
 
 mod prepare;
@@ -48,7 +49,8 @@ fn run_to_status<R: AllocGlobal + Print + Eprint, S: ByteSource, K: ByteSink>(
     requires countable_reads { S.failure_count source.old < 2 ^ 64 - 1 }
     requires countable_writes { K.failure_count sink.old < 2 ^ 64 - 1 }
     ensures status { IfOk result (IsStatusFor (map string_bytes words.now) (λ outcome. S.is_named → K.is_named →
-        HasRunNamed (named_in named (map string_bytes words.now)) (S.taken source.old) (S.taken source.new) (S.is_ended source.new) (K.given sink.old) (K.given sink.new) outcome)) }
+        Exchanged (S.taken source.old) (S.taken source.new) (S.is_ended source.new) (K.given sink.old) (K.given sink.new)
+        (HasRunNamed (named_in named (map string_bytes words.now)) outcome))) }
     ensures failure { IfErr result (λ failure. failure ≡ Refused.OutOfMemory) }
 {
     let texts = texts_of(rt.alloc(), words)?;

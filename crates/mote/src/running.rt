@@ -1,11 +1,11 @@
 //! The run of a mote that is ready for it, and of the mote that words name.
 
-ghost use Rattle.std.specs.Prelude.{◌≡◌, ◌<◌, ◌-◌, ◌^◌, ◌↔◌, false, length, IfOk, IfErr, OnErr, IsErrOf};
+ghost use Rattle.std.specs.Prelude.{◌≡◌, ◌<◌, ◌-◌, ◌^◌, ◌↔◌, false, length, IfErr, IsErrOf};
 ghost use Rattle.mote_types.specs.Applications.{says_of};
 ghost use Rattle.mote_apps.specs.Bundled.{bundled_says, named};
 ghost use Rattle.kernel_core.specs.declared.config.Config.{Config};
 ghost use Rattle.kernel_core.specs.Machine.{booted};
-ghost use Rattle.mote_run.specs.RunText.{HasRun, HasRunInPart, HasRunOnWholeLines, WasBooted};
+ghost use Rattle.mote_run.specs.RunText.{Exchanged, HasRunTo, WasBooted};
 ghost use Rattle.mote_words.specs.CommandLine.{named_in, texts};
 ghost use Rattle.mote.specs.CommandLine.{HasRunNamed, IsOutcome, IsRunFailure};
 ghost use Rattle.mote_shell.specs.declared.failure.Failure.{Failure as Refused};
@@ -35,12 +35,9 @@ pub fn run_prepared<'a, S: ByteSource, K: ByteSink>(
     requires unended { S.is_ended source.old ≡ false }
     requires countable_reads { S.failure_count source.old < 2 ^ 64 - 1 }
     requires countable_writes { K.failure_count sink.old < 2 ^ 64 - 1 }
-    ensures text { IfOk result (λ end. S.is_named → K.is_named → (config : Config) → prepared.kernel.machine ≡ booted config →
-        HasRun config (says_of bundled_says prepared.applications.items) prepared.quiet (S.taken source.old) (S.taken source.new) (S.is_ended source.new) (K.given sink.old) (K.given sink.new) end) }
-    ensures front { OnErr result (S.is_named → K.is_named → (config : Config) → prepared.kernel.machine ≡ booted config →
-        HasRunInPart config (says_of bundled_says prepared.applications.items) prepared.quiet (S.taken source.old) (S.taken source.new) (S.is_ended source.new) (K.given sink.old) (K.given sink.new)) }
-    ensures after_read_fault { IsErrOf result Refused.Read → S.is_named → K.is_named → (config : Config) → prepared.kernel.machine ≡ booted config →
-        HasRunOnWholeLines config (says_of bundled_says prepared.applications.items) prepared.quiet (S.taken source.old) (S.taken source.new) (K.given sink.old) (K.given sink.new) }
+    ensures ran { S.is_named → K.is_named → (config : Config) → prepared.kernel.machine ≡ booted config →
+        Exchanged (S.taken source.old) (S.taken source.new) (S.is_ended source.new) (K.given sink.old) (K.given sink.new)
+        (HasRunTo config (says_of bundled_says prepared.applications.items) prepared.quiet Refused.Read result) }
     ensures failure { IfErr result IsRunFailure }
     ensures read_fault { IsErrOf result Refused.Read ↔ (S.failure_count source.old < S.failure_count source.new) }
     ensures write_fault { IsErrOf result Refused.Write ↔ (K.failure_count sink.old < K.failure_count sink.new) }
@@ -79,7 +76,8 @@ pub fn run_words<'a, S: ByteSource, K: ByteSink>(
     requires countable_writes { K.failure_count sink.old < 2 ^ 64 - 1 }
     ensures outcome { IsOutcome (texts words.now) result }
     ensures run { S.is_named → K.is_named →
-        HasRunNamed (named_in named (texts words.now)) (S.taken source.old) (S.taken source.new) (S.is_ended source.new) (K.given sink.old) (K.given sink.new) result }
+        Exchanged (S.taken source.old) (S.taken source.new) (S.is_ended source.new) (K.given sink.old) (K.given sink.new)
+        (HasRunNamed (named_in named (texts words.now)) result) }
     ensures read_fault { IsErrOf result Refused.Read ↔ (S.failure_count source.old < S.failure_count source.new) }
     ensures write_fault { IsErrOf result Refused.Write ↔ (K.failure_count sink.old < K.failure_count sink.new) }
 {

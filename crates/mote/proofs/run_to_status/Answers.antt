@@ -2,7 +2,8 @@ use Rattle.std.proofs.Common.{◌≡◌, ◌∙◌, List, ℕ, ap, map, inr, str
 use Rattle.mote_apps.specs.Bundled.{named}
 use Rattle.mote_words.specs.CommandLine.{named_in, texts}
 use Rattle.mote.specs.CommandLine.{HasRunNamed, IsOutcome}
-use Rattle.mote.proofs.Named.{of_shown}
+use Rattle.mote_run.specs.RunText.{Exchanged}
+use Rattle.mote.proofs.Named.{not_shown, of_shown}
 use Rattle.mote.proofs.run_to_status.Goals as goal
 
 pub returns-clause-status : goal.returns-clause-status
@@ -20,7 +21,7 @@ returns-clause-status g c =
       outcome = c.finish.ensures.shown;
       is_allowed = of_shown (IsOutcome words) _ _ allowed (λ text asked refused. inr (_, refused.0, refused.1)) c.finish.ensures.is_shown;
       is_done = λ source_named sink_named.
-          let ran = subst (λ (w : List (List ℕ)). HasRunNamed (named_in named w) taken_old taken is_ended given_old given c.run_words-outcome.result) same (done.run source_named sink_named) in
-          of_shown (HasRunNamed (named_in named words) taken_old taken is_ended given_old given) _ _ ran (λ text asked front. front) c.finish.ensures.is_shown;
+          let ran = subst (λ (w : List (List ℕ)). Exchanged taken_old taken is_ended given_old given (HasRunNamed (named_in named w) c.run_words-outcome.result)) same (done.run source_named sink_named) in
+          of_shown (λ outcome. Exchanged taken_old taken is_ended given_old given (HasRunNamed (named_in named words) outcome)) _ _ ran (λ text asked run. not_shown run) c.finish.ensures.is_shown;
       is_status = c.finish.ensures.is_status;
     }

@@ -1,11 +1,15 @@
-use Rattle.std.proofs.Common.{rules, refl, inl, ◌≡◌, ◌∷◌, [], ◌++◌, ◌∙◌, ap, sym, length}
+use Rattle.std.proofs.Common.{rules, refl, inl, ◌≡◌, ◌∷◌, [], ◌++◌, ◌∙◌, ap, sym, subst, length}
+use Rattle.std.specs.Prelude.{Result, Ok, Err, IsErrOf}
+use Rattle.std.specs.Result.{IsErrAnd}
 use Rattle.std.proofs.lemmas.List.{append-nil, append_assoc}
 use denote.Param.Object.{read_made}
 use Rattle.mote_types.specs.Applications.{Says}
 use Rattle.mote_apps.specs.Bundled.{bundled_says}
-use Rattle.kernel_core.specs.Machine.{booted}
-use Rattle.mote_run.specs.RunText.{HasRun, HasRunInPart, HasRunOnWholeLines}
-use Rattle.mote.proofs.Boxed.{as_many_more, nothing_ran, one_more, said_the_same, same_applications}
+use Rattle.mote_text.specs.declared.script.End.{End}
+use Rattle.mote_run.specs.RunText.{Exchanged, HasRunTo}
+use Rattle.mote_run.proofs.HandedOn.{ended, fault_handed_on, nothing_ran}
+use Rattle.mote_shell.specs.declared.failure.Failure.{Failure}
+use Rattle.mote.proofs.Boxed.{as_many_more, one_more, said_the_same, same_applications}
 use Rattle.mote.proofs.running.run_prepared.OwnLists.{own-1}
 use Rattle.mote.proofs.running.run_prepared.Goals as goal
 
@@ -22,13 +26,16 @@ loop-application-preserved g c =
       one_more _ bundled_says _ _ boxed _ application c.in_ok-push.ensures.items told before.2,
     )
 
-pub returns-in_err-new-clause-front : goal.returns-in_err-new-clause-front
-returns-in_err-new-clause-front g c =
-    nothing_ran g.S.ByteSource.is_named g.K.ByteSink.is_named (λ config. c.args.prepared.kernel.machine ≡ booted config) _ _ _ _ _ _
+-- want of memory is no failed read
+memory_is_other : (r : Result End Failure) → IsErrAnd r (λ failure. failure ≡ Failure.OutOfMemory) → IsErrOf r Failure.Read → ⊥
+memory_is_other r is_memory is_read = absurd (let e : Failure.Read ≡ Failure.OutOfMemory = subst (λ v. IsErrAnd v (λ failure. failure ≡ Failure.OutOfMemory)) is_read is_memory in cc)
 
-pub returns-in_err-push-clause-front : goal.returns-in_err-push-clause-front
-returns-in_err-push-clause-front g c =
-    nothing_ran g.S.ByteSource.is_named g.K.ByteSink.is_named (λ config. c.args.prepared.kernel.machine ≡ booted config) _ _ _ _ _ _
+pub returns-in_err-new-clause-ran : goal.returns-in_err-new-clause-ran
+returns-in_err-new-clause-ran g c = λ _ _ _ _. nothing_ran c.from_residual.result c.from_residual.ensures.0 (memory_is_other _ c.from_residual.ensures.1)
+
+pub returns-in_err-push-clause-ran : goal.returns-in_err-push-clause-ran
+returns-in_err-push-clause-ran g c =
+    λ _ _ _ _. nothing_ran c.from_residual-in_err-push.result c.from_residual-in_err-push.ensures.0 (memory_is_other _ c.from_residual-in_err-push.ensures.1)
 
 pub run-requires-clause-booted : goal.run-requires-clause-booted
 run-requires-clause-booted g c =
@@ -40,39 +47,35 @@ run-requires-clause-booted g c =
     let given = c.requires.booted in
     ((given.0.0, given.0.1, given.0.2 ∙ sym as_many, given.0.3), given.1)
 
-pub returns-in-Ok-clause-text : goal.returns-in-Ok-clause-text
-returns-in-Ok-clause-text g c =
+pub returns-in-Ok-clause-ran : goal.returns-in-Ok-clause-ran
+returns-in-Ok-clause-ran g c =
     let yielded = c.loop-application.yielded in
     let all : yielded ≡ c.args.prepared.applications.items =
     sym (append-nil yielded) ∙ (ap (λ rest. yielded ++ rest) (sym c.in-None.ensures.steps.0) ∙ c.loop-application.invariant.1) in
     said_the_same
-    (λ config says. HasRun config says c.args.prepared.quiet (g.S.ByteSource.taken c.args.source.now) (g.S.ByteSource.taken c.run.new.source) (g.S.ByteSource.is_ended c.run.new.source) (g.K.ByteSink.given c.args.sink.now) (g.K.ByteSink.given c.run.new.sink) c.in-Ok.end)
-    _ _ (same_applications _ bundled_says _ _ _ _ c.as_mut_slice.ensures.value c.loop-application.invariant.2 all) c.in-Ok.ensures.text
-
-pub returns-in-Err-Read-clause-front : goal.returns-in-Err-Read-clause-front
-returns-in-Err-Read-clause-front g c =
-    let yielded = c.loop-application.yielded in
-    let all : yielded ≡ c.args.prepared.applications.items =
-    sym (append-nil yielded) ∙ (ap (λ rest. yielded ++ rest) (sym c.in-None.ensures.steps.0) ∙ c.loop-application.invariant.1) in
-    said_the_same
-    (λ config says. HasRunInPart config says c.args.prepared.quiet (g.S.ByteSource.taken c.args.source.now) (g.S.ByteSource.taken c.run.new.source) (g.S.ByteSource.is_ended c.run.new.source) (g.K.ByteSink.given c.args.sink.now) (g.K.ByteSink.given c.run.new.sink))
-    _ _ (same_applications _ bundled_says _ _ _ _ c.as_mut_slice.ensures.value c.loop-application.invariant.2 all) c.in-Err-Read.ensures.front
-
-pub returns-in-Err-Read-clause-after_read_fault : goal.returns-in-Err-Read-clause-after_read_fault
-returns-in-Err-Read-clause-after_read_fault g c =
-    let yielded = c.loop-application.yielded in
-    let all : yielded ≡ c.args.prepared.applications.items =
-    sym (append-nil yielded) ∙ (ap (λ rest. yielded ++ rest) (sym c.in-None.ensures.steps.0) ∙ c.loop-application.invariant.1) in
-    λ is_read. said_the_same
-    (λ config says. HasRunOnWholeLines config says c.args.prepared.quiet (g.S.ByteSource.taken c.args.source.now) (g.S.ByteSource.taken c.run.new.source) (g.K.ByteSink.given c.args.sink.now) (g.K.ByteSink.given c.run.new.sink))
+    (λ config says. Exchanged (g.S.ByteSource.taken c.args.source.now) (g.S.ByteSource.taken c.run.new.source) (g.S.ByteSource.is_ended c.run.new.source) (g.K.ByteSink.given c.args.sink.now) (g.K.ByteSink.given c.run.new.sink)
+    (HasRunTo config says c.args.prepared.quiet Failure.Read (Ok c.in-Ok.end)))
     _ _ (same_applications _ bundled_says _ _ _ _ c.as_mut_slice.ensures.value c.loop-application.invariant.2 all)
-    (c.in-Err-Read.ensures.after_read_fault (search rules))
+    (λ s k config boots. ended (c.in-Ok.ensures.promise s k config boots))
 
-pub returns-clause-front : goal.returns-clause-front
-returns-clause-front g c =
+pub returns-in-Err-Read-clause-ran : goal.returns-in-Err-Read-clause-ran
+returns-in-Err-Read-clause-ran g c =
     let yielded = c.loop-application.yielded in
     let all : yielded ≡ c.args.prepared.applications.items =
     sym (append-nil yielded) ∙ (ap (λ rest. yielded ++ rest) (sym c.in-None.ensures.steps.0) ∙ c.loop-application.invariant.1) in
     said_the_same
-    (λ config says. HasRunInPart config says c.args.prepared.quiet (g.S.ByteSource.taken c.args.source.now) (g.S.ByteSource.taken c.run.new.source) (g.S.ByteSource.is_ended c.run.new.source) (g.K.ByteSink.given c.args.sink.now) (g.K.ByteSink.given c.run.new.sink))
-    _ _ (same_applications _ bundled_says _ _ _ _ c.as_mut_slice.ensures.value c.loop-application.invariant.2 all) c.in-Err-Write.ensures.front
+    (λ config says. Exchanged (g.S.ByteSource.taken c.args.source.now) (g.S.ByteSource.taken c.run.new.source) (g.S.ByteSource.is_ended c.run.new.source) (g.K.ByteSink.given c.args.sink.now) (g.K.ByteSink.given c.run.new.sink)
+    (HasRunTo config says c.args.prepared.quiet Failure.Read (Err Failure.Read)))
+    _ _ (same_applications _ bundled_says _ _ _ _ c.as_mut_slice.ensures.value c.loop-application.invariant.2 all)
+    (λ s k config boots. fault_handed_on (Err Failure.Read) refl (λ is. refl) (c.in-Err-Read.ensures.promise s k config boots))
+
+pub returns-clause-ran : goal.returns-clause-ran
+returns-clause-ran g c =
+    let yielded = c.loop-application.yielded in
+    let all : yielded ≡ c.args.prepared.applications.items =
+    sym (append-nil yielded) ∙ (ap (λ rest. yielded ++ rest) (sym c.in-None.ensures.steps.0) ∙ c.loop-application.invariant.1) in
+    said_the_same
+    (λ config says. Exchanged (g.S.ByteSource.taken c.args.source.now) (g.S.ByteSource.taken c.run.new.source) (g.S.ByteSource.is_ended c.run.new.source) (g.K.ByteSink.given c.args.sink.now) (g.K.ByteSink.given c.run.new.sink)
+    (HasRunTo config says c.args.prepared.quiet Failure.Read (Err Failure.Write)))
+    _ _ (same_applications _ bundled_says _ _ _ _ c.as_mut_slice.ensures.value c.loop-application.invariant.2 all)
+    (λ s k config boots. fault_handed_on (Err Failure.Write) refl (λ is. absurd (cc)) (c.in-Err-Write.ensures.promise s k config boots))
