@@ -18,8 +18,8 @@ ghost use Rattle.kernel_core.specs.Code.View.{ComesToJob};
 ghost use Rattle.kernel_core.specs.Run.{Answers, silent, is_at_rest, heard, within_limit, turn_taken, with_more_work};
 ghost use Rattle.kernel_core.specs.Code.Steps.{entry_of};
 
-use crate::turn::Turn;
 use crate::pending_entries::PendingEntries;
+use crate::turn::Turn;
 use device_core::packet_queue::PacketQueue;
 use device_core::serial_line::SerialLine;
 use mote_types::app::App;

@@ -14,9 +14,9 @@ ghost use Rattle.kernel_core.specs.Mote.{TakesEntry};
 
 use crate::config::Config;
 use crate::fields::KernelFields;
-use crate::step::{StepOutcome, Step};
-use crate::turn::Turn;
 use crate::pending_entries::PendingEntries;
+use crate::step::{Step, StepOutcome};
+use crate::turn::Turn;
 use device_core::packet_queue::PacketQueue;
 use device_core::serial_line::SerialLine;
 use mote_types::app::App;

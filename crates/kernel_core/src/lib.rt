@@ -13,13 +13,13 @@ mod kernel_processes;
 pub mod laws;
 mod packet_calls;
 mod packet_process;
+mod pending_entries;
 mod process_calls;
 mod serial_process;
 pub mod step;
 mod timer_calls;
 mod timer_processes;
 pub mod turn;
-mod pending_entries;
 mod work;
 
 pub use mote_types::fault::BootFault;

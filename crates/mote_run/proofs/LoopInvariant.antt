@@ -89,6 +89,7 @@ module _ {quiet : Bool} {taken_old taken_new given_old given_new : List ℕ} {st
       leaves later none = λ text end f.
           let n = nothing_follows here still later text end answered none f in
           (text, refl, (rw same at n.0, n.1 ∙ same))
+
       ends_with : (halted : Bool) → here.machine.is_halted ≡ halted → (more : List ℕ) → (is_ended ≡ true → more ≡ []) →
           (later : Reading) × (inputs (i.read ++ more) ≡ preceded_by i.earlier later) × Leaves quiet (λ end. here.due ++ final_line end) (ended_so answered) here later []
       ends_with true h more limits =

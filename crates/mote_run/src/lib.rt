@@ -2,8 +2,8 @@
 #![tactic(auto)]
 
 mod device;
-mod pending_text;
 pub mod law;
+mod pending_text;
 mod piece;
 mod reader;
 mod refill;

@@ -83,7 +83,13 @@ impl PendingText {
         ensures { self.new.text.items ≡ self.old.text.items ++ lines quiet (entry_of turn.now ∷ []) }
     {
         if is_turn_shown(&turn.call, quiet) {
-            push_turn_line(turn.pid, turn.origin, &turn.stimulus, &turn.call, &mut self.text);
+            push_turn_line(
+                turn.pid,
+                turn.origin,
+                &turn.stimulus,
+                &turn.call,
+                &mut self.text,
+            );
         }
     }
 

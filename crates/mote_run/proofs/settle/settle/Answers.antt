@@ -15,14 +15,20 @@ returns-in_err-make_room-clause-goes g c = λ named.
     (_, went_further (c.entry.invariant.went named) (went_written _ _ cut.1), no_ok _ c.from_residual.result c.from_residual.ensures.0)
 
 pub returns-in-Rest-clause-goes : goal.returns-in-Rest-clause-goes
-returns-in-Rest-clause-goes g c = λ named.
-    (_, went_step Step.Rest (c.entry.invariant.went named) (c.in_ok-make_room.ensures.written named)
-    c.in-Rest.ensures.machine c.in-Rest.ensures.law c.in-Rest.ensures.halted (sym (append-nil _)), refl)
+returns-in-Rest-clause-goes g c = λ named. (
+  _,
+  went_step Step.Rest (c.entry.invariant.went named) (c.in_ok-make_room.ensures.written named)
+      c.in-Rest.ensures.machine c.in-Rest.ensures.law c.in-Rest.ensures.halted (sym (append-nil _)),
+  refl,
+)
 
 pub returns-in-Halted-clause-goes : goal.returns-in-Halted-clause-goes
-returns-in-Halted-clause-goes g c = λ named.
-    (_, went_step Step.Halted (c.entry.invariant.went named) (c.in_ok-make_room.ensures.written named)
-    c.in-Halted.ensures.machine c.in-Halted.ensures.law c.in-Halted.ensures.halted (sym (append-nil _)), refl)
+returns-in-Halted-clause-goes g c = λ named. (
+  _,
+  went_step Step.Halted (c.entry.invariant.went named) (c.in_ok-make_room.ensures.written named)
+      c.in-Halted.ensures.machine c.in-Halted.ensures.law c.in-Halted.ensures.halted (sym (append-nil _)),
+  refl,
+)
 
 pub entry-preserved-in-Turn : goal.entry-preserved-in-Turn
 entry-preserved-in-Turn g c = record {
