@@ -32,7 +32,7 @@ use timer_core::timers::Timers;
 /// A mote's kernel: one machine of processes, events and a clock.
 #[derive(Drop)]
 pub struct Kernel {
-    fields: KernelFields,
+    pub(crate) fields: KernelFields,
 }
 
 impl Model for Kernel {
@@ -104,23 +104,6 @@ impl Kernel {
         !self.fields.halted && self.fields.pending.is_empty() && self.fields.scheduler.at_rest()
     }
 
-    /// Hands an input to a mote at rest. What follows is done by `step`.
-    ///
-    /// A frame has at least one byte.
-    pub fn feed(&mut self, input: Input)
-        requires rest { is_at_rest self.old.machine ≡ true }
-        requires clock { self.old.machine.clock + ticks_of input ≤ 2 ^ 62 }
-        requires bytes { has_bytes input ≡ true }
-        requires few { self.old.inputs < 2 ^ 40 }
-        ensures machine { self.new.machine ≡ fed input self.old.machine }
-        ensures inputs { self.new.inputs ≡ self.old.inputs + 1 }
-    {
-        self.fields.work = 0;
-        self.fields.take_in(&input);
-        self.fields.inputs += 1;
-        self.fields.pending.input = Some(input);
-    }
-
     /// Hands an input that the caller keeps to a mote at rest: as `feed`, and then the step that makes the input's entry. What
     /// follows is done by `step`.
     ///
@@ -156,31 +139,6 @@ impl Kernel {
             return false;
         }
         self.fields.pass_idle_round()
-    }
-
-    /// Works until an entry is made or nothing is left to be done. It takes one turn at most, of one application.
-    ///
-    /// `Rest` exactly where the mote has come to rest, `Halted` exactly where it was halted before.
-    pub fn step(&mut self, apps: &mut [Box<dyn App>]) -> Step
-        requires boxes { length apps.old ≡ self.old.machine.scheduler.applications }
-        ensures machine { GoesOn (λ p stimulus. says_of says apps.old p (stimulus ∷ [])) self.old.machine result self.new.machine }
-        ensures law { (p : ℕ) (next : ToldStimulus) (later : List ToldStimulus) →
-            says_of says apps.new p (next ∷ later) ≡ says_of says apps.old p (heard p (made result) ++ (next ∷ later)) }
-        ensures others { (p : ℕ) → 4 ≤ p → heard p (made result) ≡ [] → slice_get apps.new (p - 4) ≡ slice_get apps.old (p - 4) }
-        ensures halted { self.new.machine.is_halted ≡ (self.old.machine.is_halted || list_any is_halt (made result)) }
-        ensures clock { self.new.machine.clock ≡ self.old.machine.clock }
-        ensures applications { self.new.machine.scheduler.applications ≡ self.old.machine.scheduler.applications }
-        ensures inputs { self.new.inputs ≡ self.old.inputs }
-        ensures progress { TakesEntry result self.old self.new }
-    {
-        let mut turn = Turn::none_yet();
-        let mut other = Entry::Halt;
-        match self.step_to(apps, &mut turn, &mut other) {
-            StepOutcome::Turn => Step::Entry(turn.into_entry()),
-            StepOutcome::Other => Step::Entry(other),
-            StepOutcome::Rest => Step::Rest,
-            StepOutcome::Halted => Step::Halted,
-        }
     }
 
     /// Works as `step`, and puts the entry that is made into a place: a turn into `turn`, any other entry into `other`.

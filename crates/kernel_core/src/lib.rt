@@ -1,6 +1,7 @@
 //! The kernel: one machine of processes, events and a clock, worked off step by step.
 #![tactic(auto)]
 
+mod by_value;
 mod call_kind;
 mod calls;
 pub mod config;

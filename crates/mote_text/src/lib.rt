@@ -1,6 +1,7 @@
 //! The texts of a mote: lines of a script to inputs, entries of a transcript to lines.
 #![tactic(auto)]
 
+pub mod by_value;
 mod calls;
 pub mod line;
 pub mod lines;

@@ -9,7 +9,7 @@ ghost use Rattle.mote_text.specs.Script.{read_line};
 ghost use Rattle.mote_text.specs.Transcript.{final_line, is_shown, prints_or_sends};
 
 use crate::calls::push_call;
-use crate::line::{LineBuf, OutputBuffer, push_decimal, push_number};
+use crate::line::{OutputBuffer, push_decimal, push_number};
 use crate::script::End;
 use crate::words::{push_input, push_note, push_origin, push_stimulus};
 use mote_types::call::Call;
@@ -78,17 +78,6 @@ pub fn push_entry(entry: &Entry, line: &mut OutputBuffer)
         Entry::Halt => line.push(b"halt"),
     }
     line.push(b"\n");
-}
-
-/// Puts the line of an entry, with its end, in place of what is in the buffer. It has at most 640 bytes.
-pub fn entry_text(entry: &Entry, line: &mut LineBuf)
-    ensures text { line.new.items ≡ entry_line entry.now }
-    ensures length { length (entry_line entry.now) ≤ entry_line_limit }
-{
-    let mut made = OutputBuffer::new();
-    push_entry(entry, &mut made);
-    line.clear();
-    let _ = line.try_extend_from_slice(made.as_slice());
 }
 
 /// Puts the line of the input that a script's line says, with its end, in place of what is in the buffer: it is the

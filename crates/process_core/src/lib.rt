@@ -1,6 +1,7 @@
 //! The scheduler of a mote: processes, the event queue, and the agenda of what is still to be done.
 #![tactic(auto)]
 
+mod by_value;
 mod front;
 mod giving;
 mod idle;

@@ -3,10 +3,11 @@
 ghost use Rattle.std.specs.Prelude.{◌<◌};
 
 use arrayvec::ArrayVec;
+use mote_text::by_value::entry_text;
 use mote_text::line::{LineBuf, OutputBuffer};
 use mote_text::lines::{Lines, Taken};
 use mote_text::script::{BadLine, End, read_input};
-use mote_text::transcript::{entry_text, final_text};
+use mote_text::transcript::final_text;
 use mote_types::call::Call;
 use mote_types::entry::{Entry, Input, Note};
 use mote_types::event::{Event, Origin, Payload, Pid, Stimulus};
