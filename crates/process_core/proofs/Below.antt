@@ -1,16 +1,8 @@
 -- What the poll round and the base come to, where no process is within an activation.
 use Rattle.std.proofs.Common.{◌≡◌, ℕ, Bool, true, false, List, [], ◌∷◌, ◌++◌, refl, Option, None}
-use Rattle.mote_types.specs.declared.event.Origin.{Origin}
+use Rattle.process_core.proofs.Common.{Origin, Item, Job, is_empty, numbers, is_any_marked, scheduler_behind, from_marked, Yields, poll_items, Scheduler, in_front, of_event}
 use Rattle.process_core.specs.declared.open_work.Base.{Base}
 use Rattle.process_core.specs.declared.scheduler_fields.SchedulerFields.{SchedulerFields}
-use Rattle.process_core.specs.Agenda.{Item, Job}
-use Rattle.process_core.specs.Idle.{is_empty}
-use Rattle.process_core.specs.Processes.{numbers, is_any_marked}
-use Rattle.process_core.specs.Code.SchedulerFields.{scheduler_behind}
-use Rattle.process_core.specs.Code.Walks.{from_marked}
-use Rattle.process_core.specs.Code.Yields.{Yields}
-use Rattle.process_core.specs.Code.OpenWork.{poll_items}
-use Rattle.process_core.specs.Scheduler.{Scheduler, in_front, of_event}
 use Rattle.process_core.proofs.Yields.{polls_begin, unpolled_yields, unmarked_pass, yields_after}
 
 -- the first event is delivered

@@ -1,14 +1,10 @@
 -- The scheduler at boot.
 use Rattle.std.proofs.Common.{◌≡◌, ℕ, zero, suc, ◌+◌, ◌<◌, ◌≤◌, Bool, true, false, [], ◌∷◌, ◌++◌, refl, arith, eqb, None, add-one}
-use Rattle.std.specs.List.{range_with_len}
-use Rattle.std.proofs.lemmas.Bool.Decides.{nat_tests}
+use Rattle.process_core.proofs.Common.{range_with_len, nat_tests, at_first, state_of, is_one_of, IsSound, IsInOrder}
 use Rattle.process_core.specs.declared.scheduler_fields.SchedulerFields.{SchedulerFields}
 use Rattle.process_core.specs.declared.open_work.Base.{Base}
-use Rattle.process_core.specs.Processes.{at_first, state_of}
 use Rattle.process_core.specs.declared.state.State.{State}
 use Rattle.process_core.specs.declared.front.Front.{Front}
-use Rattle.process_core.specs.Code.Nesting.{is_one_of, IsSound}
-use Rattle.process_core.specs.Code.SchedulerFields.{IsInOrder}
 
 pub range_more : (a n : ℕ) → range_with_len a (n + 1) ≡ range_with_len a n ++ (a + n) ∷ []
 range_more a zero = grind arith
@@ -16,29 +12,17 @@ range_more a (suc n) = rw add-one (grind (arith, range_more (a + 1) n))
 
 pub below_range : (p a n : ℕ) → is_one_of p (range_with_len a n) ≡ true → p < a + n
 below_range p a zero h = absurd (cc)
-below_range p a (suc n) h = split (eqb p a) refl (below_range p (a + 1) n)
-  where
-    split : (b : Bool) → eqb p a ≡ b → (is_one_of p (range_with_len (a + 1) n) ≡ true → p < a + 1 + n) → p < a + suc n
-    split true e more = grind (arith, nat_tests, e)
-    split false e more = let m : p < a + 1 + n = more (grind (arith, h, e)) in omega arith
+below_range p a (suc n) h = grind (arith, nat_tests, below_range p (a + 1) n)
 
 -- the kernel's processes run from the first, and no other process is on the list
 first_run : (p : ℕ) → p < 4 → state_of p at_first ≡ State.Running
-first_run zero h = refl
-first_run (suc zero) h = refl
-first_run (suc (suc zero)) h = refl
-first_run (suc (suc (suc zero))) h = refl
-first_run (suc (suc (suc (suc p)))) h = absurd (omega arith)
+first_run p h = grind (arith, nat_tests)
 
 none_beyond : (p : ℕ) → 4 ≤ p → state_of p at_first ≡ State.Absent
 none_beyond p h = grind (arith, nat_tests, h)
 
 first_known : (n p : ℕ) → (state_of p at_first ≡ State.Absent → ⊥) → p < 4 + n
-first_known n zero h = omega arith
-first_known n (suc zero) h = omega arith
-first_known n (suc (suc zero)) h = omega arith
-first_known n (suc (suc (suc zero))) h = omega arith
-first_known n (suc (suc (suc (suc p)))) h = absurd (h (none_beyond (suc (suc (suc (suc p)))) (omega arith)))
+first_known n p h = grind (arith, nat_tests, none_beyond)
 
 pub order_at_boot : (d : SchedulerFields) → d.applications ≤ 16 → d.walk ≡ range_with_len 4 d.applications → d.processes ≡ at_first
     → d.stack.items ≡ [] → d.base ≡ Base.Boot → d.events.capacity ≡ 32 → d.next_event ≡ 140 → d.front ≡ Front.Nothing → IsInOrder d

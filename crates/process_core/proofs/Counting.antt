@@ -1,14 +1,8 @@
 -- The marks, and how many of them are set.
-use Rattle.std.proofs.Common.{◌≡◌, ℕ, zero, suc, ◌+◌, ◌<◌, ◌≤◌, ◌==◌, Bool, true, false, ◌&&◌, List, [], ◌∷◌, length, drop, refl, sym, ◌∙◌, ap, arith, eqb, set}
-use Rattle.std.specs.Prelude.{if◌then◌else◌, nat_lt}
-use Rattle.std.specs.List.{list_any}
-use Rattle.std.proofs.lemmas.Bool.Decides.{nat_tests}
+use Rattle.std.proofs.Common.{◌≡◌, ℕ, zero, suc, ◌+◌, ◌<◌, ◌≤◌, ◌==◌, Bool, true, false, ◌&&◌, List, [], ◌∷◌, length, drop, refl, sym, ◌∙◌, ap, arith, eqb, set, if◌then◌else◌, nat_lt}
+use Rattle.process_core.proofs.Common.{list_any, nat_tests, is_only_marked, is_any_marked, with_mark, is_one_of, IsKept, listed, mark_at, from_marked}
 use Rattle.process_core.specs.declared.state.State.{State}
-use Rattle.process_core.specs.Code.LonePoll.{is_only_marked}
-use Rattle.process_core.specs.Processes.{is_any_marked, with_mark}
-use Rattle.process_core.specs.Code.Nesting.{is_one_of}
-use Rattle.process_core.specs.Code.ProcessList.{IsKept, listed, mark_at, mark_count}
-use Rattle.process_core.specs.Code.Walks.{from_marked}
+use Rattle.process_core.specs.Code.ProcessList.{mark_count}
 use Rattle.process_core.proofs.Listed.{any_listed, marked_kept, mark_set, kept_mark}
 use Rattle.process_core.proofs.Sound.{not_true, same_number}
 
@@ -41,56 +35,24 @@ some_marked (false ∷ m) h = let r = some_marked m h in (suc r.0, r.1)
 
 marked_among : (m : List Bool) (ns : List ℕ) (p : ℕ) → is_one_of p ns ≡ true → mark_at m p ≡ true → list_any (λ n. mark_at m n) ns ≡ true
 marked_among m [] p h e = absurd (cc)
-marked_among m (n ∷ ns) p h e = split (eqb p n) refl (marked_among m ns p)
-  where
-    split : (b : Bool) → eqb p n ≡ b → (is_one_of p ns ≡ true → mark_at m p ≡ true → list_any (λ n. mark_at m n) ns ≡ true)
-        → list_any (λ n. mark_at m n) (n ∷ ns) ≡ true
-    split true t rest = let same = same_number n p t in grind (arith, same, e)
-    split false t rest = let more = rest (grind (arith, h, t)) e in grind (arith, more)
+marked_among m (n ∷ ns) p h e = grind (arith, nat_tests, same_number, marked_among m ns p)
 
 counted_among : (m : List Bool) (ns : List ℕ) → list_any (λ n. mark_at m n) ns ≡ true → 0 < mark_count m
 counted_among m [] h = absurd (cc)
-counted_among m (n ∷ ns) h = split (mark_at m n) refl (counted_among m ns)
-  where
-    split : (b : Bool) → mark_at m n ≡ b → (list_any (λ n. mark_at m n) ns ≡ true → 0 < mark_count m) → 0 < mark_count m
-    split true e rest = counted m n e
-    split false e rest = rest (grind (arith, h, e))
+counted_among m (n ∷ ns) h = grind (arith, nat_tests, counted, counted_among m ns)
 
 -- a process that is marked is on the list
 marked_on_list : (s : List State) (m : List Bool) (ns : List ℕ) (p : ℕ) → IsKept s m ns → mark_at m p ≡ true → is_one_of p ns ≡ true
-marked_on_list s m ns p k e = split (is_one_of p ns) refl
-  where
-    split : (b : Bool) → is_one_of p ns ≡ b → is_one_of p ns ≡ true
-    split true here = here
-    split false here = let none = k.unmarked p here in absurd (cc)
+marked_on_list s m ns p k e = grind (arith, nat_tests)
 
 -- whether any process of the list is marked
 pub any_counted : (s : List State) (m : List Bool) (ns : List ℕ) → IsKept s m ns → is_any_marked (listed s m ns) ≡ nat_lt 0 (mark_count m)
-any_counted s m ns k = any_listed s m ns ∙ split (list_any (λ n. mark_at m n) ns) (nat_lt 0 (mark_count m)) refl refl
-  where
-    split : (a b : Bool) → list_any (λ n. mark_at m n) ns ≡ a → nat_lt 0 (mark_count m) ≡ b → list_any (λ n. mark_at m n) ns ≡ nat_lt 0 (mark_count m)
-    split true b e f = let some = counted_among m ns e in grind (arith, nat_tests, e, some)
-    split false false e f = e ∙ sym f
-    split false true e f =
-        let r = some_marked m (grind (arith, nat_tests, f)) in
-        let among = marked_among m ns r.0 (marked_on_list s m ns r.0 k r.1) r.1 in
-        absurd (cc)
+any_counted s m ns k = grind (arith, nat_tests, any_listed, counted_among, some_marked, marked_among, marked_on_list)
 
 -- whether p is the only one
 pub only_counted : (s : List State) (m : List Bool) (ns : List ℕ) (p : ℕ) → IsKept s m ns →
     is_only_marked p (listed s m ns) ≡ ((mark_count m == 1) && mark_at m p)
-only_counted s m ns p k = split (mark_at m p) refl
-  where
-    split : (b : Bool) → mark_at m p ≡ b → is_only_marked p (listed s m ns) ≡ ((mark_count m == 1) && mark_at m p)
-    split false e = let none = marked_kept p s m ns k in grind (arith, none, e)
-    split true e =
-        let here = marked_on_list s m ns p k e in
-        let place : p < length m = omega (arith, k.below p here, k.mark_places) in
-        let marked = marked_kept p s m ns k in
-        let cleared : is_any_marked (with_mark p false (listed s m ns)) ≡ nat_lt 0 (mark_count (set m p false)) =
-        ap is_any_marked (mark_set p false s m ns place) ∙ any_counted s (set m p false) ns (kept_mark p false s m ns here k) in
-        let fewer = mark_count-set m p false place in
-        grind (arith, nat_tests, marked, e, cleared, fewer)
+only_counted s m ns p k = grind (arith, nat_tests, marked_kept, marked_on_list, mark_set, any_counted, kept_mark, mark_count-set)
 
 -- the marked ones are the kernel's processes and the applications
 
@@ -100,28 +62,10 @@ counted_one false m = omega arith
 
 pub counted_apart : (m : List Bool) → 4 ≤ length m → mark_count m
     ≡ (if mark_at m 0 then 1 else 0) + (if mark_at m 1 then 1 else 0) + (if mark_at m 2 then 1 else 0) + (if mark_at m 3 then 1 else 0) + mark_count (drop 4 m)
-counted_apart [] h = absurd (omega arith)
-counted_apart (a ∷ []) h = absurd (omega arith)
-counted_apart (a ∷ b ∷ []) h = absurd (omega arith)
-counted_apart (a ∷ b ∷ c ∷ []) h = absurd (omega arith)
-counted_apart (a ∷ b ∷ c ∷ d ∷ m) h =
-    let first = counted_one a (b ∷ c ∷ d ∷ m) in
-    let second = counted_one b (c ∷ d ∷ m) in
-    let third = counted_one c (d ∷ m) in
-    let fourth = counted_one d m in
-    omega (arith, first, second, third, fourth)
+counted_apart m h = grind (arith, nat_tests, counted_one)
 
 unmarked_beyond : (m : List Bool) (p : ℕ) → 4 ≤ p → 4 ≤ length m → nat_lt 0 (mark_count (drop 4 m)) ≡ false → mark_at m p ≡ false
-unmarked_beyond [] p least h none = absurd (omega arith)
-unmarked_beyond (a ∷ []) p least h none = absurd (omega arith)
-unmarked_beyond (a ∷ b ∷ []) p least h none = absurd (omega arith)
-unmarked_beyond (a ∷ b ∷ c ∷ []) p least h none = absurd (omega arith)
-unmarked_beyond (a ∷ b ∷ c ∷ d ∷ m) zero least h none = absurd (omega arith)
-unmarked_beyond (a ∷ b ∷ c ∷ d ∷ m) (suc zero) least h none = absurd (omega arith)
-unmarked_beyond (a ∷ b ∷ c ∷ d ∷ m) (suc (suc zero)) least h none = absurd (omega arith)
-unmarked_beyond (a ∷ b ∷ c ∷ d ∷ m) (suc (suc (suc zero))) least h none = absurd (omega arith)
-unmarked_beyond (a ∷ b ∷ c ∷ d ∷ m) (suc (suc (suc (suc p)))) least h none =
-    not_true (mark_at m p) (λ e. let some = counted m p e in absurd (grind (arith, nat_tests, none, some)))
+unmarked_beyond m p least h none = grind (arith, nat_tests, not_true, counted)
 
 -- where no application is marked, a poll round passes over all of them
 pub no_application_marked : (s : List State) (m : List Bool) (ns walk : List ℕ) → IsKept s m ns → ((p : ℕ) → is_one_of p walk ≡ true → 4 ≤ p)

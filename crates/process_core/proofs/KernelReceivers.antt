@@ -1,18 +1,12 @@
 -- The kernel's processes that come next are passed in the base's walk as on the agenda.
-use Rattle.std.proofs.Common.{◌≡◌, ℕ, Bool, true, false, ◌&&◌, List, [], ◌∷◌, ◌++◌, refl, sym, ◌∙◌, ap}
-use Rattle.std.specs.Prelude.{if◌then◌else◌, flat_map, reverse}
-use Rattle.mote_types.specs.declared.event.Event.{Event}
-use Rattle.mote_types.specs.declared.reply.Reply.{Reply}
+use Rattle.std.proofs.Common.{arith, ◌≡◌, ℕ, Bool, true, false, ◌&&◌, List, [], ◌∷◌, ◌++◌, refl, sym, ◌∙◌, ap, if◌then◌else◌, flat_map, reverse}
+use Rattle.process_core.proofs.Common.{nat_tests, Event, Reply, is_empty, is_other_than, is_kernel_process, IsInOrder, BootsKnown, from_application, receiver_is_next, agenda_of, base_items, front_items, items_of, poll_items, receiver_items}
 use Rattle.process_core.specs.declared.scheduler_fields.SchedulerFields.{SchedulerFields}
 use Rattle.process_core.specs.declared.open_work.Base.{Base}
 use Rattle.process_core.specs.declared.open_work.Continuation.{Continuation}
 use Rattle.process_core.specs.declared.front.Front.{Front}
-use Rattle.process_core.specs.Idle.{is_empty}
-use Rattle.process_core.specs.Code.KernelReceivers.{behind_kernel_receivers, is_other_than}
-use Rattle.process_core.specs.Processes.{is_kernel_process}
-use Rattle.process_core.specs.Code.SchedulerFields.{IsInOrder, BootsKnown}
-use Rattle.process_core.specs.Code.Walks.{from_application, is_broadcast, receiver_is_next}
-use Rattle.process_core.specs.Code.OpenWork.{agenda_of, base_items, front_items, items_of, poll_items, receiver_items}
+use Rattle.process_core.specs.Code.KernelReceivers.{behind_kernel_receivers}
+use Rattle.process_core.specs.Code.Walks.{is_broadcast}
 use Rattle.process_core.proofs.LonePoll.{both, empty_list}
 use Rattle.process_core.proofs.NothingLeft.{is_empty_continuations}
 
@@ -25,15 +19,7 @@ module _ (codes : List ℕ) where
       → behind_kernel_receivers codes (receiver_items event walk) ≡ receiver_items event (if other then from_application walk else walk)
   receivers_behind event [] true e = refl
   receivers_behind event [] false e = refl
-  receivers_behind event (p ∷ walk) other e = split (is_kernel_process p) refl other e (receivers_behind event walk other e)
-    where
-      split : (kernel : Bool) → is_kernel_process p ≡ kernel → (other : Bool) → is_other_than codes event.code ≡ other
-          → behind_kernel_receivers codes (receiver_items event walk) ≡ receiver_items event (if other then from_application walk else walk)
-          → behind_kernel_receivers codes (receiver_items event (p ∷ walk)) ≡ receiver_items event (if other then from_application (p ∷ walk) else p ∷ walk)
-      split true k true e later = rw (k, e) later
-      split true k false e later = rw (k, e) refl
-      split false k true e later = rw k refl
-      split false k false e later = rw k refl
+  receivers_behind event (p ∷ walk) other e = grind (arith, nat_tests, receivers_behind event walk other e)
 
   -- none comes next where something else does
 
@@ -67,20 +53,10 @@ module _ (codes : List ℕ) where
       → (is_empty (front_items front reply synch) && (is_empty stack && (is_empty polls && is_broadcast base))) ≡ false
       → behind_kernel_receivers codes (front_items front reply synch ++ (flat_map items_of stack ++ (poll_items polls ++ base_items base walk event)))
       ≡ front_items front reply synch ++ (flat_map items_of stack ++ (poll_items polls ++ base_items base walk event))
-  nothing_next Front.Nothing reply synch stack polls base walk event none = nothing_behind stack polls base walk event none
-  nothing_next (Front.Call p) reply synch stack polls base walk event none = nothing_behind stack polls base walk event none
-  nothing_next (Front.Expiry p number) reply synch stack polls base walk event none = nothing_behind stack polls base walk event none
-  nothing_next (Front.Answer p) reply synch stack polls base walk event none = refl
-  nothing_next (Front.Give p) reply synch stack polls base walk event none = refl
-  nothing_next (Front.Start p) reply synch stack polls base walk event none = refl
-  nothing_next (Front.Callback p number) reply synch stack polls base walk event none = refl
+  nothing_next front reply synch stack polls base walk event none = grind (arith, nat_tests, nothing_behind)
 
   broadcasting : (base : Base) → is_broadcast base ≡ true → base ≡ Base.Broadcast false
-  broadcasting (Base.Broadcast false) h = refl
-  broadcasting (Base.Broadcast true) h = absurd (cc)
-  broadcasting Base.Nothing h = absurd (cc)
-  broadcasting Base.Boot h = absurd (cc)
-  broadcasting (Base.Deliver is_polled) h = absurd (cc)
+  broadcasting base h = grind (arith, nat_tests)
 
   -- a receiver comes next: nothing but the broadcast is open
   pub receivers_open : (d : SchedulerFields) (walk : List ℕ) → receiver_is_next d ≡ true → agenda_of (record d { walk = walk }) ≡ receiver_items d.broadcast walk

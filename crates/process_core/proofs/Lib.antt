@@ -11,3 +11,4 @@ pub mod Counting
 pub mod LonePoll
 mod Examples
 pub mod KernelReceivers
+pub mod Common

@@ -1,19 +1,14 @@
 -- The process list.
-use Rattle.std.proofs.Common.{◌≡◌, ◌≢◌, ℕ, ◌<◌, ◌≤◌, Bool, true, false, ◌&&◌, List, [], ◌∷◌, ◌++◌, zero, suc, ◌-◌, length, drop, refl, sym, ◌∙◌, ap, arith, eqb, ◌==◌, lit<, set, get_or}
-use Rattle.std.specs.Prelude.{if◌then◌else◌, not, ◌||◌, replicate}
-use Rattle.std.specs.List.{list_any, IsDistinct, AllByRecursion}
+use Rattle.std.proofs.Common.{◌≡◌, ◌≢◌, ℕ, ◌<◌, ◌≤◌, Bool, true, false, ◌&&◌, List, [], ◌∷◌, ◌++◌, zero, suc, ◌-◌, length, drop, refl, sym, ◌∙◌, ap, arith, eqb, ◌==◌, lit<, set, get_or, if◌then◌else◌, not, ◌||◌, replicate}
+use Rattle.process_core.proofs.Common.{list_any, IsDistinct, AllByRecursion, list_any-append, nat_tests, length-le_from_distinct_below, IsDistinct-cons, state_of, with_state, with_mark, without, numbers, is_marked, is_any_marked, IsKept, listed, mark_at, others, is_one_of}
 use Rattle.std.proofs.Math.Seq.{drop-append_seam}
 use Rattle.std.proofs.lemmas.List.{length-append, length-set, get_or-set_same, get_or-set_other}
 use Rattle.std.proofs.lemmas.List.Elements.{filter-append}
-use Rattle.std.proofs.lemmas.List.Folds.{list_any-append}
-use Rattle.std.proofs.lemmas.Bool.Decides.{nat_tests}
-use Rattle.std.proofs.lemmas.Map.Steps.{length-le_from_distinct_below}
-use Rattle.std.proofs.lemmas.Map.Keys.{IsDistinct-cons, IsDistinct-head, IsDistinct-tail}
+use Rattle.std.proofs.lemmas.Map.Keys.{IsDistinct-head, IsDistinct-tail}
 use Rattle.process_core.specs.declared.process.Process.{Process}
 use Rattle.process_core.specs.declared.state.State.{State}
-use Rattle.process_core.specs.Processes.{changed, state_of, with_state, with_mark, without, numbers, is_marked, is_any_marked}
-use Rattle.process_core.specs.Code.ProcessList.{EndsWithKernel, IsKept, kernel_numbers, listed, mark_at, others, state_at}
-use Rattle.process_core.specs.Code.Nesting.{is_one_of}
+use Rattle.process_core.specs.Processes.{changed}
+use Rattle.process_core.specs.Code.ProcessList.{EndsWithKernel, kernel_numbers, state_at}
 use Rattle.process_core.proofs.Sound.{none_from_is_one_of, or_false, same_number}
 
 -- ---- what the list stands for
@@ -25,39 +20,21 @@ numbers_listed s m (n ∷ ns) = ap (λ (l : List ℕ). n ∷ l) (numbers_listed 
 pub state_listed : (p : ℕ) (s : List State) (m : List Bool) (ns : List ℕ) →
     state_of p (listed s m ns) ≡ (if is_one_of p ns then state_at s p else State.Absent)
 state_listed p s m [] = refl
-state_listed p s m (n ∷ ns) = split (eqb p n) refl (state_listed p s m ns)
-  where
-    split : (b : Bool) → eqb p n ≡ b → state_of p (listed s m ns) ≡ (if is_one_of p ns then state_at s p else State.Absent)
-        → state_of p (listed s m (n ∷ ns)) ≡ (if is_one_of p (n ∷ ns) then state_at s p else State.Absent)
-    split true e rest = let same = same_number n p e in grind (arith, nat_tests, e, same)
-    split false e rest = grind (arith, nat_tests, e, rest)
+state_listed p s m (n ∷ ns) = grind (arith, nat_tests, state_at, same_number, state_listed p s m ns)
 
 pub marked_listed : (p : ℕ) (s : List State) (m : List Bool) (ns : List ℕ) → is_marked p (listed s m ns) ≡ (is_one_of p ns && mark_at m p)
 marked_listed p s m [] = refl
-marked_listed p s m (n ∷ ns) = split (eqb p n) refl (marked_listed p s m ns)
-  where
-    split : (b : Bool) → eqb p n ≡ b → is_marked p (listed s m ns) ≡ (is_one_of p ns && mark_at m p)
-        → is_marked p (listed s m (n ∷ ns)) ≡ (is_one_of p (n ∷ ns) && mark_at m p)
-    split true e rest = let same = same_number n p e in grind (arith, nat_tests, e, same, rest)
-    split false e rest = grind (arith, nat_tests, e, rest)
+marked_listed p s m (n ∷ ns) = grind (arith, nat_tests, same_number, marked_listed p s m ns)
 
 pub any_listed : (s : List State) (m : List Bool) (ns : List ℕ) → is_any_marked (listed s m ns) ≡ list_any (λ n. mark_at m n) ns
 any_listed s m [] = refl
 any_listed s m (n ∷ ns) = grind (arith, any_listed s m ns)
 
 pub state_kept : (p : ℕ) (s : List State) (m : List Bool) (ns : List ℕ) → IsKept s m ns → state_of p (listed s m ns) ≡ state_at s p
-state_kept p s m ns k = split (is_one_of p ns) refl
-  where
-    split : (b : Bool) → is_one_of p ns ≡ b → state_of p (listed s m ns) ≡ state_at s p
-    split true e = let h = state_listed p s m ns in grind (arith, e, h)
-    split false e = let h = state_listed p s m ns in let a = k.absent p e in grind (arith, e, h, a)
+state_kept p s m ns k = grind (arith, nat_tests, state_at, state_listed)
 
 pub marked_kept : (p : ℕ) (s : List State) (m : List Bool) (ns : List ℕ) → IsKept s m ns → is_marked p (listed s m ns) ≡ mark_at m p
-marked_kept p s m ns k = split (is_one_of p ns) refl
-  where
-    split : (b : Bool) → is_one_of p ns ≡ b → is_marked p (listed s m ns) ≡ mark_at m p
-    split true e = let h = marked_listed p s m ns in grind (arith, e, h)
-    split false e = let h = marked_listed p s m ns in let a = k.unmarked p e in grind (arith, e, h, a)
+marked_kept p s m ns k = grind (arith, nat_tests, marked_listed)
 
 -- ---- one process changes
 
@@ -97,12 +74,7 @@ mark_set p x s m (n ∷ ns) h = split (eqb n p) refl (mark_set p x s m ns h)
 pub changed_none : (p : ℕ) (change : Process → Process) (s : List State) (m : List Bool) (ns : List ℕ) → is_one_of p ns ≡ false →
     changed p change (listed s m ns) ≡ listed s m ns
 changed_none p change s m [] h = refl
-changed_none p change s m (n ∷ ns) h = split (eqb n p) refl (changed_none p change s m ns)
-  where
-    split : (b : Bool) → eqb n p ≡ b → (is_one_of p ns ≡ false → changed p change (listed s m ns) ≡ listed s m ns)
-        → changed p change (listed s m (n ∷ ns)) ≡ listed s m (n ∷ ns)
-    split true e rest = let same = same_number p n e in absurd (grind (arith, nat_tests, h, same))
-    split false e rest = let more = rest (grind (arith, nat_tests, h)) in grind (arith, nat_tests, e, more)
+changed_none p change s m (n ∷ ns) h = grind (arith, nat_tests, same_number, changed_none p change s m ns)
 
 pub states_elsewhere : (p : ℕ) (x : State) (s : List State) (m : List Bool) (ns : List ℕ) → is_one_of p ns ≡ false →
     listed (set s p x) m ns ≡ listed s m ns
@@ -130,10 +102,7 @@ without_listed p s m (n ∷ ns) = grind (arith, without_listed p s m ns)
 
 pub others_same : (p : ℕ) (ns : List ℕ) → is_one_of p ns ≡ false → others p ns ≡ ns
 others_same p [] h = refl
-others_same p (n ∷ ns) h =
-    let far : eqb n p ≡ false = grind (arith, nat_tests, h) in
-    let more = others_same p ns (grind (arith, nat_tests, h)) in
-    grind (arith, far, more)
+others_same p (n ∷ ns) h = grind (arith, nat_tests, others_same p ns (grind (arith, nat_tests, h)))
 
 pub gone : (p : ℕ) (ns : List ℕ) → is_one_of p (others p ns) ≡ false
 gone p [] = refl
@@ -259,19 +228,11 @@ kept_others p s m ns known k =
 -- a process is on the list exactly where it is not Absent
 pub on_list : (p : ℕ) (list : List Process) (s : List State) (m : List Bool) (ns : List ℕ) → listed s m ns ≡ list → IsKept s m ns
     → (state_of p list ≡ State.Absent → ⊥) → is_one_of p ns ≡ true
-on_list p list s m ns same k there = split (is_one_of p ns) refl
-  where
-    split : (b : Bool) → is_one_of p ns ≡ b → is_one_of p ns ≡ true
-    split true e = e
-    split false e = absurd (there (sym (ap (state_of p) same) ∙ (state_kept p s m ns k ∙ k.absent p e)))
+on_list p list s m ns same k there = grind (arith, nat_tests, state_kept)
 
 pub off_list : (p : ℕ) (list : List Process) (s : List State) (m : List Bool) (ns : List ℕ) → listed s m ns ≡ list → IsKept s m ns
     → state_of p list ≡ State.Absent → is_one_of p ns ≡ false
-off_list p list s m ns same k absent = split (is_one_of p ns) refl
-  where
-    split : (b : Bool) → is_one_of p ns ≡ b → is_one_of p ns ≡ false
-    split true e = absurd (k.present p e (sym (state_kept p s m ns k) ∙ (ap (state_of p) same ∙ absent)))
-    split false e = e
+off_list p list s m ns same k absent = grind (arith, nat_tests, state_kept)
 
 pub few_kept : (s : List State) (m : List Bool) (ns : List ℕ) → IsKept s m ns → length ns ≤ 20
 few_kept s m ns k = length-le_from_distinct_below ns 20 k.distinct k.below
@@ -290,9 +251,7 @@ added_listed p s m ns known none k =
 
 pub removed_listed : (p : ℕ) (s : List State) (m : List Bool) (ns : List ℕ) →
     listed (set s p State.Absent) (set m p false) (others p ns) ≡ without p (listed s m ns)
-removed_listed p s m ns =
-    states_elsewhere p State.Absent s (set m p false) (others p ns) (gone p ns)
-    ∙ (marks_elsewhere p false s m (others p ns) (gone p ns) ∙ sym (without_listed p s m ns))
+removed_listed p s m ns = grind (arith, nat_tests, states_elsewhere, gone, marks_elsewhere, without_listed)
 
 -- ---- at first
 
@@ -374,12 +333,7 @@ ends_others p ns least e =
 -- a process on the list is marked once it was
 pub marked_from_present : (p : ℕ) (list : List Process) → (state_of p list ≡ State.Absent → ⊥) → is_marked p (with_mark p true list) ≡ true
 marked_from_present p [] h = absurd (h refl)
-marked_from_present p (x ∷ xs) h = split (x.number == p) refl (marked_from_present p xs)
-  where
-    split : (b : Bool) → (x.number == p) ≡ b → ((state_of p xs ≡ State.Absent → ⊥) → is_marked p (with_mark p true xs) ≡ true)
-        → is_marked p (with_mark p true (x ∷ xs)) ≡ true
-    split true e more = grind (arith, nat_tests, e)
-    split false e more = let rest = more (λ a. h (rw e a)) in grind (arith, nat_tests, e, rest)
+marked_from_present p (x ∷ xs) h = grind (arith, nat_tests, marked_from_present p xs)
 
 pub marked_from_running : (p : ℕ) (old new : List Process) → state_of p old ≡ State.Running → new ≡ with_mark p true old → is_marked p new ≡ true
 marked_from_running p old new runs e = rw e (marked_from_present p old (λ absent. cc))

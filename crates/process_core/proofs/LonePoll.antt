@@ -1,19 +1,9 @@
 -- A round that does nothing but poll one process of the kernel.
-use Rattle.std.proofs.Common.{◌≡◌, ℕ, ◌<◌, ◌==◌, eqb, Bool, true, false, ◌&&◌, List, [], ◌∷◌, length, refl, arith, Some}
-use Rattle.std.specs.Prelude.{not, map}
-use Rattle.std.proofs.lemmas.Bool.Decides.{nat_tests}
-use Rattle.mote_types.specs.EventNumbers.{POLL}
-use Rattle.mote_types.specs.Codes.{plain_event}
+use Rattle.std.proofs.Common.{◌≡◌, ℕ, ◌<◌, ◌==◌, eqb, Bool, true, false, ◌&&◌, List, [], ◌∷◌, length, refl, arith, Some, not, map}
+use Rattle.process_core.proofs.Common.{nat_tests, POLL, plain_event, Item, Job, from_marked, queued_of, is_one_of, is_empty, is_only_marked, polls_alone, numbers, is_marked, is_any_marked, is_kernel_process, with_mark, Scheduler, in_front}
 use Rattle.process_core.specs.declared.process.Process.{Process}
-use Rattle.process_core.specs.Agenda.{Item, Job}
 use Rattle.process_core.specs.declared.queued.Queued as code
-use Rattle.process_core.specs.Code.Walks.{from_marked}
-use Rattle.process_core.specs.Code.SchedulerFields.{queued_of}
-use Rattle.process_core.specs.Code.Nesting.{is_one_of}
-use Rattle.process_core.specs.Idle.{is_empty}
-use Rattle.process_core.specs.Code.LonePoll.{is_only_marked, polls_alone, unmarked, IsLonePoll}
-use Rattle.process_core.specs.Processes.{numbers, is_marked, is_any_marked, is_kernel_process, with_mark}
-use Rattle.process_core.specs.Scheduler.{Scheduler, in_front}
+use Rattle.process_core.specs.Code.LonePoll.{unmarked, IsLonePoll}
 use Rattle.process_core.proofs.Yields.{unmarked_pass, poll_one_yields, yields_next, yields_after}
 
 pub empty_list : {A : Type 0} (xs : List A) → is_empty xs ≡ true → xs ≡ []
@@ -58,31 +48,16 @@ marked_first list (q ∷ walk) p alone here h = split (is_marked q list) refl (m
 -- a marked process is on the list
 marked_is_one_of : (list : List Process) (p : ℕ) → is_marked p list ≡ true → is_one_of p (numbers list) ≡ true
 marked_is_one_of [] p h = absurd (cc)
-marked_is_one_of (x ∷ list) p h = split (eqb p x.number) refl (marked_is_one_of list p)
-  where
-    split : (b : Bool) → eqb p x.number ≡ b → (is_marked p list ≡ true → is_one_of p (numbers list) ≡ true) → is_one_of p (numbers (x ∷ list)) ≡ true
-    split true e more = grind (arith, e)
-    split false e more = let rest = more (grind (arith, nat_tests, h, e)) in grind (arith, rest)
+marked_is_one_of (x ∷ list) p h = grind (arith, nat_tests, marked_is_one_of list p)
 
 marked_is_any : (list : List Process) (p : ℕ) → is_marked p list ≡ true → is_any_marked list ≡ true
 marked_is_any [] p h = absurd (cc)
-marked_is_any (x ∷ list) p h = split x.marked refl (marked_is_any list p)
-  where
-    split : (b : Bool) → x.marked ≡ b → (is_marked p list ≡ true → is_any_marked list ≡ true) → is_any_marked (x ∷ list) ≡ true
-    split true e more = grind (arith, e)
-    split false e more = let rest = more (grind (arith, h, e)) in grind (arith, rest)
+marked_is_any (x ∷ list) p h = grind (arith, nat_tests, marked_is_any list p)
 
 -- with p's mark away none is marked, so only p was
 alone_marked : (list : List Process) (p q : ℕ) → is_any_marked (with_mark p false list) ≡ false → is_marked q list ≡ true → q ≡ p
 alone_marked [] p q none h = absurd (cc)
-alone_marked (x ∷ list) p q none h = split (x.number == p) refl (x.number == q) refl (alone_marked list p q)
-  where
-    split : (a : Bool) → (x.number == p) ≡ a → (b : Bool) → (x.number == q) ≡ b
-        → (is_any_marked (with_mark p false list) ≡ false → is_marked q list ≡ true → q ≡ p) → q ≡ p
-    split true e true f more = grind (arith, nat_tests, e, f)
-    split true e false f more = more (grind (arith, none, e)) (grind (arith, h, f))
-    split false e true f more = more (grind (arith, none, e)) (grind (arith, h, f, none, e))
-    split false e false f more = more (grind (arith, none, e)) (grind (arith, h, f))
+alone_marked (x ∷ list) p q none h = grind (arith, nat_tests, alone_marked list p q)
 
 module _ {X : Type 0} where
   -- what the round comes to, where the walk behind p is this

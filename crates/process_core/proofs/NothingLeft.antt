@@ -1,15 +1,9 @@
 -- When nothing is left to be done.
-use Rattle.std.proofs.Common.{◌≡◌, ℕ, zero, suc, ◌≤◌, ◌==◌, Bool, true, false, ◌&&◌, nat_eq, List, [], ◌∷◌, ◌++◌, length, drop, refl, ap, ◌∙◌, arith}
-use Rattle.std.specs.Prelude.{map, flat_map, reverse}
-use Rattle.std.proofs.lemmas.List.{length-reverse}
-use Rattle.std.proofs.lemmas.Bool.Decides.{nat_tests}
-use Rattle.mote_types.specs.declared.event.Event.{Event}
+use Rattle.std.proofs.Common.{◌≡◌, ℕ, zero, suc, ◌≤◌, ◌==◌, Bool, true, false, ◌&&◌, nat_eq, List, [], ◌∷◌, ◌++◌, length, drop, refl, ap, ◌∙◌, arith, map, flat_map, reverse}
+use Rattle.process_core.proofs.Common.{length-reverse, nat_tests, Event, Item, is_empty, front_items, items_of, poll_items, base_items, agenda_of}
 use Rattle.process_core.specs.declared.open_work.Base.{Base}
 use Rattle.process_core.specs.declared.open_work.Continuation.{Continuation}
 use Rattle.process_core.specs.declared.scheduler_fields.SchedulerFields.{SchedulerFields}
-use Rattle.process_core.specs.Agenda.{Item}
-use Rattle.process_core.specs.Idle.{is_empty}
-use Rattle.process_core.specs.Code.OpenWork.{front_items, items_of, poll_items, base_items, agenda_of}
 
 pub is_empty_append : {A : Type 0} (xs ys : List A) → is_empty (xs ++ ys) ≡ (is_empty xs && is_empty ys)
 is_empty_append [] ys = refl
@@ -31,10 +25,7 @@ deliver_has_more true walk event = refl
 deliver_has_more false walk event = refl
 
 pub is_empty_broadcast : (is_polled : Bool) (walk : List ℕ) (event : Event) → is_empty (base_items (Base.Broadcast is_polled) walk event) ≡ is_empty walk
-is_empty_broadcast true [] event = refl
-is_empty_broadcast true (p ∷ walk) event = refl
-is_empty_broadcast false [] event = refl
-is_empty_broadcast false (p ∷ walk) event = refl
+is_empty_broadcast is_polled walk event = grind (arith, nat_tests)
 
 is_empty_stack : (stack : List Continuation) → is_empty (flat_map items_of stack) ≡ is_empty stack
 is_empty_stack [] = refl
@@ -51,14 +42,7 @@ is_empty_continuations continuations = is_empty_length (reverse continuations) �
 pub is_empty_agenda : (d : SchedulerFields) →
     is_empty (agenda_of d)
     ≡ (is_empty (front_items d.front d.reply d.synch) && ((length d.stack.items == 0) && (is_empty d.polls && is_empty (base_items d.base d.walk d.broadcast))))
-is_empty_agenda d =
-    let stack = reverse d.stack.items in
-    let base = base_items d.base d.walk d.broadcast in
-    let front = front_items d.front d.reply d.synch in
-    is_empty_append front (flat_map items_of stack ++ (poll_items d.polls ++ base))
-    ∙ ap (λ rest. is_empty front && rest)
-    (is_empty_append (flat_map items_of stack) (poll_items d.polls ++ base)
-    ∙ rw (is_empty_stack stack, is_empty_continuations d.stack.items, is_empty_append (poll_items d.polls) base, is_empty_map (λ p. Item.PollOne p) d.polls) refl)
+is_empty_agenda d = grind (arith, nat_tests, is_empty_append, is_empty_stack, is_empty_continuations, is_empty_map)
 
 pub is_empty_drop : (n : ℕ) (xs : List ℕ) → n ≤ length xs → is_empty (drop n xs) ≡ nat_eq n (length xs)
 is_empty_drop zero [] h = refl

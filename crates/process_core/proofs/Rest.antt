@@ -1,50 +1,29 @@
 -- Where nothing is left to be done.
-use Rattle.std.proofs.Common.{◌≡◌, ℕ, zero, suc, ◌<◌, Bool, true, false, List, [], ◌∷◌, ◌++◌, refl, sym, ◌∙◌, ap, arith, Option, Some, None}
-use Rattle.std.specs.Prelude.{if◌then◌else◌, not, ◌&&◌, is_some, map, flat_map, reverse}
-use Rattle.std.specs.List.{list_any}
+use Rattle.std.proofs.Common.{◌≡◌, ℕ, zero, suc, ◌<◌, Bool, true, false, List, [], ◌∷◌, ◌++◌, refl, sym, ◌∙◌, ap, arith, Option, Some, None, if◌then◌else◌, not, ◌&&◌, is_some, map, flat_map, reverse}
+use Rattle.process_core.proofs.Common.{list_any, front_items, items_of, poll_items, base_items, agenda_of, receiver_items, list_any-append, nat_tests, Event, Origin, Stimulus, Reply, is_kernel_process, is_running, is_any_marked, is_marked, Queued, Item, Job, Scheduler, job, after_front, job_of_give, first_event, after_items, ComesTo, state_in, of_event}
 use Rattle.process_core.specs.declared.open_work.Continuation.{Continuation}
 use Rattle.process_core.specs.declared.open_work.Base.{Base}
 use Rattle.process_core.specs.declared.front.Front.{Front}
 use Rattle.process_core.specs.declared.scheduler_fields.SchedulerFields.{SchedulerFields}
-use Rattle.process_core.specs.Code.OpenWork.{front_items, items_of, poll_items, base_items, agenda_of, receiver_items, exit_items}
-use Rattle.std.proofs.lemmas.List.Folds.{list_any-append}
-use Rattle.std.proofs.lemmas.Bool.Decides.{nat_tests}
-use Rattle.mote_types.specs.declared.event.Event.{Event}
-use Rattle.mote_types.specs.declared.event.Origin.{Origin}
+use Rattle.process_core.specs.Code.OpenWork.{exit_items}
 use Rattle.mote_types.specs.EventNumbers.{EXITED}
 use Rattle.mote_types.specs.Codes.{number_event}
-use Rattle.mote_types.specs.declared.event.Stimulus.{Stimulus}
-use Rattle.mote_types.specs.declared.reply.Reply.{Reply}
-use Rattle.process_core.specs.Processes.{is_kernel_process, is_on_list, is_running, is_any_marked, is_marked}
-use Rattle.process_core.specs.Agenda.{Queued, Item, Job}
-use Rattle.process_core.specs.Scheduler.{Scheduler, job, after_front, after_front_of, job_at, job_of_item, job_of_event, job_of_give, first_event, wants_round, after_items, ComesTo, after_item, state_in, is_shown, of_event}
+use Rattle.process_core.specs.Processes.{is_on_list}
+use Rattle.process_core.specs.Scheduler.{after_front_of, job_at, job_of_item, job_of_event, wants_round, after_item, is_shown}
 
 module _ {X : Type 0} where
   no_rest_at_event : (event : Option (Queued X)) → job_of_event event ≡ Some Job.Rest → ⊥
-  no_rest_at_event None h = cc
-  no_rest_at_event (Some (Queued.To p event)) h = cc
-  no_rest_at_event (Some (Queued.ToAll event)) h = cc
-  no_rest_at_event (Some (Queued.Expiry p c x)) h = cc
+  no_rest_at_event event h = grind (arith, nat_tests)
 
   serves : (b : Bool) (served : Job X) → (served ≡ Job.Rest → ⊥) → (if b then Some served else None) ≡ Some Job.Rest → ⊥
   serves true served n h = n (cc)
   serves false served n h = cc
 
   no_rest_at_give : (p : ℕ) (stimulus : Stimulus) → job_of_give {X = X} p stimulus ≡ Some Job.Rest → ⊥
-  no_rest_at_give p (Stimulus.Event event) h = serves (is_kernel_process p) (Job.Serve p event) (λ e. cc) h
-  no_rest_at_give p (Stimulus.Answer reply) h = cc
-  no_rest_at_give p (Stimulus.Callback c) h = cc
+  no_rest_at_give p stimulus h = grind (arith, nat_tests, serves)
 
   no_rest : (item : Item) (s : Scheduler X) → job_of_item item s ≡ Some Job.Rest → ⊥
-  no_rest (Item.Give p origin stimulus) s h = no_rest_at_give p stimulus h
-  no_rest Item.Deliver s h = no_rest_at_event (first_event s) h
-  no_rest (Item.Turn p origin stimulus) s h = cc
-  no_rest (Item.Show entry) s h = cc
-  no_rest (Item.Start p) s h = cc
-  no_rest (Item.GiveExit p) s h = cc
-  no_rest (Item.Remove p) s h = cc
-  no_rest Item.Polls s h = cc
-  no_rest (Item.PollOne p) s h = cc
+  no_rest item s h = grind (arith, nat_tests, no_rest_at_give, no_rest_at_event)
 
   idle : (b : Bool) → let rest : Job X = Job.Rest in Some (if b then Job.Round else rest) ≡ Some rest → b ≡ false
   idle true h = absurd (cc)
@@ -78,32 +57,16 @@ module _ {X : Type 0} where
 
   served_by_kernel : (b : Bool) (p q : ℕ) (event other : Event) → is_kernel_process p ≡ b
       → (if b then Some (serve p event) else None) ≡ Some (serve q other) → q < 4
-  served_by_kernel true p q event other e h =
-      let same : p ≡ q = cc in
-      let low : p < 4 = grind (arith, nat_tests, e) in rw (← same) low
-  served_by_kernel false p q event other e h = absurd (cc)
+  served_by_kernel b p q event other e h = grind (arith, nat_tests)
 
   serve_at_event : (queued : Option (Queued X)) (q : ℕ) (other : Event) → job_of_event queued ≡ Some (Job.Serve q other) → ⊥
-  serve_at_event None q other h = cc
-  serve_at_event (Some (Queued.To p event)) q other h = cc
-  serve_at_event (Some (Queued.ToAll event)) q other h = cc
-  serve_at_event (Some (Queued.Expiry p c x)) q other h = cc
+  serve_at_event queued q other h = grind (arith, nat_tests)
 
   serve_at_give : (p : ℕ) (stimulus : Stimulus) (q : ℕ) (other : Event) → job_of_give {X = X} p stimulus ≡ Some (Job.Serve q other) → q < 4
-  serve_at_give p (Stimulus.Event event) q other h = served_by_kernel (is_kernel_process p) p q event other refl h
-  serve_at_give p (Stimulus.Answer reply) q other h = absurd (cc)
-  serve_at_give p (Stimulus.Callback c) q other h = absurd (cc)
+  serve_at_give p stimulus q other h = grind (arith, nat_tests, served_by_kernel)
 
   serve_at_item : (item : Item) (s : Scheduler X) (q : ℕ) (other : Event) → job_of_item item s ≡ Some (Job.Serve q other) → q < 4
-  serve_at_item (Item.Give p origin stimulus) s q other h = serve_at_give p stimulus q other h
-  serve_at_item Item.Deliver s q other h = absurd (serve_at_event (first_event s) q other h)
-  serve_at_item (Item.Turn p origin stimulus) s q other h = absurd (cc)
-  serve_at_item (Item.Show entry) s q other h = absurd (cc)
-  serve_at_item (Item.Start p) s q other h = absurd (cc)
-  serve_at_item (Item.GiveExit p) s q other h = absurd (cc)
-  serve_at_item (Item.Remove p) s q other h = absurd (cc)
-  serve_at_item Item.Polls s q other h = absurd (cc)
-  serve_at_item (Item.PollOne p) s q other h = absurd (cc)
+  serve_at_item item s q other h = grind (arith, nat_tests, serve_at_give, serve_at_event)
 
   serve_at_none : (b : Bool) (q : ℕ) (other : Event) → Some (if b then Job.Round else Job.Rest) ≡ Some (serve q other) → ⊥
   serve_at_none true q other h = cc
@@ -125,16 +88,7 @@ module _ {X : Type 0} where
   in_either_case false s t r e f = f
 
   applications_after_item : (item : Item) (s : Scheduler X) → (after_item item s).applications ≡ s.applications
-  applications_after_item (Item.Start p) s = in_either_case (is_on_list (state_in s p)) _ _ s refl refl
-  applications_after_item (Item.Give p origin stimulus) s =
-      in_either_case (not (is_kernel_process p) && is_running (state_in s p)) _ _ s refl refl
-  applications_after_item (Item.GiveExit p) s = refl
-  applications_after_item (Item.Remove p) s = refl
-  applications_after_item Item.Polls s = in_either_case (is_any_marked s.processes) _ _ s refl refl
-  applications_after_item (Item.PollOne p) s = in_either_case (is_marked p s.processes) _ _ s refl refl
-  applications_after_item Item.Deliver s = refl
-  applications_after_item (Item.Turn p origin stimulus) s = refl
-  applications_after_item (Item.Show entry) s = refl
+  applications_after_item item s = grind (arith, nat_tests, in_either_case)
 
   applications_after_front_of : (agenda : List Item) (s : Scheduler X) → (after_front_of agenda s).applications ≡ s.applications
   applications_after_front_of [] s = in_either_case (wants_round s) _ _ s refl refl
@@ -145,13 +99,11 @@ module _ {X : Type 0} where
 
   pub applications_after_items : (n : ℕ) (s : Scheduler X) → (after_items n s).applications ≡ s.applications
   applications_after_items zero s = refl
-  applications_after_items (suc n) s =
-      in_either_case (is_some (job s)) s (after_items n (after_front s)) s refl (applications_after_items n (after_front s) ∙ applications_after_front s)
+  applications_after_items (suc n) s = grind (arith, nat_tests, in_either_case, applications_after_front, applications_after_items n (after_front s))
 
   pub applications_from_comes_to : (s : Scheduler X) (next : Job X) (after : Scheduler X) → ComesTo s next after
       → after.applications ≡ s.applications
-  applications_from_comes_to s next after c =
-      ap (λ (t : Scheduler X). t.applications) (sym c.2) ∙ (applications_after_front (after_items c.0 s) ∙ applications_after_items c.0 s)
+  applications_from_comes_to s next after c = grind (arith, nat_tests, applications_after_front, applications_after_items)
 
 -- ---- an entry to be shown is never on the agenda that continuations stand for
 
@@ -167,40 +119,17 @@ none_shown_to_receivers event [] = refl
 none_shown_to_receivers event (p ∷ ps) = none_shown_to_receivers event ps
 
 nothing_shown_in : (continuation : Continuation) → list_any is_shown (items_of continuation) ≡ false
-nothing_shown_in (Continuation.Leave pid walk true) =
-    shown_in_either (map (λ q. Item.Give q Origin.Synch (of_event (number_event EXITED pid.0))) walk) (exit_items true pid.0)
-    (none_shown walk (λ q. Item.Give q Origin.Synch (of_event (number_event EXITED pid.0))) (λ q. refl)) refl
-nothing_shown_in (Continuation.Leave pid walk false) =
-    shown_in_either (map (λ q. Item.Give q Origin.Synch (of_event (number_event EXITED pid.0))) walk) (exit_items false pid.0)
-    (none_shown walk (λ q. Item.Give q Origin.Synch (of_event (number_event EXITED pid.0))) (λ q. refl)) refl
-nothing_shown_in (Continuation.Answer pid) = refl
+nothing_shown_in continuation = grind (arith, nat_tests, shown_in_either, none_shown)
 
 nothing_shown_on : (stack : List Continuation) → list_any is_shown (flat_map items_of stack) ≡ false
 nothing_shown_on [] = refl
 nothing_shown_on (continuation ∷ below) = shown_in_either (items_of continuation) (flat_map items_of below) (nothing_shown_in continuation) (nothing_shown_on below)
 
 nothing_shown_first : (front : Front) (reply : Reply) (synch : Event) → list_any is_shown (front_items front reply synch) ≡ false
-nothing_shown_first Front.Nothing reply synch = refl
-nothing_shown_first (Front.Call p) reply synch = refl
-nothing_shown_first (Front.Expiry p number) reply synch = refl
-nothing_shown_first (Front.Answer p) reply synch = refl
-nothing_shown_first (Front.Give p) reply synch = refl
-nothing_shown_first (Front.Start p) reply synch = refl
-nothing_shown_first (Front.Callback p number) reply synch = refl
+nothing_shown_first front reply synch = grind (arith, nat_tests)
 
 nothing_shown_below : (base : Base) (walk : List ℕ) (event : Event) → list_any is_shown (base_items base walk event) ≡ false
-nothing_shown_below Base.Nothing walk event = refl
-nothing_shown_below Base.Boot walk event = none_shown walk (λ p. Item.Start p) (λ p. refl)
-nothing_shown_below (Base.Deliver true) walk event = refl
-nothing_shown_below (Base.Deliver false) walk event = refl
-nothing_shown_below (Base.Broadcast false) walk event = none_shown_to_receivers event walk
-nothing_shown_below (Base.Broadcast true) [] event = refl
-nothing_shown_below (Base.Broadcast true) (p ∷ walk) event = none_shown_to_receivers event walk
+nothing_shown_below base walk event = grind (arith, nat_tests, none_shown, none_shown_to_receivers)
 
 pub nothing_shown : (d : SchedulerFields) → list_any is_shown (agenda_of d) ≡ false
-nothing_shown d =
-    let stack = flat_map items_of (reverse d.stack.items) in
-    let base = base_items d.base d.walk d.broadcast in
-    shown_in_either (front_items d.front d.reply d.synch) (stack ++ (poll_items d.polls ++ base)) (nothing_shown_first d.front d.reply d.synch)
-    (shown_in_either stack (poll_items d.polls ++ base) (nothing_shown_on (reverse d.stack.items))
-    (shown_in_either (poll_items d.polls) base (none_shown d.polls (λ p. Item.PollOne p) (λ p. refl)) (nothing_shown_below d.base d.walk d.broadcast)))
+nothing_shown d = grind (arith, nat_tests, shown_in_either, nothing_shown_first, nothing_shown_on, none_shown, nothing_shown_below)

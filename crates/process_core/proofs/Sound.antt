@@ -1,17 +1,11 @@
 -- The stack stays sound, and is short.
-use Rattle.std.proofs.Common.{◌≡◌, ℕ, ◌+◌, ◌<◌, ◌≤◌, Bool, true, false, ◌||◌, List, [], ◌∷◌, length, refl, ◌∙◌, ap, arith, eqb, Option, Some, None, lit<}
-use Rattle.std.specs.Prelude.{IfSome, nat_lt, ◌*◌}
-use Rattle.std.proofs.lemmas.Map.Keys.{IsDistinct-cons}
-use Rattle.std.specs.List.{IsDistinct, AllByRecursion}
-use Rattle.std.proofs.lemmas.Bool.Decides.{nat_tests}
-use Rattle.std.proofs.lemmas.Map.Steps.{length-le_from_distinct_below}
-use Rattle.mote_types.specs.declared.event.Pid.{Pid}
+use Rattle.std.proofs.Common.{◌≡◌, ℕ, ◌+◌, ◌<◌, ◌≤◌, Bool, true, false, ◌||◌, List, [], ◌∷◌, length, refl, ◌∙◌, ap, arith, eqb, Option, Some, None, lit<, IfSome, nat_lt, ◌*◌}
+use Rattle.process_core.proofs.Common.{IsDistinct-cons, IsDistinct, AllByRecursion, nat_tests, length-le_from_distinct_below, Pid, state_of, with_state, with_mark, without, IsApplication, is_in_activation, answering, is_one_of, has_ended, IsAtTurn, IsSound}
 use Rattle.process_core.specs.declared.process.Process.{Process}
 use Rattle.process_core.specs.declared.state.State.{State}
 use Rattle.process_core.specs.declared.open_work.Continuation.{Continuation}
-use Rattle.process_core.specs.Processes.{state_of, with_state, with_mark, without, IsApplication, IsOfMote}
-use Rattle.process_core.specs.Requests.{is_in_activation}
-use Rattle.process_core.specs.Code.Nesting.{answering, leaving, is_one_of, IsNested, has_ended, AreIn, IsAtTurn, IsSound}
+use Rattle.process_core.specs.Processes.{IsOfMote}
+use Rattle.process_core.specs.Code.Nesting.{leaving, IsNested, AreIn}
 
 -- each continuation is one of these
 short : (stack : List Continuation) → length stack ≤ length (answering stack) + length (leaving stack)
@@ -64,8 +58,7 @@ OthersStay p old new = (q : ℕ) → eqb q p ≡ false → state_of q new ≡ st
 -- what passes no test is none of those that pass it
 pub none_in : (test : State → Bool) (list : List Process) (xs : List ℕ) (p : ℕ)
     → AreIn test list xs → test (state_of p list) ≡ false → is_one_of p xs ≡ false
-none_in test list xs p are e =
-    not_true (is_one_of p xs) (λ h. let passes : test (state_of p list) ≡ true = are p h in absurd (cc))
+none_in test list xs p are e = grind (arith, nat_tests, not_true)
 
 -- one more of them
 one_more : (test : State → Bool) (list : List Process) (xs : List ℕ) (p : ℕ)
@@ -295,11 +288,7 @@ state_behind p q list h = grind (arith, nat_tests)
 
 -- only applications are ever absent
 application_from_absent : (n : ℕ) (list : List Process) (p : ℕ) → IsOfMote n list → state_of p list ≡ State.Absent → 4 ≤ p
-application_from_absent n list p mote absent = split (nat_lt p 4) refl
-  where
-    split : (b : Bool) → nat_lt p 4 ≡ b → 4 ≤ p
-    split true e = let runs = mote.kernel p (grind (arith, nat_tests, e)) in absurd (cc)
-    split false e = grind (arith, nat_tests, e)
+application_from_absent n list p mote absent = grind (arith, nat_tests)
 
 pub sound-started : (n : ℕ) (list : List Process) (stack : List Continuation) (p : ℕ)
     → IsSound n list stack None → p < 4 + n → state_of p list ≡ State.Absent

@@ -1,11 +1,7 @@
 -- What a walk comes to next.
-use Rattle.std.proofs.Common.{◌≡◌, ◌≤◌, ℕ, Bool, true, false, List, [], ◌∷◌, length, drop, refl, arith, Option, Some, None}
-use Rattle.std.specs.Prelude.{slice_get, IfNone}
-use Rattle.std.proofs.lemmas.Bool.Decides.{nat_tests}
+use Rattle.std.proofs.Common.{◌≡◌, ◌≤◌, ℕ, Bool, true, false, List, [], ◌∷◌, length, drop, refl, arith, Option, Some, None, slice_get, IfNone}
+use Rattle.process_core.proofs.Common.{nat_tests, is_marked, from_marked, is_one_of}
 use Rattle.process_core.specs.declared.process.Process.{Process}
-use Rattle.process_core.specs.Processes.{is_marked}
-use Rattle.process_core.specs.Code.Walks.{from_marked}
-use Rattle.process_core.specs.Code.Nesting.{is_one_of}
 
 pub first_and_rest : {A : Type 0} (xs : List A) (x : A) → slice_get xs 0 ≡ Some x → xs ≡ x ∷ drop 1 xs
 first_and_rest [] x e = absurd (cc)
@@ -17,11 +13,7 @@ none_first (x ∷ xs) e = absurd (cc)
 
 pub length-from_marked : (list : List Process) (walk : List ℕ) → length (from_marked list walk) ≤ length walk
 length-from_marked list [] = omega arith
-length-from_marked list (p ∷ walk) = split (is_marked p list) refl (length-from_marked list walk)
-  where
-    split : (b : Bool) → is_marked p list ≡ b → length (from_marked list walk) ≤ length walk → length (from_marked list (p ∷ walk)) ≤ length (p ∷ walk)
-    split true e later = rw e (omega arith)
-    split false e later = rw e (omega (arith, later))
+length-from_marked list (p ∷ walk) = grind (arith, nat_tests, length-from_marked list walk)
 
 -- what is true is true where there is none
 pub if_none : {A : Type 0} {P : Type 0} (x : Option A) → P → IfNone x P

@@ -1,30 +1,14 @@
 -- Work that is done in parts.
-use Rattle.std.proofs.Common.{◌≡◌, ℕ, zero, suc, Bool, true, false, List, [], ◌∷◌, ◌++◌, refl, sym, ◌∙◌, ap, arith, Option, Some, None}
-use Rattle.std.specs.Prelude.{is_some, drop, map, slice_get, not, ◌&&◌, ◌≤◌}
-use Rattle.std.proofs.lemmas.Bool.Decides.{nat_tests}
-use Rattle.mote_types.specs.declared.event.Stimulus.{Stimulus}
+use Rattle.std.proofs.Common.{◌≡◌, ℕ, zero, suc, Bool, true, false, List, [], ◌∷◌, ◌++◌, refl, sym, ◌∙◌, ap, arith, Option, Some, None, is_some, drop, map, slice_get, not, ◌&&◌, ◌≤◌}
+use Rattle.process_core.proofs.Common.{nat_tests, Stimulus, Pid, scheduler_behind, queued_of, from_marked, Event, Origin, POLL, plain_event, numbers, is_any_marked, is_marked, with_mark, is_running, is_kernel_process, Queued, Item, Job, Scheduler, after_front, job, after_items, in_front, of_event, first_event, state_in, job_of_give, Yields}
 use Rattle.circular_buffer.specs.Buffer.{Buffer}
-use Rattle.mote_types.specs.declared.event.Pid.{Pid}
 use Rattle.process_core.specs.declared.scheduler_fields.SchedulerFields.{SchedulerFields}
 use Rattle.process_core.specs.declared.queued.Queued as code
-use Rattle.process_core.specs.Code.SchedulerFields.{scheduler_behind, queued_of}
-use Rattle.process_core.specs.Code.Walks.{from_marked}
-use Rattle.mote_types.specs.declared.event.Event.{Event}
-use Rattle.mote_types.specs.declared.event.Origin.{Origin}
-use Rattle.mote_types.specs.EventNumbers.{INIT, POLL}
-use Rattle.mote_types.specs.Codes.{plain_event}
+use Rattle.mote_types.specs.EventNumbers.{INIT}
 use Rattle.process_core.specs.declared.state.State.{State}
-use Rattle.process_core.specs.Processes.{numbers, is_any_marked, is_marked, with_mark, is_running, is_kernel_process}
-use Rattle.process_core.specs.Agenda.{Queued, Item, Job}
-use Rattle.process_core.specs.Scheduler.{Scheduler, after_front, job, after_items, in_front, of_event, first_event, state_in, job_of_give}
-use Rattle.process_core.specs.Code.Yields.{Yields}
 
 not_running : (state : State) → (state ≡ State.Running → ⊥) → is_running state ≡ false
-not_running State.Running h = absurd (h refl)
-not_running State.Absent h = refl
-not_running State.Called h = refl
-not_running State.Leaving h = refl
-not_running State.Ending h = refl
+not_running state h = grind (arith, nat_tests)
 
 module _ {X : Type 0} where
   -- an item that is no job comes first
@@ -61,9 +45,7 @@ module _ {X : Type 0} where
       (r.0, ap job same ∙ y.1, ap after_front same ∙ y.2)
 
   no_service : (p : ℕ) (stimulus : Stimulus) → 4 ≤ p → job_of_give {X = X} p stimulus ≡ None
-  no_service p (Stimulus.Event event) h = let e : is_kernel_process p ≡ false = grind (arith, nat_tests, h) in rw e refl
-  no_service p (Stimulus.Answer reply) h = refl
-  no_service p (Stimulus.Callback number) h = refl
+  no_service p stimulus h = grind (arith, nat_tests)
 
   -- an application that doesn't run is given nothing
   pub give_yields_nothing : (s : Scheduler X) (p : ℕ) (origin : Origin) (stimulus : Stimulus) → 4 ≤ p → (state_in s p ≡ State.Running → ⊥)

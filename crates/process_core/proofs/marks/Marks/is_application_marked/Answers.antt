@@ -1,5 +1,5 @@
 use Rattle.std.proofs.Common.{arith}
-use Rattle.std.proofs.lemmas.Bool.Decides.{nat_tests}
+use Rattle.process_core.proofs.Common.{nat_tests}
 use Rattle.process_core.proofs.Counting.{counted_apart}
 use Rattle.process_core.proofs.marks.Marks.is_application_marked.Goals as goal
 

@@ -1,5 +1,4 @@
-use Rattle.std.proofs.Common.{◌∷◌, ◌∙◌, ap, false}
-use Rattle.std.specs.Prelude.{List}
+use Rattle.std.proofs.Common.{◌∷◌, ◌∙◌, ap, false, List}
 use Rattle.process_core.specs.declared.process.Process.{Process}
 use Rattle.process_core.specs.declared.state.State.{State}
 use Rattle.process_core.proofs.Listed.{added_listed, ends_added, kept_added, off_list, room_for}

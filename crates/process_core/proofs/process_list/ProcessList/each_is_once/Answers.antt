@@ -1,5 +1,5 @@
 use Rattle.std.proofs.Common.{◌≡◌, sym, ◌∙◌, ap}
-use Rattle.process_core.specs.Processes.{numbers}
+use Rattle.process_core.proofs.Common.{numbers}
 use Rattle.process_core.proofs.Listed.{numbers_listed}
 use Rattle.process_core.proofs.process_list.ProcessList.each_is_once.Goals as goal
 

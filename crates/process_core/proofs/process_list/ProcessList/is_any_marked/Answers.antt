@@ -1,6 +1,5 @@
-use Rattle.std.proofs.Common.{sym, ◌∙◌, ap}
-use Rattle.std.specs.Prelude.{nat_lt}
-use Rattle.process_core.specs.Processes.{is_any_marked}
+use Rattle.std.proofs.Common.{sym, ◌∙◌, ap, nat_lt}
+use Rattle.process_core.proofs.Common.{is_any_marked}
 use Rattle.process_core.proofs.Counting.{any_counted}
 use Rattle.process_core.proofs.process_list.ProcessList.is_any_marked.Goals as goal
 

@@ -1,5 +1,5 @@
 use Rattle.std.proofs.Common.{sym, ◌∙◌, ap}
-use Rattle.process_core.specs.Processes.{is_marked}
+use Rattle.process_core.proofs.Common.{is_marked}
 use Rattle.process_core.proofs.Listed.{marked_kept}
 use Rattle.process_core.proofs.process_list.ProcessList.is_marked.Goals as goal
 

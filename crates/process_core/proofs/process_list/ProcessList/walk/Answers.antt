@@ -1,6 +1,6 @@
 use Rattle.std.proofs.Common.{◌≡◌, sym, ◌∙◌, ap, arith}
+use Rattle.process_core.proofs.Common.{numbers}
 use Rattle.std.proofs.lemmas.Grind.{common_steps}
-use Rattle.process_core.specs.Processes.{numbers}
 use Rattle.process_core.proofs.Listed.{numbers_listed}
 use Rattle.process_core.proofs.process_list.ProcessList.walk.Goals as goal
 

@@ -1,9 +1,7 @@
-use Rattle.std.proofs.Common.{◌≡◌, sym, ◌∙◌, ap}
-use Rattle.process_core.specs.Processes.{numbers, without}
-use Rattle.process_core.specs.Code.ProcessList.{others}
+use Rattle.std.proofs.Common.{◌≡◌, sym, ◌∙◌, ap, List}
+use Rattle.process_core.proofs.Common.{numbers, without, others}
 use Rattle.process_core.proofs.Listed.{numbers_listed, without_listed}
 use Rattle.process_core.specs.declared.process.Process.{Process}
-use Rattle.std.specs.Prelude.{List}
 use Rattle.process_core.proofs.process_list.ProcessList.walk_others.Goals as goal
 
 pub returns : goal.returns

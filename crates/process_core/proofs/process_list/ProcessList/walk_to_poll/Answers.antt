@@ -1,5 +1,5 @@
 use Rattle.std.proofs.Common.{◌≡◌, [], ◌-◌, length, refl, sym, ◌∙◌, ap, arith}
-use Rattle.process_core.specs.Processes.{numbers}
+use Rattle.process_core.proofs.Common.{numbers}
 use Rattle.process_core.proofs.Counting.{no_application_marked}
 use Rattle.process_core.proofs.Listed.{ends_at, numbers_listed}
 use Rattle.process_core.proofs.process_list.ProcessList.walk_to_poll.Goals as goal

@@ -1,6 +1,6 @@
 use Rattle.std.proofs.Common.{arith}
+use Rattle.process_core.proofs.Common.{nat_tests}
 use Rattle.std.proofs.lemmas.List.{length-map}
-use Rattle.std.proofs.lemmas.Bool.Decides.{nat_tests}
 use Rattle.process_core.proofs.scheduler.Scheduler.has_room.Goals as goal
 
 pub returns : goal.returns

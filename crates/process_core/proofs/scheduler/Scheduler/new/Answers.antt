@@ -1,5 +1,5 @@
 use Rattle.std.proofs.Common.{◌-◌, length, refl, ◌∙◌, ap, arith}
-use Rattle.std.specs.List.{range_with_len}
+use Rattle.process_core.proofs.Common.{range_with_len}
 use Rattle.std.proofs.lemmas.List.FromFn.{length-range_with_len}
 use Rattle.process_core.proofs.Boot.{range_more, order_at_boot}
 use Rattle.process_core.proofs.scheduler.Scheduler.new.Goals as goal

@@ -1,8 +1,6 @@
 use Rattle.std.proofs.Common.{Some}
-use Rattle.process_core.specs.Code.SchedulerFields.{scheduler_behind, scheduler_of, HoldsEvent, IsInOrder}
-use Rattle.process_core.specs.Scheduler.{ComesTo}
-use Rattle.process_core.specs.Code.SchedulerView.{job_of}
-use Rattle.process_core.specs.Code.NextJobs.{job_told}
+use Rattle.process_core.proofs.Common.{scheduler_behind, scheduler_of, IsInOrder, ComesTo, job_of, job_told}
+use Rattle.process_core.specs.Code.SchedulerFields.{HoldsEvent}
 use Rattle.process_core.proofs.Order.{behind_is_all}
 use Rattle.process_core.proofs.Rest.{applications_from_comes_to, idle_from_rest, served_below, nothing_shown}
 use Rattle.process_core.proofs.Yields.{yields_after}

@@ -1,5 +1,5 @@
 use Rattle.std.proofs.Common.{◌≡◌, true, sym, ◌∙◌}
-use Rattle.process_core.specs.Code.LonePoll.{polls_alone}
+use Rattle.process_core.proofs.Common.{polls_alone}
 use Rattle.process_core.proofs.LonePoll.{all_three, lone_poll, no_events}
 use Rattle.process_core.proofs.scheduler.Scheduler.polls_alone.Goals as goal
 use Rattle.process_core.proofs.scheduler.Scheduler.polls_alone.Goals.{then-is_only_marked, else-is_only_marked}

@@ -1,5 +1,5 @@
 use Rattle.std.proofs.Common.{◌≡◌, false, ◌∙◌, refl}
-use Rattle.process_core.specs.Processes.{is_ending, state_of}
+use Rattle.process_core.proofs.Common.{is_ending, state_of}
 use Rattle.process_core.proofs.Order.{no_front, not_ending, order_waited}
 use Rattle.process_core.proofs.scheduler.Scheduler.waited.Goals as goal
 

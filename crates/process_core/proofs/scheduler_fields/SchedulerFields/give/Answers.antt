@@ -1,5 +1,5 @@
 use Rattle.std.proofs.Common.{arith, sym, ◌∙◌, refl}
-use Rattle.process_core.specs.Code.SchedulerFields.{scheduler_behind}
+use Rattle.process_core.proofs.Common.{scheduler_behind}
 use Rattle.process_core.proofs.Order.{order_given}
 use Rattle.process_core.proofs.Yields.{give_yields_nothing}
 use Rattle.process_core.proofs.scheduler_fields.SchedulerFields.give.Goals as goal

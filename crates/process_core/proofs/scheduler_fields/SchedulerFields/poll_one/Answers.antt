@@ -1,5 +1,5 @@
 use Rattle.std.proofs.Common.{sym, false}
-use Rattle.process_core.specs.Code.SchedulerFields.{scheduler_behind}
+use Rattle.process_core.proofs.Common.{scheduler_behind}
 use Rattle.process_core.proofs.Order.{order_marked}
 use Rattle.process_core.proofs.Yields.{poll_one_yields}
 use Rattle.process_core.proofs.scheduler_fields.SchedulerFields.poll_one.Goals as goal

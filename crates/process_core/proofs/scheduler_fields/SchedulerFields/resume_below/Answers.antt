@@ -1,8 +1,5 @@
 use Rattle.std.proofs.Common.{◌≡◌, [], drop, length, sym, ap, arith, Some}
-use Rattle.process_core.specs.Code.SchedulerView.{job_of}
-use Rattle.process_core.specs.Code.NextJobs.{job_told}
-use Rattle.process_core.specs.Code.SchedulerFields.{scheduler_behind}
-use Rattle.process_core.specs.Code.Walks.{from_marked}
+use Rattle.process_core.proofs.Common.{job_of, job_told, scheduler_behind, from_marked}
 use Rattle.process_core.proofs.Below.{polls_yield, polls_end}
 use Rattle.process_core.proofs.Walks.{first_and_rest, none_first, length-from_marked, if_none}
 use Rattle.process_core.proofs.scheduler_fields.SchedulerFields.resume_below.Goals as goal

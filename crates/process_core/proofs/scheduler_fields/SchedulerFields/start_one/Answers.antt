@@ -1,5 +1,5 @@
 use Rattle.std.proofs.Common.{sym}
-use Rattle.process_core.specs.Code.SchedulerFields.{scheduler_behind}
+use Rattle.process_core.proofs.Common.{scheduler_behind}
 use Rattle.process_core.proofs.Order.{order_started}
 use Rattle.process_core.proofs.Yields.{start_yields}
 use Rattle.process_core.proofs.scheduler_fields.SchedulerFields.start_one.Goals as goal

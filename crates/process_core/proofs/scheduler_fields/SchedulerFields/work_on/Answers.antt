@@ -1,7 +1,5 @@
 use Rattle.std.proofs.Common.{Some, None}
-use Rattle.process_core.specs.Code.SchedulerView.{job_of}
-use Rattle.process_core.specs.Code.NextJobs.{job_told}
-use Rattle.process_core.specs.Code.SchedulerFields.{scheduler_behind}
+use Rattle.process_core.proofs.Common.{job_of, job_told, scheduler_behind}
 use Rattle.process_core.proofs.Yields.{yields_after}
 use Rattle.process_core.proofs.scheduler_fields.SchedulerFields.work_on.Goals as goal
 

@@ -1,5 +1,5 @@
 use Rattle.std.proofs.Common.{◌≡◌, length}
-use Rattle.process_core.specs.Code.Walks.{from_marked}
+use Rattle.process_core.proofs.Common.{from_marked}
 use Rattle.process_core.proofs.walk.Walk.next_marked.Given as goal
 
 abbrev pub invariant-loop-pid : goal.invariant-loop-pid
