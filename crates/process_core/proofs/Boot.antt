@@ -1,5 +1,5 @@
 -- The scheduler at boot.
-use Rattle.std.proofs.Common.{◌≡◌, ℕ, zero, suc, ◌+◌, ◌<◌, ◌≤◌, Bool, true, false, [], ◌∷◌, ◌++◌, refl, arith, eqb, None, add-one}
+use Rattle.std.proofs.Common.{◌≡◌, ℕ, zero, suc, ◌+◌, ◌<◌, ◌≤◌, true, [], ◌∷◌, ◌++◌, arith, None, add-one}
 use Rattle.process_core.proofs.Common.{range_with_len, nat_tests, at_first, state_of, is_one_of, IsSound, IsInOrder}
 use Rattle.process_core.specs.declared.scheduler_fields.SchedulerFields.{SchedulerFields}
 use Rattle.process_core.specs.declared.open_work.Base.{Base}

@@ -1,6 +1,6 @@
 -- When nothing is left to be done.
-use Rattle.std.proofs.Common.{◌≡◌, ℕ, zero, suc, ◌≤◌, ◌==◌, Bool, true, false, ◌&&◌, nat_eq, List, [], ◌∷◌, ◌++◌, length, drop, refl, ap, ◌∙◌, arith, map, flat_map, reverse}
-use Rattle.process_core.proofs.Common.{length-reverse, nat_tests, Event, Item, is_empty, front_items, items_of, poll_items, base_items, agenda_of}
+use Rattle.std.proofs.Common.{◌≡◌, ℕ, zero, suc, ◌≤◌, ◌==◌, Bool, true, false, ◌&&◌, nat_eq, List, [], ◌∷◌, ◌++◌, length, drop, refl, ◌∙◌, arith, map, flat_map, reverse}
+use Rattle.process_core.proofs.Common.{length-reverse, nat_tests, Event, is_empty, front_items, items_of, base_items, agenda_of}
 use Rattle.process_core.specs.declared.open_work.Base.{Base}
 use Rattle.process_core.specs.declared.open_work.Continuation.{Continuation}
 use Rattle.process_core.specs.declared.scheduler_fields.SchedulerFields.{SchedulerFields}

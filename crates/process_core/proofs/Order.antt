@@ -1,6 +1,6 @@
 -- The parts stay in order.
-use Rattle.std.proofs.Common.{◌≡◌, ℕ, ◌+◌, ◌*◌, ◌<◌, ◌≤◌, Bool, true, false, List, [], ◌∷◌, ◌++◌, length, refl, ap, arith, Option, Some, None, reverse, IfSome}
-use Rattle.process_core.proofs.Common.{nat_tests, length-reverse, Event, Pid, Reply, is_ending, state_of, with_state, with_mark, without, IsApplication, IsSound, IsAtTurn, has_ended, answering, is_in_activation, IsInOrder, BootsKnown, scheduler_behind, scheduler_of, front_items}
+use Rattle.std.proofs.Common.{◌≡◌, ℕ, ◌+◌, ◌*◌, ◌<◌, ◌≤◌, Bool, true, false, List, [], ◌∷◌, ◌++◌, length, ap, arith, Option, Some, None, reverse}
+use Rattle.process_core.proofs.Common.{nat_tests, length-reverse, Event, Pid, Reply, is_ending, state_of, with_state, with_mark, without, IsApplication, IsSound, has_ended, answering, is_in_activation, IsInOrder, BootsKnown, scheduler_behind, scheduler_of, front_items}
 use Rattle.std.proofs.lemmas.List.{reverse-append}
 use Rattle.process_core.specs.declared.scheduler_fields.SchedulerFields.{SchedulerFields}
 use Rattle.process_core.specs.declared.process.Process.{Process}

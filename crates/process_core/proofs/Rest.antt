@@ -1,14 +1,10 @@
 -- Where nothing is left to be done.
-use Rattle.std.proofs.Common.{◌≡◌, ℕ, zero, suc, ◌<◌, Bool, true, false, List, [], ◌∷◌, ◌++◌, refl, sym, ◌∙◌, ap, arith, Option, Some, None, if◌then◌else◌, not, ◌&&◌, is_some, map, flat_map, reverse}
-use Rattle.process_core.proofs.Common.{list_any, front_items, items_of, poll_items, base_items, agenda_of, receiver_items, list_any-append, nat_tests, Event, Origin, Stimulus, Reply, is_kernel_process, is_running, is_any_marked, is_marked, Queued, Item, Job, Scheduler, job, after_front, job_of_give, first_event, after_items, ComesTo, state_in, of_event}
+use Rattle.std.proofs.Common.{◌≡◌, ℕ, zero, suc, ◌<◌, Bool, true, false, List, [], ◌∷◌, ◌++◌, refl, sym, ◌∙◌, arith, Option, Some, None, if◌then◌else◌, map, flat_map}
+use Rattle.process_core.proofs.Common.{list_any, front_items, items_of, base_items, agenda_of, receiver_items, list_any-append, nat_tests, Event, Stimulus, Reply, is_kernel_process, Queued, Item, Job, Scheduler, after_front, job_of_give, after_items, ComesTo}
 use Rattle.process_core.specs.declared.open_work.Continuation.{Continuation}
 use Rattle.process_core.specs.declared.open_work.Base.{Base}
 use Rattle.process_core.specs.declared.front.Front.{Front}
 use Rattle.process_core.specs.declared.scheduler_fields.SchedulerFields.{SchedulerFields}
-use Rattle.process_core.specs.Code.OpenWork.{exit_items}
-use Rattle.mote_types.specs.EventNumbers.{EXITED}
-use Rattle.mote_types.specs.Codes.{number_event}
-use Rattle.process_core.specs.Processes.{is_on_list}
 use Rattle.process_core.specs.Scheduler.{after_front_of, job_at, job_of_item, job_of_event, wants_round, after_item, is_shown}
 
 module _ {X : Type 0} where
