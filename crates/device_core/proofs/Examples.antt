@@ -1,7 +1,7 @@
 -- Queues of frames that are none.
 use Rattle.std.proofs.Common.{ℕ, List, [], ◌∷◌, replicate, Option, Some, None, arith}
+use Rattle.device_core.proofs.Common.{PacketQueue, IsWellFormed}
 use Rattle.device_core.specs.declared.frame.Frame.{Frame}
-use Rattle.device_core.specs.PacketQueue.{PacketQueue, IsWellFormed}
 
 held : List Frame → ℕ → Option ℕ → PacketQueue
 held frames announced receiver = record { frames = frames; announced = announced; receiver = receiver }

@@ -2,3 +2,4 @@ mod Examples
 pub mod Lines
 pub mod Slots
 pub mod TakenTogether
+pub mod Common

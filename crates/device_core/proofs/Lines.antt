@@ -1,11 +1,10 @@
 -- Lines, byte by byte.
-use Rattle.std.proofs.Common.{◌≡◌, ℕ, zero, suc, ◌≤◌, ◌<◌, ◌+◌, ◌-◌, Bool, true, false, List, [], ◌∷◌, ◌++◌, length, take, drop, refl, ap, sym, ◌∙◌, arith, append_assoc, Some, None, length-append, length-take, ◌⊎◌, inl, inr}
+use Rattle.std.proofs.Common.{◌≡◌, ℕ, zero, suc, ◌≤◌, ◌<◌, ◌+◌, ◌-◌, Bool, true, false, List, [], ◌∷◌, ◌++◌, length, take, drop, refl, ap, sym, ◌∙◌, arith, append_assoc, Some, None, length-append, length-take, ◌⊎◌, inl, inr, slice_get}
+use Rattle.device_core.proofs.Common.{nat_tests, list_any, after_byte, with_bytes}
 use Rattle.std.proofs.lemmas.List.{take_all, take_at, append-nil}
-use Rattle.std.proofs.lemmas.Bool.Decides.{nat_tests}
-use Rattle.std.specs.Prelude.{slice_get}
-use Rattle.std.specs.List.{list_any, before_first, after_first, position_or_len}
+use Rattle.std.specs.List.{before_first, after_first, position_or_len}
 use Rattle.circular_buffer.specs.Buffer.{keep_last}
-use Rattle.device_core.specs.SerialLine.{SerialLine, next_line, after_line, after_byte, with_bytes, is_line_end}
+use Rattle.device_core.specs.SerialLine.{SerialLine, next_line, after_line, is_line_end}
 
 abbrev pub state : List ℕ → Bool → List ℕ → SerialLine
 state ring overflow line = record { ring = ring; overflow = overflow; line = line }
@@ -54,9 +53,7 @@ before_first_past : (byte : ℕ) (ring : List ℕ) → is_line_end byte ≡ fals
 before_first_past byte ring h = rw (h, one_more (position_or_len is_line_end ring)) refl
 
 after_first_past : (byte : ℕ) (ring : List ℕ) → is_line_end byte ≡ false → after_first is_line_end (byte ∷ ring) ≡ after_first is_line_end ring
-after_first_past byte ring h =
-    let e : 1 + position_or_len is_line_end ring + 1 ≡ suc (position_or_len is_line_end ring + 1) = omega arith in
-    rw (h, e) refl
+after_first_past byte ring h = grind (arith, nat_tests)
 
 serves_alike_past : (byte : ℕ) (ring : List ℕ) (overflow : Bool) (line : List ℕ) → is_line_end byte ≡ false
     → ServesAlike (state ring overflow (with_bytes line (byte ∷ []))) (state (byte ∷ ring) overflow line)
@@ -87,10 +84,7 @@ answer_at_line_end ring line overflow byte s alike first is_end fits =
 
 pub rest_at_empty_ring : (ring line : List ℕ) (overflow : Bool) (s : SerialLine) → ServesAlike (state ring overflow line) s
     → slice_get ring 0 ≡ None → length line ≤ 127 → after_line s ≡ state (drop 1 ring) overflow line
-rest_at_empty_ring ring line overflow s alike empty fits =
-    let none : ring ≡ [] = nothing_first ring empty in
-    let now : after_line (state [] overflow line) ≡ state [] overflow line = ap (state [] overflow) (with_bytes_nil line fits) in
-    sym alike.rest ∙ ap (λ r. after_line (state r overflow line)) none ∙ now ∙ ap (λ r. state (drop 1 r) overflow line) (sym none)
+rest_at_empty_ring ring line overflow s alike empty fits = grind (arith, nat_tests, nothing_first, with_bytes_nil)
 
 -- a buffer that has room keeps all it held
 pub keep_last_all : (n : ℕ) (xs : List ℕ) (x : ℕ) → length xs < n → keep_last n (xs ++ x ∷ []) ≡ xs ++ x ∷ []

@@ -1,7 +1,7 @@
 -- Slots of frames: which are held, and which is the least free one.
-use Rattle.std.proofs.Common.{◌≡◌, ℕ, zero, suc, ◌+◌, ◌-◌, ◌≤◌, ◌<◌, Bool, true, false, List, [], ◌∷◌, ◌++◌, length, drop, map, refl, ap, ◌∙◌, arith, eqb, Option, Some, None, All, inl, inr}
-use Rattle.std.specs.List.{find, list_any, range_with_len, IsDistinct}
-use Rattle.std.specs.Prelude.{not, ◌==◌}
+use Rattle.std.proofs.Common.{◌≡◌, ℕ, zero, suc, ◌+◌, ◌-◌, ◌≤◌, ◌<◌, Bool, true, false, List, [], ◌∷◌, ◌++◌, length, drop, map, refl, ap, ◌∙◌, arith, eqb, Option, Some, None, All, inl, inr, not, ◌==◌}
+use Rattle.device_core.proofs.Common.{nat_tests, list_any, PacketQueue, free_slot, IsWellFormed}
+use Rattle.std.specs.List.{find, range_with_len, IsDistinct}
 use Rattle.std.proofs.lemmas.Bool.{eqb-true}
 use Rattle.std.proofs.lemmas.Bool.Decides.{eqb_tells}
 use Rattle.std.proofs.lemmas.Cmp.{nat_eq_equiv}
@@ -10,7 +10,7 @@ use Rattle.std.proofs.lemmas.List.Elements.{All-append}
 use Rattle.std.proofs.lemmas.List.FromFn.{get_or-range_with_len}
 use Rattle.std.proofs.lemmas.Map.Keys.{IsDistinct-push, IsDistinct-tail}
 use Rattle.std.proofs.lemmas.Map.Steps.{length-le_from_distinct_below, le-length_from_below}
-use Rattle.device_core.specs.PacketQueue.{PacketQueue, no_packets, is_held, free_slot, with_frame, IsWellFormed}
+use Rattle.device_core.specs.PacketQueue.{no_packets, is_held, with_frame}
 use Rattle.device_core.specs.declared.frame.Frame.{Frame}
 
 -- the least slot from this one on that no held frame has
@@ -30,28 +30,15 @@ free_slot_from_more queue slot below held =
 -- the first that passes among n numbers from a on
 find_passes : (p : ℕ → Bool) (a n x : ℕ) → find p (range_with_len a n) ≡ Some x → p x ≡ true
 find_passes p a zero x h = absurd (cc)
-find_passes p a (suc n) x h = split (p a) refl (find_passes p (a + 1) n x)
-  where
-    split : (b : Bool) → p a ≡ b → (find p (range_with_len (a + 1) n) ≡ Some x → p x ≡ true) → p x ≡ true
-    split true e more = let same : Some a ≡ Some x = rw e at h in cc
-    split false e more = more (rw e at h)
+find_passes p a (suc n) x h = grind (arith, nat_tests, find_passes p (a + 1) n x)
 
 find_below : (p : ℕ → Bool) (a n x : ℕ) → find p (range_with_len a n) ≡ Some x → x < a + n
 find_below p a zero x h = absurd (cc)
-find_below p a (suc n) x h = split (p a) refl (find_below p (a + 1) n x)
-  where
-    split : (b : Bool) → p a ≡ b → (find p (range_with_len (a + 1) n) ≡ Some x → x < a + 1 + n) → x < a + suc n
-    split true e more = let same : Some a ≡ Some x = rw e at h in let is : a ≡ x = cc in omega arith
-    split false e more = let below : x < a + 1 + n = more (rw e at h) in omega arith
+find_below p a (suc n) x h = grind (arith, nat_tests, find_below p (a + 1) n x)
 
 none_passes : (p : ℕ → Bool) (a n k : ℕ) → find p (range_with_len a n) ≡ None → a ≤ k → k < a + n → p k ≡ false
 none_passes p a zero k h from below = absurd (omega arith)
-none_passes p a (suc n) k h from below = split (p a) refl (none_passes p (a + 1) n k)
-  where
-    split : (b : Bool) → p a ≡ b → (find p (range_with_len (a + 1) n) ≡ None → a + 1 ≤ k → k < a + 1 + n → p k ≡ false) → p k ≡ false
-    split true e more = let same : Some a ≡ None = rw e at h in absurd (cc)
-    split false e more =
-        elim (eqb_tells a k) [ inl is ↦ rw (← is.1) e | inr other ↦ let later : a < k = omega (arith, other.1) in more (rw e at h) (omega arith) (omega arith) ]
+none_passes p a (suc n) k h from below = grind (arith, nat_tests, none_passes p (a + 1) n k)
 
 abbrev slots_of : List Frame → List ℕ
 slots_of frames = map (λ frame. frame.slot) frames

@@ -1,10 +1,7 @@
 -- Bytes of which none is ignored or lost go into the ring together.
 use Rattle.std.proofs.Common.{◌≡◌, ℕ, ◌≤◌, ◌+◌, ◌-◌, Bool, true, false, List, [], ◌∷◌, ◌++◌, length, take, refl, ap, ◌∙◌, arith, append_assoc, length-append, inl, min, ◌==◌}
+use Rattle.device_core.proofs.Common.{nat_tests, list_any, after_bytes, takes_all}
 use Rattle.std.proofs.lemmas.List.{take_all, append-nil}
-use Rattle.std.proofs.lemmas.Bool.Decides.{nat_tests}
-use Rattle.std.specs.List.{list_any}
-use Rattle.device_core.specs.SerialLine.{after_bytes}
-use Rattle.device_core.specs.Code.Taking.{takes_all}
 use Rattle.device_core.proofs.Lines.{state, byte_taken}
 
 -- none of the bytes is ignored, and the ring has room for all of them
@@ -25,12 +22,7 @@ after_bytes_that_fit ring (byte ∷ bytes) line fits =
 
 pub after_bytes_all_taken : (ring bytes line : List ℕ) (overflow : Bool) → takes_all (state ring overflow line) bytes ≡ true
     → after_bytes (state ring overflow line) bytes ≡ state (ring ++ bytes) overflow line
-after_bytes_all_taken ring bytes line true all = absurd (cc)
-after_bytes_all_taken ring bytes line false all =
-    after_bytes_that_fit ring bytes line (record {
-      none_ignored = grind (arith, nat_tests, all);
-      room = grind (arith, nat_tests, all);
-    })
+after_bytes_all_taken ring bytes line overflow all = grind (arith, nat_tests, after_bytes_that_fit)
 
 -- the ring then has room, so that no byte is left out
 pub none_left : (ring bytes line : List ℕ) (overflow : Bool) (count : ℕ) → takes_all (state ring overflow line) bytes ≡ true

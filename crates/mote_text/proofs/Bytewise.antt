@@ -1,14 +1,11 @@
 -- Reading a script byte by byte gives its inputs.
 use Rattle.std.proofs.Common.{◌≡◌, ◌<◌, ◌≤◌, ◌+◌, ℕ, zero, suc, Bool, true, false, not, List, [], ◌∷◌, ◌++◌, length, take, None, if◌then◌else◌, nat_lt, ◌==◌, refl, ap, ◌∙◌, arith, lt-ltb, le-ltb, ltb-true, ltb-false, append_assoc, length-append}
-use Rattle.std.specs.List.{onto_first}
-use Rattle.std.proofs.lemmas.Bool.Decides.{nat_tests}
+use Rattle.mote_text.proofs.Common.{onto_first, nat_tests, slice_split-cons_yes, slice_split-cons_no, read_on, with_line, read_line, read_lines, line_limit, script_limit, with_last_line, parts, inputs}
 use Rattle.std.proofs.lemmas.List.{append-nil}
-use Rattle.std.proofs.lemmas.List.Splits.{slice_split-cons_yes, slice_split-cons_no}
 use Rattle.std.proofs.Math.Seq.{take-nil}
 use Rattle.mote_text.specs.declared.script.End.{End}
 use Rattle.mote_text.proofs.WholeLines.{some_part}
-use Rattle.mote_text.specs.Code.Reading.{read_on}
-use Rattle.mote_text.specs.Script.{Reading, with_line, read_line, read_lines, line_limit, script_limit, with_last_line, parts, inputs}
+use Rattle.mote_text.specs.Script.{Reading}
 
 -- the same by lines
 

@@ -1,19 +1,15 @@
 -- Worked examples: what small scripts give, and what small transcripts show.
 use Rattle.std.proofs.Common.{◌≡◌, ◌≤◌, ℕ, true, [], ◌∷◌, codes, refl, ◌∙◌, arith, lit≤}
+use Rattle.mote_text.proofs.Common.{encode_with, Entry, Input, entry_line, line_of, inputs, read_line, script_limit, whole_lines}
 use Rattle.std.specs.Fmt.{digits}
-use Rattle.hex.specs.Hex.{encode_with}
 use Rattle.mote_types.specs.declared.call.Call.{Call}
-use Rattle.mote_types.specs.declared.entry.Entry.{Entry}
-use Rattle.mote_types.specs.declared.entry.Input.{Input}
 use Rattle.mote_types.specs.declared.entry.Note.{Note}
 use Rattle.mote_types.specs.declared.event.Origin.{Origin}
 use Rattle.mote_types.specs.declared.event.Stimulus.{Stimulus}
 use Rattle.mote_types.specs.declared.refusal.Refusal.{Refusal}
 use Rattle.mote_types.specs.declared.reply.Reply.{Reply}
-use Rattle.mote_text.specs.EntryText.{entry_line, line_of}
 use Rattle.mote_text.specs.declared.script.End.{End}
 use Rattle.mote_text.proofs.WholeLines.{inputs_of_short}
-use Rattle.mote_text.specs.Script.{inputs, read_line, script_limit, whole_lines}
 use Rattle.mote_text.specs.Transcript.{final_line, shown, text}
 
 small : (n : ℕ) → n ≤ 1000 → n ≤ script_limit

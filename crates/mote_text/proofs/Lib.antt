@@ -8,3 +8,4 @@ mod ShownBytes
 mod Spaced
 mod Ticks
 mod WholeLines
+pub mod Common

@@ -1,20 +1,15 @@
 -- The line of an input in the transcript is its script's line in lower case.
 use Rattle.std.proofs.Common.{◌≡◌, inl, inr, ◌<◌, ◌≢◌, ◌^◌, ◌+◌, ◌*◌, ◌/◌, ◌%◌, ◌==◌, ◌&&◌, ℕ, zero, suc, Bool, true, false, List, [], ◌∷◌, ◌++◌, length, map, take, codes, decimal, bytes_eq, nat_le, nat_lt, slice_index, unwrap_or, Option, Some, None, option_map, option_and_then, Result, Ok, Err, refl, sym, ap, subst, ◌∙◌, arith, ne_eqb}
-use Rattle.std.specs.Char.{is_ascii_digit, to_ascii_lowercase}
-use Rattle.std.specs.List.{list_all}
-use Rattle.std.specs.Option.{option_or}
+use Rattle.mote_text.proofs.Common.{is_ascii_digit, list_all, option_or, digits_value, nat_tests, encode_lower, encode_with, lower_digits, Entry, Input, entry_line, line_of, argument_of, is_number, line_limit, read_bytes, read_line, read_number, says_nothing}
+use Rattle.std.specs.Char.{to_ascii_lowercase}
 use Rattle.std.specs.Result.{result_ok, result_unwrap_or}
-use Rattle.std.specs.Str.Parse.{digits_value}
 use Rattle.std.proofs.lemmas.Bool.{and_parts, cases_lt, eqb-true}
-use Rattle.std.proofs.lemmas.Bool.Decides.{nat_tests}
 use Rattle.std.proofs.lemmas.List.{append-nil}
-use Rattle.hex.specs.Hex.{decode_of, decode_pairs, digit_or_error, encode_lower, encode_with, hex_digit_value, lower_digits, pair_value, value_at, ◌>>=◌}
+use Rattle.hex.specs.Hex.{decode_of, decode_pairs, digit_or_error, hex_digit_value, pair_value, value_at, ◌>>=◌}
 use Rattle.hex.specs.declared.error.FromHexError.{FromHexError}
 use Rattle.hex.proofs.HexLemmas.{decode_of-even, decode_of-ok}
-use Rattle.mote_types.specs.declared.entry.Entry.{Entry}
-use Rattle.mote_types.specs.declared.entry.Input.{Input}
-use Rattle.mote_text.specs.EntryText.{entry_line, hex, line_of}
-use Rattle.mote_text.specs.Script.{argument_of, is_number, line_limit, read_bytes, read_line, read_number, read_words, says_nothing}
+use Rattle.mote_text.specs.EntryText.{hex}
+use Rattle.mote_text.specs.Script.{read_words}
 use Rattle.mote_text.proofs.Ticks.{behind_word, decimal_of_read}
 
 -- a digit in lower case is the digit of its value
@@ -108,9 +103,7 @@ numeral_if text n false test reads = let none : None ≡ Some n = rw test at rea
 numeral_if text n true test reads = grind (arith, nat_tests, test)
 
 lowered_number : (text : List ℕ) (n : ℕ) → read_number text ≡ Some n → map to_ascii_lowercase text ≡ decimal n
-lowered_number text n reads =
-    lowered_numeral text (numeral_if text n (is_number text && nat_lt (digits_value 10 text) (2 ^ 32)) refl reads)
-    ∙ decimal_of_read text n reads
+lowered_number text n reads = grind (arith, nat_tests, lowered_numeral, numeral_if, decimal_of_read)
 
 -- what a line's argument is read as
 
@@ -130,15 +123,12 @@ hex_if most digits bytes true test reads =
 
 lowered_bytes : (most : ℕ) (digits bytes : List ℕ) → read_bytes most digits ≡ Some bytes →
     map to_ascii_lowercase digits ≡ hex bytes
-lowered_bytes most digits bytes reads =
-    hex_if most digits bytes (nat_le 2 (length digits) && nat_le (length digits) (2 * most)) refl reads
+lowered_bytes most digits bytes reads = grind (arith, nat_tests, hex_if)
 
 argument_is : {A : Type 0} (read : List ℕ → Option A) (word line : List ℕ) (value : A) (argument : Option (List ℕ)) →
     argument_of word line ≡ argument →
     option_and_then read argument ≡ Some value → (text : List ℕ) × (line ≡ word ++ text) × (read text ≡ Some value)
-argument_is read word line value None is reads = absurd (cc)
-argument_is read word line value (Some text) is reads =
-    (text, behind_word word line text (bytes_eq (take (length word) line) word) refl is, reads)
+argument_is read word line value argument is reads = grind (arith, nat_tests, behind_word)
 
 -- a line
 

@@ -1,11 +1,11 @@
 -- A script as far as it was read: what it gives, whatever stands behind. Each lemma reads one byte more, or the end.
 use Rattle.std.proofs.Common.{◌≡◌, ◌≢◌, ◌<◌, ◌≤◌, ◌+◌, ◌-◌, ℕ, suc, List, [], ◌∷◌, ◌++◌, length, Option, Some, None, refl, arith, lt-ltb, le-ltb, append_assoc, length-append, ne_eqb, eq-eqb, ◌∙◌, sym}
+use Rattle.mote_text.proofs.Common.{nat_tests, Input, with_line, read_line, line_limit, script_limit, inputs, read_lines, whole_lines, read_on}
 use Rattle.std.proofs.lemmas.List.{append-nil}
-use Rattle.mote_types.specs.declared.entry.Input.{Input}
 use Rattle.mote_text.specs.declared.script.End.{End}
-use Rattle.mote_text.specs.Script.{preceded_by, with_line, read_line, line_limit, script_limit, inputs, read_lines, whole_lines}
+use Rattle.mote_text.specs.Script.{preceded_by}
 use Rattle.mote_text.proofs.WholeLines.{inputs_of_short, whole_lines_stay, lines_end_whole}
-use Rattle.mote_text.specs.Code.Reading.{Before, read_on}
+use Rattle.mote_text.specs.Code.Reading.{Before}
 use Rattle.mote_text.proofs.Bytewise.{inputs_by_bytes}
 
 pub script_limit_is : script_limit ≡ 16_777_216

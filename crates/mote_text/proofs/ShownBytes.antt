@@ -1,10 +1,8 @@
 -- Bytes of the serial line and of a frame are read as they are shown.
 use Rattle.std.proofs.Common.{◌≡◌, ◌≢◌, ◌≤◌, ◌++◌, ℕ, List, length, codes, Some, arith, le-ltb, ne_eqb}
-use Rattle.std.proofs.lemmas.Bool.Decides.{nat_tests}
-use Rattle.hex.specs.Hex.{IsBytes, encode_lower, lower_digits}
+use Rattle.mote_text.proofs.Common.{nat_tests, encode_lower, lower_digits, Input, read_bytes, read_line}
+use Rattle.hex.specs.Hex.{IsBytes}
 use Rattle.hex.proofs.HexLemmas.{length-encode_with, decode_of-encode_lower}
-use Rattle.mote_types.specs.declared.entry.Input.{Input}
-use Rattle.mote_text.specs.Script.{read_bytes, read_line}
 
 read_shown : (most : ℕ) (bytes : List ℕ) → IsBytes bytes → 1 ≤ length bytes → length bytes ≤ most → read_bytes most (encode_lower bytes) ≡ Some bytes
 read_shown most bytes are some few =

@@ -1,15 +1,10 @@
 -- The lines of a tick are exactly `tick ` and a number below 2 ^ 32 as it is written.
 use Rattle.std.proofs.Common.{◌≡◌, ◌<◌, ◌≤◌, ◌≢◌, ◌^◌, option_map, option_and_then, le-ltb, ne_eqb, Bool, true, false, ◌&&◌, ℕ, zero, suc, List, ◌++◌, length, decimal, codes, get_or, take, drop, bytes_eq, nat_lt, Option, Some, None, refl, sym, ap, ◌∙◌, arith, lt-ltb}
-use Rattle.std.specs.Char.{is_ascii_digit}
-use Rattle.std.specs.List.{list_all}
-use Rattle.std.specs.Option.{option_or}
-use Rattle.std.specs.Str.Parse.{digits_value}
-use Rattle.std.proofs.lemmas.Bool.Decides.{nat_tests}
+use Rattle.mote_text.proofs.Common.{is_ascii_digit, list_all, option_or, digits_value, nat_tests, Input, is_number, read_number, read_bytes, read_line, argument_of, line_limit, says_nothing}
 use Rattle.std.proofs.lemmas.Slice.Eq.{bytes_eq-Decides}
 use Rattle.std.proofs.Math.ListN.{take-append-drop}
 use Rattle.std.proofs.lemmas.Fmt.{digits_decimal, digits_value-decimal, decimal-digits_value, decimal_nonempty, decimal_digit, first_decimal, length-decimal-le}
-use Rattle.mote_types.specs.declared.entry.Input.{Input}
-use Rattle.mote_text.specs.Script.{is_number, has_leading_zero, read_number, read_bytes, read_line, argument_of, line_limit, says_nothing}
+use Rattle.mote_text.specs.Script.{has_leading_zero}
 use Rattle.mote_text.proofs.Digits.{digits_are_numerals}
 
 no_leading_zero : (n : ℕ) → n < 2 ^ 64 → has_leading_zero (decimal n) ≡ false
@@ -70,18 +65,11 @@ is_tick : (n : ℕ) (number : Option ℕ) (serial frame : Option (List ℕ)) →
     option_map (λ input. Some input) (option_or (option_map (λ m. Input.Tick m) number)
     (option_or (option_map (λ bytes. Input.Serial (record { items = bytes })) serial) (option_map (λ bytes. Input.Frame (record { items = bytes })) frame)))
     ≡ Some (Some (Input.Tick n)) → number ≡ Some n
-is_tick n (Some m) serial frame says = cc
-is_tick n None (Some bytes) frame says = cc
-is_tick n None None (Some bytes) says = cc
-is_tick n None None None says = cc
+is_tick n number serial frame says = grind (arith, nat_tests)
 
 from_argument : (line : List ℕ) (n : ℕ) (argument : Option (List ℕ)) → argument_of (codes "tick ") line ≡ argument →
     option_and_then read_number argument ≡ Some n → line ≡ codes "tick " ++ decimal n
-from_argument line n None is reads = cc
-from_argument line n (Some text) is reads =
-    let behind = behind_word (codes "tick ") line text (bytes_eq (take 5 line) (codes "tick ")) refl is in
-    let number = decimal_of_read text n reads in
-    behind ∙ ap (λ t. codes "tick " ++ t) number
+from_argument line n argument is reads = grind (arith, nat_tests, behind_word, decimal_of_read)
 
 from_tests : (line : List ℕ) (n : ℕ) (is_long is_nothing : Bool) → nat_lt line_limit (length line) ≡ is_long → says_nothing line ≡ is_nothing →
     read_line line ≡ Some (Some (Input.Tick n)) → line ≡ codes "tick " ++ decimal n

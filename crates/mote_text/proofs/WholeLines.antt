@@ -1,10 +1,10 @@
 -- The whole lines among the bytes of a script, as the bytes come.
 use Rattle.std.proofs.Common.{◌≡◌, ◌<◌, ◌≤◌, ℕ, Bool, true, false, List, [], ◌∷◌, ◌++◌, length, ◌==◌, refl, sym, ap, ◌∙◌, arith, le-ltb}
-use Rattle.std.specs.List.{onto_first}
+use Rattle.mote_text.proofs.Common.{nat_tests, onto_first, slice_split-cons_yes, slice_split-cons_no, read_lines, script_limit, with_last_line, parts, whole_lines, inputs}
 use Rattle.std.proofs.lemmas.List.{take_all}
-use Rattle.std.proofs.lemmas.List.Splits.{length-slice_split, slice_split-cons_yes, slice_split-cons_no}
+use Rattle.std.proofs.lemmas.List.Splits.{length-slice_split}
 use Rattle.mote_text.specs.declared.script.End.{End}
-use Rattle.mote_text.specs.Script.{read_lines, script_limit, with_last_line, parts, without_last, whole_lines, inputs}
+use Rattle.mote_text.specs.Script.{without_last}
 
 pub some_part : (bytes : List ℕ) → 0 < length (parts bytes)
 some_part bytes = rw (length-slice_split (λ byte. byte == 10) bytes) (omega arith)
@@ -22,27 +22,14 @@ without_last_cons line (next ∷ later) some = refl
 
 without_last_onto_first : (byte : ℕ) (xs ys : List (List ℕ)) → 0 < length xs → 0 < length ys → without_last xs ≡ without_last ys →
     without_last (onto_first byte xs) ≡ without_last (onto_first byte ys)
-without_last_onto_first byte [] ys x y same = absurd (omega arith)
-without_last_onto_first byte (a ∷ xs) [] x y same = absurd (omega arith)
-without_last_onto_first byte (a ∷ []) (b ∷ []) x y same = refl
-without_last_onto_first byte (a ∷ []) (b ∷ c ∷ ys) x y same = cc
-without_last_onto_first byte (a ∷ c ∷ xs) (b ∷ []) x y same = cc
-without_last_onto_first byte (a ∷ c ∷ xs) (b ∷ d ∷ ys) x y same = cc
+without_last_onto_first byte xs ys x y same = grind (arith, nat_tests)
 
 same_behind : (first : ℕ) (xs ys : List ℕ) (is_end : Bool) → (first == 10) ≡ is_end → whole_lines xs ≡ whole_lines ys → whole_lines (first ∷ xs) ≡ whole_lines (first ∷ ys)
-same_behind first xs ys true test same =
-    rw (slice_split-cons_yes (λ b. b == 10) first xs test, slice_split-cons_yes (λ b. b == 10) first ys test) (
-    without_last_cons [] (parts xs) (some_part xs) ∙ ap (λ lines. [] ∷ lines) same ∙ sym (without_last_cons [] (parts ys) (some_part ys))
-    )
-same_behind first xs ys false test same =
-    rw (slice_split-cons_no (λ b. b == 10) first xs test, slice_split-cons_no (λ b. b == 10) first ys test) (
-    without_last_onto_first first (parts xs) (parts ys) (some_part xs) (some_part ys) same
-    )
+same_behind first xs ys is_end test same = grind (arith, nat_tests, without_last_cons, some_part, without_last_onto_first)
 
 pub whole_lines_stay : (bytes : List ℕ) (byte : ℕ) → (byte == 10) ≡ false → whole_lines (bytes ++ byte ∷ []) ≡ whole_lines bytes
 whole_lines_stay [] byte other = rw (slice_split-cons_no (λ b. b == 10) byte [] other)
-whole_lines_stay (first ∷ bytes) byte other =
-    same_behind first (bytes ++ byte ∷ []) bytes (first == 10) refl (whole_lines_stay bytes byte other)
+whole_lines_stay (first ∷ bytes) byte other = grind (arith, nat_tests, same_behind, whole_lines_stay bytes byte other)
 
 -- a byte that ends a line
 
@@ -52,17 +39,11 @@ onto_first_append byte (x ∷ xs) ys some = refl
 
 part_behind : (first : ℕ) (xs ys : List ℕ) (last : List (List ℕ)) (is_end : Bool) → (first == 10) ≡ is_end → parts ys ≡ parts xs ++ last →
     parts (first ∷ ys) ≡ parts (first ∷ xs) ++ last
-part_behind first xs ys last true test more =
-    rw (slice_split-cons_yes (λ b. b == 10) first xs test, slice_split-cons_yes (λ b. b == 10) first ys test) (ap (λ lines. [] ∷ lines) more)
-part_behind first xs ys last false test more =
-    rw (slice_split-cons_no (λ b. b == 10) first xs test, slice_split-cons_no (λ b. b == 10) first ys test) (
-    ap (onto_first first) more ∙ onto_first_append first (parts xs) last (some_part xs)
-    )
+part_behind first xs ys last is_end test more = grind (arith, nat_tests, onto_first_append, some_part)
 
 part_ends : (bytes : List ℕ) (byte : ℕ) → (byte == 10) ≡ true → parts (bytes ++ byte ∷ []) ≡ parts bytes ++ [] ∷ []
 part_ends [] byte is_end = rw (slice_split-cons_yes (λ b. b == 10) byte [] is_end)
-part_ends (first ∷ bytes) byte is_end =
-    part_behind first bytes (bytes ++ byte ∷ []) ([] ∷ []) (first == 10) refl (part_ends bytes byte is_end)
+part_ends (first ∷ bytes) byte is_end = grind (arith, nat_tests, part_behind, part_ends bytes byte is_end)
 
 all_whole : (lines : List (List ℕ)) → with_last_line true (lines ++ [] ∷ []) ≡ without_last (lines ++ [] ∷ [])
 all_whole [] = refl

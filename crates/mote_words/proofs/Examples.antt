@@ -1,9 +1,9 @@
 -- Worked examples: what words, names and numbers on the command line come to.
-use Rattle.std.proofs.Common.{◌≡◌, ℕ, List, true, false, [], ◌∷◌, codes, refl}
-use Rattle.std.specs.Prelude.{Option, Some, None, bytes_eq, find, if◌then◌else◌}
+use Rattle.std.proofs.Common.{◌≡◌, ℕ, List, true, false, [], ◌∷◌, codes, refl, Option, Some, None, bytes_eq, find, if◌then◌else◌}
+use Rattle.mote_words.proofs.Common.{applications_of, is_in_words, is_unknown, number_written}
 use Rattle.clap.specs.declared.error.kind.ErrorKind.{ErrorKind}
 use Rattle.clap.specs.declared.parser.matches.ValueSource.{ValueSource}
-use Rattle.mote_words.specs.CommandLine.{applications_of, is_in_words, is_request, is_unknown, number_written}
+use Rattle.mote_words.specs.CommandLine.{is_request}
 
 -- a table of two applications
 abbrev table : List ℕ → Option ℕ

@@ -1,3 +1,4 @@
 mod Examples
 mod Matches
 mod ReadNames
+pub mod Common

@@ -1,20 +1,18 @@
 -- The command line as the parser knows it is a simple one, and what the getters read of matches, by their rows.
-use Rattle.std.proofs.Common.{◌≡◌, ◌∙◌, ℕ, Bool, true, false, refl, ap, sym, arith, List, [], map, Option, Some, None, Result, Ok, Err, codes}
-use Rattle.std.specs.Prelude.{find, option_map, option_and_then, unwrap_or, if◌then◌else◌, bytes_eq}
+use Rattle.std.proofs.Common.{◌≡◌, ◌∙◌, ℕ, Bool, true, false, refl, ap, sym, arith, List, [], map, Option, Some, None, Result, Ok, Err, codes, find, option_map, option_and_then, unwrap_or, if◌then◌else◌, bytes_eq}
+use Rattle.mote_words.proofs.Common.{nat_tests, ParsesUnsigned, is_simple, matches_of, fault_of, is_simple_and_free, rows_of, texts, find-map, applications_of, is_quiet, names_of, number_of, number_written, program, size_of}
 use Rattle.std.specs.Borrow.{Bor}
-use Rattle.std.specs.Str.Parse.{ParsesUnsigned, digits_value, without_leading_plus}
+use Rattle.std.specs.Str.Parse.{digits_value, without_leading_plus}
 use Rattle.clap.specs.Facts.{Entry}
 use Rattle.clap.specs.Matches.{ReadsOne, matched_of, one_text, raw_values}
-use Rattle.clap.specs.Simple.{is_simple, matches_of}
-use Rattle.clap.specs.Faults.{fault_of, is_simple_and_free}
 use Rattle.clap.specs.ValueTests.{is_unsigned_in}
-use Rattle.clap.specs.Walk.{Row, Text, all_of, row_of, rows_of, texts}
+use Rattle.clap.specs.Walk.{Row, Text, all_of, row_of}
 use Rattle.clap.specs.declared.builder.value_parser.ValueParser.{ValueParser}
 use Rattle.clap.specs.declared.parser.matches.Found.{Found}
 use Rattle.clap.proofs.OnLiterals.{clap_on_literals}
 use Rattle.clap.proofs.ValueTestLemmas.{Accepts-accepts, accepts-Accepts}
-use Rattle.clap.proofs.WalkLemmas.{find-map, one_text-rows, raw_values-rows}
-use Rattle.mote_words.specs.CommandLine.{applications_of, errors_in, is_quiet, named_in, names_of, number_of, number_written, program, matches_in, size_of}
+use Rattle.clap.proofs.WalkLemmas.{one_text-rows, raw_values-rows}
+use Rattle.mote_words.specs.CommandLine.{errors_in, named_in, matches_in}
 use Rattle.mote_words.specs.declared.words.Named.{Named}
 
 pub program_is_simple : (name : Text) → is_simple (program name) ≡ true

@@ -1,9 +1,6 @@
 -- What is known while the names are read, and what their refusal says of the texts.
-use Rattle.std.proofs.Common.{rules, ◌≡◌, ◌≤◌, ◌<◌, ◌++◌, ◌∙◌, ℕ, Bool, true, false, refl, sym, ap, subst, List, suc, [], ◌∷◌, length, drop, min, Option, Some, None, nat_lt}
-use Rattle.std.specs.Prelude.{find, filter_map, option_map, unwrap_or, if◌then◌else◌}
-use Rattle.clap.specs.Walk.{texts}
-use Rattle.clap.proofs.WalkLemmas.{find-map}
-use Rattle.mote_words.specs.CommandLine.{RefusesNames, applications_of, is_unknown}
+use Rattle.std.proofs.Common.{arith, rules, ◌≡◌, ◌≤◌, ◌<◌, ◌++◌, ◌∙◌, ℕ, Bool, true, false, refl, sym, ap, subst, List, suc, [], ◌∷◌, length, drop, min, Option, Some, None, nat_lt, find, filter_map, option_map, unwrap_or, if◌then◌else◌}
+use Rattle.mote_words.proofs.Common.{nat_tests, texts, find-map, RefusesNames, applications_of, is_unknown}
 use Rattle.mote_words.specs.Code.Names.{Name, application_of, refusal_of, refusal_with, is_strange}
 use Rattle.mote_words.specs.declared.refusal.Refusal.{Refusal}
 
@@ -29,17 +26,7 @@ module _ {A : Type 0} (by_name : List ℕ → Option A) where
   unknown_of_texts names = sym (find-map (is_unknown by_name) (λ name. name.now) names)
 
   pub known_texts : (names : List Name) → refusal_of by_name names ≡ None → (find (is_unknown by_name) (texts names) ≡ None) × (length (texts names) ≤ 16)
-  known_texts names known = go (find (is_strange by_name) names) refl known
-    where
-      few : (b : Bool) → nat_lt 16 (length names) ≡ b → (if b then Some Refusal.TooManyApplications else None) ≡ None → length names ≤ 16
-      few true e h = absurd (some≢none _ h)
-      few false e h = search rules
-
-      go : (o : Option Name) → find (is_strange by_name) names ≡ o → refusal_with o (length names) ≡ None →
-          (find (is_unknown by_name) (texts names) ≡ None) × (length (texts names) ≤ 16)
-      go (Some name) e h = absurd (some≢none _ h)
-      go None e h =
-          (unknown_of_texts names ∙ ap (option_map (λ name. name.now)) e, subst (λ n. n ≤ 16) (sym (length_of_texts names)) (few (nat_lt 16 (length names)) refl h))
+  known_texts names known = grind (arith, nat_tests, some≢none, unknown_of_texts, length_of_texts)
 
   pub refused_texts : (names : List Name) (refusal : Refusal) → refusal_of by_name names ≡ Some refusal → RefusesNames by_name (texts names) refusal
   refused_texts names refusal refused = go (find (is_strange by_name) names) refl refused

@@ -1,5 +1,5 @@
 use Rattle.std.proofs.Common.{◌≡◌, [], refl, arith}
-use Rattle.std.proofs.lemmas.Grind.{common_steps}
+use Rattle.mote_text.proofs.Common.{common_steps}
 use Rattle.std.proofs.lemmas.List.{append-nil}
 use Rattle.mote_text.specs.Code.CallWords.{argument_words}
 use Rattle.mote_text.proofs.Spaced.{spaced_none}

@@ -1,7 +1,7 @@
 use Rattle.std.proofs.Common.{true, ◌≡◌, ◌∙◌, ap, ap₂}
-use Rattle.std.proofs.lemmas.Result.{IfOk-weaker}
+use Rattle.mote_words.proofs.Common.{IfOk-weaker, app_of}
 use Rattle.clap.specs.Built.{AddsArg}
-use Rattle.clap.specs.Simple.{app_of, app_of_fields, on_top, with_rule}
+use Rattle.clap.specs.Simple.{app_of_fields, on_top, with_rule}
 use Rattle.mote_words.specs.CommandLine.{versioned}
 use Rattle.mote_words.proofs.command_line.command.Goals as goal
 

@@ -1,6 +1,5 @@
 use Rattle.std.proofs.Common.{◌∙◌, ap, codes}
-use Rattle.clap.specs.Words.{found_of}
-use Rattle.mote_words.specs.CommandLine.{is_in_words}
+use Rattle.mote_words.proofs.Common.{found_of, is_in_words}
 use Rattle.mote_words.proofs.Matches.{source_given}
 use Rattle.mote_words.proofs.command_line.is_quiet.Goals as goal
 

@@ -1,5 +1,5 @@
 use Rattle.std.proofs.Common.{◌≡◌, ◌∙◌, ap, refl, codes}
-use Rattle.mote_words.specs.CommandLine.{size_option, sizes_from}
+use Rattle.mote_words.proofs.Common.{size_option, sizes_from}
 use Rattle.mote_words.proofs.command_line.mmem_option.Goals as goal
 
 pub returns-clause-rule : goal.returns-clause-rule

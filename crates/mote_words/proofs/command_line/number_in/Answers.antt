@@ -1,5 +1,5 @@
-use Rattle.std.specs.Str.Parse.{ExplainsUnsignedError, HasUnsignedDigitsIfOk, ParsesUnsigned}
-use Rattle.clap.specs.Words.{found_of}
+use Rattle.mote_words.proofs.Common.{ParsesUnsigned, found_of}
+use Rattle.std.specs.Str.Parse.{ExplainsUnsignedError, HasUnsignedDigitsIfOk}
 use Rattle.mote_words.proofs.Matches.{number_given}
 use Rattle.mote_words.proofs.command_line.number_in.Goals as goal
 

@@ -1,10 +1,6 @@
 use Rattle.std.proofs.Common.{◌≡◌, ◌∙◌, ap, sym, subst}
-use Rattle.std.proofs.lemmas.Result.{IfOk-weaker}
-use Rattle.clap.specs.Faults.{fault_of, is_simple_and_free}
+use Rattle.mote_words.proofs.Common.{IfOk-weaker, fault_of, is_simple_and_free, app_of, is_simple, matches_of, texts, program}
 use Rattle.clap.specs.Kinds.{FailsBy}
-use Rattle.clap.specs.Simple.{app_of, is_simple, matches_of}
-use Rattle.clap.specs.Walk.{texts}
-use Rattle.mote_words.specs.CommandLine.{program}
 use Rattle.mote_words.proofs.Matches.{errors_in_is, program_is_free, program_is_simple, matches_in_is}
 use Rattle.mote_words.proofs.command_line.parse.Goals as goal
 

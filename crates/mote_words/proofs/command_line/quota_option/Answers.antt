@@ -1,5 +1,6 @@
 use Rattle.std.proofs.Common.{◌≡◌, ◌∙◌, ap, refl, codes}
-use Rattle.mote_words.specs.CommandLine.{number_option, sizes_from}
+use Rattle.mote_words.proofs.Common.{sizes_from}
+use Rattle.mote_words.specs.CommandLine.{number_option}
 use Rattle.mote_words.proofs.command_line.quota_option.Goals as goal
 
 pub returns-clause-rule : goal.returns-clause-rule

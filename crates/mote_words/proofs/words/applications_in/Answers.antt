@@ -1,9 +1,6 @@
-use Rattle.std.proofs.Common.{◌≤◌, codes, ◌≡◌, ◌∙◌, sym, subst, ap, refl, arith, [], length}
-use Rattle.std.specs.Prelude.{find, None, unwrap_or, option_map}
-use Rattle.std.proofs.lemmas.Result.{IfErr-weaker, IfOk-weaker}
-use Rattle.clap.specs.Walk.{rows_of, texts}
-use Rattle.clap.specs.Words.{found_of}
-use Rattle.mote_words.specs.CommandLine.{RefusesNames, applications_of, is_unknown, names_of}
+use Rattle.std.proofs.Common.{◌≤◌, codes, ◌≡◌, ◌∙◌, sym, subst, ap, refl, arith, [], length, find, None, unwrap_or, option_map}
+use Rattle.mote_words.proofs.Common.{IfOk-weaker, rows_of, texts, found_of, RefusesNames, applications_of, is_unknown, names_of}
+use Rattle.std.proofs.lemmas.Result.{IfErr-weaker}
 use Rattle.mote_words.proofs.Matches.{names_given}
 use Rattle.mote_words.proofs.ReadNames.{applications_of_texts, known_texts, refused_texts}
 use Rattle.mote_words.proofs.words.applications_in.Goals as goal

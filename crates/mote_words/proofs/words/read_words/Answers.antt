@@ -1,6 +1,5 @@
 use Rattle.std.proofs.Common.{◌∙◌, ap, codes}
-use Rattle.clap.specs.Walk.{texts}
-use Rattle.mote_words.specs.CommandLine.{applications_of, is_quiet, names_of, number_of, size_of}
+use Rattle.mote_words.proofs.Common.{texts, applications_of, is_quiet, names_of, number_of, size_of}
 use Rattle.mote_words.proofs.Matches.{named_read}
 use Rattle.mote_words.proofs.words.read_words.Goals as goal
 

@@ -1,5 +1,5 @@
 use Rattle.std.proofs.Common.{◌≡◌}
-use Rattle.device_core.specs.PacketQueue.{free_slot}
+use Rattle.device_core.proofs.Common.{free_slot}
 use Rattle.device_core.proofs.Slots.{free_slot_from}
 use Rattle.device_core.proofs.packet_queue.PacketQueue.free_slot.Given as goal
 

@@ -1,6 +1,5 @@
 use Rattle.std.proofs.Common.{◌++◌, ap, sym, ◌∙◌}
-use Rattle.device_core.specs.SerialLine.{after_bytes}
-use Rattle.device_core.specs.Code.Taking.{takes_all}
+use Rattle.device_core.proofs.Common.{after_bytes, takes_all}
 use Rattle.device_core.proofs.Lines.{state}
 use Rattle.device_core.proofs.TakenTogether.{after_bytes_all_taken, none_left}
 use Rattle.device_core.proofs.serial_line.SerialLine.input.Goals as goal

@@ -1,5 +1,5 @@
 use Rattle.std.proofs.Common.{◌<◌, length, arith, sym, ap, ◌∙◌, false}
-use Rattle.device_core.specs.SerialLine.{after_byte}
+use Rattle.device_core.proofs.Common.{after_byte}
 use Rattle.device_core.proofs.Lines.{byte_taken, keep_last_all, state}
 use Rattle.device_core.proofs.serial_line.SerialLine.take.Goals as goal
 

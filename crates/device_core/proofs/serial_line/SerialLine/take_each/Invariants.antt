@@ -1,5 +1,5 @@
 use Rattle.std.proofs.Common.{◌≡◌, take}
-use Rattle.device_core.specs.SerialLine.{after_bytes}
+use Rattle.device_core.proofs.Common.{after_bytes}
 use Rattle.device_core.proofs.serial_line.SerialLine.take_each.Given as goal
 
 abbrev pub invariant-loop-byte : goal.invariant-loop-byte
