@@ -67,7 +67,7 @@ returns-in-Err-Read-clause-ran g c =
     (λ config says. Exchanged (g.S.ByteSource.taken c.args.source.now) (g.S.ByteSource.taken c.run.new.source) (g.S.ByteSource.is_ended c.run.new.source) (g.K.ByteSink.given c.args.sink.now) (g.K.ByteSink.given c.run.new.sink)
     (HasRunTo config says c.args.prepared.quiet Failure.Read (Err Failure.Read)))
     _ _ (same_applications _ bundled_says _ _ _ _ c.as_mut_slice.ensures.value c.loop-application.invariant.2 all)
-    (λ s k config boots. fault_handed_on (Err Failure.Read) refl (λ is. refl) (c.in-Err-Read.ensures.promise s k config boots))
+    (λ s k config boots. let ran = c.in-Err-Read.ensures.promise s k config boots in fault_handed_on (Err Failure.Read) refl (λ is. search rules) ran)
 
 pub returns-clause-ran : goal.returns-clause-ran
 returns-clause-ran g c =
