@@ -1,17 +1,18 @@
 -- What the application says that averages measurements.
-use Rattle.std.specs.Prelude.{ℕ, ◌+◌, ◌/◌, ◌++◌, List, [], ◌∷◌, drop, replicate, sum, min, Option, Some, None, bytes_eq, codes, decimal, nat_lt, ◌==◌, if◌then◌else◌}
+use Rattle.std.specs.Prelude.{ℕ, ◌+◌, ◌/◌, ◌++◌, List, [], ◌∷◌, drop, replicate, sum, min, Option, Some, None, bytes_eq, codes, decimal, length, nat_le, nat_lt, ◌==◌, if◌then◌else◌}
 use Rattle.mote_types.specs.declared.call.Call.{Call}
 use Rattle.mote_types.specs.declared.event.Event.{Event}
 use Rattle.mote_types.specs.declared.event.Payload.{Payload}
 use Rattle.mote_types.specs.declared.event.Stimulus.{Stimulus}
 use Rattle.mote_types.specs.declared.reply.Reply.{Reply}
 use Rattle.mote_types.specs.EventNumbers.{INIT, PACKET, SERIAL_LINE}
+use Rattle.mote_text.specs.Script.{argument_of, read_number}
 use Rattle.template_averager.specs.declared.averager.Averager.{Averager}
 use Rattle.template_averager.specs.declared.averager.Stage.{Stage}
 
 -- nothing was measured
 abbrev pub fresh : Averager
-fresh = record { table = replicate 8 0; count = 0; stage = Stage.Idle }
+fresh = record { table = replicate 8 0; count = 0; limit = 255; stage = Stage.Idle }
 
 -- the average of the last eight, or of as many as there were
 abbrev pub average_of : Averager → ℕ
@@ -21,13 +22,41 @@ average_of averager = if averager.count == 0 then 0 else sum averager.table / mi
 abbrev pub counted : ℕ → ℕ
 counted count = if nat_lt count 4294967295 then count + 1 else count
 
--- one more measurement
+-- one more measurement, where the byte is within the limit
 abbrev pub measured : ℕ → Averager → Averager
-measured byte averager = record averager { table = drop 1 averager.table ++ byte ∷ []; count = counted averager.count }
+measured byte averager =
+    if nat_le byte averager.limit
+    then record averager { table = drop 1 averager.table ++ byte ∷ []; count = counted averager.count }
+    else averager
 
--- the print of a number and a line end
+-- a number and a line end, and the print of them
+abbrev pub number_text : ℕ → List ℕ
+number_text n = decimal n ++ 10 ∷ []
+
 abbrev pub number_print : ℕ → Call
-number_print n = Call.Print (record { items = decimal n ++ 10 ∷ [] })
+number_print n = Call.Print (record { items = number_text n })
+
+-- the average as it goes out in a frame
+abbrev pub average_text : Averager → List ℕ
+average_text averager = number_text (average_of averager)
+
+-- the command `limit` with this number, if it is one
+abbrev pub limit_answer : Option ℕ → Call
+limit_answer (Some limit) = number_print limit
+limit_answer None = Call.Print (record { items = codes "no number\n" })
+
+abbrev pub limit_next : Averager → Option ℕ → Averager
+limit_next averager (Some limit) = record averager { limit = limit }
+limit_next averager None = averager
+
+-- what stands behind `limit `, if the line begins so
+abbrev pub argument_answer : Option (List ℕ) → Call
+argument_answer (Some text) = limit_answer (read_number text)
+argument_answer None = Call.Wait
+
+abbrev pub argument_next : Averager → Option (List ℕ) → Averager
+argument_next averager (Some text) = limit_next averager (read_number text)
+argument_next averager None = averager
 
 -- a line from the serial line is a command
 abbrev pub command_answer : Averager → List ℕ → Call
@@ -35,10 +64,16 @@ command_answer averager line =
     if bytes_eq line (codes "show") then number_print (average_of averager)
     else if bytes_eq line (codes "count") then number_print averager.count
     else if bytes_eq line (codes "clear") then Call.Print (record { items = codes "cleared\n" })
-    else Call.Wait
+    else if bytes_eq line (codes "send") then Call.MmemAlloc 0 (length (average_text averager))
+    else argument_answer (argument_of (codes "limit ") line)
 
 abbrev pub command_next : Averager → List ℕ → Averager
-command_next averager line = if bytes_eq line (codes "clear") then fresh else averager
+command_next averager line =
+    if bytes_eq line (codes "show") then averager
+    else if bytes_eq line (codes "count") then averager
+    else if bytes_eq line (codes "clear") then fresh
+    else if bytes_eq line (codes "send") then record averager { stage = Stage.Allocating }
+    else argument_next averager (argument_of (codes "limit ") line)
 
 abbrev pub payload_answer : Averager → Payload → Call
 payload_answer averager (Payload.Line line) = command_answer averager line.items
@@ -63,15 +98,36 @@ event_next averager event =
     else if event.code == SERIAL_LINE then payload_next averager event.payload
     else averager
 
+-- The average is to go out: a block is allocated, written, sent and freed. At a refusal none goes out, and the block that
+-- there may be is freed
+abbrev pub allocated_answer : Averager → Reply → Call
+allocated_answer averager Reply.Done = Call.MmemWrite 0 0 (record { items = average_text averager })
+allocated_answer averager _ = Call.Wait
+
+abbrev pub allocated_next : Averager → Reply → Averager
+allocated_next averager Reply.Done = record averager { stage = Stage.Writing }
+allocated_next averager _ = record averager { stage = Stage.Idle }
+
+abbrev pub written_answer : Reply → Call
+written_answer Reply.Done = Call.PacketSend 0
+written_answer _ = Call.MmemFree 0
+
+abbrev pub written_next : Averager → Reply → Averager
+written_next averager Reply.Done = record averager { stage = Stage.Sending }
+written_next averager _ = record averager { stage = Stage.Idle }
+
+abbrev pub sending_answer : Averager → Stage → Reply → Call
+sending_answer averager Stage.Allocating reply = allocated_answer averager reply
+sending_answer averager Stage.Writing reply = written_answer reply
+sending_answer averager Stage.Sending reply = Call.MmemFree 0
+sending_answer averager _ reply = Call.Wait
+
+abbrev pub sending_next : Averager → Stage → Reply → Averager
+sending_next averager Stage.Allocating reply = allocated_next averager reply
+sending_next averager Stage.Writing reply = written_next averager reply
+sending_next averager _ reply = record averager { stage = Stage.Idle }
+
 -- The byte goes into the table, the frame is given back, and the average is printed. A frame with no byte is given back
-abbrev pub stage_answer : Averager → Stage → Call
-stage_answer averager Stage.Idle = Call.Wait
-stage_answer averager Stage.Reading = Call.PacketDone
-stage_answer averager Stage.Taken = number_print (average_of averager)
-
-abbrev pub reply_answer : Averager → Reply → Call
-reply_answer averager reply = stage_answer averager averager.stage
-
 abbrev pub read_next : Averager → List ℕ → Averager
 read_next averager [] = record averager { stage = Stage.Idle }
 read_next averager (byte ∷ bytes) = record (measured byte averager) { stage = Stage.Taken }
@@ -80,10 +136,18 @@ abbrev pub reading_next : Averager → Reply → Averager
 reading_next averager (Reply.Bytes bytes) = read_next averager bytes.items
 reading_next averager _ = record averager { stage = Stage.Idle }
 
+abbrev pub stage_answer : Averager → Stage → Reply → Call
+stage_answer averager Stage.Reading reply = Call.PacketDone
+stage_answer averager Stage.Taken reply = number_print (average_of averager)
+stage_answer averager stage reply = sending_answer averager stage reply
+
+abbrev pub reply_answer : Averager → Reply → Call
+reply_answer averager reply = stage_answer averager averager.stage reply
+
 abbrev pub stage_next : Averager → Stage → Reply → Averager
-stage_next averager Stage.Idle reply = averager
 stage_next averager Stage.Reading reply = reading_next averager reply
 stage_next averager Stage.Taken reply = record averager { stage = Stage.Idle }
+stage_next averager stage reply = sending_next averager stage reply
 
 abbrev pub reply_next : Averager → Reply → Averager
 reply_next averager reply = stage_next averager averager.stage reply

@@ -2,9 +2,10 @@
 
 ghost use Rattle.std.specs.Prelude.{◌≡◌, ◌≤◌, ◌++◌, [], ◌∷◌, drop, length, sum};
 ghost use Rattle.mote_types.specs.Applications.{fold_says};
-ghost use Rattle.template_averager.specs.Averager.{averager_answer, averager_next, average_of, by_name, command_answer, command_next, fresh, measured, reply_answer, reply_next};
+ghost use Rattle.mote_text.specs.Script.{read_number};
+ghost use Rattle.template_averager.specs.Averager.{averager_answer, averager_next, average_of, by_name, command_answer, command_next, fresh, limit_answer, limit_next, measured, reply_answer, reply_next, sending_answer, sending_next};
 
-use mote_kit::{FromName, chunk_of, number_line, same_bytes};
+use mote_kit::{FromName, chunk_of, number_line, read_number, same_bytes};
 use mote_types::app::App;
 use mote_types::call::Call;
 use mote_types::event::{Event, INIT, PACKET, Payload, SERIAL_LINE, Stimulus};
@@ -17,18 +18,27 @@ pub enum Stage {
     Idle,
     /// The first byte of a frame.
     Reading,
-    /// That the frame was given back whose byte is in the table.
+    /// That the frame was given back whose byte was a measurement.
     Taken,
+    /// That there is a block for a frame which is to go out.
+    Allocating,
+    /// That the average stands in the block.
+    Writing,
+    /// That the frame went out.
+    Sending,
 }
 
 /// Takes the first byte of each frame for a measurement, and prints the average of the last eight, rounded down. The line
-/// `show` on the serial line prints it once more, `count` how many there were, and `clear` forgets them.
+/// `show` on the serial line prints it once more, `send` sends it as a frame, and `count` prints how many there were. With
+/// `limit 200` no larger byte is taken for a measurement from then on; `clear` forgets all.
 #[derive(Drop)]
 pub struct Averager {
     /// The last eight measurements, the latest one last; 0 in front, where there were fewer.
     table: [u8; 8],
     /// How many there were. It stays at its largest value.
     count: u32,
+    /// The largest byte that is taken for a measurement.
+    limit: u32,
     stage: Stage,
 }
 
@@ -56,6 +66,7 @@ impl Averager {
         Averager {
             table: [0; 8],
             count: 0,
+            limit: 255,
             stage: Stage::Idle,
         }
     }
@@ -71,12 +82,28 @@ impl Averager {
         }
     }
 
-    /// One more measurement.
+    /// One more measurement, where the byte is within the limit.
     fn measure(&mut self, byte: u8)
         ensures { self.new ≡ measured byte self.old }
     {
-        shift_in(&mut self.table, byte);
-        self.count = self.count.saturating_add(1);
+        if u32::from(byte) <= self.limit {
+            shift_in(&mut self.table, byte);
+            self.count = self.count.saturating_add(1);
+        }
+    }
+
+    /// The command `limit` has come in with this text behind it.
+    fn set_limit(&mut self, text: &[u8]) -> Call
+        ensures call { result ≡ limit_answer (read_number text.now) }
+        ensures state { self.new ≡ limit_next self.old (read_number text.now) }
+    {
+        match read_number(text) {
+            Some(limit) => {
+                self.limit = limit;
+                Call::Print(number_line(limit))
+            }
+            None => Call::Print(chunk_of(b"no number\n")),
+        }
     }
 
     /// A line has come in.
@@ -91,8 +118,39 @@ impl Averager {
         } else if same_bytes(line, b"clear") {
             *self = Averager::new();
             Call::Print(chunk_of(b"cleared\n"))
+        } else if same_bytes(line, b"send") {
+            self.stage = Stage::Allocating;
+            Call::MmemAlloc(0, number_line(self.average()).len() as u32)
+        } else if let Some(text) = line.strip_prefix(b"limit ") {
+            self.set_limit(text)
         } else {
             Call::Wait
+        }
+    }
+
+    /// An answer has come to a call for a frame that goes out. Where one is refused none goes out, and the block that there
+    /// may be is freed.
+    fn send_on(&mut self, reply: &Reply) -> Call
+        ensures call { result ≡ sending_answer self.old self.old.stage reply.now }
+        ensures state { self.new ≡ sending_next self.old self.old.stage reply.now }
+    {
+        match (self.stage, reply) {
+            (Stage::Allocating, Reply::Done) => {
+                self.stage = Stage::Writing;
+                Call::MmemWrite(0, 0, number_line(self.average()))
+            }
+            (Stage::Writing, Reply::Done) => {
+                self.stage = Stage::Sending;
+                Call::PacketSend(0)
+            }
+            (Stage::Writing | Stage::Sending, _) => {
+                self.stage = Stage::Idle;
+                Call::MmemFree(0)
+            }
+            _ => {
+                self.stage = Stage::Idle;
+                Call::Wait
+            }
         }
     }
 
@@ -115,7 +173,7 @@ impl Averager {
                 self.stage = Stage::Idle;
                 Call::Print(number_line(self.average()))
             }
-            (Stage::Idle, _) => Call::Wait,
+            _ => self.send_on(reply),
         }
     }
 }

@@ -95,3 +95,45 @@ frame 09
     assert_eq!(rt; end, End::Finished);
     Ok(())
 }
+
+#[test]
+fn sends_the_average_and_keeps_to_a_limit(rt: HostRuntime) -> Result<(), Fail> {
+    // send, limit 25, limit x
+    let script = b"\
+frame 14
+serial 73656e640a
+serial 6c696d69742032350a
+frame 1e
+serial 6c696d697420780a
+";
+    let transcript = b"\
+4 synch 129 - -> packet-open
+4 answer done -> wait
+> frame 14
+4 event 139 1 -> packet-read 0 1
+4 answer bytes 14 -> packet-done
+4 answer done -> print 32300a
+4 answer done -> wait
+> serial 73656e640a
+4 event 138 x73656e64 -> mmem-alloc 0 3
+4 answer done -> mmem-write 0 0 32300a
+4 answer done -> packet-send 0
+note sent 32300a
+4 answer done -> mmem-free 0
+4 answer done -> wait
+> serial 6c696d69742032350a
+4 event 138 x6c696d6974203235 -> print 32350a
+4 answer done -> wait
+> frame 1e
+4 event 139 1 -> packet-read 0 1
+4 answer bytes 1e -> packet-done
+4 answer done -> print 32300a
+4 answer done -> wait
+> serial 6c696d697420780a
+4 event 138 x6c696d69742078 -> print 6e6f206e756d6265720a
+4 answer done -> wait
+";
+    let end = end_of_run(&rt, script, transcript, false)?;
+    assert_eq!(rt; end, End::Finished);
+    Ok(())
+}
