@@ -1,5 +1,6 @@
 //! Why a line of a file has no form.
 
+use call_lists::CallFault;
 use std::alloc::{AllocError, AllocFailed};
 use thiserror::Error;
 
@@ -8,29 +9,9 @@ use thiserror::Error;
 pub(crate) enum Fault<'a> {
     #[error("unknown word {0}")]
     UnknownWord(&'a str),
-    #[error("no application {0}")]
-    NoApplication(&'a str),
-    #[error("no call {0}")]
-    NoCall(&'a str),
-    /// A call has fewer words than it takes.
-    #[error("{0} lacks a word")]
-    TooFewWords(&'a str),
-    /// A call has more words than it takes: these.
-    #[error("more words than the call takes: {0}")]
-    TooManyWords(&'a str),
-    #[error("{word} is no number from {least} to {most}")]
-    NoNumber {
-        word: &'a str,
-        least: u32,
-        most: u32,
-    },
-    #[error("{word} is no hex of at most {most} bytes")]
-    NoHex {
-        word: &'a str,
-        most: usize,
-    },
-    #[error("an application makes at most 128 calls")]
-    TooManyCalls,
+    /// Words name no application, no call or no number.
+    #[error(transparent)]
+    Call(#[from] CallFault<'a>),
     #[error("{0} is no line of a script")]
     NoScriptLine(&'a str),
     #[error("a text has at most 255 bytes")]

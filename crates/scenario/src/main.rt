@@ -2,8 +2,6 @@
 //! safe and that it ends; what a run writes is promised by the contract of `mote_run`'s `run`.
 #![tactic(auto)]
 
-mod applications;
-mod calls;
 mod command_line;
 mod fault;
 mod files;
@@ -12,7 +10,6 @@ mod parts;
 mod run;
 mod scenario;
 mod status;
-mod words;
 
 use clap::Error;
 use clap::error::ErrorKind;

@@ -1,10 +1,9 @@
 //! A run that a file tells of, and what the file says of its outcome. `docs/scenarios.md` has the form.
 
-use crate::applications::Application;
 use crate::fault::Fault;
 use crate::inputs::{Inputs, push_lines};
 use crate::parts::Part;
-use crate::words::number_of;
+use call_lists::{Application, number_of};
 use mote_kit::mote::DEFAULT_SIZES;
 use node_memory::Sizes;
 use std::alloc::{AllocError, Global};
