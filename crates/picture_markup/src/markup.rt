@@ -117,6 +117,14 @@ impl Content {
     {
         self.bytes.extend_from_slice(other.bytes.as_slice())
     }
+
+    /// What stands in it is content.
+    pub fn is_well_formed(&self)
+        ensures { IsContent self.now }
+    {
+        // Nothing is done: the clause tells what holds of all content.
+        let _bytes = &self.bytes;
+    }
 }
 
 /// An element that is not put into any content yet.

@@ -1,1 +1,3 @@
-pub mod Covers
+pub mod Drawn
+pub mod Examples
+pub mod Rows

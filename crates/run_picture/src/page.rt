@@ -64,6 +64,8 @@ pub(crate) struct Page {
     /// How many processes have a lane: 4, 5, ..
     pub(crate) lanes: usize,
     pub(crate) rows: usize,
+    /// Where the overview begins.
+    pub(crate) strip: usize,
     /// Where the first row begins.
     pub(crate) top: usize,
     /// The width of a lane.
@@ -72,7 +74,14 @@ pub(crate) struct Page {
 }
 
 impl Page {
-    pub(crate) fn new(lanes: usize, rows: usize, top: usize, columns: Columns) -> Self {
+    /// The places for so many lanes and rows, where the overview begins there and has that height.
+    pub(crate) fn new(
+        lanes: usize,
+        rows: usize,
+        strip: usize,
+        height: usize,
+        columns: Columns,
+    ) -> Self {
         let lane = match lanes {
             0..=5 => 64,
             6..=9 => 44,
@@ -81,7 +90,8 @@ impl Page {
         Page {
             lanes,
             rows,
-            top,
+            strip,
+            top: strip.saturating_add(height),
             lane,
             columns,
         }

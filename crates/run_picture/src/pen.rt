@@ -1,5 +1,8 @@
 //! Shapes and texts that are put into a picture, each with what it tells when it is pointed at.
 
+ghost use Rattle.std.specs.Prelude.{◌≡◌, [], IfOk};
+ghost use Rattle.run_picture.specs.Titles as spec;
+
 use picture_markup::{Attribute, Content, Element, Tag};
 use std::alloc::{AllocError, Global};
 
@@ -19,12 +22,17 @@ pub(crate) struct Area {
 }
 
 /// The element that is shown when another one is pointed at.
-pub(crate) fn title_element(alloc: Global, title: &str) -> Result<Element, AllocError> {
+pub(crate) fn title_element(alloc: Global, title: &str) -> Result<Element, AllocError>
+    ensures { IfOk result (λ element. element ≡ spec.title_element title.now) }
+{
     Element::new(alloc, Tag::Title).saying(title)
 }
 
 /// A rectangle of a class.
-pub(crate) fn area_element(alloc: Global, class: &str, area: Area) -> Result<Element, AllocError> {
+pub(crate) fn area_element(alloc: Global, class: &str, area: Area) -> Result<Element, AllocError>
+    ensures tag { IfOk result (λ element. element.tag ≡ Tag.Rect) }
+    ensures inside { IfOk result (λ element. element.inside ≡ []) }
+{
     Element::new(alloc, Tag::Rect)
         .with(Attribute::Class, class)?
         .with_number(Attribute::Left, area.place.left)?

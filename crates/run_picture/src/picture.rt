@@ -1,29 +1,24 @@
 //! The picture of a run.
 
-ghost use Rattle.std.specs.Prelude.{◌≡◌, ◌-◌, ◌^◌, ◌≤◌, length, All, IfOk};
-ghost use Rattle.std.specs.Bool.{OnTrue};
+ghost use Rattle.std.specs.Prelude.{◌≡◌, ◌≤◌, [], ◌++◌, length, IfOk};
 ghost use Rattle.picture_markup.specs.Markup.{IsDocument};
-ghost use Rattle.run_picture.specs.Rows.{Cover, IsPlain};
+ghost use Rattle.run_rows.specs.Rows.{Cover};
+ghost use Rattle.run_picture.specs.Titles.{bytes_of, IsDrawn, ShowsRows, IsPicture};
 
 use crate::drawing::{draw_activations, draw_curves, draw_gifts, draw_lives, draw_words};
-use crate::folding::{folded_rows, unfolded_rows};
 use crate::grounds::grounds_of;
-use crate::head::{draw_ground, draw_head, draw_lanes, style_of, tally_text};
-use crate::marks::{Marks, marks_of};
+use crate::head::{draw_ground, draw_head, draw_lanes, draw_legend, style_of, tally_text};
 use crate::memory_columns::{draw_difference, draw_heap, draw_managed};
 use crate::page::{Columns, Page};
 use crate::pen::Pen;
 use crate::pool_columns::{Pools, draw_pools};
-use crate::row::Row;
 use crate::strip::{draw_strip, height_of};
 use crate::timer_lines::draw_timers;
 use picture_markup::{Attribute, Content, Element, Tag};
 use run_memory::{Sizes, Stays};
+use run_rows::{Marks, Row, Shown, marks_of, rows_of, shown_of};
 use std::alloc::{AllocError, Global};
-use transcript_lines::{Ending, Input, Line, read_line};
-
-/// Where the first row would begin with no overview above it.
-const TOP: usize = 96;
+use transcript_lines::{Ending, Line, read_line};
 
 /// What a picture shows of a transcript.
 #[derive(Clone, Copy, Drop)]
@@ -42,74 +37,6 @@ pub struct Settings<'a> {
     pub unfolded: bool,
 }
 
-/// The lines that are shown: from one on, and up to another, which isn't.
-#[derive(Clone, Copy, Drop)]
-pub struct Shown {
-    pub first: usize,
-    pub end: usize,
-}
-
-/// The ticks of a line.
-fn ticks_of(line: &str) -> u64 {
-    match read_line(line) {
-        Some(Line::Input(Input::Tick(ticks))) => ticks,
-        _ => 0,
-    }
-}
-
-/// How many lines stand before the first one at which the clock has come so far.
-fn count_before(lines: &[&str], clock: u64) -> usize
-    ensures { result ≤ length lines.now }
-{
-    let mut now: u64 = 0;
-    for (place, line) in lines.iter().enumerate() {
-        now = now.saturating_add(ticks_of(line));
-        if now >= clock {
-            return place;
-        }
-    }
-    lines.len()
-}
-
-/// The lines between the clocks of the settings.
-pub fn shown_of(lines: &[&str], settings: &Settings<'_>) -> Shown
-    ensures order { result.first ≤ result.end }
-    ensures there { result.end ≤ length lines.now }
-    ensures first { settings.now.from ≡ 0 → result.first ≡ 0 }
-    ensures last { settings.now.to ≡ 2 ^ 64 - 1 → result.end ≡ length lines.now }
-{
-    let end = if settings.to == u64::MAX {
-        lines.len()
-    } else {
-        count_before(lines, settings.to.saturating_add(1))
-    };
-    let first = if settings.from == 0 {
-        0
-    } else {
-        count_before(lines, settings.from).min(end)
-    };
-    Shown { first, end }
-}
-
-/// The rows of a picture: each line that is shown stands in exactly one of them, and they stand in order.
-pub fn rows_of(
-    alloc: Global,
-    lines: &[&str],
-    shown: Shown,
-    unfolded: bool,
-) -> Result<Vec<Row>, AllocError>
-    requires order { shown.first ≤ shown.end }
-    requires there { shown.end ≤ length lines.now }
-    ensures cover { IfOk result (λ rows. Cover shown.first rows.items shown.end) }
-    ensures plain { OnTrue unfolded (IfOk result (λ rows. All IsPlain rows.items)) }
-{
-    if unfolded {
-        unfolded_rows(alloc, shown.first, shown.end)
-    } else {
-        folded_rows(alloc, lines, shown.first, shown.end)
-    }
-}
-
 /// How a run ended, by the last line.
 fn end_of(lines: &[&str]) -> &'static str {
     let Some(last) = lines.last() else {
@@ -123,16 +50,43 @@ fn end_of(lines: &[&str]) -> &'static str {
     }
 }
 
-/// All that stands over the grounds of the rows.
-fn draw_content(
+/// The columns that the memory of a run takes.
+fn columns_of(stays: &Stays) -> Columns {
+    Columns::new(
+        !stays.managed.is_empty(),
+        !stays.heap.is_empty(),
+        Pools::of(stays.used.as_slice()).count(),
+    )
+}
+
+/// The places of the parts of a picture with these rows, whose overview begins there.
+fn page_of(rows: &[Row], marks: &Marks, names: usize, strip: usize) -> Page {
+    let lanes = names.max(marks.processes.saturating_sub(4)).min(16);
+    Page::new(
+        lanes,
+        rows.len(),
+        strip,
+        height_of(lanes),
+        columns_of(&marks.stays),
+    )
+}
+
+/// What a picture is drawn from: what its rows tell together, the words above them, and the places of its parts.
+#[derive(Drop)]
+struct Layout {
+    marks: Marks,
+    head: Content,
+    page: Page,
+}
+
+/// What the picture of these rows is drawn from.
+fn layout_of(
     alloc: Global,
-    page: &Page,
     lines: &[&str],
     rows: &[Row],
-    marks: &Marks,
     settings: &Settings<'_>,
-) -> Result<Content, AllocError> {
-    let mut pen = Pen::new(alloc);
+) -> Result<Layout, AllocError> {
+    let marks = marks_of(alloc, lines, rows, settings.sizes)?;
     let clock = marks
         .clocks
         .as_slice()
@@ -140,7 +94,25 @@ fn draw_content(
         .copied()
         .unwrap_or(marks.start);
     let tally = tally_text(alloc, &marks.tally, clock, end_of(lines))?;
-    draw_head(&mut pen, page, settings.title, tally.as_str())?;
+    let mut pen = Pen::new(alloc);
+    let strip = draw_head(&mut pen, settings.title, tally.as_str())?;
+    let page = page_of(rows, &marks, settings.names.len(), strip);
+    let head = pen.content;
+    Ok(Layout { marks, head, page })
+}
+
+/// All that stands over the grounds of the rows.
+fn draw_over(
+    alloc: Global,
+    layout: &Layout,
+    lines: &[&str],
+    rows: &[Row],
+    settings: &Settings<'_>,
+) -> Result<Content, AllocError> {
+    let mut pen = Pen::new(alloc);
+    let (marks, page) = (&layout.marks, &layout.page);
+    pen.content.append(&layout.head)?;
+    draw_legend(&mut pen, page)?;
     draw_strip(&mut pen, page, marks)?;
     draw_lanes(&mut pen, page, settings.names)?;
     draw_lives(&mut pen, page, marks.lives.as_slice())?;
@@ -171,15 +143,6 @@ fn draw_memory(
     draw_pools(pen, page, stays.used.as_slice(), stays.linked.as_slice())
 }
 
-/// The columns that the memory of a run takes.
-fn columns_of(stays: &Stays) -> Columns {
-    Columns::new(
-        !stays.managed.is_empty(),
-        !stays.heap.is_empty(),
-        Pools::of(stays.used.as_slice()).count(),
-    )
-}
-
 /// The ground and the style of a picture.
 fn draw_behind(alloc: Global, page: &Page) -> Result<Content, AllocError> {
     let mut pen = Pen::new(alloc);
@@ -191,7 +154,10 @@ fn draw_behind(alloc: Global, page: &Page) -> Result<Content, AllocError> {
 }
 
 /// The element that a picture is, with nothing inside.
-fn frame_of(alloc: Global, page: &Page) -> Result<Element, AllocError> {
+fn frame_of(alloc: Global, page: &Page) -> Result<Element, AllocError>
+    ensures tag { IfOk result (λ frame. frame.tag ≡ Tag.Svg) }
+    ensures inside { IfOk result (λ frame. frame.inside ≡ []) }
+{
     let (width, height) = (page.width(), page.height());
     let view = format!(in alloc; "0 0 {width} {height}")?;
     Element::new(alloc, Tag::Svg)
@@ -207,35 +173,49 @@ fn document_of(
     page: &Page,
     behind: &Content,
     grounds: &Content,
-    content: &Content,
+    over: &Content,
 ) -> Result<Vec<u8>, AllocError>
-    ensures { IfOk result (λ picture. IsDocument picture.items) }
+    ensures document { IfOk result (λ picture. IsDocument picture.items) }
+    ensures drawn { IfOk result (λ picture. IsDrawn behind.now grounds.now over.now picture.items) }
 {
+    behind.is_well_formed();
+    over.is_well_formed();
     let picture = frame_of(alloc, page)?
         .around(behind)?
         .around(grounds)?
-        .around(content)?;
+        .around(over)?;
+    picture.is_well_formed();
     picture.document(alloc)
 }
 
-/// The places of the parts of a picture with these rows.
-fn page_of(rows: &[Row], marks: &Marks, names: usize) -> Page {
-    let lanes = names.max(marks.processes.saturating_sub(4)).min(16);
-    let top = TOP.saturating_add(height_of(lanes));
-    Page::new(lanes, rows.len(), top, columns_of(&marks.stays))
+/// The picture of these rows, which have the lines that are shown.
+fn draw_rows(
+    alloc: Global,
+    lines: &[&str],
+    shown: Shown,
+    rows: &[Row],
+    settings: &Settings<'_>,
+) -> Result<Vec<u8>, AllocError>
+    requires cover { Cover shown.first rows.now shown.end }
+    requires there { shown.end ≤ length lines.now }
+    ensures document { IfOk result (λ picture. IsDocument picture.items) }
+    ensures shows_rows { IfOk result (λ picture. ShowsRows (bytes_of lines.now) rows.now picture.items) }
+{
+    let layout = layout_of(alloc, lines, rows, settings)?;
+    let page = &layout.page;
+    let behind = draw_behind(alloc, page)?;
+    let grounds = grounds_of(alloc, page, lines, rows)?;
+    let over = draw_over(alloc, &layout, lines, rows, settings)?;
+    document_of(alloc, page, &behind, &grounds, &over)
 }
 
-/// The picture of a run, from the lines of its transcript: a document in which each element is closed and each text is escaped.
+/// The picture of a run, from the lines of its transcript: a document in which each element is closed and each text is escaped, and in
+/// which each line that is shown stands in exactly one row, whose title tells of it.
 pub fn draw(alloc: Global, lines: &[&str], settings: &Settings<'_>) -> Result<Vec<u8>, AllocError>
     ensures document { IfOk result (λ picture. IsDocument picture.items) }
+    ensures titles { IfOk result (λ picture. IsPicture (bytes_of lines.now) settings.now.from settings.now.to settings.now.unfolded picture.items) }
 {
-    let shown = shown_of(lines, settings);
+    let shown = shown_of(lines, settings.from, settings.to);
     let rows = rows_of(alloc, lines, shown, settings.unfolded)?;
-    let rows = rows.as_slice();
-    let marks = marks_of(alloc, lines, rows, settings.sizes)?;
-    let page = page_of(rows, &marks, settings.names.len());
-    let behind = draw_behind(alloc, &page)?;
-    let grounds = grounds_of(alloc, &page, lines, rows)?;
-    let content = draw_content(alloc, &page, lines, rows, &marks, settings)?;
-    document_of(alloc, &page, &behind, &grounds, &content)
+    draw_rows(alloc, lines, shown, rows.as_slice(), settings)
 }

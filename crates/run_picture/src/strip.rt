@@ -1,12 +1,9 @@
 //! The overview: the whole run on one narrow band, from left to right.
 
-use crate::marks::{Activation, Marks};
 use crate::page::{CLOCK, Page};
 use crate::pen::{Area, Pen, Place};
+use run_rows::{Activation, Marks};
 use std::alloc::{AllocError, Global};
-
-/// Where the overview begins.
-const TOP: usize = 62;
 
 /// The height of a process's lane, with the room below it.
 const LANE: usize = 6;
@@ -17,9 +14,9 @@ const WIDTH: usize = 600;
 /// How far a clock's label is from the next one.
 const LABEL: usize = 75;
 
-/// The height of the overview of so many lanes, with what stands above it.
+/// The height of the overview of so many lanes, with the room for the names of the columns below it.
 pub(crate) fn height_of(lanes: usize) -> usize {
-    lanes.saturating_mul(LANE).saturating_add(20)
+    lanes.saturating_mul(LANE).saturating_add(54)
 }
 
 /// Which units of the overview a process is active in, for each lane.
@@ -68,12 +65,18 @@ impl Band {
 }
 
 /// Draws some units of a lane, from one to another.
-fn draw_units(pen: &mut Pen, pid: usize, first: usize, end: usize) -> Result<(), AllocError> {
+fn draw_units(
+    pen: &mut Pen,
+    page: &Page,
+    pid: usize,
+    first: usize,
+    end: usize,
+) -> Result<(), AllocError> {
     let lane = pid.saturating_sub(4);
     let area = Area {
         place: Place {
             left: first.saturating_add(CLOCK + 10),
-            top: lane.saturating_mul(LANE).saturating_add(TOP),
+            top: lane.saturating_mul(LANE).saturating_add(page.strip),
         },
         width: end.saturating_sub(first).max(1),
         height: LANE - 1,
@@ -84,20 +87,20 @@ fn draw_units(pen: &mut Pen, pid: usize, first: usize, end: usize) -> Result<(),
 }
 
 /// Draws a lane of the overview.
-fn draw_lane(pen: &mut Pen, pid: usize, units: &[bool]) -> Result<(), AllocError> {
+fn draw_lane(pen: &mut Pen, page: &Page, pid: usize, units: &[bool]) -> Result<(), AllocError> {
     let mut begun = None;
     for (unit, is_active) in units.iter().enumerate() {
         match begun {
             None if *is_active => begun = Some(unit),
             Some(first) if !*is_active => {
-                draw_units(pen, pid, first, unit)?;
+                draw_units(pen, page, pid, first, unit)?;
                 begun = None;
             }
             _ => {}
         }
     }
     match begun {
-        Some(first) => draw_units(pen, pid, first, units.len()),
+        Some(first) => draw_units(pen, page, pid, first, units.len()),
         None => Ok(()),
     }
 }
@@ -113,7 +116,7 @@ fn draw_clocks(pen: &mut Pen, page: &Page, marks: &Marks) -> Result<(), AllocErr
             let number = format!(in pen.alloc; "{clock}")?;
             let place = Place {
                 left: along.saturating_add(CLOCK + 10),
-                top: TOP - 4,
+                top: page.strip.saturating_sub(4),
             };
             pen.text("g", place, number.as_str())?;
         }
@@ -131,7 +134,7 @@ pub(crate) fn draw_strip(pen: &mut Pen, page: &Page, marks: &Marks) -> Result<()
     let area = Area {
         place: Place {
             left: CLOCK + 10,
-            top: TOP,
+            top: page.strip,
         },
         width: WIDTH,
         height: page.lanes.saturating_mul(LANE),
@@ -139,7 +142,7 @@ pub(crate) fn draw_strip(pen: &mut Pen, page: &Page, marks: &Marks) -> Result<()
     pen.area("j", area, "")?;
     draw_clocks(pen, page, marks)?;
     for lane in 0..page.lanes {
-        draw_lane(pen, lane.saturating_add(4), band.lane(lane))?;
+        draw_lane(pen, page, lane.saturating_add(4), band.lane(lane))?;
     }
     Ok(())
 }

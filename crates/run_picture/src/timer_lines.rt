@@ -2,7 +2,7 @@
 
 use crate::page::{Page, ROW};
 use crate::pen::Pen;
-use crate::timers::{Arming, is_callback, number_in_kind};
+use run_rows::{Arming, is_callback, number_in_kind};
 use std::alloc::{AllocError, Global};
 
 /// Where a timer's line stands: those of event timers left of the lane, those of callback timers right of it.

@@ -1,10 +1,10 @@
 use Rattle.std.proofs.Common.{◌+◌, [], ◌∷◌, ◌++◌, All, refl, lit<}
 use Rattle.std.proofs.lemmas.List.Elements.{All-append, All-cons, All-nil}
-use Rattle.run_picture.specs.declared.row.Row.{Row}
-use Rattle.run_picture.specs.declared.row.Show.{Show}
-use Rattle.run_picture.specs.Rows.{Cover, IsPlain}
-use Rattle.run_picture.proofs.Covers.{Cover-append}
-use Rattle.run_picture.proofs.folding.unfolded_rows.Goals as goal
+use Rattle.run_rows.specs.declared.row.Row.{Row}
+use Rattle.run_rows.specs.declared.row.Show.{Show}
+use Rattle.run_rows.specs.Rows.{Cover, IsPlain}
+use Rattle.run_rows.proofs.Covers.{Cover-append}
+use Rattle.run_rows.proofs.folding.unfolded_rows.Goals as goal
 
 pub loop-at-preserved : goal.loop-at-preserved
 loop-at-preserved c =

@@ -8,63 +8,63 @@ use std::alloc::{AllocError, Global};
 use transcript_lines::{Input, Line, Note, Origin, Turn, read_line, read_turn};
 
 /// Processes have numbers below this one.
-pub(crate) const PROCESSES: usize = 20;
+const PROCESSES: usize = 20;
 
 /// An activation of a process, from a row to a row.
 #[derive(Clone, Copy, Drop)]
-pub(crate) struct Activation {
-    pub(crate) pid: usize,
-    pub(crate) first: usize,
-    pub(crate) last: usize,
+pub struct Activation {
+    pub pid: usize,
+    pub first: usize,
+    pub last: usize,
 }
 
 /// A process from its INIT to its end, where that came.
 #[derive(Clone, Copy, Drop)]
-pub(crate) struct Life {
-    pub(crate) pid: usize,
-    pub(crate) first: usize,
-    pub(crate) end: Option<usize>,
+pub struct Life {
+    pub pid: usize,
+    pub first: usize,
+    pub end: Option<usize>,
 }
 
 /// What one process gave another at once, in a row.
 #[derive(Clone, Copy, Drop)]
-pub(crate) struct Gift {
-    pub(crate) from: usize,
-    pub(crate) to: usize,
-    pub(crate) row: usize,
+pub struct Gift {
+    pub from: usize,
+    pub to: usize,
+    pub row: usize,
 }
 
 /// Numbers of a run.
 #[derive(Clone, Copy, Default, Drop)]
-pub(crate) struct Tally {
-    pub(crate) inputs: u64,
-    pub(crate) turns: u64,
-    pub(crate) printed: usize,
-    pub(crate) sent: u64,
-    pub(crate) lost: u64,
-    pub(crate) refused: u64,
+pub struct Tally {
+    pub inputs: u64,
+    pub turns: u64,
+    pub printed: usize,
+    pub sent: u64,
+    pub lost: u64,
+    pub refused: u64,
     /// Timers that were told after they were due.
-    pub(crate) late: u64,
+    pub late: u64,
 }
 
 /// What the rows tell together.
 #[derive(Drop)]
-pub(crate) struct Marks {
+pub struct Marks {
     /// The clock before the first row.
-    pub(crate) start: u64,
+    pub start: u64,
     /// The clock at each row's end.
-    pub(crate) clocks: Vec<u64>,
+    pub clocks: Vec<u64>,
     /// For each row the number of the line with the answer to its call, from 0 on.
-    pub(crate) answers: Vec<Option<usize>>,
-    pub(crate) activations: Vec<Activation>,
-    pub(crate) lives: Vec<Life>,
-    pub(crate) gifts: Vec<Gift>,
-    pub(crate) curves: Vec<Curve>,
-    pub(crate) armings: Vec<Arming>,
-    pub(crate) stays: Stays,
-    pub(crate) tally: Tally,
+    pub answers: Vec<Option<usize>>,
+    pub activations: Vec<Activation>,
+    pub lives: Vec<Life>,
+    pub gifts: Vec<Gift>,
+    pub curves: Vec<Curve>,
+    pub armings: Vec<Arming>,
+    pub stays: Stays,
+    pub tally: Tally,
     /// One more than the greatest number of a process that took a turn.
-    pub(crate) processes: usize,
+    pub processes: usize,
 }
 
 /// A call that isn't answered yet: its row, and the number of its line.
@@ -389,7 +389,7 @@ impl Walk {
 }
 
 /// What rows of a transcript tell together, with what the lines before them left.
-pub(crate) fn marks_of(
+pub fn marks_of(
     alloc: Global,
     lines: &[&str],
     rows: &[Row],

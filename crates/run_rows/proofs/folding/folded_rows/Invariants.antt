@@ -1,6 +1,6 @@
 use Rattle.std.proofs.Common.{◌≤◌, ◌-◌}
-use Rattle.run_picture.specs.Rows.{Cover}
-use Rattle.run_picture.proofs.folding.folded_rows.Given as goal
+use Rattle.run_rows.specs.Rows.{Cover}
+use Rattle.run_rows.proofs.folding.folded_rows.Given as goal
 
 abbrev pub invariant-loop-at : goal.invariant-loop-at
 invariant-loop-at l = record { cover : Cover l.fn.first l.rows.items l.at; within : l.at ≤ l.end }

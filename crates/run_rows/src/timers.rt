@@ -37,16 +37,16 @@ impl Cell {
 
 /// An arming of a timer, from a row to the row where it ended, if it did.
 #[derive(Clone, Copy, Drop)]
-pub(crate) struct Arming {
-    pub(crate) pid: usize,
+pub struct Arming {
+    pub pid: usize,
     /// The timer's number; those of the callback timers begin behind those of the event timers.
-    pub(crate) timer: usize,
-    pub(crate) first: usize,
-    pub(crate) last: Option<usize>,
+    pub timer: usize,
+    pub first: usize,
+    pub last: Option<usize>,
     /// The clock at which it was due.
-    pub(crate) due: u64,
+    pub due: u64,
     /// The clock at which it was told, where it was and not stopped or set anew.
-    pub(crate) told: Option<u64>,
+    pub told: Option<u64>,
 }
 
 /// When something comes about: in which row, and at which clock.
@@ -210,12 +210,12 @@ impl Timers {
 }
 
 /// Whether an arming's timer is a callback timer.
-pub(crate) fn is_callback(timer: usize) -> bool {
+pub fn is_callback(timer: usize) -> bool {
     timer >= EVENT_TIMERS
 }
 
 /// The number of a callback timer among its kind, or of an event timer.
-pub(crate) fn number_in_kind(timer: usize) -> usize {
+pub fn number_in_kind(timer: usize) -> usize {
     timer % EVENT_TIMERS
 }
 

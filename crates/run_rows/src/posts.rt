@@ -21,11 +21,11 @@ struct Posted {
 
 /// An event from the row where it was posted to the one where it is told.
 #[derive(Clone, Copy, Drop)]
-pub(crate) struct Curve {
-    pub(crate) from: usize,
-    pub(crate) first: usize,
-    pub(crate) to: usize,
-    pub(crate) last: usize,
+pub struct Curve {
+    pub from: usize,
+    pub first: usize,
+    pub to: usize,
+    pub last: usize,
 }
 
 /// The events on their way, the oldest first.

@@ -1,5 +1,5 @@
 use Rattle.std.proofs.Common.{◌≤◌, ◌-◌, length}
-use Rattle.run_picture.proofs.folding.end_of_repeats.Given as goal
+use Rattle.run_rows.proofs.folding.end_of_repeats.Given as goal
 
 abbrev pub invariant-loop-end : goal.invariant-loop-end
 invariant-loop-end l = record { behind : l.at ≤ l.end; there : l.end ≤ length l.lines }

@@ -1,8 +1,8 @@
 use Rattle.std.proofs.Common.{◌+◌, [], ◌∷◌, ◌++◌, arith}
 use Rattle.std.proofs.lemmas.Grind.{common_steps}
-use Rattle.run_picture.specs.Rows.{Cover}
-use Rattle.run_picture.proofs.Covers.{Cover-append}
-use Rattle.run_picture.proofs.folding.folded_rows.Goals as goal
+use Rattle.run_rows.specs.Rows.{Cover}
+use Rattle.run_rows.proofs.Covers.{Cover-append}
+use Rattle.run_rows.proofs.folding.folded_rows.Goals as goal
 
 pub loop-at-preserved : goal.loop-at-preserved
 loop-at-preserved c =

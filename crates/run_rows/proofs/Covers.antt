@@ -1,7 +1,7 @@
 -- Rows that cover lines.
 use Rattle.std.proofs.Common.{◌≡◌, ℕ, ◌+◌, ◌<◌, List, [], ◌∷◌, ◌++◌}
-use Rattle.run_picture.specs.declared.row.Row.{Row}
-use Rattle.run_picture.specs.Rows.{Cover}
+use Rattle.run_rows.specs.declared.row.Row.{Row}
+use Rattle.run_rows.specs.Rows.{Cover}
 
 -- one more row follows
 pub Cover-append : (first : ℕ) (rows : List Row) (end : ℕ) (row : Row) → Cover first rows end → row.first ≡ end → 0 < row.count → Cover first (rows ++ row ∷ []) (end + row.count)

@@ -2,7 +2,7 @@
 
 ghost use Rattle.std.specs.Prelude.{◌≡◌, ◌+◌, ◌-◌, ◌≤◌, ◌<◌, length, All, IfOk, IfSome};
 ghost use Rattle.std.specs.Bool.{OnTrue};
-ghost use Rattle.run_picture.specs.Rows.{Cover, IsPlain};
+ghost use Rattle.run_rows.specs.Rows.{Cover, IsPlain};
 
 use crate::row::{Row, Show};
 use std::alloc::{AllocError, Global};
@@ -14,7 +14,7 @@ const LONGEST_PERIOD: usize = 16;
 /// How many times at least lines are there again for them to be folded.
 const LEAST_TIMES: usize = 2;
 
-pub(crate) fn is_tick(line: &str) -> bool {
+fn is_tick(line: &str) -> bool {
     line.starts_with("> tick ")
 }
 

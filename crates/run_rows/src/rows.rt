@@ -1,0 +1,78 @@
+//! Which lines of a transcript are shown, and the rows that they stand in.
+
+ghost use Rattle.std.specs.Prelude.{◌≡◌, ◌-◌, ◌^◌, ◌≤◌, length, All, IfOk};
+ghost use Rattle.std.specs.Bool.{OnTrue};
+ghost use Rattle.run_rows.specs.Rows.{Cover, IsPlain};
+
+use crate::folding::{folded_rows, unfolded_rows};
+use crate::row::Row;
+use std::alloc::{AllocError, Global};
+use transcript_lines::{Input, Line, read_line};
+
+/// The lines that are shown: from one on, and up to another, which isn't.
+#[derive(Clone, Copy, Drop)]
+pub struct Shown {
+    pub first: usize,
+    pub end: usize,
+}
+
+/// The ticks of a line.
+fn ticks_of(line: &str) -> u64 {
+    match read_line(line) {
+        Some(Line::Input(Input::Tick(ticks))) => ticks,
+        _ => 0,
+    }
+}
+
+/// How many lines stand before the first one at which the clock has come so far.
+fn count_before(lines: &[&str], clock: u64) -> usize
+    ensures { result ≤ length lines.now }
+{
+    let mut now: u64 = 0;
+    for (place, line) in lines.iter().enumerate() {
+        now = now.saturating_add(ticks_of(line));
+        if now >= clock {
+            return place;
+        }
+    }
+    lines.len()
+}
+
+/// The lines from one clock to another, in ticks.
+pub fn shown_of(lines: &[&str], from: u64, to: u64) -> Shown
+    ensures order { result.first ≤ result.end }
+    ensures there { result.end ≤ length lines.now }
+    ensures first { from ≡ 0 → result.first ≡ 0 }
+    ensures last { to ≡ 2 ^ 64 - 1 → result.end ≡ length lines.now }
+{
+    let end = if to == u64::MAX {
+        lines.len()
+    } else {
+        count_before(lines, to.saturating_add(1))
+    };
+    let first = if from == 0 {
+        0
+    } else {
+        count_before(lines, from).min(end)
+    };
+    Shown { first, end }
+}
+
+/// The rows of lines: each line that is shown stands in exactly one of them, and they stand in order.
+pub fn rows_of(
+    alloc: Global,
+    lines: &[&str],
+    shown: Shown,
+    unfolded: bool,
+) -> Result<Vec<Row>, AllocError>
+    requires order { shown.first ≤ shown.end }
+    requires there { shown.end ≤ length lines.now }
+    ensures cover { IfOk result (λ rows. Cover shown.first rows.items shown.end) }
+    ensures plain { OnTrue unfolded (IfOk result (λ rows. All IsPlain rows.items)) }
+{
+    if unfolded {
+        unfolded_rows(alloc, shown.first, shown.end)
+    } else {
+        folded_rows(alloc, lines, shown.first, shown.end)
+    }
+}
