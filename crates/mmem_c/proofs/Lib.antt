@@ -1,0 +1,4 @@
+pub mod Rows
+pub mod Sliding
+pub mod Midway
+pub mod Stores

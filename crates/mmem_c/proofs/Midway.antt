@@ -1,0 +1,72 @@
+-- What holds of the table and of the buffer while blocks slide together.
+use Rattle.mmem_core.proofs.Words.{◌≡◌, ℕ, ◌+◌, ◌≤◌, ◌<◌, List, length, map, slice_set, slice_range, sum_by, Some, None, refl, sym, ap, ◌∙◌, subst, arith, up4, written, place_in, last_end, at_of, room_of}
+use Rattle.mmem_core.specs.declared.place.Place.{Place}
+use Rattle.arena_core.proofs.Ranges.{length-written}
+use Rattle.mmem_core.proofs.PlaceLemmas.{len_le_room}
+use Rattle.mmem_core.proofs.StoreLemmas.{block_in, blocks-moved}
+use Rattle.mmem_c.specs.declared.block.Block.{Block}
+use Rattle.mmem_c.specs.Stored.{places_told, stored, IsTable}
+use Rattle.mmem_c.specs.Code.Rows.{row_of, IsNext}
+use Rattle.mmem_c.proofs.Rows.{told_some, room_is, at_is, live_below, live_is}
+use Rattle.mmem_c.proofs.Sliding.{AreSliding, sliding_first, sliding_more, inside, left, last_is_end, end_le_total}
+use Rattle.mmem_c.proofs.Stores.{same_store, told-set}
+
+pub record IsMidway (old now : List Block) (before after : List ℕ) (end : ℕ) : Type 0 where
+  pub size : length after ≡ length before
+  pub sliding : AreSliding (length before) (sum_by room_of (places_told old)) end (places_told now)
+  pub store : stored now after ≡ stored old before
+
+pub midway_first : (table : List Block) (buffer : List ℕ) → IsTable table (length buffer) → IsMidway table table buffer buffer 0
+midway_first table buffer sound = record { size = refl; sliding = sliding_first (length buffer) (places_told table) sound; store = refl }
+
+module _ (old now : List Block) (before after : List ℕ) (end : ℕ) (midway : IsMidway old now before after end) where
+  module _ (i : ℕ) (next : IsNext now end (length now) (Some i)) where
+    abbrev row : Block
+    row = row_of now i
+
+    abbrev place : Place
+    place = record { at = row.place; len = row.size }
+
+    live : place_in (places_told now) i ≡ Some place
+    live = live_is now i next.1
+
+    lowest : (j : ℕ) → 0 < room_of (place_in (places_told now) j) → end ≤ at_of (place_in (places_told now) j) → row.place ≤ at_of (place_in (places_told now) j)
+    lowest j some after =
+        let r = room_is now j in
+        let some' : 0 < (row_of now j).size = omega arith in
+        let a = at_is now j some' in
+        omega (arith, next.3 j (live_below now j some') some' (omega arith))
+
+    pub next_inside : row.place + up4 row.size ≤ length before
+    next_inside = inside (length before) (sum_by room_of (places_told old)) end (places_told now) midway.sliding i place live next.2 lowest
+
+    pub midway_more : IsMidway old (slice_set now i (record { place = end; size = row.size })) before (written after end (slice_range after row.place (row.place + row.size))) (end + up4 row.size)
+    midway_more =
+        let total = sum_by room_of (places_told old) in
+        let moved : Block = record { place = end; size = row.size } in
+        let new = written after end (slice_range after row.place (row.place + row.size)) in
+        let told = told-set now i moved ∙ ap (slice_set (places_told now) i) (told_some moved next.1) in
+        let size = length-written after end (slice_range after row.place (row.place + row.size)) in
+        let fits : row.place + row.size ≤ length after = omega (arith, next_inside, len_le_room row.size, midway.size) in
+        record {
+          size = size ∙ midway.size;
+          sliding = subst (AreSliding (length before) total (end + up4 row.size)) (sym told)
+              (sliding_more (length before) total end (places_told now) midway.sliding i place live next.2 lowest);
+          store = same_store (length new) (length after) (stored (slice_set now i moved) new).blocks (stored now after).blocks size
+              (ap (map (block_in new)) told
+              ∙ blocks-moved (places_told now) i place live after end fits next.2
+              (left (length before) total end (places_told now) midway.sliding i place live next.2 lowest))
+              ∙ midway.store;
+        }
+
+  -- all have slid down
+  pub end_is : IsNext now end (length now) None → last_end (places_told now) ≡ end
+  end_is none = last_is_end (length before) (sum_by room_of (places_told old)) end (places_told now) midway.sliding
+      (λ j some.
+      let r = room_is now j in
+      let some' : 0 < (row_of now j).size = omega arith in
+      let a = at_is now j some' in
+      omega (arith, none j (live_below now j some') some'))
+
+  pub end_together : end ≤ sum_by room_of (places_told old)
+  end_together = end_le_total (length before) (sum_by room_of (places_told old)) end (places_told now) midway.sliding

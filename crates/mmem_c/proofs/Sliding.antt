@@ -1,0 +1,168 @@
+-- What holds of the places while blocks slide together.
+use Rattle.mmem_core.proofs.Words.{◌≡◌, ◌≢◌, ℕ, zero, suc, ◌+◌, ◌≤◌, ◌<◌, ◌⊎◌, inl, inr, List, [], ◌∷◌, length, slice_set, Option, Some, None, if◌then◌else◌, refl, sym, ap, ◌∙◌, arith, sum_by, sum_by-cons, cases_eq, up4, place_in, last_end, at_of, room_of, LieApart}
+use Rattle.mmem_core.specs.declared.place.Place.{Place}
+use Rattle.std.proofs.Common.{nat_le}
+use Rattle.std.proofs.lemmas.Bool.Decides.{nat_tests}
+use Rattle.mmem_core.proofs.PlaceLemmas.{place_in-set_same, place_in-set_other, live_below, len_le_room, end_le_last, last_le}
+
+-- what the block takes, if it is still to slide: it begins at the end of the others, or behind
+abbrev to_slide : ℕ → Option Place → ℕ
+to_slide end place = if nat_le end (at_of place) then room_of place else 0
+
+-- those that begin before `end` lie together in front of it, and those that begin behind it are still to slide
+pub record AreSliding (size total end : ℕ) (xs : List (Option Place)) : Type 0 where
+  pub apart : LieApart xs size
+  pub parted : (j : ℕ) → (at_of (place_in xs j) + room_of (place_in xs j) ≤ end) ⊎ (end ≤ at_of (place_in xs j))
+  pub together : end + sum_by (to_slide end) xs ≤ total
+  pub ends : end ≤ last_end xs
+
+to_slide-first : (p : Option Place) → to_slide 0 p ≡ room_of p
+to_slide-first p = grind (arith, nat_tests)
+
+all_to_slide : (xs : List (Option Place)) → sum_by (to_slide 0) xs ≡ sum_by room_of xs
+all_to_slide [] = refl
+all_to_slide (x ∷ xs) = omega (arith, sum_by-cons (to_slide 0) x xs, sum_by-cons room_of x xs, to_slide-first x, all_to_slide xs)
+
+pub sliding_first : (size : ℕ) (xs : List (Option Place)) → LieApart xs size → AreSliding size (sum_by room_of xs) 0 xs
+sliding_first size xs lie = record { apart = lie; parted = λ j. inr (omega arith); together = omega (arith, all_to_slide xs); ends = omega arith }
+
+-- where one entry of a list counts for less, and none for more, so does the sum
+sum_less : (f g : Option Place → ℕ) (xs : List (Option Place)) (i less : ℕ) (p : Option Place) → i < length xs
+    → ((j : ℕ) → g (place_in xs j) ≤ f (place_in xs j)) → g p + less ≤ f (place_in xs i) → sum_by g (slice_set xs i p) + less ≤ sum_by f xs
+sum_less f g [] i less p below each here = absurd (omega arith)
+sum_less f g (x ∷ xs) zero less p below each here = omega (arith, sum_by-cons g p xs, sum_by-cons f x xs, sums xs (λ j. each (suc j)))
+  where
+    sums : (ys : List (Option Place)) → ((j : ℕ) → g (place_in ys j) ≤ f (place_in ys j)) → sum_by g ys ≤ sum_by f ys
+    sums [] le = omega arith
+    sums (y ∷ ys) le = omega (arith, sum_by-cons g y ys, sum_by-cons f y ys, le 0, sums ys (λ j. le (suc j)))
+sum_less f g (x ∷ xs) (suc i) less p below each here =
+    omega (arith, sum_by-cons g x (slice_set xs i p), sum_by-cons f x xs, each 0, sum_less f g xs i less p (omega arith) (λ j. each (suc j)) here)
+
+fewer_to_slide : (end more : ℕ) (p : Option Place) → to_slide (end + more) p ≤ to_slide end p
+fewer_to_slide end more p = grind (arith, nat_tests)
+
+module _ (size total end : ℕ) (xs : List (Option Place)) (sliding : AreSliding size total end xs) where
+  module _ (i : ℕ) (place : Place) (live : place_in xs i ≡ Some place) (behind : end ≤ place.at)
+      (lowest : (j : ℕ) → 0 < room_of (place_in xs j) → end ≤ at_of (place_in xs j) → place.at ≤ at_of (place_in xs j)) where
+    abbrev lowered : Option Place
+    lowered = Some (record { at = end; len = place.len })
+
+    abbrev ys : List (Option Place)
+    ys = slice_set xs i lowered
+
+    at_i : at_of (place_in xs i) ≡ place.at
+    at_i = ap at_of live
+
+    room_i : room_of (place_in xs i) ≡ up4 place.len
+    room_i = ap room_of live
+
+    below : i < length xs
+    below = live_below xs i place live
+
+    here : (j : ℕ) → j ≡ i → place_in ys j ≡ lowered
+    here j e = ap (place_in ys) e ∙ place_in-set_same xs i lowered below
+
+    there : (j : ℕ) → j ≢ i → place_in ys j ≡ place_in xs j
+    there j ne = place_in-set_other xs i j lowered ne
+
+    pub some_room : 0 < up4 place.len
+    some_room = let r = room_i in omega (arith, sliding.apart.no_empty i (λ none. absurd (let l = live in cc)))
+
+    pub inside : place.at + up4 place.len ≤ size
+    inside = let a = at_i in let r = room_i in omega (arith, sliding.apart.inside i)
+
+    -- each other block lies before the end, or behind this one
+    pub past : (j : ℕ) → j ≢ i → (at_of (place_in xs j) + room_of (place_in xs j) ≤ end) ⊎ (place.at + up4 place.len ≤ at_of (place_in xs j))
+    past j ne = by_place (place_in xs j) refl
+      where
+        by_place : (p : Option Place) → place_in xs j ≡ p → (at_of (place_in xs j) + room_of (place_in xs j) ≤ end) ⊎ (place.at + up4 place.len ≤ at_of (place_in xs j))
+        by_place None e = inl (let a = ap at_of e in let r = ap room_of e in omega arith)
+        by_place (Some other) e =
+            let some = sliding.apart.no_empty j (λ none. absurd (let l = e in cc)) in
+            let a = at_i in let r = room_i in let s = some_room in
+            elim (sliding.parted j) [
+              | inl before ↦ inl before
+              | inr after ↦
+                  let up = lowest j some after in
+                  inr (omega (arith, sliding.apart.apart i j (λ same. ne (sym same)) (omega arith) some (omega arith)))
+            ]
+
+    -- where the others of a table without it lie: for what moves the block down
+    pub left : (j : ℕ) → (at_of (place_in (slice_set xs i None) j) + room_of (place_in (slice_set xs i None) j) ≤ end) ⊎ (end + place.len ≤ at_of (place_in (slice_set xs i None) j))
+    left j = elim (cases_eq j i) [
+      | inl e ↦ inl (let none = ap (place_in (slice_set xs i None)) e ∙ place_in-set_same xs i None below in let a = ap at_of none in let r = ap room_of none in omega arith)
+      | inr ne ↦
+          let same = place_in-set_other xs i j None ne in let a = ap at_of same in let r = ap room_of same in
+          elim (past j ne) [ inl before ↦ inl (omega arith) | inr after ↦ inr (omega (arith, len_le_room place.len)) ]
+    ]
+
+    moved_inside : (j : ℕ) → at_of (place_in ys j) + room_of (place_in ys j) ≤ size
+    moved_inside j = elim (cases_eq j i) [
+      | inl e ↦ let a = ap at_of (here j e) in let r = ap room_of (here j e) in omega (arith, inside)
+      | inr ne ↦ let a = ap at_of (there j ne) in let r = ap room_of (there j ne) in omega (arith, sliding.apart.inside j)
+    ]
+
+    moved_apart : (j k : ℕ) → j ≢ k → 0 < room_of (place_in ys j) → 0 < room_of (place_in ys k) → at_of (place_in ys j) ≤ at_of (place_in ys k)
+        → at_of (place_in ys j) + room_of (place_in ys j) ≤ at_of (place_in ys k)
+    moved_apart j k ne one other le = elim (cases_eq j i) [
+      | inl e ↦
+          let a = ap at_of (here j e) in let r = ap room_of (here j e) in
+          let ne' : k ≢ i = λ same. ne (e ∙ sym same) in
+          let b = ap at_of (there k ne') in let s = ap room_of (there k ne') in
+          elim (past k ne') [ inl before ↦ absurd (omega arith) | inr after ↦ omega arith ]
+      | inr ne' ↦
+          let a = ap at_of (there j ne') in let r = ap room_of (there j ne') in
+          elim (cases_eq k i) [
+            | inl e ↦
+                let b = ap at_of (here k e) in let s = ap room_of (here k e) in
+                elim (past j ne') [ inl before ↦ omega arith | inr after ↦ absurd (omega (arith, some_room)) ]
+            | inr ne'' ↦
+                let b = ap at_of (there k ne'') in let s = ap room_of (there k ne'') in
+                omega (arith, sliding.apart.apart j k ne (omega arith) (omega arith) (omega arith))
+          ]
+    ]
+
+    moved_some : (j : ℕ) → place_in ys j ≢ None → 0 < room_of (place_in ys j)
+    moved_some j live' = elim (cases_eq j i) [
+      | inl e ↦ let r = ap room_of (here j e) in omega (arith, some_room)
+      | inr ne ↦ let r = ap room_of (there j ne) in omega (arith, sliding.apart.no_empty j (λ none. live' (there j ne ∙ none)))
+    ]
+
+    moved_parted : (j : ℕ) → (at_of (place_in ys j) + room_of (place_in ys j) ≤ end + up4 place.len) ⊎ (end + up4 place.len ≤ at_of (place_in ys j))
+    moved_parted j = elim (cases_eq j i) [
+      | inl e ↦ inl (let a = ap at_of (here j e) in let r = ap room_of (here j e) in omega arith)
+      | inr ne ↦
+          let a = ap at_of (there j ne) in let r = ap room_of (there j ne) in
+          elim (past j ne) [ inl before ↦ inl (omega arith) | inr after ↦ inr (omega arith) ]
+    ]
+
+    moved_together : end + up4 place.len + sum_by (to_slide (end + up4 place.len)) ys ≤ total
+    moved_together =
+        let more = up4 place.len in
+        let none : to_slide (end + more) lowered ≡ 0 = let some = some_room in grind (arith, nat_tests) in
+        let all : to_slide end (place_in xs i) ≡ more = let a = at_i in let r = room_i in grind (arith, nat_tests) in
+        omega (arith, sliding.together, sum_less (to_slide end) (to_slide (end + more)) xs i more lowered below (λ j. fewer_to_slide end more (place_in xs j)) (omega (arith, none, all)))
+
+    pub sliding_more : AreSliding size total (end + up4 place.len) ys
+    sliding_more = record {
+      apart = record { inside = moved_inside; apart = moved_apart; no_empty = moved_some };
+      parted = moved_parted;
+      together = moved_together;
+      ends = let a = ap at_of (here i refl) in let r = ap room_of (here i refl) in omega (arith, end_le_last ys i);
+    }
+
+  -- all have slid down
+  pub last_is_end : ((j : ℕ) → 0 < room_of (place_in xs j) → at_of (place_in xs j) < end) → last_end xs ≡ end
+  last_is_end none_behind = omega (arith, sliding.ends, last_le xs end ends)
+    where
+      before : (j : ℕ) (p : Option Place) → place_in xs j ≡ p → at_of (place_in xs j) + room_of (place_in xs j) ≤ end
+      before j None e = let a = ap at_of e in let r = ap room_of e in omega arith
+      before j (Some place) e =
+          let some = sliding.apart.no_empty j (λ none. absurd (let l = e in cc)) in
+          elim (sliding.parted j) [ inl b ↦ b | inr after ↦ absurd (omega (arith, none_behind j some)) ]
+
+      ends : (j : ℕ) → at_of (place_in xs j) + room_of (place_in xs j) ≤ end
+      ends j = before j (place_in xs j) refl
+
+  pub end_le_total : end ≤ total
+  end_le_total = omega (arith, sliding.together)

@@ -1,0 +1,249 @@
+-- What a table and a buffer stand for, before and after each kind of change.
+use Rattle.mmem_core.proofs.Words.{◌≡◌, ◌≢◌, ℕ, zero, suc, ◌==◌, ◌+◌, Bool, true, false, if◌then◌else◌, IsSomeAnd, option_map, eq-eqb, ne_eqb, length-range, free, ◌-◌, ◌≤◌, ◌<◌, inl, inr, List, [], ◌∷◌, length, map, get_or, replicate, slice_set, sum_by, Option, Some, None, refl, sym, ap, ◌∙◌, arith, cases_eq, cases_lt, map-set, length-replicate, length-map, subst, number_of, up4, zeros, written, ManagedStore, block_of, unused, allocated, freed, place_in, last_end, at_of, room_of, LieApart}
+use Rattle.std.specs.Prelude.{IsTrue, ◌↔◌, is_some, nat_le}
+use Rattle.std.proofs.lemmas.Bool.{false≢true, le-leb, lt-leb}
+use Rattle.mote_types.specs.Bytes.{range_of}
+use Rattle.mmem_core.specs.ManagedStore.{fits, length_of}
+use Rattle.mmem_core.specs.declared.place.Place.{Place}
+use Rattle.arena_core.proofs.Ranges.{length-written}
+use Rattle.mmem_core.proofs.PlaceLemmas.{place_in-set_same, place_in-set_other, len_le_room, end_le_last, LieApart-from, IsLaidOut-none}
+use Rattle.mmem_core.proofs.StoreLemmas.{block_in, get_or-blocks, no_place, sum_same, blocks-added}
+use Rattle.mmem_c.specs.declared.block.Block.{Block}
+use Rattle.mmem_c.specs.Stored.{place_told, places_told, stored, IsTable, process_of, handle_of, unused_store}
+use Rattle.mmem_c.specs.Answers.{is_live, answer_to}
+use Rattle.mmem_c.specs.declared.status.TheConstants.{ALLOCATED, NO_HANDLE, IN_USE, NO_BYTES, NO_ROOM}
+use Rattle.mmem_c.specs.Code.Rows.{row_of}
+use Rattle.mmem_c.proofs.Rows.{number_is, told_some, live_is, unused_is}
+
+-- two stores of one capacity with the same blocks
+pub same_store : (size size' : ℕ) (blocks blocks' : List (Option (List ℕ))) → size ≡ size' → blocks ≡ blocks'
+    → let one : ManagedStore = record { capacity = size; quota = None; blocks = blocks } in let other : ManagedStore = record { capacity = size'; quota = None; blocks = blocks' } in one ≡ other
+same_store size size' blocks blocks' e f = cc
+
+-- a table of which one row changed
+pub told-set : (table : List Block) (i : ℕ) (row : Block) → places_told (slice_set table i row) ≡ slice_set (places_told table) i (place_told row)
+told-set table i row = map-set place_told table i row
+
+pub block_is : (table : List Block) (buffer : List ℕ) (handle : ℕ) → block_of (process_of handle) (handle_of handle) (stored table buffer) ≡ block_in buffer (place_in (places_told table) handle)
+block_is table buffer handle = ap (λ i. get_or (stored table buffer).blocks i None) (number_is handle) ∙ get_or-blocks buffer (places_told table) handle
+
+-- a handle without a block has none in any table that stands for the same
+pub still_unused : (table table' : List Block) (buffer buffer' : List ℕ) (i : ℕ) → stored table' buffer' ≡ stored table buffer → (row_of table i).size ≡ 0 → (row_of table' i).size ≡ 0
+still_unused table table' buffer buffer' i same none = elim (cases_eq (row_of table' i).size 0) [
+  | inl e ↦ e
+  | inr ne ↦
+      let some = live_is table' i (omega arith) in
+      let block : block_in buffer' (place_in (places_told table') i) ≡ None =
+      sym (block_is table' buffer' i) ∙ ap (block_of (process_of i) (handle_of i)) same ∙ block_is table buffer i ∙ ap (block_in buffer) (unused_is table i none) in
+      absurd (let gone = no_place buffer' (place_in (places_told table') i) block in cc)
+]
+
+-- what is free: what the places leave
+pub unused_left : (table : List Block) (buffer : List ℕ) → IsTable table (length buffer) → unused (stored table buffer) ≡ length buffer - sum_by room_of (places_told table)
+unused_left table buffer sound = ap (λ n. length buffer - n) (sum_same buffer (places_told table) sound.inside)
+
+module _ (table : List Block) (capacity i : ℕ) (row : Block) (below : i < length table) (sound : IsTable table capacity) where
+  abbrev xs : List (Option Place)
+  xs = places_told table
+
+  abbrev added : List (Option Place)
+  added = slice_set xs i (Some (record { at = row.place; len = row.size }))
+
+  long : i < length xs
+  long = omega (arith, length-map table place_told)
+
+  module _ (some : 0 < row.size) (end : row.place ≡ last_end xs) (room : row.place + up4 row.size ≤ capacity) where
+    here : (j : ℕ) → j ≡ i → place_in added j ≡ Some (record { at = row.place; len = row.size })
+    here j e = ap (place_in added) e ∙ place_in-set_same xs i (Some (record { at = row.place; len = row.size })) long
+
+    there : (j : ℕ) → j ≢ i → place_in added j ≡ place_in xs j
+    there j ne = place_in-set_other xs i j (Some (record { at = row.place; len = row.size })) ne
+
+    added_inside : (j : ℕ) → at_of (place_in added j) + room_of (place_in added j) ≤ capacity
+    added_inside j = elim (cases_eq j i) [
+      | inl e ↦ let a = ap at_of (here j e) in let r = ap room_of (here j e) in omega arith
+      | inr ne ↦ let a = ap at_of (there j ne) in let r = ap room_of (there j ne) in omega (arith, sound.inside j)
+    ]
+
+    added_apart : (j k : ℕ) → j ≢ k → 0 < room_of (place_in added j) → 0 < room_of (place_in added k) → at_of (place_in added j) ≤ at_of (place_in added k)
+        → at_of (place_in added j) + room_of (place_in added j) ≤ at_of (place_in added k)
+    added_apart j k ne one other le = elim (cases_eq j i) [
+      | inl e ↦
+          let a = ap at_of (here j e) in
+          let ne' : k ≢ i = λ same. ne (e ∙ sym same) in
+          let b = ap at_of (there k ne') in let s = ap room_of (there k ne') in
+          absurd (omega (arith, end_le_last xs k))
+      | inr ne' ↦
+          let a = ap at_of (there j ne') in let r = ap room_of (there j ne') in
+          elim (cases_eq k i) [
+            | inl e ↦ let b = ap at_of (here k e) in omega (arith, end_le_last xs j)
+            | inr ne'' ↦
+                let b = ap at_of (there k ne'') in let s = ap room_of (there k ne'') in
+                omega (arith, sound.apart j k ne (omega arith) (omega arith) (omega arith))
+          ]
+    ]
+
+    added_some : (j : ℕ) → place_in added j ≢ None → 0 < room_of (place_in added j)
+    added_some j live = elim (cases_eq j i) [
+      | inl e ↦ let r = ap room_of (here j e) in omega arith
+      | inr ne ↦ let r = ap room_of (there j ne) in omega (arith, sound.no_empty j (λ none. live (there j ne ∙ none)))
+    ]
+
+    told_added : places_told (slice_set table i row) ≡ added
+    told_added = told-set table i row ∙ ap (slice_set xs i) (told_some row some)
+
+    -- a table with a new block behind the last one
+    pub table_added : IsTable (slice_set table i row) capacity
+    table_added = subst (λ ys. LieApart ys capacity) (sym told_added) (record { inside = added_inside; apart = added_apart; no_empty = added_some })
+
+    pub store_added : (buffer : List ℕ) → length buffer ≡ capacity → stored (slice_set table i row) (written buffer row.place (zeros row.size)) ≡ allocated (process_of i) (handle_of i) row.size (stored table buffer)
+    store_added buffer size =
+        let ws = zeros row.size in let new = written buffer row.place ws in
+        let count : length ws ≡ row.size = length-replicate row.size 0 in
+        same_store (length new) (length buffer) (stored (slice_set table i row) new).blocks (slice_set (stored table buffer).blocks (number_of (process_of i) (handle_of i)) (Some ws)) (length-written buffer row.place ws)
+        (ap (map (block_in new)) told_added
+        ∙ blocks-added buffer xs row.place i row.size ws (λ j. omega (arith, end_le_last xs j)) count (omega (arith, len_le_room row.size))
+        ∙ ap (λ k. slice_set (stored table buffer).blocks k (Some ws)) (sym (number_is i)))
+
+-- a row that tells of no block
+abbrev no_row : Block
+no_row = record { place = 0; size = 0 }
+
+-- a table of such rows
+told_unused : (count : ℕ) → places_told (replicate count no_row) ≡ replicate count None
+told_unused zero = refl
+told_unused (suc count) = ap (λ (places : List (Option Place)). None ∷ places) (told_unused count)
+
+blocks_unused : (buffer : List ℕ) (count : ℕ) → map (block_in buffer) (replicate count None) ≡ replicate count None
+blocks_unused buffer zero = refl
+blocks_unused buffer (suc count) = ap (λ (blocks : List (Option (List ℕ))). None ∷ blocks) (blocks_unused buffer count)
+
+pub store_unused : (count : ℕ) (buffer : List ℕ) → stored (replicate count no_row) buffer ≡ unused_store count (length buffer)
+store_unused count buffer =
+    same_store (length buffer) (length buffer) (stored (replicate count no_row) buffer).blocks (replicate count None) refl
+    (ap (map (block_in buffer)) (told_unused count) ∙ blocks_unused buffer count)
+
+pub table_unused : (count capacity : ℕ) → IsTable (replicate count no_row) capacity
+table_unused count capacity =
+    subst (λ places. LieApart places capacity) (sym (told_unused count)) (LieApart-from (replicate count None) [] 0 capacity (IsLaidOut-none count capacity))
+
+-- whether a handle has a block
+live_some : (table : List Block) (buffer : List ℕ) (i : ℕ) → 0 < (row_of table i).size → is_live i (stored table buffer) ≡ true
+live_some table buffer i some = ap is_some (block_is table buffer i ∙ ap (block_in buffer) (live_is table i some))
+
+live_none : (table : List Block) (buffer : List ℕ) (i : ℕ) → (row_of table i).size ≡ 0 → is_live i (stored table buffer) ≡ false
+live_none table buffer i none = ap is_some (block_is table buffer i ∙ ap (block_in buffer) (unused_is table i none))
+
+not_live : (table : List Block) (i : ℕ) → IsTrue false ↔ (0 < (row_of table i).size) → (row_of table i).size ≡ 0
+not_live table i tells = elim (cases_eq (row_of table i).size 0) [ inl none ↦ none | inr some ↦ absurd (false≢true (tells.1 (omega arith))) ]
+
+pub none_told : (table : List Block) (i : ℕ) (has : Bool) → has ≡ false → IsTrue has ↔ (0 < (row_of table i).size) → (row_of table i).size ≡ 0
+none_told table i has e tells = not_live table i (subst (λ b. IsTrue b ↔ (0 < (row_of table i).size)) e tells)
+
+-- what is no more than another number by a test that failed is above it
+pub too_many : (a b : ℕ) (is : Bool) → is ≡ false → IsTrue is ↔ (a ≤ b) → b < a
+too_many a b is e tells = elim (cases_lt b a) [ inl less ↦ less | inr le ↦ absurd (false≢true (sym e ∙ tells.1 le)) ]
+
+pub live_row : (table : List Block) (buffer : List ℕ) (i : ℕ) (has : Bool) → IsTrue has ↔ (0 < (row_of table i).size) → has ≡ is_live i (stored table buffer)
+live_row table buffer i true tells = sym (live_some table buffer i (tells.0 refl))
+live_row table buffer i false tells = sym (live_none table buffer i (not_live table i tells))
+
+-- a block is taken away
+pub store_freed : (table : List Block) (buffer : List ℕ) (i : ℕ) → stored (slice_set table i no_row) buffer ≡ freed (process_of i) (handle_of i) (stored table buffer)
+store_freed table buffer i =
+    same_store (length buffer) (length buffer) (stored (slice_set table i no_row) buffer).blocks (slice_set (stored table buffer).blocks (number_of (process_of i) (handle_of i)) None) refl
+    (ap (map (block_in buffer)) (told-set table i no_row)
+    ∙ map-set (block_in buffer) (places_told table) i None
+    ∙ ap (λ k. slice_set (stored table buffer).blocks k None) (sym (number_is i)))
+
+module _ (table : List Block) (capacity i : ℕ) (sound : IsTable table capacity) (below : i < length table) where
+  abbrev kept : List (Option Place)
+  kept = slice_set (places_told table) i None
+
+  gone : (j : ℕ) → j ≡ i → place_in kept j ≡ None
+  gone j e = ap (place_in kept) e ∙ place_in-set_same (places_told table) i None (omega (arith, length-map table place_told))
+
+  same : (j : ℕ) → j ≢ i → place_in kept j ≡ place_in (places_told table) j
+  same j ne = place_in-set_other (places_told table) i j None ne
+
+  some_same : (j : ℕ) → 0 < room_of (place_in kept j) → place_in kept j ≡ place_in (places_told table) j
+  some_same j some = elim (cases_eq j i) [ inl e ↦ absurd (let r = ap room_of (gone j e) in omega arith) | inr ne ↦ same j ne ]
+
+  kept_inside : (j : ℕ) → at_of (place_in kept j) + room_of (place_in kept j) ≤ capacity
+  kept_inside j = elim (cases_eq j i) [
+    | inl e ↦ let a = ap at_of (gone j e) in let r = ap room_of (gone j e) in omega arith
+    | inr ne ↦ let a = ap at_of (same j ne) in let r = ap room_of (same j ne) in omega (arith, sound.inside j)
+  ]
+
+  kept_apart : (j k : ℕ) → j ≢ k → 0 < room_of (place_in kept j) → 0 < room_of (place_in kept k) → at_of (place_in kept j) ≤ at_of (place_in kept k)
+      → at_of (place_in kept j) + room_of (place_in kept j) ≤ at_of (place_in kept k)
+  kept_apart j k ne one other le =
+      let e = some_same j one in let f = some_same k other in
+      let a = ap at_of e in let r = ap room_of e in let b = ap at_of f in let s = ap room_of f in
+      omega (arith, sound.apart j k ne (omega arith) (omega arith) (omega arith))
+
+  kept_some : (j : ℕ) → place_in kept j ≢ None → 0 < room_of (place_in kept j)
+  kept_some j live = elim (cases_eq j i) [
+    | inl e ↦ absurd (live (gone j e))
+    | inr ne ↦ let r = ap room_of (same j ne) in omega (arith, sound.no_empty j (λ none. live (same j ne ∙ none)))
+  ]
+
+  pub table_freed : IsTable (slice_set table i no_row) capacity
+  table_freed = subst (λ places. LieApart places capacity) (sym (told-set table i no_row)) (record { inside = kept_inside; apart = kept_apart; no_empty = kept_some })
+
+-- a block that lies in the buffer is read from there
+pub block_read : (table : List Block) (buffer : List ℕ) (i capacity : ℕ) → 0 < (row_of table i).size → (row_of table i).place + up4 (row_of table i).size ≤ capacity → length buffer ≡ capacity
+    → IsSomeAnd (length_of (process_of i) (handle_of i) (stored table buffer)) (λ len. ((row_of table i).place + len ≤ capacity)
+    × (block_of (process_of i) (handle_of i) (stored table buffer) ≡ Some (range_of (row_of table i).place len buffer)))
+block_read table buffer i capacity some room size =
+    let at = (row_of table i).place in let len = (row_of table i).size in
+    let fits : at + len ≤ length buffer = omega (arith, len_le_room len) in
+    let long = length-range buffer at len fits in
+    let block = block_is table buffer i ∙ ap (block_in buffer) (live_is table i some) in
+    subst (λ (o : Option (List ℕ)). IsSomeAnd (option_map length o) (λ n. (at + n ≤ capacity) × (o ≡ Some (range_of at n buffer)))) (sym block)
+    (omega arith, ap (λ n. Some (range_of at n buffer)) (sym long))
+
+pub no_block : (table : List Block) (buffer : List ℕ) (i : ℕ) → (row_of table i).size ≡ 0 → block_of (process_of i) (handle_of i) (stored table buffer) ≡ None
+no_block table buffer i none = block_is table buffer i ∙ ap (block_in buffer) (unused_is table i none)
+
+-- what a call for a block is answered
+choice : Bool → Bool → Bool → Bool → ℕ
+choice beyond live empty room =
+    if beyond then NO_HANDLE
+    else (if live then IN_USE
+    else (if empty then NO_BYTES
+    else (if room then ALLOCATED else NO_ROOM)))
+
+module _ (table : List Block) (buffer : List ℕ) (i size : ℕ) (below : i < length table) where
+  abbrev store : ManagedStore
+  store = stored table buffer
+
+  within : nat_le (length store.blocks) i ≡ false
+  within = lt-leb (length store.blocks) i (omega (arith, length-map (places_told table) (block_in buffer), length-map table place_told))
+
+  pub answer_in_use : 0 < (row_of table i).size → IN_USE ≡ answer_to i size store
+  unfolding choice
+  answer_in_use some = let live = live_some table buffer i some in sym (ap (λ b. choice b (is_live i store) (size == 0) (fits (process_of i) size store)) within ∙ ap (λ b. choice false b (size == 0) (fits (process_of i) size store)) live)
+
+  module _ (none : (row_of table i).size ≡ 0) where
+    after_use : (answer : ℕ) → answer ≡ choice false false (size == 0) (fits (process_of i) size store) → answer ≡ answer_to i size store
+    unfolding choice
+    after_use answer e = e ∙ sym (ap (λ b. choice b (is_live i store) (size == 0) (fits (process_of i) size store)) within ∙ ap (λ b. choice false b (size == 0) (fits (process_of i) size store)) (live_none table buffer i none))
+
+    pub answer_no_bytes : size ≡ 0 → NO_BYTES ≡ answer_to i size store
+    unfolding choice
+    answer_no_bytes e = after_use NO_BYTES (sym (ap (λ b. choice false false b (fits (process_of i) size store)) (eq-eqb size 0 e)))
+
+    module _ (some : size ≢ 0) (sound : IsTable table (length buffer)) where
+      free_is : free (process_of i) store ≡ length buffer - sum_by room_of (places_told table)
+      free_is = unused_left table buffer sound
+
+      pub answer_no_room : length buffer - sum_by room_of (places_told table) < up4 size → NO_ROOM ≡ answer_to i size store
+      unfolding choice
+      answer_no_room less = after_use NO_ROOM
+          (sym (ap (λ b. choice false false b (fits (process_of i) size store)) (ne_eqb size 0 some) ∙ ap (choice false false false) (lt-leb (up4 size) (free (process_of i) store) (omega (arith, free_is)))))
+
+      pub answer_allocated : up4 size ≤ length buffer - sum_by room_of (places_told table) → ALLOCATED ≡ answer_to i size store
+      unfolding choice
+      answer_allocated le = after_use ALLOCATED
+          (sym (ap (λ b. choice false false b (fits (process_of i) size store)) (ne_eqb size 0 some) ∙ ap (choice false false false) (le-leb (up4 size) (free (process_of i) store) (omega (arith, free_is)))))

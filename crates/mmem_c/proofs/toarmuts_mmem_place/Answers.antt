@@ -1,0 +1,19 @@
+use Rattle.std.proofs.Common.{sym, ◌∙◌}
+use Rattle.std.proofs.lemmas.Bool.{false≢true}
+use Rattle.mmem_c.proofs.Rows.{row_inside}
+use Rattle.mmem_c.proofs.Stores.{none_told, no_block, block_read}
+use Rattle.mmem_c.proofs.toarmuts_mmem_place.Goals as goal
+use Rattle.mmem_c.proofs.toarmuts_mmem_place.Goals.{then-not-has_block-via-then-not-has_block, then-not-has_block-via-else-not-has_block+then-not-lies_inside}
+
+pub returns-then-not-has_block-clause-none : goal.returns-then-not-has_block-clause-none
+returns-then-not-has_block-clause-none c same sound buffer =
+    let table = c.args.blocks.now in let i = c.args.handle in
+    elim c.then-not-has_block.branch [
+      | then-not-has_block-via-then-not-has_block w ↦ no_block table buffer i (none_told table i c.has_block.result w.if-not-has_block.true c.has_block.ensures)
+      | then-not-has_block-via-else-not-has_block+then-not-lies_inside w ↦ absurd (false≢true (sym w.if-not-lies_inside.true ∙ w.lies_inside.ensures.1 (row_inside table c.args.capacity i sound)))
+    ]
+
+pub returns-clause-block : goal.returns-clause-block
+returns-clause-block c below buffer size =
+    let some = c.has_block.ensures.0 c.if-not-has_block.false in
+    block_read c.args.blocks.now buffer c.args.handle c.args.capacity some (c.lies_inside.ensures.0 c.if-not-lies_inside.false some) size

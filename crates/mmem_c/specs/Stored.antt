@@ -1,0 +1,38 @@
+-- Managed memory that C keeps: a table with a row for each handle, and a buffer.
+use Rattle.std.specs.Prelude.{ℕ, ◌+◌, ◌/◌, ◌%◌, ◌==◌, List, length, map, replicate, Option, Some, None, if◌then◌else◌}
+use Rattle.std.specs.Option.{option_map}
+use Rattle.mmem_core.specs.declared.place.Place.{Place}
+use Rattle.mmem_core.specs.ManagedStore.{ManagedStore, empty_store}
+use Rattle.mmem_core.specs.HandleTable.{bytes_at}
+use Rattle.mmem_core.specs.Code.Laid.{LieApart}
+use Rattle.mmem_c.specs.declared.block.Block.{Block}
+
+-- where a row says that a block lies, if it has one
+abbrev pub place_told : Block → Option Place
+place_told row = if row.size == 0 then None else Some (record { at = row.place; len = row.size })
+
+abbrev pub places_told : List Block → List (Option Place)
+places_told table = map place_told table
+
+-- what the handles stand for: the bytes of the buffer at the places of their blocks. There is no quota
+abbrev pub stored : List Block → List ℕ → ManagedStore
+stored table buffer = record {
+  capacity = length buffer;
+  quota = None;
+  blocks = map (option_map (bytes_at buffer)) (places_told table);
+}
+
+-- the blocks lie in so many bytes, and no two of them share one
+abbrev pub IsTable : List Block → ℕ → Type 0
+IsTable table capacity = LieApart (places_told table) capacity
+
+-- a handle as a name of mmem_core's: sixteen of them to a process, the first ones to process 3
+abbrev pub process_of : ℕ → ℕ
+process_of handle = 3 + handle / 16
+
+abbrev pub handle_of : ℕ → ℕ
+handle_of handle = handle % 16
+
+-- so many handles, none of which has a block
+abbrev pub unused_store : ℕ → ℕ → ManagedStore
+unused_store count capacity = record (empty_store capacity None) { blocks = replicate count None }

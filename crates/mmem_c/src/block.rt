@@ -1,0 +1,29 @@
+//! Where a block lies, and what room it takes.
+
+ghost use Rattle.std.specs.Prelude.{◌+◌, ◌^◌, ◌≤◌, ◌<◌, ◌≡◌, ◌↔◌, IsTrue};
+ghost use Rattle.mote_types.specs.Rounding.{up4};
+
+/// A row of the table: the block of one handle.
+#[repr(C)]
+#[derive(Clone, Copy, Drop)]
+pub struct Block {
+    /// Where it begins: so many bytes from the buffer's start.
+    pub place: usize,
+    /// How many bytes it has. It takes this many, rounded up. 0 where the handle has no block.
+    pub size: usize,
+}
+
+/// The least multiple of 4 not below `n`.
+pub fn rounded(n: usize) -> usize
+    requires { up4 n < 2 ^ 64 }
+    ensures { result ≡ up4 n }
+{
+    (n + 3) / 4 * 4
+}
+
+/// Whether `n` bytes, rounded up, are no more than `room`.
+pub fn fits(n: usize, room: usize) -> bool
+    ensures { IsTrue result ↔ (up4 n ≤ room) }
+{
+    n <= room && (4 - n % 4) % 4 <= room - n
+}
