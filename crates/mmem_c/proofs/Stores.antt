@@ -6,8 +6,8 @@ use Rattle.mote_types.specs.Bytes.{range_of}
 use Rattle.mmem_core.specs.ManagedStore.{fits, length_of}
 use Rattle.mmem_core.specs.declared.place.Place.{Place}
 use Rattle.arena_core.proofs.Ranges.{length-written}
-use Rattle.mmem_core.proofs.PlaceLemmas.{place_in-set_same, place_in-set_other, len_le_room, end_le_last, LieApart-from, IsLaidOut-none}
-use Rattle.mmem_core.proofs.StoreLemmas.{block_in, get_or-blocks, no_place, sum_same, blocks-added}
+use Rattle.mmem_core.proofs.PlaceLemmas.{place_in-set_same, place_in-set_other, len_le_room, end_le_last, last_end-added, LieApart-from, IsLaidOut-none}
+use Rattle.mmem_core.proofs.StoreLemmas.{block_in, get_or-blocks, no_place, sum_same, blocks-added, unused-added}
 use Rattle.mmem_c.specs.declared.block.Block.{Block}
 use Rattle.mmem_c.specs.Stored.{place_told, places_told, stored, IsTable, process_of, handle_of, unused_store}
 use Rattle.mmem_c.specs.Answers.{is_live, answer_to}
@@ -95,6 +95,18 @@ module _ (table : List Block) (capacity i : ℕ) (row : Block) (below : i < leng
     -- a table with a new block behind the last one
     pub table_added : IsTable (slice_set table i row) capacity
     table_added = subst (λ ys. LieApart ys capacity) (sym told_added) (record { inside = added_inside; apart = added_apart; no_empty = added_some })
+
+    pub last_added : last_end (places_told (slice_set table i row)) ≡ row.place + up4 row.size
+    last_added =
+        ap last_end told_added
+        ∙ ap (λ at. last_end (slice_set xs i (Some (record { at = at; len = row.size })))) end
+        ∙ last_end-added xs i row.size long
+        ∙ ap (λ at. at + up4 row.size) (sym end)
+
+    pub added_behind : IsSomeAnd (place_in (places_told (slice_set table i row)) i) (λ place. last_end (places_told (slice_set table i row)) ≡ place.at + up4 row.size)
+    added_behind =
+        subst (λ (p : Option Place). IsSomeAnd p (λ place. last_end (places_told (slice_set table i row)) ≡ place.at + up4 row.size))
+        (sym (ap (λ ys. place_in ys i) told_added ∙ here i refl)) last_added
 
     pub store_added : (buffer : List ℕ) → length buffer ≡ capacity → stored (slice_set table i row) (written buffer row.place (zeros row.size)) ≡ allocated (process_of i) (handle_of i) row.size (stored table buffer)
     store_added buffer size =
@@ -220,6 +232,13 @@ module _ (table : List Block) (buffer : List ℕ) (i size : ℕ) (below : i < le
 
   within : nat_le (length store.blocks) i ≡ false
   within = lt-leb (length store.blocks) i (omega (arith, length-map (places_told table) (block_in buffer), length-map table place_told))
+
+  -- a new block takes its rounded size of what is free
+  pub unused_after : (row_of table i).size ≡ 0 → unused (allocated (process_of i) (handle_of i) size store) ≡ unused store - up4 size
+  unused_after none =
+      ap (λ k. unused (record store { blocks = slice_set store.blocks k (Some (zeros size)) })) (number_is i)
+      ∙ unused-added store i size (omega (arith, length-map (places_told table) (block_in buffer), length-map table place_told))
+      (get_or-blocks buffer (places_told table) i ∙ ap (block_in buffer) (unused_is table i none))
 
   pub answer_in_use : 0 < (row_of table i).size → IN_USE ≡ answer_to i size store
   unfolding choice

@@ -15,7 +15,7 @@ ghost use Rattle.std.specs.Prelude.{◌≡◌, ◌≢◌, ℕ, List, ◌+◌, �
 ghost use Rattle.mote_types.specs.Bytes.{range_of};
 ghost use Rattle.mote_types.specs.Rounding.{up4};
 ghost use Rattle.mmem_core.specs.ManagedStore.{unused, block_of, length_of, allocated, freed};
-ghost use Rattle.mmem_core.specs.Places.{last_end};
+ghost use Rattle.mmem_core.specs.Places.{place_in, last_end};
 ghost use Rattle.mmem_c.specs.Stored.{places_told, stored, IsTable, process_of, handle_of, unused_store};
 ghost use Rattle.mmem_c.specs.Answers.{is_live, answer_to};
 
@@ -53,6 +53,9 @@ pub extern "C" fn toarmuts_mmem_alloc(
     ensures sound { result ≡ ALLOCATED → IsTable blocks.new (length buffer.new) }
     ensures still { result ≡ ALLOCATED → last_end (places_told blocks.old) + up4 size ≤ length buffer.old →
         blocks.new ≡ slice_set blocks.old handle (record { place = last_end (places_told blocks.old); size = size }) }
+    ensures together { result ≡ ALLOCATED → length buffer.old < last_end (places_told blocks.old) + up4 size →
+        last_end (places_told blocks.new) + unused (stored blocks.new buffer.new) ≤ length buffer.new }
+    ensures behind { result ≡ ALLOCATED → IsSomeAnd (place_in (places_told blocks.new) handle) (λ place. last_end (places_told blocks.new) ≡ place.at + up4 size) }
     ensures unchanged { result ≢ ALLOCATED → (blocks.new ≡ blocks.old) × (buffer.new ≡ buffer.old) }
 {
     if !lie_apart(blocks, buffer.len()) {

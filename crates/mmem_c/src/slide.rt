@@ -1,11 +1,11 @@
 //! How blocks slide together, and where a new one comes.
 
-ghost use Rattle.std.specs.Prelude.{◌≡◌, ◌+◌, ◌-◌, ◌≤◌, ◌<◌, length, sum_by, slice_range, slice_set};
+ghost use Rattle.std.specs.Prelude.{◌≡◌, ◌+◌, ◌-◌, ◌≤◌, ◌<◌, length, sum_by, slice_range, slice_set, IsSomeAnd};
 ghost use Rattle.mote_types.specs.Bytes.{zeros};
 ghost use Rattle.mote_types.specs.Rounding.{up4};
 ghost use Rattle.arena_core.specs.Written.{written};
 ghost use Rattle.mmem_core.specs.ManagedStore.{allocated};
-ghost use Rattle.mmem_core.specs.Places.{last_end};
+ghost use Rattle.mmem_core.specs.Places.{place_in, last_end};
 ghost use Rattle.mmem_core.specs.Code.Laid.{room_of};
 ghost use Rattle.mmem_c.specs.Stored.{places_told, stored, IsTable, process_of, handle_of};
 ghost use Rattle.mmem_c.specs.Code.Rows.{row_of, IsNext};
@@ -79,6 +79,7 @@ pub fn make_room(blocks: &mut [Block], buffer: &mut [u8], size: usize) -> usize
     ensures end { result ≡ last_end (places_told blocks.new) }
     ensures room { result + up4 size ≤ length buffer.new }
     ensures still { last_end (places_told blocks.old) + up4 size ≤ length buffer.old → (blocks.new ≡ blocks.old) × (buffer.new ≡ buffer.old) }
+    ensures together { length buffer.old < last_end (places_told blocks.old) + up4 size → result ≤ sum_by room_of (places_told blocks.old) }
 {
     let end = end_of_last(blocks, buffer.len());
     if fits(size, buffer.len() - end) {
@@ -98,6 +99,8 @@ pub fn put_last(blocks: &mut [Block], buffer: &mut [u8], handle: usize, block: B
     ensures table { IsTable blocks.new (length buffer.new) }
     ensures store { stored blocks.new buffer.new ≡ allocated (process_of handle) (handle_of handle) block.size (stored blocks.old buffer.old) }
     ensures row { blocks.new ≡ slice_set blocks.old handle block }
+    ensures last { last_end (places_told blocks.new) ≡ block.place + up4 block.size }
+    ensures behind { IsSomeAnd (place_in (places_told blocks.new) handle) (λ place. last_end (places_told blocks.new) ≡ place.at + up4 block.size) }
 {
     clear(buffer, block.place, block.size);
     blocks[handle] = block;

@@ -1,6 +1,6 @@
 use Rattle.std.proofs.Common.{◌≡◌, refl, sym, subst, length, slice_set, rules}
 use Rattle.mmem_c.specs.Stored.{IsTable}
-use Rattle.mmem_c.proofs.Stores.{table_added, store_added}
+use Rattle.mmem_c.proofs.Stores.{table_added, store_added, last_added, added_behind}
 use Rattle.mmem_c.proofs.slide.put_last.Goals as goal
 
 pub returns-clause-table : goal.returns-clause-table
@@ -15,3 +15,11 @@ returns-clause-store c =
     let table = c.args.blocks.now in let buffer = c.args.buffer.now in
     rw (c.clear.ensures)
     (store_added table (length buffer) c.args.handle c.args.block c.requires.there c.requires.table c.requires.some_bytes c.requires.end c.requires.room buffer refl)
+
+pub returns-clause-last : goal.returns-clause-last
+returns-clause-last c =
+    last_added c.args.blocks.now (length c.args.buffer.now) c.args.handle c.args.block c.requires.there c.requires.table c.requires.some_bytes c.requires.end c.requires.room
+
+pub returns-clause-behind : goal.returns-clause-behind
+returns-clause-behind c =
+    added_behind c.args.blocks.now (length c.args.buffer.now) c.args.handle c.args.block c.requires.there c.requires.table c.requires.some_bytes c.requires.end c.requires.room
