@@ -30,12 +30,15 @@ fn next_from(blocks: &[Block], low: usize) -> Option<usize>
     next
 }
 
-/// Moves a block's bytes down to another place. The two ranges may overlap.
+/// Moves a block's bytes down to another place, if it doesn't lie there already. The two ranges may overlap.
 fn slide_down(buffer: &mut [u8], block: Block, to: usize)
     requires inside { block.place + block.size ≤ length buffer.old }
     requires down { to ≤ block.place }
     ensures { buffer.new ≡ written buffer.old to (slice_range buffer.old block.place (block.place + block.size)) }
 {
+    if block.place == to {
+        return;
+    }
     buffer.copy_within(block.place..block.place + block.size, to);
 }
 
