@@ -1,6 +1,5 @@
 -- What a callback timer's new number strikes out, and what it leaves.
-use Rattle.std.proofs.Common.{rules}
-use Rattle.timer_core.proofs.Words.{◌≡◌, ◌≢◌, ℕ, zero, suc, ◌<◌, ◌≤◌, false, ◌==◌, refl, sym, ◌∙◌, ap, arith, lit<, lit≤, ◌⊎◌, inl, inr, ne_eqb, cases_eq, length-set, get_or-set_same, get_or-set_other, All-replicate, Armings, no_armings, callback_place, present_arming, is_present_arming, renumbered, all_renumbered, IsNumbered}
+use Rattle.timer_core.proofs.Words.{rules, ◌≡◌, ◌≢◌, ℕ, zero, suc, ◌<◌, ◌≤◌, false, ◌==◌, refl, sym, ◌∙◌, ap, arith, lit<, lit≤, ◌⊎◌, inl, inr, ne_eqb, cases_eq, length-set, get_or-set_same, get_or-set_other, All-replicate, Armings, no_armings, callback_place, present_arming, is_present_arming, renumbered, all_renumbered, IsNumbered}
 
 pub numbered_at_boot : IsNumbered no_armings
 numbered_at_boot = record { places = refl; below = All-replicate (λ arming. arming < 1) 64 0 (lit< tt) }

@@ -1,6 +1,5 @@
 -- Each cell says whether its timer is on the list.
-use Rattle.std.proofs.Common.{rules}
-use Rattle.timer_core.proofs.Words.{◌||◌, arith, ◌≡◌, ◌<◌, Bool, true, false, List, [], ◌∷◌, length, refl, sym, ◌∙◌, ap, subst, set, list_any, get_or-set_same, get_or-set_other, Timer, LinkedCell, place_of, IsNamed, is_timer, flag_of, AreFlagged, zero_linked}
+use Rattle.timer_core.proofs.Words.{rules, ◌||◌, arith, ◌≡◌, ◌<◌, Bool, true, false, List, [], ◌∷◌, length, refl, sym, ◌∙◌, ap, subst, set, list_any, get_or-set_same, get_or-set_other, Timer, LinkedCell, place_of, IsNamed, is_timer, flag_of, AreFlagged, zero_linked}
 use Rattle.timer_core.proofs.NameLemmas.{same_timer, is_timer_itself, is_timer_flips, places_differ}
 use Rattle.timer_core.proofs.Unlinking.{others}
 

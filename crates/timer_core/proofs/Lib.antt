@@ -9,3 +9,4 @@ mod Examples
 pub mod Forgetting
 pub mod NoneDue
 pub mod Words
+pub mod Lemmas

@@ -1,6 +1,5 @@
 -- The timer list along the links.
-use Rattle.std.proofs.Common.{rules}
-use Rattle.timer_core.proofs.Words.{◌≡◌, ℕ, zero, suc, ◌<◌, ◌≤◌, Bool, true, false, List, [], ◌∷◌, length, refl, ◌∙◌, ap, arith, eqb, set, lit≤, Option, Some, None, find, map, replicate, ◌^◌, list_any, IsDistinct, AllByRecursion, or_parts, or_cases, ne_eqb, eqb-true, cases_eq, length-map, get_or-set_same, get_or-set_other, get_or-replicate, All-replicate, Timer, LinkedCell, place_of, IsNamed, is_timer, next_of, linked, listed_from, Names, AreApart, IsList, IsTable, zero_linked}
+use Rattle.timer_core.proofs.Words.{rules, ◌≡◌, ℕ, zero, suc, ◌<◌, ◌≤◌, Bool, true, false, List, [], ◌∷◌, length, refl, ◌∙◌, ap, arith, eqb, set, lit≤, Option, Some, None, find, map, replicate, ◌^◌, list_any, IsDistinct, AllByRecursion, or_parts, or_cases, ne_eqb, eqb-true, cases_eq, length-map, get_or-set_same, get_or-set_other, get_or-replicate, All-replicate, Timer, LinkedCell, place_of, IsNamed, is_timer, next_of, linked, listed_from, Names, AreApart, IsList, IsTable, zero_linked}
 use Rattle.std.proofs.lemmas.Map.Steps.{length-le_from_distinct_below}
 use Rattle.timer_core.proofs.NameLemmas.{place_below, places_differ}
 

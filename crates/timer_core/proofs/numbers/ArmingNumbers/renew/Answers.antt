@@ -1,5 +1,4 @@
-use Rattle.timer_core.proofs.Words.{◌∙◌, ap, Armings, present_arming}
-use Rattle.timer_core.proofs.ArmingLemmas.{renumbered_others}
+use Rattle.timer_core.proofs.Lemmas.{◌∙◌, ap, Armings, present_arming, renumbered_others}
 use Rattle.timer_core.proofs.numbers.ArmingNumbers.renew.Goals as goal
 
 pub returns-clause-others : goal.returns-clause-others

@@ -1,5 +1,4 @@
-use Rattle.timer_core.proofs.Words.{◌≡◌, arith, sym, IsNumbered}
-use Rattle.timer_core.proofs.ArmingLemmas.{all_renumbered_strikes, all_renumbered_others}
+use Rattle.timer_core.proofs.Lemmas.{◌≡◌, arith, sym, IsNumbered, all_renumbered_strikes, all_renumbered_others}
 use Rattle.timer_core.proofs.numbers.ArmingNumbers.renew_all.Goals as goal
 
 pub returns-clause-cancelled : goal.returns-clause-cancelled

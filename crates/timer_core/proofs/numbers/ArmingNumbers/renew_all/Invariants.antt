@@ -1,5 +1,4 @@
-use Rattle.timer_core.proofs.Words.{◌≡◌, ◌+◌}
-use Rattle.timer_core.proofs.ArmingLemmas.{renumbered_below}
+use Rattle.timer_core.proofs.Lemmas.{◌≡◌, ◌+◌, renumbered_below}
 use Rattle.timer_core.proofs.numbers.ArmingNumbers.renew_all.Given as goal
 
 abbrev pub invariant-loop-number : goal.invariant-loop-number

@@ -1,7 +1,4 @@
-use Rattle.timer_core.proofs.Words.{◌≡◌, true, false, sym, ◌∙◌, ap, arith, armed_with, is_armed, timers_of}
-use Rattle.timer_core.proofs.Cells.{cell_given}
-use Rattle.timer_core.proofs.Changes.{cell_changed, head_added}
-use Rattle.timer_core.proofs.NameLemmas.{place_below}
+use Rattle.timer_core.proofs.Lemmas.{◌≡◌, true, false, sym, ◌∙◌, ap, arith, armed_with, is_armed, timers_of, cell_given, cell_changed, head_added, place_below}
 use Rattle.timer_core.proofs.table.TimerTable.arm.Goals as goal
 
 pub invariant_of-self : goal.invariant_of-self

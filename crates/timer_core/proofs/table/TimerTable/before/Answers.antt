@@ -1,6 +1,4 @@
-use Rattle.timer_core.proofs.Words.{◌≡◌, true, false, sym, ◌∙◌, ap, subst, Some, None, is_timer, Timers, is_armed, next_of, timers_of, Follows, IsHead}
-use Rattle.timer_core.proofs.LinkLemmas.{passes, listed_shorter, listed_from_none}
-use Rattle.timer_core.proofs.Unlinking.{passed_first, passed_more, follows_here, absent_at_end, head_here}
+use Rattle.timer_core.proofs.Lemmas.{◌≡◌, true, false, sym, ◌∙◌, ap, subst, Some, None, is_timer, Timers, is_armed, next_of, timers_of, Follows, IsHead, passes, listed_shorter, listed_from_none, passed_first, passed_more, follows_here, absent_at_end, head_here}
 use Rattle.timer_core.proofs.table.TimerTable.before.Goals as goal
 
 pub returns-in_default-clause-head : goal.returns-in_default-clause-head

@@ -1,5 +1,4 @@
-use Rattle.timer_core.proofs.Words.{length, next_of, listed_from}
-use Rattle.timer_core.proofs.Unlinking.{IsPassed}
+use Rattle.timer_core.proofs.Lemmas.{length, next_of, listed_from, IsPassed}
 use Rattle.timer_core.proofs.table.TimerTable.before.Given as goal
 
 -- those up to `before` are not the timer

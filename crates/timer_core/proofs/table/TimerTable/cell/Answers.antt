@@ -1,5 +1,4 @@
-use Rattle.timer_core.proofs.Words.{sym}
-use Rattle.timer_core.proofs.Cells.{cell_read}
+use Rattle.timer_core.proofs.Lemmas.{sym, cell_read}
 use Rattle.timer_core.proofs.table.TimerTable.cell.Goals as goal
 
 pub returns-clause-value : goal.returns-clause-value

@@ -1,5 +1,4 @@
-use Rattle.timer_core.proofs.Words.{◌≡◌, false, sym, ◌∙◌, ap, subst, list_any, is_timer, Timers, is_armed, stop_timer, listed_from, Follows, IsHead}
-use Rattle.timer_core.proofs.Changes.{head_removed, link_closed, nothing_removed}
+use Rattle.timer_core.proofs.Lemmas.{◌≡◌, false, sym, ◌∙◌, ap, subst, list_any, is_timer, Timers, is_armed, stop_timer, listed_from, Follows, IsHead, head_removed, link_closed, nothing_removed}
 use Rattle.timer_core.proofs.table.TimerTable.disarm.Goals as goal
 
 pub returns-then-not-is_armed : goal.returns-then-not-is_armed

@@ -1,6 +1,4 @@
-use Rattle.timer_core.proofs.Words.{◌≡◌, ◌∙◌, ap, arith, Timer, stop_timer}
-use Rattle.timer_core.proofs.LinkLemmas.{AllNamed, all_named}
-use Rattle.timer_core.proofs.Forgetting.{without_callbacks_at_first, without_callbacks_more, without_callbacks_at_last}
+use Rattle.timer_core.proofs.Lemmas.{◌≡◌, ◌∙◌, ap, arith, Timer, stop_timer, AllNamed, all_named, without_callbacks_at_first, without_callbacks_more, without_callbacks_at_last}
 use Rattle.timer_core.proofs.table.TimerTable.disarm_callbacks.Goals as goal
 
 pub loop-number-init : goal.loop-number-init

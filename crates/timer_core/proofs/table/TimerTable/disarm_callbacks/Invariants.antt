@@ -1,5 +1,4 @@
-use Rattle.timer_core.proofs.Words.{◌≡◌}
-use Rattle.timer_core.proofs.Forgetting.{without_callbacks_below}
+use Rattle.timer_core.proofs.Lemmas.{◌≡◌, without_callbacks_below}
 use Rattle.timer_core.proofs.table.TimerTable.disarm_callbacks.Given as goal
 
 abbrev pub invariant-loop-number : goal.invariant-loop-number

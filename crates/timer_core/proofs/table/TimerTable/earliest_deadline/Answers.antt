@@ -1,5 +1,4 @@
-use Rattle.timer_core.proofs.Words.{◌≡◌, false, sym, ◌∙◌, ap, arith, lt-leb, Timers, is_due, deadline, cell_of, first_due, timers_of}
-use Rattle.timer_core.proofs.LinkLemmas.{passes, listed_shorter, found_later, listed_from_none}
+use Rattle.timer_core.proofs.Lemmas.{◌≡◌, false, sym, ◌∙◌, ap, arith, lt-leb, Timers, is_due, deadline, cell_of, first_due, timers_of, passes, listed_shorter, found_later, listed_from_none}
 use Rattle.timer_core.proofs.table.TimerTable.earliest_deadline.Goals as goal
 
 pub cell-requires : goal.cell-requires

@@ -1,4 +1,4 @@
-use Rattle.timer_core.proofs.Words.{◌≡◌, ℕ, ◌<◌, length, find, is_due, listed_from, IsList, timers_of}
+use Rattle.timer_core.proofs.Lemmas.{◌≡◌, ℕ, ◌<◌, length, find, is_due, listed_from, IsList, timers_of}
 use Rattle.timer_core.proofs.table.TimerTable.earliest_deadline.Given as goal
 
 -- before the earliest deadline of those that were passed, the first due timer is among those still to be passed

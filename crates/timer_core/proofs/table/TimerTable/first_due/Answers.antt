@@ -1,5 +1,4 @@
-use Rattle.timer_core.proofs.Words.{◌≡◌, ◌≤◌, ◌<◌, true, false, sym, ◌∙◌, ap, le-leb, lt-leb, Timers, is_due, deadline, cell_of, first_due, timers_of}
-use Rattle.timer_core.proofs.LinkLemmas.{passes, listed_shorter, found_here, found_later, listed_from_none}
+use Rattle.timer_core.proofs.Lemmas.{◌≡◌, ◌≤◌, ◌<◌, true, false, sym, ◌∙◌, ap, le-leb, lt-leb, Timers, is_due, deadline, cell_of, first_due, timers_of, passes, listed_shorter, found_here, found_later, listed_from_none}
 use Rattle.timer_core.proofs.table.TimerTable.first_due.Goals as goal
 
 pub cell-cell-requires : goal.cell-cell-requires

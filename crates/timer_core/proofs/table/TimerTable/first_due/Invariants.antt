@@ -1,4 +1,4 @@
-use Rattle.timer_core.proofs.Words.{◌≡◌, length, find, is_due, listed_from, IsList, timers_of}
+use Rattle.timer_core.proofs.Lemmas.{◌≡◌, length, find, is_due, listed_from, IsList, timers_of}
 use Rattle.timer_core.proofs.table.TimerTable.first_due.Given as goal
 
 -- the first due timer of those still to be passed is the first due one of the list

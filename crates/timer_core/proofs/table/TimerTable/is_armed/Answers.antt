@@ -1,4 +1,4 @@
-use Rattle.timer_core.proofs.Words.{◌∙◌, ap, is_armed}
+use Rattle.timer_core.proofs.Lemmas.{◌∙◌, ap, is_armed}
 use Rattle.timer_core.proofs.table.TimerTable.is_armed.Goals as goal
 
 pub returns : goal.returns

@@ -1,5 +1,4 @@
-use Rattle.timer_core.proofs.Changes.{timers_at_boot}
-use Rattle.timer_core.proofs.LinkLemmas.{table_at_boot}
+use Rattle.timer_core.proofs.Lemmas.{timers_at_boot, table_at_boot}
 use Rattle.timer_core.proofs.table.TimerTable.new.Goals as goal
 
 pub invariant_of-result : goal.invariant_of-result

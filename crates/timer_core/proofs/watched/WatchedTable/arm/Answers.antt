@@ -1,5 +1,4 @@
-use Rattle.timer_core.proofs.Words.{◌≡◌, ◌∙◌, sym, ap, arith, Timers, armed_with, cell_of, deadline, first_due}
-use Rattle.timer_core.proofs.NoneDue.{none_due_after_arming}
+use Rattle.timer_core.proofs.Lemmas.{◌≡◌, ◌∙◌, sym, ap, arith, Timers, armed_with, cell_of, deadline, first_due, none_due_after_arming}
 use Rattle.timer_core.proofs.watched.WatchedTable.arm.Goals as goal
 
 pub invariant_of-self : goal.invariant_of-self

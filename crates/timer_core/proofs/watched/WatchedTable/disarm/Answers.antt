@@ -1,5 +1,4 @@
-use Rattle.timer_core.proofs.Words.{◌∙◌, ap, first_due}
-use Rattle.timer_core.proofs.NoneDue.{none_due_in_fewer}
+use Rattle.timer_core.proofs.Lemmas.{◌∙◌, ap, first_due, none_due_in_fewer}
 use Rattle.timer_core.proofs.watched.WatchedTable.disarm.Goals as goal
 
 pub invariant_of-self : goal.invariant_of-self
