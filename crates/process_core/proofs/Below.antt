@@ -1,8 +1,5 @@
 -- What the poll round and the base come to, where no process is within an activation.
-use Rattle.std.proofs.Common.{◌≡◌, ℕ, Bool, true, false, List, [], ◌∷◌, ◌++◌, refl, Option, None}
-use Rattle.process_core.proofs.Common.{Origin, Item, Job, is_empty, numbers, is_any_marked, scheduler_behind, from_marked, Yields, poll_items, Scheduler, in_front, of_event}
-use Rattle.process_core.specs.declared.open_work.Base.{Base}
-use Rattle.process_core.specs.declared.scheduler_fields.SchedulerFields.{SchedulerFields}
+use Rattle.process_core.proofs.Common.{◌≡◌, ℕ, Bool, true, false, List, [], ◌∷◌, ◌++◌, refl, Option, None, Origin, Item, Job, is_empty, numbers, is_any_marked, scheduler_behind, from_marked, Yields, poll_items, Scheduler, in_front, of_event, Base, SchedulerFields}
 use Rattle.process_core.proofs.Yields.{polls_begin, unpolled_yields, unmarked_pass, yields_after}
 
 -- the first event is delivered

@@ -1,10 +1,5 @@
 -- The scheduler at boot.
-use Rattle.std.proofs.Common.{◌≡◌, ℕ, zero, suc, ◌+◌, ◌<◌, ◌≤◌, true, [], ◌∷◌, ◌++◌, arith, None, add-one}
-use Rattle.process_core.proofs.Common.{range_with_len, nat_tests, at_first, state_of, is_one_of, IsSound, IsInOrder}
-use Rattle.process_core.specs.declared.scheduler_fields.SchedulerFields.{SchedulerFields}
-use Rattle.process_core.specs.declared.open_work.Base.{Base}
-use Rattle.process_core.specs.declared.state.State.{State}
-use Rattle.process_core.specs.declared.front.Front.{Front}
+use Rattle.process_core.proofs.Common.{◌≡◌, ℕ, zero, suc, ◌+◌, ◌<◌, ◌≤◌, true, [], ◌∷◌, ◌++◌, arith, None, add-one, range_with_len, nat_tests, at_first, state_of, is_one_of, IsSound, IsInOrder, SchedulerFields, Base, State, Front}
 
 pub range_more : (a n : ℕ) → range_with_len a (n + 1) ≡ range_with_len a n ++ (a + n) ∷ []
 range_more a zero = grind arith

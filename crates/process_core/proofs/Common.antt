@@ -1,30 +1,37 @@
 -- The names that most proofs here cite, passed on from one place. Declares nothing.
 pub use Rattle.mote_types.specs.Codes.{plain_event}
-pub use Rattle.mote_types.specs.EventNumbers.{POLL}
+pub use Rattle.mote_types.specs.EventNumbers.{INIT, POLL}
 pub use Rattle.mote_types.specs.declared.event.Event.{Event}
 pub use Rattle.mote_types.specs.declared.event.Origin.{Origin}
 pub use Rattle.mote_types.specs.declared.event.Pid.{Pid}
 pub use Rattle.mote_types.specs.declared.event.Stimulus.{Stimulus}
 pub use Rattle.mote_types.specs.declared.reply.Reply.{Reply}
 pub use Rattle.process_core.specs.Agenda.{Item, Job, Queued}
-pub use Rattle.process_core.specs.Code.KernelReceivers.{is_other_than}
-pub use Rattle.process_core.specs.Code.LonePoll.{is_only_marked, polls_alone}
-pub use Rattle.process_core.specs.Code.Nesting.{is_one_of, IsSound, answering, has_ended, IsAtTurn}
+pub use Rattle.process_core.specs.Code.KernelReceivers.{behind_kernel_receivers, is_other_than}
+pub use Rattle.process_core.specs.Code.LonePoll.{IsLonePoll, is_only_marked, polls_alone, unmarked}
+pub use Rattle.process_core.specs.Code.Nesting.{AreIn, IsAtTurn, IsNested, IsSound, answering, has_ended, is_one_of, leaving}
 pub use Rattle.process_core.specs.Code.NextJobs.{job_told}
-pub use Rattle.process_core.specs.Code.OpenWork.{front_items, items_of, poll_items, base_items, agenda_of, receiver_items}
-pub use Rattle.process_core.specs.Code.ProcessList.{IsKept, listed, mark_at, others}
-pub use Rattle.process_core.specs.Code.SchedulerFields.{IsInOrder, BootsKnown, scheduler_behind, queued_of, scheduler_of}
+pub use Rattle.process_core.specs.Code.OpenWork.{agenda_of, base_items, front_items, items_of, poll_items, receiver_items}
+pub use Rattle.process_core.specs.Code.ProcessList.{EndsWithKernel, IsKept, kernel_numbers, listed, mark_at, mark_count, others, state_at}
+pub use Rattle.process_core.specs.Code.SchedulerFields.{BootsKnown, HoldsEvent, IsInOrder, IsOrdered, StartsKnown, active_in, front_after, queued_of, scheduler_behind, scheduler_of, turn_in}
 pub use Rattle.process_core.specs.Code.SchedulerView.{job_of}
-pub use Rattle.process_core.specs.Code.Walks.{from_application, receiver_is_next, from_marked}
+pub use Rattle.process_core.specs.Code.Walks.{from_application, from_marked, is_broadcast, receiver_is_next}
 pub use Rattle.process_core.specs.Code.Yields.{Yields}
 pub use Rattle.process_core.specs.Idle.{is_empty}
-pub use Rattle.process_core.specs.Processes.{is_kernel_process, is_any_marked, with_mark, at_first, state_of, with_state, without, numbers, is_marked, is_running, IsApplication, is_ending}
+pub use Rattle.process_core.specs.Processes.{IsApplication, IsOfMote, at_first, changed, is_any_marked, is_ending, is_kernel_process, is_marked, is_running, numbers, state_of, with_mark, with_state, without}
 pub use Rattle.process_core.specs.Requests.{is_in_activation}
-pub use Rattle.process_core.specs.Scheduler.{Scheduler, in_front, of_event, after_front, job, after_items, first_event, state_in, job_of_give, ComesTo}
+pub use Rattle.process_core.specs.Scheduler.{ComesTo, IsWellFormed, Scheduler, after_front, after_front_of, after_item, after_items, at_boot, first_event, in_front, is_shown, job, job_at, job_of_event, job_of_give, job_of_item, of_event, state_in, wants_round}
 pub use Rattle.std.proofs.lemmas.Bool.Decides.{nat_tests}
-pub use Rattle.std.proofs.lemmas.List.{length-reverse}
+pub use Rattle.std.proofs.lemmas.List.{get_or-set_other, get_or-set_same, length-append, length-map, length-reverse, length-set, reverse-append}
 pub use Rattle.std.proofs.lemmas.List.Folds.{list_any-append}
-pub use Rattle.std.proofs.lemmas.Map.Keys.{IsDistinct-cons}
+pub use Rattle.std.proofs.lemmas.Map.Keys.{IsDistinct-cons, IsDistinct-head, IsDistinct-tail}
 pub use Rattle.std.proofs.lemmas.Map.Steps.{length-le_from_distinct_below}
-pub use Rattle.std.specs.List.{list_any, range_with_len, AllByRecursion}
+pub use Rattle.std.specs.List.{AllByRecursion, list_any, range_with_len}
 unfoldable pub use Rattle.std.specs.List.{IsDistinct}
+pub use Rattle.process_core.specs.declared.process.Process.{Process}
+pub use Rattle.process_core.specs.declared.open_work.Base.{Base}
+pub use Rattle.process_core.specs.declared.open_work.Continuation.{Continuation}
+pub use Rattle.process_core.specs.declared.state.State.{State}
+pub use Rattle.std.proofs.Common.{Bool, IfNone, IfSome, List, None, Option, Some, [], add-one, ap, arith, drop, eqb, false, flat_map, get_or, if◌then◌else◌, is_some, length, lit<, map, nat_eq, nat_lt, not, refl, replicate, reverse, set, slice_get, suc, sym, take, true, zero, ℕ, ◌&&◌, ◌*◌, ◌++◌, ◌+◌, ◌-◌, ◌<◌, ◌==◌, ◌||◌, ◌∙◌, ◌∷◌, ◌≡◌, ◌≢◌, ◌≤◌}
+pub use Rattle.process_core.specs.declared.scheduler_fields.SchedulerFields.{SchedulerFields}
+pub use Rattle.process_core.specs.declared.front.Front.{Front}

@@ -1,8 +1,5 @@
 -- The marks, and how many of them are set.
-use Rattle.std.proofs.Common.{◌≡◌, ℕ, zero, suc, ◌+◌, ◌<◌, ◌≤◌, ◌==◌, Bool, true, false, ◌&&◌, List, [], ◌∷◌, length, drop, refl, ◌∙◌, arith, set, if◌then◌else◌, nat_lt}
-use Rattle.process_core.proofs.Common.{list_any, nat_tests, is_only_marked, is_any_marked, is_one_of, IsKept, listed, mark_at, from_marked}
-use Rattle.process_core.specs.declared.state.State.{State}
-use Rattle.process_core.specs.Code.ProcessList.{mark_count}
+use Rattle.process_core.proofs.Common.{◌≡◌, ℕ, zero, suc, ◌+◌, ◌<◌, ◌≤◌, ◌==◌, Bool, true, false, ◌&&◌, List, [], ◌∷◌, length, drop, refl, ◌∙◌, arith, set, if◌then◌else◌, nat_lt, list_any, nat_tests, is_only_marked, is_any_marked, is_one_of, IsKept, listed, mark_at, from_marked, State, mark_count}
 use Rattle.process_core.proofs.Listed.{any_listed, marked_kept, mark_set, kept_mark}
 use Rattle.process_core.proofs.Sound.{not_true, same_number}
 

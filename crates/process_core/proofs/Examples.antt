@@ -1,10 +1,6 @@
 -- Schedulers that none has become.
-use Rattle.std.proofs.Common.{ℕ, false, List, [], ◌∷◌, arith}
-use Rattle.process_core.proofs.Common.{Item, at_first, Scheduler}
+use Rattle.process_core.proofs.Common.{ℕ, false, List, [], ◌∷◌, arith, Item, at_first, Scheduler, State, Process, IsWellFormed, at_boot}
 use Rattle.mote_types.specs.declared.entry.Entry.{Entry}
-use Rattle.process_core.specs.declared.state.State.{State}
-use Rattle.process_core.specs.declared.process.Process.{Process}
-use Rattle.process_core.specs.Scheduler.{IsWellFormed, at_boot}
 
 -- with so many applications, these processes and this agenda
 with_parts : ℕ → List Process → List Item → Scheduler ℕ

@@ -1,12 +1,5 @@
 -- The kernel's processes that come next are passed in the base's walk as on the agenda.
-use Rattle.std.proofs.Common.{arith, ◌≡◌, ℕ, Bool, true, false, ◌&&◌, List, [], ◌∷◌, ◌++◌, refl, sym, ◌∙◌, ap, if◌then◌else◌, flat_map, reverse}
-use Rattle.process_core.proofs.Common.{nat_tests, Event, Reply, is_empty, is_other_than, IsInOrder, BootsKnown, from_application, receiver_is_next, agenda_of, base_items, front_items, items_of, poll_items, receiver_items}
-use Rattle.process_core.specs.declared.scheduler_fields.SchedulerFields.{SchedulerFields}
-use Rattle.process_core.specs.declared.open_work.Base.{Base}
-use Rattle.process_core.specs.declared.open_work.Continuation.{Continuation}
-use Rattle.process_core.specs.declared.front.Front.{Front}
-use Rattle.process_core.specs.Code.KernelReceivers.{behind_kernel_receivers}
-use Rattle.process_core.specs.Code.Walks.{is_broadcast}
+use Rattle.process_core.proofs.Common.{arith, ◌≡◌, ℕ, Bool, true, false, ◌&&◌, List, [], ◌∷◌, ◌++◌, refl, sym, ◌∙◌, ap, if◌then◌else◌, flat_map, reverse, nat_tests, Event, Reply, is_empty, is_other_than, IsInOrder, BootsKnown, from_application, receiver_is_next, agenda_of, base_items, front_items, items_of, poll_items, receiver_items, SchedulerFields, Base, Continuation, Front, behind_kernel_receivers, is_broadcast}
 use Rattle.process_core.proofs.LonePoll.{both, empty_list}
 use Rattle.process_core.proofs.NothingLeft.{is_empty_continuations}
 

@@ -12,3 +12,4 @@ pub mod LonePoll
 mod Examples
 pub mod KernelReceivers
 pub mod Common
+pub mod Lemmas

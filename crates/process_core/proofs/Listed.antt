@@ -1,14 +1,7 @@
 -- The process list.
-use Rattle.std.proofs.Common.{◌≡◌, ◌≢◌, ℕ, ◌<◌, ◌≤◌, Bool, true, false, ◌&&◌, List, [], ◌∷◌, ◌++◌, zero, suc, ◌-◌, length, drop, refl, sym, ◌∙◌, ap, arith, eqb, ◌==◌, lit<, set, get_or, if◌then◌else◌, not, ◌||◌, replicate}
-use Rattle.process_core.proofs.Common.{list_any, IsDistinct, AllByRecursion, list_any-append, nat_tests, length-le_from_distinct_below, IsDistinct-cons, state_of, with_state, with_mark, without, numbers, is_marked, is_any_marked, IsKept, listed, mark_at, others, is_one_of}
+use Rattle.process_core.proofs.Common.{◌≡◌, ◌≢◌, ℕ, ◌<◌, ◌≤◌, Bool, true, false, ◌&&◌, List, [], ◌∷◌, ◌++◌, zero, suc, ◌-◌, length, drop, refl, sym, ◌∙◌, ap, arith, eqb, ◌==◌, lit<, set, get_or, if◌then◌else◌, not, ◌||◌, replicate, list_any, IsDistinct, AllByRecursion, list_any-append, nat_tests, length-le_from_distinct_below, IsDistinct-cons, state_of, with_state, with_mark, without, numbers, is_marked, is_any_marked, IsKept, listed, mark_at, others, is_one_of, length-append, length-set, get_or-set_same, get_or-set_other, IsDistinct-head, IsDistinct-tail, Process, State, changed, EndsWithKernel, kernel_numbers, state_at}
 use Rattle.std.proofs.Math.Seq.{drop-append_seam}
-use Rattle.std.proofs.lemmas.List.{length-append, length-set, get_or-set_same, get_or-set_other}
 use Rattle.std.proofs.lemmas.List.Elements.{filter-append}
-use Rattle.std.proofs.lemmas.Map.Keys.{IsDistinct-head, IsDistinct-tail}
-use Rattle.process_core.specs.declared.process.Process.{Process}
-use Rattle.process_core.specs.declared.state.State.{State}
-use Rattle.process_core.specs.Processes.{changed}
-use Rattle.process_core.specs.Code.ProcessList.{EndsWithKernel, kernel_numbers, state_at}
 use Rattle.process_core.proofs.Sound.{none_from_is_one_of, or_false, same_number}
 
 -- ---- what the list stands for

@@ -1,10 +1,7 @@
 -- A round that does nothing but poll one process of the kernel.
-use Rattle.std.proofs.Common.{◌≡◌, ℕ, ◌<◌, ◌==◌, Bool, true, false, ◌&&◌, List, [], ◌∷◌, length, refl, arith, Some, not, map}
-use Rattle.process_core.proofs.Common.{nat_tests, POLL, plain_event, Item, Job, from_marked, queued_of, is_one_of, is_empty, is_only_marked, polls_alone, numbers, is_marked, is_any_marked, is_kernel_process, with_mark, Scheduler, in_front}
-use Rattle.process_core.specs.declared.process.Process.{Process}
-use Rattle.process_core.specs.declared.queued.Queued as code
-use Rattle.process_core.specs.Code.LonePoll.{unmarked, IsLonePoll}
+use Rattle.process_core.proofs.Common.{◌≡◌, ℕ, ◌<◌, ◌==◌, Bool, true, false, ◌&&◌, List, [], ◌∷◌, length, refl, arith, Some, not, map, nat_tests, POLL, plain_event, Item, Job, from_marked, queued_of, is_one_of, is_empty, is_only_marked, polls_alone, numbers, is_marked, is_any_marked, is_kernel_process, with_mark, Scheduler, in_front, Process, unmarked, IsLonePoll}
 use Rattle.process_core.proofs.Yields.{unmarked_pass, poll_one_yields, yields_next, yields_after}
+use Rattle.process_core.specs.declared.queued.Queued as code
 
 pub empty_list : {A : Type 0} (xs : List A) → is_empty xs ≡ true → xs ≡ []
 empty_list [] h = refl

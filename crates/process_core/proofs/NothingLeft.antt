@@ -1,9 +1,5 @@
 -- When nothing is left to be done.
-use Rattle.std.proofs.Common.{◌≡◌, ℕ, zero, suc, ◌≤◌, ◌==◌, Bool, true, false, ◌&&◌, nat_eq, List, [], ◌∷◌, ◌++◌, length, drop, refl, ◌∙◌, arith, map, flat_map, reverse}
-use Rattle.process_core.proofs.Common.{length-reverse, nat_tests, Event, is_empty, front_items, items_of, base_items, agenda_of}
-use Rattle.process_core.specs.declared.open_work.Base.{Base}
-use Rattle.process_core.specs.declared.open_work.Continuation.{Continuation}
-use Rattle.process_core.specs.declared.scheduler_fields.SchedulerFields.{SchedulerFields}
+use Rattle.process_core.proofs.Common.{◌≡◌, ℕ, zero, suc, ◌≤◌, ◌==◌, Bool, true, false, ◌&&◌, nat_eq, List, [], ◌∷◌, ◌++◌, length, drop, refl, ◌∙◌, arith, map, flat_map, reverse, length-reverse, nat_tests, Event, is_empty, front_items, items_of, base_items, agenda_of, Base, Continuation, SchedulerFields}
 
 pub is_empty_append : {A : Type 0} (xs ys : List A) → is_empty (xs ++ ys) ≡ (is_empty xs && is_empty ys)
 is_empty_append [] ys = refl

@@ -1,15 +1,6 @@
 -- The parts stay in order.
-use Rattle.std.proofs.Common.{◌≡◌, ℕ, ◌+◌, ◌*◌, ◌<◌, ◌≤◌, Bool, true, false, List, [], ◌∷◌, ◌++◌, length, ap, arith, Option, Some, None, reverse}
-use Rattle.process_core.proofs.Common.{nat_tests, length-reverse, Event, Pid, Reply, is_ending, state_of, with_state, with_mark, without, IsApplication, IsSound, has_ended, answering, is_in_activation, IsInOrder, BootsKnown, scheduler_behind, scheduler_of, front_items}
-use Rattle.std.proofs.lemmas.List.{reverse-append}
-use Rattle.process_core.specs.declared.scheduler_fields.SchedulerFields.{SchedulerFields}
-use Rattle.process_core.specs.declared.process.Process.{Process}
-use Rattle.process_core.specs.declared.state.State.{State}
-use Rattle.process_core.specs.declared.open_work.Base.{Base}
-use Rattle.process_core.specs.declared.open_work.Continuation.{Continuation}
-use Rattle.process_core.specs.declared.front.Front.{Front}
+use Rattle.process_core.proofs.Common.{◌≡◌, ℕ, ◌+◌, ◌*◌, ◌<◌, ◌≤◌, Bool, true, false, List, [], ◌∷◌, ◌++◌, length, ap, arith, Option, Some, None, reverse, nat_tests, length-reverse, Event, Pid, Reply, is_ending, state_of, with_state, with_mark, without, IsApplication, IsSound, has_ended, answering, is_in_activation, IsInOrder, BootsKnown, scheduler_behind, scheduler_of, front_items, reverse-append, SchedulerFields, Process, State, Base, Continuation, Front, IsOrdered, StartsKnown, active_in, turn_in, front_after}
 use Rattle.process_core.specs.declared.next_job.NextJob.{NextJob}
-use Rattle.process_core.specs.Code.SchedulerFields.{IsOrdered, StartsKnown, active_in, turn_in, front_after}
 use Rattle.process_core.proofs.Sound as sound
 
 -- a continuation that is pushed is the topmost one

@@ -1,11 +1,5 @@
 -- Where nothing is left to be done.
-use Rattle.std.proofs.Common.{◌≡◌, ℕ, zero, suc, ◌<◌, Bool, true, false, List, [], ◌∷◌, ◌++◌, refl, sym, ◌∙◌, arith, Option, Some, None, if◌then◌else◌, map, flat_map}
-use Rattle.process_core.proofs.Common.{list_any, front_items, items_of, base_items, agenda_of, receiver_items, list_any-append, nat_tests, Event, Stimulus, Reply, is_kernel_process, Queued, Item, Job, Scheduler, after_front, job_of_give, after_items, ComesTo}
-use Rattle.process_core.specs.declared.open_work.Continuation.{Continuation}
-use Rattle.process_core.specs.declared.open_work.Base.{Base}
-use Rattle.process_core.specs.declared.front.Front.{Front}
-use Rattle.process_core.specs.declared.scheduler_fields.SchedulerFields.{SchedulerFields}
-use Rattle.process_core.specs.Scheduler.{after_front_of, job_at, job_of_item, job_of_event, wants_round, after_item, is_shown}
+use Rattle.process_core.proofs.Common.{◌≡◌, ℕ, zero, suc, ◌<◌, Bool, true, false, List, [], ◌∷◌, ◌++◌, refl, sym, ◌∙◌, arith, Option, Some, None, if◌then◌else◌, map, flat_map, list_any, front_items, items_of, base_items, agenda_of, receiver_items, list_any-append, nat_tests, Event, Stimulus, Reply, is_kernel_process, Queued, Item, Job, Scheduler, after_front, job_of_give, after_items, ComesTo, Continuation, Base, Front, SchedulerFields, after_front_of, job_at, job_of_item, job_of_event, wants_round, after_item, is_shown}
 
 module _ {X : Type 0} where
   no_rest_at_event : (event : Option (Queued X)) → job_of_event event ≡ Some Job.Rest → ⊥

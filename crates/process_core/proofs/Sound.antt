@@ -1,11 +1,5 @@
 -- The stack stays sound, and is short.
-use Rattle.std.proofs.Common.{◌≡◌, ℕ, ◌+◌, ◌<◌, ◌≤◌, Bool, true, false, ◌||◌, List, [], ◌∷◌, length, refl, ◌∙◌, ap, arith, eqb, Option, Some, None, lit<, IfSome, nat_lt, ◌*◌}
-use Rattle.process_core.proofs.Common.{IsDistinct-cons, IsDistinct, AllByRecursion, nat_tests, length-le_from_distinct_below, Pid, state_of, with_state, with_mark, without, IsApplication, is_in_activation, answering, is_one_of, has_ended, IsAtTurn, IsSound}
-use Rattle.process_core.specs.declared.process.Process.{Process}
-use Rattle.process_core.specs.declared.state.State.{State}
-use Rattle.process_core.specs.declared.open_work.Continuation.{Continuation}
-use Rattle.process_core.specs.Processes.{IsOfMote}
-use Rattle.process_core.specs.Code.Nesting.{leaving, IsNested, AreIn}
+use Rattle.process_core.proofs.Common.{◌≡◌, ℕ, ◌+◌, ◌<◌, ◌≤◌, Bool, true, false, ◌||◌, List, [], ◌∷◌, length, refl, ◌∙◌, ap, arith, eqb, Option, Some, None, lit<, IfSome, nat_lt, ◌*◌, IsDistinct-cons, IsDistinct, AllByRecursion, nat_tests, length-le_from_distinct_below, Pid, state_of, with_state, with_mark, without, IsApplication, is_in_activation, answering, is_one_of, has_ended, IsAtTurn, IsSound, Process, State, Continuation, IsOfMote, leaving, IsNested, AreIn}
 
 -- each continuation is one of these
 short : (stack : List Continuation) → length stack ≤ length (answering stack) + length (leaving stack)

@@ -1,7 +1,5 @@
 -- What a walk comes to next.
-use Rattle.std.proofs.Common.{◌≡◌, ◌≤◌, ℕ, List, [], ◌∷◌, length, drop, refl, arith, Option, Some, None, slice_get, IfNone}
-use Rattle.process_core.proofs.Common.{nat_tests, from_marked}
-use Rattle.process_core.specs.declared.process.Process.{Process}
+use Rattle.process_core.proofs.Common.{◌≡◌, ◌≤◌, ℕ, List, [], ◌∷◌, length, drop, refl, arith, Option, Some, None, slice_get, IfNone, nat_tests, from_marked, Process}
 
 pub first_and_rest : {A : Type 0} (xs : List A) (x : A) → slice_get xs 0 ≡ Some x → xs ≡ x ∷ drop 1 xs
 first_and_rest [] x e = absurd (cc)

@@ -1,11 +1,7 @@
 -- Work that is done in parts.
-use Rattle.std.proofs.Common.{◌≡◌, ℕ, zero, suc, Bool, true, false, List, [], ◌∷◌, ◌++◌, refl, sym, ◌∙◌, ap, arith, Option, Some, None, is_some, drop, map, slice_get, not, ◌&&◌, ◌≤◌}
-use Rattle.process_core.proofs.Common.{nat_tests, Stimulus, Pid, scheduler_behind, queued_of, from_marked, Event, Origin, POLL, plain_event, numbers, is_any_marked, is_marked, with_mark, is_running, is_kernel_process, Queued, Item, Job, Scheduler, after_front, job, after_items, in_front, of_event, first_event, state_in, job_of_give, Yields}
+use Rattle.process_core.proofs.Common.{◌≡◌, ℕ, zero, suc, Bool, true, false, List, [], ◌∷◌, ◌++◌, refl, sym, ◌∙◌, ap, arith, Option, Some, None, is_some, drop, map, slice_get, not, ◌&&◌, ◌≤◌, nat_tests, Stimulus, Pid, scheduler_behind, queued_of, from_marked, Event, Origin, POLL, plain_event, numbers, is_any_marked, is_marked, with_mark, is_running, is_kernel_process, Queued, Item, Job, Scheduler, after_front, job, after_items, in_front, of_event, first_event, state_in, job_of_give, Yields, SchedulerFields, INIT, State}
 use Rattle.circular_buffer.specs.Buffer.{Buffer}
-use Rattle.process_core.specs.declared.scheduler_fields.SchedulerFields.{SchedulerFields}
 use Rattle.process_core.specs.declared.queued.Queued as code
-use Rattle.mote_types.specs.EventNumbers.{INIT}
-use Rattle.process_core.specs.declared.state.State.{State}
 
 not_running : (state : State) → (state ≡ State.Running → ⊥) → is_running state ≡ false
 not_running state h = grind (arith, nat_tests)

@@ -1,5 +1,4 @@
-use Rattle.std.proofs.Common.{◌≡◌, ◌≤◌, length, take}
-use Rattle.process_core.proofs.Common.{others}
+use Rattle.process_core.proofs.Lemmas.{◌≡◌, ◌≤◌, length, take, others}
 use Rattle.process_core.proofs.process_list.others_in.Given as goal
 
 abbrev pub invariant-loop-other : goal.invariant-loop-other

@@ -1,6 +1,4 @@
-use Rattle.std.proofs.Common.{arith}
-use Rattle.process_core.proofs.Common.{nat_tests}
-use Rattle.process_core.proofs.Counting.{counted_apart}
+use Rattle.process_core.proofs.Lemmas.{arith, nat_tests, counted_apart}
 use Rattle.process_core.proofs.marks.Marks.is_application_marked.Goals as goal
 
 pub returns : goal.returns

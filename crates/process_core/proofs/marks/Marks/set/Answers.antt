@@ -1,6 +1,4 @@
-use Rattle.std.proofs.Common.{◌<◌, length, arith, ◌∙◌}
-use Rattle.std.proofs.lemmas.List.{length-set}
-use Rattle.process_core.proofs.Counting.{mark_count-set, mark_count-le-length}
+use Rattle.process_core.proofs.Lemmas.{◌<◌, length, arith, ◌∙◌, length-set, mark_count-set, mark_count-le-length}
 use Rattle.process_core.proofs.marks.Marks.set.Goals as goal
 
 pub overflow_add-self : goal.overflow_add-self

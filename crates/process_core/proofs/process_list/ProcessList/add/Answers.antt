@@ -1,7 +1,4 @@
-use Rattle.std.proofs.Common.{◌∷◌, ◌∙◌, ap, false, List}
-use Rattle.process_core.specs.declared.process.Process.{Process}
-use Rattle.process_core.specs.declared.state.State.{State}
-use Rattle.process_core.proofs.Listed.{added_listed, ends_added, kept_added, off_list, room_for}
+use Rattle.process_core.proofs.Lemmas.{◌∷◌, ◌∙◌, ap, false, List, Process, State, added_listed, ends_added, kept_added, off_list, room_for}
 use Rattle.process_core.proofs.process_list.ProcessList.add.Goals as goal
 
 pub behind-self-inside-requires : goal.behind-self-inside-requires

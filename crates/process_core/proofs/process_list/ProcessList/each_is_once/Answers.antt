@@ -1,6 +1,4 @@
-use Rattle.std.proofs.Common.{◌≡◌, sym, ◌∙◌, ap}
-use Rattle.process_core.proofs.Common.{numbers}
-use Rattle.process_core.proofs.Listed.{numbers_listed}
+use Rattle.process_core.proofs.Lemmas.{◌≡◌, sym, ◌∙◌, ap, numbers, numbers_listed}
 use Rattle.process_core.proofs.process_list.ProcessList.each_is_once.Goals as goal
 
 pub returns : goal.returns

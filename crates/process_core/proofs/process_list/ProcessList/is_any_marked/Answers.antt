@@ -1,6 +1,4 @@
-use Rattle.std.proofs.Common.{sym, ◌∙◌, ap, nat_lt}
-use Rattle.process_core.proofs.Common.{is_any_marked}
-use Rattle.process_core.proofs.Counting.{any_counted}
+use Rattle.process_core.proofs.Lemmas.{sym, ◌∙◌, ap, nat_lt, is_any_marked, any_counted}
 use Rattle.process_core.proofs.process_list.ProcessList.is_any_marked.Goals as goal
 
 pub returns : goal.returns

@@ -1,6 +1,4 @@
-use Rattle.std.proofs.Common.{sym, ◌∙◌, ap}
-use Rattle.process_core.proofs.Common.{is_marked}
-use Rattle.process_core.proofs.Listed.{marked_kept}
+use Rattle.process_core.proofs.Lemmas.{sym, ◌∙◌, ap, is_marked, marked_kept}
 use Rattle.process_core.proofs.process_list.ProcessList.is_marked.Goals as goal
 
 pub returns : goal.returns

@@ -1,5 +1,4 @@
-use Rattle.std.proofs.Common.{arith}
-use Rattle.process_core.proofs.Counting.{only_counted}
+use Rattle.process_core.proofs.Lemmas.{arith, only_counted}
 use Rattle.process_core.proofs.process_list.ProcessList.is_only_marked.Goals as goal
 
 pub returns-then-count-eq1 : goal.returns-then-count-eq1

@@ -1,5 +1,4 @@
-use Rattle.std.proofs.Common.{[], refl}
-use Rattle.process_core.proofs.Listed.{kept_at_first}
+use Rattle.process_core.proofs.Lemmas.{[], refl, kept_at_first}
 use Rattle.process_core.proofs.process_list.ProcessList.new.Goals as goal
 
 pub invariant_of-result : goal.invariant_of-result

@@ -1,6 +1,4 @@
-use Rattle.std.proofs.Common.{sym, ◌∙◌, ap, arith}
-use Rattle.process_core.proofs.Common.{with_state}
-use Rattle.process_core.proofs.Listed.{kept_state, state_set, changed_none, off_list, on_list}
+use Rattle.process_core.proofs.Lemmas.{sym, ◌∙◌, ap, arith, with_state, kept_state, state_set, changed_none, off_list, on_list}
 use Rattle.process_core.proofs.process_list.ProcessList.set_state.Goals as goal
 
 pub invariant_of-self : goal.invariant_of-self

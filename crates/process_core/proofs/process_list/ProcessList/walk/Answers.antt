@@ -1,7 +1,5 @@
-use Rattle.std.proofs.Common.{◌≡◌, sym, ◌∙◌, ap, arith}
-use Rattle.process_core.proofs.Common.{numbers}
+use Rattle.process_core.proofs.Lemmas.{◌≡◌, sym, ◌∙◌, ap, arith, numbers, numbers_listed}
 use Rattle.std.proofs.lemmas.Grind.{common_steps}
-use Rattle.process_core.proofs.Listed.{numbers_listed}
 use Rattle.process_core.proofs.process_list.ProcessList.walk.Goals as goal
 
 pub returns-clause-all : goal.returns-clause-all

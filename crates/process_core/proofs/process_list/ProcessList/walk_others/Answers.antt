@@ -1,7 +1,4 @@
-use Rattle.std.proofs.Common.{◌≡◌, sym, ◌∙◌, ap, List}
-use Rattle.process_core.proofs.Common.{numbers, without, others}
-use Rattle.process_core.proofs.Listed.{numbers_listed, without_listed}
-use Rattle.process_core.specs.declared.process.Process.{Process}
+use Rattle.process_core.proofs.Lemmas.{◌≡◌, sym, ◌∙◌, ap, List, numbers, without, others, numbers_listed, without_listed, Process}
 use Rattle.process_core.proofs.process_list.ProcessList.walk_others.Goals as goal
 
 pub returns : goal.returns

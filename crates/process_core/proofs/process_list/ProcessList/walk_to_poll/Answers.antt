@@ -1,7 +1,4 @@
-use Rattle.std.proofs.Common.{◌≡◌, [], ◌-◌, length, refl, sym, ◌∙◌, ap, arith}
-use Rattle.process_core.proofs.Common.{numbers}
-use Rattle.process_core.proofs.Counting.{no_application_marked}
-use Rattle.process_core.proofs.Listed.{ends_at, numbers_listed}
+use Rattle.process_core.proofs.Lemmas.{◌≡◌, [], ◌-◌, length, refl, sym, ◌∙◌, ap, arith, numbers, no_application_marked, ends_at, numbers_listed}
 use Rattle.process_core.proofs.process_list.ProcessList.walk_to_poll.Goals as goal
 use Rattle.process_core.proofs.process_list.ProcessList.walk_to_poll.Goals.{then-is_application_marked, else-is_application_marked}
 

@@ -1,6 +1,4 @@
-use Rattle.std.proofs.Common.{arith}
-use Rattle.process_core.proofs.Common.{nat_tests}
-use Rattle.std.proofs.lemmas.List.{length-map}
+use Rattle.process_core.proofs.Lemmas.{arith, nat_tests, length-map}
 use Rattle.process_core.proofs.scheduler.Scheduler.has_room.Goals as goal
 
 pub returns : goal.returns

@@ -1,5 +1,4 @@
-use Rattle.std.proofs.Common.{sym, ◌∙◌, arith}
-use Rattle.process_core.proofs.Order.{room_on_stack, order_killed}
+use Rattle.process_core.proofs.Lemmas.{sym, ◌∙◌, arith, room_on_stack, order_killed}
 use Rattle.process_core.proofs.scheduler.Scheduler.kill.Goals as goal
 
 pub push-requires : goal.push-requires

@@ -1,6 +1,4 @@
-use Rattle.std.proofs.Common.{true}
-use Rattle.process_core.proofs.Listed.{marked_from_running}
-use Rattle.process_core.proofs.Order.{order_marked}
+use Rattle.process_core.proofs.Lemmas.{true, marked_from_running, order_marked}
 use Rattle.process_core.proofs.scheduler.Scheduler.mark.Goals as goal
 
 pub invariant_of-self : goal.invariant_of-self

@@ -1,7 +1,5 @@
-use Rattle.std.proofs.Common.{◌-◌, length, refl, ◌∙◌, ap, arith}
-use Rattle.process_core.proofs.Common.{range_with_len}
+use Rattle.process_core.proofs.Lemmas.{◌-◌, length, refl, ◌∙◌, ap, arith, range_with_len, range_more, order_at_boot}
 use Rattle.std.proofs.lemmas.List.FromFn.{length-range_with_len}
-use Rattle.process_core.proofs.Boot.{range_more, order_at_boot}
 use Rattle.process_core.proofs.scheduler.Scheduler.new.Goals as goal
 
 pub push-requires : goal.push-requires

@@ -1,9 +1,4 @@
-use Rattle.std.proofs.Common.{Some}
-use Rattle.process_core.proofs.Common.{scheduler_behind, scheduler_of, IsInOrder, ComesTo, job_of, job_told}
-use Rattle.process_core.specs.Code.SchedulerFields.{HoldsEvent}
-use Rattle.process_core.proofs.Order.{behind_is_all}
-use Rattle.process_core.proofs.Rest.{applications_from_comes_to, idle_from_rest, served_below, nothing_shown}
-use Rattle.process_core.proofs.Yields.{yields_after}
+use Rattle.process_core.proofs.Lemmas.{Some, scheduler_behind, scheduler_of, IsInOrder, ComesTo, job_of, job_told, HoldsEvent, behind_is_all, applications_from_comes_to, idle_from_rest, served_below, nothing_shown, yields_after}
 use Rattle.process_core.proofs.scheduler.Scheduler.next_to.Goals as goal
 use Rattle.process_core.proofs.scheduler.Scheduler.next_to.Goals.{in-Some, in-None}
 

@@ -1,6 +1,4 @@
-use Rattle.std.proofs.Common.{◌≡◌, true, false, ◌&&◌, refl, sym, ◌∙◌, ap, not}
-use Rattle.process_core.proofs.Common.{is_other_than, is_any_marked, receiver_is_next}
-use Rattle.process_core.proofs.KernelReceivers.{passed, none_passed, and_false}
+use Rattle.process_core.proofs.Lemmas.{◌≡◌, true, false, ◌&&◌, refl, sym, ◌∙◌, ap, not, is_other_than, is_any_marked, receiver_is_next, passed, none_passed, and_false}
 use Rattle.process_core.proofs.scheduler.Scheduler.pass_kernel_receivers.Goals as goal
 use Rattle.process_core.proofs.scheduler.Scheduler.pass_kernel_receivers.Goals.{else-not-is_any_marked-via-then-not-is_any_marked+then-receiver_is_next+else-not-contains, else-not-is_any_marked-via-then-not-is_any_marked+else-receiver_is_next, else-not-is_any_marked-via-else-not-is_any_marked}
 

@@ -1,6 +1,4 @@
-use Rattle.std.proofs.Common.{◌≡◌, true, sym, ◌∙◌}
-use Rattle.process_core.proofs.Common.{polls_alone}
-use Rattle.process_core.proofs.LonePoll.{all_three, lone_poll, no_events}
+use Rattle.process_core.proofs.Lemmas.{◌≡◌, true, sym, ◌∙◌, polls_alone, all_three, lone_poll, no_events}
 use Rattle.process_core.proofs.scheduler.Scheduler.polls_alone.Goals as goal
 use Rattle.process_core.proofs.scheduler.Scheduler.polls_alone.Goals.{then-is_only_marked, else-is_only_marked}
 

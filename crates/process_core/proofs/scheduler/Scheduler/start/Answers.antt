@@ -1,5 +1,4 @@
-use Rattle.std.proofs.Common.{arith}
-use Rattle.process_core.proofs.Order.{room_on_stack}
+use Rattle.process_core.proofs.Lemmas.{arith, room_on_stack}
 use Rattle.process_core.proofs.scheduler.Scheduler.start.Goals as goal
 
 pub push-requires : goal.push-requires

@@ -1,6 +1,4 @@
-use Rattle.std.proofs.Common.{arith, refl}
-use Rattle.process_core.specs.declared.front.Front.{Front}
-use Rattle.process_core.proofs.Order.{room_on_stack, order_accepted}
+use Rattle.process_core.proofs.Lemmas.{arith, refl, Front, room_on_stack, order_accepted}
 use Rattle.process_core.proofs.scheduler.Scheduler.synch.Goals as goal
 
 pub push-requires : goal.push-requires

@@ -1,5 +1,4 @@
-use Rattle.std.proofs.Common.{false}
-use Rattle.process_core.proofs.Order.{order_marked}
+use Rattle.process_core.proofs.Lemmas.{false, order_marked}
 use Rattle.process_core.proofs.scheduler.Scheduler.unmark.Goals as goal
 
 pub invariant_of-self : goal.invariant_of-self

@@ -1,6 +1,4 @@
-use Rattle.std.proofs.Common.{◌≡◌, false, ◌∙◌, refl}
-use Rattle.process_core.proofs.Common.{is_ending, state_of}
-use Rattle.process_core.proofs.Order.{no_front, not_ending, order_waited}
+use Rattle.process_core.proofs.Lemmas.{◌≡◌, false, ◌∙◌, refl, is_ending, state_of, no_front, not_ending, order_waited}
 use Rattle.process_core.proofs.scheduler.Scheduler.waited.Goals as goal
 
 pub returns-in_default : goal.returns-in_default

@@ -1,4 +1,4 @@
-use Rattle.process_core.proofs.Yields.{deliver_to_yields}
+use Rattle.process_core.proofs.Lemmas.{deliver_to_yields}
 use Rattle.process_core.proofs.scheduler_fields.SchedulerFields.deliver.Goals as goal
 
 pub returns-in-Some-To-clause-yields : goal.returns-in-Some-To-clause-yields

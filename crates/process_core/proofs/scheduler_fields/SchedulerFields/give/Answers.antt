@@ -1,7 +1,4 @@
-use Rattle.std.proofs.Common.{arith, sym, ◌∙◌, refl}
-use Rattle.process_core.proofs.Common.{scheduler_behind}
-use Rattle.process_core.proofs.Order.{order_given}
-use Rattle.process_core.proofs.Yields.{give_yields_nothing}
+use Rattle.process_core.proofs.Lemmas.{arith, sym, ◌∙◌, refl, scheduler_behind, order_given, give_yields_nothing}
 use Rattle.process_core.proofs.scheduler_fields.SchedulerFields.give.Goals as goal
 
 pub returns-in-Running-clause-order : goal.returns-in-Running-clause-order

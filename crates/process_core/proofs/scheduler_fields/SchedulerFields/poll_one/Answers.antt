@@ -1,7 +1,4 @@
-use Rattle.std.proofs.Common.{sym, false}
-use Rattle.process_core.proofs.Common.{scheduler_behind}
-use Rattle.process_core.proofs.Order.{order_marked}
-use Rattle.process_core.proofs.Yields.{poll_one_yields}
+use Rattle.process_core.proofs.Lemmas.{sym, false, scheduler_behind, order_marked, poll_one_yields}
 use Rattle.process_core.proofs.scheduler_fields.SchedulerFields.poll_one.Goals as goal
 
 pub give-requires-clause-order : goal.give-requires-clause-order

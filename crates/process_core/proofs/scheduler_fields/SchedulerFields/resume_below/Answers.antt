@@ -1,7 +1,4 @@
-use Rattle.std.proofs.Common.{◌≡◌, [], drop, length, sym, ap, arith, Some}
-use Rattle.process_core.proofs.Common.{job_of, job_told, scheduler_behind, from_marked}
-use Rattle.process_core.proofs.Below.{polls_yield, polls_end}
-use Rattle.process_core.proofs.Walks.{first_and_rest, none_first, length-from_marked, if_none}
+use Rattle.process_core.proofs.Lemmas.{◌≡◌, [], drop, length, sym, ap, arith, Some, job_of, job_told, scheduler_behind, from_marked, polls_yield, polls_end, first_and_rest, none_first, length-from_marked, if_none}
 use Rattle.process_core.proofs.scheduler_fields.SchedulerFields.resume_below.Goals as goal
 
 pub returns-in-Some-clause-yields : goal.returns-in-Some-clause-yields

@@ -1,4 +1,4 @@
-use Rattle.process_core.proofs.Order.{order_booting}
+use Rattle.process_core.proofs.Lemmas.{order_booting}
 use Rattle.process_core.proofs.scheduler_fields.SchedulerFields.resume_boot.Goals as goal
 
 pub start_one-requires-clause-known : goal.start_one-requires-clause-known

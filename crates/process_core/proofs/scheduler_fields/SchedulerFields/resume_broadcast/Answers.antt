@@ -1,6 +1,4 @@
-use Rattle.std.proofs.Common.{◌≡◌, true, false, refl, sym, ◌∙◌}
-use Rattle.process_core.proofs.Common.{is_any_marked}
-use Rattle.process_core.proofs.Below.{polled_receiver, received}
+use Rattle.process_core.proofs.Lemmas.{◌≡◌, true, false, refl, sym, ◌∙◌, is_any_marked, polled_receiver, received}
 use Rattle.process_core.proofs.scheduler_fields.SchedulerFields.resume_broadcast.Goals as goal
 use Rattle.process_core.proofs.scheduler_fields.SchedulerFields.resume_broadcast.Goals.{else-not-is_polled-via-then-not-is_polled+then-is_any_marked+else-not-is_over, else-not-is_polled-via-then-not-is_polled+else-is_any_marked, else-not-is_polled-via-else-not-is_polled}
 

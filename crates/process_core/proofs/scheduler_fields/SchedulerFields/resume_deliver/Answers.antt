@@ -1,6 +1,4 @@
-use Rattle.std.proofs.Common.{◌≡◌, false, sym, ◌∙◌}
-use Rattle.process_core.proofs.Common.{is_any_marked}
-use Rattle.process_core.proofs.Below.{delivered, polled_first}
+use Rattle.process_core.proofs.Lemmas.{◌≡◌, false, sym, ◌∙◌, is_any_marked, delivered, polled_first}
 use Rattle.process_core.proofs.scheduler_fields.SchedulerFields.resume_deliver.Goals as goal
 use Rattle.process_core.proofs.scheduler_fields.SchedulerFields.resume_deliver.Goals.{else-not-is_polled-via-then-not-is_polled+else-is_any_marked, else-not-is_polled-via-else-not-is_polled}
 

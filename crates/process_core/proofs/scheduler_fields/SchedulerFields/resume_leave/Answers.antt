@@ -1,6 +1,4 @@
-use Rattle.std.proofs.Common.{arith, refl, false, []}
-use Rattle.process_core.specs.declared.open_work.Continuation.{Continuation}
-use Rattle.process_core.proofs.Order.{pushed, room_below, leaver_above, order_removed, order_exiting}
+use Rattle.process_core.proofs.Lemmas.{arith, refl, false, [], Continuation, pushed, room_below, leaver_above, order_removed, order_exiting}
 use Rattle.process_core.proofs.scheduler_fields.SchedulerFields.resume_leave.Goals as goal
 
 pub push-requires : goal.push-requires

@@ -1,7 +1,4 @@
-use Rattle.std.proofs.Common.{sym}
-use Rattle.process_core.proofs.Common.{scheduler_behind}
-use Rattle.process_core.proofs.Order.{order_started}
-use Rattle.process_core.proofs.Yields.{start_yields}
+use Rattle.process_core.proofs.Lemmas.{sym, scheduler_behind, order_started, start_yields}
 use Rattle.process_core.proofs.scheduler_fields.SchedulerFields.start_one.Goals as goal
 
 pub give-requires-clause-order : goal.give-requires-clause-order

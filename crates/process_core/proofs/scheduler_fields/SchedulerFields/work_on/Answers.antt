@@ -1,6 +1,4 @@
-use Rattle.std.proofs.Common.{Some, None}
-use Rattle.process_core.proofs.Common.{job_of, job_told, scheduler_behind}
-use Rattle.process_core.proofs.Yields.{yields_after}
+use Rattle.process_core.proofs.Lemmas.{Some, None, job_of, job_told, scheduler_behind, yields_after}
 use Rattle.process_core.proofs.scheduler_fields.SchedulerFields.work_on.Goals as goal
 
 pub open-preserved : goal.open-preserved

@@ -1,6 +1,4 @@
-use Rattle.std.proofs.Common.{◌≡◌, None}
-use Rattle.process_core.proofs.Common.{Yields, scheduler_behind, IsInOrder}
-use Rattle.process_core.specs.declared.front.Front.{Front}
+use Rattle.process_core.proofs.Lemmas.{◌≡◌, None, Yields, scheduler_behind, IsInOrder, Front}
 use Rattle.process_core.specs.Code.Weights.{weight}
 use Rattle.process_core.proofs.scheduler_fields.SchedulerFields.work_on.Given as goal
 

@@ -1,5 +1,4 @@
-use Rattle.std.proofs.Common.{◌≡◌, length}
-use Rattle.process_core.proofs.Common.{from_marked}
+use Rattle.process_core.proofs.Lemmas.{◌≡◌, length, from_marked}
 use Rattle.process_core.proofs.walk.Walk.next_marked.Given as goal
 
 abbrev pub invariant-loop-pid : goal.invariant-loop-pid

@@ -1,5 +1,4 @@
-use Rattle.std.proofs.Common.{◌≡◌, ◌≤◌, ◌-◌, length, drop}
-use Rattle.process_core.proofs.Common.{from_application}
+use Rattle.process_core.proofs.Lemmas.{◌≡◌, ◌≤◌, ◌-◌, length, drop, from_application}
 use Rattle.process_core.proofs.walk.Walk.pass_kernel_processes.Given as goal
 
 abbrev pub invariant-loop-self : goal.invariant-loop-self
