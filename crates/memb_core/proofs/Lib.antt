@@ -7,3 +7,4 @@ mod Examples
 pub mod Linked
 pub mod Numbers
 pub mod Words
+pub mod Lemmas

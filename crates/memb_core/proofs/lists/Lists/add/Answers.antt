@@ -1,6 +1,4 @@
-use Rattle.memb_core.proofs.Words.{◌≡◌, [], ◌∷◌, ◌++◌, sym, ap, ◌∙◌, list_of}
-use Rattle.memb_core.proofs.Linked.{absent_after}
-use Rattle.memb_core.proofs.Numbers.{has_tail, behind_tail, no_tail}
+use Rattle.memb_core.proofs.Lemmas.{◌≡◌, [], ◌∷◌, ◌++◌, sym, ap, ◌∙◌, list_of, absent_after, has_tail, behind_tail, no_tail}
 use Rattle.memb_core.proofs.lists.Lists.add.Goals as goal
 
 pub put_behind-requires-clause-not_linked : goal.put_behind-requires-clause-not_linked

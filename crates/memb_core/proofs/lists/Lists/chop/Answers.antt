@@ -1,5 +1,4 @@
-use Rattle.memb_core.proofs.Words.{sym, ◌∙◌, list_of}
-use Rattle.memb_core.proofs.Numbers.{without_tail}
+use Rattle.memb_core.proofs.Lemmas.{sym, ◌∙◌, list_of, without_tail}
 use Rattle.memb_core.proofs.lists.Lists.chop.Goals as goal
 
 pub returns-clause-list : goal.returns-clause-list

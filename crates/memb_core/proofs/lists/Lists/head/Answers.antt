@@ -1,5 +1,4 @@
-use Rattle.memb_core.proofs.Words.{sym, ap, ◌∙◌, ListHeads, start_of}
-use Rattle.memb_core.proofs.Chains.{head_named}
+use Rattle.memb_core.proofs.Lemmas.{sym, ap, ◌∙◌, ListHeads, start_of, head_named}
 use Rattle.memb_core.proofs.lists.Lists.head.Goals as goal
 
 pub returns-in-First-clause-head : goal.returns-in-First-clause-head

@@ -1,6 +1,4 @@
-use Rattle.memb_core.proofs.Words.{ap, ◌∙◌, has_number, list_of}
-use Rattle.memb_core.proofs.Linked.{absent_after}
-use Rattle.memb_core.proofs.Numbers.{other_stays}
+use Rattle.memb_core.proofs.Lemmas.{ap, ◌∙◌, has_number, list_of, absent_after, other_stays}
 use Rattle.memb_core.proofs.lists.Lists.insert.Goals as goal
 
 pub put_behind-requires-clause-not_linked : goal.put_behind-requires-clause-not_linked

@@ -1,5 +1,4 @@
-use Rattle.memb_core.proofs.Words.{◌≡◌, refl, ListName, start_of, None}
-use Rattle.memb_core.proofs.Linked.{none_listed, empty_linked}
+use Rattle.memb_core.proofs.Lemmas.{◌≡◌, refl, ListName, start_of, None, none_listed, empty_linked}
 use Rattle.memb_core.proofs.lists.Lists.new.Goals as goal
 
 no_start : (name : ListName) → start_of name (record { first = None; second = None }) ≡ None

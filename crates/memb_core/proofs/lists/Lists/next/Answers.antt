@@ -1,6 +1,4 @@
-use Rattle.memb_core.proofs.Words.{◌∙◌, start_of, link_of, list_of}
-use Rattle.memb_core.proofs.Chains.{next_named}
-use Rattle.memb_core.proofs.Linked.{listed_below, link_small}
+use Rattle.memb_core.proofs.Lemmas.{◌∙◌, start_of, link_of, list_of, next_named, listed_below, link_small}
 use Rattle.memb_core.proofs.lists.Lists.next.Goals as goal
 
 pub link-requires-clause-block : goal.link-requires-clause-block

@@ -1,6 +1,4 @@
-use Rattle.memb_core.proofs.Words.{rules, arith, start_of, link_of, list_of}
-use Rattle.memb_core.proofs.Chains.{walk_begun, walk_step, walk_more, walk_ended, length-all_along}
-use Rattle.memb_core.proofs.Linked.{listed_below, link_small}
+use Rattle.memb_core.proofs.Lemmas.{rules, arith, start_of, link_of, list_of, walk_begun, walk_step, walk_more, walk_ended, length-all_along, listed_below, link_small}
 use Rattle.memb_core.proofs.lists.Lists.numbers.Goals as goal
 
 pub loop-link-init : goal.loop-link-init

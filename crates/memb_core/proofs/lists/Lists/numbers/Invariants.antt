@@ -1,5 +1,4 @@
-use Rattle.memb_core.proofs.Words.{◌-◌, length, link_of, list_of}
-use Rattle.memb_core.proofs.Chains.{IsWalked}
+use Rattle.memb_core.proofs.Lemmas.{◌-◌, length, link_of, list_of, IsWalked}
 use Rattle.memb_core.proofs.lists.Lists.numbers.Given as goal
 
 abbrev pub invariant-loop-link : goal.invariant-loop-link

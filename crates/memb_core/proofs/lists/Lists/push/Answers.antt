@@ -1,4 +1,4 @@
-use Rattle.memb_core.proofs.Linked.{absent_after}
+use Rattle.memb_core.proofs.Lemmas.{absent_after}
 use Rattle.memb_core.proofs.lists.Lists.push.Goals as goal
 
 pub put_in_front-requires-clause-not_linked : goal.put_in_front-requires-clause-not_linked

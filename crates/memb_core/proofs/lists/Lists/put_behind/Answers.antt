@@ -1,8 +1,4 @@
-use Rattle.memb_core.proofs.Words.{◌≡◌, ◌≢◌, true, sym, ◌∙◌, put_behind, IsWithin, list_of, is_used}
-use Rattle.memb_core.proofs.Blocks.{live_is, used_below}
-use Rattle.memb_core.proofs.Callers.{IsWithin-kept}
-use Rattle.memb_core.proofs.Linked.{link_small, Changes, behind_in, listed, leaves}
-use Rattle.memb_core.proofs.Numbers.{differ}
+use Rattle.memb_core.proofs.Lemmas.{◌≡◌, ◌≢◌, true, sym, ◌∙◌, put_behind, IsWithin, list_of, is_used, live_is, used_below, IsWithin-kept, link_small, Changes, behind_in, listed, leaves, differ}
 use Rattle.memb_core.proofs.lists.Lists.put_behind.Goals as goal
 use Rattle.memb_core.proofs.lists.Lists.put_behind.Goals.{After-put_link-2}
 

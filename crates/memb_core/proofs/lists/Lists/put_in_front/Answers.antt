@@ -1,7 +1,4 @@
-use Rattle.memb_core.proofs.Words.{◌≡◌, ◌∷◌, true, sym, ◌∙◌, IsWithin, list_of, is_used}
-use Rattle.memb_core.proofs.Blocks.{live_is, used_below}
-use Rattle.memb_core.proofs.Callers.{IsWithin-kept}
-use Rattle.memb_core.proofs.Linked.{Changes, front_in, listed, leaves}
+use Rattle.memb_core.proofs.Lemmas.{◌≡◌, ◌∷◌, true, sym, ◌∙◌, IsWithin, list_of, is_used, live_is, used_below, IsWithin-kept, Changes, front_in, listed, leaves}
 use Rattle.memb_core.proofs.lists.Lists.put_in_front.Goals as goal
 use Rattle.memb_core.proofs.lists.Lists.put_in_front.Goals.{After-put_head}
 

@@ -1,7 +1,4 @@
-use Rattle.memb_core.proofs.Words.{rules, ◌≡◌, ℕ, suc, ◌-◌, ◌<◌, List, true, eqb, get_or, length, refl, sym, ap, subst, ◌∙◌, arith, position, eqb-true, position-Some, has_number, without, IsWithin, link_of, list_of, with_start, Some, None}
-use Rattle.memb_core.proofs.Callers.{IsWithin-kept}
-use Rattle.memb_core.proofs.Linked.{Changes, listed_below, link_small, head_out, first_out, later_out, listed, leaves}
-use Rattle.memb_core.proofs.Numbers.{no_place, has_at, without_none}
+use Rattle.memb_core.proofs.Lemmas.{rules, ◌≡◌, ℕ, suc, ◌-◌, ◌<◌, List, true, eqb, get_or, length, refl, sym, ap, subst, ◌∙◌, arith, position, eqb-true, position-Some, has_number, without, IsWithin, link_of, list_of, with_start, Some, None, IsWithin-kept, Changes, listed_below, link_small, head_out, first_out, later_out, listed, leaves, no_place, has_at, without_none}
 use Rattle.memb_core.proofs.lists.Lists.take_out.Goals as goal
 use Rattle.memb_core.proofs.lists.Lists.take_out.Goals.{After-put_head, After-put_link}
 

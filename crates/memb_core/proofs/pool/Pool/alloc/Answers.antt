@@ -1,7 +1,4 @@
-use Rattle.memb_core.proofs.Words.{rules, ◌≡◌, ℕ, ◌+◌, List, true, false, not, get_or, replicate, sym, ap, subst, ◌∙◌, arith, Option, not-true, position-Some, length-set, zeros, Contents, contents, written, PoolTable, with_used, BlockPool, pool_of, place_of, IsWithin, has_number, link_of, KeepsLists}
-use Rattle.memb_core.proofs.Blocks.{first_unused_is, still_used}
-use Rattle.memb_core.proofs.Bytes.{blocks_allocated, zeros_links, zeros_within, zeros_kept}
-use Rattle.memb_core.proofs.Linked.{keeps_lists, unused_absent}
+use Rattle.memb_core.proofs.Lemmas.{rules, ◌≡◌, ℕ, ◌+◌, List, true, false, not, get_or, replicate, sym, ap, subst, ◌∙◌, arith, Option, not-true, position-Some, length-set, zeros, Contents, contents, written, PoolTable, with_used, BlockPool, pool_of, place_of, IsWithin, has_number, link_of, KeepsLists, first_unused_is, still_used, blocks_allocated, zeros_links, zeros_within, zeros_kept, keeps_lists, unused_absent}
 use Rattle.memb_core.proofs.pool.Pool.alloc.Goals as goal
 
 pub usable_span-requires : goal.usable_span-requires

@@ -1,5 +1,4 @@
-use Rattle.memb_core.proofs.Words.{subst, FillsSpan}
-use Rattle.memb_core.proofs.Apart.{lie_apart}
+use Rattle.memb_core.proofs.Lemmas.{subst, FillsSpan, lie_apart}
 use Rattle.memb_core.proofs.pool.Pool.blocks_lie_apart.Goals as goal
 
 pub returns : goal.returns

@@ -1,6 +1,4 @@
-use Rattle.memb_core.proofs.Words.{◌≡◌, ◌+◌, slice_range, true, sym, ap, ◌∙◌, place_of, usable_bytes, region_of, is_used, Some}
-use Rattle.memb_core.proofs.Blocks.{live_is}
-use Rattle.memb_core.proofs.Bytes.{live_below, block_is, bytes_read}
+use Rattle.memb_core.proofs.Lemmas.{◌≡◌, ◌+◌, slice_range, true, sym, ap, ◌∙◌, place_of, usable_bytes, region_of, is_used, Some, live_is, live_below, block_is, bytes_read}
 use Rattle.memb_core.proofs.pool.Pool.bytes.Goals as goal
 
 pub usable_span-requires : goal.usable_span-requires

@@ -1,7 +1,4 @@
-use Rattle.memb_core.proofs.Words.{rules, ℕ, List, false, refl, ap, sym, subst, ◌∙◌, arith, Option, length-set, get_or-set_other, PoolTable, with_used, BlockPool, pool_of, link_of, list_of, AreLinked}
-use Rattle.memb_core.proofs.Bytes.{live_below, blocks_freed}
-use Rattle.memb_core.proofs.Linked.{still_linked}
-use Rattle.memb_core.proofs.Numbers.{differ}
+use Rattle.memb_core.proofs.Lemmas.{rules, ℕ, List, false, refl, ap, sym, subst, ◌∙◌, arith, Option, length-set, get_or-set_other, PoolTable, with_used, BlockPool, pool_of, link_of, list_of, AreLinked, live_below, blocks_freed, still_linked, differ}
 use Rattle.memb_core.proofs.pool.Pool.free.Goals as goal
 
 pub put_used-requires : goal.put_used-requires

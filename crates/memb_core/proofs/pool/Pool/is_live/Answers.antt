@@ -1,5 +1,4 @@
-use Rattle.memb_core.proofs.Words.{◌≡◌, sym, ◌∙◌, rules, is_used}
-use Rattle.memb_core.proofs.Blocks.{live_is}
+use Rattle.memb_core.proofs.Lemmas.{◌≡◌, sym, ◌∙◌, rules, is_used, live_is}
 use Rattle.memb_core.proofs.pool.Pool.is_live.Goals as goal
 
 pub returns : goal.returns

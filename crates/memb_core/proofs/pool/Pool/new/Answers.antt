@@ -1,5 +1,4 @@
-use Rattle.memb_core.proofs.Words.{◌≡◌, ◌+◌, ◌*◌, slice_range, ℕ, false, List, take, replicate, ap, ◌∙◌, Option, take-replicate, BlockPool, pool_of, blocks_from}
-use Rattle.memb_core.proofs.Blocks.{all_unused}
+use Rattle.memb_core.proofs.Lemmas.{◌≡◌, ◌+◌, ◌*◌, slice_range, ℕ, false, List, take, replicate, ap, ◌∙◌, Option, take-replicate, BlockPool, pool_of, blocks_from, all_unused}
 use Rattle.memb_core.proofs.pool.Pool.new.Goals as goal
 
 pub returns-clause-unused : goal.returns-clause-unused

@@ -1,5 +1,4 @@
-use Rattle.memb_core.proofs.Words.{ap, sym, ◌∙◌, length, not, filter, PoolTable}
-use Rattle.memb_core.proofs.Blocks.{unused_count_is}
+use Rattle.memb_core.proofs.Lemmas.{ap, sym, ◌∙◌, length, not, filter, PoolTable, unused_count_is}
 use Rattle.memb_core.proofs.pool.Pool.num_free.Goals as goal
 
 pub returns : goal.returns

@@ -1,5 +1,4 @@
-use Rattle.memb_core.proofs.Words.{◌≡◌, ◌+◌, sym, ap, subst, ◌∙◌, to_le_bytes, w32, Contents, contents, written, place_of, pool_of, KeepsToSpan, link_of}
-use Rattle.memb_core.proofs.Bytes.{link_written, link_others, link_blocks, link_keeps}
+use Rattle.memb_core.proofs.Lemmas.{◌≡◌, ◌+◌, sym, ap, subst, ◌∙◌, to_le_bytes, w32, Contents, contents, written, place_of, pool_of, KeepsToSpan, link_of, link_written, link_others, link_blocks, link_keeps}
 use Rattle.memb_core.proofs.pool.Pool.put_link.Goals as goal
 
 pub returns : goal.returns

@@ -1,7 +1,4 @@
-use Rattle.memb_core.proofs.Words.{◌≡◌, ℕ, ◌+◌, List, length, refl, sym, ap, subst, ◌∙◌, arith, contents, written, length-range, place_of, pool_of, KeepsToSpan, KeepsLists}
-use Rattle.memb_core.proofs.Blocks.{used_below}
-use Rattle.memb_core.proofs.Bytes.{used_if_room, room_of, write_inside, pool_written, links_kept, still_within, kept}
-use Rattle.memb_core.proofs.Linked.{keeps_lists}
+use Rattle.memb_core.proofs.Lemmas.{◌≡◌, ℕ, ◌+◌, List, length, refl, sym, ap, subst, ◌∙◌, arith, contents, written, length-range, place_of, pool_of, KeepsToSpan, KeepsLists, used_below, used_if_room, room_of, write_inside, pool_written, links_kept, still_within, kept, keeps_lists}
 use Rattle.memb_core.proofs.pool.Pool.write.Goals as goal
 
 written_same : (bytes : List ℕ) {i j : ℕ} {ws us : List ℕ} → i ≡ j → ws ≡ us → written bytes i ws ≡ written bytes j us
