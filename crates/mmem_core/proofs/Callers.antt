@@ -2,7 +2,7 @@
 --     IsWithin-kept        the span still lies in the arena after a call
 --     store_of-same        what the handles stand for depends on the span's bytes alone
 --     store_of-elsewhere   so it stays when only bytes of another span changed
-use Rattle.mmem_core.proofs.Words.{rules, ◌≡◌, ℕ, ◌+◌, ◌≤◌, ◌⊎◌, List, map, ap, arith, Span, Contents, ChangesOnly, ManagedStore, HandleTable, region_of, store_of, IsWithin, KeepsToSpan}
+use Rattle.mmem_core.proofs.Words.{◌≡◌, ℕ, ◌+◌, ◌≤◌, ◌⊎◌, List, arith, Contents, ChangesOnly, HandleTable, region_of, store_of, IsWithin, KeepsToSpan}
 use Rattle.mmem_core.proofs.StoreLemmas.{block_in}
 
 pub IsWithin-kept : (old new : HandleTable) (before after : Contents) → KeepsToSpan old new before after → IsWithin old before.bytes → IsWithin new after.bytes

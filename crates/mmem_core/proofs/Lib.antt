@@ -8,3 +8,4 @@ mod Sliding
 pub mod StoreLemmas
 pub mod TableLemmas
 pub mod Words
+pub mod Lemmas

@@ -1,6 +1,5 @@
 -- How the places change, and what the blocks take.
-use Rattle.mmem_core.proofs.Words.{rules, ◌≡◌, ◌≢◌, ℕ, zero, suc, ◌+◌, ◌-◌, ◌≤◌, ◌<◌, ◌⊎◌, inl, inr, List, [], ◌∷◌, ◌++◌, length, get_or, slice_set, replicate, sum_by, Option, Some, None, if◌then◌else◌, ◌==◌, Bool, true, refl, sym, ap, ◌∙◌, subst, arith, zero-add, append_assoc, Contains, IsSome, slice_get, AllByRecursion, get_or-set_same, get_or-set_other, append-nil, Contains-append_left, Contains-append_right, Contains-append_cases, Contains-push, cases_eq, cases_lt, eq-eqb, sum_by-cons, sum_by-set, sum_by_push, up4, Place, place_in, end_of, last_end, room_moved, bytes_moved, at_of, room_of, AreLaid, IsLaidOut, LieApart, Avoids}
-use Rattle.std.specs.Prelude.{IsSomeAnd}
+use Rattle.mmem_core.proofs.Words.{◌≡◌, ◌≢◌, ℕ, zero, suc, ◌+◌, ◌-◌, ◌≤◌, ◌<◌, ◌⊎◌, inl, inr, List, [], ◌∷◌, ◌++◌, length, get_or, slice_set, replicate, sum_by, Option, Some, None, if◌then◌else◌, ◌==◌, Bool, true, refl, sym, ap, ◌∙◌, subst, arith, zero-add, append_assoc, Contains, IsSome, slice_get, AllByRecursion, get_or-set_same, get_or-set_other, append-nil, Contains-append_left, Contains-append_right, Contains-append_cases, Contains-push, cases_eq, cases_lt, eq-eqb, sum_by-cons, sum_by-set, sum_by_push, up4, Place, place_in, end_of, last_end, room_moved, bytes_moved, at_of, room_of, AreLaid, IsLaidOut, LieApart, Avoids, IsSomeAnd}
 use Rattle.mmem_core.proofs.RingLemmas.{each_joined}
 
 -- a block's length is not above what it takes

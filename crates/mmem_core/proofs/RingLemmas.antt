@@ -1,8 +1,6 @@
 -- What an append and a removal make of the ring of links.
-use Rattle.mmem_core.proofs.Words.{rules, ◌≡◌, ◌≢◌, inl, inr, ℕ, zero, suc, ◌+◌, ◌-◌, ◌≤◌, ◌<◌, ◌==◌, List, [], ◌∷◌, ◌++◌, length, get_or, set, true, false, if◌then◌else◌, refl, sym, ap, ◌∙◌, subst, arith, AllByRecursion, IsDistinct, list_any, Contains, slice_get, eqb-true, eq-eqb, ne_eqb, or_cases, get_or-set_same, get_or-set_other, length-set, get_or-replicate, length-replicate, take-append-drop, drop_more, All-set, All-replicate, All, take, drop, numbers_behind, numbers_of, Leads, Avoids, AreDistinct, IsRing}
-use Rattle.std.specs.Prelude.{Option, Some, None}
+use Rattle.mmem_core.proofs.Words.{rules, ◌≡◌, ◌≢◌, ℕ, zero, suc, ◌+◌, ◌-◌, ◌≤◌, ◌<◌, ◌==◌, List, [], ◌∷◌, ◌++◌, length, get_or, set, true, false, if◌then◌else◌, refl, sym, ap, ◌∙◌, arith, AllByRecursion, IsDistinct, list_any, Contains, slice_get, eqb-true, eq-eqb, ne_eqb, or_cases, get_or-set_same, get_or-set_other, length-set, get_or-replicate, length-replicate, take-append-drop, drop_more, All-set, All, take, drop, numbers_behind, numbers_of, Leads, Avoids, AreDistinct, IsRing, Option, Some, None, replicate}
 use Rattle.std.proofs.lemmas.Map.Steps.{length-le_from_distinct_below}
-use Rattle.std.specs.Prelude.{replicate}
 use Rattle.mmem_core.specs.declared.order.Order.TheInside.{Inside}
 
 if_eq : {X : Type 0} (a b : ℕ) (x y : X) → a ≡ b → (if a == b then x else y) ≡ x

@@ -1,6 +1,4 @@
-use Rattle.mmem_core.proofs.Words.{length-map, Span, length, get_or, rules, ◌≡◌, ◌+◌, ◌-◌, ◌≤◌, ◌<◌, ◌^◌, min, Option, Some, None, refl, sym, ap, subst, ◌∙◌, arith, up4, number_of, Place, ManagedStore, unused, place_in, last_end, bytes_moved, HandleTable, store_of, region_of}
-use Rattle.mmem_core.proofs.PlaceLemmas.{begins_behind, bytes_moved-added, bytes_moved-same}
-use Rattle.mmem_core.proofs.StoreLemmas.{no_place, get_or-blocks, block_in, unused-added}
+use Rattle.mmem_core.proofs.Lemmas.{length-map, Span, length, get_or, rules, ◌≡◌, ◌+◌, ◌-◌, ◌≤◌, ◌<◌, ◌^◌, min, Option, Some, None, refl, sym, ap, subst, ◌∙◌, arith, up4, number_of, Place, ManagedStore, unused, place_in, last_end, bytes_moved, HandleTable, store_of, region_of, begins_behind, bytes_moved-added, bytes_moved-same, no_place, get_or-blocks, block_in, unused-added}
 use Rattle.mmem_core.proofs.mmem.Mmem.alloc.Goals as goal
 
 pub returns-then-avail-size-clause-refused : goal.returns-then-avail-size-clause-refused

@@ -1,6 +1,4 @@
-use Rattle.mmem_core.proofs.Words.{◌≡◌, ◌+◌, ◌-◌, ◌≤◌, get_or, sym, ap, subst, ◌∙◌, arith, free, unused, HandleTable, store_of, IsWithin}
-use Rattle.mmem_core.proofs.Shares.{taken_is, taken_le_quota, share_is_there}
-use Rattle.mmem_core.proofs.TableLemmas.{unused_is, free_under, free_of_all}
+use Rattle.mmem_core.proofs.Lemmas.{◌≡◌, ◌+◌, ◌-◌, ◌≤◌, get_or, sym, ap, subst, ◌∙◌, arith, free, unused, HandleTable, store_of, IsWithin, taken_is, taken_le_quota, share_is_there, unused_is, free_under, free_of_all}
 use Rattle.mmem_core.proofs.mmem.Mmem.avail.Goals as goal
 
 pub overflow_sub-result : goal.overflow_sub-result

@@ -1,5 +1,4 @@
-use Rattle.mmem_core.proofs.Words.{sym, subst, BlocksLieApart, HandleTable, IsWithin}
-use Rattle.mmem_core.proofs.Apart.{blocks_apart}
+use Rattle.mmem_core.proofs.Lemmas.{sym, subst, BlocksLieApart, HandleTable, IsWithin, blocks_apart}
 use Rattle.mmem_core.proofs.mmem.Mmem.blocks_lie_apart.Goals as goal
 
 pub returns : goal.returns

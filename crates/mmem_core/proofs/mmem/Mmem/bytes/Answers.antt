@@ -1,5 +1,4 @@
-use Rattle.mmem_core.proofs.Words.{◌≡◌, Some, sym, ap, subst, ◌∙◌, number_of, block_of, place_in, HandleTable, store_of, IsWithin}
-use Rattle.mmem_core.proofs.TableLemmas.{block_is}
+use Rattle.mmem_core.proofs.Lemmas.{◌≡◌, Some, sym, ap, subst, ◌∙◌, number_of, block_of, place_in, HandleTable, store_of, IsWithin, block_is}
 use Rattle.mmem_core.proofs.mmem.Mmem.bytes.Goals as goal
 
 pub returns : goal.returns

@@ -1,6 +1,4 @@
-use Rattle.mmem_core.proofs.Words.{◌≡◌, ℕ, ◌+◌, ◌≤◌, List, length, slice_range, Option, Some, IsSomeAnd, refl, sym, ap, subst, ◌∙◌, arith, add-zero, Contents, written, number_of, block_of, with_bytes, copied, place_in, HandleTable, store_of, IsWithin, KeepsToSpan}
-use Rattle.mmem_core.proofs.TableLemmas.{block_is, block_read, bytes_are, place_length, place_inside, rewritten, kept}
-use Rattle.mmem_core.proofs.PlaceLemmas.{len_le_room}
+use Rattle.mmem_core.proofs.Lemmas.{◌≡◌, ℕ, ◌+◌, ◌≤◌, List, length, slice_range, Option, Some, IsSomeAnd, refl, sym, ap, subst, ◌∙◌, arith, add-zero, Contents, written, number_of, block_of, with_bytes, copied, place_in, HandleTable, store_of, IsWithin, KeepsToSpan, block_is, block_read, bytes_are, place_length, place_inside, rewritten, kept, len_le_room}
 use Rattle.mmem_core.proofs.mmem.Mmem.copy.Goals as goal
 
 pub returns-then-source-target : goal.returns-then-source-target

@@ -1,5 +1,4 @@
-use Rattle.mmem_core.proofs.Words.{◌+◌, sym, ap, ◌∙◌, arith, last_end, HandleTable}
-use Rattle.mmem_core.proofs.PlaceLemmas.{last_live, last_ends, none_ends, last_inside}
+use Rattle.mmem_core.proofs.Lemmas.{◌+◌, sym, ap, ◌∙◌, arith, last_end, HandleTable, last_live, last_ends, none_ends, last_inside}
 use Rattle.mmem_core.proofs.mmem.Mmem.end.Goals as goal
 
 pub unwrap-place-requires : goal.unwrap-place-requires

@@ -1,8 +1,4 @@
-use Rattle.mmem_core.proofs.Words.{rules, ◌≡◌, ℕ, ◌+◌, ◌-◌, ◌++◌, ◌^◌, ◌<◌, List, length, get_or, slice_set, slice_index_or, None, min, refl, sym, ap, subst, ◌∙◌, arith, freed, number_of, place_in, bytes_moved, room_of, IsLaidOut, HandleTable, store_of, IsWithin}
-use Rattle.mmem_core.proofs.RingLemmas.{parted}
-use Rattle.mmem_core.proofs.PlaceLemmas.{IsLaidOut-freed, LieApart-from, bytes_moved-freed}
-use Rattle.mmem_core.proofs.Shares.{freed_shared, room_le_taken}
-use Rattle.mmem_core.proofs.TableLemmas.{taken_away, with_slot}
+use Rattle.mmem_core.proofs.Lemmas.{rules, ◌≡◌, ℕ, ◌+◌, ◌-◌, ◌++◌, ◌^◌, ◌<◌, List, length, get_or, slice_set, slice_index_or, None, min, refl, sym, ap, subst, ◌∙◌, arith, freed, number_of, place_in, bytes_moved, room_of, IsLaidOut, HandleTable, store_of, IsWithin, parted, IsLaidOut-freed, LieApart-from, bytes_moved-freed, freed_shared, room_le_taken, taken_away, with_slot}
 use Rattle.mmem_core.proofs.mmem.Mmem.free.Goals as goal
 
 pub invariant_of-self : goal.invariant_of-self

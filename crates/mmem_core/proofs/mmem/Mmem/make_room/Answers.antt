@@ -1,5 +1,4 @@
-use Rattle.mmem_core.proofs.Words.{ap, arith, HandleTable}
-use Rattle.mmem_core.proofs.PlaceLemmas.{bytes_moved-same}
+use Rattle.mmem_core.proofs.Lemmas.{ap, arith, HandleTable, bytes_moved-same}
 use Rattle.mmem_core.proofs.mmem.Mmem.make_room.Goals as goal
 
 pub returns-else-self-end-clause-slid : goal.returns-else-self-end-clause-slid

@@ -1,6 +1,4 @@
-use Rattle.mmem_core.proofs.Words.{◌≡◌, ◌≤◌, ◌*◌, List, ℕ, Option, None, Some, replicate, sym, subst, arith, IfSome, Place, IsLaidOut}
-use Rattle.mmem_core.proofs.PlaceLemmas.{IsLaidOut-none, LieApart-from}
-use Rattle.mmem_core.proofs.Shares.{none_shared}
+use Rattle.mmem_core.proofs.Lemmas.{◌≡◌, ◌≤◌, ◌*◌, List, ℕ, Option, None, Some, replicate, sym, subst, arith, IfSome, Place, IsLaidOut, IsLaidOut-none, LieApart-from, none_shared}
 use Rattle.mmem_core.proofs.mmem.Mmem.new.Goals as goal
 use Rattle.mmem_core.proofs.mmem.Mmem.new.Goals.{in-Some, in-None}
 

@@ -1,7 +1,4 @@
-use Rattle.mmem_core.proofs.Words.{rules, ◌≡◌, ℕ, ◌+◌, ◌≤◌, ◌<◌, ◌++◌, ◌∷◌, [], List, length, get_or, slice_set, Option, Some, None, IsSomeAnd, refl, sym, ap, subst, ◌∙◌, arith, length-replicate, up4, zeros, number_of, Contents, written, Place, block_of, free, allocated, place_in, last_end, IsLaidOut, HandleTable, store_of, IsWithin, KeepsToSpan}
-use Rattle.mmem_core.proofs.PlaceLemmas.{IsLaidOut-added, LieApart-from, unlisted, len_le_room, last_end-added, place_in-set_same}
-use Rattle.mmem_core.proofs.Shares.{taken_is, taken_le_used, block_shared}
-use Rattle.mmem_core.proofs.TableLemmas.{free_under, unused_place, added, kept, with_slot}
+use Rattle.mmem_core.proofs.Lemmas.{rules, ◌≡◌, ℕ, ◌+◌, ◌≤◌, ◌<◌, ◌++◌, ◌∷◌, [], List, length, get_or, slice_set, Option, Some, None, IsSomeAnd, refl, sym, ap, subst, ◌∙◌, arith, length-replicate, up4, zeros, number_of, Contents, written, Place, block_of, free, allocated, place_in, last_end, IsLaidOut, HandleTable, store_of, IsWithin, KeepsToSpan, IsLaidOut-added, LieApart-from, unlisted, len_le_room, last_end-added, place_in-set_same, taken_is, taken_le_used, block_shared, free_under, unused_place, added, kept, with_slot}
 use Rattle.mmem_core.proofs.mmem.Mmem.put_last.Goals as goal
 
 pub append-requires-clause-fresh : goal.append-requires-clause-fresh

@@ -1,6 +1,4 @@
-use Rattle.mmem_core.proofs.Words.{◌≡◌, ◌+◌, ◌-◌, ◌^◌, min, sym, ap, ◌∙◌, subst, arith, rules, HandleTable, IsWithin}
-use Rattle.mmem_core.proofs.Sliding.{IsMidway, midway_first, is_live, down, inside, some_room, midway_more, slid_sound, slid_apart, slid_shared, room_behind}
-use Rattle.mmem_core.proofs.PlaceLemmas.{len_le_room}
+use Rattle.mmem_core.proofs.Lemmas.{◌≡◌, ◌+◌, ◌-◌, ◌^◌, min, sym, ap, ◌∙◌, subst, arith, rules, HandleTable, IsWithin, IsMidway, midway_first, is_live, down, inside, some_room, midway_more, slid_sound, slid_apart, slid_shared, room_behind, len_le_room}
 use Rattle.mmem_core.proofs.mmem.Mmem.slide_together.Goals as goal
 
 pub loop-next-init : goal.loop-next-init

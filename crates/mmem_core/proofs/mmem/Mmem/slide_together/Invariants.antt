@@ -1,5 +1,4 @@
-use Rattle.mmem_core.proofs.Words.{◌-◌}
-use Rattle.mmem_core.proofs.Sliding.{IsMidway}
+use Rattle.mmem_core.proofs.Lemmas.{◌-◌, IsMidway}
 use Rattle.mmem_core.proofs.mmem.Mmem.slide_together.Given as goal
 
 abbrev pub invariant-loop-next : goal.invariant-loop-next

@@ -1,6 +1,4 @@
-use Rattle.mmem_core.proofs.Words.{◌≡◌, ℕ, ◌+◌, ◌≤◌, List, length, slice_range, Option, Some, IsSomeAnd, refl, sym, ap, subst, ◌∙◌, arith, contents, written, number_of, block_of, with_bytes, place_in, HandleTable, store_of, IsWithin, KeepsToSpan}
-use Rattle.mmem_core.proofs.TableLemmas.{block_is, place_length, place_inside, rewritten, kept}
-use Rattle.mmem_core.proofs.PlaceLemmas.{len_le_room}
+use Rattle.mmem_core.proofs.Lemmas.{◌≡◌, ℕ, ◌+◌, ◌≤◌, List, length, slice_range, Option, Some, IsSomeAnd, refl, sym, ap, subst, ◌∙◌, arith, contents, written, number_of, block_of, with_bytes, place_in, HandleTable, store_of, IsWithin, KeepsToSpan, block_is, place_length, place_inside, rewritten, kept, len_le_room}
 use Rattle.mmem_core.proofs.mmem.Mmem.write.Goals as goal
 
 pub returns : goal.returns

@@ -1,5 +1,4 @@
-use Rattle.mmem_core.proofs.Words.{List, ℕ, ◌∷◌, ◌++◌, [], ap, ◌∙◌, sym, subst, Avoids}
-use Rattle.mmem_core.proofs.RingLemmas.{appended, Avoids-from}
+use Rattle.mmem_core.proofs.Lemmas.{List, ℕ, ◌∷◌, ◌++◌, [], ap, ◌∙◌, sym, subst, Avoids, appended, Avoids-from}
 use Rattle.mmem_core.proofs.order.Order.append.Goals as goal
 
 pub invariant_of-self : goal.invariant_of-self

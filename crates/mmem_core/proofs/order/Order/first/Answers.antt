@@ -1,6 +1,4 @@
-use Rattle.mmem_core.proofs.Words.{refl, ap, ◌∙◌, get_or}
-use Rattle.std.proofs.Common.{slice_get}
-use Rattle.mmem_core.proofs.RingLemmas.{first_named}
+use Rattle.mmem_core.proofs.Lemmas.{refl, ap, ◌∙◌, get_or, slice_get, first_named}
 use Rattle.mmem_core.proofs.order.Order.first.Goals as goal
 
 pub returns-clause-number : goal.returns-clause-number

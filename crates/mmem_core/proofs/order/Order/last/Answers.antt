@@ -1,6 +1,4 @@
-use Rattle.mmem_core.proofs.Words.{refl, ap, ◌∙◌, ◌-◌, get_or, length}
-use Rattle.std.proofs.Common.{slice_get}
-use Rattle.mmem_core.proofs.RingLemmas.{last_named}
+use Rattle.mmem_core.proofs.Lemmas.{refl, ap, ◌∙◌, ◌-◌, get_or, length, slice_get, last_named}
 use Rattle.mmem_core.proofs.order.Order.last.Goals as goal
 
 pub returns-clause-number : goal.returns-clause-number

@@ -1,4 +1,4 @@
-use Rattle.mmem_core.proofs.RingLemmas.{no_numbers}
+use Rattle.mmem_core.proofs.Lemmas.{no_numbers}
 use Rattle.mmem_core.proofs.order.Order.new.Goals as goal
 
 pub invariant_of-result : goal.invariant_of-result

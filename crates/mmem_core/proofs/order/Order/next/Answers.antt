@@ -1,5 +1,4 @@
-use Rattle.mmem_core.proofs.Words.{refl, ◌∙◌, get_or}
-use Rattle.mmem_core.proofs.RingLemmas.{next_named}
+use Rattle.mmem_core.proofs.Lemmas.{refl, ◌∙◌, get_or, next_named}
 use Rattle.mmem_core.proofs.order.Order.next.Goals as goal
 
 pub returns-clause-number : goal.returns-clause-number

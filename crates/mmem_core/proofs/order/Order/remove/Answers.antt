@@ -1,5 +1,4 @@
-use Rattle.mmem_core.proofs.Words.{◌∙◌}
-use Rattle.mmem_core.proofs.RingLemmas.{removed, parted}
+use Rattle.mmem_core.proofs.Lemmas.{◌∙◌, removed, parted}
 use Rattle.mmem_core.proofs.order.Order.remove.Goals as goal
 
 pub invariant_of-self : goal.invariant_of-self
