@@ -1,15 +1,8 @@
 pub mod Sound
 pub mod Yields
-pub mod Walks
-pub mod Below
-pub mod Order
-pub mod Listed
-pub mod Boot
 pub mod Rest
-pub mod NothingLeft
-pub mod Counting
+pub mod Listed
 pub mod LonePoll
 mod Examples
-pub mod KernelReceivers
 pub mod Common
 pub mod Lemmas

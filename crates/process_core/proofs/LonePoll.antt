@@ -1,5 +1,5 @@
 -- A round that does nothing but poll one process of the kernel.
-use Rattle.process_core.proofs.Common.{◌≡◌, ℕ, ◌<◌, ◌==◌, Bool, true, false, ◌&&◌, List, [], ◌∷◌, length, refl, arith, Some, not, map, nat_tests, POLL, plain_event, Item, Job, from_marked, queued_of, is_one_of, is_empty, is_only_marked, polls_alone, numbers, is_marked, is_any_marked, is_kernel_process, with_mark, Scheduler, in_front, Process, unmarked, IsLonePoll}
+use Rattle.process_core.proofs.Common.{◌≡◌, ℕ, ◌<◌, ◌==◌, Bool, true, false, ◌&&◌, List, [], ◌∷◌, length, refl, arith, Some, not, map, nat_tests, POLL, plain_event, Item, Job, from_marked, queued_of, is_one_of, is_empty, is_only_marked, polls_alone, numbers, is_marked, is_any_marked, is_kernel_process, with_mark, Scheduler, in_front, Process, unmarked, IsLonePoll, zero, suc, ◌≤◌, nat_eq, ◌++◌, drop, ◌∙◌, flat_map, reverse, length-reverse, Event, front_items, items_of, base_items, agenda_of, Base, Continuation, SchedulerFields, sym, ap, if◌then◌else◌, Reply, is_other_than, IsInOrder, BootsKnown, from_application, receiver_is_next, poll_items, receiver_items, Front, behind_kernel_receivers, is_broadcast}
 use Rattle.process_core.proofs.Yields.{unmarked_pass, poll_one_yields, yields_next, yields_after}
 use Rattle.process_core.specs.declared.queued.Queued as code
 
@@ -94,3 +94,133 @@ module _ {X : Type 0} where
       let first = marked_first s.processes (numbers s.processes) p (λ q h. alone_marked s.processes p q none h) only.0 (marked_is_one_of s.processes p only.0) in
       lone_poll_at s p first.0 (empty_list s.agenda outer.0) (empty_list s.events inner.0) (grind (arith, nat_tests, low)) only.0
       (marked_is_any s.processes p only.0) none first.1
+
+-- When nothing is left to be done.
+pub is_empty_append : {A : Type 0} (xs ys : List A) → is_empty (xs ++ ys) ≡ (is_empty xs && is_empty ys)
+is_empty_append [] ys = refl
+is_empty_append (x ∷ xs) ys = refl
+
+pub is_empty_map : {A B : Type 0} (f : A → B) (xs : List A) → is_empty (map f xs) ≡ is_empty xs
+is_empty_map f [] = refl
+is_empty_map f (x ∷ xs) = refl
+
+-- a continuation has at least one item
+has_more : (continuation : Continuation) → is_empty (items_of continuation) ≡ false
+has_more (Continuation.Leave pid [] true) = refl
+has_more (Continuation.Leave pid [] false) = refl
+has_more (Continuation.Leave pid (p ∷ walk) exits) = refl
+has_more (Continuation.Answer pid) = refl
+
+pub deliver_has_more : (is_polled : Bool) (walk : List ℕ) (event : Event) → is_empty (base_items (Base.Deliver is_polled) walk event) ≡ false
+deliver_has_more true walk event = refl
+deliver_has_more false walk event = refl
+
+pub is_empty_broadcast : (is_polled : Bool) (walk : List ℕ) (event : Event) → is_empty (base_items (Base.Broadcast is_polled) walk event) ≡ is_empty walk
+is_empty_broadcast is_polled walk event = grind (arith, nat_tests)
+
+is_empty_stack : (stack : List Continuation) → is_empty (flat_map items_of stack) ≡ is_empty stack
+is_empty_stack [] = refl
+is_empty_stack (continuation ∷ below) = is_empty_append (items_of continuation) (flat_map items_of below) ∙ rw (has_more continuation) refl
+
+is_empty_length : {A : Type 0} (xs : List A) → is_empty xs ≡ (length xs == 0)
+is_empty_length [] = refl
+is_empty_length (x ∷ xs) = grind (arith, nat_tests)
+
+pub is_empty_continuations : (continuations : List Continuation) → is_empty (reverse continuations) ≡ (length continuations == 0)
+is_empty_continuations continuations = is_empty_length (reverse continuations) ∙ rw (length-reverse continuations) refl
+
+-- nothing is on the agenda where each part of the open work is over
+pub is_empty_agenda : (d : SchedulerFields) →
+    is_empty (agenda_of d)
+    ≡ (is_empty (front_items d.front d.reply d.synch) && ((length d.stack.items == 0) && (is_empty d.polls && is_empty (base_items d.base d.walk d.broadcast))))
+is_empty_agenda d = grind (arith, nat_tests, is_empty_append, is_empty_stack, is_empty_continuations, is_empty_map)
+
+pub is_empty_drop : (n : ℕ) (xs : List ℕ) → n ≤ length xs → is_empty (drop n xs) ≡ nat_eq n (length xs)
+is_empty_drop zero [] h = refl
+is_empty_drop zero (x ∷ xs) h = grind arith
+is_empty_drop (suc n) [] h = absurd (omega arith)
+is_empty_drop (suc n) (x ∷ xs) h = grind (arith, is_empty_drop n xs)
+
+-- The kernel's processes that come next are passed in the base's walk as on the agenda.
+pub and_false : (b : Bool) → (b && false) ≡ false
+and_false true = refl
+and_false false = refl
+
+module _ (codes : List ℕ) where
+  receivers_behind : (event : Event) (walk : List ℕ) (other : Bool) → is_other_than codes event.code ≡ other
+      → behind_kernel_receivers codes (receiver_items event walk) ≡ receiver_items event (if other then from_application walk else walk)
+  receivers_behind event [] true e = refl
+  receivers_behind event [] false e = refl
+  receivers_behind event (p ∷ walk) other e = grind (arith, nat_tests, receivers_behind event walk other e)
+
+  -- none comes next where something else does
+
+  nothing_in_base : (base : Base) (walk : List ℕ) (event : Event) → is_broadcast base ≡ false
+      → behind_kernel_receivers codes (base_items base walk event) ≡ base_items base walk event
+  nothing_in_base Base.Nothing walk event none = refl
+  nothing_in_base Base.Boot [] event none = refl
+  nothing_in_base Base.Boot (p ∷ walk) event none = refl
+  nothing_in_base (Base.Deliver true) walk event none = refl
+  nothing_in_base (Base.Deliver false) walk event none = refl
+  nothing_in_base (Base.Broadcast true) [] event none = refl
+  nothing_in_base (Base.Broadcast true) (p ∷ walk) event none = refl
+  nothing_in_base (Base.Broadcast false) walk event none = absurd (cc)
+
+  nothing_below : (polls : List ℕ) (base : Base) (walk : List ℕ) (event : Event) → (is_empty polls && is_broadcast base) ≡ false
+      → behind_kernel_receivers codes (poll_items polls ++ base_items base walk event) ≡ poll_items polls ++ base_items base walk event
+  nothing_below [] base walk event none = nothing_in_base base walk event none
+  nothing_below (p ∷ polls) base walk event none = refl
+
+  nothing_behind : (stack : List Continuation) (polls : List ℕ) (base : Base) (walk : List ℕ) (event : Event)
+      → (is_empty stack && (is_empty polls && is_broadcast base)) ≡ false
+      → behind_kernel_receivers codes (flat_map items_of stack ++ (poll_items polls ++ base_items base walk event))
+      ≡ flat_map items_of stack ++ (poll_items polls ++ base_items base walk event)
+  nothing_behind [] polls base walk event none = nothing_below polls base walk event none
+  nothing_behind (Continuation.Leave pid [] true ∷ below) polls base walk event none = refl
+  nothing_behind (Continuation.Leave pid [] false ∷ below) polls base walk event none = refl
+  nothing_behind (Continuation.Leave pid (p ∷ others) exits ∷ below) polls base walk event none = refl
+  nothing_behind (Continuation.Answer pid ∷ below) polls base walk event none = refl
+
+  nothing_next : (front : Front) (reply : Reply) (synch : Event) (stack : List Continuation) (polls : List ℕ) (base : Base) (walk : List ℕ) (event : Event)
+      → (is_empty (front_items front reply synch) && (is_empty stack && (is_empty polls && is_broadcast base))) ≡ false
+      → behind_kernel_receivers codes (front_items front reply synch ++ (flat_map items_of stack ++ (poll_items polls ++ base_items base walk event)))
+      ≡ front_items front reply synch ++ (flat_map items_of stack ++ (poll_items polls ++ base_items base walk event))
+  nothing_next front reply synch stack polls base walk event none = grind (arith, nat_tests, nothing_behind)
+
+  broadcasting : (base : Base) → is_broadcast base ≡ true → base ≡ Base.Broadcast false
+  broadcasting base h = grind (arith, nat_tests)
+
+  -- a receiver comes next: nothing but the broadcast is open
+  pub receivers_open : (d : SchedulerFields) (walk : List ℕ) → receiver_is_next d ≡ true → agenda_of (record d { walk = walk }) ≡ receiver_items d.broadcast walk
+  receivers_open d walk h =
+      let first = both (is_empty (front_items d.front d.reply d.synch)) (_) h in
+      let second = both (_) (_) first.1 in
+      let third = both (is_empty d.polls) (is_broadcast d.base) second.1 in
+      let bare : reverse d.stack.items ≡ [] = empty_list (reverse d.stack.items) (is_empty_continuations d.stack.items ∙ second.0) in
+      rw (empty_list (front_items d.front d.reply d.synch) first.0, bare, empty_list d.polls third.0, broadcasting d.base third.1) refl
+
+  pub passed : (d : SchedulerFields) → receiver_is_next d ≡ true → is_other_than codes d.broadcast.code ≡ true
+      → agenda_of (record d { walk = from_application d.walk }) ≡ behind_kernel_receivers codes (agenda_of d)
+  passed d next other =
+      receivers_open d (from_application d.walk) next
+      ∙ sym (ap (behind_kernel_receivers codes) (receivers_open d d.walk next) ∙ receivers_behind d.broadcast d.walk true other)
+
+  -- else none is passed
+  pub none_passed : (d : SchedulerFields) → (receiver_is_next d && is_other_than codes d.broadcast.code) ≡ false → agenda_of d ≡ behind_kernel_receivers codes (agenda_of d)
+  none_passed d h = split (receiver_is_next d) refl (is_other_than codes d.broadcast.code) refl h
+    where
+      split : (next : Bool) → receiver_is_next d ≡ next → (other : Bool) → is_other_than codes d.broadcast.code ≡ other → (next && other) ≡ false
+          → agenda_of d ≡ behind_kernel_receivers codes (agenda_of d)
+      split true n true o h = absurd (cc)
+      split true n false o h =
+          receivers_open d d.walk n ∙ sym (ap (behind_kernel_receivers codes) (receivers_open d d.walk n) ∙ receivers_behind d.broadcast d.walk false o)
+      split false n other o h =
+          sym (nothing_next d.front d.reply d.synch (reverse d.stack.items) d.polls d.base d.walk d.broadcast (rw (is_empty_continuations d.stack.items) n))
+
+pub order_passed : (d : SchedulerFields) (walk : List ℕ) → receiver_is_next d ≡ true → IsInOrder d → IsInOrder (record d { walk = walk })
+order_passed d walk next order =
+    let first = both (is_empty (front_items d.front d.reply d.synch)) (_) next in
+    let second = both (_) (_) first.1 in
+    let third = both (is_empty d.polls) (is_broadcast d.base) second.1 in
+    let known : BootsKnown d.applications d.base walk = rw (broadcasting [] d.base third.1) tt in
+    record { sound = order.sound; starts = order.starts; boots = known; room = order.room; few = order.few; numbers = order.numbers }

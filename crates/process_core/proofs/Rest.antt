@@ -1,5 +1,5 @@
 -- Where nothing is left to be done.
-use Rattle.process_core.proofs.Common.{◌≡◌, ℕ, zero, suc, ◌<◌, Bool, true, false, List, [], ◌∷◌, ◌++◌, refl, sym, ◌∙◌, arith, Option, Some, None, if◌then◌else◌, map, flat_map, list_any, front_items, items_of, base_items, agenda_of, receiver_items, list_any-append, nat_tests, Event, Stimulus, Reply, is_kernel_process, Queued, Item, Job, Scheduler, after_front, job_of_give, after_items, ComesTo, Continuation, Base, Front, SchedulerFields, after_front_of, job_at, job_of_item, job_of_event, wants_round, after_item, is_shown}
+use Rattle.process_core.proofs.Common.{◌≡◌, ℕ, zero, suc, ◌<◌, Bool, true, false, List, [], ◌∷◌, ◌++◌, refl, sym, ◌∙◌, arith, Option, Some, None, if◌then◌else◌, map, flat_map, list_any, front_items, items_of, base_items, agenda_of, receiver_items, list_any-append, nat_tests, Event, Stimulus, Reply, is_kernel_process, Queued, Item, Job, Scheduler, after_front, job_of_give, after_items, ComesTo, Continuation, Base, Front, SchedulerFields, after_front_of, job_at, job_of_item, job_of_event, wants_round, after_item, is_shown, ◌≤◌, length, drop, slice_get, IfNone, from_marked, Process, ◌+◌, add-one, range_with_len, at_first, state_of, is_one_of, IsSound, IsInOrder, State}
 
 module _ {X : Type 0} where
   no_rest_at_event : (event : Option (Queued X)) → job_of_event event ≡ Some Job.Rest → ⊥
@@ -123,3 +123,55 @@ nothing_shown_below base walk event = grind (arith, nat_tests, none_shown, none_
 
 pub nothing_shown : (d : SchedulerFields) → list_any is_shown (agenda_of d) ≡ false
 nothing_shown d = grind (arith, nat_tests, shown_in_either, nothing_shown_first, nothing_shown_on, none_shown, nothing_shown_below)
+
+-- What a walk comes to next.
+pub first_and_rest : {A : Type 0} (xs : List A) (x : A) → slice_get xs 0 ≡ Some x → xs ≡ x ∷ drop 1 xs
+first_and_rest [] x e = absurd (cc)
+first_and_rest (y ∷ xs) x e = let same : y ≡ x = cc in rw same refl
+
+pub none_first : {A : Type 0} (xs : List A) → slice_get xs 0 ≡ None → xs ≡ []
+none_first [] e = refl
+none_first (x ∷ xs) e = absurd (cc)
+
+pub length-from_marked : (list : List Process) (walk : List ℕ) → length (from_marked list walk) ≤ length walk
+length-from_marked list [] = omega arith
+length-from_marked list (p ∷ walk) = grind (arith, nat_tests, length-from_marked list walk)
+
+-- what is true is true where there is none
+pub if_none : {A : Type 0} {P : Type 0} (x : Option A) → P → IfNone x P
+if_none None h = h
+if_none (Some x) h = tt
+
+-- The scheduler at boot.
+pub range_more : (a n : ℕ) → range_with_len a (n + 1) ≡ range_with_len a n ++ (a + n) ∷ []
+range_more a zero = grind arith
+range_more a (suc n) = rw add-one (grind (arith, range_more (a + 1) n))
+
+pub below_range : (p a n : ℕ) → is_one_of p (range_with_len a n) ≡ true → p < a + n
+below_range p a zero h = absurd (cc)
+below_range p a (suc n) h = grind (arith, nat_tests, below_range p (a + 1) n)
+
+-- the kernel's processes run from the first, and no other process is on the list
+first_run : (p : ℕ) → p < 4 → state_of p at_first ≡ State.Running
+first_run p h = grind (arith, nat_tests)
+
+none_beyond : (p : ℕ) → 4 ≤ p → state_of p at_first ≡ State.Absent
+none_beyond p h = grind (arith, nat_tests, h)
+
+first_known : (n p : ℕ) → (state_of p at_first ≡ State.Absent → ⊥) → p < 4 + n
+first_known n p h = grind (arith, nat_tests, none_beyond)
+
+pub order_at_boot : (d : SchedulerFields) → d.applications ≤ 16 → d.walk ≡ range_with_len 4 d.applications → d.processes ≡ at_first
+    → d.stack.items ≡ [] → d.base ≡ Base.Boot → d.events.capacity ≡ 32 → d.next_event ≡ 140 → d.front ≡ Front.Nothing → IsInOrder d
+order_at_boot d few is_range list stack boot room next idle =
+    record { sound = rw (list, stack, idle) sound; starts = rw idle tt; boots = rw (boot, is_range) (λ p h. below_range p 4 d.applications h); room = room; few = few; numbers = omega arith }
+  where
+    sound : IsSound d.applications at_first [] None
+    sound =
+        record {
+          mote = record { kernel = first_run; known = first_known d.applications };
+          nested = tt;
+          answers = λ p h. absurd (cc);
+          leaves = λ p h. absurd (cc);
+          at_turn = tt;
+        }

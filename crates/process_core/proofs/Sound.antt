@@ -1,5 +1,6 @@
 -- The stack stays sound, and is short.
-use Rattle.process_core.proofs.Common.{◌≡◌, ℕ, ◌+◌, ◌<◌, ◌≤◌, Bool, true, false, ◌||◌, List, [], ◌∷◌, length, refl, ◌∙◌, ap, arith, eqb, Option, Some, None, lit<, IfSome, nat_lt, ◌*◌, IsDistinct-cons, IsDistinct, AllByRecursion, nat_tests, length-le_from_distinct_below, Pid, state_of, with_state, with_mark, without, IsApplication, is_in_activation, answering, is_one_of, has_ended, IsAtTurn, IsSound, Process, State, Continuation, IsOfMote, leaving, IsNested, AreIn}
+use Rattle.process_core.proofs.Common.{◌≡◌, ℕ, ◌+◌, ◌<◌, ◌≤◌, Bool, true, false, ◌||◌, List, [], ◌∷◌, length, refl, ◌∙◌, ap, arith, eqb, Option, Some, None, lit<, IfSome, nat_lt, ◌*◌, IsDistinct-cons, IsDistinct, AllByRecursion, nat_tests, length-le_from_distinct_below, Pid, state_of, with_state, with_mark, without, IsApplication, is_in_activation, answering, is_one_of, has_ended, IsAtTurn, IsSound, Process, State, Continuation, IsOfMote, leaving, IsNested, AreIn, ◌++◌, reverse, length-reverse, Event, Reply, is_ending, IsInOrder, BootsKnown, scheduler_behind, scheduler_of, front_items, reverse-append, SchedulerFields, Base, Front, IsOrdered, StartsKnown, active_in, turn_in, front_after}
+use Rattle.process_core.specs.declared.next_job.NextJob.{NextJob}
 
 -- each continuation is one of these
 short : (stack : List Continuation) → length stack ≤ length (answering stack) + length (leaving stack)
@@ -182,19 +183,18 @@ pub application_at_turn : (n : ℕ) (list : List Process) (stack : List Continua
     → IsSound n list stack (Some pid) → IsApplication n pid.0
 application_at_turn n list stack pid s = application_in is_in_activation n list pid.0 s.mote s.at_turn.active refl refl
 
+-- where one process alone changes what it does, and the stack has no continuation of it
+sound-changed : (n : ℕ) (old new : List Process) (stack : List Continuation) (p : ℕ) → IsApplication n p → OthersStay p old new → IsOfMote n old → IsNested stack
+    → is_one_of p (answering stack) ≡ false → AreIn is_in_activation old (answering stack) → is_one_of p (leaving stack) ≡ false → AreIn has_ended old (leaving stack)
+    → IsSound n new stack None
+sound-changed n old new stack p application same mote nested a answers l leaves = grind (arith, mote_changed, others_in)
+
 pub sound-waited : (n : ℕ) (list : List Process) (stack : List Continuation) (pid : Pid)
     → IsSound n list stack (Some pid) → has_ended (state_of pid.0 list) ≡ false
     → IsSound n (with_state pid.0 State.Running list) stack None
 sound-waited n list stack pid s e =
-    let new = with_state pid.0 State.Running list in
-    let same = λ (q : ℕ) (h : eqb q pid.0 ≡ false). state_after pid.0 q State.Running list h in
-    record {
-      mote = mote_changed n pid.0 list new (application_at_turn n list stack pid s) same s.mote;
-      nested = s.nested;
-      answers = others_in is_in_activation pid.0 list new (answering stack) same s.at_turn.apart s.answers;
-      leaves = others_in has_ended pid.0 list new (leaving stack) same (none_in has_ended list (leaving stack) pid.0 s.leaves e) s.leaves;
-      at_turn = tt;
-    }
+    sound-changed n list (with_state pid.0 State.Running list) stack pid.0 (application_at_turn n list stack pid s) (λ q h. state_after pid.0 q State.Running list h)
+    s.mote s.nested s.at_turn.apart s.answers (none_in has_ended list (leaving stack) pid.0 s.leaves e) s.leaves
 
 pub sound-quiet : (n : ℕ) (list : List Process) (stack : List Continuation) (turn : Option Pid)
     → IsSound n list stack turn → IsSound n list stack None
@@ -207,15 +207,13 @@ pub sound-left : (n : ℕ) (list : List Process) (stack : List Continuation) (q 
     → IsSound n (with_state q.0 State.Leaving list) (Continuation.Leave q walk exits ∷ stack) None
 sound-left n list stack q walk exits s application apart stays present =
     let new = with_state q.0 State.Leaving list in
-    let same = λ (r : ℕ) (h : eqb r q.0 ≡ false). state_after q.0 r State.Leaving list h in
     let none = none_in has_ended list (leaving stack) q.0 s.leaves stays in
+    let below = sound-changed n list new stack q.0 application (λ r h. state_after q.0 r State.Leaving list h) s.mote s.nested apart s.answers none s.leaves in
     record {
-      mote = mote_changed n q.0 list new application same s.mote;
+      mote = below.mote;
       nested = ((apart, none), s.nested);
-      answers = others_in is_in_activation q.0 list new (answering stack) same apart s.answers;
-      leaves =
-          one_more has_ended new (leaving stack) q.0 (others_in has_ended q.0 list new (leaving stack) same none s.leaves)
-          (ap has_ended (state_at q.0 State.Leaving list present));
+      answers = below.answers;
+      leaves = one_more has_ended new (leaving stack) q.0 below.leaves (ap has_ended (state_at q.0 State.Leaving list present));
       at_turn = tt;
     }
 
@@ -230,15 +228,13 @@ sound-exiting n list stack q walk later exits still s =
     let new = with_state q.0 State.Ending list in
     let own = s.leaves q.0 (grind (arith, is_first q.0)) in
     let ends = state_at q.0 State.Ending list (present_from_ended list q.0 own) in
-    let same = λ (r : ℕ) (h : eqb r q.0 ≡ false). state_after q.0 r State.Ending list h in
+    let below = sound-changed n list new stack q.0 (application_in has_ended n list q.0 s.mote own refl refl) (λ r h. state_after q.0 r State.Ending list h)
+    s.mote s.nested.1 s.nested.0.0 s.answers s.nested.0.1 (one_less has_ended list (leaving stack) q.0 s.leaves) in
     record {
-      mote = mote_changed n q.0 list new (application_in has_ended n list q.0 s.mote own refl refl) same s.mote;
+      mote = below.mote;
       nested = s.nested;
-      answers = others_in is_in_activation q.0 list new (answering stack) same s.nested.0.0 s.answers;
-      leaves =
-          one_more has_ended new (leaving stack) q.0
-          (others_in has_ended q.0 list new (leaving stack) same s.nested.0.1 (one_less has_ended list (leaving stack) q.0 s.leaves))
-          (ap has_ended ends);
+      answers = below.answers;
+      leaves = one_more has_ended new (leaving stack) q.0 below.leaves (ap has_ended ends);
       at_turn = record { active = ap is_in_activation ends; apart = s.nested.0.0 };
     }
 
@@ -246,16 +242,9 @@ sound-exiting n list stack q walk later exits still s =
 pub sound-removed : (n : ℕ) (list : List Process) (stack : List Continuation) (q : Pid) (walk : List ℕ) (exits : Bool)
     → IsSound n list (Continuation.Leave q walk exits ∷ stack) None → IsSound n (without q.0 list) stack None
 sound-removed n list stack q walk exits s =
-    let new = without q.0 list in
     let own = s.leaves q.0 (grind (arith, is_first q.0)) in
-    let same = λ (r : ℕ) (h : eqb r q.0 ≡ false). state_without q.0 r list h in
-    record {
-      mote = mote_changed n q.0 list new (application_in has_ended n list q.0 s.mote own refl refl) same s.mote;
-      nested = s.nested.1;
-      answers = others_in is_in_activation q.0 list new (answering stack) same s.nested.0.0 s.answers;
-      leaves = others_in has_ended q.0 list new (leaving stack) same s.nested.0.1 (one_less has_ended list (leaving stack) q.0 s.leaves);
-      at_turn = tt;
-    }
+    sound-changed n list (without q.0 list) stack q.0 (application_in has_ended n list q.0 s.mote own refl refl) (λ r h. state_without q.0 r list h)
+    s.mote s.nested.1 s.nested.0.0 s.answers s.nested.0.1 (one_less has_ended list (leaving stack) q.0 s.leaves)
 
 -- p, which runs, is given a stimulus
 pub sound-given : (n : ℕ) (list : List Process) (stack : List Continuation) (p : Pid)
@@ -264,17 +253,12 @@ pub sound-given : (n : ℕ) (list : List Process) (stack : List Continuation) (p
 sound-given n list stack p s application runs =
     let new = with_state p.0 State.Called list in
     let present : (state_of p.0 list ≡ State.Absent → ⊥) = λ e. cc in
-    let same = λ (r : ℕ) (h : eqb r p.0 ≡ false). state_after p.0 r State.Called list h in
     let a = none_in is_in_activation list (answering stack) p.0 s.answers (ap is_in_activation runs) in
     let l = none_in has_ended list (leaving stack) p.0 s.leaves (ap has_ended runs) in
     let called = state_at p.0 State.Called list present in
-    record {
-      mote = mote_changed n p.0 list new (application_is n p.0 application (s.mote.known p.0 present)) same s.mote;
-      nested = s.nested;
-      answers = others_in is_in_activation p.0 list new (answering stack) same a s.answers;
-      leaves = others_in has_ended p.0 list new (leaving stack) same l s.leaves;
-      at_turn = record { active = ap is_in_activation called; apart = a };
-    }
+    let below = sound-changed n list new stack p.0 (application_is n p.0 application (s.mote.known p.0 present)) (λ r h. state_after p.0 r State.Called list h)
+    s.mote s.nested a s.answers l s.leaves in
+    record { mote = below.mote; nested = s.nested; answers = below.answers; leaves = below.leaves; at_turn = record { active = ap is_in_activation called; apart = a } }
 
 state_behind : (p q : ℕ) (list : List Process) → eqb q p ≡ false
     → state_of q (record { number = p; state = State.Running; marked = false } ∷ list) ≡ state_of q list
@@ -288,15 +272,10 @@ pub sound-started : (n : ℕ) (list : List Process) (stack : List Continuation) 
     → IsSound n list stack None → p < 4 + n → state_of p list ≡ State.Absent
     → IsSound n (record { number = p; state = State.Running; marked = false } ∷ list) stack None
 sound-started n list stack p s known absent =
-    let new = record { number = p; state = State.Running; marked = false } ∷ list in
-    let same = λ (r : ℕ) (h : eqb r p ≡ false). state_behind p r list h in
-    record {
-      mote = mote_changed n p list new (application_is n p (application_from_absent n list p s.mote absent) known) same s.mote;
-      nested = s.nested;
-      answers = others_in is_in_activation p list new (answering stack) same (none_in is_in_activation list (answering stack) p s.answers (ap is_in_activation absent)) s.answers;
-      leaves = others_in has_ended p list new (leaving stack) same (none_in has_ended list (leaving stack) p s.leaves (ap has_ended absent)) s.leaves;
-      at_turn = tt;
-    }
+    sound-changed n list (record { number = p; state = State.Running; marked = false } ∷ list) stack p
+    (application_is n p (application_from_absent n list p s.mote absent) known) (λ r h. state_behind p r list h) s.mote s.nested
+    (none_in is_in_activation list (answering stack) p s.answers (ap is_in_activation absent)) s.answers
+    (none_in has_ended list (leaving stack) p s.leaves (ap has_ended absent)) s.leaves
 
 pub sound-marked : (n : ℕ) (list : List Process) (stack : List Continuation) (turn : Option Pid) (p : ℕ) (marked : Bool)
     → IsSound n list stack turn → IsSound n (with_mark p marked list) stack turn
@@ -316,3 +295,153 @@ sound-marked n list stack turn p marked s =
     still : (t : Option Pid) → IfSome t (λ q. IsAtTurn list stack q.0) → IfSome t (λ q. IsAtTurn (with_mark p marked list) stack q.0)
     still None h = tt
     still (Some q) h = record { active = ap is_in_activation (state_marked p q.0 marked list) ∙ h.active; apart = h.apart }
+
+-- The parts stay in order.
+
+-- a continuation that is pushed is the topmost one
+pub pushed : (continuations : List Continuation) (f : Continuation) → reverse (continuations ++ f ∷ []) ≡ f ∷ reverse continuations
+pushed continuations f = reverse-append continuations (f ∷ [])
+
+-- the stack has room for two more continuations at any time
+pub few_continuations : (d : SchedulerFields) (stack : List Continuation) → IsOrdered d stack → length stack ≤ 2 * d.applications
+few_continuations d stack order = length-le_from_sound d.applications d.processes stack (active_in d.front) order.sound
+
+pub few_items : (d : SchedulerFields) → IsInOrder d → length d.stack.items ≤ 2 * d.applications
+few_items d order = omega (arith, few_continuations d (reverse d.stack.items) order, length-reverse d.stack.items)
+
+pub room_on_stack : (d : SchedulerFields) → IsInOrder d → length d.stack.items ≤ 32
+room_on_stack d order = grind (arith, nat_tests, few_items)
+
+-- and for one more than it had before this one was taken from it
+pub room_below : (d : SchedulerFields) (f : Continuation) → IsOrdered d (f ∷ reverse d.stack.items) → length d.stack.items ≤ 31
+room_below d f order = omega (arith, few_continuations d (f ∷ reverse d.stack.items) order, length-reverse d.stack.items, order.few)
+
+idle_sound : (d : SchedulerFields) (stack : List Continuation) → IsOrdered d stack → d.front ≡ Front.Nothing → IsSound d.applications d.processes stack None
+idle_sound d stack order idle = rw idle at order.sound
+
+-- what a step makes of the fields is in order where boot, events and numbers are as they were
+in_order : (d : SchedulerFields) (before : List Continuation) (list : List Process) (stack : List Continuation) (synch : Event) (front : Front) → IsOrdered d before
+    → IsSound d.applications list (reverse stack) (active_in front) → StartsKnown d.applications front
+    → IsInOrder (record d { processes = list; stack = record { items = stack }; synch = synch; front = front })
+in_order d before list stack synch front order holds starts =
+    record { sound = holds; starts = starts; boots = order.boots; room = order.room; few = order.few; numbers = order.numbers }
+
+pub order_marked : (d : SchedulerFields) (new : List Process) (p : ℕ) (marked : Bool) → IsInOrder d
+    → new ≡ with_mark p marked d.processes → IsInOrder (record d { processes = new })
+order_marked d new p marked order e =
+    in_order d _ _ _ _ _ order (rw e (sound-marked d.applications d.processes (reverse d.stack.items) (active_in d.front) p marked order.sound)) order.starts
+
+pub order_started : (d : SchedulerFields) (new : List Process) (p : ℕ) → IsInOrder d → d.front ≡ Front.Nothing → p < 4 + d.applications → state_of p d.processes ≡ State.Absent
+    → new ≡ record { number = p; state = State.Running; marked = false } ∷ d.processes → IsInOrder (record d { processes = new })
+order_started d new p order idle known absent e =
+    in_order d _ _ _ _ _ order (rw (e, idle) (sound-started d.applications d.processes (reverse d.stack.items) p (idle_sound d (reverse d.stack.items) order idle) known absent)) order.starts
+
+-- p, which runs, is given a stimulus
+pub order_given : (d : SchedulerFields) (p : Pid) (new : List Process) → IsInOrder d → d.front ≡ Front.Nothing → 4 ≤ p.0
+    → state_of p.0 d.processes ≡ State.Running → new ≡ with_state p.0 State.Called d.processes
+    → IsInOrder (record d { processes = new; front = Front.Call p })
+order_given d p new order idle application runs e =
+    in_order d _ _ _ _ _ order (rw e (sound-given d.applications d.processes (reverse d.stack.items) p (idle_sound d (reverse d.stack.items) order idle) application runs)) tt
+
+-- boot goes on behind p
+pub order_booting : (d : SchedulerFields) (p : ℕ) (later : List ℕ) → d.base ≡ Base.Boot → d.walk ≡ p ∷ later → IsInOrder d
+    → (p < 4 + d.applications) × IsInOrder (record d { walk = later })
+order_booting d p later boots e order =
+    let known : BootsKnown d.applications Base.Boot (p ∷ later) = rw (boots, e) at order.boots in (
+      known p (grind (arith, is_first p)),
+      record {
+        sound = order.sound;
+        starts = order.starts;
+        boots = rw boots (λ q h. known q (grind (arith, h)));
+        room = order.room;
+        few = order.few;
+        numbers = order.numbers;
+      },
+    )
+
+-- ---- the topmost continuation is taken from the stack
+
+-- it is an application that leaves
+pub leaver_above : (d : SchedulerFields) (q : Pid) (walk : List ℕ) (exits : Bool) (below : List Continuation)
+    → IsOrdered d (Continuation.Leave q walk exits ∷ below) → 4 ≤ q.0
+leaver_above d q walk exits below order = grind (arith, nat_tests)
+
+pub order_removed : (d : SchedulerFields) (q : Pid) (walk : List ℕ) (exits : Bool) (new : List Process) → d.front ≡ Front.Nothing
+    → new ≡ without q.0 d.processes → IsOrdered d (Continuation.Leave q walk exits ∷ reverse d.stack.items) → IsInOrder (record d { processes = new })
+order_removed d q walk exits new idle e order =
+    in_order d _ _ _ _ _ order (rw (e, idle) (sound-removed d.applications d.processes (reverse d.stack.items) q walk exits (idle_sound d (Continuation.Leave q walk exits ∷ reverse d.stack.items) order idle))) order.starts
+
+pub order_exiting : (d : SchedulerFields) (q : Pid) (walk later : List ℕ) (exits still : Bool) (list : List Process) (stack : List Continuation) → d.front ≡ Front.Nothing
+    → list ≡ with_state q.0 State.Ending d.processes → stack ≡ d.stack.items ++ Continuation.Leave q later still ∷ []
+    → IsOrdered d (Continuation.Leave q walk exits ∷ reverse d.stack.items) → IsInOrder (record d { processes = list; stack = record { items = stack }; front = Front.Call q })
+order_exiting d q walk later exits still list stack idle e f order =
+    in_order d _ _ _ _ _ order (rw (e, f, pushed d.stack.items (Continuation.Leave q later still))
+    (sound-exiting d.applications d.processes (reverse d.stack.items) q walk later exits still (idle_sound d (Continuation.Leave q walk exits ∷ reverse d.stack.items) order idle))) tt
+
+-- ---- what the layer above tells
+
+turn_sound : (d : SchedulerFields) (p : Pid) → IsInOrder d → turn_in d.front ≡ Some p → IsSound d.applications d.processes (reverse d.stack.items) (Some p)
+turn_sound d p order e = called d.front e order.sound
+  where
+    called : (front : Front) → turn_in front ≡ Some p → IsSound d.applications d.processes (reverse d.stack.items) (active_in front)
+        → IsSound d.applications d.processes (reverse d.stack.items) (Some p)
+    called (Front.Call q) e s = rw e at s
+    called Front.Nothing e s = absurd (cc)
+    called (Front.Expiry q number) e s = absurd (cc)
+    called (Front.Answer q) e s = absurd (cc)
+    called (Front.Give q) e s = absurd (cc)
+    called (Front.Start q) e s = absurd (cc)
+    called (Front.Callback q number) e s = absurd (cc)
+
+-- while a call is awaited nothing comes first
+pub no_front : (front : Front) (p : Pid) (reply : Reply) (synch : Event) → turn_in front ≡ Some p → front_items front reply synch ≡ []
+no_front front p reply synch e = grind (arith, nat_tests)
+
+-- nor after a job, or a step that is none
+pub behind_is_all : (d : SchedulerFields) (ready : Option NextJob) → d.front ≡ front_after ready → scheduler_behind d ≡ scheduler_of d
+behind_is_all d ready e = grind (arith, nat_tests)
+
+-- its call was accepted, and this comes first
+pub order_accepted : (d : SchedulerFields) (p : Pid) (front : Front) (synch : Event) (stack : List Continuation) → IsInOrder d → turn_in d.front ≡ Some p
+    → active_in front ≡ None → StartsKnown d.applications front → stack ≡ d.stack.items ++ Continuation.Answer p ∷ []
+    → IsInOrder (record d { stack = record { items = stack }; synch = synch; front = front })
+order_accepted d p front synch stack order e none known f =
+    in_order d _ _ _ _ _ order (rw (f, pushed d.stack.items (Continuation.Answer p), none) (sound-answered d.applications d.processes (reverse d.stack.items) p (turn_sound d p order e))) known
+
+stays_here : (state : State) → is_in_activation state ≡ true → (state ≡ State.Ending → ⊥) → has_ended state ≡ false
+stays_here state a n = grind (arith, nat_tests)
+
+present : (state : State) → is_in_activation state ≡ true → state ≡ State.Absent → ⊥
+present state a e = let n = ap is_in_activation e in cc
+
+pub order_waited : (d : SchedulerFields) (p : Pid) (new : List Process) → IsInOrder d → turn_in d.front ≡ Some p
+    → (state_of p.0 d.processes ≡ State.Ending → ⊥) → new ≡ with_state p.0 State.Running d.processes
+    → IsInOrder (record d { processes = new; front = Front.Nothing })
+order_waited d p new order e stays f =
+    let s = turn_sound d p order e in
+    in_order d _ _ _ _ _ order (rw f (sound-waited d.applications d.processes (reverse d.stack.items) p s (stays_here (state_of p.0 d.processes) s.at_turn.active stays))) tt
+
+pub order_exited : (d : SchedulerFields) (p : Pid) (walk : List ℕ) (exits : Bool) (list : List Process) (stack : List Continuation) → IsInOrder d → turn_in d.front ≡ Some p
+    → (state_of p.0 d.processes ≡ State.Ending → ⊥) → list ≡ with_state p.0 State.Leaving d.processes → stack ≡ d.stack.items ++ Continuation.Leave p walk exits ∷ []
+    → IsInOrder (record d { processes = list; stack = record { items = stack }; front = Front.Nothing })
+order_exited d p walk exits list stack order e stays f g =
+    let s = turn_sound d p order e in
+    let below = reverse d.stack.items in
+    in_order d _ _ _ _ _ order (rw (f, g, pushed d.stack.items (Continuation.Leave p walk exits))
+    (sound-left d.applications d.processes below p walk exits (sound-quiet d.applications d.processes below (Some p) s) (application_at_turn d.applications d.processes below p s) s.at_turn.apart
+    (stays_here (state_of p.0 d.processes) s.at_turn.active stays) (present (state_of p.0 d.processes) s.at_turn.active))) tt
+
+pub order_killed : (d : SchedulerFields) (p q : Pid) (walk : List ℕ) (list : List Process) (middle stack : List Continuation) → IsInOrder d → turn_in d.front ≡ Some p
+    → IsApplication d.applications q.0 → state_of q.0 d.processes ≡ State.Running → list ≡ with_state q.0 State.Leaving d.processes
+    → middle ≡ d.stack.items ++ Continuation.Answer p ∷ [] → stack ≡ middle ++ Continuation.Leave q walk true ∷ []
+    → IsInOrder (record d { processes = list; stack = record { items = stack }; front = Front.Nothing })
+order_killed d p q walk list middle stack order e known runs f m g =
+    let below = Continuation.Answer p ∷ reverse d.stack.items in
+    let s = sound-answered d.applications d.processes (reverse d.stack.items) p (turn_sound d p order e) in
+    in_order d _ _ _ _ _ order (rw (f, g, pushed middle (Continuation.Leave q walk true), m, pushed d.stack.items (Continuation.Answer p))
+    (sound-left d.applications d.processes below q walk true s known
+    (none_in is_in_activation d.processes (answering below) q.0 s.answers (ap is_in_activation runs))
+    (ap has_ended runs) (λ a. cc))) tt
+
+pub not_ending : (state : State) → (state ≡ State.Ending → ⊥) → is_ending state ≡ false
+not_ending state n = grind (arith, nat_tests)

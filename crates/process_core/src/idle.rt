@@ -23,7 +23,7 @@ impl Front {
 }
 
 impl Base {
-    #[tactic(auto, using(crate::proofs::NothingLeft::deliver_has_more, crate::proofs::NothingLeft::is_empty_map, crate::proofs::NothingLeft::is_empty_broadcast))]
+    #[tactic(auto, using(crate::proofs::LonePoll::deliver_has_more, crate::proofs::LonePoll::is_empty_map, crate::proofs::LonePoll::is_empty_broadcast))]
     /// Whether nothing is left to be done, where the walk is this.
     fn is_over(&self, walk: &Walk) -> bool
         ensures { (event : Event) → result ≡ is_empty (base_items self.now walk.now event) }
@@ -37,7 +37,7 @@ impl Base {
 }
 
 impl SchedulerFields {
-    #[tactic(auto, using(crate::proofs::NothingLeft::is_empty_agenda))]
+    #[tactic(auto, using(crate::proofs::LonePoll::is_empty_agenda))]
     /// Whether no open work has anything left to be done.
     pub fn is_over(&self) -> bool
         ensures { result ≡ is_empty (agenda_of self.now) }

@@ -109,7 +109,7 @@ impl Scheduler {
         ready
     }
 
-    #[tactic(auto, using(crate::proofs::Order::few_items, crate::proofs::Order::room_on_stack))]
+    #[tactic(auto, using(crate::proofs::Sound::few_items, crate::proofs::Sound::room_on_stack))]
     /// The open work: the parts that the agenda is kept in. There are at most two continuations for each application, so that a
     /// stack of 34 never runs over.
     pub fn open_work(&self) -> &SchedulerFields

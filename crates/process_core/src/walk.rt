@@ -83,7 +83,7 @@ impl Walk {
         }
     }
 
-    #[tactic(auto, using(crate::proofs::NothingLeft::is_empty_drop))]
+    #[tactic(auto, using(crate::proofs::LonePoll::is_empty_drop))]
     /// Whether no process is left.
     pub fn is_over(&self) -> bool
         ensures { result ≡ is_empty self.now }
