@@ -88,8 +88,7 @@ pub link_closed : (table : Inside) (t before : Timer) → IsTable table → IsNa
     (stop_timer t (timers_of table))
 link_closed table t before h named earlier f =
     let within : place_of t < length table.cells = omega (arith, h.places, place_below t named) in
-    let x : LinkedCell = unflagged table.cells t in
-    let cells : List LinkedCell = without_flag table.cells t in
+    let x : LinkedCell = unflagged table.cells t in let cells : List LinkedCell = without_flag table.cells t in
     let places : length cells ≡ 192 = length-set table.cells (place_of t) x ∙ h.places in
     let starts : HasStarts cells = starts_set table.cells (place_of t) x (start_at table.cells t within h.starts) h.starts in
     let kept = relinked_kept table.cells table.first t x within refl h.listed in

@@ -24,19 +24,11 @@ none_among_others t u (v ∷ later) none =
 
 others_apart : (t : Timer) (list : List Timer) → AreApart list → AreApart (others t list)
 others_apart t [] apart = apart
-others_apart t (u ∷ later) apart = split (is_timer t u) refl (others_apart t later apart.1)
-  where
-    split : (b : Bool) → is_timer t u ≡ b → AreApart (others t later) → AreApart (others t (u ∷ later))
-    split true e r = rw e r
-    split false e r = rw e (none_among_others u t later apart.0, r)
+others_apart t (u ∷ later) apart = let first = others_apart t later apart.1 in grind (arith, none_among_others)
 
 length-others : (t : Timer) (list : List Timer) → length (others t list) ≤ length list
 length-others t [] = omega arith
-length-others t (u ∷ later) = split (is_timer t u) refl (length-others t later)
-  where
-    split : (b : Bool) → is_timer t u ≡ b → length (others t later) ≤ length later → length (others t (u ∷ later)) ≤ length (u ∷ later)
-    split true e r = rw e (omega arith)
-    split false e r = rw e (omega arith)
+length-others t (u ∷ later) = let first = length-others t later in grind arith
 
 -- the list without its first timer
 pub others_itself : (cells : List LinkedCell) (link : Option Timer) (timer : Timer) → Passes cells link timer →
@@ -84,15 +76,7 @@ absent_at_end cells link timer before w e = grind (arith, listed_from_none, list
 pub follows_here : (cells : List LinkedCell) (link : Option Timer) (timer before other : Timer) → IsPassed cells link timer before →
     next_of cells before ≡ Some other → is_timer timer other ≡ true → Follows timer before (listed_from cells link)
 follows_here cells link timer before other w next here =
-    let same = same_timer timer other here in
-    let step = passes cells (next_of cells before) other next w.later in
-    record {
-      earlier = w.earlier;
-      later = listed_from cells (next_of cells other);
-      listed = w.listed ∙ rw (step.listed, same);
-      absent = w.absent;
-      differs = w.differs;
-    }
+    let same = same_timer timer other here in let step = passes cells (next_of cells before) other next w.later in grind arith
 
 -- it follows: the list is closed over it
 others_closed : (timer before : Timer) (earlier rest : List Timer) → list_any (is_timer timer) earlier ≡ false → is_timer timer before ≡ false →
