@@ -33,8 +33,7 @@ blocks_changed f g us vs b block long within here others =
 pub blocks_same : (f g : ℕ → List ℕ) (us : List Bool) → ((c : ℕ) → c < length us → g c ≡ f c) → blocks_from g 0 us ≡ blocks_from f 0 us
 blocks_same f g us same =
     let old = blocks_from f 0 us in let new = blocks_from g 0 us in
-    let many : length new ≡ length us = length-from g 0 us in
-    let many' : length old ≡ length us = length-from f 0 us in
+    let many : length new ≡ length us = length-from g 0 us in let many' : length old ≡ length us = length-from f 0 us in
     ext_get_or None new old (many ∙ sym many') (λ c l.
     get_or-blocks g us c ∙ ap (λ bytes. if get_or us c false then Some bytes else None) (same c (omega arith)) ∙ sym (get_or-blocks f us c))
 
@@ -57,10 +56,6 @@ used_below us b used = elim (cases_lt b (length us)) [
 some_if : (u : Bool) (bytes : List ℕ) → is_some (if u then Some bytes else None) ≡ u
 some_if true bytes = refl
 some_if false bytes = refl
-
-none_if : (u : Bool) (bytes : List ℕ) → is_none (if u then Some bytes else None) ≡ not u
-none_if true bytes = refl
-none_if false bytes = refl
 
 pub live_is : (b : ℕ) (pool : PoolTable) (bytes : List ℕ) → is_live b (pool_of pool bytes) ≡ is_used b pool
 unfolding pool_of

@@ -3,8 +3,7 @@
 --     pool_of-same, list_of-same           what the pool and the lists show depends on the span's bytes alone
 --     AreLinked-same                       so does whether they are linked
 --     pool_of-, list_of-, AreLinked-elsewhere      so all three stay when only bytes of another span changed
---     listed_there, listed_nowhere, not_elsewhere      what it means that a block is in a list, in none, or in no other one
-use Rattle.memb_core.proofs.Words.{◌≡◌, ◌≢◌, Bool, true, false, refl, ℕ, ◌+◌, ◌≤◌, ◌⊎◌, List, ap, sym, arith, Option, Some, None, if◌then◌else◌, Contents, PoolTable, ListHeads, ListName, has_number, holder_of, region_of, pool_of, IsWithin, KeepsToSpan, start_of, link_of, all_along, list_of, AreLinked}
+use Rattle.memb_core.proofs.Words.{◌≡◌, ℕ, ◌+◌, ◌≤◌, ◌⊎◌, List, ap, sym, arith, Contents, PoolTable, ListHeads, ListName, region_of, pool_of, IsWithin, KeepsToSpan, start_of, link_of, all_along, list_of, AreLinked}
 use Rattle.arena_core.specs.Outside.{ChangesOnly}
 use Rattle.memb_core.proofs.Linked.{still_linked}
 
@@ -40,33 +39,3 @@ module _ (pool : PoolTable) (at len : ℕ) (old new : List ℕ) (changes : Chang
   pub AreLinked-elsewhere : (lists : ListHeads) → AreLinked lists pool old → AreLinked lists pool new
   AreLinked-elsewhere lists linked =
       AreLinked-same lists pool old new (sym region_same) (omega (arith, changes.size, linked.within)) linked
-
--- where a block is
-module _ (lists : ListHeads) (pool : PoolTable) (bytes : List ℕ) (b : ℕ) where
-  abbrev holder : Option ListName
-  holder = holder_of b (list_of ListName.First lists pool bytes) (list_of ListName.Second lists pool bytes)
-
-  listed_where : (name : ListName) → (x y : Bool) → has_number b (list_of ListName.First lists pool bytes) ≡ x → has_number b (list_of ListName.Second lists pool bytes) ≡ y
-      → (if x then Some ListName.First else if y then Some ListName.Second else None) ≡ Some name → has_number b (list_of name lists pool bytes) ≡ true
-  listed_where ListName.First true y e f h = e
-  listed_where ListName.First false true e f h = absurd (cc)
-  listed_where ListName.First false false e f h = absurd (cc)
-  listed_where ListName.Second true y e f h = absurd (cc)
-  listed_where ListName.Second false true e f h = f
-  listed_where ListName.Second false false e f h = absurd (cc)
-
-  pub listed_there : (name : ListName) → holder ≡ Some name → has_number b (list_of name lists pool bytes) ≡ true
-  listed_there name h = listed_where name (has_number b (list_of ListName.First lists pool bytes)) (has_number b (list_of ListName.Second lists pool bytes)) refl refl h
-
-  listed_not : (name : ListName) → (x y : Bool) → has_number b (list_of ListName.First lists pool bytes) ≡ x → has_number b (list_of ListName.Second lists pool bytes) ≡ y
-      → (if x then Some ListName.First else if y then Some ListName.Second else None) ≡ None → has_number b (list_of name lists pool bytes) ≡ false
-  listed_not name true y e f h = absurd (cc)
-  listed_not name false true e f h = absurd (cc)
-  listed_not ListName.First false false e f h = e
-  listed_not ListName.Second false false e f h = f
-
-  pub listed_nowhere : holder ≡ None → (name : ListName) → has_number b (list_of name lists pool bytes) ≡ false
-  listed_nowhere h name = listed_not name (has_number b (list_of ListName.First lists pool bytes)) (has_number b (list_of ListName.Second lists pool bytes)) refl refl h
-
-  pub not_elsewhere : AreLinked lists pool bytes → (name : ListName) → holder ≡ Some name → (other : ListName) → other ≢ name → has_number b (list_of other lists pool bytes) ≡ false
-  not_elsewhere linked name h other ne = linked.apart b name other (λ e. ne (sym e)) (listed_there name h)

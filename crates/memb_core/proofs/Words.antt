@@ -13,7 +13,7 @@ pub use Rattle.arena_core.specs.Contents.{Contents, contents}
 pub use Rattle.arena_core.specs.Written.{written}
 pub use Rattle.arena_core.specs.declared.span.Span.{Span}
 pub use Rattle.mote_types.specs.Bytes.{overwritten, zeros}
-pub use Rattle.memb_core.specs.BlockLists.{chopped, has_number, head_of, holder_of, next_of, popped, put_behind, tail_of, without}
+pub use Rattle.memb_core.specs.BlockLists.{chopped, has_number, head_of, next_of, popped, put_behind, tail_of, without}
 pub use Rattle.memb_core.specs.BlockPool.{BlockPool, block_of, first_unused, is_live, unused_count, with_bytes}
 pub use Rattle.memb_core.specs.Code.Changes.{with_start, with_used}
 pub use Rattle.memb_core.specs.Code.Sizes.{FillsSpan}
