@@ -1,5 +1,5 @@
 -- How the places change, and what the blocks take.
-use Rattle.mmem_core.proofs.Words.{◌≡◌, ◌≢◌, ℕ, zero, suc, ◌+◌, ◌-◌, ◌≤◌, ◌<◌, ◌⊎◌, inl, inr, List, [], ◌∷◌, ◌++◌, length, get_or, slice_set, replicate, sum_by, Option, Some, None, if◌then◌else◌, ◌==◌, Bool, true, refl, sym, ap, ◌∙◌, subst, arith, zero-add, append_assoc, Contains, IsSome, slice_get, AllByRecursion, get_or-set_same, get_or-set_other, append-nil, Contains-append_left, Contains-append_right, Contains-append_cases, Contains-push, cases_eq, cases_lt, eq-eqb, sum_by-cons, sum_by-set, sum_by_push, up4, Place, place_in, end_of, last_end, room_moved, bytes_moved, at_of, room_of, AreLaid, IsLaidOut, LieApart, Avoids, IsSomeAnd}
+use Rattle.mmem_core.proofs.Words.{◌≡◌, ◌≢◌, ℕ, zero, suc, ◌+◌, ◌-◌, ◌≤◌, ◌<◌, ◌⊎◌, inl, inr, List, [], ◌∷◌, ◌++◌, length, get_or, slice_set, replicate, sum_by, Option, Some, None, if◌then◌else◌, Bool, true, refl, sym, ap, ◌∙◌, subst, arith, zero-add, append_assoc, Contains, IsSome, slice_get, AllByRecursion, get_or-set_same, get_or-set_other, append-nil, Contains-append_left, Contains-append_right, Contains-append_cases, Contains-push, cases_eq, sum_by-cons, sum_by-set, sum_by_push, up4, Place, place_in, end_of, last_end, room_moved, bytes_moved, at_of, room_of, AreLaid, IsLaidOut, LieApart, Avoids, IsSomeAnd}
 use Rattle.mmem_core.proofs.RingLemmas.{each_joined}
 
 -- a block's length is not above what it takes
@@ -33,12 +33,10 @@ live_below (x ∷ xs) zero place e = omega arith
 live_below (x ∷ xs) (suc i) place e = let below = live_below xs i place e in omega arith
 
 room_some : (p : Option Place) → 0 < room_of p → p ≢ None
-room_some None h = absurd (omega arith)
-room_some (Some place) h = λ e. absurd (cc)
+room_some p h = grind arith
 
 pub live_from_room : (p : Option Place) → 0 < room_of p → IsSome p
-live_from_room None h = absurd (omega arith)
-live_from_room (Some place) h = refl
+live_from_room p h = grind arith
 
 pub room_below : (places : List (Option Place)) (i : ℕ) → 0 < room_of (place_in places i) → i < length places
 room_below [] i h = absurd (omega arith)
@@ -47,8 +45,7 @@ room_below (x ∷ xs) (suc i) h = let below = room_below xs i h in omega arith
 
 -- a number in a list is the first one, or a later one
 at_cases : (k x : ℕ) (xs : List ℕ) (i : ℕ) → k < length (x ∷ xs) → get_or (x ∷ xs) k i ≡ i → (x ≡ i) ⊎ Contains xs i
-at_cases zero x xs i l e = inl e
-at_cases (suc k) x xs i l e = inr (k, omega arith, e)
+at_cases k x xs i l e = grind arith
 
 contains_cases : (x : ℕ) (xs : List ℕ) (i : ℕ) → Contains (x ∷ xs) i → (x ≡ i) ⊎ Contains xs i
 contains_cases x xs i h = at_cases h.0 x xs i h.1 h.2
@@ -146,14 +143,12 @@ sum_dead [] dead = refl
 sum_dead (x ∷ xs) dead = omega (arith, sum_by-cons room_of x xs, ap room_of (dead 0), sum_dead xs (λ i. dead (suc i)))
 
 dead_or_listed : (xs : List ℕ) (i : ℕ) (p : Option Place) → (p ≢ None → Contains xs i) → (p ≡ None) ⊎ Contains xs i
-dead_or_listed xs i None h = inl refl
-dead_or_listed xs i (Some place) h = inr (h (λ e. absurd (cc)))
+dead_or_listed xs i p h = grind arith
 
 sum_listed : (xs : List ℕ) (places : List (Option Place)) (low high : ℕ) → AreLaid places low xs high → ((i : ℕ) → place_in places i ≢ None → Contains xs i) → sum_by room_of places ≡ sum_by (λ i. room_of (place_in places i)) xs
 sum_listed [] places low high laid listed = grind (arith, sum_dead, dead_or_listed)
 sum_listed (x ∷ xs) places low high laid listed =
-    let left = slice_set places x None in
-    let below = room_below places x laid.1 in
+    let left = slice_set places x None in let below = room_below places x laid.1 in
     let mid = at_of (place_in places x) + room_of (place_in places x) in
     let apart = avoids_lower places mid xs high x laid.2 (omega arith) laid.1 in
     let same = others_same places x None xs apart in
@@ -167,8 +162,7 @@ sum_listed (x ∷ xs) places low high laid listed =
 
 -- where the last block ends
 end_is : (p : Option Place) → end_of p ≡ at_of p + room_of p
-end_is None = refl
-end_is (Some place) = refl
+end_is p = grind arith
 
 pub end_le_last : (places : List (Option Place)) (i : ℕ) → at_of (place_in places i) + room_of (place_in places i) ≤ last_end places
 end_le_last [] i = omega arith
@@ -182,8 +176,7 @@ last_le (x ∷ xs) n each = omega (arith, end_is x, each 0, last_le xs n (λ i. 
 -- a block that is put behind the last one is the last one
 pub last_end-added : (places : List (Option Place)) (i n : ℕ) → i < length places → last_end (slice_set places i (Some (record { at = last_end places; len = n }))) ≡ last_end places + up4 n
 last_end-added places i n below =
-    let fresh : Option Place = Some (record { at = last_end places; len = n }) in
-    let added = slice_set places i fresh in
+    let fresh : Option Place = Some (record { at = last_end places; len = n }) in let added = slice_set places i fresh in
     let new = place_in-set_same places i fresh below in let new_at = ap at_of new in let new_room = ap room_of new in
     let up = last_le added (last_end places + up4 n) (λ j. elim (cases_eq j i) [
       | inl e ↦ let same = ap (place_in added) e ∙ new in let a = ap at_of same in let r = ap room_of same in omega arith
@@ -216,8 +209,7 @@ module _ (places : List (Option Place)) (order : List ℕ) (used size : ℕ) (so
       let parts : AreLaid places 0 (lower ++ x ∷ []) size = rw e at sound.laid in
       let lies = laid_joined places 0 lower (at_of (place_in places x)) (x ∷ []) (at_of (place_in places x) + room_of (place_in places x))
       (laid_front places 0 lower x [] size parts) (omega arith, (laid_back places 0 lower x [] size parts).0, omega arith) in
-      let all = last_le places (at_of (place_in places x) + room_of (place_in places x)) (ends_by (at_of (place_in places x) + room_of (place_in places x)) (subst (λ xs. AreLaid places 0 xs (at_of (place_in places x) + room_of (place_in places x))) (sym e) lies)) in
-      omega (arith, all, end_le_last places x)
+      grind (arith, last_le, ends_by, end_le_last)
 
   last_of_none : order ≡ [] → last_end places ≡ 0
   last_of_none e = grind (arith, last_le, ends_by)
@@ -260,11 +252,9 @@ module _ (places : List (Option Place)) (order : List ℕ) (used size : ℕ) (so
   -- a block is taken away
   pub IsLaidOut-freed : (us : List ℕ) (x : ℕ) (vs : List ℕ) → order ≡ us ++ x ∷ vs → IsLaidOut (slice_set places x None) (us ++ vs) (used - room_of (place_in places x)) size
   IsLaidOut-freed us x vs e =
-      let left = slice_set places x None in
-      let laid : AreLaid places 0 (us ++ x ∷ vs) size = rw e at sound.laid in
+      let left = slice_set places x None in let laid : AreLaid places 0 (us ++ x ∷ vs) size = rw e at sound.laid in
       let here = at_of (place_in places x) in let mid = here + room_of (place_in places x) in
-      let lower = laid_front places 0 us x vs size laid in
-      let higher = laid_back places 0 us x vs size laid in
+      let lower = laid_front places 0 us x vs size laid in let higher = laid_back places 0 us x vs size laid in
       let below = room_below places x higher.0 in
       let apart = each_joined (λ other. other ≢ x) us vs (avoids_higher places 0 us here x lower (omega arith)) (avoids_lower places mid vs size x higher.1 (omega arith) higher.0) in
       let joined = laid_joined places 0 us here vs size lower (laid_from places mid here vs size (omega arith) higher.1) in
@@ -283,11 +273,9 @@ module _ (places : List (Option Place)) (order : List ℕ) (used size : ℕ) (so
       IsLaidOut (slice_set places i (Some (record { at = last_end places; len = n }))) (order ++ i ∷ []) (used + up4 n) size
   IsLaidOut-added i n below none some_bytes room =
       let fresh : Option Place = Some (record { at = last_end places; len = n }) in
-      let added = slice_set places i fresh in
-      let apart = avoids_none places 0 order size i sound.laid none in
+      let added = slice_set places i fresh in let apart = avoids_none places 0 order size i sound.laid none in
       let lower = laid_kept places added 0 order (last_end places) (others_same places i fresh order apart) laid_to_last in
-      let new = place_in-set_same places i fresh below in
-      let new_at = ap at_of new in let new_room = ap room_of new in
+      let new = place_in-set_same places i fresh below in let new_at = ap at_of new in let new_room = ap room_of new in
       record {
         laid = laid_joined added 0 order (last_end places) (i ∷ []) size lower (omega arith, omega arith, omega arith);
         listed = λ j live. elim (cases_eq j i) [
@@ -332,23 +320,18 @@ module _ (places : List (Option Place)) (order : List ℕ) (used size end : ℕ)
           | inl dead ↦ inl (let a = ap at_of dead in let r = ap room_of dead in omega arith)
           | inr h ↦ elim (Contains-append_cases lower (x ∷ higher) i (subst (λ xs. Contains xs i) sliding.parts h)) [
             | inl before ↦ inl (laid_in places 0 lower end i sliding.together before).2
-            | inr behind ↦ elim (contains_cases x higher i behind) [
-              | inl same ↦ absurd (ne (sym same))
-              | inr later ↦ inr (omega (arith, (laid_in places mid higher size i sliding.to_come.2 later).0))
-            ]
+            | inr behind ↦ grind (arith, contains_cases, laid_in)
           ]
         ]
 
     pub AreSliding-more : AreSliding (slice_set places x lowered) order used size (end + up4 place.len) (lower ++ x ∷ []) higher
     AreSliding-more =
-        let moved = slice_set places x lowered in
-        let e = ap at_of live in let f = ap room_of live in
+        let moved = slice_set places x lowered in let e = ap at_of live in let f = ap room_of live in
         let here = at_of (place_in places x) in let mid = here + room_of (place_in places x) in
         let below = live_below places x place live in
         let apart = avoids_higher places 0 lower end x sliding.together sliding.to_come.0 in
         let apart' = avoids_lower places mid higher size x sliding.to_come.2 (omega arith) sliding.to_come.1 in
-        let same = others_same places x lowered lower apart in
-        let new = place_in-set_same places x lowered below in
+        let same = others_same places x lowered lower apart in let new = place_in-set_same places x lowered below in
         let new_at = ap at_of new in let new_room = ap room_of new in
         record {
           parts = sliding.parts ∙ sym (append_assoc lower (x ∷ []) higher);
@@ -377,10 +360,7 @@ module _ (places : List (Option Place)) (order : List ℕ) (used size end : ℕ)
 
     -- what lies behind the last one is all that is free
     pub last_is_used : last_end places ≡ used
-    last_is_used =
-        let sound = IsLaidOut-slid in
-        let whole = used_is places order used size sound ∙ ap (sum_by (λ i. room_of (place_in places i))) all_lower ∙ sliding.full in
-        omega (arith, whole, last_le places end (ends_by places order used size sound end laid_together), used_le_last places order used size sound)
+    last_is_used = grind (arith, IsLaidOut-slid, used_is, all_lower, last_le, ends_by, laid_together, used_le_last)
 
 -- a block of a table, and the other ones
 module _ (places : List (Option Place)) (size i : ℕ) (place : Place) (lie : LieApart places size) (live : place_in places i ≡ Some place) where
@@ -404,8 +384,7 @@ module _ (places : List (Option Place)) (size i : ℕ) (place : Place) (lie : Li
 
   -- each other block lies before it, or behind
   side_of : (j : ℕ) (p : Option Place) → j ≢ i → place_in places j ≡ p → (at_of p + room_of p ≤ place.at) ⊎ (place.at + up4 place.len ≤ at_of p)
-  side_of j None ne e = inl (omega arith)
-  side_of j (Some other) ne e = grind (arith, some_size, cases_lt)
+  side_of j p ne e = grind arith
 
   pub sides : (j : ℕ) → (at_of (place_in left j) + room_of (place_in left j) ≤ place.at) ⊎ (place.at + up4 place.len ≤ at_of (place_in left j))
   sides j = grind (arith, cases_eq, left_same, left_other, side_of)
@@ -415,8 +394,7 @@ if_true b x y e = ap (λ c. if c then x else y) e
 
 -- how many bytes a change of the places moves
 room_moved-same : (p : Option Place) → room_moved p p ≡ 0
-room_moved-same None = refl
-room_moved-same (Some place) = if_true (place.at == place.at) 0 (up4 place.len) (eq-eqb place.at place.at refl)
+room_moved-same p = grind arith
 
 -- where a place that had no block is emptied again, all is as it was
 emptied : (xs : List (Option Place)) (i : ℕ) (p : Option Place) → place_in xs i ≡ None → slice_set (slice_set xs i p) i None ≡ xs
@@ -435,8 +413,7 @@ bytes_moved-same [] = refl
 bytes_moved-same (x ∷ xs) = omega (arith, room_moved-same x, bytes_moved-same xs)
 
 room_moved-none : (p : Option Place) → room_moved p None ≡ 0
-room_moved-none None = refl
-room_moved-none (Some place) = refl
+room_moved-none p = grind arith
 
 -- a block that is taken away moves nothing, and a new one neither
 pub bytes_moved-freed : (xs : List (Option Place)) (i : ℕ) → bytes_moved xs (slice_set xs i None) ≡ 0

@@ -108,11 +108,7 @@ module _ (before behind before' behind' : List ℕ) where
   leads_without from [] x (y ∷ ys) to p n leads lower higher out in' d at_p others at_n others' = grind (arith, leads_kept)
   leads_without from (u ∷ us) x vs to p n leads lower higher out in' d at_p others at_n others' =
       let p_ne : p ≢ from = rw lower (entry_before (λ k. k ≢ from) before behind u us x (leads_front before behind u us x vs to leads.2) out.0 (each_front (λ k. k ≢ from) us (x ∷ vs) out.1)) in
-      let n_ne : n ≢ u = rw higher (entry_behind (λ k. k ≢ u) before behind x vs to (leads_back before behind u us x vs to leads.2) (λ g. in'.0 (sym g)) (each_back (λ k. k ≢ u) us (x ∷ vs) d.0).1) in (
-        others from (λ e. p_ne (sym e)) ∙ leads.0,
-        others' u (λ e. n_ne (sym e)) ∙ leads.1,
-        leads_without u us x vs to p n leads.2 lower higher d.0 in'.1 d.1 at_p others at_n others',
-      )
+      let n_ne : n ≢ u = rw higher (entry_behind (λ k. k ≢ u) before behind x vs to (leads_back before behind u us x vs to leads.2) (λ g. in'.0 (sym g)) (each_back (λ k. k ≢ u) us (x ∷ vs) d.0).1) in let later = leads_without u us x vs to p n leads.2 lower higher d.0 in'.1 d.1 at_p others at_n others' in grind arith
 
 -- the ring is one, and its links name these numbers
 pub record Names (ring : Inside) (named : List ℕ) : Type 0 where
@@ -137,18 +133,13 @@ module _ (before behind : List ℕ) (sound : IsRing (record { before = before; b
   numbers = numbers_of (record { before = before; behind = behind })
 
   pub first_below : get_or before 272 0 < 273
-  first_below = omega (arith, entry_before (λ k. k < 273) before behind 272 numbers 272 sound.leads (omega arith) (each_below numbers sound.within))
-    where
-      each_below : (xs : List ℕ) → AllByRecursion (λ x. x < 272) xs → AllByRecursion (λ x. x < 273) xs
-      each_below [] h = tt
-      each_below (x ∷ xs) h = (omega (arith, h.0), each_below xs h.1)
+  first_below = grind arith
 
   pub appended : (x : ℕ) → x < 272 → Avoids x numbers →
       let last = get_or before 272 0 in
       Names (record { before = set (set before x last) 272 x; behind = set (set behind last x) x 272 }) (numbers ++ x ∷ [])
   appended x below apart =
-      let last = get_or before 272 0 in
-      let l = first_below in
+      let last = get_or before 272 0 in let l = first_below in
       let long = sound.entries_before in let long' = sound.entries_behind in
       let length_set = length-set before x last in let length_set' = length-set behind last x in
       let last_ne : last ≢ x =
@@ -182,8 +173,7 @@ module _ (before behind : List ℕ) (sound : IsRing (record { before = before; b
       let long = sound.entries_before in let long' = sound.entries_behind in
       let links = sound.links_before in let links' = sound.links_behind in
       let here : x < 272 = (each_back (λ k. k < 272) us (x ∷ vs) within).0 in
-      let l : lower ≤ 272 = links x 0 (omega arith) in
-      let h : higher ≤ 272 = links' x 0 (omega arith) in
+      let l : lower ≤ 272 = links x 0 (omega arith) in let h : higher ≤ 272 = links' x 0 (omega arith) in
       let before' = set before higher lower in let behind' = set behind lower higher in
       made before' behind' (us ++ vs)
       (length-set before higher lower ∙ long)

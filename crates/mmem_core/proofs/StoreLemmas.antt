@@ -77,8 +77,7 @@ module _ (xs : List (Option Place)) (i : ℕ) (place : Place) (live : place_in x
   pub blocks-written : (region : List ℕ) (size : ℕ) → LieApart xs size → size ≤ length region → (at : ℕ) (ws : List ℕ) → at + length ws ≤ place.len
       → map (block_in (written region (place.at + at) ws)) xs ≡ slice_set (map (block_in region) xs) i (Some (overwritten at ws (bytes_at region place)))
   blocks-written region size lie inside at ws within =
-      let new = written region (place.at + at) ws in
-      let n = places.len_le_room place.len in
+      let new = written region (place.at + at) ws in let n = places.len_le_room place.len in
       let g = places.place_inside xs size i place lie live in
       let fits : place.at + at + length ws ≤ length region = omega arith in
       let room : place.at + place.len ≤ length region = omega arith in

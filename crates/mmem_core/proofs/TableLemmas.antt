@@ -1,5 +1,5 @@
 -- What the handles of a table stand for, after each kind of change of the table and of the arena's bytes.
-use Rattle.mmem_core.proofs.Words.{◌≡◌, ◌≢◌, ℕ, ◌+◌, ◌-◌, ◌≤◌, ◌⊎◌, inl, inr, List, [], length, get_or, unwrap_or, slice_set, slice_range, sum_by, map, Option, Some, None, refl, sym, ap, ◌∙◌, arith, cases_eq, length-replicate, map-set, number_of, up4, zeros, overwritten, Span, Contents, contents, written, length-range, written-range, range-range, changes_only, Place, Quotas, ManagedStore, size_of, block_of, unused, taken_by, free, place_in, last_end, at_of, room_of, LieApart, room_by, HandleTable, store_of, bytes_at, KeepsToSpan}
+use Rattle.mmem_core.proofs.Words.{rules, ◌≡◌, ◌≢◌, ℕ, ◌+◌, ◌-◌, ◌≤◌, ◌⊎◌, inl, inr, List, [], length, get_or, unwrap_or, slice_set, slice_range, sum_by, map, Option, Some, None, refl, sym, ap, ◌∙◌, arith, cases_eq, length-replicate, map-set, number_of, up4, zeros, overwritten, Span, Contents, contents, written, length-range, written-range, range-range, changes_only, Place, Quotas, ManagedStore, size_of, block_of, unused, taken_by, free, place_in, last_end, at_of, room_of, LieApart, room_by, HandleTable, store_of, bytes_at, KeepsToSpan}
 use Rattle.mmem_core.proofs.Shares.{same_sum}
 use Rattle.mmem_core.proofs.StoreLemmas.{block_in, get_or-blocks, no_place, size_same, sum_same, blocks-added, blocks-moved, blocks-written}
 use Rattle.mmem_core.proofs.PlaceLemmas as places
@@ -97,9 +97,7 @@ module _ (span : Span) (quotas : Quotas) (xs : List (Option Place)) (slid : ℕ)
         (blocks-moved xs i place live region to (omega arith) down
         (λ j. elim (cases_eq j i) [
           | inl e ↦ inl (let dead = ap (place_in (slice_set xs i None)) e ∙ places.place_in-set_same xs i None below in let a = ap at_of dead in let r = ap room_of dead in omega arith)
-          | inr ne ↦
-              let same = places.place_in-set_other xs i j None ne in let a = ap at_of same in let r = ap room_of same in
-              elim (past j ne) [ inl before ↦ inl (omega arith) | inr behind ↦ inr (omega arith) ]
+          | inr ne ↦ search rules
         ]))
 
   pub kept : (new : HandleTable) (at carved : ℕ) (ws : List ℕ) → new.span ≡ span → new.quotas ≡ quotas → span.at ≤ at → at + length ws ≤ span.at + span.len → KeepsToSpan T new (contents B carved) (contents (written B at ws) carved)

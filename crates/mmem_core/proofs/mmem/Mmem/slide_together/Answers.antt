@@ -45,8 +45,7 @@ pub loop-next-preserved : goal.loop-next-preserved
 loop-next-preserved c =
     let m = c.loop-next.self-inside in let place = c.unwrap-place.result in
     let midway = subst (λ next. IsMidway c.self.inside m c.args.arena.now c.loop-next.arena next c.loop-next.end) c.in-Some.is c.loop-next.invariant in
-    let slid = c.saturating_add-self-inside.result in
-    let counted : slid ≡ _ = c.saturating_add-self-inside.ensures in
+    let slid = c.saturating_add-self-inside.result in let counted : slid ≡ _ = c.saturating_add-self-inside.ensures in
     rw (c.moved_to.ensures, c.rounded.ensures)
     (midway_more c.self.inside m c.args.arena.now c.loop-next.arena c.in-Some.number c.loop-next.end midway place c.unwrap-place.ensures slid c.slide_down-moved.new.arena c.next-next.result
     (counted ∙ ap (λ k. min (m.slid + k) (2 ^ 64 - 1)) c.slide_down-moved.ensures.moved) c.slide_down-moved.ensures.bytes c.next-next.ensures.number c.next-next.ensures.within)

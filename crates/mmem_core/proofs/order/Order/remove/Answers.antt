@@ -3,8 +3,7 @@ use Rattle.mmem_core.proofs.order.Order.remove.Goals as goal
 
 pub invariant_of-self : goal.invariant_of-self
 invariant_of-self c =
-    let m = c.self.inside in
-    let parts = parted c.args.self.now c.args.number c.requires.there in
+    let m = c.self.inside in let parts = parted c.args.self.now c.args.number c.requires.there in
     (removed m.before m.behind c.self.invariant parts.0 c.args.number parts.1 (c.self.view_is ∙ parts.2)).sound
 
 pub returns : goal.returns
