@@ -74,18 +74,14 @@ pub states_elsewhere : (p : ℕ) (x : State) (s : List State) (m : List Bool) (n
 states_elsewhere p x s m [] h = refl
 states_elsewhere p x s m (n ∷ ns) h =
     let far : n ≢ p = λ same. grind (arith, nat_tests, h, same) in
-    let at = get_or-set_other s p n x State.Absent far in
-    let more = states_elsewhere p x s m ns (grind (arith, nat_tests, h)) in
-    grind (arith, at, more)
+    let later = states_elsewhere p x s m ns (grind (arith, nat_tests, h)) in grind (arith, get_or-set_other, far, nat_tests)
 
 pub marks_elsewhere : (p : ℕ) (x : Bool) (s : List State) (m : List Bool) (ns : List ℕ) → is_one_of p ns ≡ false →
     listed s (set m p x) ns ≡ listed s m ns
 marks_elsewhere p x s m [] h = refl
 marks_elsewhere p x s m (n ∷ ns) h =
     let far : n ≢ p = λ same. grind (arith, nat_tests, h, same) in
-    let at = get_or-set_other m p n x false far in
-    let more = marks_elsewhere p x s m ns (grind (arith, nat_tests, h)) in
-    grind (arith, at, more)
+    let later = marks_elsewhere p x s m ns (grind (arith, nat_tests, h)) in grind (arith, get_or-set_other, far, nat_tests)
 
 -- ---- a process comes or goes
 
@@ -107,55 +103,23 @@ others_stay p q (n ∷ ns) h = grind (arith, nat_tests, h, others_stay p q ns h)
 
 all_kept : (P : ℕ → Type 0) (p : ℕ) (ns : List ℕ) → AllByRecursion P ns → AllByRecursion P (others p ns)
 all_kept P p [] a = a
-all_kept P p (n ∷ ns) a = split (n == p) refl (all_kept P p ns a.1)
-  where
-    split : (b : Bool) → (n == p) ≡ b → AllByRecursion P (others p ns) → AllByRecursion P (others p (n ∷ ns))
-    split true e r = rw e r
-    split false e r = rw e (a.0, r)
+all_kept P p (n ∷ ns) a = let later = all_kept P p ns a.1 in grind arith
 
 distinct_others : (p : ℕ) (ns : List ℕ) → IsDistinct eqb ns → IsDistinct eqb (others p ns)
 distinct_others p [] d = d
-distinct_others p (n ∷ ns) d = split (n == p) refl (distinct_others p ns (IsDistinct-tail eqb n ns d))
-  where
-    split : (b : Bool) → (n == p) ≡ b → IsDistinct eqb (others p ns) → IsDistinct eqb (others p (n ∷ ns))
-    split true e r = rw e r
-    split false e r =
-        rw e (IsDistinct-cons eqb n (others p ns) (all_kept (λ y. eqb n y ≡ false) p ns (IsDistinct-head eqb n ns d)) r)
+distinct_others p (n ∷ ns) d =
+    let later = distinct_others p ns (IsDistinct-tail eqb n ns d) in
+    grind (arith, IsDistinct-tail, IsDistinct-cons, all_kept, IsDistinct-head)
 
 -- ---- what is always true of the list stays so
 
 pub kept_state : (p : ℕ) (x : State) (s : List State) (m : List Bool) (ns : List ℕ) → is_one_of p ns ≡ true → (x ≡ State.Absent → ⊥)
     → IsKept s m ns → IsKept (set s p x) m ns
-kept_state p x s m ns here there k =
-    record {
-      state_places = length-set s p x ∙ k.state_places;
-      mark_places = k.mark_places;
-      distinct = k.distinct;
-      below = k.below;
-      present = λ q h e. split_present q h e (eqb q p) refl;
-      absent = λ q h. get_or-set_other s p q x State.Absent (λ same. grind (arith, h, here, same)) ∙ k.absent q h;
-      unmarked = k.unmarked;
-    }
-  where
-    split_present : (q : ℕ) → is_one_of q ns ≡ true → state_at (set s p x) q ≡ State.Absent → (b : Bool) → eqb q p ≡ b → ⊥
-    split_present q h e true t =
-        let same = same_number p q t in
-        there (sym (get_or-set_same s p x State.Absent (omega (arith, k.below p here, k.state_places))) ∙ rw same at e)
-    split_present q h e false t =
-        k.present q h (sym (get_or-set_other s p q x State.Absent (λ same. grind (arith, nat_tests, t, same))) ∙ e)
+kept_state p x s m ns here there k = grind (arith, length-set, get_or-set_other, same_number, get_or-set_same, nat_tests)
 
 pub kept_mark : (p : ℕ) (x : Bool) (s : List State) (m : List Bool) (ns : List ℕ) → is_one_of p ns ≡ true
     → IsKept s m ns → IsKept s (set m p x) ns
-kept_mark p x s m ns here k =
-    record {
-      state_places = k.state_places;
-      mark_places = length-set m p x ∙ k.mark_places;
-      distinct = k.distinct;
-      below = k.below;
-      present = k.present;
-      absent = k.absent;
-      unmarked = λ q h. get_or-set_other m p q x false (λ same. grind (arith, h, here, same)) ∙ k.unmarked q h;
-    }
+kept_mark p x s m ns here k = grind (arith, length-set, get_or-set_other)
 
 pub kept_added : (p : ℕ) (s : List State) (m : List Bool) (ns : List ℕ) → p < 20 → is_one_of p ns ≡ false
     → IsKept s m ns → IsKept (set s p State.Running) m (p ∷ ns)
@@ -185,38 +149,7 @@ kept_added p s m ns known none k =
 pub kept_others : (p : ℕ) (s : List State) (m : List Bool) (ns : List ℕ) → p < 20
     → IsKept s m ns → IsKept (set s p State.Absent) (set m p false) (others p ns)
 kept_others p s m ns known k =
-    record {
-      state_places = length-set s p State.Absent ∙ k.state_places;
-      mark_places = length-set m p false ∙ k.mark_places;
-      distinct = distinct_others p ns k.distinct;
-      below = λ q h. split_below q h (eqb q p) refl;
-      present = λ q h e. split_present q h e (eqb q p) refl;
-      absent = λ q h. split_absent q h (eqb q p) refl;
-      unmarked = λ q h. split_unmarked q h (eqb q p) refl;
-    }
-  where
-    far : (q : ℕ) → eqb q p ≡ false → q ≢ p
-    far q t same = grind (arith, nat_tests, t, same)
-
-    split_below : (q : ℕ) → is_one_of q (others p ns) ≡ true → (b : Bool) → eqb q p ≡ b → q < 20
-    split_below q h true t = rw (same_number p q t) known
-    split_below q h false t = k.below q (sym (others_stay p q ns t) ∙ h)
-
-    split_present : (q : ℕ) → is_one_of q (others p ns) ≡ true → state_at (set s p State.Absent) q ≡ State.Absent → (b : Bool) → eqb q p ≡ b → ⊥
-    split_present q h e true t =
-        let same = same_number p q t in
-        let h2 : is_one_of p (others p ns) ≡ true = rw same at h in
-        let g = gone p ns in cc
-    split_present q h e false t =
-        k.present q (sym (others_stay p q ns t) ∙ h) (sym (get_or-set_other s p q State.Absent State.Absent (far q t)) ∙ e)
-
-    split_absent : (q : ℕ) → is_one_of q (others p ns) ≡ false → (b : Bool) → eqb q p ≡ b → state_at (set s p State.Absent) q ≡ State.Absent
-    split_absent q h true t = rw (same_number p q t) (get_or-set_same s p State.Absent State.Absent (omega (arith, known, k.state_places)))
-    split_absent q h false t = get_or-set_other s p q State.Absent State.Absent (far q t) ∙ k.absent q (sym (others_stay p q ns t) ∙ h)
-
-    split_unmarked : (q : ℕ) → is_one_of q (others p ns) ≡ false → (b : Bool) → eqb q p ≡ b → mark_at (set m p false) q ≡ false
-    split_unmarked q h true t = rw (same_number p q t) (get_or-set_same m p false false (omega (arith, known, k.mark_places)))
-    split_unmarked q h false t = get_or-set_other m p q false false (far q t) ∙ k.unmarked q (sym (others_stay p q ns t) ∙ h)
+    grind (arith, length-set, distinct_others, nat_tests, same_number, others_stay, gone, get_or-set_other, get_or-set_same)
 
 -- a process is on the list exactly where it is not Absent
 pub on_list : (p : ℕ) (list : List Process) (s : List State) (m : List Bool) (ns : List ℕ) → listed s m ns ≡ list → IsKept s m ns
@@ -236,11 +169,7 @@ room_for p s m ns known none k = omega (arith, few_kept (set s p State.Running) 
 
 pub added_listed : (p : ℕ) (s : List State) (m : List Bool) (ns : List ℕ) → p < 20 → is_one_of p ns ≡ false → IsKept s m ns
     → listed (set s p State.Running) m (p ∷ ns) ≡ record { number = p; state = State.Running; marked = false } ∷ listed s m ns
-added_listed p s m ns known none k =
-    let runs = get_or-set_same s p State.Running State.Absent (omega (arith, known, k.state_places)) in
-    let unmarked = k.unmarked p none in
-    let rest = states_elsewhere p State.Running s m ns none in
-    grind (arith, runs, unmarked, rest)
+added_listed p s m ns known none k = grind (arith, get_or-set_same, states_elsewhere)
 
 pub removed_listed : (p : ℕ) (s : List State) (m : List Bool) (ns : List ℕ) →
     listed (set s p State.Absent) (set m p false) (others p ns) ≡ without p (listed s m ns)
@@ -260,16 +189,7 @@ all_unmarked (suc n) (suc p) = all_unmarked n p
 
 kept_at_none : IsKept (replicate 20 State.Absent) (replicate 20 false) []
 unfolding IsDistinct
-kept_at_none =
-    record {
-      state_places = refl;
-      mark_places = refl;
-      distinct = tt;
-      below = λ p h. absurd (cc);
-      present = λ p h e. cc;
-      absent = λ p h. all_absent 20 p;
-      unmarked = λ p h. all_unmarked 20 p;
-    }
+kept_at_none = grind arith
 
 pub kept_at_first : IsKept (set (set (set (set (replicate 20 State.Absent) 0 State.Running) 1 State.Running) 2 State.Running) 3 State.Running)
     (replicate 20 false) (3 ∷ 2 ∷ 1 ∷ 0 ∷ [])
@@ -280,11 +200,7 @@ kept_at_first =
 
 -- a process that is not on the list is an application
 beyond_kernel : (p : ℕ) (applications : List ℕ) → is_one_of p (applications ++ kernel_numbers) ≡ false → 4 ≤ p
-beyond_kernel p applications h =
-    let apart : is_one_of p (applications ++ kernel_numbers) ≡ (is_one_of p applications || is_one_of p kernel_numbers) =
-    list_any-append (eqb p) applications kernel_numbers in
-    let none = (or_false (is_one_of p applications) (is_one_of p kernel_numbers) (sym apart ∙ h)).1 in
-    grind (arith, nat_tests, none)
+beyond_kernel p applications h = grind (arith, list_any-append, or_false, nat_tests)
 
 pub ends_added : (p : ℕ) (ns : List ℕ) → is_one_of p ns ≡ false → EndsWithKernel ns → EndsWithKernel (p ∷ ns)
 ends_added p ns none e =
@@ -301,27 +217,10 @@ ends_added p ns none e =
 pub ends_at : (ns : List ℕ) (e : EndsWithKernel ns) → ns ≡ e.applications ++ drop (length ns - 4) ns
 ends_at ns e =
     let at : length ns - 4 ≡ length e.applications = omega (arith, ap length e.split, length-append e.applications kernel_numbers) in
-    let kernel : drop (length e.applications) ns ≡ kernel_numbers =
-    ap (drop (length e.applications)) e.split ∙ drop-append_seam e.applications kernel_numbers in
-    rw (at, kernel) e.split
+    grind (arith, drop-append_seam)
 
 pub ends_others : (p : ℕ) (ns : List ℕ) → 4 ≤ p → EndsWithKernel ns → EndsWithKernel (others p ns)
-ends_others p ns least e =
-    record {
-      applications = others p e.applications;
-      split =
-          ap (others p) e.split
-          ∙ (filter-append (λ n. not (n == p)) e.applications kernel_numbers
-          ∙ ap (λ (l : List ℕ). others p e.applications ++ l) (others_same p kernel_numbers (grind (arith, nat_tests, least))));
-      above = λ q h. split q h (eqb q p) refl;
-    }
-  where
-    split : (q : ℕ) → is_one_of q (others p e.applications) ≡ true → (b : Bool) → eqb q p ≡ b → 4 ≤ q
-    split q h true t =
-        let same = same_number p q t in
-        let here : is_one_of p (others p e.applications) ≡ true = rw same at h in
-        let none = gone p e.applications in absurd (cc)
-    split q h false t = e.above q (sym (others_stay p q e.applications t) ∙ h)
+ends_others p ns least e = grind (arith, filter-append, others_same, nat_tests, same_number, gone, others_stay)
 
 -- a process on the list is marked once it was
 pub marked_from_present : (p : ℕ) (list : List Process) → (state_of p list ≡ State.Absent → ⊥) → is_marked p (with_mark p true list) ≡ true

@@ -143,8 +143,7 @@ is_empty_drop (suc n) (x ∷ xs) h = grind (arith, is_empty_drop n xs)
 
 -- The kernel's processes that come next are passed in the base's walk as on the agenda.
 pub and_false : (b : Bool) → (b && false) ≡ false
-and_false true = refl
-and_false false = refl
+and_false b = grind arith
 
 module _ (codes : List ℕ) where
   receivers_behind : (event : Event) (walk : List ℕ) (other : Bool) → is_other_than codes event.code ≡ other
@@ -168,8 +167,7 @@ module _ (codes : List ℕ) where
 
   nothing_below : (polls : List ℕ) (base : Base) (walk : List ℕ) (event : Event) → (is_empty polls && is_broadcast base) ≡ false
       → behind_kernel_receivers codes (poll_items polls ++ base_items base walk event) ≡ poll_items polls ++ base_items base walk event
-  nothing_below [] base walk event none = nothing_in_base base walk event none
-  nothing_below (p ∷ polls) base walk event none = refl
+  nothing_below polls base walk event none = grind (arith, nothing_in_base)
 
   nothing_behind : (stack : List Continuation) (polls : List ℕ) (base : Base) (walk : List ℕ) (event : Event)
       → (is_empty stack && (is_empty polls && is_broadcast base)) ≡ false
@@ -218,9 +216,4 @@ module _ (codes : List ℕ) where
           sym (nothing_next d.front d.reply d.synch (reverse d.stack.items) d.polls d.base d.walk d.broadcast (rw (is_empty_continuations d.stack.items) n))
 
 pub order_passed : (d : SchedulerFields) (walk : List ℕ) → receiver_is_next d ≡ true → IsInOrder d → IsInOrder (record d { walk = walk })
-order_passed d walk next order =
-    let first = both (is_empty (front_items d.front d.reply d.synch)) (_) next in
-    let second = both (_) (_) first.1 in
-    let third = both (is_empty d.polls) (is_broadcast d.base) second.1 in
-    let known : BootsKnown d.applications d.base walk = rw (broadcasting [] d.base third.1) tt in
-    record { sound = order.sound; starts = order.starts; boots = known; room = order.room; few = order.few; numbers = order.numbers }
+order_passed d walk next order = grind arith

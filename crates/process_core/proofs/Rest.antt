@@ -6,8 +6,7 @@ module _ {X : Type 0} where
   no_rest_at_event event h = grind (arith, nat_tests)
 
   serves : (b : Bool) (served : Job X) → (served ≡ Job.Rest → ⊥) → (if b then Some served else None) ≡ Some Job.Rest → ⊥
-  serves true served n h = n (cc)
-  serves false served n h = cc
+  serves b served n h = grind arith
 
   no_rest_at_give : (p : ℕ) (stimulus : Stimulus) → job_of_give {X = X} p stimulus ≡ Some Job.Rest → ⊥
   no_rest_at_give p stimulus h = grind (arith, nat_tests, serves)
@@ -16,28 +15,21 @@ module _ {X : Type 0} where
   no_rest item s h = grind (arith, nat_tests, no_rest_at_give, no_rest_at_event)
 
   idle : (b : Bool) → let rest : Job X = Job.Rest in Some (if b then Job.Round else rest) ≡ Some rest → b ≡ false
-  idle true h = absurd (cc)
-  idle false h = refl
+  idle b h = grind arith
 
   pub record IsIdle (s : Scheduler X) : Type 0 where
     pub done : s.agenda ≡ []
     pub quiet : wants_round s ≡ false
 
   idle_at : (agenda : List Item) (s : Scheduler X) → s.agenda ≡ agenda → job_at agenda s ≡ Some Job.Rest → IsIdle s
-  idle_at [] s e h = record { done = e; quiet = idle (wants_round s) h }
-  idle_at (item ∷ items) s e h = absurd (no_rest item s h)
+  idle_at agenda s e h = grind arith
 
   stays : (agenda : List Item) (s : Scheduler X) → agenda ≡ [] → wants_round s ≡ false → after_front_of agenda s ≡ s
-  stays [] s e q = rw q refl
-  stays (item ∷ items) s e q = absurd (cc)
+  stays agenda s e q = grind arith
 
   -- what comes to rest has nothing left to do
   pub idle_from_rest : (s after : Scheduler X) → ComesTo s Job.Rest after → IsIdle after
-  idle_from_rest s after c =
-      let last = after_items c.0 s in
-      let i = idle_at last.agenda last refl c.1 in
-      let same : last ≡ after = sym (stays last.agenda last i.done i.quiet) ∙ c.2 in
-      rw (← same) i
+  idle_from_rest s after c = grind arith
 
 -- ---- only the kernel's processes are served
 
@@ -59,12 +51,10 @@ module _ {X : Type 0} where
   serve_at_item item s q other h = grind (arith, nat_tests, serve_at_give, serve_at_event)
 
   serve_at_none : (b : Bool) (q : ℕ) (other : Event) → Some (if b then Job.Round else Job.Rest) ≡ Some (serve q other) → ⊥
-  serve_at_none true q other h = cc
-  serve_at_none false q other h = cc
+  serve_at_none b q other h = grind arith
 
   serve_at : (agenda : List Item) (s : Scheduler X) (q : ℕ) (other : Event) → job_at agenda s ≡ Some (Job.Serve q other) → q < 4
-  serve_at [] s q other h = absurd (serve_at_none (wants_round s) q other h)
-  serve_at (item ∷ items) s q other h = serve_at_item item s q other h
+  serve_at agenda s q other h = grind arith
 
   pub served_below : (s : Scheduler X) (q : ℕ) (other : Event) (after : Scheduler X) → ComesTo s (Job.Serve q other) after → q < 4
   served_below s q other after c = serve_at (after_items c.0 s).agenda (after_items c.0 s) q other c.1
@@ -74,15 +64,13 @@ module _ {X : Type 0} where
 module _ {X : Type 0} where
   in_either_case : (b : Bool) (s t r : Scheduler X) → s.applications ≡ r.applications → t.applications ≡ r.applications
       → (if b then s else t).applications ≡ r.applications
-  in_either_case true s t r e f = e
-  in_either_case false s t r e f = f
+  in_either_case b s t r e f = grind arith
 
   applications_after_item : (item : Item) (s : Scheduler X) → (after_item item s).applications ≡ s.applications
   applications_after_item item s = grind (arith, nat_tests, in_either_case)
 
   applications_after_front_of : (agenda : List Item) (s : Scheduler X) → (after_front_of agenda s).applications ≡ s.applications
-  applications_after_front_of [] s = in_either_case (wants_round s) _ _ s refl refl
-  applications_after_front_of (item ∷ items) s = applications_after_item item (record s { agenda = items })
+  applications_after_front_of agenda s = grind arith
 
   pub applications_after_front : (s : Scheduler X) → (after_front s).applications ≡ s.applications
   applications_after_front s = applications_after_front_of s.agenda s

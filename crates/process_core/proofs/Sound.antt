@@ -9,8 +9,7 @@ short (Continuation.Answer pid ∷ below) = omega (arith, short below)
 short (Continuation.Leave pid walk exits ∷ below) = omega (arith, short below)
 
 pub or_false : (a b : Bool) → (a || b) ≡ false → (a ≡ false) × (b ≡ false)
-or_false true b e = absurd (cc)
-or_false false b e = (refl, e)
+or_false a b e = grind arith
 
 pub none_from_is_one_of : (p : ℕ) (xs : List ℕ) → is_one_of p xs ≡ false → AllByRecursion (λ y. eqb p y ≡ false) xs
 none_from_is_one_of p [] e = tt
@@ -37,8 +36,7 @@ state_without p q [] h = refl
 state_without p q (x ∷ xs) h = grind (arith, nat_tests, state_without p q xs h)
 
 pub not_true : (b : Bool) → (b ≡ true → ⊥) → b ≡ false
-not_true true h = absurd (h refl)
-not_true false h = refl
+not_true b h = grind arith
 
 pub same_number : (p q : ℕ) → eqb q p ≡ true → q ≡ p
 same_number p q e = grind (arith, nat_tests)
@@ -58,11 +56,7 @@ none_in test list xs p are e = grind (arith, nat_tests, not_true)
 -- one more of them
 one_more : (test : State → Bool) (list : List Process) (xs : List ℕ) (p : ℕ)
     → AreIn test list xs → test (state_of p list) ≡ true → AreIn test list (p ∷ xs)
-one_more test list xs p are passes q h = split (eqb q p) refl
-  where
-    split : (b : Bool) → eqb q p ≡ b → test (state_of q list) ≡ true
-    split true e = let same = same_number p q e in rw same passes
-    split false e = are q (grind (arith, h, e))
+one_more test list xs p are passes q h = grind arith
 
 -- one less
 one_less : (test : State → Bool) (list : List Process) (xs : List ℕ) (p : ℕ)
@@ -73,11 +67,7 @@ one_less test list xs p are q h = are q (grind (arith, h))
 others_in : (test : State → Bool) (p : ℕ) (old new : List Process) (xs : List ℕ)
     → OthersStay p old new → is_one_of p xs ≡ false
     → AreIn test old xs → AreIn test new xs
-others_in test p old new xs same none are q h = split (eqb q p) refl
-  where
-    split : (b : Bool) → eqb q p ≡ b → test (state_of q new) ≡ true
-    split true e = let e2 = same_number p q e in absurd (let h2 : is_one_of p xs ≡ true = rw e2 at h in cc)
-    split false e = ap test (same q e) ∙ are q h
+others_in test p old new xs same none are q h = grind arith
 
 -- ---- the kernel's processes and the applications
 
@@ -90,28 +80,14 @@ application_range n p h = (grind (arith, nat_tests, h), grind (arith, nat_tests,
 
 pub application_from_state : (n : ℕ) (list : List Process) (p : ℕ) → IsOfMote n list
     → (state_of p list ≡ State.Absent → ⊥) → (state_of p list ≡ State.Running → ⊥) → IsApplication n p
-application_from_state n list p mote present busy = application_is n p (split (nat_lt p 4) refl) (mote.known p present)
-  where
-    split : (b : Bool) → nat_lt p 4 ≡ b → 4 ≤ p
-    split true e = absurd (busy (mote.kernel p (grind (arith, nat_tests, e))))
-    split false e = grind (arith, nat_tests, e)
+application_from_state n list p mote present busy = grind arith
 
 pub application_in : (test : State → Bool) (n : ℕ) (list : List Process) (p : ℕ) → IsOfMote n list → test (state_of p list) ≡ true
     → test State.Absent ≡ false → test State.Running ≡ false → IsApplication n p
-application_in test n list p mote passes absent running =
-    application_from_state n list p mote
-    (λ e. let t = ap test e in cc) (λ e. let t = ap test e in cc)
+application_in test n list p mote passes absent running = grind arith
 
 pub mote_changed : (n : ℕ) (p : ℕ) (old new : List Process) → IsApplication n p → OthersStay p old new → IsOfMote n old → IsOfMote n new
-mote_changed n p old new application same mote =
-    record { kernel = λ q low. same q (apart q low) ∙ mote.kernel q low; known = λ q present. split q present (eqb q p) refl }
-  where
-    apart : (q : ℕ) → q < 4 → eqb q p ≡ false
-    apart q low = let range = application_range n p application in grind (arith, nat_tests, range.0)
-
-    split : (q : ℕ) → (state_of q new ≡ State.Absent → ⊥) → (b : Bool) → eqb q p ≡ b → q < 4 + n
-    split q present true e = let range = application_range n p application in rw (same_number p q e) range.1
-    split q present false e = mote.known q (λ a. present (same q e ∙ a))
+mote_changed n p old new application same mote = grind arith
 
 answering_apart : (stack : List Continuation) → IsNested stack → IsDistinct eqb (answering stack)
 unfolding IsDistinct
@@ -169,32 +145,17 @@ length-le_from_sound n processes stack turn sound =
 -- p's call was accepted
 pub sound-answered : (n : ℕ) (list : List Process) (stack : List Continuation) (pid : Pid)
     → IsSound n list stack (Some pid) → IsSound n list (Continuation.Answer pid ∷ stack) None
-sound-answered n list stack pid s =
-    record {
-      mote = s.mote;
-      nested = (s.at_turn.apart, s.nested);
-      answers = one_more is_in_activation list (answering stack) pid.0 s.answers s.at_turn.active;
-      leaves = s.leaves;
-      at_turn = tt;
-    }
+sound-answered n list stack pid s = grind arith
 
 -- the process at turn is an application
 pub application_at_turn : (n : ℕ) (list : List Process) (stack : List Continuation) (pid : Pid)
     → IsSound n list stack (Some pid) → IsApplication n pid.0
 application_at_turn n list stack pid s = application_in is_in_activation n list pid.0 s.mote s.at_turn.active refl refl
 
--- where one process alone changes what it does, and the stack has no continuation of it
-sound-changed : (n : ℕ) (old new : List Process) (stack : List Continuation) (p : ℕ) → IsApplication n p → OthersStay p old new → IsOfMote n old → IsNested stack
-    → is_one_of p (answering stack) ≡ false → AreIn is_in_activation old (answering stack) → is_one_of p (leaving stack) ≡ false → AreIn has_ended old (leaving stack)
-    → IsSound n new stack None
-sound-changed n old new stack p application same mote nested a answers l leaves = grind (arith, mote_changed, others_in)
-
 pub sound-waited : (n : ℕ) (list : List Process) (stack : List Continuation) (pid : Pid)
     → IsSound n list stack (Some pid) → has_ended (state_of pid.0 list) ≡ false
     → IsSound n (with_state pid.0 State.Running list) stack None
-sound-waited n list stack pid s e =
-    sound-changed n list (with_state pid.0 State.Running list) stack pid.0 (application_at_turn n list stack pid s) (λ q h. state_after pid.0 q State.Running list h)
-    s.mote s.nested s.at_turn.apart s.answers (none_in has_ended list (leaving stack) pid.0 s.leaves e) s.leaves
+sound-waited n list stack pid s e = grind (arith, state_after, mote_changed, application_at_turn, others_in, none_in)
 
 pub sound-quiet : (n : ℕ) (list : List Process) (stack : List Continuation) (turn : Option Pid)
     → IsSound n list stack turn → IsSound n list stack None
@@ -207,13 +168,15 @@ pub sound-left : (n : ℕ) (list : List Process) (stack : List Continuation) (q 
     → IsSound n (with_state q.0 State.Leaving list) (Continuation.Leave q walk exits ∷ stack) None
 sound-left n list stack q walk exits s application apart stays present =
     let new = with_state q.0 State.Leaving list in
+    let same = λ (r : ℕ) (h : eqb r q.0 ≡ false). state_after q.0 r State.Leaving list h in
     let none = none_in has_ended list (leaving stack) q.0 s.leaves stays in
-    let below = sound-changed n list new stack q.0 application (λ r h. state_after q.0 r State.Leaving list h) s.mote s.nested apart s.answers none s.leaves in
     record {
-      mote = below.mote;
+      mote = mote_changed n q.0 list new application same s.mote;
       nested = ((apart, none), s.nested);
-      answers = below.answers;
-      leaves = one_more has_ended new (leaving stack) q.0 below.leaves (ap has_ended (state_at q.0 State.Leaving list present));
+      answers = others_in is_in_activation q.0 list new (answering stack) same apart s.answers;
+      leaves =
+          one_more has_ended new (leaving stack) q.0 (others_in has_ended q.0 list new (leaving stack) same none s.leaves)
+          (ap has_ended (state_at q.0 State.Leaving list present));
       at_turn = tt;
     }
 
@@ -228,23 +191,14 @@ sound-exiting n list stack q walk later exits still s =
     let new = with_state q.0 State.Ending list in
     let own = s.leaves q.0 (grind (arith, is_first q.0)) in
     let ends = state_at q.0 State.Ending list (present_from_ended list q.0 own) in
-    let below = sound-changed n list new stack q.0 (application_in has_ended n list q.0 s.mote own refl refl) (λ r h. state_after q.0 r State.Ending list h)
-    s.mote s.nested.1 s.nested.0.0 s.answers s.nested.0.1 (one_less has_ended list (leaving stack) q.0 s.leaves) in
-    record {
-      mote = below.mote;
-      nested = s.nested;
-      answers = below.answers;
-      leaves = one_more has_ended new (leaving stack) q.0 below.leaves (ap has_ended ends);
-      at_turn = record { active = ap is_in_activation ends; apart = s.nested.0.0 };
-    }
+    let same = λ (r : ℕ) (h : eqb r q.0 ≡ false). state_after q.0 r State.Ending list h in
+    grind arith
 
 -- q leaves the list
 pub sound-removed : (n : ℕ) (list : List Process) (stack : List Continuation) (q : Pid) (walk : List ℕ) (exits : Bool)
     → IsSound n list (Continuation.Leave q walk exits ∷ stack) None → IsSound n (without q.0 list) stack None
 sound-removed n list stack q walk exits s =
-    let own = s.leaves q.0 (grind (arith, is_first q.0)) in
-    sound-changed n list (without q.0 list) stack q.0 (application_in has_ended n list q.0 s.mote own refl refl) (λ r h. state_without q.0 r list h)
-    s.mote s.nested.1 s.nested.0.0 s.answers s.nested.0.1 (one_less has_ended list (leaving stack) q.0 s.leaves)
+    grind (arith, is_first, state_without, mote_changed, application_in, others_in, one_less)
 
 -- p, which runs, is given a stimulus
 pub sound-given : (n : ℕ) (list : List Process) (stack : List Continuation) (p : Pid)
@@ -253,12 +207,11 @@ pub sound-given : (n : ℕ) (list : List Process) (stack : List Continuation) (p
 sound-given n list stack p s application runs =
     let new = with_state p.0 State.Called list in
     let present : (state_of p.0 list ≡ State.Absent → ⊥) = λ e. cc in
+    let same = λ (r : ℕ) (h : eqb r p.0 ≡ false). state_after p.0 r State.Called list h in
     let a = none_in is_in_activation list (answering stack) p.0 s.answers (ap is_in_activation runs) in
     let l = none_in has_ended list (leaving stack) p.0 s.leaves (ap has_ended runs) in
     let called = state_at p.0 State.Called list present in
-    let below = sound-changed n list new stack p.0 (application_is n p.0 application (s.mote.known p.0 present)) (λ r h. state_after p.0 r State.Called list h)
-    s.mote s.nested a s.answers l s.leaves in
-    record { mote = below.mote; nested = s.nested; answers = below.answers; leaves = below.leaves; at_turn = record { active = ap is_in_activation called; apart = a } }
+    grind arith
 
 state_behind : (p q : ℕ) (list : List Process) → eqb q p ≡ false
     → state_of q (record { number = p; state = State.Running; marked = false } ∷ list) ≡ state_of q list
@@ -271,21 +224,14 @@ application_from_absent n list p mote absent = grind (arith, nat_tests)
 pub sound-started : (n : ℕ) (list : List Process) (stack : List Continuation) (p : ℕ)
     → IsSound n list stack None → p < 4 + n → state_of p list ≡ State.Absent
     → IsSound n (record { number = p; state = State.Running; marked = false } ∷ list) stack None
-sound-started n list stack p s known absent =
-    sound-changed n list (record { number = p; state = State.Running; marked = false } ∷ list) stack p
-    (application_is n p (application_from_absent n list p s.mote absent) known) (λ r h. state_behind p r list h) s.mote s.nested
-    (none_in is_in_activation list (answering stack) p s.answers (ap is_in_activation absent)) s.answers
-    (none_in has_ended list (leaving stack) p s.leaves (ap has_ended absent)) s.leaves
+sound-started n list stack p s known absent = grind arith
 
 pub sound-marked : (n : ℕ) (list : List Process) (stack : List Continuation) (turn : Option Pid) (p : ℕ) (marked : Bool)
     → IsSound n list stack turn → IsSound n (with_mark p marked list) stack turn
 sound-marked n list stack turn p marked s =
     record {
       mote =
-          record {
-            kernel = λ q low. state_marked p q marked list ∙ s.mote.kernel q low;
-            known = λ q present. s.mote.known q (λ a. present (state_marked p q marked list ∙ a));
-          };
+          grind (arith, state_marked);
       nested = s.nested;
       answers = λ q h. ap is_in_activation (state_marked p q marked list) ∙ s.answers q h;
       leaves = λ q h. ap has_ended (state_marked p q marked list) ∙ s.leaves q h;
@@ -323,8 +269,7 @@ idle_sound d stack order idle = rw idle at order.sound
 in_order : (d : SchedulerFields) (before : List Continuation) (list : List Process) (stack : List Continuation) (synch : Event) (front : Front) → IsOrdered d before
     → IsSound d.applications list (reverse stack) (active_in front) → StartsKnown d.applications front
     → IsInOrder (record d { processes = list; stack = record { items = stack }; synch = synch; front = front })
-in_order d before list stack synch front order holds starts =
-    record { sound = holds; starts = starts; boots = order.boots; room = order.room; few = order.few; numbers = order.numbers }
+in_order d before list stack synch front order holds starts = grind arith
 
 pub order_marked : (d : SchedulerFields) (new : List Process) (p : ℕ) (marked : Bool) → IsInOrder d
     → new ≡ with_mark p marked d.processes → IsInOrder (record d { processes = new })
@@ -381,17 +326,7 @@ order_exiting d q walk later exits still list stack idle e f order =
 -- ---- what the layer above tells
 
 turn_sound : (d : SchedulerFields) (p : Pid) → IsInOrder d → turn_in d.front ≡ Some p → IsSound d.applications d.processes (reverse d.stack.items) (Some p)
-turn_sound d p order e = called d.front e order.sound
-  where
-    called : (front : Front) → turn_in front ≡ Some p → IsSound d.applications d.processes (reverse d.stack.items) (active_in front)
-        → IsSound d.applications d.processes (reverse d.stack.items) (Some p)
-    called (Front.Call q) e s = rw e at s
-    called Front.Nothing e s = absurd (cc)
-    called (Front.Expiry q number) e s = absurd (cc)
-    called (Front.Answer q) e s = absurd (cc)
-    called (Front.Give q) e s = absurd (cc)
-    called (Front.Start q) e s = absurd (cc)
-    called (Front.Callback q number) e s = absurd (cc)
+turn_sound d p order e = grind arith
 
 -- while a call is awaited nothing comes first
 pub no_front : (front : Front) (p : Pid) (reply : Reply) (synch : Event) → turn_in front ≡ Some p → front_items front reply synch ≡ []

@@ -19,8 +19,7 @@ module _ {X : Type 0} where
   unpolled_yields s next after e y = yields_next (in_front (Item.Polls ∷ []) s) next after refl (rw e y)
 
   stays : (m : ℕ) (s : Scheduler X) → is_some (job s) ≡ true → after_items m s ≡ s
-  stays zero s e = refl
-  stays (suc m) s e = rw e refl
+  stays m s e = grind arith
 
   after_items_twice : (n m : ℕ) (s : Scheduler X) → (k : ℕ) × (after_items k s ≡ after_items m (after_items n s))
   after_items_twice zero m s = (m, refl)
@@ -37,8 +36,7 @@ module _ {X : Type 0} where
       let r = after_items_twice first.0 y.0 s in (r.0, r.1 ∙ ap (after_items y.0) first.1 ∙ y.1)
   yields_after s between (Some next) after first y =
       let r = after_items_twice first.0 y.0 s in
-      let same = r.1 ∙ ap (after_items y.0) first.1 in
-      (r.0, ap job same ∙ y.1, ap after_front same ∙ y.2)
+      grind arith
 
   no_service : (p : ℕ) (stimulus : Stimulus) → 4 ≤ p → job_of_give {X = X} p stimulus ≡ None
   no_service p stimulus h = grind (arith, nat_tests)
@@ -46,15 +44,7 @@ module _ {X : Type 0} where
   -- an application that doesn't run is given nothing
   pub give_yields_nothing : (s : Scheduler X) (p : ℕ) (origin : Origin) (stimulus : Stimulus) → 4 ≤ p → (state_in s p ≡ State.Running → ⊥)
       → Yields (in_front (Item.Give p origin stimulus ∷ []) s) None s
-  give_yields_nothing s p origin stimulus application busy =
-      yields_next (in_front (Item.Give p origin stimulus ∷ []) s) None s (no_service p stimulus application) (0, nothing)
-    where
-      stands : (b : Bool) → (b && is_running (state_in s p)) ≡ false
-      stands true = not_running (state_in s p) busy
-      stands false = refl
-
-      nothing : after_front (in_front (Item.Give p origin stimulus ∷ []) s) ≡ s
-      nothing = rw (stands (not (is_kernel_process p))) refl
+  give_yields_nothing s p origin stimulus application busy = grind arith
 
   pub poll_one_yields : (s : Scheduler X) (p : ℕ) (next : Option (Job X)) (after : Scheduler X) → is_marked p s.processes ≡ true
       → Yields (in_front (Item.Give p Origin.Poll (of_event (plain_event POLL)) ∷ []) (record s { processes = with_mark p false s.processes })) next after
@@ -108,16 +98,14 @@ module _ {X : Type 0} where
       → first_event s ≡ Some (Queued.To p event)
       → Yields (in_front (Item.Give p Origin.Event (of_event event) ∷ []) (record s { events = drop 1 s.events })) next after
       → Yields (in_front (Item.Deliver ∷ []) s) next after
-  deliver_yields s p event next after e y =
-      yields_next (in_front (Item.Deliver ∷ []) s) next after (rw e refl) (rw e y)
+  deliver_yields s p event next after e y = grind (arith, yields_next, in_front)
 
 first_queued : (events : List code.Queued) (q : code.Queued) → Some q ≡ slice_get events 0 → slice_get (map queued_of events) 0 ≡ Some (queued_of q)
 first_queued [] q e = absurd (cc)
 first_queued (x ∷ xs) q e = let same : q ≡ x = cc in ap (λ r. Some (queued_of r)) (sym same)
 
 drop_queued : (events : List code.Queued) → drop 1 (map queued_of events) ≡ map queued_of (drop 1 events)
-drop_queued [] = refl
-drop_queued (x ∷ xs) = refl
+drop_queued events = grind arith
 
 -- the event at the front is for one process
 pub deliver_to_yields : (d : SchedulerFields) (rest : Buffer code.Queued) (p : Pid) (event : Event) (next : Option (Job ℕ)) (after : Scheduler ℕ)
