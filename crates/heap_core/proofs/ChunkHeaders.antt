@@ -1,20 +1,5 @@
 -- The chunks that headers tell, and how they stay or change with the bytes.
-use Rattle.heap_core.proofs.Words.{◌≡◌, ℕ, zero, suc, ◌+◌, ◌≤◌, ◌<◌, ◌⊎◌, inl, inr, List, [], ◌∷◌, ◌++◌, slice_range, false, true, ltb, refl, sym, ap, ◌∙◌, subst, arith, Option, Some, None, IsSomeAnd, from_le_bytes, w32, lt-ltb, le-ltb, ChangesOnly, Chunk, Block, is_a_name, word_at, number_in, owner_in, size_in, link_in, chunk_at, chunks_from, least_len, Tell, with_chunk, blocks_in}
-
--- a chunk as the bytes of three words tell it
-abbrev pub told_chunk : ℕ → List ℕ → List ℕ → List ℕ → Chunk
-told_chunk at len second third =
-    let word = from_le_bytes w32 second in
-    record {
-      at = at;
-      len = from_le_bytes w32 len;
-      owner = owner_in word;
-      size = size_in word;
-      link = link_in (owner_in word) (from_le_bytes w32 third);
-    }
-
-told_same : (at : ℕ) {u v w u' v' w' : List ℕ} → u ≡ u' → v ≡ v' → w ≡ w' → told_chunk at u v w ≡ told_chunk at u' v' w'
-told_same at {v = v} {w = w} {u' = u'} {v' = v'} e f g = grind arith
+use Rattle.heap_core.proofs.Words.{◌≡◌, ℕ, zero, suc, ◌+◌, ◌≤◌, ◌<◌, ◌⊎◌, inl, inr, List, [], ◌∷◌, ◌++◌, false, true, ltb, refl, sym, ap, ◌∙◌, subst, arith, Option, Some, None, IsSomeAnd, from_le_bytes, w32, lt-ltb, le-ltb, ChangesOnly, Chunk, Block, is_a_name, word_at, number_in, owner_in, size_in, link_in, chunk_at, chunks_from, least_len, Tell, blocks_in, Region, chunks_of, HasChunks, Stands, chunks_before, chunks_behind, chunks_between, ◌≢◌, All, IfSome, All-head, All-tail, LiveIn, Bool, not, length, eqb, filter, ltb-true, cases_Bool, placed, has_name, ◌-◌, Span, HeapStore, BeginsLive, IsWhole, AreJoined, store_of, laid, ◌^◌, to_le_bytes, from_le_bytes-to_le_bytes_4, Contents, contents, written, range-written, range-written_apart, changes_only}
 
 abbrev pub chunk_of : ℕ → ℕ → Option ℕ → ℕ → Option ℕ → Chunk
 chunk_of at len owner size link = record { at = at; len = len; owner = owner; size = size; link = link }
@@ -82,25 +67,13 @@ module _ (header : ℕ) (B B' : List ℕ) (b s n : ℕ) (changes : ChangesOnly s
         told_frame (x + c.len) y l (elim side [ inl low ↦ inl (omega arith) | inr high ↦ inr (omega arith) ]) t.2,
       )
 
-  with_chunk_frame : (c : Chunk) (o : Option ℕ) (xs ys : List Block) → xs ≡ ys
-      → slice_range B' (b + c.at + header) (b + c.at + header + c.size) ≡ slice_range B (b + c.at + header) (b + c.at + header + c.size)
-      → with_chunk header B' b c o xs ≡ with_chunk header B b c o ys
-  with_chunk_frame c None xs ys e same = e
-  with_chunk_frame c (Some name) xs ys e same = grind arith
-
   pub blocks_frame : (x y : ℕ) (l : List Chunk) → (b + y ≤ s) ⊎ (s + n ≤ b + x) → Tell header B b x y l → blocks_in header B' b l ≡ blocks_in header B b l
   blocks_frame x y [] side t = refl
   blocks_frame x y (c ∷ l) side t =
-      let enough : least_len header c ≤ c.len = t.1 in
-      let le = told_le header B b (x + c.len) y l t.2 in
+      let enough : least_len header c ≤ c.len = t.1 in let le = told_le header B b (x + c.len) y l t.2 in
       let at = place_told B b x c t.0 in
-      with_chunk_frame c c.owner (blocks_in header B' b l) (blocks_in header B b l)
-      (blocks_frame (x + c.len) y l (elim side [ inl low ↦ inl (omega arith) | inr high ↦ inr (omega arith) ]) t.2)
-      (changes.others (b + c.at + header) c.size (elim side [ inl low ↦ inl (omega arith) | inr high ↦ inr (omega arith) ]))
-
-pub with_chunk_append : (header : ℕ) (B : List ℕ) (b : ℕ) (c : Chunk) (o : Option ℕ) (xs ys : List Block) → with_chunk header B b c o (xs ++ ys) ≡ with_chunk header B b c o xs ++ ys
-with_chunk_append header B b c None xs ys = refl
-with_chunk_append header B b c (Some name) xs ys = refl
+      let later = blocks_frame (x + c.len) y l (elim side [ inl low ↦ inl (omega arith) | inr high ↦ inr (omega arith) ]) t.2 in
+      grind arith
 
 pub blocks_append : (header : ℕ) (B : List ℕ) (b : ℕ) (l r : List Chunk) → blocks_in header B b (l ++ r) ≡ blocks_in header B b l ++ blocks_in header B b r
 blocks_append header B b [] r = refl
@@ -131,3 +104,354 @@ told_body header B B' b x y n c l long named changes fits t = (
   t.1,
   told_frame header B B' b (b + x + header) n changes (x + c.len) y l (inr (omega arith)) t.2,
 )
+
+-- A chunk that stands among the others.
+pub record Around (header : ℕ) (B : List ℕ) (b end : ℕ) (chunk : Chunk) (chunks : List Chunk) : Type 0 where
+  pub before : List Chunk
+  pub behind : List Chunk
+  pub is : chunks ≡ before ++ (chunk ∷ behind)
+  pub front : Tell header B b 0 chunk.at before
+  pub here : chunk_at B b chunk.at ≡ chunk
+  pub enough : least_len header chunk ≤ chunk.len
+  pub back : Tell header B b (chunk.at + chunk.len) end behind
+  pub fits : chunk.at + chunk.len ≤ end
+
+pub split_at : (header : ℕ) (B : List ℕ) (b end : ℕ) (chunk : Chunk) (before behind : List Chunk) → Tell header B b 0 end (before ++ (chunk ∷ behind))
+    → Tell header B b 0 chunk.at before × (chunk_at B b chunk.at ≡ chunk) × (least_len header chunk ≤ chunk.len) × Tell header B b (chunk.at + chunk.len) end behind
+split_at header B b end chunk before behind told = grind (arith, told_split, place_told)
+
+pub around_split : (header : ℕ) (B : List ℕ) (b end : ℕ) (chunk : Chunk) (before behind : List Chunk) → Tell header B b 0 end (before ++ (chunk ∷ behind)) → Around header B b end chunk (before ++ (chunk ∷ behind))
+around_split header B b end chunk before behind told = grind (arith, split_at, told_le)
+
+module _ (heap : Region) (B : List ℕ) (chunk : Chunk) where
+  pub around : HasChunks heap B → Stands chunk (chunks_of heap B) → Around heap.header B heap.span.at heap.footprint chunk (chunks_of heap B)
+  around has stands = grind (arith, around_split)
+
+  pub before_is : (a : Around heap.header B heap.span.at heap.footprint chunk (chunks_of heap B)) → chunks_before heap B chunk.at ≡ a.before
+  unfolding chunks_before
+  before_is a = walked heap.header chunk.at B heap.span.at 0 chunk.at a.before a.front (omega arith)
+
+  pub behind_is : (a : Around heap.header B heap.span.at heap.footprint chunk (chunks_of heap B)) → chunks_behind heap B (chunk.at + chunk.len) ≡ a.behind
+  unfolding chunks_behind
+  behind_is a = walked heap.header heap.footprint B heap.span.at (chunk.at + chunk.len) heap.footprint a.behind a.back (omega arith)
+
+-- A walk over the chunks: where it stands, and its next step.
+
+-- the first of the chunks that a walk has still to come to, and the others
+pub record First (header : ℕ) (B : List ℕ) (b end : ℕ) (chunk : Chunk) (later : List Chunk) : Type 0 where
+  pub at : ℕ
+  pub told : Tell header B b at end later
+  pub enough : least_len header chunk ≤ chunk.len
+  pub fits : chunk.at + chunk.len ≤ end
+
+pub first_of : (header : ℕ) (B : List ℕ) (b at end : ℕ) (left : List Chunk) (chunk : Chunk) (later : List Chunk) → left ≡ chunk ∷ later → Tell header B b at end left → First header B b end chunk later
+first_of header B b at end left chunk later e t = grind (arith, place_told, told_le)
+
+pub record Step (header : ℕ) (B : List ℕ) (b at end : ℕ) (chunk : Chunk) (rest : List Chunk) : Type 0 where
+  pub later : List Chunk
+  pub is : rest ≡ chunk ∷ later
+  pub told : Tell header B b (at + chunk.len) end later
+  pub enough : least_len header chunk ≤ chunk.len
+  pub fits : at + chunk.len ≤ end
+
+pub room_for_header : (header : ℕ) (B : List ℕ) (b at end : ℕ) (rest : List Chunk) → Tell header B b at end rest → at < end → at + 12 ≤ end
+room_for_header header B b at end [] t less = absurd (omega (arith, t))
+room_for_header header B b at end (c ∷ l) t less = grind (arith, told_le)
+
+pub step : (header : ℕ) (B : List ℕ) (b at end : ℕ) (chunk : Chunk) (rest : List Chunk) → chunk ≡ chunk_at B b at → Tell header B b at end rest → at < end → Step header B b at end chunk rest
+step header B b at end chunk [] e t less = absurd (omega (arith, t))
+step header B b at end chunk (c ∷ l) e t less = grind (arith, told_le)
+
+-- the same for the chunks between two places
+pub record Next (heap : Region) (B : List ℕ) (at end : ℕ) (chunk : Chunk) : Type 0 where
+  pub is : chunks_between heap B at end ≡ chunk ∷ chunks_between heap B (at + chunk.len) end
+  pub told : Tell heap.header B heap.span.at (at + chunk.len) end (chunks_between heap B (at + chunk.len) end)
+  pub enough : least_len heap.header chunk ≤ chunk.len
+  pub fits : at + chunk.len ≤ end
+
+pub between_is : (heap : Region) (B : List ℕ) (at end : ℕ) (l : List Chunk) → Tell heap.header B heap.span.at at end l → chunks_between heap B at end ≡ l
+unfolding chunks_between
+between_is heap B at end l t = walked heap.header end B heap.span.at at end l t (omega arith)
+
+pub next_of : (heap : Region) (B : List ℕ) (at end : ℕ) (chunk : Chunk) → chunk ≡ chunk_at B heap.span.at at → Tell heap.header B heap.span.at at end (chunks_between heap B at end) → at < end → Next heap B at end chunk
+next_of heap B at end chunk e t less =
+    let s = step heap.header B heap.span.at at end chunk (chunks_between heap B at end) e t less in
+    let later = between_is heap B (at + chunk.len) end s.later s.told in grind arith
+
+pub ended : (header : ℕ) (B : List ℕ) (b at end : ℕ) (rest : List Chunk) → Tell header B b at end rest → end ≤ at → rest ≡ []
+ended header B b at end [] t le = refl
+ended header B b at end (c ∷ l) t le = grind (arith, told_le)
+
+-- Live chunks among others, before and after one of these is exchanged.
+abbrev pub In : Chunk → List Chunk → Type 0
+In c [] = ⊥
+In c (d ∷ l) = (d ≡ c) ⊎ In c l
+
+pub in_left : (c : Chunk) (l r : List Chunk) → In c l → In c (l ++ r)
+in_left c [] r h = absurd h
+in_left c (d ∷ l) r (inl e) = inl e
+in_left c (d ∷ l) r (inr h) = inr (in_left c l r h)
+
+pub in_right : (c : Chunk) (l r : List Chunk) → In c r → In c (l ++ r)
+in_right c [] r h = h
+in_right c (d ∷ l) r h = inr (in_right c l r h)
+
+pub in_cases : (c : Chunk) (l r : List Chunk) → In c (l ++ r) → In c l ⊎ In c r
+in_cases c [] r h = inr h
+in_cases c (d ∷ l) r (inl e) = inl (inl e)
+in_cases c (d ∷ l) r (inr h) = elim (in_cases c l r h) [ inl a ↦ inl (inr a) | inr b ↦ inr b ]
+
+pub in_of : (c : Chunk) (l : List Chunk) → Stands c l → In c l
+in_of c l s = subst (In c) (sym s.is) (in_right c s.before (c ∷ s.behind) (inl refl))
+
+pub stands_of : (c : Chunk) (l : List Chunk) → In c l → Stands c l
+stands_of c [] h = absurd h
+stands_of c (d ∷ l) (inl e) = record { before = []; behind = l; is = ap (λ k. k ∷ l) e }
+stands_of c (d ∷ l) (inr h) =
+    let s = stands_of c l h in record { before = d ∷ s.before; behind = s.behind; is = ap (λ k. d ∷ k) s.is }
+
+-- where one lies
+pub in_told : (header : ℕ) (B : List ℕ) (b x y : ℕ) (c : Chunk) (l : List Chunk) → Tell header B b x y l → In c l → (x ≤ c.at) × (c.at + c.len ≤ y) × (least_len header c ≤ c.len)
+in_told header B b x y c [] t h = absurd h
+in_told header B b x y c (d ∷ l) t (inl e) =
+    let at = place_told B b x d t.0 in let le = told_le header B b (x + d.len) y l t.2 in let enough : least_len header d ≤ d.len = t.1 in
+    subst (λ (k : Chunk). (x ≤ k.at) × (k.at + k.len ≤ y) × (least_len header k ≤ k.len)) e (omega arith, omega arith, omega arith)
+in_told header B b x y c (d ∷ l) t (inr h) = let later = in_told header B b (x + d.len) y c l t.2 h in grind arith
+
+-- a gap between others makes room for chunks
+pub in_exchanged : (c gap : Chunk) (before mid behind : List Chunk) → gap.owner ≡ None → c.owner ≢ None → In c (before ++ (gap ∷ behind)) → In c (before ++ (mid ++ behind))
+in_exchanged c gap before mid behind free live h = elim (in_cases c before (gap ∷ behind) h) [
+  | inl early ↦ in_left c before (mid ++ behind) early
+  | inr later ↦ elim later [
+    | inl same ↦ absurd (live (sym (ap (λ (k : Chunk). k.owner) same) ∙ free))
+    | inr behind' ↦ in_right c before (mid ++ behind) (in_right c mid behind behind')
+  ]
+]
+
+pub live_exchanged : (c gap : Chunk) (before mid behind old new : List Chunk) → gap.owner ≡ None → old ≡ before ++ (gap ∷ behind) → new ≡ before ++ (mid ++ behind) → LiveIn c old → LiveIn c new
+live_exchanged c gap before mid behind old new free is is' h =
+    record { stands = stands_of c new (subst (In c) (sym is') (in_exchanged c gap before mid behind free h.live (subst (In c) is (in_of c old h.stands)))); live = h.live }
+
+pub if_some : {X : Type 0} (P Q : X → Type 0) (o : Option X) → IfSome o P → ((x : X) → P x → Q x) → IfSome o Q
+if_some P Q None h f = h
+if_some P Q (Some x) h f = f x h
+
+-- a live one lies before or behind a gap
+pub apart_from_gap : (header : ℕ) (B : List ℕ) (b end : ℕ) (c gap : Chunk) (before behind l : List Chunk) → l ≡ before ++ (gap ∷ behind) → Tell header B b 0 gap.at before → Tell header B b (gap.at + gap.len) end behind → gap.owner ≡ None → LiveIn c l
+    → (c.at + header + c.size ≤ gap.at) ⊎ (gap.at + gap.len ≤ c.at)
+apart_from_gap header B b end c gap before behind l is front back free h =
+    elim (in_cases c before (gap ∷ behind) (subst (In c) is (in_of c l h.stands))) [
+      | inl early ↦ let t = in_told header B b 0 gap.at c before front early in inl (omega (arith, t.1, t.2))
+      | inr later ↦ elim later [
+        | inl same ↦ absurd (h.live (sym (ap (λ (k : Chunk). k.owner) same) ∙ free))
+        | inr after ↦ inr (in_told header B b (gap.at + gap.len) end c behind back after).0
+      ]
+    ]
+
+pub inside : (header : ℕ) (B : List ℕ) (b end : ℕ) (c : Chunk) (l : List Chunk) → Tell header B b 0 end l → LiveIn c l → c.at + header + c.size ≤ end
+inside header B b end c l told h = let t = in_told header B b 0 end c l told (in_of c l h.stands) in omega (arith, t.1, t.2)
+
+-- none of the gaps is live
+free_in : (c : Chunk) (free : List Chunk) → All (λ (k : Chunk). k.owner ≡ None) free → In c free → c.owner ≡ None
+free_in c [] all h = absurd h
+free_in c (d ∷ free) all (inl e) = sym (ap (λ (k : Chunk). k.owner) e) ∙ All-head (λ (k : Chunk). k.owner ≡ None) d free all
+free_in c (d ∷ free) all (inr h) = free_in c free (All-tail (λ (k : Chunk). k.owner ≡ None) d free all) h
+
+-- a live one stays where it is not the one that is taken out
+pub in_without : (c gone : Chunk) (before free behind : List Chunk) → c.owner ≢ None → c.at ≢ gone.at → All (λ (k : Chunk). k.owner ≡ None) free → In c (before ++ (gone ∷ (free ++ behind))) → In c (before ++ behind)
+in_without c gone before free behind live far all h = elim (in_cases c before (gone ∷ (free ++ behind)) h) [
+  | inl early ↦ in_left c before behind early
+  | inr later ↦ elim later [
+    | inl same ↦ absurd (far (sym (ap (λ (k : Chunk). k.at) same)))
+    | inr rest ↦ elim (in_cases c free behind rest) [
+      | inl one ↦ absurd (live (free_in c free all one))
+      | inr last ↦ in_right c before behind last
+    ]
+  ]
+]
+
+pub in_skip : (c : Chunk) (before free behind : List Chunk) → c.owner ≢ None → All (λ (k : Chunk). k.owner ≡ None) free → In c (before ++ (free ++ behind)) → In c (before ++ behind)
+in_skip c before free behind live all h = elim (in_cases c before (free ++ behind) h) [
+  | inl early ↦ in_left c before behind early
+  | inr rest ↦ elim (in_cases c free behind rest) [
+    | inl one ↦ absurd (live (free_in c free all one))
+    | inr last ↦ in_right c before behind last
+  ]
+]
+
+-- Blocks in the order of their places: one more, one less, or one changed.
+
+-- the blocks begin between two places
+abbrev pub Between : ℕ → ℕ → List Block → Type 0
+Between x y [] = Unit {0}
+Between x y (block ∷ blocks) = (x ≤ block.at) × (block.at < y) × Between x y blocks
+
+between_more : (x x' y : ℕ) (xs : List Block) → x' ≤ x → Between x y xs → Between x' y xs
+between_more x x' y [] le h = tt
+between_more x x' y (block ∷ xs) le h = (omega (arith, h.0), h.1, between_more x x' y xs le h.2)
+
+pub blocks_between : (header : ℕ) (B : List ℕ) (b x y : ℕ) (l : List Chunk) → Tell header B b x y l → Between x y (blocks_in header B b l)
+blocks_between header B b x y [] t = tt
+blocks_between header B b x y (c ∷ l) t =
+    let enough : least_len header c ≤ c.len = t.1 in let at = place_told B b x c t.0 in let le = told_le header B b (x + c.len) y l t.2 in
+    let later : Between x y (blocks_in header B b l) = between_more (x + c.len) x y (blocks_in header B b l) (omega arith) (blocks_between header B b (x + c.len) y l t.2) in grind arith
+
+pub placed_behind : (x y : ℕ) (block : Block) (xs ys : List Block) → Between x y xs → y ≤ block.at → placed block (xs ++ ys) ≡ xs ++ placed block ys
+placed_behind x y block [] ys h le = refl
+placed_behind x y block (other ∷ xs) ys h le = let later = placed_behind x y block xs ys h.2 le in grind arith
+
+pub placed_front : (x y : ℕ) (block : Block) (xs : List Block) → Between x y xs → block.at < x → placed block xs ≡ block ∷ xs
+placed_front x y block [] h le = refl
+placed_front x y block (other ∷ xs) h le = let near : ltb block.at other.at ≡ true = lt-ltb block.at other.at (omega (arith, h.0)) in rw near refl
+
+abbrev pub elsewhere : ℕ → Block → Bool
+elsewhere at block = not (eqb block.at at)
+
+pub filter_elsewhere : (x y at : ℕ) (xs : List Block) → Between x y xs → (at < x) ⊎ (y ≤ at) → filter (elsewhere at) xs ≡ xs
+filter_elsewhere x y at [] h side = refl
+filter_elsewhere x y at (block ∷ xs) h side = let later = filter_elsewhere x y at xs h.2 side in grind arith
+
+-- how many blocks a name has
+abbrev pub count : ℕ → List Block → ℕ
+count name xs = length (filter (has_name name) xs)
+
+-- each begins behind the one before
+abbrev pub Ascending : ℕ → List Block → Type 0
+Ascending top [] = Unit {0}
+Ascending top (block ∷ blocks) = Between (suc block.at) top blocks × (block.at < top) × Ascending top blocks
+
+pub blocks_ascending : (header : ℕ) (B : List ℕ) (b x y : ℕ) (l : List Chunk) → Tell header B b x y l → Ascending y (blocks_in header B b l)
+blocks_ascending header B b x y [] t = tt
+blocks_ascending header B b x y (c ∷ l) t =
+    let enough : least_len header c ≤ c.len = t.1 in let at = place_told B b x c t.0 in let le = told_le header B b (x + c.len) y l t.2 in
+    let later = blocks_ascending header B b (x + c.len) y l t.2 in
+    let above : Between (suc c.at) y (blocks_in header B b l) = between_more (x + c.len) (suc c.at) y (blocks_in header B b l) (omega arith) (blocks_between header B b (x + c.len) y l t.2) in grind arith
+
+pub filter_between : (p : Block → Bool) (x y : ℕ) (xs : List Block) → Between x y xs → Between x y (filter p xs)
+filter_between p x y [] h = tt
+filter_between p x y (block ∷ xs) h = let later = filter_between p x y xs h.2 in grind arith
+
+-- a block that stays is put among those that stay
+pub filter_placed : (p : Block → Bool) (top : ℕ) (block : Block) (xs : List Block) → p block ≡ true → Ascending top xs → filter p (placed block xs) ≡ placed block (filter p xs)
+filter_placed p top block [] stays h = rw stays refl
+filter_placed p top block (x ∷ xs) stays h = let later = filter_placed p top block xs stays h.2 in grind (arith, cases_Bool, ltb-true, between_more, placed_front, filter_between)
+
+-- Chunks that others take the place of.
+
+-- joined chunks stay joined where what comes after a gap still begins with a live one
+begins_swap : (pre old new : List Chunk) → (BeginsLive old → BeginsLive new) → BeginsLive (pre ++ old) → BeginsLive (pre ++ new)
+begins_swap [] old new keep begins = keep begins
+begins_swap (c ∷ pre) old new keep begins = begins
+
+pub joined_swap : (header : ℕ) (pre old new : List Chunk) → (BeginsLive old → BeginsLive new) → AreJoined header (pre ++ old) → AreJoined header new → AreJoined header (pre ++ new)
+joined_swap header [] old new keep was joined = joined
+joined_swap header (c ∷ pre) old new keep was joined = let later = joined_swap header pre old new keep was.2 joined in grind (arith, begins_swap)
+
+pub joined_behind : (header : ℕ) (pre new : List Chunk) → AreJoined header (pre ++ new) → AreJoined header new
+joined_behind header [] new joined = joined
+joined_behind header (c ∷ pre) new joined = joined_behind header pre new joined.2
+
+-- each of them is whole
+pub whole_at : (header : ℕ) (pre behind : List Chunk) (c : Chunk) → AreJoined header (pre ++ (c ∷ behind)) → IsWhole header c
+whole_at header pre behind c joined = (joined_behind header pre (c ∷ behind) joined).1
+
+pub laid_all : (live : Chunk) (len : ℕ) (link : Option ℕ) → live.len ≡ len → laid live len link ≡ live ∷ []
+laid_all live len link e = let none : ltb live.len len ≡ false = le-ltb live.len len (omega arith) in rw none refl
+
+abbrev pub left_over : Chunk → ℕ → Option ℕ → Chunk
+left_over live len link = record { at = live.at + live.len; len = len - live.len; owner = None; size = 0; link = link }
+
+pub laid_some : (live : Chunk) (len : ℕ) (link : Option ℕ) → live.len < len → laid live len link ≡ live ∷ (left_over live len link ∷ [])
+laid_some live len link h = let some : ltb live.len len ≡ true = lt-ltb live.len len h in rw some refl
+
+-- some chunks stand between others, whose headers and bytes did not change
+pub record Spliced (old new : Region) (B B' : List ℕ) (before mid behind : List Chunk) : Type 0 where
+  pub has : HasChunks new B'
+  pub is : chunks_of new B' ≡ before ++ (mid ++ behind)
+  pub store : store_of new B'
+      ≡ record { size = old.span.len; header = old.header; blocks = blocks_in old.header B old.span.at before ++ (blocks_in old.header B' old.span.at mid ++ blocks_in old.header B old.span.at behind) }
+  pub kept : (other : Chunk) → LiveIn other (before ++ behind) → LiveIn other (chunks_of new B')
+
+pub spliced : (old new : Region) (B B' : List ℕ) (x y : ℕ) (before mid behind : List Chunk) → new.span ≡ old.span → new.header ≡ old.header → old.span.at + old.span.len ≤ length B
+    → ChangesOnly (old.span.at + x) (y - x) B B' → Tell old.header B old.span.at 0 x before → Tell old.header B' old.span.at x y mid → Tell old.header B old.span.at y new.footprint behind
+    → AreJoined old.header (before ++ (mid ++ behind)) → Spliced old new B B' before mid behind
+unfolding chunks_of
+spliced old new B B' x y before mid behind span same within changes front told back joined =
+    let b = old.span.at in let header = old.header in let end = new.footprint in let l = before ++ (mid ++ behind) in
+    let le = told_le header B' b x y mid told in let chunks = λ (s : Span). chunks_from end B' s.at 0 end in
+    let store = λ (s : Span) (k : ℕ). (let h : HeapStore = record { size = s.len; header = k; blocks = blocks_in k B' s.at (chunks s) } in h) in
+    let front' : Tell header B' b 0 x before = told_frame header B B' b (b + x) (y - x) changes 0 x before (inl (omega arith)) front in
+    let back' : Tell header B' b y end behind = told_frame header B B' b (b + x) (y - x) changes y end behind (inr (omega arith)) back in
+    let all : Tell header B' b 0 end l = told_append header B' b 0 x end before (mid ++ behind) front' (told_append header B' b x y end mid behind told back') in
+    let here : chunks_from end B' b 0 end ≡ l = walked header end B' b 0 end l all (omega arith) in
+    let is : chunks_from end B' new.span.at 0 end ≡ l = subst (λ (s : Span). chunks s ≡ l) (sym span) here in
+    record {
+      has = record {
+        within = subst (λ (s : Span). s.at + s.len ≤ length B') (sym span) (omega (arith, changes.size, within));
+        told = subst (λ k. Tell k B' new.span.at 0 end (chunks new.span)) (sym same)
+            (subst (λ (s : Span). Tell header B' s.at 0 end (chunks s)) (sym span) (subst (Tell header B' b 0 end) (sym here) all));
+        joined = subst (λ k. AreJoined k (chunks new.span)) (sym same) (subst (AreJoined header) (sym is) joined);
+      };
+      is = is;
+      store = ap (λ s. store s new.header) span
+          ∙ ap (store old.span) same
+          ∙ ap (λ blocks. let h : HeapStore = record { size = old.span.len; header = header; blocks = blocks } in h)
+          (ap (blocks_in header B' b) here
+          ∙ blocks_append header B' b before (mid ++ behind)
+          ∙ ap (λ l. blocks_in header B' b before ++ l) (blocks_append header B' b mid behind)
+          ∙ ap (λ l. l ++ (blocks_in header B' b mid ++ blocks_in header B' b behind)) (blocks_frame header B B' b (b + x) (y - x) changes 0 x before (inl (omega arith)) front)
+          ∙ ap (λ l. blocks_in header B b before ++ (blocks_in header B' b mid ++ l)) (blocks_frame header B B' b (b + x) (y - x) changes y end behind (inr (omega arith)) back));
+      kept = λ other h. record {
+        stands = stands_of other (chunks_from end B' new.span.at 0 end) (subst (In other) (sym is)
+            (elim (in_cases other before behind (in_of other (before ++ behind) h.stands)) [
+              | inl early ↦ in_left other before (mid ++ behind) early
+              | inr later ↦ in_right other before (mid ++ behind) (in_right other mid behind later)
+            ]));
+        live = h.live;
+      };
+    }
+
+-- A header that is written: what it tells then, and that no other byte changed.
+
+-- in Y that word stands at i, and all else is as in X
+record WordPut (X Y : List ℕ) (i word : ℕ) : Type 0 where
+  here : word_at Y i ≡ word
+  apart : (j : ℕ) → (j + 4 ≤ i) ⊎ (i + 4 ≤ j) → word_at Y j ≡ word_at X j
+  changes : ChangesOnly i 4 X Y
+
+word_put : (X : List ℕ) (i word : ℕ) → i + 4 ≤ length X → word < 2 ^ 32 → WordPut X (written X i (to_le_bytes w32 word)) i word
+word_put X i word fits small = record {
+  here = ap (from_le_bytes w32) (range-written X i (to_le_bytes w32 word) fits) ∙ from_le_bytes-to_le_bytes_4 word small;
+  apart = λ j side. ap (from_le_bytes w32) (range-written_apart X i (to_le_bytes w32 word) fits j 4 side);
+  changes = changes_only X i (to_le_bytes w32 word) fits i 4 (omega arith) (omega arith);
+}
+
+-- the same of an arena's contents
+put_in : (old new : Contents) (i word : ℕ) → new ≡ contents (written old.bytes i (to_le_bytes w32 word)) old.carved → i + 4 ≤ length old.bytes → word < 2 ^ 32 → WordPut old.bytes new.bytes i word
+put_in old new i word e fits small = subst (λ (a : Contents). WordPut old.bytes a.bytes i word) (sym e) (word_put old.bytes i word fits small)
+
+-- the first two words, which are all that is written of a live chunk
+module _ (old one two : Contents) (b at len word : ℕ) (first : one ≡ contents (written old.bytes (b + at) (to_le_bytes w32 len)) old.carved) (second : two ≡ contents (written one.bytes (b + at + 4) (to_le_bytes w32 word)) one.carved)
+    (within : b + at + 12 ≤ length old.bytes) (len_small : len < 2 ^ 32) (word_small : word < 2 ^ 32) where
+  one_put : WordPut old.bytes one.bytes (b + at) len
+  one_put = put_in old one (b + at) len first (omega arith) len_small
+
+  two_put : WordPut one.bytes two.bytes (b + at + 4) word
+  two_put = put_in one two (b + at + 4) word second (omega (arith, one_put.changes.size)) word_small
+
+  pub live_written : (owner : Option ℕ) (size : ℕ) (link : Option ℕ) → owner_in word ≡ owner → size_in word ≡ size → is_a_name owner ≡ true → link ≡ None → chunk_at two.bytes b at ≡ chunk_of at len owner size link
+  live_written owner size link e f named none = grind (arith, two_put, one_put, chunk_is, link_named)
+
+  pub live_changes : ChangesOnly (b + at) 8 old.bytes two.bytes
+  live_changes = grind (arith, changes_then, changes_more, one_put, two_put)
+
+  -- and the link of a free one behind them
+  module _ (new : Contents) (next : ℕ) (third : new ≡ contents (written two.bytes (b + at + 8) (to_le_bytes w32 next)) two.carved) (next_small : next < 2 ^ 32) where
+    three_put : WordPut two.bytes new.bytes (b + at + 8) next
+    three_put = put_in two new (b + at + 8) next third (omega (arith, one_put.changes.size, two_put.changes.size)) next_small
+
+    pub free_written : (owner : Option ℕ) (size : ℕ) (link : Option ℕ) → owner_in word ≡ owner → size_in word ≡ size → is_a_name owner ≡ false → number_in next ≡ link → chunk_at new.bytes b at ≡ chunk_of at len owner size link
+    free_written owner size link e f free g = grind (arith, three_put, two_put, one_put, chunk_is, link_free)
+
+    pub free_changes : ChangesOnly (b + at) 12 old.bytes new.bytes
+    free_changes = grind (arith, changes_then, changes_more, live_changes, three_put)

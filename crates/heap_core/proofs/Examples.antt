@@ -39,8 +39,7 @@ behind_header heap block = record { at = heap.span.at + block.at + heap.header; 
 bytes_apart : (heap : Heap) (bytes : List ℕ) → BlocksLieApart heap bytes → (p h q k : ℕ) (one other : Block) → IsName p h → IsName q k → (p ≢ q) ⊎ (h ≢ k)
     → live_block p h (heap_of heap bytes) ≡ Some one → live_block q k (heap_of heap bytes) ≡ Some other → AreApart (behind_header heap one) (behind_header heap other)
 bytes_apart heap bytes lie p h q k one other name name' differ live live' =
-    let room = lie.room p h one live in
-    let room' = lie.room q k other live' in
+    let room = lie.room p h one live in let room' = lie.room q k other live' in
     elim (lie.apart p h q k one other name name' differ live live') [
       | inl before ↦ inl (omega (arith, before, room))
       | inr behind ↦ inr (omega (arith, behind, room'))

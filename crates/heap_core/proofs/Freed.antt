@@ -1,13 +1,10 @@
 -- Chunks that were freed and are not joined yet.
-use Rattle.heap_core.proofs.Words.{◌≡◌, ◌≢◌, ℕ, ◌+◌, ◌-◌, ◌≤◌, ◌<◌, inl, inr, Bool, not, List, [], ◌∷◌, ◌++◌, length, true, false, refl, sym, ap, ◌∙◌, subst, arith, Option, Some, None, IfSome, filter, map, cases_Bool, ltb-true, lt-ltb, le-ltb, false≢true, length-append, filter-append, All-nil, ChangesOnly, Span, Chunk, Region, Block, HeapStore, placed, heap_of, FREED, is_a_name, chunk_at, Tell, AreJoined, with_chunk, blocks_in, is_named, chunks_of, store_of, HasChunks, gaps_among, LinkedTo, NoneAt, AreFreed, unnamed, GapsLinked, FreedLinked, Stands, LiveIn, Aside, KeepsFreed, block_in_chunk}
-use Rattle.heap_core.proofs.Blocks.{elsewhere}
-use Rattle.heap_core.proofs.Gaps.{many}
+use Rattle.heap_core.proofs.Words.{◌≡◌, ◌≢◌, ℕ, ◌+◌, ◌-◌, ◌≤◌, ◌<◌, inl, inr, Bool, not, List, [], ◌∷◌, ◌++◌, length, true, false, refl, sym, ap, ◌∙◌, subst, arith, Option, Some, None, IfSome, filter, map, cases_Bool, ltb-true, lt-ltb, le-ltb, false≢true, length-append, filter-append, All-nil, ChangesOnly, Chunk, Region, Block, HeapStore, placed, heap_of, FREED, is_a_name, chunk_at, Tell, AreJoined, with_chunk, blocks_in, is_named, chunks_of, store_of, HasChunks, gaps_among, LinkedTo, NoneAt, AreFreed, unnamed, GapsLinked, FreedLinked, Stands, LiveIn, Aside, KeepsFreed, block_in_chunk, Contents, gaps, IsLaidOut, Joins, ◌*◌, ◌⊎◌, ltb, sum_by, All, ltb-false, All-cons, sum_by-cons, length-range, Gap, end_of, gap_between, gaps_from, LieInOrder, shortest, least_len, mul-le, footprint, stats_of}
+use Rattle.heap_core.proofs.ChunkHeaders.{in_told, elsewhere, In, in_of, in_right, in_without, stands_of, Spliced, spliced, joined_swap, joined_behind, Around, around, blocks_append, changes_more, place_told, told_le, First, first_of}
+use Rattle.heap_core.proofs.Gaps.{many, gaps_are, gaps_many, last_end}
 use Rattle.heap_core.proofs.Lists.{gaps_append, live_first, linked_parted, linked_live, link_live, linked_append}
-use Rattle.heap_core.proofs.Members.{In, in_of, in_right, in_without, stands_of, in_told}
 use Rattle.heap_core.proofs.Releases.{left_apart}
-use Rattle.heap_core.proofs.Splice.{Spliced, spliced, joined_swap, joined_behind}
-use Rattle.heap_core.proofs.Standing.{Around, around}
-use Rattle.heap_core.proofs.ChunkHeaders.{blocks_append, changes_more}
+use Rattle.mote_types.specs.declared.reply.HeapStats.{HeapStats}
 
 pub filter_swap : (p q : Block → Bool) (xs : List Block) → filter p (filter q xs) ≡ filter q (filter p xs)
 filter_swap p q [] = refl
@@ -112,8 +109,7 @@ module _ (heap : Region) (B : List ℕ) (has : HasChunks heap B) where
 
     pub unnamed_without : 272 ≤ name → length (unnamed (store_of heap B).blocks) ≡ 1 + length (unnamed (filter (elsewhere chunk.at) (store_of heap B).blocks))
     unnamed_without big =
-        let none : is_named block ≡ false = le-ltb name 272 big in
-        let some : not (is_named block) ≡ true = ap not none in
+        let none : is_named block ≡ false = le-ltb name 272 big in let some : not (is_named block) ≡ true = ap not none in
         ap (λ l. length (unnamed l)) all_blocks ∙ counted (λ k. not (is_named k)) block some ∙ sym (ap (λ l. 1 + length (unnamed l)) other_blocks)
 
     pub unnamed_kept : name < 272 → length (unnamed (filter (elsewhere chunk.at) (store_of heap B).blocks)) ≡ length (unnamed (store_of heap B).blocks)
@@ -162,14 +158,7 @@ module _ (heap : Region) (B : List ℕ) (has : HasChunks heap B) where
 
       none_there : (head : Option ℕ) (list : List Chunk) → AreFreed T head list → NoneAt chunk.at list
       none_there head [] h = tt
-      none_there head (d ∷ list) h = (
-        (λ e. (
-            let same = same_chunk d chunk h.1.stands stands e in
-            let two : Some FREED ≡ Some name = sym h.2 ∙ ap (λ (j : Chunk). j.owner) same ∙ owner in
-            let equal : FREED ≡ name = cc in
-            absurd (omega (arith, equal, small)))),
-        none_there d.link list h.4,
-      )
+      none_there head (d ∷ list) h = ((λ e. (let same = same_chunk d chunk h.1.stands stands e in grind arith)), none_there d.link list h.4)
 
       set_gaps : gaps_among (chunks_of new B') ≡ gaps_among T
       set_gaps = grind (arith, set, gaps_append, at, live_first)
@@ -180,9 +169,7 @@ module _ (heap : Region) (B : List ℕ) (has : HasChunks heap B) where
       pub set_aside : new.newest ≡ Some chunk.at → new.freed ≡ heap.freed + 1 → new.lowest ≡ heap.lowest → new.gaps ≡ heap.gaps → GapsLinked heap B → FreedLinked heap B → Aside heap new B B' chunk
       set_aside newest freed lowest gaps g f = record {
         chunks = set.has;
-        block = ap (λ (s : Span). let h : HeapStore = record { size = s.len; header = new.header; blocks = filter is_named (store_of new B').blocks } in h) span
-            ∙ ap (λ k. let h : HeapStore = record { size = heap.span.len; header = k; blocks = filter is_named (store_of new B').blocks } in h) header
-            ∙ ap (λ blocks. let h : HeapStore = record { size = heap.span.len; header = heap.header; blocks = blocks } in h) set_named;
+        block = grind (arith, k, set_named);
         gaps = record { linked = subst (λ head. LinkedTo head (chunks_of new B') None) (sym lowest) (set_linked g.linked); count = gaps ∙ g.count ∙ sym (ap length set_gaps) };
         freed = record {
           list = aside ∷ f.list;
@@ -227,3 +214,163 @@ plain heap B f none = ap (λ blocks. let h : HeapStore = record { size = heap.sp
 pub filter_map : (p : Block → Bool) (f : Block → Block) → ((block : Block) → p (f block) ≡ p block) → (xs : List Block) → filter p (map f xs) ≡ map f (filter p xs)
 filter_map p f keeps [] = refl
 filter_map p f keeps (x ∷ xs) = let later = filter_map p f keeps xs in grind arith
+
+-- A heap whose chunks are joined.
+pub linked_is : (heap : Region) (B : List ℕ) → HasChunks heap B → GapsLinked heap B → FreedLinked heap B → heap.freed ≡ 0 → heap.freed + heap.gaps ≡ length (gaps (heap_of heap B))
+linked_is heap B has list freed none = grind (arith, plain, gaps_are, gaps_many)
+
+-- all its chunks that are no gaps are the live blocks from before
+pub joined_is : (old new : Region) (before after : Contents) → Joins old new before after → new.freed ≡ 0 → store_of new after.bytes ≡ heap_of old before.bytes
+joined_is old new before after joins none = sym (plain new after.bytes joins.freed none) ∙ joins.blocks
+
+pub joined_laid : (old new : Region) (before after : Contents) → IsLaidOut old before.bytes → Joins old new before after → IsLaidOut new after.bytes
+joined_laid old new before after laid joins = grind arith
+
+-- The live blocks among the chunks.
+abbrev pub live_of : ℕ → List ℕ → ℕ → List Chunk → List Block
+live_of header B b l = filter is_named (blocks_in header B b l)
+
+abbrev rooms : List Block → ℕ
+rooms blocks = sum_by (λ (block : Block). block.room) blocks
+
+abbrev gap_sum : List Gap → ℕ
+gap_sum gaps = sum_by (λ (gap : Gap). gap.len) gaps
+
+-- a gap that takes the shortest chunk
+abbrev Long : ℕ → Gap → Type 0
+Long header gap = shortest header ≤ gap.len
+
+module _ (header : ℕ) (B : List ℕ) (b : ℕ) where
+  -- a chunk is a live block, or adds none
+  pub named_here : (c : Chunk) (l : List Chunk) (name : ℕ) → c.owner ≡ Some name → name < 272 → live_of header B b (c ∷ l) ≡ block_in_chunk header B b name c ∷ live_of header B b l
+  named_here c l name e small = grind arith
+
+  skipped : (c : Chunk) (o : Option ℕ) (xs : List Block) → is_a_name o ≡ false → filter is_named (with_chunk header B b c o xs) ≡ filter is_named xs
+  skipped c None xs e = refl
+  skipped c (Some name) xs e = rw e refl
+
+  pub named_skip : (c : Chunk) (l : List Chunk) → is_a_name c.owner ≡ false → live_of header B b (c ∷ l) ≡ live_of header B b l
+  named_skip c l e = skipped c c.owner (blocks_in header B b l) e
+
+  pub live_in_order : (size from x z : ℕ) (l : List Chunk) → b + size ≤ length B → z ≤ size → from ≤ x → Tell header B b x z l → LieInOrder header from (live_of header B b l) size
+  live_in_order size from x z [] fits most le t = omega (arith, t)
+  live_in_order size from x z (c ∷ l) fits most le t =
+      let enough : least_len header c ≤ c.len = t.1 in let at = place_told B b x c t.0 in let high = told_le header B b (x + c.len) z l t.2 in
+      elim (cases_Bool (is_a_name c.owner)) [
+        | inl live ↦
+            let o = owner_named c.owner live in
+            subst (λ (xs : List Block). LieInOrder header from xs size) (sym (named_here c l o.0 o.1 o.2))
+            (omega arith, omega (arith, length-range B (b + c.at + header) c.size (omega arith)), live_in_order size (c.at + (header + (c.len - header))) (x + c.len) z l fits most (omega arith) t.2)
+        | inr gone ↦ subst (λ (xs : List Block). LieInOrder header from xs size) (sym (named_skip c l gone)) (live_in_order size from (x + c.len) z l fits most (omega arith) t.2)
+      ]
+
+  -- what lies between two of them has whole chunks
+  pub live_gaps_long : (from x z : ℕ) (l : List Chunk) → Tell header B b x z l → AreJoined header l → (from ≡ x) ⊎ (from + shortest header ≤ x) → All (Long header) (gaps_from header from (live_of header B b l))
+  live_gaps_long from x z [] t joined side = All-nil (Long header)
+  live_gaps_long from x z (c ∷ l) t joined side =
+      let enough : least_len header c ≤ c.len = t.1 in let at = place_told B b x c t.0 in let whole = joined.1.0 in
+      elim (cases_Bool (is_a_name c.owner)) [
+        | inl live ↦
+            let o = owner_named c.owner live in
+            let later = live_gaps_long (c.at + (header + (c.len - header))) (x + c.len) z l t.2 joined.2 (inl (omega arith)) in
+            let rest = gaps_from header (c.at + (header + (c.len - header))) (live_of header B b l) in
+            subst (λ (xs : List Block). All (Long header) (gaps_from header from xs)) (sym (named_here c l o.0 o.1 o.2))
+            (elim (cases_Bool (ltb from c.at)) [
+              | inl less ↦
+                  let more = ltb-true from c.at less in
+                  let is : gap_between from c.at rest ≡ (let gap : Gap = record { at = from; len = c.at - from } in gap) ∷ rest = rw less refl in
+                  subst (All (Long header)) (sym is)
+                  (All-cons (Long header) (record { at = from; len = c.at - from }) rest (elim side [ inl e ↦ absurd (omega arith) | inr far ↦ omega arith ]) later)
+              | inr not_less ↦
+                  let is : gap_between from c.at rest ≡ rest = rw not_less refl in
+                  subst (All (Long header)) (sym is) later
+            ])
+        | inr gone ↦
+            subst (λ (xs : List Block). All (Long header) (gaps_from header from xs)) (sym (named_skip c l gone))
+            (live_gaps_long from (x + c.len) z l t.2 joined.2 (inr (elim side [ inl e ↦ omega arith | inr far ↦ omega arith ])))
+      ]
+
+-- the blocks with their headers, the gaps and the top gap take all bytes
+pub all_bytes : (header from size : ℕ) (xs : List Block) → LieInOrder header from xs size → (last_end header from xs ≤ size) × (from + (gap_sum (gaps_from header from xs) + (rooms xs + header * length xs)) ≡ last_end header from xs)
+all_bytes header from size [] h = (h, omega arith)
+all_bytes header from size (block ∷ xs) h =
+    let later = all_bytes header (end_of header block) size xs h.2 in
+    let sum = sum_by-cons (λ (block : Block). block.room) block xs in
+    let rest = gaps_from header (end_of header block) xs in
+    elim (cases_Bool (ltb from block.at)) [
+      | inl less ↦
+          let more = ltb-true from block.at less in let gap : Gap = record { at = from; len = block.at - from } in
+          let is : gap_between from block.at rest ≡ gap ∷ rest = rw less refl in
+          let sums : gap_sum (gap_between from block.at rest) ≡ block.at - from + gap_sum rest = ap gap_sum is ∙ sum_by-cons (λ (gap : Gap). gap.len) gap rest in
+          (later.0, omega (arith, later.1, h.0))
+      | inr not_less ↦
+          let more = ltb-false from block.at not_less in
+          let is : gap_between from block.at rest ≡ rest = rw not_less refl in
+          let sums : gap_sum (gap_between from block.at rest) ≡ gap_sum rest = ap gap_sum is in
+          (later.0, omega (arith, later.1, h.0))
+    ]
+
+-- What the statistics have counted while they walk over the chunks.
+abbrev room_sum : List Block → ℕ
+room_sum blocks = sum_by (λ (block : Block). block.room) blocks
+
+-- rooms of so many bytes and so many blocks were counted, and the last of these ended there: the others are among the chunks left
+pub record Counted (heap : Region) (B : List ℕ) (rooms many end : ℕ) (left : List Chunk) : Type 0 where
+  pub at : ℕ
+  pub told : Tell heap.header B heap.span.at at heap.footprint left
+  pub all_rooms : rooms + room_sum (live_of heap.header B heap.span.at left) ≡ room_sum (heap_of heap B).blocks
+  pub all_many : many + length (live_of heap.header B heap.span.at left) ≡ length (heap_of heap B).blocks
+  pub last : last_end heap.header end (live_of heap.header B heap.span.at left) ≡ footprint (heap_of heap B)
+
+abbrev stats : ℕ → ℕ → ℕ → ℕ → ℕ → HeapStats
+stats allocated overhead available footprint chunks =
+    record { allocated = allocated; overhead = overhead; available = available; footprint = footprint; chunks = chunks }
+
+same_stats : {a a' o o' v v' f f' n n' : ℕ} → a ≡ a' → o ≡ o' → v ≡ v' → f ≡ f' → n ≡ n' → stats a o v f n ≡ stats a' o' v' f' n'
+same_stats e f g h i = cc
+
+module _ (heap : Region) (B : List ℕ) (has : HasChunks heap B) where
+  abbrev b : ℕ
+  b = heap.span.at
+
+  abbrev blocks : List Block
+  blocks = (heap_of heap B).blocks
+
+  abbrev live : List Chunk → List Block
+  live l = live_of heap.header B b l
+
+  in_order : LieInOrder heap.header 0 blocks heap.span.len
+  in_order = live_in_order heap.header B b heap.span.len 0 0 heap.footprint (chunks_of heap B) has.within (omega (arith, heap.inside)) (omega arith) has.told
+
+  pub counted_first : (left : List Chunk) → left ≡ chunks_of heap B → Counted heap B 0 0 0 left
+  counted_first left e = grind arith
+
+  -- what is counted lies in the span
+  pub counted_fits : (rooms many end : ℕ) (left : List Chunk) → Counted heap B rooms many end left → rooms + heap.header * many ≤ heap.span.len
+  counted_fits rooms many end left w = grind (arith, all_bytes, in_order, mul-le)
+
+  pub few_counted : (rooms many end : ℕ) (left : List Chunk) → Counted heap B rooms many end left → 8 * many ≤ heap.span.len
+  few_counted rooms many end left w = omega (arith, counted_fits rooms many end left w, mul-le 8 many heap.header many heap.header_least (omega arith))
+
+  module _ (rooms many end : ℕ) (left later : List Chunk) (chunk : Chunk) (e : left ≡ chunk ∷ later) (w : Counted heap B rooms many end left) where
+    pub met : First heap.header B b heap.footprint chunk later
+    met = first_of heap.header B b w.at heap.footprint left chunk later e w.told
+
+    pub counted_live : is_a_name chunk.owner ≡ true → Counted heap B (rooms + (chunk.len - heap.header)) (many + 1) (chunk.at + chunk.len) later
+    counted_live named =
+        let o = owner_named chunk.owner named in
+        let is : live left ≡ block_in_chunk heap.header B b o.0 chunk ∷ live later = ap live e ∙ named_here heap.header B b chunk later o.0 o.1 o.2 in
+        let same : chunk.at + (heap.header + (chunk.len - heap.header)) ≡ chunk.at + chunk.len = omega (arith, met.enough) in
+        record {
+          at = met.at;
+          told = met.told;
+          all_rooms = omega (arith, w.all_rooms, ap room_sum is, sum_by-cons (λ (block : Block). block.room) (block_in_chunk heap.header B b o.0 chunk) (live later));
+          all_many = omega (arith, w.all_many, ap length is);
+          last = ap (λ k. last_end heap.header k (live later)) (sym same) ∙ sym (ap (last_end heap.header end) is) ∙ w.last;
+        }
+
+    pub counted_free : is_a_name chunk.owner ≡ false → Counted heap B rooms many end later
+    counted_free free = grind arith
+
+  pub counted_all : (rooms many end : ℕ) (left : List Chunk) → left ≡ [] → Counted heap B rooms many end left → stats rooms (heap.header * many) (heap.span.len - rooms - heap.header * many) end many ≡ stats_of (heap_of heap B)
+  counted_all rooms many end left none w = grind (arith, all_bytes, in_order, same_stats, last_end)

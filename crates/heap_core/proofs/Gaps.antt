@@ -1,6 +1,7 @@
 -- The gaps that the blocks leave are the gaps among the chunks; and what follows from it for the places of a heap.
-use Rattle.heap_core.proofs.Words.{◌≡◌, ℕ, ◌+◌, ◌-◌, ◌*◌, ◌≤◌, ◌<◌, ◌⊎◌, inl, inr, List, [], ◌∷◌, ◌++◌, length, false, true, ltb, refl, sym, ap, ◌∙◌, arith, Option, Some, None, is_none, fold, le-ltb, false≢true, Chunk, Gap, Block, end_of, gap_between, gaps_from, better, best_gap, least_len, Tell, BeginsLive, AreJoined, with_chunk, blocks_in, gaps_among}
-use Rattle.heap_core.proofs.ChunkHeaders.{place_told, owner_cases}
+use Rattle.heap_core.proofs.Words.{◌≡◌, ℕ, ◌+◌, ◌-◌, ◌*◌, ◌≤◌, ◌<◌, ◌⊎◌, inl, inr, List, [], ◌∷◌, ◌++◌, length, false, true, refl, sym, ap, ◌∙◌, arith, Option, Some, None, is_none, fold, false≢true, Chunk, Gap, Block, end_of, gaps_from, better, best_gap, least_len, Tell, BeginsLive, AreJoined, with_chunk, blocks_in, gaps_among, ◌%◌, subst, Region, IsHeaderLength, least_room, shortest, IsWholeRoom, ◌≢◌, Bool, eqb, leb, find, if◌then◌else◌, option_map_or, option_or, eq-eqb, gaps, gap_at, footprint, room_taken, room_in_place, chunks_of, HasChunks, store_of, front_gap, place_in_chunk, LeavesGap, option_map, cases_Bool, leb-true, Place, place, place_in, top_place, Stands, LiveIn, GapAt, chunk_at}
+use Rattle.heap_core.proofs.ChunkHeaders.{place_told, owner_cases, told_le, Around, whole_at, around}
+use Rattle.std.proofs.lemmas.List.Folds.{find-append}
 
 abbrev pub with_gap : Chunk → Option ℕ → List Gap → List Gap
 with_gap c None gaps = record { at = c.at; len = c.len } ∷ gaps
@@ -14,18 +15,9 @@ gaps_in (c ∷ l) = with_gap c c.owner (gaps_in l)
 abbrev pub last_end : ℕ → ℕ → List Block → ℕ
 last_end header from blocks = fold (λ _ block. end_of header block) from blocks
 
-gap_none : (x : ℕ) (gaps : List Gap) → gap_between x x gaps ≡ gaps
-gap_none x gaps = let none : ltb x x ≡ false = le-ltb x x (omega arith) in rw none refl
-
 module _ (header : ℕ) (B : List ℕ) (b : ℕ) where
   pub none_in_front : (c : Chunk) (xs : List Block) → c.owner ≡ None → with_chunk header B b c c.owner xs ≡ xs
   none_in_front c xs e = ap (λ o. with_chunk header B b c o xs) e
-
-  live_gaps : (c : Chunk) (name from x : ℕ) (xs : List Block) → c.owner ≡ Some name → c.at ≡ x → header ≤ c.len → gaps_from header from (with_chunk header B b c c.owner xs) ≡ gap_between from x (gaps_from header (x + c.len) xs)
-  live_gaps c name from x xs e at enough = grind arith
-
-  live_end : (c : Chunk) (name from x : ℕ) (xs : List Block) → c.owner ≡ Some name → c.at ≡ x → header ≤ c.len → last_end header from (with_chunk header B b c c.owner xs) ≡ last_end header (x + c.len) xs
-  live_end c name from x xs e at enough = grind arith
 
   abbrev gap_from : ℕ → ℕ → Gap
   gap_from from to = record { at = from; len = to - from }
@@ -35,9 +27,7 @@ module _ (header : ℕ) (B : List ℕ) (b : ℕ) where
       → (gaps_from header x (blocks_in header B b l) ≡ gaps_in l) × ((from : ℕ) → from < x → BeginsLive l → gaps_from header from (blocks_in header B b l) ≡ gap_from from x ∷ gaps_in l)
   gaps_both x z [] t j = (refl, λ from less live. absurd live)
   gaps_both x z (c ∷ l) t j =
-      let enough : least_len header c ≤ c.len = t.1 in
-      let at = place_told B b x c t.0 in
-      let xs = blocks_in header B b l in
+      let enough : least_len header c ≤ c.len = t.1 in let at = place_told B b x c t.0 in
       let later = gaps_both (x + c.len) z l t.2 j.2 in grind arith
 
   pub gaps_are : (x z : ℕ) (l : List Chunk) → Tell header B b x z l → AreJoined header l → gaps_from header x (blocks_in header B b l) ≡ gaps_in l
@@ -46,9 +36,7 @@ module _ (header : ℕ) (B : List ℕ) (b : ℕ) where
   end_both : (x z : ℕ) (l : List Chunk) → Tell header B b x z l → AreJoined header l → (last_end header x (blocks_in header B b l) ≡ z) × ((from : ℕ) → BeginsLive l → last_end header from (blocks_in header B b l) ≡ z)
   end_both x z [] t j = (t, λ from live. absurd live)
   end_both x z (c ∷ l) t j =
-      let enough : least_len header c ≤ c.len = t.1 in
-      let at = place_told B b x c t.0 in
-      let xs = blocks_in header B b l in
+      let enough : least_len header c ≤ c.len = t.1 in let at = place_told B b x c t.0 in
       let later = end_both (x + c.len) z l t.2 j.2 in grind arith
 
   pub end_is : (x z : ℕ) (l : List Chunk) → Tell header B b x z l → AreJoined header l → last_end header x (blocks_in header B b l) ≡ z
@@ -90,10 +78,7 @@ found_later need gap c l f = record {
 pub found : (need : ℕ) (best : Option Gap) (gap : Gap) (l : List Chunk) → fold (better need) best (gaps_in l) ≡ Some gap → (best ≡ Some gap) ⊎ Found need gap l
 found need best gap [] e = inl e
 found need best gap (c ∷ l) e = elim (owner_cases c.owner) [
-  | inr s ↦ elim (found need best gap l (sym (ap (λ o. fold (better need) best (with_gap c o (gaps_in l))) s.1) ∙ e)) [
-    | inl was ↦ inl was
-    | inr f ↦ inr (found_later need gap c l f)
-  ]
+  | inr s ↦ let later = found need best gap l (sym (ap (λ o. fold (better need) best (with_gap c o (gaps_in l))) s.1) ∙ e) in grind (arith, found_later)
   | inl n ↦
       let here : Gap = record { at = c.at; len = c.len } in
       elim (found need (better need best here) gap l (sym (ap (λ o. fold (better need) best (with_gap c o (gaps_in l))) n) ∙ e)) [
@@ -139,3 +124,188 @@ is_live_some (Some name) e = (name, refl)
 
 pub best_fits : (header : ℕ) (B : List ℕ) (b z need : ℕ) (gap : Gap) (l : List Chunk) → Tell header B b 0 z l → AreJoined header l → Some gap ≡ best_gap need (gaps_from header 0 (blocks_in header B b l)) → Found need gap l
 best_fits header B b z need gap l told joined e = grind (arith, found, gaps_are)
+
+-- What holds of both lengths of a header.
+
+-- a heap has one of the two
+pub header_length : (heap : Region) → IsHeaderLength heap.header
+header_length heap = grind arith
+
+-- a header and the shortest chunk
+pub record Known (header : ℕ) : Type 0 where
+  pub long : 8 ≤ header
+  pub whole : header % 4 ≡ 0
+  pub least : 16 ≤ shortest header
+  pub room : header + 4 ≤ shortest header
+  pub most : shortest header ≤ 20
+
+-- the room that a block of n bytes needs
+pub record Least (header n : ℕ) : Type 0 where
+  pub enough : n ≤ least_room header n
+  pub whole : IsWholeRoom header (least_room header n)
+
+known_of : (header : ℕ) → IsHeaderLength header → Known header
+unfolding shortest
+known_of header (inl e) = subst Known (sym e) (record { long = omega arith; whole = omega arith; least = omega arith; room = omega arith; most = omega arith })
+known_of header (inr e) = subst Known (sym e) (record { long = omega arith; whole = omega arith; least = omega arith; room = omega arith; most = omega arith })
+
+least_of : (header n : ℕ) → IsHeaderLength header → 1 ≤ n → Least header n
+unfolding shortest
+least_of header n (inl e) some = subst (λ k. Least k n) (sym e) (record { enough = omega arith; whole = (omega arith, omega arith) })
+least_of header n (inr e) some = subst (λ k. Least k n) (sym e) (record { enough = omega arith; whole = (omega arith, omega arith) })
+
+module _ (heap : Region) where
+  pub lengths : Known heap.header
+  lengths = known_of heap.header (header_length heap)
+
+  pub needed : (n : ℕ) → 1 ≤ n → Least heap.header n
+  needed n some = least_of heap.header n (header_length heap) some
+
+-- The gap that begins where a block ends.
+abbrev begins : ℕ → Gap → Bool
+begins at gap = eqb gap.at at
+
+abbrev len_or_none : Option Gap → ℕ
+len_or_none o = option_map_or (λ (gap : Gap). gap.len) o 0
+
+with_gap_append : (c : Chunk) (o : Option ℕ) (xs ys : List Gap) → with_gap c o (xs ++ ys) ≡ with_gap c o xs ++ ys
+with_gap_append c None xs ys = refl
+with_gap_append c (Some name) xs ys = refl
+
+gaps_append : (l r : List Chunk) → gaps_in (l ++ r) ≡ gaps_in l ++ gaps_in r
+gaps_append [] r = refl
+gaps_append (c ∷ l) r = ap (with_gap c c.owner) (gaps_append l r) ∙ with_gap_append c c.owner (gaps_in l) (gaps_in r)
+
+no_gap : (header : ℕ) (B : List ℕ) (b p x y : ℕ) (l : List Chunk) → Tell header B b x y l → (p < x) ⊎ (y ≤ p) → find (begins p) (gaps_in l) ≡ None
+no_gap header B b p x y [] t side = refl
+no_gap header B b p x y (c ∷ l) t side =
+    let enough : least_len header c ≤ c.len = t.1 in let at = place_told B b x c t.0 in let le = told_le header B b (x + c.len) y l t.2 in
+    let later : find (begins p) (gaps_in l) ≡ None = no_gap header B b p (x + c.len) y l t.2 (elim side [ inl low ↦ inl (omega arith) | inr high ↦ inr (omega arith) ]) in grind arith
+
+front_found : (header : ℕ) (B : List ℕ) (b at z : ℕ) (l : List Chunk) → Tell header B b at z l → len_or_none (find (begins at) (gaps_in l)) ≡ front_gap l
+front_found header B b at z [] t = refl
+front_found header B b at z (d ∷ l) t = let enough : least_len header d ≤ d.len = t.1 in let here = place_told B b at d t.0 in grind (arith, place_told, owner_cases, eq-eqb, with_gap, gaps_in, no_gap)
+
+pub gap_at_end : (heap : Region) (B : List ℕ) (chunk : Chunk) (a : Around heap.header B heap.span.at heap.footprint chunk (chunks_of heap B)) → HasChunks heap B → chunk.owner ≢ None
+    → gap_at (chunk.at + chunk.len) (store_of heap B) ≡ front_gap a.behind
+gap_at_end heap B chunk a has live =
+    let b = heap.span.at in let end = chunk.at + chunk.len in
+    elim (owner_cases chunk.owner) [
+      | inl e ↦ absurd (live e)
+      | inr s ↦
+          let all : gaps (store_of heap B) ≡ gaps_in a.before ++ gaps_in a.behind =
+          gaps_are heap.header B b 0 heap.footprint (chunks_of heap B) has.told has.joined
+          ∙ ap gaps_in a.is
+          ∙ gaps_append a.before (chunk ∷ a.behind)
+          ∙ ap (λ o. gaps_in a.before ++ with_gap chunk o (gaps_in a.behind)) s.1 in
+          ap (λ l. len_or_none (find (begins end) l)) all
+          ∙ ap len_or_none (find-append (begins end) (gaps_in a.before) (gaps_in a.behind))
+          ∙ ap (λ o. len_or_none (option_or o (find (begins end) (gaps_in a.behind)))) (no_gap heap.header B b end 0 chunk.at a.before a.front (inr (omega arith)))
+          ∙ front_found heap.header B b end heap.footprint a.behind a.back
+    ]
+
+-- which room there is where a block is
+abbrev pub choice : ℕ → ℕ → ℕ → ℕ → ℕ → ℕ → Option ℕ
+choice least room end top_at top gap =
+    if leb least room then Some (room_taken least room)
+    else if eqb end top_at then (if leb least (room + top) then Some least else None)
+    else if leb least (room + gap) then Some (room_taken least (room + gap))
+    else None
+
+module _ (heap : Region) (B : List ℕ) (chunk : Chunk) (n : ℕ) (a : Around heap.header B heap.span.at heap.footprint chunk (chunks_of heap B)) (has : HasChunks heap B) (live : chunk.owner ≢ None) where
+  abbrev room : ℕ
+  room = chunk.len - heap.header
+
+  abbrev least : ℕ
+  least = least_room heap.header n
+
+  abbrev end : ℕ
+  end = chunk.at + chunk.len
+
+  pub room_is : room_in_place (place_in_chunk heap.header chunk) n (store_of heap B) ≡ choice least room end heap.footprint (heap.span.len - heap.footprint) (front_gap a.behind)
+  room_is = grind (arith, end_is, gap_at_end)
+
+module _ (least room end top_at top gap : ℕ) where
+  pub choice_top : room < least → end ≡ top_at → least ≤ room + top → choice least room end top_at top gap ≡ Some least
+  choice_top short last fits = grind arith
+
+  pub choice_no_top : room < least → end ≡ top_at → room + top < least → choice least room end top_at top gap ≡ None
+  choice_no_top short last less = grind arith
+
+  pub choice_gap : room < least → end ≢ top_at → least ≤ room + gap → choice least room end top_at top gap ≡ Some (room_taken least (room + gap))
+  choice_gap short more fits = grind arith
+
+  pub choice_no_gap : room < least → end ≢ top_at → room + gap < least → choice least room end top_at top gap ≡ None
+  choice_no_gap short more less = grind arith
+
+-- what is known of the room that was chosen
+pub record Taken (header least room end top_at top gap chosen : ℕ) : Type 0 where
+  pub enough : least ≤ chosen
+  pub on_top : end ≡ top_at → chosen ≤ room + top
+  pub below : end ≢ top_at → (chosen ≡ room + gap) ⊎ LeavesGap header chosen (room + gap)
+  pub whole : IsWholeRoom header chosen
+
+taken_is : (least available : ℕ) → least ≤ available → (room_taken least available ≡ available) ⊎ ((room_taken least available ≡ least) × (least + 16 < available))
+taken_is least available fits = grind arith
+
+abbrev pub IsWholeGap : ℕ → ℕ → Type 0
+IsWholeGap header gap = (gap ≡ 0) ⊎ ((shortest header ≤ gap) × (gap % 4 ≡ 0))
+
+pub front_gap_whole : (header : ℕ) (l : List Chunk) → AreJoined header l → IsWholeGap header (front_gap l)
+front_gap_whole header [] joined = inl refl
+front_gap_whole header (d ∷ l) joined = grind arith
+
+module _ (header least room end top_at top gap chosen : ℕ) (most : shortest header ≤ 20) (whole_least : IsWholeRoom header least) (whole_room : room % 4 ≡ 0) (long : IsWholeGap header gap) where
+  pub taken : choice least room end top_at top gap ≡ Some chosen → Taken header least room end top_at top gap chosen
+  taken e = grind arith
+
+-- Where a block is placed: on top, or in a gap among the chunks.
+pub record OnTop (heap : Region) (target : Place) (n : ℕ) : Type 0 where
+  pub at : target.at ≡ heap.footprint
+  pub fits : target.at + (heap.header + target.room) ≤ heap.span.len
+  pub room : n ≤ target.room
+  pub whole : IsWholeRoom heap.header target.room
+
+pub record InGap (heap : Region) (B : List ℕ) (target : Place) (n : ℕ) : Type 0 where
+  pub gap : GapAt heap.header target.at (heap.header + target.room) (chunks_of heap B)
+  pub below : target.at < heap.footprint
+  pub room : n ≤ target.room
+  pub whole : IsWholeRoom heap.header target.room
+
+module _ (heap : Region) (B : List ℕ) (has : HasChunks heap B) (n : ℕ) (target : Place) (some : 1 ≤ n) where
+  abbrev need : ℕ
+  need = least_room heap.header n
+
+  abbrev Outcome : Type 0
+  Outcome = OnTop heap target n ⊎ InGap heap B target n
+
+  on_top : top_place (need) (store_of heap B) ≡ Some target → Outcome
+  on_top e = grind (arith, end_is, needed, cases_Bool, leb-true)
+
+  in_gap : (gap : Gap) → best_gap (heap.header + need) (gaps (store_of heap B)) ≡ Some gap → place_in heap.header need gap ≡ target → Outcome
+  in_gap gap found same =
+      let f = best_fits heap.header B heap.span.at heap.footprint (heap.header + need) gap (chunks_of heap B) has.told has.joined (sym found) in
+      let stands : Stands f.chunk (chunks_of heap B) = record { before = f.before; behind = f.behind; is = f.is } in
+      let a = around heap B f.chunk has stands in
+      let at = ap (λ (p : Place). p.at) same in let room = ap (λ (p : Place). p.room) same in
+      let most = gap.len - heap.header in let r = needed heap n some in let k = lengths heap in
+      let whole = whole_at heap.header f.before f.behind f.chunk (subst (AreJoined heap.header) f.is has.joined) in grind arith
+
+  chosen : (best : Option Gap) → best_gap (heap.header + need) (gaps (store_of heap B)) ≡ best → option_or (option_map (place_in heap.header need) best) (top_place (need) (store_of heap B)) ≡ Some target → Outcome
+  chosen None none e = on_top e
+  chosen (Some gap) found e = in_gap gap found (let two : Some (place_in heap.header need gap) ≡ Some target = e in cc)
+
+  pub place_cases : place n (store_of heap B) ≡ Some target → Outcome
+  place_cases e = chosen (best_gap (heap.header + need) (gaps (store_of heap B))) refl e
+
+-- it is not where a live block is
+pub elsewhere_placed : (heap : Region) (B : List ℕ) (has : HasChunks heap B) (n : ℕ) (target : Place) (some : 1 ≤ n) (chunk : Chunk) → LiveIn chunk (chunks_of heap B) → place n (store_of heap B) ≡ Some target → target.at ≢ chunk.at
+elsewhere_placed heap B has n target some chunk live e same =
+    let a = around heap B chunk has live.stands in
+    elim (place_cases heap B has n target some e) [
+      | inl top ↦ absurd (omega (arith, top.at, a.fits, a.enough))
+      | inr low ↦
+          let g = around heap B low.gap.gap has low.gap.stands in
+          let one : low.gap.gap ≡ chunk = sym g.here ∙ ap (chunk_at B heap.span.at) (low.gap.at ∙ same) ∙ a.here in
+          live.live (sym (ap (λ (k : Chunk). k.owner) one) ∙ low.gap.free)
+    ]

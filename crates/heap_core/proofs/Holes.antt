@@ -1,16 +1,9 @@
 -- A live chunk that is laid into a hole, and the holes that there are.
 use Rattle.heap_core.proofs.Words.{◌≡◌, ◌≢◌, ℕ, ◌+◌, ◌-◌, ◌≤◌, ◌<◌, ◌⊎◌, inl, inr, List, [], ◌∷◌, ◌++◌, length, refl, sym, ap, ◌∙◌, subst, arith, Option, IfSome, filter, cases_eq, append-nil, ChangesOnly, Chunk, Place, Region, Block, HeapStore, placed, block_at, with_block, least_room, room_in_place, shortest, least_len, Tell, BeginsLive, IsWhole, AreJoined, with_chunk, blocks_in, Hole, Fits, Leaves, Laid, Free, chunks_of, HasChunks, store_of, LinkedTo, gaps_among, LiveIn, GapsLinked, gap_count, gap_below, gap_from, Relinked, chunks_behind, GapAt, Owned, laid, front_gap, place_in_chunk, at_place, bytes_in_chunk, LeavesGap, IsWholeRoom, Some, None}
-use Rattle.heap_core.proofs.Beside.{room_is, Taken, taken, front_gap_whole}
-use Rattle.heap_core.proofs.Blocks.{blocks_between, placed_behind, placed_front, elsewhere}
-use Rattle.heap_core.proofs.Gaps.{none_in_front}
-use Rattle.heap_core.proofs.Lengths.{lengths, needed}
+use Rattle.heap_core.proofs.Gaps.{room_is, Taken, taken, front_gap_whole, none_in_front, lengths, needed}
+use Rattle.heap_core.proofs.ChunkHeaders.{blocks_between, placed_behind, placed_front, elsewhere, In, in_of, stands_of, in_told, in_without, live_exchanged, apart_from_gap, Spliced, spliced, joined_swap, joined_behind, whole_at, Around, around, behind_is, ended, told_frame, blocks_frame, blocks_append}
 use Rattle.heap_core.proofs.Lists.{gaps_counted, count_some, count_none, gap_first, live_first, ends_of, IsGapOf, last_stands, list_kept}
-use Rattle.heap_core.proofs.Members.{In, in_of, stands_of, in_told, in_without, live_exchanged, apart_from_gap}
 use Rattle.heap_core.proofs.Releases.{r, end_below, left_apart}
-use Rattle.heap_core.proofs.Splice.{Spliced, spliced, joined_swap, joined_behind, whole_at}
-use Rattle.heap_core.proofs.Standing.{Around, around, behind_is}
-use Rattle.heap_core.proofs.Steps.{ended}
-use Rattle.heap_core.proofs.ChunkHeaders.{told_frame, blocks_frame, blocks_append}
 
 -- the chunks that are laid: the live one, and what it leaves
 module _ (header : ℕ) (B B' : List ℕ) (b : ℕ) (live : Chunk) (name : ℕ) (owner : live.owner ≡ Some name) where

@@ -1,8 +1,7 @@
 -- The list of the gaps: walks along it, and what stays of it where chunks are exchanged.
-use Rattle.heap_core.proofs.Words.{rules, ◌≡◌, ◌≢◌, ℕ, zero, suc, ◌+◌, ◌*◌, ◌≤◌, ◌<◌, ◌⊎◌, inl, inr, List, [], ◌∷◌, ◌++◌, length, true, false, eqb, ltb, leb, refl, sym, ap, ◌∙◌, subst, arith, Option, Some, None, IfSome, fold, lt-ltb, le-ltb, le-leb, lt-leb, ne_eqb, cases_Bool, append_assoc, length-append, fold-append, Chunk, Region, least_len, chunk_at, Tell, chunks_of, HasChunks, with_free, gaps_among, Meets, behind_link, LinkedTo, Stands, gap_count, chunks_along, Follow, lower, higher, gap_below, gap_from, last_of, gaps_from_place, Relinked, Exchanged, KeepsFreed, free_behind, free_from}
-use Rattle.heap_core.proofs.Standing.{Around}
-use Rattle.heap_core.proofs.Steps.{ended}
-use Rattle.heap_core.proofs.ChunkHeaders.{Split, place_told, told_le, told_split, owner_cases}
+use Rattle.heap_core.proofs.Words.{rules, ◌≡◌, ◌≢◌, ℕ, zero, suc, ◌+◌, ◌*◌, ◌≤◌, ◌<◌, ◌⊎◌, inl, inr, List, [], ◌∷◌, ◌++◌, length, true, false, eqb, ltb, leb, refl, sym, ap, ◌∙◌, subst, arith, Option, Some, None, IfSome, fold, lt-ltb, le-ltb, le-leb, lt-leb, ne_eqb, append_assoc, length-append, fold-append, Chunk, Region, least_len, chunk_at, Tell, chunks_of, HasChunks, with_free, gaps_among, Meets, behind_link, LinkedTo, Stands, gap_count, chunks_along, Follow, lower, higher, gap_below, gap_from, last_of, gaps_from_place, Relinked, Exchanged, KeepsFreed, free_behind, free_from, append-nil, front_gap, cases_eq, ◌-◌, ChangesOnly, AreJoined, store_of, LinkChanged}
+use Rattle.heap_core.proofs.ChunkHeaders.{Around, ended, Split, place_told, told_le, told_split, owner_cases, around, live_exchanged, Spliced, spliced, joined_swap, joined_behind, split_at, before_is, behind_is, blocks_append, changes_more}
+use Rattle.heap_core.proofs.Gaps.{none_in_front}
 
 with_free_append : (c : Chunk) (o : Option ℕ) (xs ys : List Chunk) → with_free c o (xs ++ ys) ≡ with_free c o xs ++ ys
 with_free_append c None xs ys = refl
@@ -73,9 +72,7 @@ followed header B b x end head (c ∷ l) t h =
     elim (owner_cases c.owner) [
       | inl e ↦
           let k = linked_gap head None c l e h in
-          let later = followed header B b (x + c.len) end c.link l t.2 k.1 in
-          subst (λ gaps. Follow B b end head gaps × (x + 12 * length gaps ≤ end)) (sym (gap_first c l e))
-          ((k.0, ap (chunk_at B b) at ∙ t.0, e, omega arith, later.0), omega (arith, later.1))
+          let first = followed header B b (x + c.len) end c.link l t.2 k.1 in grind arith
       | inr s ↦
           let later = followed header B b (x + c.len) end head l t.2 (linked_live head None s.0 c l s.1 h) in
           subst (λ gaps. Follow B b end head gaps × (x + 12 * length gaps ≤ end)) (sym (live_first c s.0 l s.1)) (later.0, omega (arith, later.1))
@@ -117,10 +114,8 @@ first_taken B b end p y head (gap ∷ gaps) h follow = let near : leb p gap.at �
 each_small : (p x most : ℕ) (found : Option ℕ) (gaps : List Chunk) → Within x most gaps → IfSome found (λ place. place < most) → IfSome (fold (higher p) found gaps) (λ place. place < most)
 each_small p x most found [] h small = small
 each_small p x most (Some at) (gap ∷ gaps) h small = each_small p x most (Some at) gaps h.2 small
-each_small p x most None (gap ∷ gaps) h small = elim (cases_Bool (leb p gap.at)) [
-  | inl near ↦ rw near (each_small p x most (Some gap.at) gaps h.2 h.1)
-  | inr far ↦ rw far (each_small p x most None gaps h.2 tt)
-]
+each_small p x most None (gap ∷ gaps) h small =
+    let later = each_small p x most (Some gap.at) gaps h.2 h.1 in let other = each_small p x most None gaps h.2 tt in grind arith
 
 -- the gap below a place, and the one from a place on
 module _ (header : ℕ) (B : List ℕ) (b : ℕ) where
@@ -128,8 +123,7 @@ module _ (header : ℕ) (B : List ℕ) (b : ℕ) where
   within p q x y [] t low high = tt
   within p q x y (c ∷ l) t low high =
       let enough : least_len header c ≤ c.len = t.1 in let at = place_told B b x c t.0 in let le = told_le header B b (x + c.len) y l t.2 in
-      let later = within p q (x + c.len) y l t.2 (omega arith) high in
-      elim (owner_cases c.owner) [ inl e ↦ subst (Within p q) (sym (gap_first c l e)) (omega arith, omega arith, later) | inr s ↦ subst (Within p q) (sym (live_first c s.0 l s.1)) later ]
+      let later = within p q (x + c.len) y l t.2 (omega arith) high in grind arith
 
   all_lower : (p x y : ℕ) (found : Option Chunk) (l : List Chunk) → Tell header B b x y l → y ≤ p → fold (lower p) found (gaps_among l) ≡ fold (λ _ gap. Some gap) found (gaps_among l)
   all_lower p x y found l t le = each_lower p x found (gaps_among l) (within x p x y l t (omega arith) le)
@@ -149,8 +143,7 @@ module _ (header : ℕ) (B : List ℕ) (b : ℕ) where
   pub list_ends : (head : Option ℕ) (p q end : ℕ) (before gone behind : List Chunk) → LinkedTo head (before ++ (gone ++ behind)) None → Tell header B b 0 end (before ++ (gone ++ behind))
       → Tell header B b 0 p before → Tell header B b q end behind → Ends head p q (before ++ (gone ++ behind)) before behind
   list_ends head p q end before gone behind h told front back =
-      let all = before ++ (gone ++ behind) in
-      let s = told_split header B b 0 end before (gone ++ behind) told in
+      let all = before ++ (gone ++ behind) in let s = told_split header B b 0 end before (gone ++ behind) told in
       let s' = told_split header B b s.mid end gone behind s.back in
       let first = linked_parted head None before (gone ++ behind) h in
       let second = linked_parted first.mid None gone behind first.back in
@@ -158,27 +151,7 @@ module _ (header : ℕ) (B : List ℕ) (b : ℕ) where
       let there : s'.mid ≡ q = told_start s'.mid q end behind s'.back back in
       let low = told_le header B b s.mid s'.mid gone s'.front in
       let none = none_higher q s.mid s'.mid gone s'.front (omega arith) in
-      record {
-        end = first.mid;
-        front = first.front;
-        next = ap (fold (higher p) None) (gaps_append before (gone ++ behind))
-            ∙ fold-append (higher p) None (gaps_among before) (gaps_among (gone ++ behind))
-            ∙ ap (λ o. fold (higher p) o (gaps_among (gone ++ behind))) (none_higher p 0 p before front (omega arith))
-            ∙ first_higher p s.mid end first.mid (gone ++ behind) s.back (omega arith) first.back;
-        last = ap (fold (lower p) None) (gaps_append before (gone ++ behind))
-            ∙ fold-append (lower p) None (gaps_among before) (gaps_among (gone ++ behind))
-            ∙ none_lower p s.mid end (fold (lower p) None (gaps_among before)) (gone ++ behind) s.back (omega arith)
-            ∙ all_lower p 0 p None before front (omega arith);
-        back = subst (λ m. LinkedTo m behind None)
-            (sym (ap (fold (higher q) None) (gaps_append before (gone ++ behind))
-            ∙ fold-append (higher q) None (gaps_among before) (gaps_among (gone ++ behind))
-            ∙ ap (λ o. fold (higher q) o (gaps_among (gone ++ behind))) (none_higher q 0 p before front (omega arith))
-            ∙ ap (fold (higher q) None) (gaps_append gone behind)
-            ∙ fold-append (higher q) None (gaps_among gone) (gaps_among behind)
-            ∙ ap (λ o. fold (higher q) o (gaps_among behind)) none
-            ∙ first_higher q q end second.mid behind back (omega arith) second.back))
-            second.back;
-      }
+      grind (arith, gaps_append, fold-append, none_higher, first_higher, none_lower, all_lower, none)
     where
       told_end : (x y z : ℕ) (l : List Chunk) → Tell header B b x y l → Tell header B b x z l → y ≡ z
       told_end x y z [] t u = sym t ∙ u
@@ -298,9 +271,8 @@ free_live header B b x at i (c ∷ l) t none empty = elim (owner_cases c.owner) 
   | inl e ↦ absurd (let two : c ∷ gaps_among l ≡ [] = sym (gap_first c l e) ∙ none in cc)
   | inr s ↦
       let place = place_told B b x c t.0 in
-      let here : free_behind c c.owner ≡ x + c.len = ap (free_behind c) s.1 ∙ ap (λ k. k + c.len) place in
-      ap (λ i. walk_free i l) here
-      ∙ free_live header B b (x + c.len) at (x + c.len) l t.2 (sym (live_first c s.0 l s.1) ∙ none) (λ e. subst (Tell header B b (x + c.len) at) e t.2)
+      let later = free_live header B b (x + c.len) at (x + c.len) l t.2 (sym (live_first c s.0 l s.1) ∙ none) (λ e. subst (Tell header B b (x + c.len) at) e t.2) in
+      grind arith
 ]
 
 module _ (header : ℕ) (B : List ℕ) (b at : ℕ) (before : List Chunk) (told : Tell header B b 0 at before) where
@@ -368,3 +340,158 @@ module _ (heap new : Region) (B B' : List ℕ) (p q : ℕ) (has : HasChunks heap
 
   pub list_exchanged : (after : Region) (B3 : List ℕ) → new.lowest ≡ heap.lowest → Relinked new after B' B3 last first → LinkedTo after.lowest (chunks_of after B3) None
   list_exchanged after B3 same relinked = search (rules, list_kept, ends)
+
+-- The gap that comes next behind free bytes.
+
+-- a list that leads to these gaps begins at one place alone
+linked_same : (one other end : Option ℕ) (l : List Chunk) → LinkedTo one l end → LinkedTo other l end → one ≡ other
+linked_same one other end [] h k = h ∙ sym k
+linked_same one other end (c ∷ l) h k = let later = linked_same one other end l in grind arith
+
+-- it begins with a gap
+record BeginsFree (l : List Chunk) : Type 0 where
+  pub gap : Chunk
+  pub later : List Chunk
+  pub is : l ≡ gap ∷ later
+  pub free : gap.owner ≡ None
+  pub len : front_gap l ≡ gap.len
+
+begins_free : (l : List Chunk) → front_gap l ≢ 0 → BeginsFree l
+begins_free [] some = absurd (some refl)
+begins_free (c ∷ l) some = grind arith
+
+module _ (heap : Region) (B : List ℕ) (has : HasChunks heap B) (linked : LinkedTo heap.lowest (chunks_of heap B) None) where
+  abbrev from_place : ℕ → Option ℕ
+  from_place at = gap_from at (gaps_among (chunks_of heap B))
+
+  -- behind a gap comes the one that it is linked to
+  pub behind_gap : (gap : Chunk) → Around heap.header B heap.span.at heap.footprint gap (chunks_of heap B) → gap.owner ≡ None → gap.link ≡ from_place (gap.at + gap.len)
+  behind_gap gap a free =
+      let e = ends_of heap B gap.at (gap.at + gap.len) a.before (gap ∷ []) a.behind has linked a.is a.front a.back in
+      let p = linked_parted heap.lowest None a.before (gap ∷ a.behind) (subst (λ l. LinkedTo heap.lowest l None) a.is linked) in
+      linked_same gap.link (from_place (gap.at + gap.len)) None a.behind (linked_gap p.mid None gap a.behind free p.back).1 e.back
+
+  -- none lies above the footprint
+  pub above_all : from_place heap.footprint ≡ None
+  above_all = (ends_of heap B heap.footprint heap.footprint (chunks_of heap B) [] [] has linked (sym (append-nil (chunks_of heap B))) has.told refl).back
+
+  module _ (chunk : Chunk) (a : Around heap.header B heap.span.at heap.footprint chunk (chunks_of heap B)) (live : chunk.owner ≢ None) where
+    -- a live chunk is none of them
+    pub over_live : from_place chunk.at ≡ from_place (chunk.at + chunk.len)
+    over_live = elim (owner_cases chunk.owner) [
+      | inl e ↦ absurd (live e)
+      | inr s ↦
+          let e = ends_of heap B chunk.at chunk.at a.before [] (chunk ∷ a.behind) has linked a.is a.front (a.here, a.enough, a.back) in
+          let f = ends_of heap B chunk.at (chunk.at + chunk.len) a.before (chunk ∷ []) a.behind has linked a.is a.front a.back in
+          linked_same (from_place chunk.at) (from_place (chunk.at + chunk.len)) None a.behind (linked_live (from_place chunk.at) None s.0 chunk a.behind s.1 e.back) f.back
+    ]
+
+    module _ (some : front_gap a.behind ≢ 0) where
+      first : BeginsFree a.behind
+      first = begins_free a.behind some
+
+      gap_told : Tell heap.header B heap.span.at (chunk.at + chunk.len) heap.footprint (first.gap ∷ first.later)
+      gap_told = subst (Tell heap.header B heap.span.at (chunk.at + chunk.len) heap.footprint) first.is a.back
+
+      gap_place : first.gap.at ≡ chunk.at + chunk.len
+      gap_place = place_told B heap.span.at (chunk.at + chunk.len) first.gap gap_told.0
+
+      gap_around : Around heap.header B heap.span.at heap.footprint first.gap (chunks_of heap B)
+      gap_around = around heap B first.gap has (record {
+        before = a.before ++ (chunk ∷ []);
+        behind = first.later;
+        is = a.is ∙ ap (λ l. a.before ++ (chunk ∷ l)) first.is ∙ sym (append_assoc a.before (chunk ∷ []) (first.gap ∷ first.later));
+      })
+
+      pub over_gap : (chunk_at B heap.span.at (chunk.at + chunk.len)).link ≡ from_place (chunk.at + chunk.len + front_gap a.behind)
+      over_gap = grind (arith, gap_told, behind_gap, first, gap_around, gap_place)
+
+      pub gap_fits : chunk.at + chunk.len + 12 ≤ heap.footprint
+      gap_fits = omega (arith, gap_place, gap_around.fits, gap_around.enough)
+
+-- A gap that grows, as what lies behind it is freed: the list of the gaps leads to it already.
+module _ (heap : Region) (B : List ℕ) (has : HasChunks heap B) (linked : LinkedTo heap.lowest (chunks_of heap B) None) where
+  abbrev from_here : ℕ → Option ℕ
+  from_here at = gap_from at (gaps_among (chunks_of heap B))
+
+  leads_to_gap : (gap : Chunk) → Around heap.header B heap.span.at heap.footprint gap (chunks_of heap B) → gap.owner ≡ None → from_here gap.at ≡ Some gap.at
+  leads_to_gap gap a free =
+      let e = ends_of heap B gap.at gap.at a.before [] (gap ∷ a.behind) has linked a.is a.front (a.here, a.enough, a.back) in
+      (linked_gap (from_here gap.at) None gap a.behind free e.back).0
+
+  module _ (chunk : Chunk) (a : Around heap.header B heap.span.at heap.footprint chunk (chunks_of heap B)) (more : free_from a.before ≢ chunk.at) where
+    leads : (last : Option Chunk) → last_of (gaps_among a.before) ≡ last → from_here (free_from a.before) ≡ Some (free_from a.before)
+    leads None e = absurd (more (free_no_gap heap.header B heap.span.at chunk.at a.before a.front e))
+    leads (Some gap) e = elim (cases_eq (gap.at + gap.len) chunk.at) [
+      | inl ends ↦
+          let s = last_stands (Some gap) a.before (chunk ∷ a.behind) (chunks_of heap B) (sym e) a.is in
+          let there : free_from a.before ≡ gap.at = free_gap_there heap.header B heap.span.at chunk.at a.before a.front gap e ends in
+          subst (λ k. from_here k ≡ Some k) (sym there) (leads_to_gap gap (around heap B gap has s.0) s.1)
+      | inr short ↦ absurd (more (free_gap_below heap.header B heap.span.at chunk.at a.before a.front gap e short))
+    ]
+
+    pub leads_there : from_here (free_from a.before) ≡ Some (free_from a.before)
+    leads_there = leads (last_of (gaps_among a.before)) refl
+
+  pub list_grown : (new : Region) (B' : List ℕ) (p q : ℕ) (first link : Option ℕ) → Exchanged heap new B B' p q first link → from_here p ≡ first → link ≡ from_here q → new.lowest ≡ heap.lowest → LinkedTo new.lowest (chunks_of new B') None
+  list_grown new B' p q first link x there at_link same =
+      let e = ends_of heap B p q x.before x.gone x.behind has linked x.was x.front x.back in
+      let front : LinkedTo new.lowest x.before first = subst (λ k. LinkedTo k x.before first) (sym same) (subst (LinkedTo heap.lowest x.before) (sym e.next ∙ there) e.front) in grind (arith, ends_of, linked_append)
+
+-- A gap that is linked to another place.
+module _ (heap : Region) (B B' : List ℕ) (gap : Chunk) (first : Option ℕ) (has : HasChunks heap B) (stands : Stands gap (chunks_of heap B)) (free : gap.owner ≡ None) where
+  abbrev b : ℕ
+  b = heap.span.at
+
+  abbrev new : Chunk
+  new = record { at = gap.at; len = gap.len; owner = gap.owner; size = gap.size; link = first }
+
+  pub here : Around heap.header B b heap.footprint gap (chunks_of heap B)
+  here = around heap B gap has stands
+
+  module _ (told : chunk_at B' b gap.at ≡ new) (changes : ChangesOnly (b + gap.at) 12 B B') where
+    was : AreJoined heap.header (here.before ++ (gap ∷ here.behind))
+    was = subst (AreJoined heap.header) here.is has.joined
+
+    relinked : Spliced heap heap B B' here.before (new ∷ []) here.behind
+    relinked =
+        let a = here in
+        spliced heap heap B B' gap.at (gap.at + gap.len) a.before (new ∷ []) a.behind refl refl has.within
+        (changes_more (b + gap.at) 12 (b + gap.at) (gap.at + gap.len - gap.at) B B' changes (omega arith) (omega (arith, a.enough)))
+        a.front (told, a.enough, refl) a.back
+        (joined_swap heap.header a.before (gap ∷ a.behind) (new ∷ a.behind) (λ live. live) was (joined_behind heap.header a.before (gap ∷ a.behind) was))
+
+    relinked_store : store_of heap B' ≡ store_of heap B
+    relinked_store = grind (arith, here, relinked, none_in_front, blocks_append)
+
+    relinked_count : length (gaps_among (chunks_of heap B')) ≡ length (gaps_among (chunks_of heap B))
+    relinked_count =
+        ap (λ l. length (gaps_among l)) relinked.is
+        ∙ gaps_counted here.before (new ∷ []) here.behind
+        ∙ ap (λ l. length (gaps_among here.before) + (length l + length (gaps_among here.behind))) (gap_first new [] free)
+        ∙ ap (λ l. length (gaps_among here.before) + (length l + length (gaps_among here.behind))) (sym (gap_first gap [] free))
+        ∙ sym (gaps_counted here.before (gap ∷ []) here.behind)
+        ∙ sym (ap (λ l. length (gaps_among l)) here.is)
+
+    -- the last gap among the first chunks is that one
+    relinked_list : (before behind : List Chunk) (end : Option ℕ) → chunks_of heap B ≡ before ++ behind → last_of (gaps_among before) ≡ Some gap → LinkedTo heap.lowest before end → LinkedTo first behind None
+        → LinkedTo heap.lowest (chunks_of heap B') None
+    relinked_list before behind end is last linked later =
+        let l = last_gap gap before last in
+        let all : chunks_of heap B ≡ l.before ++ (gap ∷ (l.behind ++ behind)) = is ∙ ap (λ k. k ++ behind) l.is ∙ append_assoc l.before (gap ∷ l.behind) behind in
+        let split = split_at heap.header B b heap.footprint gap l.before (l.behind ++ behind) (subst (Tell heap.header B b 0 heap.footprint) all has.told) in
+        let there : Around heap.header B b heap.footprint gap (chunks_of heap B) = record { before = l.before; behind = l.behind ++ behind; is = all; front = split.0; here = split.1; enough = split.2; back = split.3; fits = told_le heap.header B b (gap.at + gap.len) heap.footprint (l.behind ++ behind) split.3 } in
+        let front : here.before ≡ l.before = sym (before_is heap B gap here) ∙ before_is heap B gap there in
+        let back : here.behind ≡ l.behind ++ behind = sym (behind_is heap B gap here) ∙ behind_is heap B gap there in
+        let again : LinkedTo heap.lowest (l.before ++ (new ∷ l.behind)) first =
+        linked_again heap.lowest end first gap new l.before l.behind free free refl refl l.none (subst (λ k. LinkedTo heap.lowest k end) l.is linked) in grind (arith, last_gap, append_assoc, split_at, here, told_le, before_is, behind_is, linked_again, relinked, linked_append)
+
+    pub link_changed : LinkChanged heap heap B B' (Some gap) first
+    link_changed = record {
+      chunks = relinked.has;
+      block = relinked_store;
+      stands = λ other h. live_exchanged other gap here.before (new ∷ []) here.behind (chunks_of heap B) (chunks_of heap B') free here.is relinked.is h;
+      linked = λ before behind end is last linked later. relinked_list before behind end is (sym last) linked later;
+      gaps = refl;
+      count = relinked_count;
+    }

@@ -1,6 +1,6 @@
 -- The heap after a block was resized.
 use Rattle.heap_core.proofs.Words.{◌≡◌, ℕ, ◌≤◌, List, sym, ap, ◌∙◌, arith, Option, option_map, option_map_or, number_of, resized, Chunk, Place, Region, Block, HeapStore, find_block, place, place_of, room_in_place, new_place, moved, resized_block, reallocated, block_at, with_block, without_block, block_in_chunk, place_in_chunk, at_place, without_place, bytes_in_chunk, Some, None}
-use Rattle.heap_core.proofs.Blocks.{count}
+use Rattle.heap_core.proofs.ChunkHeaders.{count}
 use Rattle.heap_core.proofs.Names.{named_with, count_filter, count_unnamed}
 
 named_moved : (store : HeapStore) (block : Block) (n : ℕ) → ((other : ℕ) → count other store.blocks ≤ 1) → (o : Option Place) (new : HeapStore) → option_map (λ place. moved place block n store) o ≡ Some new → (other : ℕ) → count other new.blocks ≤ 1

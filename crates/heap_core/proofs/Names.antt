@@ -1,6 +1,6 @@
 -- The block of a name, and how many blocks a name has.
-use Rattle.heap_core.proofs.Words.{◌≡◌, ◌≢◌, ℕ, ◌+◌, ◌≤◌, inl, inr, Bool, true, not, List, [], ◌∷◌, ◌++◌, length, eqb, refl, sym, ap, ◌∙◌, arith, Option, Some, None, IsSome, filter, find, map, if◌then◌else◌, option_map, cases_Bool, cases_eq, eqb-true, false≢true, length-append, filter-append, Chunk, Block, has_name, placed, blocks_in, is_owner, owned_by, Owned, block_in_chunk}
-use Rattle.heap_core.proofs.Blocks.{count}
+use Rattle.heap_core.proofs.Words.{◌≡◌, ◌≢◌, ℕ, ◌+◌, ◌≤◌, inl, inr, Bool, true, not, List, [], ◌∷◌, ◌++◌, length, eqb, refl, sym, ap, ◌∙◌, arith, Option, Some, None, IsSome, filter, find, map, if◌then◌else◌, option_map, cases_Bool, cases_eq, eqb-true, false≢true, length-append, filter-append, Chunk, Block, has_name, placed, blocks_in, is_owner, owned_by, Owned, block_in_chunk, ◌<◌, false, Region, IsLaidOut, heap_of, is_named, chunks_of, find_block, number_of, store_of, HasChunks, ArePlaced, rules, get_or, slice_set, replicate, zero, suc, subst, get_or-set_same, get_or-set_other, length-set, eq-eqb, ne_eqb, Place, HeapStore, with_block, without_block, block_at, chunk_at, place_found}
+use Rattle.heap_core.proofs.ChunkHeaders.{count, around}
 
 pub find_is : (header : ℕ) (B : List ℕ) (b name : ℕ) (l : List Chunk) → find (has_name name) (blocks_in header B b l) ≡ option_map (block_in_chunk header B b name) (find (owned_by name) l)
 find_is header B b name [] = refl
@@ -14,8 +14,7 @@ pub owned : (name : ℕ) (chunk : Chunk) (l : List Chunk) → find (owned_by nam
 owned name chunk [] e = absurd (cc)
 owned name chunk (c ∷ l) e = elim (cases_Bool (owned_by name c)) [
   | inl hit ↦
-      let two : Some c ≡ Some chunk = rw hit at e in
-      let same : c ≡ chunk = cc in
+      let two : Some c ≡ Some chunk = rw hit at e in let same : c ≡ chunk = cc in
       record {
         stands = record { before = []; behind = l; is = ap (λ k. k ∷ l) same };
         owner = sym (ap (λ (k : Chunk). k.owner) same) ∙ owner_is name c.owner hit;
@@ -45,12 +44,6 @@ count_at_most name block xs = grind arith
 
 count_other : (name : ℕ) (block : Block) (xs : List Block) → block.name ≢ name → count name (block ∷ xs) ≡ count name xs
 count_other name block xs ne = grind arith
-
-count_swap : (name : ℕ) (x y : Block) (xs : List Block) → count name (x ∷ (y ∷ xs)) ≡ count name (y ∷ (x ∷ xs))
-count_swap name x y xs = grind arith
-
-count_more : (name : ℕ) (x : Block) (xs ys : List Block) → count name xs ≡ count name ys → count name (x ∷ xs) ≡ count name (x ∷ ys)
-count_more name x xs ys e = grind arith
 
 count_placed : (name : ℕ) (block : Block) (xs : List Block) → count name (placed block xs) ≡ count name (block ∷ xs)
 count_placed name block [] = refl
@@ -96,3 +89,130 @@ map_none f (Some x) e = absurd (cc)
 pub count_unnamed : (name : ℕ) (xs : List Block) → count name (filter (λ block. not (has_name name block)) xs) ≡ 0
 count_unnamed name [] = refl
 count_unnamed name (x ∷ xs) = let later = count_unnamed name xs in grind arith
+
+-- What is known of all chunks, those that were freed and are not joined yet among them.
+
+-- the headers in the heap's span tell chunks, each name has one at most, and the table tells where it is
+pub record IsStored (heap : Region) (bytes : List ℕ) : Type 0 where
+  pub chunks : HasChunks heap bytes
+  pub named : (name : ℕ) → name < 272 → length (filter (has_name name) (store_of heap bytes).blocks) ≤ 1
+  pub places : ArePlaced heap.places (store_of heap bytes)
+
+-- a name's blocks are among those that have names
+pub find_named : (name : ℕ) (xs : List Block) → name < 272 → find (has_name name) (filter is_named xs) ≡ find (has_name name) xs
+find_named name [] small = refl
+find_named name (x ∷ xs) small = let later = find_named name xs small in grind arith
+
+pub count_named : (name : ℕ) (xs : List Block) → name < 272 → filter (has_name name) (filter is_named xs) ≡ filter (has_name name) xs
+count_named name [] small = refl
+count_named name (x ∷ xs) small = let later = count_named name xs small in grind arith
+
+-- what has a name below is one
+pub name_small : (name : ℕ) (xs : List Block) (block : Block) → find (has_name name) (filter is_named xs) ≡ Some block → name < 272
+name_small name [] block e = absurd (cc)
+name_small name (x ∷ xs) block e = let later = name_small name xs block in grind arith
+
+pub stored : (heap : Region) (B : List ℕ) → IsLaidOut heap B → IsStored heap B
+stored heap B laid = grind (arith, count_named, find_named)
+
+-- the block of a chunk that was found
+pub block_found : (heap : Region) (B : List ℕ) (name p h : ℕ) (o : Option Chunk) → name < 272 → name ≡ number_of p h → o ≡ find (owned_by name) (chunks_of heap B)
+    → option_map (block_in_chunk heap.header B heap.span.at name) o ≡ find_block (number_of p h) (heap_of heap B)
+block_found heap B name p h o small same found = grind (arith, find_is, find_named)
+
+-- The table of places: what is found of a name after a change of one block.
+
+-- what is found of a name among the blocks
+other_name : (name : ℕ) (block : Block) → name ≢ block.name → has_name name block ≡ false
+other_name name block ne = ne_eqb block.name name (λ e. ne (sym e))
+
+find_placed : (name : ℕ) (block : Block) (blocks : List Block) → has_name name block ≡ false → find (has_name name) (placed block blocks) ≡ find (has_name name) blocks
+find_placed name block [] other = rw other refl
+find_placed name block (first ∷ blocks) other = let later = find_placed name block blocks other in grind arith
+
+find_put : (name : ℕ) (block : Block) (blocks : List Block) → has_name name block ≡ true → find (has_name name) blocks ≡ None → find (has_name name) (placed block blocks) ≡ Some block
+find_put name block [] mine none = rw mine refl
+find_put name block (first ∷ blocks) mine none = let later = find_put name block blocks mine in grind arith
+
+find_without : (name gone : ℕ) (blocks : List Block) → name ≢ gone → find (has_name name) (filter (λ block. not (has_name gone block)) blocks) ≡ find (has_name name) blocks
+find_without name gone [] ne = refl
+find_without name gone (block ∷ blocks) ne = let later = find_without name gone blocks ne in grind arith
+
+find_gone : (name : ℕ) (blocks : List Block) → find (has_name name) (filter (λ block. not (has_name name block)) blocks) ≡ None
+find_gone name [] = refl
+find_gone name (block ∷ blocks) = let later = find_gone name blocks in grind arith
+
+-- blocks that change but keep their names and their places
+pub find_map : (name : ℕ) (f : Block → Block) → ((block : Block) → (f block).name ≡ block.name) → ((block : Block) → (f block).at ≡ block.at) → (blocks : List Block)
+    → option_map (λ (block : Block). block.at) (find (has_name name) (map f blocks)) ≡ option_map (λ (block : Block). block.at) (find (has_name name) blocks)
+find_map name f keeps stays [] = refl
+find_map name f keeps stays (block ∷ blocks) = let later = find_map name f keeps stays blocks in grind arith
+
+-- a table of no places
+abbrev pub nowhere : Option ℕ
+nowhere = None
+
+pub none_placed : (n name : ℕ) → get_or (replicate n nowhere) name nowhere ≡ nowhere
+none_placed zero name = refl
+none_placed (suc n) zero = refl
+none_placed (suc n) (suc name) = none_placed n name
+
+-- one entry is set for the one block that changed
+module _ (places : List (Option ℕ)) (old new : HeapStore) (name : ℕ) (entry : Option ℕ) (small : name < 272) (others : (other : ℕ) → other ≢ name → find_block other new ≡ find_block other old) (mine : place_found name new ≡ entry) where
+  pub placed_set : ArePlaced places old → ArePlaced (slice_set places name entry) new
+  placed_set were = grind (arith, length-set, cases_eq, get_or-set_same, get_or-set_other)
+
+-- a name gets a block
+pub placed_more : (places : List (Option ℕ)) (store new : HeapStore) (target : Place) (name : ℕ) (bytes : List ℕ) → name < 272 → find_block name store ≡ None → new ≡ with_block (block_at target name bytes) store → ArePlaced places store
+    → ArePlaced (slice_set places name (Some target.at)) new
+placed_more places store new target name bytes small none is = search (rules, placed_set, find_placed, other_name, find_put, eq-eqb)
+
+-- a name's block is taken away
+pub placed_less : (places : List (Option ℕ)) (store new : HeapStore) (name : ℕ) → name < 272 → new ≡ without_block name store → ArePlaced places store → ArePlaced (slice_set places name None) new
+placed_less places store new name small is = search (rules, placed_set, find_without, find_gone)
+
+-- a name's block is put elsewhere
+abbrev put_again : ℕ → Place → List ℕ → HeapStore → HeapStore
+put_again name target bytes store = with_block (block_at target name bytes) (without_block name store)
+
+pub placed_again : (places : List (Option ℕ)) (store new : HeapStore) (target : Place) (name : ℕ) (bytes : List ℕ) → name < 272 → new ≡ put_again name target bytes store → ArePlaced places store
+    → ArePlaced (slice_set places name (Some target.at)) new
+placed_again places store new target name bytes small is = search (rules, placed_set, find_placed, other_name, find_without, find_put, eq-eqb, find_gone)
+
+-- or stays where it is
+pub placed_there : (places : List (Option ℕ)) (store new : HeapStore) (target : Place) (name : ℕ) (bytes : List ℕ) → place_found name store ≡ Some target.at → new ≡ put_again name target bytes store → ArePlaced places store → ArePlaced places new
+placed_there places store new target name bytes at is were =
+    grind (arith, cases_eq, find_put, eq-eqb, find_gone, find_placed, other_name, find_without)
+
+-- to the place that was found for it
+pub placed_moved : (places : List (Option ℕ)) (store new : HeapStore) (found : Option Place) (at name : ℕ) (bytes : List ℕ) → name < 272 → option_map (λ (target : Place). target.at) found ≡ Some at
+    → option_map (λ target. put_again name target bytes store) found ≡ Some new → ArePlaced places store → ArePlaced (slice_set places name (Some at)) new
+placed_moved places store new None at name bytes small there is were = absurd (cc)
+placed_moved places store new (Some target) at name bytes small there is were =
+    let same : target.at ≡ at = cc in let made : put_again name target bytes store ≡ new = cc in
+    subst (λ k. ArePlaced (slice_set places name (Some k)) new) same (placed_again places store new target name bytes small (sym made) were)
+
+-- the table is no part of what the headers tell
+pub has_same : (heap new : Region) (B : List ℕ) → new.span ≡ heap.span → new.header ≡ heap.header → new.footprint ≡ heap.footprint → HasChunks heap B → HasChunks new B
+unfolding chunks_of
+has_same heap new B span header footprint has = grind arith
+
+-- the chunk that the table tells
+module _ (heap : Region) (B : List ℕ) (laid : IsStored heap B) (name : ℕ) (small : name < 272) where
+  abbrev found : Option Chunk
+  found = find (owned_by name) (chunks_of heap B)
+
+  entry_is : get_or heap.places name None ≡ option_map (λ (c : Chunk). c.at) found
+  entry_is = grind (arith, find_is)
+
+  pub none_found : get_or heap.places name None ≡ None → found ≡ None
+  none_found none = grind (arith, entry_is)
+
+  pub some_found : (at : ℕ) → get_or heap.places name None ≡ Some at → (found ≡ Some (chunk_at B heap.span.at at)) × (at + 12 ≤ heap.footprint)
+  some_found at some = from found refl (sym entry_is ∙ some)
+    where
+      from : (o : Option Chunk) → found ≡ o → option_map (λ (c : Chunk). c.at) o ≡ Some at → (found ≡ Some (chunk_at B heap.span.at at)) × (at + 12 ≤ heap.footprint)
+      from None is e = absurd (cc)
+      from (Some c) is e =
+          let there : c.at ≡ at = cc in let a = around heap B c laid.chunks (owned name c (chunks_of heap B) is).stands in
+          (is ∙ ap Some (sym a.here ∙ ap (chunk_at B heap.span.at) there), omega (arith, a.fits, a.enough))

@@ -1,13 +1,8 @@
 -- A block that is taken away, and the gaps beside it.
-use Rattle.heap_core.proofs.Words.{◌≡◌, ◌≢◌, ℕ, ◌+◌, ◌-◌, ◌%◌, ◌≤◌, ◌⊎◌, inl, inr, List, [], ◌∷◌, ◌++◌, length, refl, sym, ap, ◌∙◌, subst, arith, All, Option, Some, None, fold, filter, append_assoc, length-append, filter-append, All-nil, All-cons, eq-eqb, ChangesOnly, Chunk, Region, shortest, chunk_at, Tell, BeginsLive, AreJoined, with_chunk, blocks_in, chunks_of, HasChunks, gaps_among, LinkedTo, LiveIn, gap_count, Cleared, free_behind, free_from, gap_of, front_gap}
+use Rattle.heap_core.proofs.Words.{◌≡◌, ◌≢◌, ℕ, ◌+◌, ◌-◌, ◌%◌, ◌≤◌, ◌⊎◌, inl, inr, List, [], ◌∷◌, ◌++◌, length, refl, sym, ap, ◌∙◌, subst, arith, All, Option, Some, None, fold, filter, append_assoc, length-append, filter-append, All-nil, All-cons, eq-eqb, ChangesOnly, Chunk, Region, shortest, chunk_at, Tell, BeginsLive, AreJoined, with_chunk, blocks_in, chunks_of, HasChunks, gaps_among, LinkedTo, LiveIn, gap_count, Cleared, free_behind, free_from, gap_of, front_gap, rules, Stands, chunks_before, chunks_behind}
 use Rattle.heap_core.proofs.Lists.{gaps_append, gaps_counted, count_some, count_none, gap_first, live_first, link_gap}
-use Rattle.heap_core.proofs.Members.{In, in_of, in_without, in_skip, stands_of}
-use Rattle.heap_core.proofs.ChunkHeaders.{place_told, told_le, blocks_append, owner_cases, changes_more}
+use Rattle.heap_core.proofs.ChunkHeaders.{In, in_of, in_without, in_skip, stands_of, place_told, told_le, blocks_append, owner_cases, changes_more, blocks_between, elsewhere, filter_elsewhere, Spliced, spliced, joined_behind, whole_at, Around, ended, around, before_is, behind_is, chunk_of}
 use Rattle.heap_core.proofs.Gaps.{none_in_front}
-use Rattle.heap_core.proofs.Blocks.{blocks_between, elsewhere, filter_elsewhere}
-use Rattle.heap_core.proofs.Splice.{Spliced, spliced, joined_behind, whole_at}
-use Rattle.heap_core.proofs.Standing.{Around}
-use Rattle.heap_core.proofs.Steps.{ended}
 
 -- the chunks before a place, without a gap that ends there
 pub record Front (header : ℕ) (B : List ℕ) (b x at from : ℕ) (before old : List Chunk) : Type 0 where
@@ -109,9 +104,7 @@ rest_of header B b at end (d ∷ l) t joined = elim (owner_cases d.owner) [
 -- how far they begin before that place, and how long the gap is, are multiples of 4
 front_whole : (header : ℕ) (B : List ℕ) (b x at i : ℕ) (before old : List Chunk) → Tell header B b x at before → (before ≡ [] → i ≡ x) → AreJoined header (before ++ old) → (at - walk_free i before) % 4 ≡ 0
 front_whole header B b x at i [] old t none joined = omega (arith, t, none refl)
-front_whole header B b x at i (c ∷ []) old t none joined =
-    let place = place_told B b x c t.0 in let last : x + c.len ≡ at = t.2 in let whole = joined.1 in
-    elim (owner_cases c.owner) [ inl e ↦ omega (arith, ap (free_behind c) e, whole.1) | inr s ↦ omega (arith, ap (free_behind c) s.1) ]
+front_whole header B b x at i (c ∷ []) old t none joined = let place = place_told B b x c t.0 in grind arith
 front_whole header B b x at i (c ∷ (d ∷ l)) old t none joined = front_whole header B b (x + c.len) at (free_behind c c.owner) (d ∷ l) old t.2 (λ e. absurd (cc)) joined.2
 
 pub gap_len_whole : (header : ℕ) (l : List Chunk) → AreJoined header l → front_gap l % 4 ≡ 0
@@ -182,10 +175,7 @@ module _ (heap : Region) (B : List ℕ) (has : HasChunks heap B) (chunk : Chunk)
   -- nothing lies behind it: the top gap takes it
   pub cleared_top : (new : Region) (link : Option ℕ) → new.span ≡ heap.span → new.header ≡ heap.header → new.footprint ≡ from → new.gaps ≡ length (gaps_among (chunks_of heap B)) → end ≡ heap.footprint → Cleared heap new B B chunk from end link link
   cleared_top new link span header top count last =
-      let none : r.post ≡ [] = elim r.begins [
-        | inl e ↦ e.0
-        | inr begins ↦ ended heap.header B b end heap.footprint r.post r.told (omega (arith, last))
-      ] in
+      let none : r.post ≡ [] = grind (arith, r, ended) in
       cleared new B [] link link
       (spliced heap new B B from from f.pre [] r.post span header has.within (record { size = refl; others = λ i n apart. refl }) f.told refl
       (subst (Tell heap.header B b from new.footprint) (sym none) (sym top)) (f.joined was_joined r.post r.joined))
@@ -197,8 +187,7 @@ module _ (heap : Region) (B : List ℕ) (has : HasChunks heap B) (chunk : Chunk)
       let whole = whole_at heap.header a.before a.behind chunk was_joined in
       let front = front_whole heap.header B b 0 chunk.at 0 a.before (chunk ∷ a.behind) a.front (λ e. refl) was_joined in
       let back = gap_len_whole heap.header a.behind (joined_behind heap.header a.before (chunk ∷ a.behind) was_joined).2 in
-      let low = from_below in
-      (omega (arith, whole.0), omega (arith, whole.1, front, back))
+      let low = from_below in (omega (arith, whole.0), omega (arith, whole.1, front, back))
 
   abbrev gap : Option ℕ → Chunk
   gap link = record { at = from; len = end - from; owner = None; size = 0; link = link }
@@ -217,3 +206,42 @@ module _ (heap : Region) (B : List ℕ) (has : HasChunks heap B) (chunk : Chunk)
       f.told (told, omega (arith, a.enough), omega arith) (subst (λ k. Tell heap.header B b end k r.post) (sym top) r.told)
       (f.joined was_joined (gap link ∷ r.post) ((λ none. begins), (omega (arith, gap_whole), omega (arith, gap_whole)), r.joined)))
       refl (link_gap (Some from) link (gap link) [] refl refl refl) count
+
+-- A chunk that became one with the gaps beside it: a gap, or a part of the top gap.
+
+-- where the free bytes begin and end that it becomes a part of
+pub record Sides (heap : Region) (chunk : Chunk) (from end : ℕ) : Type 0 where
+  pub long : 12 ≤ chunk.len
+  pub low : from ≤ chunk.at
+  pub high : chunk.at + chunk.len ≤ end
+  pub most : end ≤ heap.footprint
+
+module _ (heap : Region) (B : List ℕ) (has : HasChunks heap B) (chunk : Chunk) (stands : Stands chunk (chunks_of heap B)) (live : chunk.owner ≢ None) (from end : ℕ)
+    (begins : from ≡ free_from (chunks_before heap B chunk.at)) (ends : end ≡ chunk.at + chunk.len + front_gap (chunks_behind heap B (chunk.at + chunk.len))) where
+  a : Around heap.header B heap.span.at heap.footprint chunk (chunks_of heap B)
+  a = around heap B chunk has stands
+
+  from_is : from ≡ free_from a.before
+  from_is = begins ∙ ap free_from (before_is heap B chunk a)
+
+  end_is : end ≡ chunk.at + chunk.len + front_gap a.behind
+  end_is = ends ∙ ap (λ l. chunk.at + chunk.len + front_gap l) (behind_is heap B chunk a)
+
+  pub sides : Sides heap chunk from end
+  sides = search (rules, a, from_is, from_below, end_is, end_below)
+
+  pub into_top : (new : Region) (link : Option ℕ) → new.span ≡ heap.span → new.header ≡ heap.header → new.footprint ≡ from → new.gaps ≡ length (gaps_among (chunks_of heap B)) → end ≡ heap.footprint → Cleared heap new B B chunk from end link link
+  into_top new link span header top count last =
+      subst (λ p. Cleared heap new B B chunk p end link link) (sym from_is)
+      (subst (λ q. Cleared heap new B B chunk (free_from a.before) q link link) (sym end_is)
+      (cleared_top heap B has chunk a live new link span header (top ∙ from_is) count (sym end_is ∙ last)))
+
+  pub into_gap : (new : Region) (B' : List ℕ) (link : Option ℕ) → new.span ≡ heap.span → new.header ≡ heap.header → new.footprint ≡ heap.footprint → new.gaps ≡ length (gaps_among (chunks_of heap B)) + 1
+      → chunk_at B' heap.span.at from ≡ chunk_of from (end - from) None 0 link → ChangesOnly (heap.span.at + from) 12 B B' → end ≢ heap.footprint → Cleared heap new B B' chunk from end (Some from) link
+  into_gap new B' link span header top count told changes more =
+      let p = free_from a.before in let q = chunk.at + chunk.len + front_gap a.behind in
+      let told' : chunk_at B' heap.span.at p ≡ chunk_of p (q - p) None 0 link =
+      subst (λ k. chunk_at B' heap.span.at k ≡ chunk_of k (q - k) None 0 link) from_is (told ∙ ap (λ k. chunk_of from (k - from) None 0 link) end_is) in
+      subst (λ k. Cleared heap new B B' chunk k end (Some k) link) (sym from_is)
+      (subst (λ k. Cleared heap new B B' chunk p k (Some p) link) (sym end_is)
+      (cleared_gap heap B has chunk a live new B' link span header top count told' (subst (λ k. ChangesOnly (heap.span.at + k) 12 B B') from_is changes) (λ e. more (end_is ∙ e))))

@@ -17,8 +17,7 @@ resized_none n = take-replicate n n 0 (omega arith)
 -- bytes written over the first of n zeros
 pub copied_front : (xs : List ℕ) (at n : ℕ) (ws : List ℕ) → length ws ≤ n → at + n ≤ length xs → slice_range xs at (at + n) ≡ zeros n → slice_range (written xs at ws) at (at + n) ≡ ws ++ zeros (n - length ws)
 copied_front xs at n ws le within fresh =
-    let R = slice_range xs at (at + n) in
-    let start : at ≡ at + 0 = omega arith in
+    let R = slice_range xs at (at + n) in let start : at ≡ at + 0 = omega arith in
     ap (λ k. slice_range (written xs k ws) at (at + n)) start
     ∙ written-range xs at n 0 ws (omega arith) within
     ∙ written_is R 0 ws (omega (arith, length-range xs at n within))

@@ -1,5 +1,4 @@
-use Rattle.heap_core.proofs.Words.{rules, sym, ◌∙◌, arith, chunks_between}
-use Rattle.heap_core.proofs.Steps.{room_for_header, next_of, ended}
+use Rattle.heap_core.proofs.Lemmas.{rules, sym, ◌∙◌, arith, chunks_between, room_for_header, next_of, ended}
 use Rattle.heap_core.proofs.chunks.ChunksIterator.next.Goals as goal
 
 pub returns-then-self-clause-steps : goal.returns-then-self-clause-steps

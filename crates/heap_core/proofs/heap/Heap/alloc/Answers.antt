@@ -1,10 +1,4 @@
-use Rattle.heap_core.proofs.Words.{rules, [], ◌≡◌, ℕ, ◌≤◌, List, slice_set, length, refl, sym, ap, ◌∙◌, subst, Option, find, option_map, lt-ltb, number_of, zeros, resized, Place, Region, Block, HeapStore, has_name, block_at, block_of, with_block, allocated, place, heap_of, IsLaidOut, chunks_of, store_of, unnamed, FreedLinked, ArePlaced, Some, None}
-use Rattle.heap_core.proofs.Blocks.{count}
-use Rattle.heap_core.proofs.Freed.{plain, placed_unnamed, freed_none}
-use Rattle.heap_core.proofs.Joined.{linked_is, joined_is}
-use Rattle.heap_core.proofs.Names.{named_with, count_none, map_none}
-use Rattle.heap_core.proofs.Places.{placed_more, has_same}
-use Rattle.heap_core.proofs.Resized.{resized_none}
+use Rattle.heap_core.proofs.Lemmas.{rules, [], ◌≡◌, ℕ, ◌≤◌, List, slice_set, length, refl, sym, ap, ◌∙◌, subst, Option, find, option_map, lt-ltb, number_of, zeros, resized, Place, Region, Block, HeapStore, has_name, block_at, block_of, with_block, allocated, place, heap_of, IsLaidOut, chunks_of, store_of, unnamed, FreedLinked, ArePlaced, Some, None, count, plain, placed_unnamed, freed_none, linked_is, joined_is, named_with, count_none, map_none, placed_more, has_same, resized_none}
 use Rattle.heap_core.proofs.heap.Heap.alloc.Goals as goal
 use Rattle.heap_core.proofs.heap.Heap.alloc.Goals.{After-join, After-put_block}
 

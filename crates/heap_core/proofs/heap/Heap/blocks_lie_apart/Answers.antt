@@ -1,6 +1,4 @@
-use Rattle.heap_core.proofs.Words.{inl, refl, arith, shortest, chunks_of}
-use Rattle.heap_core.proofs.Live.{live_in_order, live_gaps_long}
-use Rattle.heap_core.proofs.Separation.{blocks_lie_apart}
+use Rattle.heap_core.proofs.Lemmas.{inl, refl, arith, shortest, chunks_of, live_in_order, live_gaps_long, blocks_lie_apart}
 use Rattle.heap_core.proofs.heap.Heap.blocks_lie_apart.Goals as goal
 
 pub returns : goal.returns

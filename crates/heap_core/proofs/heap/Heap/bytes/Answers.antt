@@ -1,4 +1,4 @@
-use Rattle.heap_core.proofs.Words.{sym, subst, arith, Region, IsLaidOut}
+use Rattle.heap_core.proofs.Lemmas.{sym, subst, arith, Region, IsLaidOut}
 use Rattle.heap_core.proofs.heap.Heap.bytes.Goals as goal
 
 pub bytes-requires : goal.bytes-requires

@@ -1,9 +1,4 @@
-use Rattle.heap_core.proofs.Words.{rules, ◌≡◌, ℕ, ◌≤◌, ◌+◌, slice_set, refl, sym, ap, ◌∙◌, subst, arith, lt-ltb, Region, HeapStore, freed, without_block, heap_of, IsLaidOut, is_a_name, chunks_of, ArePlaced, None}
-use Rattle.heap_core.proofs.Blocks.{count, elsewhere}
-use Rattle.heap_core.proofs.Bodies.{live_without_place}
-use Rattle.heap_core.proofs.Names.{count_filter}
-use Rattle.heap_core.proofs.Places.{placed_less, has_same}
-use Rattle.heap_core.proofs.Stored.{stored}
+use Rattle.heap_core.proofs.Lemmas.{rules, ◌≡◌, ℕ, ◌≤◌, ◌+◌, slice_set, refl, sym, ap, ◌∙◌, subst, arith, lt-ltb, Region, HeapStore, freed, without_block, heap_of, IsLaidOut, is_a_name, chunks_of, ArePlaced, None, count, elsewhere, live_without_place, count_filter, placed_less, has_same, stored}
 use Rattle.heap_core.proofs.heap.Heap.free.Goals as goal
 
 pub set_aside-requires-clause-live : goal.set_aside-requires-clause-live

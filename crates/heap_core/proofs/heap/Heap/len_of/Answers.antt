@@ -1,7 +1,4 @@
-use Rattle.heap_core.proofs.Words.{ap, subst, sym, length, ◌≡◌, ◌∙◌, Option, Some, None, option_map, ℕ, Block, Region, IsLaidOut, chunks_of, heap_of, length_of}
-use Rattle.heap_core.proofs.Bodies.{block_bytes}
-use Rattle.heap_core.proofs.Names.{owned}
-use Rattle.heap_core.proofs.Stored.{stored, block_found}
+use Rattle.heap_core.proofs.Lemmas.{ap, subst, sym, length, ◌≡◌, ◌∙◌, Option, Some, None, option_map, ℕ, Block, Region, IsLaidOut, chunks_of, heap_of, length_of, block_bytes, owned, stored, block_found}
 use Rattle.heap_core.proofs.heap.Heap.len_of.Goals as goal
 
 abbrev length_in : Option Block → Option ℕ

@@ -1,5 +1,4 @@
-use Rattle.heap_core.proofs.Words.{ap, ◌∙◌, linked_of}
-use Rattle.heap_core.proofs.FreeCount.{all_linked}
+use Rattle.heap_core.proofs.Lemmas.{ap, ◌∙◌, linked_of, all_linked}
 use Rattle.heap_core.proofs.heap.Heap.linked.Goals as goal
 
 pub returns-clause-free : goal.returns-clause-free

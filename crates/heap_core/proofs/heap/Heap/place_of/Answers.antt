@@ -1,5 +1,4 @@
-use Rattle.heap_core.proofs.Words.{ap, subst, ◌≡◌, ◌∙◌, Some, None, option_map, Region, at_place, heap_of, live_place, place_in_chunk, place_of}
-use Rattle.heap_core.proofs.Stored.{block_found}
+use Rattle.heap_core.proofs.Lemmas.{ap, subst, ◌≡◌, ◌∙◌, Some, None, option_map, Region, at_place, heap_of, live_place, place_in_chunk, place_of, block_found}
 use Rattle.heap_core.proofs.heap.Heap.place_of.Goals as goal
 
 pub returns-in_err-chunk : goal.returns-in_err-chunk

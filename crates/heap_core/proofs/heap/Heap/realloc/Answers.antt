@@ -1,12 +1,6 @@
-use Rattle.heap_core.proofs.Words.{rules, ◌≡◌, ℕ, ◌≤◌, List, slice_set, length, refl, sym, ap, ◌∙◌, subst, Option, filter, option_map, lt-ltb, false≢true, resized, Chunk, Place, Region, Block, HeapStore, block_at, find_block, with_block, without_block, place, room_in_place, reallocated, heap_of, IsLaidOut, chunks_of, store_of, unnamed, FreedLinked, ArePlaced, KeepsFreed, place_in_chunk, at_place, bytes_in_chunk, block_in_chunk, without_place, Some, None}
-use Rattle.heap_core.proofs.Blocks.{count}
-use Rattle.heap_core.proofs.Blocks.{elsewhere as by_place}
-use Rattle.heap_core.proofs.Bodies.{without_place_is}
-use Rattle.heap_core.proofs.Freed.{plain, placed_unnamed, none_unnamed, freed_none}
-use Rattle.heap_core.proofs.Joined.{joined_laid}
-use Rattle.heap_core.proofs.Moves.{in_place, elsewhere, nowhere, named_after}
-use Rattle.heap_core.proofs.Places.{placed_there, placed_moved, has_same}
-use Rattle.heap_core.proofs.Stored.{stored}
+use Rattle.heap_core.proofs.Lemmas.{rules, ◌≡◌, ℕ, ◌≤◌, List, slice_set, length, refl, sym, ap, ◌∙◌, subst, Option, filter, option_map, lt-ltb, false≢true, resized, Chunk, Place, Region, Block, HeapStore, block_at, find_block, with_block, without_block, place, room_in_place, reallocated, heap_of, IsLaidOut, chunks_of, store_of, unnamed, FreedLinked, ArePlaced, KeepsFreed, place_in_chunk, at_place, bytes_in_chunk, block_in_chunk, without_place, Some, None, count, without_place_is, plain, placed_unnamed, none_unnamed, freed_none, joined_laid, in_place, nowhere, named_after, placed_there, placed_moved, has_same, stored}
+use Rattle.heap_core.proofs.Moves.{elsewhere}
+use Rattle.heap_core.proofs.ChunkHeaders.{elsewhere as by_place}
 use Rattle.heap_core.proofs.heap.Heap.realloc.Goals as goal
 use Rattle.heap_core.proofs.heap.Heap.realloc.Goals.{After-live_chunk-chunk}
 

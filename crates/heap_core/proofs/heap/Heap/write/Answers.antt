@@ -1,9 +1,4 @@
-use Rattle.heap_core.proofs.Words.{ℕ, List, ◌≡◌, ◌+◌, ◌≤◌, length, sym, ap, ◌∙◌, subst, refl, arith, None, IsSomeAnd, find, map, if◌then◌else◌, option_map, overwritten, contents, written, changes_only, Chunk, Region, Block, HeapStore, has_name, block_of, with_bytes, heap_of, IsLaidOut, KeepsToSpan, LinkedTo, gaps_among, AreFreed}
-use Rattle.heap_core.proofs.Blocks.{count}
-use Rattle.heap_core.proofs.Bodies.{range_fits, body_spliced, live_blocks, same_chunks, same_unnamed}
-use Rattle.heap_core.proofs.Names.{count_map, keeps_name, keeps_place}
-use Rattle.heap_core.proofs.Places.{find_map}
-use Rattle.heap_core.proofs.Stored.{stored}
+use Rattle.heap_core.proofs.Lemmas.{ℕ, List, ◌≡◌, ◌+◌, ◌≤◌, length, sym, ap, ◌∙◌, subst, refl, arith, None, IsSomeAnd, find, map, if◌then◌else◌, option_map, overwritten, contents, written, changes_only, Chunk, Region, Block, HeapStore, has_name, block_of, with_bytes, heap_of, IsLaidOut, KeepsToSpan, LinkedTo, gaps_among, AreFreed, count, range_fits, body_spliced, live_blocks, same_chunks, same_unnamed, count_map, keeps_name, keeps_place, find_map, stored}
 use Rattle.heap_core.proofs.heap.Heap.write.Goals as goal
 use Rattle.heap_core.proofs.heap.Heap.write.Goals.{After-body-body}
 

@@ -1,6 +1,5 @@
-use Rattle.heap_core.proofs.Words.{length, refl, sym, ap, subst, arith, chunk_at, is_a_name, gaps_from_place}
-use Rattle.heap_core.proofs.Lists.{header_fits}
-use Rattle.heap_core.proofs.Searches.{Searched, search_begun, search_ended, met, search_past_short, search_past_long, search_exact}
+use Rattle.heap_core.proofs.Lemmas.{length, refl, sym, ap, subst, arith, chunk_at, is_a_name, gaps_from_place, header_fits, Searched, search_begun, search_ended, search_past_short, search_past_long, search_exact}
+use Rattle.heap_core.proofs.Walked.{met}
 use Rattle.heap_core.proofs.region.Region.best_gap.Goals as goal
 use Rattle.heap_core.proofs.region.Region.best_gap.Goals.{then-len-need+else-len-need-2, else-len-need}
 

@@ -1,5 +1,4 @@
-use Rattle.heap_core.proofs.Words.{◌≡◌, ◌+◌, ap, sym, ◌∙◌, word_at, number_in, owner_in, size_in, link_in}
-use Rattle.heap_core.proofs.ChunkHeaders.{chunk_is, link_named, link_free}
+use Rattle.heap_core.proofs.Lemmas.{◌≡◌, ◌+◌, ap, sym, ◌∙◌, word_at, number_in, owner_in, size_in, link_in, chunk_is, link_named, link_free}
 use Rattle.heap_core.proofs.region.Region.chunk_at.Goals as goal
 use Rattle.heap_core.proofs.region.Region.chunk_at.Goals.{then-is_a_name, else-is_a_name}
 

@@ -1,4 +1,4 @@
-use Rattle.heap_core.proofs.Words.{refl, arith, chunks_of, chunks_between}
+use Rattle.heap_core.proofs.Lemmas.{refl, arith, chunks_of, chunks_between}
 use Rattle.heap_core.proofs.region.Region.chunks.Goals as goal
 
 pub invariant_of-result : goal.invariant_of-result

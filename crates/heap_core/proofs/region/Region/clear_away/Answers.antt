@@ -1,6 +1,4 @@
-use Rattle.heap_core.proofs.Words.{◌+◌, refl, arith}
-use Rattle.heap_core.proofs.Cleared.{sides, into_top, into_gap}
-use Rattle.heap_core.proofs.ChunkHeaders.{changes_more}
+use Rattle.heap_core.proofs.Lemmas.{◌+◌, refl, arith, sides, into_top, into_gap, changes_more}
 use Rattle.heap_core.proofs.region.Region.clear_away.Goals as goal
 
 pub invariant_of-self : goal.invariant_of-self

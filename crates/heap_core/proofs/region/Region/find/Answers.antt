@@ -1,6 +1,4 @@
-use Rattle.heap_core.proofs.Words.{sym, ap, ◌∙◌, arith, Some}
-use Rattle.heap_core.proofs.Places.{none_found, some_found}
-use Rattle.heap_core.proofs.Stored.{stored}
+use Rattle.heap_core.proofs.Lemmas.{sym, ap, ◌∙◌, arith, Some, none_found, some_found, stored}
 use Rattle.heap_core.proofs.region.Region.find.Goals as goal
 
 pub chunk_at-requires-clause-inside : goal.chunk_at-requires-clause-inside

@@ -1,6 +1,4 @@
-use Rattle.heap_core.proofs.Words.{◌≡◌, sym, ap, ◌∙◌, arith, free_from, gaps_among, last_of, Some, None}
-use Rattle.heap_core.proofs.Standing.{around, before_is}
-use Rattle.heap_core.proofs.Lists.{below_is, free_no_gap, gap_ends_below, free_gap_there, free_gap_below}
+use Rattle.heap_core.proofs.Lemmas.{◌≡◌, sym, ap, ◌∙◌, arith, free_from, gaps_among, last_of, Some, None, around, before_is, below_is, free_no_gap, gap_ends_below, free_gap_there, free_gap_below}
 use Rattle.heap_core.proofs.region.Region.free_before.Goals as goal
 
 pub overflow_add-gap : goal.overflow_add-gap

@@ -1,8 +1,4 @@
-use Rattle.heap_core.proofs.Words.{rules, ◌≡◌, ◌+◌, inl, inr, sym, ap, ◌∙◌, subst, arith, Chunk, chunk_at, Free, chunks_of, gaps_among, gap_from}
-use Rattle.heap_core.proofs.Choices.{place_cases}
-use Rattle.heap_core.proofs.Holes.{free_top, free_gap}
-use Rattle.heap_core.proofs.NextGaps.{behind_gap, above_all}
-use Rattle.heap_core.proofs.Standing.{around}
+use Rattle.heap_core.proofs.Lemmas.{rules, ◌≡◌, ◌+◌, inl, inr, sym, ap, ◌∙◌, subst, arith, Chunk, chunk_at, Free, chunks_of, gaps_among, gap_from, place_cases, free_top, free_gap, behind_gap, above_all, around}
 use Rattle.heap_core.proofs.region.Region.free_end.Goals as goal
 
 pub returns-then-target-self : goal.returns-then-target-self

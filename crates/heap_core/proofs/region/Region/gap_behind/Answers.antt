@@ -1,7 +1,5 @@
-use Rattle.heap_core.proofs.Words.{◌+◌, ◌<◌, sym, ap, ◌∙◌, arith, gap_of, front_gap}
-use Rattle.heap_core.proofs.Gaps.{is_gap_none, is_live_some}
-use Rattle.heap_core.proofs.Standing.{around, behind_is}
-use Rattle.heap_core.proofs.Steps.{room_for_header, step, ended}
+use Rattle.heap_core.proofs.Lemmas.{◌+◌, ◌<◌, sym, ap, ◌∙◌, arith, gap_of, front_gap, is_gap_none, is_live_some, around, behind_is, room_for_header, ended}
+use Rattle.heap_core.proofs.ChunkHeaders.{step}
 use Rattle.heap_core.proofs.region.Region.gap_behind.Goals as goal
 
 pub overflow_add-end : goal.overflow_add-end

@@ -1,5 +1,4 @@
-use Rattle.heap_core.proofs.Words.{sym, ap, ◌∙◌, arith, Option, Chunk, chunks_of, gaps_among, gap_below, Some}
-use Rattle.heap_core.proofs.Walked.{below_told, gap_kept}
+use Rattle.heap_core.proofs.Lemmas.{sym, ap, ◌∙◌, arith, Option, Chunk, chunks_of, gaps_among, gap_below, Some, below_told, gap_kept}
 use Rattle.heap_core.proofs.region.Region.gaps_beside.Goals as goal
 
 pub chunk_at-requires-clause-inside : goal.chunk_at-requires-clause-inside

@@ -1,6 +1,4 @@
-use Rattle.heap_core.proofs.Words.{rules, ◌≡◌, ◌+◌, ◌-◌, ◌≤◌, ◌⊎◌, inl, inr, ◌++◌, length, take, drop, slice_range, sym, ap, ◌∙◌, subst, arith, IfSome, zeros, resized, Contents, ChangesOnly, length-range, changes_only, bytes_given}
-use Rattle.heap_core.proofs.ChunkHeaders.{changes_then}
-use Rattle.heap_core.proofs.Resized.{copied_front, resized_copy, resized_none}
+use Rattle.heap_core.proofs.Lemmas.{rules, ◌≡◌, ◌+◌, ◌-◌, ◌≤◌, ◌⊎◌, inl, inr, ◌++◌, length, take, drop, slice_range, sym, ap, ◌∙◌, subst, arith, IfSome, zeros, resized, Contents, ChangesOnly, length-range, changes_only, bytes_given, changes_then, copied_front, resized_copy, resized_none}
 use Rattle.heap_core.proofs.region.Region.give_bytes.Goals as goal
 
 pub returns : goal.returns

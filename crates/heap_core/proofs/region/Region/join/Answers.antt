@@ -1,9 +1,4 @@
-use Rattle.heap_core.proofs.Words.{length, refl, sym, ap, ◌∙◌, subst, arith, filter, HeapStore, is_named, chunks_of, AreFreed, unnamed}
-use Rattle.heap_core.proofs.Callers.{KeepsToSpan-then}
-use Rattle.heap_core.proofs.Freed.{newest_is, none_newest, freed_moved, named_without, unnamed_without}
-use Rattle.heap_core.proofs.Places.{has_same}
-use Rattle.heap_core.proofs.Standing.{around}
-use Rattle.heap_core.proofs.ChunkHeaders.{place_told}
+use Rattle.heap_core.proofs.Lemmas.{length, refl, sym, ap, ◌∙◌, subst, arith, filter, HeapStore, is_named, chunks_of, AreFreed, unnamed, KeepsToSpan-then, newest_is, none_newest, freed_moved, named_without, unnamed_without, has_same, around, place_told}
 use Rattle.heap_core.proofs.region.Region.join.Goals as goal
 
 pub chunk_at-chunk-requires-clause-inside : goal.chunk_at-chunk-requires-clause-inside

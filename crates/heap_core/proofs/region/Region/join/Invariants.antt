@@ -1,4 +1,4 @@
-use Rattle.heap_core.proofs.Words.{Joins}
+use Rattle.heap_core.proofs.Lemmas.{Joins}
 use Rattle.heap_core.proofs.region.Region.join.Given as goal
 
 abbrev pub invariant-loop-self : goal.invariant-loop-self

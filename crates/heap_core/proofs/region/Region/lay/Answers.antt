@@ -1,10 +1,6 @@
-use Rattle.heap_core.proofs.Words.{rules, [], ◌∷◌, ◌++◌, ◌≡◌, ◌+◌, ◌-◌, ◌≤◌, ◌<◌, ◌⊎◌, inl, inr, length, refl, sym, ap, ◌∙◌, subst, arith, IfSome, Contents, ChangesOnly, Chunk, shortest, chunk_at, Tell, BeginsLive, laid, bytes_in_chunk, LeavesGap, gaps_among, LinkedTo, gap_count, None}
-use Rattle.heap_core.proofs.Holes.{is_live, live_block, live_joined, laid_block, laid_begins, laid_joined, laid_between, fits_least}
-use Rattle.heap_core.proofs.Lengths.{lengths}
-use Rattle.heap_core.proofs.Lists.{count_none, count_some, live_first, link_gap, link_live}
-use Rattle.heap_core.proofs.Splice.{laid_all, laid_some, left_over}
-use Rattle.heap_core.proofs.Steps.{ended}
-use Rattle.heap_core.proofs.ChunkHeaders.{told_le, chunk_frame, changes_then, changes_more, owner_some, owner_live}
+use Rattle.heap_core.proofs.Lemmas.{rules, [], ◌∷◌, ◌++◌, ◌≡◌, ◌+◌, ◌-◌, ◌≤◌, ◌<◌, ◌⊎◌, inl, inr, length, refl, sym, ap, ◌∙◌, subst, arith, IfSome, Contents, ChangesOnly, Chunk, shortest, chunk_at, Tell, BeginsLive, laid, bytes_in_chunk, LeavesGap, gaps_among, LinkedTo, gap_count, None, is_live, live_joined, laid_block, laid_begins, laid_joined, laid_between, fits_least, lengths, count_some, live_first, link_gap, link_live, laid_all, laid_some, left_over, ended, told_le, chunk_frame, changes_then, changes_more, owner_some, owner_live}
+use Rattle.heap_core.proofs.Holes.{live_block}
+use Rattle.heap_core.proofs.Lists.{count_none}
 use Rattle.heap_core.proofs.region.Region.lay.Goals as goal
 use Rattle.heap_core.proofs.region.Region.lay.Goals.{After-put_chunk-2, then-next-end, else-next-end}
 

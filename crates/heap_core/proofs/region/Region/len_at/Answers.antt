@@ -1,4 +1,4 @@
-use Rattle.heap_core.proofs.Words.{chunk_at}
+use Rattle.heap_core.proofs.Lemmas.{chunk_at}
 use Rattle.heap_core.proofs.region.Region.len_at.Goals as goal
 
 pub returns : goal.returns

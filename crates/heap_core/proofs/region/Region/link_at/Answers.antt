@@ -1,5 +1,4 @@
-use Rattle.heap_core.proofs.Words.{◌+◌, sym, ap, ◌∙◌, word_at, number_in, owner_in, chunk_at}
-use Rattle.heap_core.proofs.ChunkHeaders.{link_free}
+use Rattle.heap_core.proofs.Lemmas.{◌+◌, sym, ap, ◌∙◌, word_at, number_in, owner_in, chunk_at, link_free}
 use Rattle.heap_core.proofs.region.Region.link_at.Goals as goal
 
 pub returns : goal.returns

@@ -1,6 +1,4 @@
-use Rattle.heap_core.proofs.Words.{◌≡◌, ◌≢◌, ◌+◌, sym, ap, ◌∙◌, arith, Chunk, chunks_of, gaps_among, gap_from, front_gap}
-use Rattle.heap_core.proofs.NextGaps.{over_live, over_gap, gap_fits}
-use Rattle.heap_core.proofs.Standing.{around, behind_is}
+use Rattle.heap_core.proofs.Lemmas.{◌≡◌, ◌≢◌, ◌+◌, sym, ap, ◌∙◌, arith, Chunk, chunks_of, gaps_among, gap_from, front_gap, over_live, over_gap, gap_fits, around, behind_is}
 use Rattle.heap_core.proofs.region.Region.link_behind.Goals as goal
 
 pub overflow_add-behind : goal.overflow_add-behind

@@ -1,9 +1,4 @@
-use Rattle.heap_core.proofs.Words.{◌≡◌, ◌+◌, List, refl, sym, ◌∙◌, subst, arith, IfSome, Chunk, chunks_of, LinkedTo, Stands, LinkChanged, None}
-use Rattle.heap_core.proofs.Lists.{linked_append, linked_none, no_last}
-use Rattle.heap_core.proofs.Places.{has_same}
-use Rattle.heap_core.proofs.Relinks.{here, link_changed}
-use Rattle.heap_core.proofs.Standing.{Around}
-use Rattle.heap_core.proofs.ChunkHeaders.{changes_more}
+use Rattle.heap_core.proofs.Lemmas.{◌≡◌, ◌+◌, List, refl, sym, ◌∙◌, subst, arith, IfSome, Chunk, chunks_of, LinkedTo, Stands, LinkChanged, None, linked_append, linked_none, no_last, has_same, here, link_changed, Around, changes_more}
 use Rattle.heap_core.proofs.region.Region.link_below.Goals as goal
 use Rattle.heap_core.proofs.region.Region.link_below.Goals.{In-Some}
 

@@ -1,7 +1,4 @@
-use Rattle.heap_core.proofs.Words.{subst, sym, ap, ◌∙◌, arith, Option, IsSome, option_map, Block, chunks_of, store_of, block_in_chunk}
-use Rattle.heap_core.proofs.Names.{find_is, owned, some_owned}
-use Rattle.heap_core.proofs.Standing.{around}
-use Rattle.heap_core.proofs.Stored.{find_named}
+use Rattle.heap_core.proofs.Lemmas.{subst, sym, ap, ◌∙◌, arith, Option, IsSome, option_map, Block, chunks_of, store_of, block_in_chunk, find_is, owned, some_owned, around, find_named}
 use Rattle.heap_core.proofs.region.Region.live_chunk.Goals as goal
 
 pub unwrap-requires : goal.unwrap-requires

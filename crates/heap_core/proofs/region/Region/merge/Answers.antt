@@ -1,7 +1,4 @@
-use Rattle.heap_core.proofs.Words.{◌≡◌, sym, ap, ◌∙◌, subst, arith, chunks_of, gaps_among, gap_from, free_from, Some}
-use Rattle.heap_core.proofs.Grown.{leads_there, list_grown}
-use Rattle.heap_core.proofs.Lists.{last_exchanged, list_exchanged}
-use Rattle.heap_core.proofs.Standing.{around, before_is}
+use Rattle.heap_core.proofs.Lemmas.{◌≡◌, sym, ap, ◌∙◌, subst, arith, chunks_of, gaps_among, gap_from, free_from, Some, leads_there, list_grown, last_exchanged, list_exchanged, around, before_is}
 use Rattle.heap_core.proofs.region.Region.merge.Goals as goal
 
 pub returns-then-end-self-clause-linked : goal.returns-then-end-self-clause-linked

@@ -1,5 +1,4 @@
-use Rattle.heap_core.proofs.Words.{◌≡◌, ◌+◌, leb, sym, ap, ◌∙◌, arith, option_map, option_or, cond-true, cond-false, le-leb, lt-leb, Place, least_room, best_gap, gaps, place_in, top_place, top_gap, footprint, chunks_of, store_of, Some, None}
-use Rattle.heap_core.proofs.Gaps.{end_is, best_fits}
+use Rattle.heap_core.proofs.Lemmas.{◌≡◌, ◌+◌, leb, sym, ap, ◌∙◌, arith, option_map, option_or, cond-true, cond-false, le-leb, lt-leb, Place, least_room, best_gap, gaps, place_in, top_place, top_gap, footprint, chunks_of, store_of, Some, None, end_is, best_fits}
 use Rattle.heap_core.proofs.region.Region.place.Goals as goal
 
 pub overflow_cast-room : goal.overflow_cast-room

@@ -1,6 +1,4 @@
-use Rattle.heap_core.proofs.Words.{arith, ap, length, is_a_name, gaps_from_place}
-use Rattle.heap_core.proofs.Lists.{header_fits}
-use Rattle.heap_core.proofs.Walked.{walk_begun, step, walk_more, stopped_below, stopped_next, ended_below, ended_next}
+use Rattle.heap_core.proofs.Lemmas.{arith, ap, length, is_a_name, gaps_from_place, header_fits, walk_begun, step, walk_more, stopped_below, stopped_next, ended_below, ended_next}
 use Rattle.heap_core.proofs.region.Region.places_beside.Goals as goal
 
 pub loop-next-init : goal.loop-next-init

@@ -1,5 +1,4 @@
-use Rattle.heap_core.proofs.Words.{length, gaps_from_place}
-use Rattle.heap_core.proofs.Walked.{Walked}
+use Rattle.heap_core.proofs.Lemmas.{length, gaps_from_place, Walked}
 use Rattle.heap_core.proofs.region.Region.places_beside.Given as goal
 
 abbrev pub invariant-loop-next : goal.invariant-loop-next

@@ -1,8 +1,4 @@
-use Rattle.heap_core.proofs.Words.{rules, ◌≢◌, ◌+◌, ◌-◌, ◌≤◌, ◌<◌, ◌⊎◌, inl, inr, refl, sym, ◌∙◌, subst, arith, IfSome, resized, chunks_of, store_of, LiveIn, gap_count, bytes_given}
-use Rattle.heap_core.proofs.Holes.{Room, Put, into, put, free_room}
-use Rattle.heap_core.proofs.Lists.{gap_from_small, gaps_few, kept_then}
-use Rattle.heap_core.proofs.Members.{if_some, inside}
-use Rattle.heap_core.proofs.Places.{has_same}
+use Rattle.heap_core.proofs.Lemmas.{rules, ◌≢◌, ◌+◌, ◌-◌, ◌≤◌, ◌<◌, ◌⊎◌, inl, inr, refl, sym, ◌∙◌, subst, arith, IfSome, resized, chunks_of, store_of, LiveIn, gap_count, bytes_given, Room, Put, into, put, free_room, gap_from_small, gaps_few, kept_then, if_some, inside, has_same}
 use Rattle.heap_core.proofs.region.Region.put_block.Goals as goal
 use Rattle.heap_core.proofs.region.Region.put_block.Goals.{After-free_end-end, After-lay-first}
 

@@ -1,6 +1,4 @@
-use Rattle.heap_core.proofs.Words.{rules, ◌+◌, sym, ◌∙◌, arith}
-use Rattle.heap_core.proofs.ChunkHeaders.{changes_more}
-use Rattle.heap_core.proofs.WrittenHeaders.{live_written, live_changes, free_written, free_changes}
+use Rattle.heap_core.proofs.Lemmas.{rules, ◌+◌, sym, ◌∙◌, arith, changes_more, live_written, live_changes, free_written, free_changes}
 use Rattle.heap_core.proofs.region.Region.put_chunk.Goals as goal
 
 pub returns-then-is_a_name : goal.returns-then-is_a_name

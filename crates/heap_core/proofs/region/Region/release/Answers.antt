@@ -1,8 +1,4 @@
-use Rattle.heap_core.proofs.Words.{◌≡◌, ◌+◌, ◌-◌, ◌<◌, length, refl, sym, ap, ◌∙◌, subst, arith, IfSome, chunks_of, gaps_among, gap_count, free_from, front_gap}
-use Rattle.heap_core.proofs.Lists.{gap_from_small, gaps_few}
-use Rattle.heap_core.proofs.Places.{has_same}
-use Rattle.heap_core.proofs.Releases.{from_below, end_below}
-use Rattle.heap_core.proofs.Standing.{around, before_is, behind_is}
+use Rattle.heap_core.proofs.Lemmas.{◌≡◌, ◌+◌, ◌-◌, ◌<◌, length, refl, sym, ap, ◌∙◌, subst, arith, IfSome, chunks_of, gaps_among, gap_count, free_from, front_gap, gap_from_small, gaps_few, has_same, from_below, end_below, around, before_is, behind_is}
 use Rattle.heap_core.proofs.region.Region.release.Goals as goal
 use Rattle.heap_core.proofs.region.Region.release.Goals.{After-gap_count-2}
 

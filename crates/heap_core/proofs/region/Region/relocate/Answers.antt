@@ -1,8 +1,5 @@
-use Rattle.heap_core.proofs.Words.{rules, ◌≡◌, true, not, length, sym, ap, ◌∙◌, filter, option_map, ne_eqb, lt-ltb, resized, Place, Block, HeapStore, block_at, with_block, placed, is_a_name, is_named, chunks_of, store_of, unnamed, LiveIn, without_place, bytes_in_chunk, Some}
-use Rattle.heap_core.proofs.Blocks.{filter_placed, blocks_ascending, elsewhere}
-use Rattle.heap_core.proofs.Choices.{elsewhere_placed}
-use Rattle.heap_core.proofs.Callers.{KeepsToSpan-then}
-use Rattle.heap_core.proofs.Freed.{is_live, all_named, placed_unnamed, freed_none}
+use Rattle.heap_core.proofs.Lemmas.{rules, ◌≡◌, true, not, length, sym, ap, ◌∙◌, filter, option_map, ne_eqb, lt-ltb, resized, Place, Block, HeapStore, block_at, with_block, placed, is_a_name, is_named, chunks_of, store_of, unnamed, LiveIn, without_place, bytes_in_chunk, Some, filter_placed, blocks_ascending, elsewhere, elsewhere_placed, KeepsToSpan-then, all_named, placed_unnamed, freed_none}
+use Rattle.heap_core.proofs.Freed.{is_live}
 use Rattle.heap_core.proofs.region.Region.relocate.Goals as goal
 
 pub put_block-requires-clause-source : goal.put_block-requires-clause-source

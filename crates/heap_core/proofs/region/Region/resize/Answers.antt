@@ -1,10 +1,4 @@
-use Rattle.heap_core.proofs.Words.{ℕ, List, ◌+◌, ◌<◌, refl, sym, subst, ◌∙◌, arith, IfSome, filter, resized, Chunk, Region, Block, KeepsToSpan, chunks_of, store_of, gap_count, at_place, bytes_in_chunk}
-use Rattle.heap_core.proofs.Blocks.{elsewhere}
-use Rattle.heap_core.proofs.Callers.{KeepsToSpan-then}
-use Rattle.heap_core.proofs.Holes.{Room, Put, fits, into, put, own, own_end, own_room}
-use Rattle.heap_core.proofs.Lists.{gap_from_small, gaps_few, kept_then}
-use Rattle.heap_core.proofs.Places.{has_same}
-use Rattle.heap_core.proofs.ChunkHeaders.{changes_more}
+use Rattle.heap_core.proofs.Lemmas.{ℕ, List, ◌+◌, ◌<◌, refl, sym, subst, ◌∙◌, arith, IfSome, filter, resized, Chunk, Region, Block, KeepsToSpan, chunks_of, store_of, gap_count, at_place, bytes_in_chunk, elsewhere, KeepsToSpan-then, Room, Put, fits, into, put, own, own_end, own_room, gap_from_small, gaps_few, kept_then, has_same, changes_more}
 use Rattle.heap_core.proofs.region.Region.resize.Goals as goal
 use Rattle.heap_core.proofs.region.Region.resize.Goals.{After-gap_behind-gap, After-lay-first}
 

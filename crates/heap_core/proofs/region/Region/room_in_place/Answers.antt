@@ -1,7 +1,4 @@
-use Rattle.heap_core.proofs.Words.{◌≡◌, ◌+◌, ◌-◌, ◌≤◌, sym, ap, ◌∙◌, arith, least_room, room_taken, room_in_place, store_of, chunks_behind, front_gap, place_in_chunk, Some}
-use Rattle.heap_core.proofs.Standing.{around, behind_is}
-use Rattle.heap_core.proofs.Releases.{end_below}
-use Rattle.heap_core.proofs.Beside.{choice, room_is, choice_top, choice_no_top, choice_gap, choice_no_gap}
+use Rattle.heap_core.proofs.Lemmas.{◌≡◌, ◌+◌, ◌-◌, ◌≤◌, sym, ap, ◌∙◌, arith, least_room, room_taken, room_in_place, store_of, chunks_behind, front_gap, place_in_chunk, Some, around, behind_is, end_below, choice, room_is, choice_top, choice_no_top, choice_gap, choice_no_gap}
 use Rattle.heap_core.proofs.region.Region.room_in_place.Goals as goal
 use Rattle.heap_core.proofs.region.Region.room_in_place.Goals.{After-least_room-least}
 

@@ -1,6 +1,4 @@
-use Rattle.heap_core.proofs.Words.{rules, ◌+◌, refl, arith}
-use Rattle.heap_core.proofs.Freed.{owner_named, freed_small, newest_small, at, set_aside}
-use Rattle.heap_core.proofs.ChunkHeaders.{changes_more}
+use Rattle.heap_core.proofs.Lemmas.{rules, ◌+◌, refl, arith, owner_named, freed_small, newest_small, at, set_aside, changes_more}
 use Rattle.heap_core.proofs.region.Region.set_aside.Goals as goal
 
 pub put_chunk-requires : goal.put_chunk-requires

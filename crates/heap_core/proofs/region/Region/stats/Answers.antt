@@ -1,5 +1,4 @@
-use Rattle.heap_core.proofs.Words.{◌+◌, ◌-◌, sym, ◌∙◌, arith}
-use Rattle.heap_core.proofs.Sums.{counted_first, counted_fits, few_counted, met, counted_live, counted_free, counted_all}
+use Rattle.heap_core.proofs.Lemmas.{◌+◌, ◌-◌, sym, ◌∙◌, arith, counted_first, counted_fits, few_counted, met, counted_live, counted_free, counted_all}
 use Rattle.heap_core.proofs.region.Region.stats.Goals as goal
 
 pub loop-chunk-init : goal.loop-chunk-init

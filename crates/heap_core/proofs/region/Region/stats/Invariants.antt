@@ -1,4 +1,4 @@
-use Rattle.heap_core.proofs.Sums.{Counted}
+use Rattle.heap_core.proofs.Lemmas.{Counted}
 use Rattle.heap_core.proofs.region.Region.stats.Given as goal
 
 abbrev pub invariant-loop-chunk : goal.invariant-loop-chunk
