@@ -1,20 +1,13 @@
 -- The live blocks of all kinds lie apart, and each is read from its own part of the arena.
-use Rattle.std.proofs.Common.{◌≡◌, ◌≢◌, ℕ, zero, suc, ◌+◌, ◌≤◌, ◌<◌, ◌⊎◌, inl, inr, Bool, true, false, List, [], ◌∷◌, length, map, get_or, refl, sym, ap, ◌∙◌, arith, subst, Option, Some, None, slice_get, slice_index_or, replicate, IfSome, if◌then◌else◌}
-use Rattle.node_memory.proofs.Common.{range_of, Span, Extent, heap_of, AreLinked, PoolTable, pool_of, IsLaidOut, LieBehind, end_of, PoolWithLists, unused_pool_of, Layout, contents_of, seen, BlockName, IsBlockName, block_named, extent_in_pool, extent_named, header_of, IsReadFrom, BlocksLieApart}
-use Rattle.std.specs.Option.{option_map}
+use Rattle.node_memory.proofs.Common.{◌≡◌, ◌≢◌, ℕ, zero, suc, ◌+◌, ◌≤◌, ◌<◌, ◌⊎◌, inl, inr, Bool, true, false, List, [], ◌∷◌, length, map, get_or, refl, sym, ap, ◌∙◌, arith, subst, Option, Some, None, slice_get, slice_index_or, replicate, IfSome, if◌then◌else◌, range_of, Span, Extent, heap_of, AreLinked, PoolTable, pool_of, IsLaidOut, LieBehind, end_of, PoolWithLists, unused_pool_of, Layout, contents_of, seen, BlockName, IsBlockName, block_named, extent_in_pool, extent_named, header_of, IsReadFrom, BlocksLieApart, option_map, LiesIn, AreApart, IsLaidOut-apart, block_of, IsWithin, place_of, usable_bytes, ListedPool, placed}
 use Rattle.std.proofs.lemmas.Option.{slice_get-get_or, slice_get_within}
-use Rattle.arena_core.specs.Extents.{LiesIn, AreApart}
 use Rattle.arena_core.proofs.Ranges.{length-range}
-use Rattle.mmem_core.specs.Separation as managed
 use Rattle.mmem_core.proofs.PlaceLemmas.{len_le_room}
-use Rattle.heap_core.specs.Separation as heap
-use Rattle.heap_core.proofs.Callers.{IsLaidOut-apart}
-use Rattle.memb_core.specs.BlockPool.{block_of}
-use Rattle.memb_core.specs.PoolBytes.{IsWithin, place_of, region_of, usable_bytes}
-use Rattle.memb_core.specs.Separation as pools
+use Rattle.memb_core.specs.PoolBytes.{region_of}
 use Rattle.memb_core.proofs.Blocks.{get_or-blocks}
-use Rattle.node_memory.specs.declared.listed_pool.ListedPool.{ListedPool}
-use Rattle.node_memory.specs.Placed.{placed}
+use Rattle.mmem_core.specs.Separation as managed
+use Rattle.heap_core.specs.Separation as heap
+use Rattle.memb_core.specs.Separation as pools
 
 -- parts of spans that lie one behind the other
 spans_apart : (s t : Span) (e f : Extent) → LiesIn s e → LiesIn t f → s.at + s.len ≤ t.at → AreApart e f
@@ -165,16 +158,14 @@ module _ (l : Layout) (laid_out : IsLaidOut l) (managed_apart : managed.BlocksLi
 
   pooled-same : (k b c : ℕ) (e f : Extent) → b ≢ c → extent_named (BlockName.Pooled k b) l ≡ Some e → extent_named (BlockName.Pooled k c) l ≡ Some f → AreApart e f
   pooled-same k b c e f ne is is' =
-      let one = pool_in k b e (slice_get l.pools k) refl is in
-      let other = pool_in k c f (slice_get l.pools k) refl is' in
+      let one = pool_in k b e (slice_get l.pools k) refl is in let other = pool_in k c f (slice_get l.pools k) refl is' in
       let same : other.0 ≡ one.0 = some-same other.0 one.0 (sym other.1 ∙ one.1) in
       let second : pools.extent_of one.0.pool c ≡ f = ap (λ (m : ListedPool). pools.extent_of m.pool c) (sym same) ∙ other.3 in
       subst (λ (e : Extent). AreApart e f) one.3 (subst (λ (f : Extent). AreApart (pools.extent_of one.0.pool b) f) second ((pools_apart k one.0 one.1).apart b c ne))
 
   pooled-before : (k b j c : ℕ) (e f : Extent) → k < j → extent_named (BlockName.Pooled k b) l ≡ Some e → extent_named (BlockName.Pooled j c) l ≡ Some f → AreApart e f
   pooled-before k b j c e f before is is' =
-      let one = pool_in k b e (slice_get l.pools k) refl is in
-      let other = pool_in j c f (slice_get l.pools j) refl is' in
+      let one = pool_in k b e (slice_get l.pools k) refl is in let other = pool_in j c f (slice_get l.pools j) refl is' in
       spans_apart one.0.pool.span other.0.pool.span e f one.2 other.2 (in-order k j (end_of l.heap.span) l.pools one.0 other.0 l.bytes before laid_out.pools one.1 other.1)
 
   pooled_apart : (k b j c : ℕ) (e f : Extent) → BlockName.Pooled k b ≢ BlockName.Pooled j c → extent_named (BlockName.Pooled k b) l ≡ Some e → extent_named (BlockName.Pooled j c) l ≡ Some f → AreApart e f
@@ -225,8 +216,7 @@ module _ (l : Layout) (laid_out : IsLaidOut l) (managed_apart : managed.BlocksLi
       → block_named (BlockName.Pooled k b) (contents_of l) ≡ Some bytes → IsReadFrom (BlockName.Pooled k b) bytes l
   read-pool k b bytes (inr none) is = absurd (none_some (sym (ap (λ (s : PoolWithLists). block_of b s.pool) none ∙ none-of 16 b) ∙ is))
   read-pool k b bytes (inl found) is =
-      let listed = found.0 in
-      let pool = listed.pool in
+      let listed = found.0 in let pool = listed.pool in
       let live : block_of b (pool_of pool l.bytes) ≡ Some bytes = ap (λ (s : PoolWithLists). block_of b s.pool) (sym found.2) ∙ is in
       let fact = pools_apart k listed found.1 in
       let read : bytes ≡ range_of (pool.span.at + place_of pool b + 4) pool.usable l.bytes = some-then (block_of b (pool_of pool l.bytes)) bytes (λ block. block ≡ range_of (pool.span.at + place_of pool b + 4) pool.usable l.bytes) live (fact.read b) in
@@ -238,16 +228,13 @@ module _ (l : Layout) (laid_out : IsLaidOut l) (managed_apart : managed.BlocksLi
   read : (name : BlockName) (bytes : List ℕ) → block_named name (contents_of l) ≡ Some bytes → IsReadFrom name bytes l
   read (BlockName.Managed p h) bytes is =
       let there = mapped (managed.bytes_at_place l.managed l.bytes) (managed.place_of p h l.managed) bytes (sym (managed_apart.read p h) ∙ is) in
-      let place = there.0 in
-      let inside = managed_apart.inside p h place there.1 in
-      let room = len_le_room place.len in
-      let at = l.managed.span.at + place.at in
+      let place = there.0 in let inside = managed_apart.inside p h place there.1 in
+      let room = len_le_room place.len in let at = l.managed.span.at + place.at in
       let at_is : at ≡ at + 0 = omega arith in
       read-from (BlockName.Managed p h) bytes l (managed.extent_of l.managed place) at place.len (ap (λ o. option_map (managed.extent_of l.managed) o) there.1) there.2 at_is (omega (arith, inside, room, laid_out.managed)) (omega (arith, room))
   read (BlockName.Heap p b) bytes is =
       let there = mapped (heap.bytes_behind_header l.heap l.bytes) (heap.live_block p b (heap_of l.heap l.bytes)) bytes (sym (heap_apart.read p b) ∙ is) in
-      let block = there.0 in
-      let inside = heap_apart.inside p b block there.1 in
+      let block = there.0 in let inside = heap_apart.inside p b block there.1 in
       let room = heap_apart.room p b block there.1 in
       read-from (BlockName.Heap p b) bytes l (heap.extent_of l.heap block) (l.heap.span.at + block.at + l.heap.header) (length block.bytes) (ap (λ o. option_map (heap.extent_of l.heap) o) there.1) there.2 refl (omega (arith, inside, room, laid_out.heap.chunks.within)) (omega (arith, room))
   read (BlockName.Pooled k b) bytes is = read-pool k b bytes (seen-or k l.pools l.bytes (unused_pool_of 0)) is

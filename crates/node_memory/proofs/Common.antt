@@ -1,32 +1,39 @@
 -- The names that most proofs here cite, passed on from one place. Declares nothing.
 pub use Rattle.arena_core.specs.Contents.{Contents}
-pub use Rattle.arena_core.specs.Extents.{Extent}
+pub use Rattle.arena_core.specs.Extents.{AreApart, Extent, LiesIn}
 pub use Rattle.arena_core.specs.declared.span.Span.{Span}
 pub use Rattle.heap_core.specs.HeapBytes.{heap_of}
-pub use Rattle.heap_core.specs.HeapStore.{Block, HeapStore, block_at, reallocated}
+pub use Rattle.heap_core.specs.HeapStore.{Block, HeapStore, allocated, block_at, empty_heap, find_block, freed, has_name, length_of, moved, new_place, place, reallocated, resized_block, without_block}
 pub use Rattle.heap_core.specs.declared.region.Region.{Region}
-pub use Rattle.memb_core.specs.BlockLists.{head_of, tail_of, popped, chopped}
-pub use Rattle.memb_core.specs.BlockPool.{BlockPool}
+pub use Rattle.memb_core.specs.BlockLists.{added, chopped, has_number, head_of, holder_of, inserted, next_of, popped, pushed, tail_of, without}
+pub use Rattle.memb_core.specs.BlockPool.{BlockPool, block_of, first_unused, unused_pool}
 pub use Rattle.memb_core.specs.Links.{AreLinked, list_of}
+pub use Rattle.memb_core.specs.PoolBytes.{IsWithin, place_of, usable_bytes}
 unfoldable pub use Rattle.memb_core.specs.PoolBytes.{pool_of}
-pub use Rattle.memb_core.specs.PoolTable.{PoolTable}
+pub use Rattle.memb_core.specs.PoolTable.{ListHeads, PoolTable}
 pub use Rattle.memb_core.specs.declared.list_name.ListName.{ListName}
 pub use Rattle.mmem_core.proofs.StoreLemmas.{block_in}
-pub use Rattle.mmem_core.specs.ManagedStore.{ManagedStore, shortage, bytes_of}
-pub use Rattle.mmem_core.specs.HandleTable.{HandleTable, store_of}
-pub use Rattle.mote_types.specs.BlockNames.{number_of}
-pub use Rattle.mote_types.specs.Bytes.{range_of, zeros, overwritten}
+pub use Rattle.mmem_core.specs.ManagedStore.{ManagedStore, bytes_of, copied, empty_store, shortage, with_block, with_bytes}
+pub use Rattle.mmem_core.specs.HandleTable.{HandleTable, region_of, store_of}
+pub use Rattle.mote_types.specs.BlockNames.{IsName, number_of}
+pub use Rattle.mote_types.specs.Bytes.{overwritten, range_of, resized, zeros}
 pub use Rattle.mote_types.specs.declared.call.Call.{Call}
 pub use Rattle.mote_types.specs.declared.refusal.Refusal.{Refusal}
 pub use Rattle.mote_types.specs.declared.reply.Reply.{Reply}
-pub use Rattle.node_memory.specs.Ask.{Asked, ask_pool_of, MayAsk}
+pub use Rattle.node_memory.specs.Ask.{Asked, IfRefused, MayAsk, ask, ask_part, ask_pool_of, done_or_no_room}
 pub use Rattle.node_memory.specs.Code.Layout.{IsLaidOut, LieBehind, end_of}
-pub use Rattle.node_memory.specs.Frames.{frame_taken}
-pub use Rattle.node_memory.specs.HeapCalls.{realloc_refusal}
-pub use Rattle.node_memory.specs.ListedPools.{PoolWithLists, unused_pool_of, list_in, with_list, with_blocks}
-pub use Rattle.node_memory.specs.Memory.{Memory, with_pool, with_managed, with_heap}
-pub use Rattle.node_memory.specs.Placed.{PlacedMemory, contents_of, seen, Layout}
-pub use Rattle.node_memory.specs.PoolCalls.{PoolAsked, ask_pool, member_refusal}
-pub use Rattle.node_memory.specs.Separation.{BlockName, extent_in_pool, extent_named, StaysInPlace, LeavesAll, IsBlockName, block_named, header_of, IsReadFrom, BlocksLieApart, changed_block, frame_block}
-pub use Rattle.std.proofs.lemmas.List.{length-map}
-pub use Rattle.std.specs.Option.{option_map_or}
+pub use Rattle.node_memory.specs.Frames.{frame_dropped, frame_taken}
+pub use Rattle.node_memory.specs.HeapCalls.{alloc_refusal, free_refusal, is_heap_block, is_live, realloc_refusal}
+pub use Rattle.node_memory.specs.ListedPools.{PoolWithLists, list_in, list_named, unused_pool_of, with_blocks, with_list}
+pub use Rattle.node_memory.specs.Memory.{Memory, pool_in, usable_sizes, with_heap, with_managed, with_pool}
+pub use Rattle.node_memory.specs.Placed.{Layout, PlacedMemory, contents_of, placed, seen}
+pub use Rattle.node_memory.specs.PoolCalls.{PoolAsked, ask_pool, insert_refusal, link_refusal, member_refusal, number_or, write_refusal}
+pub use Rattle.node_memory.specs.Separation.{BlockName, BlocksLieApart, IsBlockName, IsReadFrom, LeavesAll, LeavesOthers, StaysInPlace, block_named, changed_block, extent_in_pool, extent_named, frame_block, header_of, lacks_place}
+pub use Rattle.std.proofs.lemmas.List.{append-nil, drop-replicate, get_or-set_other, get_or-set_same, length-map, length-set, set-get_or, set-set}
+pub use Rattle.std.specs.Option.{option_map, option_map_or}
+pub use Rattle.heap_core.proofs.Callers.{IsLaidOut-apart, IsLaidOut-elsewhere, heap_of-elsewhere}
+pub use Rattle.node_memory.specs.Answered.{done, unless_refused}
+pub use Rattle.std.proofs.Common.{Bool, IfNone, IfSome, List, None, Option, Some, [], ap, ap₂, arith, drop, false, filter, find, get_or, if◌then◌else◌, inl, inr, is_some, length, map, nat_lt, not, refl, replicate, rules, set, slice_get, slice_index_or, subst, suc, sym, true, unwrap_or, zero, ℕ, ◌++◌, ◌+◌, ◌-◌, ◌/◌, ◌<◌, ◌==◌, ◌∙◌, ◌∷◌, ◌≡◌, ◌≢◌, ◌≤◌, ◌⊎◌}
+pub use Rattle.node_memory.specs.declared.listed_pool.ListedPool.{ListedPool}
+pub use Rattle.std.proofs.lemmas.Bool.Decides.{nat_tests}
+pub use Rattle.node_memory.specs.declared.parts.Part.{Part}

@@ -1,7 +1,5 @@
 -- What it comes to that blocks lie apart, and what a refused call leaves.
-use Rattle.std.proofs.Common.{◌≡◌, ◌≢◌, ℕ, ◌+◌, ◌≤◌, ◌<◌, inl, inr, List, [], ◌∷◌, length, map, refl, ap, arith, Some, None, replicate}
-use Rattle.node_memory.proofs.Common.{range_of, Call, Refusal, Reply, Memory, PlacedMemory, BlockName, IsBlockName, block_named, changed_block, extent_named, header_of, IsReadFrom, BlocksLieApart, LeavesAll}
-use Rattle.node_memory.specs.Separation.{LeavesOthers}
+use Rattle.node_memory.proofs.Common.{◌≡◌, ◌≢◌, ℕ, ◌+◌, ◌≤◌, ◌<◌, inl, inr, List, [], ◌∷◌, length, map, refl, ap, arith, Some, None, replicate, range_of, Call, Refusal, Reply, Memory, PlacedMemory, BlockName, IsBlockName, block_named, changed_block, extent_named, header_of, IsReadFrom, BlocksLieApart, LeavesAll, LeavesOthers}
 
 -- the bytes of a live block lie in the arena, and those of two different blocks share none
 module _ (m : PlacedMemory) (lie : BlocksLieApart m) where

@@ -1,21 +1,80 @@
--- What lies behind managed memory stays where other bytes of the arena change.
-use Rattle.std.proofs.Common.{subst, ◌≡◌, false, ℕ, zero, suc, ◌+◌, ◌≤◌, ◌<◌, ◌⊎◌, inl, inr, List, [], ◌∷◌, length, map, set, get_or, refl, sym, ap, ◌∙◌, arith, Option, nat_lt}
-use Rattle.node_memory.proofs.Common.{length-map, Call, Reply, Span, Contents, number_of, ManagedStore, Region, HeapStore, heap_of, HandleTable, store_of, block_in, ListName, AreLinked, list_of, pool_of, PoolWithLists, unused_pool_of, LieBehind, IsLaidOut, end_of, Layout, contents_of, seen, Memory, with_pool, with_managed, with_heap, Asked, ask_pool_of, PoolAsked, ask_pool}
-use Rattle.std.proofs.lemmas.List.{length-set, set-get_or}
+-- What a pool with its lists shows after a call on one of the two.
+use Rattle.node_memory.proofs.Common.{PlacedMemory, ◌≡◌, ℕ, ◌-◌, arith, Bool, true, false, List, [], ◌∷◌, length, refl, sym, ap, ◌∙◌, Some, None, is_some, slice_get, if◌then◌else◌, ListName, PoolTable, BlockPool, head_of, tail_of, popped, chopped, list_of, AreLinked, pool_of, PoolWithLists, list_in, with_list, with_blocks, seen, ListHeads, has_number, holder_of, ListedPool, subst, zero, suc, ◌+◌, ◌≤◌, ◌<◌, ◌⊎◌, inl, inr, map, set, get_or, Option, nat_lt, length-map, Call, Reply, Span, Contents, number_of, ManagedStore, Region, HeapStore, heap_of, HandleTable, store_of, block_in, unused_pool_of, LieBehind, IsLaidOut, end_of, Layout, contents_of, Memory, with_pool, with_managed, with_heap, Asked, ask_pool_of, PoolAsked, ask_pool, length-set, set-get_or, with_block, heap_of-elsewhere, IsLaidOut-elsewhere, region_of, placed, ◌++◌, unwrap_or, replicate, zeros, overwritten, bytes_of, frame_taken, append-nil, drop-replicate, get_or-set_same, set-set, with_bytes}
+use Rattle.std.proofs.lemmas.Bool.{false≢true}
+use Rattle.memb_core.specs.Links.{LeavesOthers}
+use Rattle.node_memory.specs.Code.ListCalls.{is_holder}
 use Rattle.arena_core.specs.Outside.{ChangesOnly}
 use Rattle.mmem_core.specs.declared.quotas.Quotas.{Quotas}
-use Rattle.mmem_core.specs.ManagedStore.{with_block}
+use Rattle.memb_core.proofs.Callers.{pool_of-elsewhere, list_of-elsewhere, AreLinked-elsewhere}
 use Rattle.heap_core.specs.HeapBytes as heap
-use Rattle.heap_core.proofs.Callers.{heap_of-elsewhere, IsLaidOut-elsewhere}
-use Rattle.mmem_core.specs.HandleTable.{region_of}
 use Rattle.mmem_core.specs.HandleTable as managed
 use Rattle.mmem_core.proofs.Callers as managed_calls
 use Rattle.memb_core.specs.PoolBytes as pools
-use Rattle.memb_core.proofs.Callers.{pool_of-elsewhere, list_of-elsewhere, AreLinked-elsewhere}
-use Rattle.node_memory.specs.declared.listed_pool.ListedPool.{ListedPool}
-use Rattle.node_memory.specs.Placed.{placed}
-use Rattle.node_memory.proofs.Listed.{shown}
 
+abbrev pub listed_of : PoolTable → ListHeads → ListedPool
+listed_of pool lists = record { pool = pool; lists = lists }
+
+abbrev pub shown : BlockPool → List ℕ → List ℕ → PoolWithLists
+shown pool first second = record { pool = pool; first = first; second = second }
+
+pub list_in-seen : (name : ListName) (listed : ListedPool) (bytes : List ℕ) → list_in name (seen listed bytes) ≡ list_of name listed.lists listed.pool bytes
+list_in-seen ListName.First listed bytes = refl
+list_in-seen ListName.Second listed bytes = refl
+
+-- a call on one list changed that list alone
+pub seen-list : (name : ListName) (pool : PoolTable) (old new : ListHeads) (before after list : List ℕ) → LeavesOthers name pool old new before after
+    → list_of name new pool after ≡ list → with_list name list (seen (listed_of pool old) before) ≡ seen (listed_of pool new) after
+seen-list ListName.First pool old new before after list leaves is =
+    ap (λ p. shown p list (list_of ListName.Second old pool before)) (sym leaves.blocks)
+    ∙ ap (λ l. shown (pool_of pool after) l (list_of ListName.Second old pool before)) (sym is)
+    ∙ ap (λ l. shown (pool_of pool after) (list_of ListName.First new pool after) l) (sym (leaves.list ListName.Second (λ e. absurd (cc))))
+seen-list ListName.Second pool old new before after list leaves is =
+    ap (λ p. shown p (list_of ListName.First old pool before) list) (sym leaves.blocks)
+    ∙ ap (λ l. shown (pool_of pool after) (list_of ListName.First old pool before) l) (sym is)
+    ∙ ap (λ l. shown (pool_of pool after) l (list_of ListName.Second new pool after)) (sym (leaves.list ListName.First (λ e. absurd (cc))))
+
+-- a call on the blocks changed no list
+pub seen-blocks : (lists : ListHeads) (old new : PoolTable) (before after : List ℕ) (blocks : BlockPool)
+    → ((name : ListName) → list_of name lists new after ≡ list_of name lists old before)
+    → pool_of new after ≡ blocks → with_blocks blocks (seen (listed_of old lists) before) ≡ seen (listed_of new lists) after
+seen-blocks lists old new before after blocks same is =
+    ap (λ p. shown p (list_of ListName.First lists old before) (list_of ListName.Second lists old before)) (sym is)
+    ∙ ap (λ l. shown (pool_of new after) l (list_of ListName.Second lists old before)) (sym (same ListName.First))
+    ∙ ap (λ l. shown (pool_of new after) (list_of ListName.First lists new after) l) (sym (same ListName.Second))
+
+-- an empty list has nothing to give
+pub popped-none : (list : List ℕ) → head_of list ≡ None → popped list ≡ list
+popped-none [] none = refl
+popped-none (b ∷ later) none = absurd (cc)
+
+has_tail : (b : ℕ) (later : List ℕ) → is_some (slice_get (b ∷ later) (length later)) ≡ true
+has_tail b [] = refl
+has_tail b (next ∷ later) = has_tail next later
+
+pub chopped-none : (list : List ℕ) → tail_of list ≡ None → chopped list ≡ list
+chopped-none [] none = refl
+chopped-none (b ∷ later) none =
+    let last : length (b ∷ later) - 1 ≡ length later = omega arith in
+    absurd (false≢true (ap is_some (sym none) ∙ ap (λ n. is_some (slice_get (b ∷ later) n)) last ∙ has_tail b later))
+
+holder_cases : (name : ListName) (first second : Bool) → (first ≡ true → second ≡ false)
+    → is_holder name (if first then Some ListName.First else if second then Some ListName.Second else None) ≡ (elim name [ ListName.First ↦ first | ListName.Second ↦ second ])
+holder_cases ListName.First true second apart = refl
+holder_cases ListName.First false true apart = refl
+holder_cases ListName.First false false apart = refl
+holder_cases ListName.Second true second apart = sym (apart refl)
+holder_cases ListName.Second false true apart = refl
+holder_cases ListName.Second false false apart = refl
+
+-- a block is in the list that holds it, and in no other
+pub is_holder-is : (name : ListName) (b : ℕ) (lists : ListHeads) (pool : PoolTable) (bytes : List ℕ) → AreLinked lists pool bytes
+    → is_holder name (holder_of b (list_of ListName.First lists pool bytes) (list_of ListName.Second lists pool bytes)) ≡ has_number b (list_of name lists pool bytes)
+is_holder-is ListName.First b lists pool bytes linked =
+    holder_cases ListName.First (has_number b (list_of ListName.First lists pool bytes)) (has_number b (list_of ListName.Second lists pool bytes)) (linked.apart b ListName.First ListName.Second (λ e. absurd (cc)))
+is_holder-is ListName.Second b lists pool bytes linked =
+    holder_cases ListName.Second (has_number b (list_of ListName.First lists pool bytes)) (has_number b (list_of ListName.Second lists pool bytes)) (linked.apart b ListName.First ListName.Second (λ e. absurd (cc)))
+
+-- What lies behind managed memory stays where other bytes of the arena change.
 abbrev pub layout_of : HandleTable → Region → List ListedPool → List ℕ → Layout
 layout_of table heap listed bytes = record { managed = table; heap = heap; pools = listed; bytes = bytes }
 
@@ -61,13 +120,11 @@ pub one-changed : (k from : ℕ) (listed : List ListedPool) (d new : ListedPool)
     × (map (seen_by after.bytes) (set listed k new) ≡ set (map (seen_by before.bytes) listed) k (seen new after.bytes))
 one-changed k from [] d new before after lt lie kept linked = absurd (omega arith)
 one-changed zero from (l ∷ later) d new before after lt lie kept linked =
-    let at = ap (λ (s : Span). s.at) kept.span in
-    let len = ap (λ (s : Span). s.len) kept.span in
+    let at = ap (λ (s : Span). s.at) kept.span in let len = ap (λ (s : Span). s.len) kept.span in
     let rest = behind-same l.pool.span.at l.pool.span.len before.bytes after.bytes kept.bytes (new.pool.span.at + new.pool.span.len) later (omega (arith, at, len)) (rw at (rw len lie.2)) in
     ((omega (arith, at, lie.0), linked, rest.0), ap (λ s. seen new after.bytes ∷ s) rest.1)
 one-changed (suc k) from (l ∷ later) d new before after lt lie kept linked =
-    let end = l.pool.span.at + l.pool.span.len in
-    let p = (get_or later k d).pool in
+    let end = l.pool.span.at + l.pool.span.len in let p = (get_or later k d).pool in
     let far = lies_behind k end later d before.bytes (omega arith) lie.2 in
     let rest = one-changed k end later d new before after (omega arith) lie.2 kept linked in (
       (lie.0, AreLinked-elsewhere l.pool p.span.at p.span.len before.bytes after.bytes kept.bytes (inl far) l.lists lie.1, rest.0),
@@ -137,6 +194,16 @@ module _ (table : HandleTable) (old new : Region) (listed : List ListedPool) (be
       ap (λ s. memory_of s (heap_of new after.bytes) (map (seen_by after.bytes) listed)) (managed_calls.store_of-elsewhere table old.span.at old.span.len before.bytes after.bytes kept.bytes (inl laid_out.behind))
       ∙ ap (λ l. memory_of (store_of table before.bytes) (heap_of new after.bytes) l) lie_behind.1
 
+  -- the same for a memory that shows what stood there
+  pub heap-shown : (m : PlacedMemory) → placed (layout_of table old listed before.bytes) ≡ m → (h : HeapStore) → heap_of new after.bytes ≡ h
+      → contents_of (layout_of table new listed after.bytes) ≡ with_heap h m.contents
+  heap-shown m view h is =
+      heap-changed ∙ ap (λ k. with_heap k (contents_of (layout_of table old listed before.bytes))) is ∙ ap (λ (v : PlacedMemory). with_heap h v.contents) view
+
+  pub heap-unchanged : (m : PlacedMemory) → placed (layout_of table old listed before.bytes) ≡ m → heap_of new after.bytes ≡ heap_of old before.bytes
+      → contents_of (layout_of table new listed after.bytes) ≡ m.contents
+  heap-unchanged m view is = heap-shown m view (heap_of old before.bytes) is ∙ ap (λ k. with_heap k m.contents) (ap (λ (v : PlacedMemory). v.contents.heap) view)
+
 -- a call that is refused changes nothing
 pub still-laid_out : (old new : HandleTable) (heap : Region) (listed : List ListedPool) (before after : Contents) → IsLaidOut (layout_of old heap listed before.bytes) → (new ≡ old) × (after ≡ before)
     → IsLaidOut (layout_of new heap listed after.bytes)
@@ -203,3 +270,40 @@ refused-pool table heap k listed d new before after same =
     ap (λ (a : Contents). placed (layout_of table heap (set listed k new) a.bytes)) same.1
     ∙ ap (λ l. placed (layout_of table heap (set listed k l) before.bytes)) same.0
     ∙ ap (λ l. placed (layout_of table heap l before.bytes)) (set-get_or listed k d)
+
+-- A frame goes into a block that is made for it.
+
+-- a write over all of a block
+overwritten-all : (bytes : List ℕ) → overwritten 0 bytes (zeros (length bytes)) ≡ bytes
+overwritten-all bytes =
+    let n = length bytes in let byte : ℕ = 0 in let none : n - (0 + n) ≡ 0 = omega arith in
+    ap (λ rest. bytes ++ rest) (drop-replicate (0 + n) n byte ∙ ap (λ m. replicate m byte) none) ∙ append-nil bytes
+
+-- a block that is made and then written over
+written-block : (p h : ℕ) (bytes : List ℕ) (store new : ManagedStore) → number_of p h < length store.blocks → new ≡ with_block p h (Some (zeros (length bytes))) store
+    → with_bytes p h 0 bytes new ≡ with_block p h (Some bytes) store
+written-block p h bytes store new below is =
+    let i = number_of p h in let made = with_block p h (Some (zeros (length bytes))) store in
+    let read : bytes_of p h made ≡ zeros (length bytes) = ap (λ o. unwrap_or o []) (get_or-set_same store.blocks i (Some (zeros (length bytes))) None below) in
+    ap (λ (s : ManagedStore). with_bytes p h 0 bytes s) is
+    ∙ ap (λ b. with_block p h (Some (overwritten 0 bytes b)) made) read
+    ∙ ap (λ b. with_block p h (Some b) made) (overwritten-all bytes)
+    ∙ ap (λ blocks. let s : ManagedStore = record { capacity = store.capacity; quota = store.quota; blocks = blocks } in s) (set-set store.blocks i (Some (zeros (length bytes))) (Some bytes))
+
+module _ (slot : ℕ) (bytes : List ℕ) (old new : HandleTable) (heap : Region) (listed : List ListedPool) (before middle after : Contents) (laid_out : IsLaidOut (layout_of old heap listed before.bytes)) (slot_is : slot < 8) (made : managed.KeepsToSpan old new before middle) (made_is : store_of new middle.bytes ≡ with_block 3 slot (Some (zeros (length bytes))) (store_of old before.bytes)) (wrote : managed.KeepsToSpan new new middle after) (wrote_is : store_of new after.bytes ≡ with_bytes 3 slot 0 bytes (store_of new middle.bytes)) where
+  middle_laid_out : IsLaidOut (layout_of new heap listed middle.bytes)
+  middle_laid_out = after-managed 3 slot (Some (zeros (length bytes))) old new heap listed before middle laid_out made made_is
+
+  abbrev written : Option (List ℕ)
+  written = Some (overwritten 0 bytes (bytes_of 3 slot (store_of new middle.bytes)))
+
+  pub after-frame : IsLaidOut (layout_of new heap listed after.bytes)
+  after-frame = after-managed 3 slot written new new heap listed middle after middle_laid_out wrote wrote_is
+
+  pub frame-changed : contents_of (layout_of new heap listed after.bytes) ≡ frame_taken slot bytes (contents_of (layout_of old heap listed before.bytes))
+  frame-changed =
+      let store = store_of old before.bytes in
+      let count : length store.blocks ≡ 272 = length-map old.places (block_in (region_of old before.bytes)) ∙ laid_out.names in
+      managed-changed 3 slot written new new heap listed middle after middle_laid_out wrote wrote_is
+      ∙ ap (λ (s : ManagedStore). with_managed s (contents_of (layout_of new heap listed middle.bytes))) (written-block 3 slot bytes store (store_of new middle.bytes) (omega (arith, count, slot_is)) made_is)
+      ∙ ap (λ (m : Memory). with_managed (with_block 3 slot (Some bytes) store) m) (managed-changed 3 slot (Some (zeros (length bytes))) old new heap listed before middle laid_out made made_is)

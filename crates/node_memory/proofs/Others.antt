@@ -1,27 +1,15 @@
 -- A call leaves every block that it does not name.
-use Rattle.std.proofs.Common.{arith, ◌≡◌, ◌≢◌, ◌⊎◌, inl, inr, ℕ, zero, suc, Bool, true, false, List, [], ◌∷◌, set, get_or, refl, sym, ap, ap₂, ◌∙◌, ◌≤◌, ◌==◌, ◌/◌, Option, Some, None, nat_lt, length, if◌then◌else◌}
-use Rattle.node_memory.proofs.Common.{zeros, overwritten, range_of, Call, Refusal, Reply, ListName, BlockPool, popped, chopped, head_of, tail_of, number_of, bytes_of, Asked, PoolWithLists, list_in, with_list, with_blocks, unused_pool_of, HeapStore, realloc_refusal, Memory, with_pool, with_managed, with_heap, PoolAsked, ask_pool, member_refusal, BlockName, block_named, changed_block, frame_block}
-use Rattle.std.specs.Option.{option_map}
-use Rattle.std.proofs.lemmas.Bool.Decides.{nat_tests}
-use Rattle.mote_types.specs.Bytes.{resized}
-use Rattle.std.proofs.lemmas.List.{get_or-set_other}
+use Rattle.node_memory.proofs.Common.{arith, ◌≡◌, ◌≢◌, ◌⊎◌, inl, inr, ℕ, zero, suc, Bool, true, false, List, [], ◌∷◌, set, get_or, refl, sym, ap, ap₂, ◌∙◌, ◌≤◌, ◌==◌, ◌/◌, Option, Some, None, nat_lt, length, if◌then◌else◌, zeros, overwritten, range_of, Call, Refusal, Reply, ListName, BlockPool, popped, chopped, head_of, tail_of, number_of, bytes_of, Asked, PoolWithLists, list_in, with_list, with_blocks, unused_pool_of, HeapStore, realloc_refusal, Memory, with_pool, with_managed, with_heap, PoolAsked, ask_pool, member_refusal, BlockName, block_named, changed_block, frame_block, option_map, nat_tests, resized, get_or-set_other, block_of, first_unused, next_of, IsName, with_block, ask, list_named, pool_in, number_or, write_refusal, unless_refused, done, LeavesOthers, subst, MayAsk, Part, ask_part, is_some, IfNone, ManagedStore, shortage, HandleTable, store_of, IfRefused}
+use Rattle.memb_core.specs.BlockPool.{allocated, freed, with_bytes}
+use Rattle.node_memory.proofs.HeapBlocks.{Results, alloc-results, realloc-results, free-results, write-results}
+use Rattle.node_memory.specs.ManagedCalls.{is_handle, alloc_refusal, copy_refusal}
+use Rattle.node_memory.specs.PoolCalls.{free_refusal}
+use Rattle.node_memory.specs.Parts.{part_called}
 use Rattle.memb_core.specs.BlockPool as blocks
-use Rattle.memb_core.specs.BlockPool.{block_of, first_unused, allocated, freed, with_bytes}
-use Rattle.memb_core.specs.BlockLists.{next_of}
-use Rattle.mote_types.specs.BlockNames.{IsName}
-use Rattle.mmem_core.specs.ManagedStore.{with_block}
 use Rattle.node_memory.specs.Ask as asking
-use Rattle.node_memory.specs.Ask.{ask}
-use Rattle.node_memory.specs.ListedPools.{list_named}
 use Rattle.heap_core.specs.HeapStore as heap_store
 use Rattle.node_memory.specs.HeapCalls as heap_calls
-use Rattle.node_memory.proofs.HeapBlocks.{Results, alloc-results, realloc-results, free-results, write-results}
 use Rattle.node_memory.specs.ManagedCalls as managed_calls
-use Rattle.node_memory.specs.ManagedCalls.{is_handle, alloc_refusal, copy_refusal}
-use Rattle.node_memory.specs.Memory.{pool_in}
-use Rattle.node_memory.specs.PoolCalls.{number_or, free_refusal, write_refusal}
-use Rattle.node_memory.specs.Answered.{unless_refused, done}
-use Rattle.node_memory.specs.Separation.{LeavesOthers}
 
 -- an element that is set is read back, or nothing changed there
 get-set : {X : Type 0} (xs : List X) (k j : ℕ) (x d : X) → (get_or (set xs k x) j d ≡ get_or xs j d) ⊎ ((j ≡ k) × (get_or (set xs k x) j d ≡ x))
@@ -192,3 +180,30 @@ leaves (Call.ListHead l) p old low = λ name named other. leaves-at (Call.ListHe
 leaves (Call.ListNext l b) p old low = λ name named other. leaves-at (Call.ListNext l b) (l / 2) p old refl (nat_lt 3 (l / 2)) name other
 leaves (Call.ListLength l) p old low = λ name named other. leaves-at (Call.ListLength l) (l / 2) p old refl (nat_lt 3 (l / 2)) name other
 leaves _ p old low = λ name named other. refl
+
+-- What is asked of the part that a call is on leaves the blocks that the call does not name.
+
+-- the kernel's processes 0 to 2 ask nothing
+may-low : (call : Call) (p : ℕ) → MayAsk p call → 3 ≤ p
+may-low Call.MmemAvail p may = may.0
+may-low call p may = omega (arith, may)
+
+pub leaves-of-part : (call : Call) (p : ℕ) (part : Part) (old new : Memory) (reply : Reply) → MayAsk p call → part_called call ≡ Some part
+    → ask_part (Some part) call p old ≡ (new, reply) → LeavesOthers (changed_block call p old) old new
+leaves-of-part call p part old new reply may is asked =
+    let after : (ask_part (part_called call) call p old).0 ≡ new = ap (λ (a : Asked). a.0) (ap (λ o. ask_part o call p old) is ∙ asked) in
+    subst (λ (m : Memory). LeavesOthers (changed_block call p old) old m) after (leaves call p old (may-low call p may))
+
+-- What follows where a reply is a refusal, and where nothing was found.
+pub refused-then : {X Y : Type 0} (reply : Reply) → (X → Y) → IfRefused reply X → IfRefused reply Y
+refused-then (Reply.Refused refusal) f refused = f refused
+refused-then _ f refused = tt
+
+pub none-then : {X F : Type 0} (found : Option X) → is_some found ≡ false → IfNone found F → F
+none-then None none fact = fact
+none-then (Some x) none fact = absurd (cc)
+
+-- where a refusal left the table as it was, the reason that is told is that of the store as it was
+pub shortage-of-before : (told : Refusal) (before after : HandleTable) (bytes : List ℕ) (managed : ManagedStore) → told ≡ shortage (store_of after bytes) → after ≡ before → store_of before bytes ≡ managed → told ≡ shortage managed
+shortage-of-before told before after bytes managed is-told same seen =
+    is-told ∙ ap (λ t. shortage (store_of t bytes)) same ∙ ap (λ store. shortage store) seen

@@ -1,14 +1,9 @@
 -- What a refused call leaves as it is and where it is.
-use Rattle.std.proofs.Common.{◌≡◌, ℕ, zero, suc, ◌+◌, true, List, [], ◌∷◌, map, drop, refl, ap, ◌∙◌, Option, slice_get}
-use Rattle.node_memory.proofs.Common.{Call, Reply, Span, Extent, HandleTable, Region, heap_of, Block, HeapStore, PoolWithLists, Memory, PlacedMemory, contents_of, seen, BlockName, extent_in_pool, extent_named, StaysInPlace, LeavesAll}
-use Rattle.std.specs.Option.{option_map}
+use Rattle.node_memory.proofs.Common.{subst, sym, Refusal, ◌≡◌, ℕ, zero, suc, ◌+◌, true, List, [], ◌∷◌, map, drop, refl, ap, ◌∙◌, Option, slice_get, Call, Reply, Span, Extent, HandleTable, Region, heap_of, Block, HeapStore, PoolWithLists, Memory, PlacedMemory, contents_of, seen, BlockName, extent_in_pool, extent_named, StaysInPlace, LeavesAll, option_map, ListedPool, placed, lacks_place}
 use Rattle.heap_core.specs.Separation.{live_block}
+use Rattle.node_memory.proofs.LaidOut.{layout_of}
 use Rattle.memb_core.specs.BlockPool as pools
 use Rattle.memb_core.specs.Separation as places_in_pool
-use Rattle.node_memory.specs.declared.listed_pool.ListedPool.{ListedPool}
-use Rattle.node_memory.specs.Placed.{placed}
-use Rattle.node_memory.specs.Separation.{lacks_place}
-use Rattle.node_memory.proofs.LaidOut.{layout_of}
 
 abbrev seen_by : List ℕ → ListedPool → PoolWithLists
 seen_by bytes l = seen l bytes
@@ -41,3 +36,12 @@ leaves_all call reply old new e = record { blocks = stays old new e; rest = λ _
 
 pub leaves_blocks : (call : Call) (reply : Reply) (old new : PlacedMemory) → lacks_place call reply ≡ true → StaysInPlace old new → LeavesAll call reply old new
 leaves_blocks call reply old new lacks stay = record { blocks = stay; rest = λ e. absurd (cc) }
+
+-- a call on the heap for which there is no place
+pub heap_leaves : (table : HandleTable) (old new : Region) (listed : List ListedPool) (before after : List ℕ) → new.span ≡ old.span → (m : PlacedMemory) → placed (layout_of table old listed before) ≡ m
+    → contents_of (layout_of table new listed after) ≡ m.contents → (call : Call) → lacks_place call (Reply.Refused Refusal.NoRoom) ≡ true
+    → LeavesAll call (Reply.Refused Refusal.NoRoom) m (placed (layout_of table new listed after))
+heap_leaves table old new listed before after span m view same call lacks =
+    leaves_blocks call (Reply.Refused Refusal.NoRoom) m (placed (layout_of table new listed after)) lacks
+    (subst (λ (k : PlacedMemory). StaysInPlace k (placed (layout_of table new listed after))) view
+    (heap_stays table old new listed before after span (same ∙ ap (λ (k : PlacedMemory). k.contents) (sym view))))

@@ -1,8 +1,4 @@
-use Rattle.std.proofs.Common.{ap, ◌∙◌, sym}
-use Rattle.node_memory.proofs.Common.{list_in, seen}
-use Rattle.memb_core.specs.BlockLists.{added}
-use Rattle.node_memory.specs.Answered.{done}
-use Rattle.node_memory.proofs.Listed.{seen-list, list_in-seen}
+use Rattle.node_memory.proofs.Lemmas.{ap, ◌∙◌, sym, list_in, seen, added, done, seen-list, list_in-seen}
 use Rattle.node_memory.proofs.listed_pool.ListedPool.add.Goals as goal
 
 pub returns-clause-asked : goal.returns-clause-asked

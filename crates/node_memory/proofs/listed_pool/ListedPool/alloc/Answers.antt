@@ -1,7 +1,5 @@
-use Rattle.std.proofs.Common.{ap, sym}
-use Rattle.node_memory.proofs.Common.{Reply, pool_of, PoolWithLists, PoolAsked}
+use Rattle.node_memory.proofs.Lemmas.{ap, sym, Reply, pool_of, PoolWithLists, PoolAsked, seen-blocks}
 use Rattle.memb_core.specs.BlockPool.{allocated}
-use Rattle.node_memory.proofs.Listed.{seen-blocks}
 use Rattle.node_memory.proofs.listed_pool.ListedPool.alloc.Goals as goal
 
 pub returns-in-Some-clause-asked : goal.returns-in-Some-clause-asked
@@ -12,5 +10,4 @@ returns-in-Some-clause-asked c =
     (seen-blocks c.args.self.now.lists c.args.self.now.pool c.alloc.new.self c.args.arena.now.bytes c.alloc.new.arena.bytes (allocated c.in-Some.block (pool_of c.args.self.now.pool c.args.arena.now.bytes)) (c.alloc.ensures.lists.same c.args.self.now.lists c.requires) c.in-Some.ensures.block)))
 
 pub returns-in-Some-clause-linked : goal.returns-in-Some-clause-linked
-returns-in-Some-clause-linked c =
-    c.alloc.ensures.lists.linked c.args.self.now.lists c.requires
+returns-in-Some-clause-linked c = c.alloc.ensures.lists.linked c.args.self.now.lists c.requires

@@ -1,12 +1,9 @@
-use Rattle.std.proofs.Common.{ap, ◌∙◌, sym, ◌≡◌, Some}
-use Rattle.node_memory.proofs.Common.{Reply, chopped, tail_of, PoolWithLists, list_in, seen, PoolAsked}
-use Rattle.node_memory.proofs.Listed.{seen-list, list_in-seen}
+use Rattle.node_memory.proofs.Lemmas.{ap, ◌∙◌, sym, ◌≡◌, Some, Reply, chopped, tail_of, PoolWithLists, list_in, seen, PoolAsked, seen-list, list_in-seen}
 use Rattle.node_memory.proofs.listed_pool.ListedPool.chop.Goals as goal
 
 pub returns-in-Some-clause-asked : goal.returns-in-Some-clause-asked
 returns-in-Some-clause-asked c =
-    let name = c.list_named-list.result in
-    let old = seen c.args.self.now c.args.arena.now.bytes in
+    let name = c.list_named-list.result in let old = seen c.args.self.now c.args.arena.now.bytes in
     let listed = list_in-seen name c.args.self.now c.args.arena.now.bytes in
     let tail : tail_of (list_in name old) ≡ Some c.in-Some.tail = ap tail_of listed ∙ sym c.in-Some.ensures.tail in
     rw (sym c.list_named-list.ensures)

@@ -1,9 +1,6 @@
-use Rattle.std.proofs.Common.{arith, ap, ◌≡◌, None}
-use Rattle.node_memory.proofs.Common.{pool_of, seen}
+use Rattle.node_memory.proofs.Lemmas.{arith, ap, ◌≡◌, None, pool_of, seen, done, seen-blocks}
 use Rattle.memb_core.specs.BlockPool.{freed}
 use Rattle.node_memory.specs.PoolCalls.{free_refusal}
-use Rattle.node_memory.specs.Answered.{done}
-use Rattle.node_memory.proofs.Listed.{seen-blocks}
 use Rattle.node_memory.proofs.listed_pool.ListedPool.free.Goals as goal
 
 pub returns-clause-asked : goal.returns-clause-asked

@@ -1,9 +1,4 @@
-use Rattle.std.proofs.Common.{arith, ap, ◌∙◌, sym, ◌≡◌, None}
-use Rattle.node_memory.proofs.Common.{list_in, seen}
-use Rattle.memb_core.specs.BlockLists.{inserted}
-use Rattle.node_memory.specs.PoolCalls.{link_refusal, insert_refusal}
-use Rattle.node_memory.specs.Answered.{done}
-use Rattle.node_memory.proofs.Listed.{seen-list, list_in-seen}
+use Rattle.node_memory.proofs.Lemmas.{arith, ap, ◌∙◌, sym, ◌≡◌, None, list_in, seen, inserted, link_refusal, insert_refusal, done, seen-list, list_in-seen}
 use Rattle.node_memory.proofs.listed_pool.ListedPool.insert.Goals as goal
 
 pub returns-clause-asked : goal.returns-clause-asked

@@ -1,5 +1,4 @@
-use Rattle.std.proofs.Common.{◌∙◌}
-use Rattle.node_memory.proofs.Listed.{is_holder-is}
+use Rattle.node_memory.proofs.Lemmas.{◌∙◌, is_holder-is}
 use Rattle.node_memory.proofs.listed_pool.ListedPool.is_in.Goals as goal
 
 pub returns : goal.returns

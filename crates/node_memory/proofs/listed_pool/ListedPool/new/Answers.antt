@@ -1,7 +1,4 @@
-use Rattle.std.proofs.Common.{rules, arith, subst, sym, length, ◌+◌, ◌≤◌, ap, ◌∙◌, []}
-use Rattle.node_memory.proofs.Common.{Span, ListName, seen}
-use Rattle.memb_core.specs.BlockPool.{unused_pool}
-use Rattle.node_memory.proofs.Listed.{shown}
+use Rattle.node_memory.proofs.Lemmas.{rules, arith, subst, sym, length, ◌+◌, ◌≤◌, ap, ◌∙◌, [], Span, ListName, seen, unused_pool, shown}
 use Rattle.node_memory.proofs.listed_pool.ListedPool.new.Goals as goal
 
 pub returns-clause-linked : goal.returns-clause-linked

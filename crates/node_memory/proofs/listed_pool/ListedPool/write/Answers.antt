@@ -1,9 +1,5 @@
-use Rattle.std.proofs.Common.{arith, ap, ◌∙◌, ◌≡◌, [], length, None, unwrap_or}
-use Rattle.node_memory.proofs.Common.{pool_of, seen}
+use Rattle.node_memory.proofs.Lemmas.{arith, ap, ◌∙◌, ◌≡◌, [], length, None, unwrap_or, pool_of, seen, write_refusal, done, seen-blocks}
 use Rattle.memb_core.specs.BlockPool.{with_bytes}
-use Rattle.node_memory.specs.PoolCalls.{write_refusal}
-use Rattle.node_memory.specs.Answered.{done}
-use Rattle.node_memory.proofs.Listed.{seen-blocks}
 use Rattle.node_memory.proofs.listed_pool.ListedPool.write.Goals as goal
 
 pub returns-clause-asked : goal.returns-clause-asked
@@ -12,5 +8,4 @@ returns-clause-asked c =
     λ k. rw accepted (ap done (seen-blocks c.args.self.now.lists c.args.self.now.pool c.args.self.now.pool c.args.arena.now.bytes c.write.new.arena.bytes (with_bytes c.args.block c.args.at c.args.chunk.now.items (pool_of c.args.self.now.pool c.args.arena.now.bytes)) (c.write.ensures.lists.same c.args.self.now.lists c.requires) (c.write.ensures.block ∙ ap (λ bytes. with_bytes c.args.block c.args.at bytes (pool_of c.args.self.now.pool c.args.arena.now.bytes)) c.as_slice.ensures.value)))
 
 pub returns-clause-linked : goal.returns-clause-linked
-returns-clause-linked c =
-    c.write.ensures.lists.linked c.args.self.now.lists c.requires
+returns-clause-linked c = c.write.ensures.lists.linked c.args.self.now.lists c.requires

@@ -1,8 +1,4 @@
-use Rattle.std.proofs.Common.{ap, sym, ◌∙◌, Some}
-use Rattle.node_memory.specs.declared.parts.Part.{Part}
-use Rattle.node_memory.proofs.Asked.{leaves-of-part}
-use Rattle.node_memory.proofs.Refused.{refused-then}
-use Rattle.node_memory.proofs.Stays.{leaves_all}
+use Rattle.node_memory.proofs.Lemmas.{ap, sym, ◌∙◌, Some, Part, leaves-of-part, refused-then, leaves_all}
 use Rattle.node_memory.proofs.memory.NodeMemory.ask.Goals as goal
 
 pub returns-in-Some-Managed-clause-others : goal.returns-in-Some-Managed-clause-others

@@ -1,7 +1,4 @@
-use Rattle.std.proofs.Common.{arith, ap, sym, ◌∙◌, ◌<◌, length}
-use Rattle.node_memory.proofs.Common.{ask_pool_of, end_of, PlacedMemory}
-use Rattle.node_memory.proofs.LaidOut.{linked-at, after-pool, asked-pool, refused-pool}
-use Rattle.node_memory.proofs.Refused.{refused-then}
+use Rattle.node_memory.proofs.Lemmas.{arith, ap, sym, ◌∙◌, ◌<◌, length, ask_pool_of, end_of, PlacedMemory, linked-at, after-pool, asked-pool, refused-pool, refused-then}
 use Rattle.node_memory.proofs.memory.NodeMemory.ask_pool.Goals as goal
 
 pub ask-requires-clause-linked : goal.ask-requires-clause-linked

@@ -1,7 +1,4 @@
-use Rattle.std.proofs.Common.{subst}
-use Rattle.node_memory.proofs.Common.{end_of, PlacedMemory, BlocksLieApart}
-use Rattle.node_memory.proofs.Apart.{PoolApart, of-four, pools-apart, all-apart}
-use Rattle.node_memory.proofs.LaidOut.{layout_of}
+use Rattle.node_memory.proofs.Lemmas.{subst, end_of, PlacedMemory, BlocksLieApart, PoolApart, of-four, pools-apart, all-apart, layout_of}
 use Rattle.node_memory.proofs.memory.NodeMemory.blocks_lie_apart.Goals as goal
 
 pub returns : goal.returns

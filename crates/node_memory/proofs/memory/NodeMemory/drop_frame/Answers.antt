@@ -1,9 +1,4 @@
-use Rattle.std.proofs.Common.{arith, ap, sym, ◌∙◌, subst, None, Some}
-use Rattle.node_memory.proofs.Common.{Memory, PlacedMemory, frame_block}
-use Rattle.node_memory.specs.Frames.{frame_dropped}
-use Rattle.node_memory.specs.Separation.{LeavesOthers}
-use Rattle.node_memory.proofs.LaidOut.{after-managed, managed-changed}
-use Rattle.node_memory.proofs.Others.{leaves-frame}
+use Rattle.node_memory.proofs.Lemmas.{arith, ap, sym, ◌∙◌, subst, None, Some, Memory, PlacedMemory, frame_block, frame_dropped, LeavesOthers, after-managed, managed-changed, leaves-frame}
 use Rattle.node_memory.proofs.memory.NodeMemory.drop_frame.Goals as goal
 
 pub invariant_of-self : goal.invariant_of-self

@@ -1,8 +1,5 @@
-use Rattle.std.proofs.Common.{rules, ◌≡◌, ap, ◌∙◌, Some}
-use Rattle.node_memory.proofs.Common.{zeros, shortage, with_managed, PlacedMemory}
+use Rattle.node_memory.proofs.Lemmas.{rules, ◌≡◌, ap, ◌∙◌, Some, zeros, shortage, with_managed, PlacedMemory, after-managed, managed-changed, still-laid_out, none-then, shortage-of-before}
 use Rattle.mmem_core.specs.ManagedStore.{allocated}
-use Rattle.node_memory.proofs.LaidOut.{after-managed, managed-changed, still-laid_out}
-use Rattle.node_memory.proofs.Refused.{none-then, shortage-of-before}
 use Rattle.node_memory.proofs.memory.NodeMemory.mmem_alloc.Goals as goal
 
 pub invariant_of-self : goal.invariant_of-self
@@ -25,7 +22,6 @@ returns-clause-accepted c =
 
 pub returns-then-is_none-clause-refused : goal.returns-then-is_none-clause-refused
 returns-then-is_none-clause-refused c =
-    let k = c.self.inside in
-    let same = none-then c.alloc.result (search rules) c.alloc.ensures.unchanged in
+    let k = c.self.inside in let same = none-then c.alloc.result (search rules) c.alloc.ensures.unchanged in
     let why : c.shortage.result ≡ shortage c.args.self.now.contents.managed = shortage-of-before c.shortage.result k.mmem c.alloc.new.self k.arena.bytes c.args.self.now.contents.managed (c.shortage.ensures k.arena.bytes) same.0 (ap (λ (v : PlacedMemory). v.contents.managed) c.self.view_is) in
     search rules

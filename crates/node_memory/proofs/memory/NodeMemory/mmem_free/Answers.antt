@@ -1,7 +1,5 @@
-use Rattle.std.proofs.Common.{rules, ap, ◌∙◌, None}
-use Rattle.node_memory.proofs.Common.{with_managed, PlacedMemory}
+use Rattle.node_memory.proofs.Lemmas.{rules, ap, ◌∙◌, None, with_managed, PlacedMemory, after-managed, managed-changed}
 use Rattle.mmem_core.specs.ManagedStore.{freed}
-use Rattle.node_memory.proofs.LaidOut.{after-managed, managed-changed}
 use Rattle.node_memory.proofs.memory.NodeMemory.mmem_free.Goals as goal
 
 pub invariant_of-self : goal.invariant_of-self

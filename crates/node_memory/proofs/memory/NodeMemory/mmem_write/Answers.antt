@@ -1,7 +1,4 @@
-use Rattle.std.proofs.Common.{rules, ap, ◌∙◌, Some}
-use Rattle.node_memory.proofs.Common.{overwritten, bytes_of, store_of, with_managed, PlacedMemory}
-use Rattle.mmem_core.specs.ManagedStore.{with_bytes}
-use Rattle.node_memory.proofs.LaidOut.{after-managed, managed-changed}
+use Rattle.node_memory.proofs.Lemmas.{rules, ap, ◌∙◌, Some, overwritten, bytes_of, store_of, with_managed, PlacedMemory, with_bytes, after-managed, managed-changed}
 use Rattle.node_memory.proofs.memory.NodeMemory.mmem_write.Goals as goal
 
 pub invariant_of-self : goal.invariant_of-self

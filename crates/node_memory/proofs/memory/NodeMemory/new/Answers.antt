@@ -1,8 +1,4 @@
-use Rattle.std.proofs.Common.{rules, subst, ◌≡◌, ◌≤◌, ◌+◌, ap, ◌∙◌, ℕ, List, map, Option, Some, None, arith}
-use Rattle.node_memory.proofs.Common.{option_map_or, ManagedStore, store_of, HeapStore, heap_of, LieBehind, end_of, PoolWithLists, unused_pool_of, Memory}
-use Rattle.mmem_core.specs.ManagedStore.{empty_store}
-use Rattle.heap_core.specs.HeapStore.{empty_heap}
-use Rattle.node_memory.specs.Memory.{usable_sizes}
+use Rattle.node_memory.proofs.Lemmas.{rules, subst, ◌≡◌, ◌≤◌, ◌+◌, ap, ◌∙◌, ℕ, List, map, Option, Some, None, arith, option_map_or, ManagedStore, store_of, HeapStore, heap_of, LieBehind, end_of, PoolWithLists, unused_pool_of, Memory, empty_store, empty_heap, usable_sizes}
 use Rattle.node_memory.proofs.memory.NodeMemory.new.Goals as goal
 
 -- process 3 is an owner, with quotas and without
@@ -28,8 +24,7 @@ invariant_of-result c =
 
 pub returns-clause-fresh : goal.returns-clause-fresh
 returns-clause-fresh c =
-    let bytes = c.pools_over-pools.new.arena.bytes in
-    let size : c.unwrap.result.len ≡ c.args.sizes.mmem = search rules in
+    let bytes = c.pools_over-pools.new.arena.bytes in let size : c.unwrap.result.len ≡ c.args.sizes.mmem = search rules in
     let heap_size : c.unwrap-2.result.len ≡ c.args.sizes.heap = search rules in
     let empty : store_of c.new-mmem.result bytes ≡ empty_store c.args.sizes.mmem c.args.sizes.quota = c.new-mmem.ensures.empty bytes ∙ ap (λ (n : ℕ). empty_store n c.args.sizes.quota) size in
     let no_block : heap_of c.new-heap.result bytes ≡ empty_heap c.args.sizes.heap c.args.sizes.header = c.new-heap.ensures.empty bytes ∙ ap (λ (n : ℕ). empty_heap n c.args.sizes.header) heap_size in

@@ -1,5 +1,4 @@
-use Rattle.std.proofs.Common.{ap, ◌∙◌}
-use Rattle.node_memory.proofs.Common.{shortage, PlacedMemory}
+use Rattle.node_memory.proofs.Lemmas.{ap, ◌∙◌, shortage, PlacedMemory}
 use Rattle.node_memory.proofs.memory.NodeMemory.shortage.Goals as goal
 
 pub returns : goal.returns

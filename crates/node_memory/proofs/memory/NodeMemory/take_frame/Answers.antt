@@ -1,9 +1,4 @@
-use Rattle.std.proofs.Common.{arith, rules, ◌≡◌, ap, sym, ◌∙◌, subst, Some}
-use Rattle.node_memory.proofs.Common.{shortage, frame_taken, Memory, PlacedMemory, frame_block}
-use Rattle.node_memory.specs.Separation.{LeavesOthers}
-use Rattle.node_memory.proofs.FrameBlocks.{after-frame, frame-changed}
-use Rattle.node_memory.proofs.Others.{leaves-frame}
-use Rattle.node_memory.proofs.Refused.{none-then, shortage-of-before}
+use Rattle.node_memory.proofs.Lemmas.{arith, rules, ◌≡◌, ap, sym, ◌∙◌, subst, Some, shortage, frame_taken, Memory, PlacedMemory, frame_block, LeavesOthers, after-frame, frame-changed, leaves-frame, none-then, shortage-of-before}
 use Rattle.node_memory.proofs.memory.NodeMemory.take_frame.Goals as goal
 
 pub invariant_of-self-2 : goal.invariant_of-self-2
@@ -28,7 +23,6 @@ returns-clause-others c =
 
 pub returns-then-is_none-clause-refused : goal.returns-then-is_none-clause-refused
 returns-then-is_none-clause-refused c =
-    let k = c.self.inside in
-    let same = none-then c.alloc.result (search rules) c.alloc.ensures.unchanged in
+    let k = c.self.inside in let same = none-then c.alloc.result (search rules) c.alloc.ensures.unchanged in
     let why : c.shortage.result ≡ shortage c.args.self.now.contents.managed = shortage-of-before c.shortage.result k.mmem c.alloc.new.self k.arena.bytes c.args.self.now.contents.managed (c.shortage.ensures k.arena.bytes) same.0 (ap (λ (v : PlacedMemory). v.contents.managed) c.self.view_is) in
     search rules
