@@ -1,5 +1,5 @@
 -- The process list.
-use Rattle.process_core.proofs.Common.{◌≡◌, ◌≢◌, ℕ, ◌<◌, ◌≤◌, Bool, true, false, ◌&&◌, List, [], ◌∷◌, ◌++◌, zero, suc, ◌-◌, length, drop, refl, sym, ◌∙◌, ap, arith, eqb, ◌==◌, lit<, set, get_or, if◌then◌else◌, not, ◌||◌, replicate, list_any, IsDistinct, AllByRecursion, list_any-append, nat_tests, length-le_from_distinct_below, IsDistinct-cons, state_of, with_state, with_mark, without, numbers, is_marked, is_any_marked, IsKept, listed, mark_at, others, is_one_of, length-append, length-set, get_or-set_same, get_or-set_other, IsDistinct-head, IsDistinct-tail, Process, State, changed, EndsWithKernel, kernel_numbers, state_at, ◌+◌, nat_lt, is_only_marked, from_marked, mark_count}
+use Rattle.process_core.proofs.Common.{◌≡◌, ◌≢◌, ℕ, ◌<◌, ◌≤◌, Bool, true, false, ◌&&◌, List, [], ◌∷◌, ◌++◌, zero, suc, ◌-◌, length, drop, refl, sym, ◌∙◌, ap, arith, eqb, ◌==◌, lit<, set, get_or, if◌then◌else◌, replicate, list_any, IsDistinct, AllByRecursion, list_any-append, nat_tests, length-le_from_distinct_below, IsDistinct-cons, state_of, with_state, with_mark, without, numbers, is_marked, is_any_marked, IsKept, listed, mark_at, others, is_one_of, length-append, length-set, get_or-set_same, get_or-set_other, IsDistinct-head, IsDistinct-tail, Process, State, changed, EndsWithKernel, kernel_numbers, state_at, ◌+◌, nat_lt, is_only_marked, from_marked, mark_count}
 use Rattle.std.proofs.Math.Seq.{drop-append_seam}
 use Rattle.std.proofs.lemmas.List.Elements.{filter-append}
 use Rattle.process_core.proofs.Sound.{none_from_is_one_of, or_false, same_number, not_true}
@@ -39,8 +39,7 @@ state_set p x s m (n ∷ ns) h = split (eqb n p) refl (state_set p x s m ns h)
     split : (b : Bool) → eqb n p ≡ b → with_state p x (listed s m ns) ≡ listed (set s p x) m ns
         → with_state p x (listed s m (n ∷ ns)) ≡ listed (set s p x) m (n ∷ ns)
     split true e rest =
-        let same = same_number p n e in
-        let at = get_or-set_same s p x State.Absent h in
+        let same = same_number p n e in let at = get_or-set_same s p x State.Absent h in
         grind (arith, nat_tests, e, same, at, rest)
     split false e rest =
         let far : n ≢ p = λ same. grind (arith, nat_tests, e, same) in
@@ -55,12 +54,10 @@ mark_set p x s m (n ∷ ns) h = split (eqb n p) refl (mark_set p x s m ns h)
     split : (b : Bool) → eqb n p ≡ b → with_mark p x (listed s m ns) ≡ listed s (set m p x) ns
         → with_mark p x (listed s m (n ∷ ns)) ≡ listed s (set m p x) (n ∷ ns)
     split true e rest =
-        let same = same_number p n e in
-        let at = get_or-set_same m p x false h in
+        let same = same_number p n e in let at = get_or-set_same m p x false h in
         grind (arith, nat_tests, e, same, at, rest)
     split false e rest =
-        let far : n ≢ p = λ same. grind (arith, nat_tests, e, same) in
-        let at = get_or-set_other m p n x false far in
+        let far : n ≢ p = λ same. grind (arith, nat_tests, e, same) in let at = get_or-set_other m p n x false far in
         grind (arith, nat_tests, e, at, rest)
 
 -- a process that is not on the list changes nothing of it
@@ -282,8 +279,7 @@ only_counted s m ns p k = grind (arith, nat_tests, marked_kept, marked_on_list, 
 -- the marked ones are the kernel's processes and the applications
 
 counted_one : (b : Bool) (m : List Bool) → mark_count (b ∷ m) ≡ (if b then 1 else 0) + mark_count m
-counted_one true m = omega arith
-counted_one false m = omega arith
+counted_one b m = grind arith
 
 pub counted_apart : (m : List Bool) → 4 ≤ length m → mark_count m
     ≡ (if mark_at m 0 then 1 else 0) + (if mark_at m 1 then 1 else 0) + (if mark_at m 2 then 1 else 0) + (if mark_at m 3 then 1 else 0) + mark_count (drop 4 m)

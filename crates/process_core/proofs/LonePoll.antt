@@ -1,15 +1,13 @@
 -- A round that does nothing but poll one process of the kernel.
-use Rattle.process_core.proofs.Common.{◌≡◌, ℕ, ◌<◌, ◌==◌, Bool, true, false, ◌&&◌, List, [], ◌∷◌, length, refl, arith, Some, not, map, nat_tests, POLL, plain_event, Item, Job, from_marked, queued_of, is_one_of, is_empty, is_only_marked, polls_alone, numbers, is_marked, is_any_marked, is_kernel_process, with_mark, Scheduler, in_front, Process, unmarked, IsLonePoll, zero, suc, ◌≤◌, nat_eq, ◌++◌, drop, ◌∙◌, flat_map, reverse, length-reverse, Event, front_items, items_of, base_items, agenda_of, Base, Continuation, SchedulerFields, sym, ap, if◌then◌else◌, Reply, is_other_than, IsInOrder, BootsKnown, from_application, receiver_is_next, poll_items, receiver_items, Front, behind_kernel_receivers, is_broadcast}
+use Rattle.process_core.proofs.Common.{◌≡◌, ℕ, ◌<◌, ◌==◌, Bool, true, false, ◌&&◌, List, [], ◌∷◌, length, refl, arith, Some, not, map, nat_tests, POLL, plain_event, Item, Job, from_marked, queued_of, is_one_of, is_empty, is_only_marked, polls_alone, numbers, is_marked, is_any_marked, is_kernel_process, with_mark, Scheduler, in_front, Process, unmarked, IsLonePoll, zero, suc, ◌≤◌, nat_eq, ◌++◌, drop, ◌∙◌, flat_map, reverse, length-reverse, Event, front_items, items_of, base_items, agenda_of, Base, Continuation, SchedulerFields, sym, ap, if◌then◌else◌, Reply, is_other_than, IsInOrder, from_application, receiver_is_next, poll_items, receiver_items, Front, behind_kernel_receivers, is_broadcast}
 use Rattle.process_core.proofs.Yields.{unmarked_pass, poll_one_yields, yields_next, yields_after}
 use Rattle.process_core.specs.declared.queued.Queued as code
 
 pub empty_list : {A : Type 0} (xs : List A) → is_empty xs ≡ true → xs ≡ []
-empty_list [] h = refl
-empty_list (x ∷ xs) h = absurd (cc)
+empty_list xs h = grind arith
 
 pub both : (a b : Bool) → (a && b) ≡ true → (a ≡ true) × (b ≡ true)
-both true b h = (refl, h)
-both false b h = absurd (cc)
+both a b h = grind arith
 
 pub all_three : {a b c : Bool} → a ≡ true → b ≡ true → c ≡ true → (a && (b && c)) ≡ true
 all_three e f g = rw (e, f, g) refl
@@ -19,8 +17,7 @@ no_events [] h = refl
 no_events (x ∷ events) h = absurd (grind (arith, nat_tests, h))
 
 negated : (b : Bool) → not b ≡ true → b ≡ false
-negated true h = absurd (cc)
-negated false h = refl
+negated b h = grind arith
 
 -- where no process is marked, a poll round passes over all
 none_marked : (list : List Process) (p : ℕ) → is_any_marked list ≡ false → is_marked p list ≡ false
@@ -92,17 +89,14 @@ module _ {X : Type 0} where
       let only = both (is_marked p s.processes) (not (is_any_marked (with_mark p false s.processes))) inner.1 in
       let none = negated (is_any_marked (with_mark p false s.processes)) only.1 in
       let first = marked_first s.processes (numbers s.processes) p (λ q h. alone_marked s.processes p q none h) only.0 (marked_is_one_of s.processes p only.0) in
-      lone_poll_at s p first.0 (empty_list s.agenda outer.0) (empty_list s.events inner.0) (grind (arith, nat_tests, low)) only.0
-      (marked_is_any s.processes p only.0) none first.1
+      grind (arith, lone_poll_at, empty_list, nat_tests, marked_is_any)
 
 -- When nothing is left to be done.
 pub is_empty_append : {A : Type 0} (xs ys : List A) → is_empty (xs ++ ys) ≡ (is_empty xs && is_empty ys)
-is_empty_append [] ys = refl
-is_empty_append (x ∷ xs) ys = refl
+is_empty_append xs ys = grind arith
 
 pub is_empty_map : {A B : Type 0} (f : A → B) (xs : List A) → is_empty (map f xs) ≡ is_empty xs
-is_empty_map f [] = refl
-is_empty_map f (x ∷ xs) = refl
+is_empty_map f xs = grind arith
 
 -- a continuation has at least one item
 has_more : (continuation : Continuation) → is_empty (items_of continuation) ≡ false
@@ -112,19 +106,16 @@ has_more (Continuation.Leave pid (p ∷ walk) exits) = refl
 has_more (Continuation.Answer pid) = refl
 
 pub deliver_has_more : (is_polled : Bool) (walk : List ℕ) (event : Event) → is_empty (base_items (Base.Deliver is_polled) walk event) ≡ false
-deliver_has_more true walk event = refl
-deliver_has_more false walk event = refl
+deliver_has_more is_polled walk event = grind arith
 
 pub is_empty_broadcast : (is_polled : Bool) (walk : List ℕ) (event : Event) → is_empty (base_items (Base.Broadcast is_polled) walk event) ≡ is_empty walk
 is_empty_broadcast is_polled walk event = grind (arith, nat_tests)
 
 is_empty_stack : (stack : List Continuation) → is_empty (flat_map items_of stack) ≡ is_empty stack
-is_empty_stack [] = refl
-is_empty_stack (continuation ∷ below) = is_empty_append (items_of continuation) (flat_map items_of below) ∙ rw (has_more continuation) refl
+is_empty_stack stack = grind (arith, is_empty_append, has_more)
 
 is_empty_length : {A : Type 0} (xs : List A) → is_empty xs ≡ (length xs == 0)
-is_empty_length [] = refl
-is_empty_length (x ∷ xs) = grind (arith, nat_tests)
+is_empty_length xs = grind arith
 
 pub is_empty_continuations : (continuations : List Continuation) → is_empty (reverse continuations) ≡ (length continuations == 0)
 is_empty_continuations continuations = is_empty_length (reverse continuations) ∙ rw (length-reverse continuations) refl
@@ -191,8 +182,7 @@ module _ (codes : List ℕ) where
   -- a receiver comes next: nothing but the broadcast is open
   pub receivers_open : (d : SchedulerFields) (walk : List ℕ) → receiver_is_next d ≡ true → agenda_of (record d { walk = walk }) ≡ receiver_items d.broadcast walk
   receivers_open d walk h =
-      let first = both (is_empty (front_items d.front d.reply d.synch)) (_) h in
-      let second = both (_) (_) first.1 in
+      let first = both (is_empty (front_items d.front d.reply d.synch)) (_) h in let second = both (_) (_) first.1 in
       let third = both (is_empty d.polls) (is_broadcast d.base) second.1 in
       let bare : reverse d.stack.items ≡ [] = empty_list (reverse d.stack.items) (is_empty_continuations d.stack.items ∙ second.0) in
       rw (empty_list (front_items d.front d.reply d.synch) first.0, bare, empty_list d.polls third.0, broadcasting d.base third.1) refl

@@ -1,18 +1,9 @@
 -- Where nothing is left to be done.
-use Rattle.process_core.proofs.Common.{◌≡◌, ℕ, zero, suc, ◌<◌, Bool, true, false, List, [], ◌∷◌, ◌++◌, refl, sym, ◌∙◌, arith, Option, Some, None, if◌then◌else◌, map, flat_map, list_any, front_items, items_of, base_items, agenda_of, receiver_items, list_any-append, nat_tests, Event, Stimulus, Reply, is_kernel_process, Queued, Item, Job, Scheduler, after_front, job_of_give, after_items, ComesTo, Continuation, Base, Front, SchedulerFields, after_front_of, job_at, job_of_item, job_of_event, wants_round, after_item, is_shown, ◌≤◌, length, drop, slice_get, IfNone, from_marked, Process, ◌+◌, add-one, range_with_len, at_first, state_of, is_one_of, IsSound, IsInOrder, State}
+use Rattle.process_core.proofs.Common.{◌≡◌, ℕ, zero, suc, ◌<◌, Bool, true, false, List, [], ◌∷◌, ◌++◌, refl, ◌∙◌, arith, Option, Some, None, if◌then◌else◌, map, flat_map, list_any, front_items, items_of, base_items, agenda_of, receiver_items, list_any-append, nat_tests, Event, Reply, Item, Job, Scheduler, after_front, after_items, ComesTo, Continuation, Base, Front, SchedulerFields, after_front_of, job_at, wants_round, is_shown, ◌≤◌, length, drop, slice_get, IfNone, from_marked, Process, ◌+◌, add-one, range_with_len, at_first, state_of, is_one_of, IsInOrder, State}
 
 module _ {X : Type 0} where
-  no_rest_at_event : (event : Option (Queued X)) → job_of_event event ≡ Some Job.Rest → ⊥
-  no_rest_at_event event h = grind (arith, nat_tests)
-
   serves : (b : Bool) (served : Job X) → (served ≡ Job.Rest → ⊥) → (if b then Some served else None) ≡ Some Job.Rest → ⊥
   serves b served n h = grind arith
-
-  no_rest_at_give : (p : ℕ) (stimulus : Stimulus) → job_of_give {X = X} p stimulus ≡ Some Job.Rest → ⊥
-  no_rest_at_give p stimulus h = grind (arith, nat_tests, serves)
-
-  no_rest : (item : Item) (s : Scheduler X) → job_of_item item s ≡ Some Job.Rest → ⊥
-  no_rest item s h = grind (arith, nat_tests, no_rest_at_give, no_rest_at_event)
 
   idle : (b : Bool) → let rest : Job X = Job.Rest in Some (if b then Job.Round else rest) ≡ Some rest → b ≡ false
   idle b h = grind arith
@@ -20,9 +11,6 @@ module _ {X : Type 0} where
   pub record IsIdle (s : Scheduler X) : Type 0 where
     pub done : s.agenda ≡ []
     pub quiet : wants_round s ≡ false
-
-  idle_at : (agenda : List Item) (s : Scheduler X) → s.agenda ≡ agenda → job_at agenda s ≡ Some Job.Rest → IsIdle s
-  idle_at agenda s e h = grind arith
 
   stays : (agenda : List Item) (s : Scheduler X) → agenda ≡ [] → wants_round s ≡ false → after_front_of agenda s ≡ s
   stays agenda s e q = grind arith
@@ -37,22 +25,6 @@ module _ {X : Type 0} where
   abbrev serve : ℕ → Event → Job X
   serve p event = Job.Serve p event
 
-  served_by_kernel : (b : Bool) (p q : ℕ) (event other : Event) → is_kernel_process p ≡ b
-      → (if b then Some (serve p event) else None) ≡ Some (serve q other) → q < 4
-  served_by_kernel b p q event other e h = grind (arith, nat_tests)
-
-  serve_at_event : (queued : Option (Queued X)) (q : ℕ) (other : Event) → job_of_event queued ≡ Some (Job.Serve q other) → ⊥
-  serve_at_event queued q other h = grind (arith, nat_tests)
-
-  serve_at_give : (p : ℕ) (stimulus : Stimulus) (q : ℕ) (other : Event) → job_of_give {X = X} p stimulus ≡ Some (Job.Serve q other) → q < 4
-  serve_at_give p stimulus q other h = grind (arith, nat_tests, served_by_kernel)
-
-  serve_at_item : (item : Item) (s : Scheduler X) (q : ℕ) (other : Event) → job_of_item item s ≡ Some (Job.Serve q other) → q < 4
-  serve_at_item item s q other h = grind (arith, nat_tests, serve_at_give, serve_at_event)
-
-  serve_at_none : (b : Bool) (q : ℕ) (other : Event) → Some (if b then Job.Round else Job.Rest) ≡ Some (serve q other) → ⊥
-  serve_at_none b q other h = grind arith
-
   serve_at : (agenda : List Item) (s : Scheduler X) (q : ℕ) (other : Event) → job_at agenda s ≡ Some (Job.Serve q other) → q < 4
   serve_at agenda s q other h = grind arith
 
@@ -65,9 +37,6 @@ module _ {X : Type 0} where
   in_either_case : (b : Bool) (s t r : Scheduler X) → s.applications ≡ r.applications → t.applications ≡ r.applications
       → (if b then s else t).applications ≡ r.applications
   in_either_case b s t r e f = grind arith
-
-  applications_after_item : (item : Item) (s : Scheduler X) → (after_item item s).applications ≡ s.applications
-  applications_after_item item s = grind (arith, nat_tests, in_either_case)
 
   applications_after_front_of : (agenda : List Item) (s : Scheduler X) → (after_front_of agenda s).applications ≡ s.applications
   applications_after_front_of agenda s = grind arith
@@ -151,15 +120,4 @@ first_known n p h = grind (arith, nat_tests, none_beyond)
 
 pub order_at_boot : (d : SchedulerFields) → d.applications ≤ 16 → d.walk ≡ range_with_len 4 d.applications → d.processes ≡ at_first
     → d.stack.items ≡ [] → d.base ≡ Base.Boot → d.events.capacity ≡ 32 → d.next_event ≡ 140 → d.front ≡ Front.Nothing → IsInOrder d
-order_at_boot d few is_range list stack boot room next idle =
-    record { sound = rw (list, stack, idle) sound; starts = rw idle tt; boots = rw (boot, is_range) (λ p h. below_range p 4 d.applications h); room = room; few = few; numbers = omega arith }
-  where
-    sound : IsSound d.applications at_first [] None
-    sound =
-        record {
-          mote = record { kernel = first_run; known = first_known d.applications };
-          nested = tt;
-          answers = λ p h. absurd (cc);
-          leaves = λ p h. absurd (cc);
-          at_turn = tt;
-        }
+order_at_boot d few is_range list stack boot room next idle = grind (arith, below_range, first_run, first_known)

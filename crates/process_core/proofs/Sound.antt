@@ -71,16 +71,9 @@ others_in test p old new xs same none are q h = grind arith
 
 -- ---- the kernel's processes and the applications
 
-pub application_is : (n p : ℕ) → 4 ≤ p → p < 4 + n → IsApplication n p
-application_is n p low high = grind (arith, nat_tests, low, high)
-
 -- the numbers of the applications
 pub application_range : (n p : ℕ) → IsApplication n p → (4 ≤ p) × (p < 4 + n)
 application_range n p h = (grind (arith, nat_tests, h), grind (arith, nat_tests, h))
-
-pub application_from_state : (n : ℕ) (list : List Process) (p : ℕ) → IsOfMote n list
-    → (state_of p list ≡ State.Absent → ⊥) → (state_of p list ≡ State.Running → ⊥) → IsApplication n p
-application_from_state n list p mote present busy = grind arith
 
 pub application_in : (test : State → Bool) (n : ℕ) (list : List Process) (p : ℕ) → IsOfMote n list → test (state_of p list) ≡ true
     → test State.Absent ≡ false → test State.Running ≡ false → IsApplication n p
@@ -188,8 +181,7 @@ pub sound-exiting : (n : ℕ) (list : List Process) (stack : List Continuation) 
     → IsSound n list (Continuation.Leave q walk exits ∷ stack) None
     → IsSound n (with_state q.0 State.Ending list) (Continuation.Leave q later still ∷ stack) (Some q)
 sound-exiting n list stack q walk later exits still s =
-    let new = with_state q.0 State.Ending list in
-    let own = s.leaves q.0 (grind (arith, is_first q.0)) in
+    let new = with_state q.0 State.Ending list in let own = s.leaves q.0 (grind (arith, is_first q.0)) in
     let ends = state_at q.0 State.Ending list (present_from_ended list q.0 own) in
     let same = λ (r : ℕ) (h : eqb r q.0 ≡ false). state_after q.0 r State.Ending list h in
     grind arith
@@ -205,21 +197,12 @@ pub sound-given : (n : ℕ) (list : List Process) (stack : List Continuation) (p
     → IsSound n list stack None → 4 ≤ p.0 → state_of p.0 list ≡ State.Running
     → IsSound n (with_state p.0 State.Called list) stack (Some p)
 sound-given n list stack p s application runs =
-    let new = with_state p.0 State.Called list in
-    let present : (state_of p.0 list ≡ State.Absent → ⊥) = λ e. cc in
+    let new = with_state p.0 State.Called list in let present : (state_of p.0 list ≡ State.Absent → ⊥) = λ e. cc in
     let same = λ (r : ℕ) (h : eqb r p.0 ≡ false). state_after p.0 r State.Called list h in
     let a = none_in is_in_activation list (answering stack) p.0 s.answers (ap is_in_activation runs) in
     let l = none_in has_ended list (leaving stack) p.0 s.leaves (ap has_ended runs) in
     let called = state_at p.0 State.Called list present in
     grind arith
-
-state_behind : (p q : ℕ) (list : List Process) → eqb q p ≡ false
-    → state_of q (record { number = p; state = State.Running; marked = false } ∷ list) ≡ state_of q list
-state_behind p q list h = grind (arith, nat_tests)
-
--- only applications are ever absent
-application_from_absent : (n : ℕ) (list : List Process) (p : ℕ) → IsOfMote n list → state_of p list ≡ State.Absent → 4 ≤ p
-application_from_absent n list p mote absent = grind (arith, nat_tests)
 
 pub sound-started : (n : ℕ) (list : List Process) (stack : List Continuation) (p : ℕ)
     → IsSound n list stack None → p < 4 + n → state_of p list ≡ State.Absent
@@ -230,8 +213,7 @@ pub sound-marked : (n : ℕ) (list : List Process) (stack : List Continuation) (
     → IsSound n list stack turn → IsSound n (with_mark p marked list) stack turn
 sound-marked n list stack turn p marked s =
     record {
-      mote =
-          grind (arith, state_marked);
+      mote = grind (arith, state_marked);
       nested = s.nested;
       answers = λ q h. ap is_in_activation (state_marked p q marked list) ∙ s.answers q h;
       leaves = λ q h. ap has_ended (state_marked p q marked list) ∙ s.leaves q h;
@@ -360,8 +342,7 @@ pub order_exited : (d : SchedulerFields) (p : Pid) (walk : List ℕ) (exits : Bo
     → (state_of p.0 d.processes ≡ State.Ending → ⊥) → list ≡ with_state p.0 State.Leaving d.processes → stack ≡ d.stack.items ++ Continuation.Leave p walk exits ∷ []
     → IsInOrder (record d { processes = list; stack = record { items = stack }; front = Front.Nothing })
 order_exited d p walk exits list stack order e stays f g =
-    let s = turn_sound d p order e in
-    let below = reverse d.stack.items in
+    let s = turn_sound d p order e in let below = reverse d.stack.items in
     in_order d _ _ _ _ _ order (rw (f, g, pushed d.stack.items (Continuation.Leave p walk exits))
     (sound-left d.applications d.processes below p walk exits (sound-quiet d.applications d.processes below (Some p) s) (application_at_turn d.applications d.processes below p s) s.at_turn.apart
     (stays_here (state_of p.0 d.processes) s.at_turn.active stays) (present (state_of p.0 d.processes) s.at_turn.active))) tt

@@ -1,10 +1,7 @@
 -- Work that is done in parts.
-use Rattle.process_core.proofs.Common.{◌≡◌, ℕ, zero, suc, Bool, true, false, List, [], ◌∷◌, ◌++◌, refl, sym, ◌∙◌, ap, arith, Option, Some, None, is_some, drop, map, slice_get, not, ◌&&◌, ◌≤◌, nat_tests, Stimulus, Pid, scheduler_behind, queued_of, from_marked, Event, Origin, POLL, plain_event, numbers, is_any_marked, is_marked, with_mark, is_running, is_kernel_process, Queued, Item, Job, Scheduler, after_front, job, after_items, in_front, of_event, first_event, state_in, job_of_give, Yields, SchedulerFields, INIT, State, is_empty, poll_items, Base}
+use Rattle.process_core.proofs.Common.{◌≡◌, ℕ, zero, suc, Bool, true, false, List, [], ◌∷◌, ◌++◌, refl, sym, ◌∙◌, ap, arith, Option, Some, None, is_some, drop, map, slice_get, ◌≤◌, Stimulus, Pid, scheduler_behind, queued_of, from_marked, Event, Origin, POLL, plain_event, numbers, is_any_marked, is_marked, with_mark, Queued, Item, Job, Scheduler, after_front, job, after_items, in_front, of_event, first_event, state_in, Yields, SchedulerFields, INIT, State, is_empty, poll_items, Base}
 use Rattle.circular_buffer.specs.Buffer.{Buffer}
 use Rattle.process_core.specs.declared.queued.Queued as code
-
-not_running : (state : State) → (state ≡ State.Running → ⊥) → is_running state ≡ false
-not_running state h = grind (arith, nat_tests)
 
 module _ {X : Type 0} where
   -- an item that is no job comes first
@@ -34,12 +31,7 @@ module _ {X : Type 0} where
       → Yields s None between → Yields between next after → Yields s next after
   yields_after s between None after first y =
       let r = after_items_twice first.0 y.0 s in (r.0, r.1 ∙ ap (after_items y.0) first.1 ∙ y.1)
-  yields_after s between (Some next) after first y =
-      let r = after_items_twice first.0 y.0 s in
-      grind arith
-
-  no_service : (p : ℕ) (stimulus : Stimulus) → 4 ≤ p → job_of_give {X = X} p stimulus ≡ None
-  no_service p stimulus h = grind (arith, nat_tests)
+  yields_after s between (Some next) after first y = let r = after_items_twice first.0 y.0 s in grind arith
 
   -- an application that doesn't run is given nothing
   pub give_yields_nothing : (s : Scheduler X) (p : ℕ) (origin : Origin) (stimulus : Stimulus) → 4 ≤ p → (state_in s p ≡ State.Running → ⊥)
