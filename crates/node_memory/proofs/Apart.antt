@@ -1,9 +1,8 @@
 -- The live blocks of all kinds lie apart, and each is read from its own part of the arena.
-use Rattle.node_memory.proofs.Common.{◌≡◌, ◌≢◌, ℕ, zero, suc, ◌+◌, ◌≤◌, ◌<◌, ◌⊎◌, inl, inr, Bool, true, false, List, [], ◌∷◌, length, map, get_or, refl, sym, ap, ◌∙◌, arith, subst, Option, Some, None, slice_get, slice_index_or, replicate, IfSome, if◌then◌else◌, range_of, Span, Extent, heap_of, AreLinked, PoolTable, pool_of, IsLaidOut, LieBehind, end_of, PoolWithLists, unused_pool_of, Layout, contents_of, seen, BlockName, IsBlockName, block_named, extent_in_pool, extent_named, header_of, IsReadFrom, BlocksLieApart, option_map, LiesIn, AreApart, IsLaidOut-apart, block_of, IsWithin, place_of, usable_bytes, ListedPool, placed}
+use Rattle.node_memory.proofs.Common.{◌≡◌, ◌≢◌, ℕ, zero, suc, ◌+◌, ◌≤◌, ◌<◌, ◌⊎◌, inl, inr, Bool, true, false, List, [], ◌∷◌, length, map, get_or, refl, sym, ap, ◌∙◌, arith, subst, Option, Some, None, slice_get, slice_index_or, replicate, IfSome, if◌then◌else◌, range_of, Span, Extent, heap_of, AreLinked, PoolTable, pool_of, IsLaidOut, LieBehind, end_of, PoolWithLists, unused_pool_of, Layout, contents_of, seen, BlockName, IsBlockName, block_named, extent_in_pool, extent_named, header_of, IsReadFrom, BlocksLieApart, option_map, LiesIn, AreApart, IsLaidOut-apart, block_of, IsWithin, place_of, ListedPool, placed}
 use Rattle.std.proofs.lemmas.Option.{slice_get-get_or, slice_get_within}
 use Rattle.arena_core.proofs.Ranges.{length-range}
 use Rattle.mmem_core.proofs.PlaceLemmas.{len_le_room}
-use Rattle.memb_core.specs.PoolBytes.{region_of}
 use Rattle.memb_core.proofs.Blocks.{get_or-blocks}
 use Rattle.mmem_core.specs.Separation as managed
 use Rattle.heap_core.specs.Separation as heap
@@ -14,21 +13,17 @@ spans_apart : (s t : Span) (e f : Extent) → LiesIn s e → LiesIn t f → s.at
 spans_apart s t e f one other behind = inl (omega (arith, one, other, behind))
 
 swapped : (e f : Extent) → AreApart e f → AreApart f e
-swapped e f (inl before) = inr before
-swapped e f (inr behind) = inl behind
+swapped e f h2 = grind arith
 
 -- what is found where a map of it is
 mapped : {X Y : Type 0} (f : X → Y) (found : Option X) (y : Y) → option_map f found ≡ Some y → (x : X) × (found ≡ Some x) × (f x ≡ y)
-mapped f None y is = absurd (cc)
-mapped f (Some x) y is = (x, refl, cc)
+mapped f found y is = grind arith
 
 -- a pool in the list of pools
 behind-get : (k from : ℕ) (listed : List ListedPool) (l : ListedPool) (bytes : List ℕ) → LieBehind from listed bytes → slice_get listed k ≡ Some l
     → (from ≤ l.pool.span.at) × AreLinked l.lists l.pool bytes
 behind-get k from [] l bytes lie there = absurd (cc)
-behind-get zero from (first ∷ later) l bytes lie there =
-    let same : first ≡ l = cc in
-    subst (λ (l : ListedPool). (from ≤ l.pool.span.at) × AreLinked l.lists l.pool bytes) same (lie.0, lie.1)
+behind-get zero from (first ∷ later) l bytes lie there = grind arith
 behind-get (suc k) from (first ∷ later) l bytes lie there =
     let rest = behind-get k (end_of first.pool.span) later l bytes lie.2 there in (omega (arith, lie.0, rest.0), rest.1)
 
@@ -49,13 +44,11 @@ used-within (u ∷ used) zero is = omega arith
 used-within (u ∷ used) (suc b) is = omega (arith, used-within used b is)
 
 entry-live : (known : Bool) (bytes block : List ℕ) → (if known then Some bytes else None) ≡ Some block → known ≡ true
-entry-live true bytes block is = refl
-entry-live false bytes block is = absurd (cc)
+entry-live known bytes block is = grind arith
 
 live-within : (pool : PoolTable) (bytes : List ℕ) (b : ℕ) (block : List ℕ) → block_of b (pool_of pool bytes) ≡ Some block → b < length pool.used
 unfolding pool_of
-live-within pool bytes b block is =
-    used-within pool.used b (entry-live (get_or pool.used b false) _ block (sym (get_or-blocks (usable_bytes pool (region_of pool bytes)) pool.used b) ∙ is))
+live-within pool bytes b block is = grind (arith, used-within, entry-live, get_or-blocks)
 
 some-then : {X : Type 0} (found : Option X) (x : X) (F : X → Type 0) → found ≡ Some x → IfSome found F → F x
 some-then found x F is fact = subst (λ o. IfSome o F) is fact
@@ -71,18 +64,10 @@ compared : (k j : ℕ) → (k ≡ j) ⊎ ((k < j) ⊎ (j < k))
 compared zero zero = inl refl
 compared zero (suc j) = inr (inl (omega arith))
 compared (suc k) zero = inr (inr (omega arith))
-compared (suc k) (suc j) = elim (compared k j) [
-  | inl same ↦ inl (ap suc same)
-  | inr (inl before) ↦ inr (inl (omega (arith, before)))
-  | inr (inr behind) ↦ inr (inr (omega (arith, behind)))
-]
+compared (suc k) (suc j) = grind arith
 
 name-differs : (p h q g : ℕ) → (p ≡ q → h ≡ g → ⊥) → (p ≢ q) ⊎ (h ≢ g)
-name-differs p h q g ne = elim (compared p q) [
-  | inl same ↦ inr (λ e. ne same e)
-  | inr (inl before) ↦ inl (λ e. absurd (omega (arith, before, e)))
-  | inr (inr behind) ↦ inl (λ e. absurd (omega (arith, behind, e)))
-]
+name-differs p h q g ne = grind arith
 
 none-of : (n b : ℕ) → get_or (replicate n (let none : Option (List ℕ) = None in none)) b None ≡ None
 none-of zero b = refl
@@ -100,11 +85,8 @@ seen-or (suc k) (l ∷ later) bytes d = seen-or k later bytes d
 -- what holds of each of four pools
 pub of-four : (F : ListedPool → Type 0) (listed : List ListedPool) (a b c d : ListedPool) → length listed ≡ 4
     → F (get_or listed 0 a) → F (get_or listed 1 b) → F (get_or listed 2 c) → F (get_or listed 3 d) → (k : ℕ) (l : ListedPool) → slice_get listed k ≡ Some l → F l
-of-four F listed a b c d count first second third fourth zero l there = subst F (some-same _ _ (sym (slice_get-get_or listed 0 a (omega (arith, count))) ∙ there)) first
-of-four F listed a b c d count first second third fourth (suc zero) l there = subst F (some-same _ _ (sym (slice_get-get_or listed 1 b (omega (arith, count))) ∙ there)) second
-of-four F listed a b c d count first second third fourth (suc (suc zero)) l there = subst F (some-same _ _ (sym (slice_get-get_or listed 2 c (omega (arith, count))) ∙ there)) third
-of-four F listed a b c d count first second third fourth (suc (suc (suc zero))) l there = subst F (some-same _ _ (sym (slice_get-get_or listed 3 d (omega (arith, count))) ∙ there)) fourth
-of-four F listed a b c d count first second third fourth (suc (suc (suc (suc k)))) l there = absurd (omega (arith, count, slice_get_within listed (suc (suc (suc (suc k)))) l there))
+of-four F listed a b c d count first second third fourth h11 l there =
+    grind (arith, some-same, slice_get-get_or, slice_get_within)
 
 -- the pools' blocks lie apart, where each pool says so of all bytes that its span lies in
 abbrev pub PoolApart : ListedPool → Type 0
@@ -118,12 +100,7 @@ read-from : (name : BlockName) (bytes : List ℕ) (layout : Layout) (extent : Ex
     → at ≡ extent.at + header_of name layout → at + len ≤ length layout.bytes → header_of name layout + len ≤ extent.len → IsReadFrom name bytes layout
 read-from name bytes layout extent at len takes is at_is within fits =
     let count : length bytes ≡ len = ap length (sym is) ∙ length-range layout.bytes at len within in
-    record {
-      extent = extent;
-      takes = takes;
-      fits = omega (arith, fits, count);
-      read = sym is ∙ ap (λ a. range_of a len layout.bytes) at_is ∙ ap (λ n. range_of (extent.at + header_of name layout) n layout.bytes) (sym count);
-    }
+    grind arith
 
 module _ (l : Layout) (laid_out : IsLaidOut l) (managed_apart : managed.BlocksLieApart l.managed l.bytes) (pools_apart : (k : ℕ) (listed : ListedPool) → slice_get l.pools k ≡ Some listed → pools.BlocksLieApart listed.pool l.bytes) where
   heap_apart : heap.BlocksLieApart l.heap l.bytes
@@ -131,14 +108,10 @@ module _ (l : Layout) (laid_out : IsLaidOut l) (managed_apart : managed.BlocksLi
 
   -- where each kind of block lies
   managed_in : (p h : ℕ) (e : Extent) → extent_named (BlockName.Managed p h) l ≡ Some e → LiesIn l.managed.span e
-  managed_in p h e is =
-      let place = mapped (managed.extent_of l.managed) (managed.place_of p h l.managed) e is in
-      subst (λ (e : Extent). LiesIn l.managed.span e) place.2 (managed_apart.inside p h place.0 place.1)
+  managed_in p h e is = grind arith
 
   heap_in : (p b : ℕ) (e : Extent) → extent_named (BlockName.Heap p b) l ≡ Some e → LiesIn l.heap.span e
-  heap_in p b e is =
-      let block = mapped (heap.extent_of l.heap) (heap.live_block p b (heap_of l.heap l.bytes)) e is in
-      subst (λ (e : Extent). LiesIn l.heap.span e) block.2 (heap_apart.inside p b block.0 block.1)
+  heap_in p b e is = grind (arith, mapped, heap_apart)
 
   pool_in : (k b : ℕ) (e : Extent) (found : Option ListedPool) → slice_get l.pools k ≡ found → extent_in_pool b l.bytes found ≡ Some e
       → (listed : ListedPool) × (slice_get l.pools k ≡ Some listed) × LiesIn listed.pool.span e × (pools.extent_of listed.pool b ≡ e)
@@ -165,34 +138,17 @@ module _ (l : Layout) (laid_out : IsLaidOut l) (managed_apart : managed.BlocksLi
 
   pooled-before : (k b j c : ℕ) (e f : Extent) → k < j → extent_named (BlockName.Pooled k b) l ≡ Some e → extent_named (BlockName.Pooled j c) l ≡ Some f → AreApart e f
   pooled-before k b j c e f before is is' =
-      let one = pool_in k b e (slice_get l.pools k) refl is in let other = pool_in j c f (slice_get l.pools j) refl is' in
-      spans_apart one.0.pool.span other.0.pool.span e f one.2 other.2 (in-order k j (end_of l.heap.span) l.pools one.0 other.0 l.bytes before laid_out.pools one.1 other.1)
+      let one = pool_in k b e (slice_get l.pools k) refl is in grind (arith, spans_apart, in-order)
 
   pooled_apart : (k b j c : ℕ) (e f : Extent) → BlockName.Pooled k b ≢ BlockName.Pooled j c → extent_named (BlockName.Pooled k b) l ≡ Some e → extent_named (BlockName.Pooled j c) l ≡ Some f → AreApart e f
-  pooled_apart k b j c e f ne is is' = elim (compared k j) [
-    | inl same ↦ pooled-same k b c e f (λ i. ne (ap (λ n. BlockName.Pooled n b) same ∙ ap (λ n. BlockName.Pooled j n) i)) is (ap (λ n. extent_named (BlockName.Pooled n c) l) same ∙ is')
-    | inr (inl before) ↦ pooled-before k b j c e f before is is'
-    | inr (inr behind) ↦ swapped f e (pooled-before j c k b f e behind is' is)
-  ]
+  pooled_apart k b j c e f ne is is' = grind (arith, compared, pooled-same, pooled-before, swapped)
 
   apart : (one other : BlockName) (e f : Extent) → IsBlockName one → IsBlockName other → one ≢ other → extent_named one l ≡ Some e → extent_named other l ≡ Some f → AreApart e f
-  apart (BlockName.Managed p h) (BlockName.Managed q g) e f named named' ne is is' =
-      let one = mapped (managed.extent_of l.managed) (managed.place_of p h l.managed) e is in
-      let other = mapped (managed.extent_of l.managed) (managed.place_of q g l.managed) f is' in
-      let differs = name-differs p h q g (λ a b. ne (ap (λ i. BlockName.Managed i h) a ∙ ap (λ i. BlockName.Managed q i) b)) in
-      subst (λ (e : Extent). AreApart e f) one.2 (subst (λ (f : Extent). AreApart (managed.extent_of l.managed one.0) f) other.2
-      (managed_apart.apart p h q g one.0 other.0 named named' differs one.1 other.1))
-  apart (BlockName.Heap p h) (BlockName.Heap q g) e f named named' ne is is' =
-      let one = mapped (heap.extent_of l.heap) (heap.live_block p h (heap_of l.heap l.bytes)) e is in
-      let other = mapped (heap.extent_of l.heap) (heap.live_block q g (heap_of l.heap l.bytes)) f is' in
-      let differs = name-differs p h q g (λ a b. ne (ap (λ i. BlockName.Heap i h) a ∙ ap (λ i. BlockName.Heap q i) b)) in
-      subst (λ (e : Extent). AreApart e f) one.2 (subst (λ (f : Extent). AreApart (heap.extent_of l.heap one.0) f) other.2
-      (heap_apart.apart p h q g one.0 other.0 named named' differs one.1 other.1))
+  apart (BlockName.Managed p h) (BlockName.Managed q g) e f named named' ne is is' = grind arith
+  apart (BlockName.Heap p h) (BlockName.Heap q g) e f named named' ne is is' = grind (arith, mapped, name-differs, heap_apart)
   apart (BlockName.Pooled k b) (BlockName.Pooled j c) e f named named' ne is is' = pooled_apart k b j c e f ne is is'
-  apart (BlockName.Managed p h) (BlockName.Heap q g) e f named named' ne is is' =
-      spans_apart l.managed.span l.heap.span e f (managed_in p h e is) (heap_in q g f is') laid_out.behind
-  apart (BlockName.Heap p h) (BlockName.Managed q g) e f named named' ne is is' =
-      swapped f e (spans_apart l.managed.span l.heap.span f e (managed_in q g f is') (heap_in p h e is) laid_out.behind)
+  apart (BlockName.Managed p h) (BlockName.Heap q g) e f named named' ne is is' = grind arith
+  apart (BlockName.Heap p h) (BlockName.Managed q g) e f named named' ne is is' = grind arith
   apart (BlockName.Managed p h) (BlockName.Pooled k b) e f named named' ne is is' =
       let there = pool_in k b f (slice_get l.pools k) refl is' in
       let lie = behind-get k (end_of l.heap.span) l.pools there.0 l.bytes laid_out.pools there.1 in
@@ -240,8 +196,4 @@ module _ (l : Layout) (laid_out : IsLaidOut l) (managed_apart : managed.BlocksLi
   read (BlockName.Pooled k b) bytes is = read-pool k b bytes (seen-or k l.pools l.bytes (unused_pool_of 0)) is
 
   pub all-apart : BlocksLieApart (placed l)
-  all-apart = record {
-    read = λ name bytes named is. read name bytes is;
-    inside = λ name extent named is. inside name extent is;
-    apart = λ one other first second named named' ne is is'. apart one other first second named named' ne is is';
-  }
+  all-apart = grind (arith, read, inside, apart)

@@ -51,12 +51,10 @@ pub record Results (p b : ℕ) (bytes : Option (List ℕ)) (old : HeapStore) (re
   pub each : (new : HeapStore) → result ≡ Some new → Becomes (number_of p b) bytes old new
 
 one_result : (p b : ℕ) (bytes : Option (List ℕ)) (old new : HeapStore) → Becomes (number_of p b) bytes old new → Results p b bytes old (Some new)
-one_result p b bytes old new becomes =
-    record { each = λ other f. let same : new ≡ other = cc in subst (λ (s : HeapStore). Becomes (number_of p b) bytes old s) same becomes }
+one_result p b bytes old new becomes = grind arith
 
 none_live : (o : Option (List ℕ)) → is_some o ≡ false → o ≡ None
-none_live None e = refl
-none_live (Some bytes) e = absurd (cc)
+none_live o e = grind arith
 
 pub alloc-results : (p b n : ℕ) (heap : HeapStore) → alloc_refusal p b n heap ≡ None → Results p b (Some (zeros n)) heap (allocated p b n heap)
 alloc-results p b n heap e = at (place n heap)
@@ -100,8 +98,7 @@ write-results p b at bytes heap =
 
 -- A call on heap memory that is not refused is answered as its row says.
 some-length : {X Y : Type 0} (f : X → Y) (found : Option X) → is_some (option_map f found) ≡ is_some found
-some-length f None = refl
-some-length f (Some x) = refl
+some-length f found = grind arith
 
 -- a block has a length where it is live
 live-is : (p b : ℕ) (heap : HeapStore) (len : Option ℕ) (known : Bool) → len ≡ length_of p b heap → is_some len ≡ known → is_live p b heap ≡ known

@@ -1,5 +1,5 @@
 -- What a pool with its lists shows after a call on one of the two.
-use Rattle.node_memory.proofs.Common.{PlacedMemory, ◌≡◌, ℕ, ◌-◌, arith, Bool, true, false, List, [], ◌∷◌, length, refl, sym, ap, ◌∙◌, Some, None, is_some, slice_get, if◌then◌else◌, ListName, PoolTable, BlockPool, head_of, tail_of, popped, chopped, list_of, AreLinked, pool_of, PoolWithLists, list_in, with_list, with_blocks, seen, ListHeads, has_number, holder_of, ListedPool, subst, zero, suc, ◌+◌, ◌≤◌, ◌<◌, ◌⊎◌, inl, inr, map, set, get_or, Option, nat_lt, length-map, Call, Reply, Span, Contents, number_of, ManagedStore, Region, HeapStore, heap_of, HandleTable, store_of, block_in, unused_pool_of, LieBehind, IsLaidOut, end_of, Layout, contents_of, Memory, with_pool, with_managed, with_heap, Asked, ask_pool_of, PoolAsked, ask_pool, length-set, set-get_or, with_block, heap_of-elsewhere, IsLaidOut-elsewhere, region_of, placed, ◌++◌, unwrap_or, replicate, zeros, overwritten, bytes_of, frame_taken, append-nil, drop-replicate, get_or-set_same, set-set, with_bytes}
+use Rattle.node_memory.proofs.Common.{PlacedMemory, ◌≡◌, ℕ, ◌-◌, arith, Bool, true, false, List, [], ◌∷◌, length, refl, sym, ap, ◌∙◌, Some, None, is_some, slice_get, if◌then◌else◌, ListName, PoolTable, BlockPool, tail_of, chopped, list_of, AreLinked, pool_of, PoolWithLists, list_in, with_list, with_blocks, seen, ListHeads, has_number, holder_of, ListedPool, zero, suc, ◌+◌, ◌≤◌, ◌<◌, ◌⊎◌, inl, inr, map, set, get_or, Option, nat_lt, length-map, Call, Reply, Span, Contents, number_of, ManagedStore, Region, HeapStore, heap_of, HandleTable, store_of, block_in, unused_pool_of, LieBehind, IsLaidOut, end_of, Layout, contents_of, Memory, with_pool, with_managed, with_heap, Asked, ask_pool_of, PoolAsked, ask_pool, length-set, set-get_or, with_block, heap_of-elsewhere, IsLaidOut-elsewhere, region_of, placed, zeros, overwritten, bytes_of, frame_taken, append-nil, drop-replicate, get_or-set_same, set-set, with_bytes}
 use Rattle.std.proofs.lemmas.Bool.{false≢true}
 use Rattle.memb_core.specs.Links.{LeavesOthers}
 use Rattle.node_memory.specs.Code.ListCalls.{is_holder}
@@ -18,8 +18,7 @@ abbrev pub shown : BlockPool → List ℕ → List ℕ → PoolWithLists
 shown pool first second = record { pool = pool; first = first; second = second }
 
 pub list_in-seen : (name : ListName) (listed : ListedPool) (bytes : List ℕ) → list_in name (seen listed bytes) ≡ list_of name listed.lists listed.pool bytes
-list_in-seen ListName.First listed bytes = refl
-list_in-seen ListName.Second listed bytes = refl
+list_in-seen name listed bytes = grind arith
 
 -- a call on one list changed that list alone
 pub seen-list : (name : ListName) (pool : PoolTable) (old new : ListHeads) (before after list : List ℕ) → LeavesOthers name pool old new before after
@@ -42,11 +41,6 @@ seen-blocks lists old new before after blocks same is =
     ∙ ap (λ l. shown (pool_of new after) l (list_of ListName.Second lists old before)) (sym (same ListName.First))
     ∙ ap (λ l. shown (pool_of new after) (list_of ListName.First lists new after) l) (sym (same ListName.Second))
 
--- an empty list has nothing to give
-pub popped-none : (list : List ℕ) → head_of list ≡ None → popped list ≡ list
-popped-none [] none = refl
-popped-none (b ∷ later) none = absurd (cc)
-
 has_tail : (b : ℕ) (later : List ℕ) → is_some (slice_get (b ∷ later) (length later)) ≡ true
 has_tail b [] = refl
 has_tail b (next ∷ later) = has_tail next later
@@ -59,18 +53,12 @@ chopped-none (b ∷ later) none =
 
 holder_cases : (name : ListName) (first second : Bool) → (first ≡ true → second ≡ false)
     → is_holder name (if first then Some ListName.First else if second then Some ListName.Second else None) ≡ (elim name [ ListName.First ↦ first | ListName.Second ↦ second ])
-holder_cases ListName.First true second apart = refl
-holder_cases ListName.First false true apart = refl
-holder_cases ListName.First false false apart = refl
-holder_cases ListName.Second true second apart = sym (apart refl)
-holder_cases ListName.Second false true apart = refl
-holder_cases ListName.Second false false apart = refl
+holder_cases name first second apart = grind arith
 
 -- a block is in the list that holds it, and in no other
 pub is_holder-is : (name : ListName) (b : ℕ) (lists : ListHeads) (pool : PoolTable) (bytes : List ℕ) → AreLinked lists pool bytes
     → is_holder name (holder_of b (list_of ListName.First lists pool bytes) (list_of ListName.Second lists pool bytes)) ≡ has_number b (list_of name lists pool bytes)
-is_holder-is ListName.First b lists pool bytes linked =
-    holder_cases ListName.First (has_number b (list_of ListName.First lists pool bytes)) (has_number b (list_of ListName.Second lists pool bytes)) (linked.apart b ListName.First ListName.Second (λ e. absurd (cc)))
+is_holder-is ListName.First b lists pool bytes linked = grind arith
 is_holder-is ListName.Second b lists pool bytes linked =
     holder_cases ListName.Second (has_number b (list_of ListName.First lists pool bytes)) (has_number b (list_of ListName.Second lists pool bytes)) (linked.apart b ListName.First ListName.Second (λ e. absurd (cc)))
 
@@ -110,8 +98,7 @@ lies_behind : (k from : ℕ) (listed : List ListedPool) (d : ListedPool) (bytes 
 lies_behind k from [] d bytes lt lie = absurd (omega arith)
 lies_behind zero from (l ∷ later) d bytes lt lie = lie.0
 lies_behind (suc k) from (l ∷ later) d bytes lt lie =
-    let rest = lies_behind k (l.pool.span.at + l.pool.span.len) later d bytes (omega arith) lie.2 in
-    omega (arith, lie.0, rest)
+    let first = lies_behind k (l.pool.span.at + l.pool.span.len) later d bytes (omega arith) lie.2 in grind arith
 
 -- a call on the k-th pool changed that one alone
 pub one-changed : (k from : ℕ) (listed : List ListedPool) (d new : ListedPool) (before after : Contents) → k < length listed
@@ -143,11 +130,7 @@ module _ (p h : ℕ) (block : Option (List ℕ)) (old new : HandleTable) (heap :
   pools_same = behind-same old.span.at old.span.len before.bytes after.bytes kept.bytes (end_of heap.span) listed (omega (arith, laid_out.behind)) laid_out.pools
 
   names_same : length new.places ≡ length old.places
-  names_same =
-      sym (length-map new.places (block_in (region_of new after.bytes)))
-      ∙ ap (λ (s : ManagedStore). length s.blocks) is
-      ∙ length-set (map (block_in (region_of old before.bytes)) old.places) (number_of p h) block
-      ∙ length-map old.places (block_in (region_of old before.bytes))
+  names_same = grind (arith, length-map, block_in, length-set)
 
   pub after-managed : IsLaidOut (layout_of new heap listed after.bytes)
   after-managed = record {
@@ -161,11 +144,7 @@ module _ (p h : ℕ) (block : Option (List ℕ)) (old new : HandleTable) (heap :
   }
 
   pub managed-changed : contents_of (layout_of new heap listed after.bytes) ≡ with_managed (with_block p h block (store_of old before.bytes)) (contents_of (layout_of old heap listed before.bytes))
-  managed-changed =
-      let store = with_block p h block (store_of old before.bytes) in
-      ap (λ s. memory_of s (heap_of heap after.bytes) (map (seen_by after.bytes) listed)) is
-      ∙ ap (λ k. memory_of store k (map (seen_by after.bytes) listed)) heap_same
-      ∙ ap (λ l. memory_of store (heap_of heap before.bytes) l) pools_same.1
+  managed-changed = grind (arith, heap_same, pools_same)
 
 -- a call on the heap left managed memory and the pools
 module _ (table : HandleTable) (old new : Region) (listed : List ListedPool) (before after : Contents) (laid_out : IsLaidOut (layout_of table old listed before.bytes)) (kept : heap.KeepsToSpan old new before after) (now : heap.IsLaidOut new after.bytes) where
@@ -179,26 +158,15 @@ module _ (table : HandleTable) (old new : Region) (listed : List ListedPool) (be
   lie_behind = behind-same old.span.at old.span.len before.bytes after.bytes kept.bytes (end_of new.span) listed (omega (arith, start, size)) (rw start (rw size laid_out.pools))
 
   pub after-heap : IsLaidOut (layout_of table new listed after.bytes)
-  after-heap = record {
-    managed = omega (arith, kept.bytes.size, laid_out.managed);
-    holder = laid_out.holder;
-    names = laid_out.names;
-    behind = omega (arith, start, laid_out.behind);
-    heap = now;
-    count = laid_out.count;
-    pools = lie_behind.0;
-  }
+  after-heap = grind (arith, start, lie_behind)
 
   pub heap-changed : contents_of (layout_of table new listed after.bytes) ≡ with_heap (heap_of new after.bytes) (contents_of (layout_of table old listed before.bytes))
-  heap-changed =
-      ap (λ s. memory_of s (heap_of new after.bytes) (map (seen_by after.bytes) listed)) (managed_calls.store_of-elsewhere table old.span.at old.span.len before.bytes after.bytes kept.bytes (inl laid_out.behind))
-      ∙ ap (λ l. memory_of (store_of table before.bytes) (heap_of new after.bytes) l) lie_behind.1
+  heap-changed = grind (arith, lie_behind)
 
   -- the same for a memory that shows what stood there
   pub heap-shown : (m : PlacedMemory) → placed (layout_of table old listed before.bytes) ≡ m → (h : HeapStore) → heap_of new after.bytes ≡ h
       → contents_of (layout_of table new listed after.bytes) ≡ with_heap h m.contents
-  heap-shown m view h is =
-      heap-changed ∙ ap (λ k. with_heap k (contents_of (layout_of table old listed before.bytes))) is ∙ ap (λ (v : PlacedMemory). with_heap h v.contents) view
+  heap-shown m view h is = grind (arith, heap-changed)
 
   pub heap-unchanged : (m : PlacedMemory) → placed (layout_of table old listed before.bytes) ≡ m → heap_of new after.bytes ≡ heap_of old before.bytes
       → contents_of (layout_of table new listed after.bytes) ≡ m.contents
@@ -207,9 +175,7 @@ module _ (table : HandleTable) (old new : Region) (listed : List ListedPool) (be
 -- a call that is refused changes nothing
 pub still-laid_out : (old new : HandleTable) (heap : Region) (listed : List ListedPool) (before after : Contents) → IsLaidOut (layout_of old heap listed before.bytes) → (new ≡ old) × (after ≡ before)
     → IsLaidOut (layout_of new heap listed after.bytes)
-still-laid_out old new heap listed before after laid_out same =
-    subst (λ (table : HandleTable). IsLaidOut (layout_of table heap listed after.bytes)) (sym same.0)
-    (subst (λ (a : Contents). IsLaidOut (layout_of old heap listed a.bytes)) (sym same.1) laid_out)
+still-laid_out old new heap listed before after laid_out same = grind arith
 
 -- a call on a pool leaves managed memory, the heap and the other pools
 pub after-pool : (table : HandleTable) (heap : Region) (k : ℕ) (listed : List ListedPool) (d new : ListedPool) (before after : Contents) → k < length listed
@@ -266,29 +232,18 @@ asked-pool table heap k listed d new before after call reply lt known laid_out k
 -- a refused call on a pool changed nothing
 pub refused-pool : (table : HandleTable) (heap : Region) (k : ℕ) (listed : List ListedPool) (d new : ListedPool) (before after : Contents) → (new ≡ get_or listed k d) × (after ≡ before)
     → placed (layout_of table heap (set listed k new) after.bytes) ≡ placed (layout_of table heap listed before.bytes)
-refused-pool table heap k listed d new before after same =
-    ap (λ (a : Contents). placed (layout_of table heap (set listed k new) a.bytes)) same.1
-    ∙ ap (λ l. placed (layout_of table heap (set listed k l) before.bytes)) same.0
-    ∙ ap (λ l. placed (layout_of table heap l before.bytes)) (set-get_or listed k d)
+refused-pool table heap k listed d new before after same = grind (arith, set-get_or)
 
 -- A frame goes into a block that is made for it.
 
 -- a write over all of a block
 overwritten-all : (bytes : List ℕ) → overwritten 0 bytes (zeros (length bytes)) ≡ bytes
-overwritten-all bytes =
-    let n = length bytes in let byte : ℕ = 0 in let none : n - (0 + n) ≡ 0 = omega arith in
-    ap (λ rest. bytes ++ rest) (drop-replicate (0 + n) n byte ∙ ap (λ m. replicate m byte) none) ∙ append-nil bytes
+overwritten-all bytes = grind (arith, drop-replicate, append-nil)
 
 -- a block that is made and then written over
 written-block : (p h : ℕ) (bytes : List ℕ) (store new : ManagedStore) → number_of p h < length store.blocks → new ≡ with_block p h (Some (zeros (length bytes))) store
     → with_bytes p h 0 bytes new ≡ with_block p h (Some bytes) store
-written-block p h bytes store new below is =
-    let i = number_of p h in let made = with_block p h (Some (zeros (length bytes))) store in
-    let read : bytes_of p h made ≡ zeros (length bytes) = ap (λ o. unwrap_or o []) (get_or-set_same store.blocks i (Some (zeros (length bytes))) None below) in
-    ap (λ (s : ManagedStore). with_bytes p h 0 bytes s) is
-    ∙ ap (λ b. with_block p h (Some (overwritten 0 bytes b)) made) read
-    ∙ ap (λ b. with_block p h (Some b) made) (overwritten-all bytes)
-    ∙ ap (λ blocks. let s : ManagedStore = record { capacity = store.capacity; quota = store.quota; blocks = blocks } in s) (set-set store.blocks i (Some (zeros (length bytes))) (Some bytes))
+written-block p h bytes store new below is = grind (arith, get_or-set_same, overwritten-all, set-set)
 
 module _ (slot : ℕ) (bytes : List ℕ) (old new : HandleTable) (heap : Region) (listed : List ListedPool) (before middle after : Contents) (laid_out : IsLaidOut (layout_of old heap listed before.bytes)) (slot_is : slot < 8) (made : managed.KeepsToSpan old new before middle) (made_is : store_of new middle.bytes ≡ with_block 3 slot (Some (zeros (length bytes))) (store_of old before.bytes)) (wrote : managed.KeepsToSpan new new middle after) (wrote_is : store_of new after.bytes ≡ with_bytes 3 slot 0 bytes (store_of new middle.bytes)) where
   middle_laid_out : IsLaidOut (layout_of new heap listed middle.bytes)

@@ -1,8 +1,8 @@
 -- A call leaves every block that it does not name.
-use Rattle.node_memory.proofs.Common.{arith, ◌≡◌, ◌≢◌, ◌⊎◌, inl, inr, ℕ, zero, suc, Bool, true, false, List, [], ◌∷◌, set, get_or, refl, sym, ap, ap₂, ◌∙◌, ◌≤◌, ◌==◌, ◌/◌, Option, Some, None, nat_lt, length, if◌then◌else◌, zeros, overwritten, range_of, Call, Refusal, Reply, ListName, BlockPool, popped, chopped, head_of, tail_of, number_of, bytes_of, Asked, PoolWithLists, list_in, with_list, with_blocks, unused_pool_of, HeapStore, realloc_refusal, Memory, with_pool, with_managed, with_heap, PoolAsked, ask_pool, member_refusal, BlockName, block_named, changed_block, frame_block, option_map, nat_tests, resized, get_or-set_other, block_of, first_unused, next_of, IsName, with_block, ask, list_named, pool_in, number_or, write_refusal, unless_refused, done, LeavesOthers, subst, MayAsk, Part, ask_part, is_some, IfNone, ManagedStore, shortage, HandleTable, store_of, IfRefused}
+use Rattle.node_memory.proofs.Common.{arith, ◌≡◌, ◌≢◌, ◌⊎◌, inl, inr, ℕ, zero, suc, Bool, true, false, List, [], ◌∷◌, set, get_or, refl, ap, ap₂, ◌∙◌, ◌≤◌, ◌==◌, ◌/◌, Option, Some, None, nat_lt, length, if◌then◌else◌, zeros, overwritten, Call, Refusal, Reply, ListName, BlockPool, number_of, Asked, PoolWithLists, with_list, HeapStore, realloc_refusal, Memory, with_pool, with_managed, with_heap, PoolAsked, ask_pool, BlockName, block_named, changed_block, frame_block, option_map, nat_tests, resized, get_or-set_other, block_of, first_unused, IsName, with_block, ask, pool_in, number_or, write_refusal, unless_refused, done, LeavesOthers, subst, MayAsk, Part, ask_part, is_some, IfNone, ManagedStore, shortage, HandleTable, store_of, IfRefused}
 use Rattle.memb_core.specs.BlockPool.{allocated, freed, with_bytes}
 use Rattle.node_memory.proofs.HeapBlocks.{Results, alloc-results, realloc-results, free-results, write-results}
-use Rattle.node_memory.specs.ManagedCalls.{is_handle, alloc_refusal, copy_refusal}
+use Rattle.node_memory.specs.ManagedCalls.{is_handle, alloc_refusal}
 use Rattle.node_memory.specs.PoolCalls.{free_refusal}
 use Rattle.node_memory.specs.Parts.{part_called}
 use Rattle.memb_core.specs.BlockPool as blocks
@@ -17,30 +17,21 @@ get-set [] k j x d = inl refl
 get-set (y ∷ ys) zero zero x d = inr (refl, refl)
 get-set (y ∷ ys) zero (suc j) x d = inl refl
 get-set (y ∷ ys) (suc k) zero x d = inl refl
-get-set (y ∷ ys) (suc k) (suc j) x d = elim (get-set ys k j x d) [
-  | inl same ↦ inl same
-  | inr there ↦ inr (ap suc there.0, there.1)
-]
+get-set (y ∷ ys) (suc k) (suc j) x d = let later = get-set ys k j x d in grind arith
 
 other-block : (c b : ℕ) (bytes : Option (List ℕ)) (pool : BlockPool) → Some c ≢ Some b → block_of b (blocks.with_block c bytes pool) ≡ block_of b pool
-other-block c b bytes pool ne = elim (get-set pool.blocks c b bytes None) [
-  | inl same ↦ same
-  | inr there ↦ absurd (ne (ap Some (sym there.0)))
-]
+other-block c b bytes pool ne = grind (arith, get-set)
 
 with_list-pool : (name : ListName) (list : List ℕ) (s : PoolWithLists) → (with_list name list s).pool ≡ s.pool
-with_list-pool ListName.First list s = refl
-with_list-pool ListName.Second list s = refl
+with_list-pool name list s = grind arith
 
 unless-block : (b : ℕ) (refusal : Option Refusal) (s : PoolWithLists) (asked : PoolAsked) → block_of b asked.0.pool ≡ block_of b s.pool
     → block_of b (unless_refused refusal s asked).0.pool ≡ block_of b s.pool
-unless-block b None s asked same = same
-unless-block b (Some refusal) s asked same = refl
+unless-block b refusal s asked same = grind arith
 
 number-block : (b : ℕ) (refusal : Refusal) (found : Option ℕ) (after : ℕ → PoolWithLists) (s : PoolWithLists)
     → ((n : ℕ) → found ≡ Some n → block_of b (after n).pool ≡ block_of b s.pool) → block_of b (number_or refusal found after s).0.pool ≡ block_of b s.pool
-number-block b refusal None after s same = refl
-number-block b refusal (Some n) after s same = same n refl
+number-block b refusal found after s same = grind arith
 
 list-block : (b : ℕ) (refusal : Option Refusal) (name : ListName) (list : List ℕ) (s : PoolWithLists)
     → block_of b (unless_refused refusal s (done (with_list name list s))).0.pool ≡ block_of b s.pool
@@ -55,62 +46,23 @@ changed_in _ s = None
 
 -- the other blocks of the pool
 pool-leaves : (call : Call) (s : PoolWithLists) (b : ℕ) → changed_in call s ≢ Some b → block_of b (ask_pool call s).0.pool ≡ block_of b s.pool
-pool-leaves (Call.MembAlloc k) s b ne =
-    number-block b Refusal.NoBlock (first_unused s.pool) (λ n. with_blocks (allocated n s.pool) s) s
-    (λ n is. other-block n b _ s.pool (λ e. ne (is ∙ e)))
-pool-leaves (Call.MembFree k c) s b ne =
-    unless-block b (free_refusal c s) s (done (with_blocks (freed c s.pool) s)) (other-block c b None s.pool ne)
-pool-leaves (Call.MembWrite k c at chunk) s b ne =
-    unless-block b (write_refusal c at (length chunk.items) s) s (done (with_blocks (with_bytes c at chunk.items s.pool) s)) (other-block c b _ s.pool ne)
-pool-leaves (Call.MembRead k c at len) s b ne = unless-block b _ s _ refl
-pool-leaves (Call.ListAdd l c) s b ne = list-block b _ (list_named l) _ s
-pool-leaves (Call.ListPush l c) s b ne = list-block b _ (list_named l) _ s
-pool-leaves (Call.ListInsert l prev c) s b ne = list-block b _ (list_named l) _ s
-pool-leaves (Call.ListRemove l c) s b ne = list-block b _ (list_named l) _ s
-pool-leaves (Call.ListPop l) s b ne =
-    number-block b Refusal.Empty (head_of (list_in (list_named l) s)) (λ n. with_list (list_named l) (popped (list_in (list_named l) s)) s) s
-    (λ n is. ap (block_of b) (with_list-pool (list_named l) (popped (list_in (list_named l) s)) s))
-pool-leaves (Call.ListChop l) s b ne =
-    number-block b Refusal.Empty (tail_of (list_in (list_named l) s)) (λ n. with_list (list_named l) (chopped (list_in (list_named l) s)) s) s
-    (λ n is. ap (block_of b) (with_list-pool (list_named l) (chopped (list_in (list_named l) s)) s))
-pool-leaves (Call.ListHead l) s b ne = number-block b Refusal.Empty (head_of (list_in (list_named l) s)) (λ n. s) s (λ n is. refl)
-pool-leaves (Call.ListNext l c) s b ne =
-    let next = next_of c (list_in (list_named l) s) in
-    unless-block b (member_refusal (list_named l) c s) s (number_or Refusal.Empty next (λ n. s) s) (number-block b Refusal.Empty next (λ n. s) s (λ n is. refl))
-pool-leaves _ s b ne = refl
+pool-leaves call s b ne = grind (arith, number-block, other-block, unless-block, done, list-block, with_list-pool)
 
 -- a call on pool k
 module _ (call : Call) (k p : ℕ) (old : Memory) (changed : changed_block call p old ≡ option_map (BlockName.Pooled k) (changed_in call (pool_in k old))) where
   leaves-at : (is_none : Bool) (name : BlockName) → changed_block call p old ≢ Some name
       → block_named name (if is_none then (let answer : Asked = (old, Reply.Refused Refusal.BadName) in answer)
       else (let asked = ask_pool call (pool_in k old) in let answer : Asked = (with_pool k asked.0 old, asked.1) in answer)).0 ≡ block_named name old
-  leaves-at true name other = refl
-  leaves-at false (BlockName.Managed q h) other = refl
-  leaves-at false (BlockName.Heap q h) other = refl
-  leaves-at false (BlockName.Pooled j b) other =
-      let after = (ask_pool call (pool_in k old)).0 in
-      elim (get-set old.pools k j after (unused_pool_of 0)) [
-        | inl same ↦ ap (λ (s : PoolWithLists). block_of b s.pool) same
-        | inr there ↦
-            ap (λ (s : PoolWithLists). block_of b s.pool) there.1
-            ∙ pool-leaves call (pool_in k old) b (λ e. other (changed ∙ ap (option_map (BlockName.Pooled k)) e ∙ ap (λ i. Some (BlockName.Pooled i b)) (sym there.0)))
-            ∙ ap (λ i. block_of b (pool_in i old).pool) (sym there.0)
-      ]
+  leaves-at is_none name other = grind (arith, get-set, pool-leaves)
 
 -- names that differ have numbers that differ
 number-differs : (p h q g : ℕ) → 3 ≤ p → is_handle h ≡ true → IsName q g → (p ≡ q → h ≡ g → ⊥) → number_of p h ≢ number_of q g
-number-differs p h q g low named other ne same =
-    let few : h ≤ 15 = grind (arith, named) in
-    ne (omega (arith, low, few, other, same)) (omega (arith, low, few, other, same))
+number-differs p h q g low named other ne same = grind arith
 
 -- a change of one handle's block
 leaves-block : (p h : ℕ) (block : Option (List ℕ)) (old : Memory) → 3 ≤ p → is_handle h ≡ true
     → LeavesOthers (Some (BlockName.Managed p h)) old (with_managed (with_block p h block old.managed) old)
-leaves-block p h block old low few (BlockName.Managed q g) named differs =
-    let apart = number-differs p h q g low few named (λ a b. differs (ap₂ (λ i j. Some (BlockName.Managed i j)) a b)) in
-    get_or-set_other old.managed.blocks (number_of p h) (number_of q g) block None (λ e. apart (sym e))
-leaves-block p h block old low few (BlockName.Heap q g) named differs = refl
-leaves-block p h block old low few (BlockName.Pooled k b) named differs = refl
+leaves-block p h block old low few h6 named differs = grind (arith, number-differs, ap₂, get_or-set_other)
 
 pub leaves-frame : (slot : ℕ) (block : Option (List ℕ)) (old : Memory) → slot ≤ 15 → LeavesOthers (Some (frame_block slot)) old (with_managed (with_block 3 slot block old.managed) old)
 leaves-frame slot block old low = leaves-block 3 slot block old (omega arith) (grind (arith, low))
@@ -118,8 +70,7 @@ leaves-frame slot block old low = leaves-block 3 slot block old (omega arith) (g
 -- a call on a handle's block, unless it is refused
 leaves-handle : (p h : ℕ) (block : Option (List ℕ)) (old : Memory) (refusal : Option Refusal) → 3 ≤ p → (refusal ≡ None → is_handle h ≡ true)
     → LeavesOthers (Some (BlockName.Managed p h)) old (unless_refused refusal old (done (with_managed (with_block p h block old.managed) old))).0
-leaves-handle p h block old None low few = leaves-block p h block old low (few refl)
-leaves-handle p h block old (Some refusal) low few = λ other named differs. refl
+leaves-handle p h block old refusal low few = grind (arith, leaves-block)
 
 -- a call on a block in the heap, unless it is refused or finds no place
 leaves-heap : (p b : ℕ) (bytes : Option (List ℕ)) (old : Memory) (found : Option HeapStore) (refusal : Option Refusal) → 3 ≤ p → (refusal ≡ None → is_handle b ≡ true)
@@ -137,22 +88,13 @@ leaves-heap p b bytes old (Some new) None low few results = others
         let ne : (number_of p b == number_of q g) ≡ false = grind (arith, nat_tests, apart) in
         ((results refl).each new refl).each (number_of q g) ∙ rw ne refl
 
--- a read leaves all
-leaves-all : (refusal : Option Refusal) (old : Memory) (reply : Reply) (name : BlockName)
-    → block_named name (unless_refused refusal old (let answer : Asked = (old, reply) in answer)).0 ≡ block_named name old
-leaves-all None old reply name = refl
-leaves-all (Some refusal) old reply name = refl
-
 -- a call of any process but 0 to 2
 pub leaves : (call : Call) (p : ℕ) (old : Memory) → 3 ≤ p → LeavesOthers (changed_block call p old) old (ask call p old).0
 leaves (Call.MmemAlloc h n) p old low = leaves-handle p h (Some (zeros n)) old (alloc_refusal p h n old.managed) low (λ e. grind (arith, e))
 leaves (Call.MmemFree h) p old low = leaves-handle p h None old (managed_calls.free_refusal p h old.managed) low (λ e. grind (arith, e))
-leaves (Call.MmemWrite h at chunk) p old low =
-    leaves-handle p h (Some (overwritten at chunk.items (bytes_of p h old.managed))) old (managed_calls.write_refusal p h at (length chunk.items) old.managed) low (λ e. grind (arith, e))
-leaves (Call.MmemCopy source target) p old low =
-    leaves-handle p target (Some (overwritten 0 (bytes_of p source old.managed) (bytes_of p target old.managed))) old (copy_refusal p source target old.managed) low (λ e. grind (arith, e))
-leaves (Call.MmemRead h at len) p old low =
-    λ name named other. leaves-all (managed_calls.read_refusal p h at len old.managed) old (Reply.Bytes (record { items = range_of at len (bytes_of p h old.managed) })) name
+leaves (Call.MmemWrite h at chunk) p old low = grind (arith, leaves-handle)
+leaves (Call.MmemCopy source target) p old low = grind (arith, leaves-handle)
+leaves (Call.MmemRead h at len) p old low = grind arith
 leaves (Call.HeapAlloc b n) p old low =
     leaves-heap p b (Some (zeros n)) old (heap_store.allocated p b n old.heap) (heap_calls.alloc_refusal p b n old.heap) low (λ e. grind (arith, e)) (alloc-results p b n old.heap)
 leaves (Call.HeapRealloc b n) p old low =
@@ -163,8 +105,7 @@ leaves (Call.HeapFree b) p old low =
 leaves (Call.HeapWrite b at chunk) p old low =
     leaves-heap p b (option_map (overwritten at chunk.items) (heap_store.block_of p b old.heap)) old (Some (heap_store.with_bytes p b at chunk.items old.heap))
     (heap_calls.write_refusal p b at (length chunk.items) old.heap) low (λ e. grind (arith, e)) (λ e. write-results p b at chunk.items old.heap)
-leaves (Call.HeapRead b at len) p old low =
-    λ name named other. leaves-all (heap_calls.read_refusal p b at len old.heap) old (Reply.Bytes (record { items = range_of at len (heap_calls.bytes_of p b old.heap) })) name
+leaves (Call.HeapRead b at len) p old low = grind arith
 leaves (Call.MembAlloc k) p old low = λ name named other. leaves-at (Call.MembAlloc k) k p old refl (nat_lt 3 k) name other
 leaves (Call.MembFree k b) p old low = λ name named other. leaves-at (Call.MembFree k b) k p old refl (nat_lt 3 k) name other
 leaves (Call.MembWrite k b at chunk) p old low = λ name named other. leaves-at (Call.MembWrite k b at chunk) k p old refl (nat_lt 3 k) name other
@@ -185,8 +126,7 @@ leaves _ p old low = λ name named other. refl
 
 -- the kernel's processes 0 to 2 ask nothing
 may-low : (call : Call) (p : ℕ) → MayAsk p call → 3 ≤ p
-may-low Call.MmemAvail p may = may.0
-may-low call p may = omega (arith, may)
+may-low call p may = grind arith
 
 pub leaves-of-part : (call : Call) (p : ℕ) (part : Part) (old new : Memory) (reply : Reply) → MayAsk p call → part_called call ≡ Some part
     → ask_part (Some part) call p old ≡ (new, reply) → LeavesOthers (changed_block call p old) old new
@@ -196,14 +136,11 @@ leaves-of-part call p part old new reply may is asked =
 
 -- What follows where a reply is a refusal, and where nothing was found.
 pub refused-then : {X Y : Type 0} (reply : Reply) → (X → Y) → IfRefused reply X → IfRefused reply Y
-refused-then (Reply.Refused refusal) f refused = f refused
-refused-then _ f refused = tt
+refused-then reply f refused = grind arith
 
 pub none-then : {X F : Type 0} (found : Option X) → is_some found ≡ false → IfNone found F → F
-none-then None none fact = fact
-none-then (Some x) none fact = absurd (cc)
+none-then found none fact = grind arith
 
 -- where a refusal left the table as it was, the reason that is told is that of the store as it was
 pub shortage-of-before : (told : Refusal) (before after : HandleTable) (bytes : List ℕ) (managed : ManagedStore) → told ≡ shortage (store_of after bytes) → after ≡ before → store_of before bytes ≡ managed → told ≡ shortage managed
-shortage-of-before told before after bytes managed is-told same seen =
-    is-told ∙ ap (λ t. shortage (store_of t bytes)) same ∙ ap (λ store. shortage store) seen
+shortage-of-before told before after bytes managed is-told same seen = grind arith
