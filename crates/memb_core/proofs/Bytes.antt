@@ -64,10 +64,7 @@ module _ (pool : PoolTable) (fills : FillsSpan pool) (B : List ℕ) (within : Is
   link_read b below = grind (arith, block_inside, range-range)
 
   pub room_of : (b n : ℕ) → IsSomeAnd (block_of b (pool_of pool B)) (λ block. n ≤ length block) → (is_used b pool ≡ true) × (n ≤ pool.usable)
-  room_of b n h =
-      let used = used_if_room pool B within b n h in
-      let room : n ≤ length (usable_bytes pool R b) = subst (λ (o : Option (List ℕ)). IsSomeAnd o (λ block. n ≤ length block)) (block_is pool B within b used) h in
-      (used, omega (arith, length-usable b (used_below pool.used b used)))
+  room_of b n h = grind (arith, used_if_room, block_is, length-usable, used_below)
 
   -- a write within the span
   module _ (x : ℕ) (ws : List ℕ) (inside : x + length ws ≤ pool.span.len) where

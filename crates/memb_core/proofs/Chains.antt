@@ -54,11 +54,8 @@ names_without link new start b i [] within at distinct here others names = absur
 names_without link new start b i (x ∷ []) within at distinct here others names = absurd (omega arith)
 names_without link new start b zero (x ∷ (y ∷ list)) within at distinct here others names = grind (arith, none_parts, ne_eqb, without_head, names_agree, has_later, differ)
 names_without link new start b (suc i) (x ∷ (y ∷ list)) within at distinct here others names =
-    let listed : has_number (get_or (y ∷ list) i 0) (y ∷ list) ≡ true = has_at i (y ∷ list) (omega arith) in
-    let listed' : has_number b (y ∷ list) ≡ true = subst (λ k. has_number k (y ∷ list) ≡ true) at (has_at (suc i) (y ∷ list) (omega arith)) in
-    let far : eqb x b ≡ false = ne_eqb x b (λ e. differ b x (y ∷ list) listed' distinct.0 (sym e)) in
-    let same : new x ≡ link x = others x (has_first x (y ∷ list)) (λ e. differ (get_or (y ∷ list) i 0) x (y ∷ list) listed distinct.0 (sym e)) in
-    rw far (names.0, subst (λ s. Names new s (without b (y ∷ list))) (sym same) (names_without link new (link x) b i (y ∷ list) (omega arith) at distinct.1 here (λ c h. others c (has_later c x (y ∷ list) h)) names.1))
+    let later = names_without link new (link x) b i (y ∷ list) (omega arith) at distinct.1 here (λ c h. others c (has_later c x (y ∷ list) h)) names.1 in
+    grind (arith, has_at, ne_eqb, differ, has_first, has_later)
 
 -- b is put behind prev: it gets prev's link, and prev's link then names it
 pub names_behind : (link new : ℕ → Option ℕ) (start : Option ℕ) (prev b : ℕ) (list : List ℕ) → has_number prev list ≡ true → has_number b list ≡ false → AreDistinct list

@@ -5,20 +5,13 @@ use Rattle.memb_core.proofs.Numbers.{has_first, has_cases, differ, at_most, left
 use Rattle.memb_core.proofs.Chains.{all_along_none, all_along_is, names_agree, link_listed, names_without, names_behind}
 
 pub same_name : (a b : ListName) → (a ≡ b) ⊎ (a ≢ b)
-same_name ListName.First ListName.First = inl refl
-same_name ListName.First ListName.Second = inr (λ e. absurd (cc))
-same_name ListName.Second ListName.First = inr (λ e. absurd (cc))
-same_name ListName.Second ListName.Second = inl refl
+same_name a b = grind arith
 
 pub start_same : (name : ListName) (start : Option ℕ) (lists : ListHeads) → start_of name (with_start name start lists) ≡ start
-start_same ListName.First start lists = refl
-start_same ListName.Second start lists = refl
+start_same name start lists = grind arith
 
 pub start_other : (name other : ListName) (start : Option ℕ) (lists : ListHeads) → other ≢ name → start_of other (with_start name start lists) ≡ start_of other lists
-start_other ListName.First ListName.First start lists ne = absurd (ne refl)
-start_other ListName.First ListName.Second start lists ne = refl
-start_other ListName.Second ListName.First start lists ne = refl
-start_other ListName.Second ListName.Second start lists ne = absurd (ne refl)
+start_other name other start lists ne = grind arith
 
 -- links that name a list of used blocks
 pub is_linked : (name : ListName) (lists : ListHeads) (pool : PoolTable) (bytes list : List ℕ) → length pool.used ≤ 16 → Names (link_of pool bytes) (start_of name lists) list → AreDistinct list
@@ -97,8 +90,7 @@ unused_absent name lists pool bytes b linked unused = grind arith
 
 -- the head is taken out
 listed_first : (link : ℕ → Option ℕ) (start : Option ℕ) (b : ℕ) (list : List ℕ) → Names link start list → start ≡ Some b → list ≡ b ∷ drop 1 list
-listed_first link start b [] names e = absurd (cc)
-listed_first link start b (x ∷ list) names e = let same : x ≡ b = cc in ap (λ k. k ∷ list) same
+listed_first link start b list names e = grind arith
 
 pub start_listed : (name : ListName) (lists : ListHeads) (pool : PoolTable) (bytes : List ℕ) (b : ℕ) → AreLinked lists pool bytes → start_of name lists ≡ Some b → has_number b (list_of name lists pool bytes) ≡ true
 start_listed name lists pool bytes b linked e =
