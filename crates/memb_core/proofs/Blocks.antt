@@ -48,14 +48,10 @@ entry_same f g us vs b e u = ap (λ bytes. if get_or vs b false then Some bytes 
 
 -- a used block is one of the pool's
 pub used_below : (us : List Bool) (b : ℕ) → get_or us b false ≡ true → b < length us
-used_below us b used = elim (cases_lt b (length us)) [
-  | inl below ↦ below
-  | inr past ↦ absurd (false≢true (sym (get_or_past us b false past) ∙ used))
-]
+used_below us b used = grind (arith, cases_lt, false≢true, get_or_past)
 
 some_if : (u : Bool) (bytes : List ℕ) → is_some (if u then Some bytes else None) ≡ u
-some_if true bytes = refl
-some_if false bytes = refl
+some_if u bytes = grind arith
 
 pub live_is : (b : ℕ) (pool : PoolTable) (bytes : List ℕ) → is_live b (pool_of pool bytes) ≡ is_used b pool
 unfolding pool_of
@@ -86,7 +82,4 @@ all_unused f n (suc count) = ap (λ l. None ∷ l) (all_unused f (n + 1) count)
 
 -- a block that was used still is when another one, or the same, is taken into use
 pub still_used : (us : List Bool) (b c : ℕ) → get_or us c false ≡ true → get_or (set us b true) c false ≡ true
-still_used us b c used = elim (cases_eq c b) [
-  | inl e ↦ ap (λ k. get_or (set us b true) k false) e ∙ get_or-set_same us b true false (subst (λ k. k < length us) e (used_below us c used))
-  | inr ne ↦ get_or-set_other us b c true false ne ∙ used
-]
+still_used us b c used = grind (arith, cases_eq, get_or-set_same, used_below, get_or-set_other)
