@@ -84,12 +84,10 @@ owner_cases None = inl refl
 owner_cases (Some name) = inr (name, refl)
 
 pub owner_some : (o : Option ℕ) → IsSomeAnd o (λ name. name < 272) → (name : ℕ) × (o ≡ Some name)
-owner_some None h = absurd h
-owner_some (Some name) h = (name, refl)
+owner_some o h = grind arith
 
 pub owner_live : (o : Option ℕ) → IsSomeAnd o (λ name. name < 272) → is_a_name o ≡ true
-owner_live None h = absurd h
-owner_live (Some name) h = lt-ltb name 272 h
+owner_live o h = grind arith
 
 pub changes_then : (s n : ℕ) (A B C : List ℕ) → ChangesOnly s n A B → ChangesOnly s n B C → ChangesOnly s n A C
 changes_then s n A B C first second = grind arith
@@ -214,18 +212,14 @@ stands_of c (d ∷ l) (inr h) =
 pub in_told : (header : ℕ) (B : List ℕ) (b x y : ℕ) (c : Chunk) (l : List Chunk) → Tell header B b x y l → In c l → (x ≤ c.at) × (c.at + c.len ≤ y) × (least_len header c ≤ c.len)
 in_told header B b x y c [] t h = absurd h
 in_told header B b x y c (d ∷ l) t (inl e) =
-    let at = place_told B b x d t.0 in let le = told_le header B b (x + d.len) y l t.2 in let enough : least_len header d ≤ d.len = t.1 in
-    subst (λ (k : Chunk). (x ≤ k.at) × (k.at + k.len ≤ y) × (least_len header k ≤ k.len)) e (omega arith, omega arith, omega arith)
+    let at = place_told B b x d t.0 in grind (arith, told_le)
 in_told header B b x y c (d ∷ l) t (inr h) = let later = in_told header B b (x + d.len) y c l t.2 h in grind arith
 
 -- a gap between others makes room for chunks
 pub in_exchanged : (c gap : Chunk) (before mid behind : List Chunk) → gap.owner ≡ None → c.owner ≢ None → In c (before ++ (gap ∷ behind)) → In c (before ++ (mid ++ behind))
 in_exchanged c gap before mid behind free live h = elim (in_cases c before (gap ∷ behind) h) [
   | inl early ↦ in_left c before (mid ++ behind) early
-  | inr later ↦ elim later [
-    | inl same ↦ absurd (live (sym (ap (λ (k : Chunk). k.owner) same) ∙ free))
-    | inr behind' ↦ in_right c before (mid ++ behind) (in_right c mid behind behind')
-  ]
+  | inr later ↦ grind (arith, in_right)
 ]
 
 pub live_exchanged : (c gap : Chunk) (before mid behind old new : List Chunk) → gap.owner ≡ None → old ≡ before ++ (gap ∷ behind) → new ≡ before ++ (mid ++ behind) → LiveIn c old → LiveIn c new
@@ -233,8 +227,7 @@ live_exchanged c gap before mid behind old new free is is' h =
     record { stands = stands_of c new (subst (In c) (sym is') (in_exchanged c gap before mid behind free h.live (subst (In c) is (in_of c old h.stands)))); live = h.live }
 
 pub if_some : {X : Type 0} (P Q : X → Type 0) (o : Option X) → IfSome o P → ((x : X) → P x → Q x) → IfSome o Q
-if_some P Q None h f = h
-if_some P Q (Some x) h f = f x h
+if_some P Q o h f = grind arith
 
 -- a live one lies before or behind a gap
 pub apart_from_gap : (header : ℕ) (B : List ℕ) (b end : ℕ) (c gap : Chunk) (before behind l : List Chunk) → l ≡ before ++ (gap ∷ behind) → Tell header B b 0 gap.at before → Tell header B b (gap.at + gap.len) end behind → gap.owner ≡ None → LiveIn c l
@@ -293,8 +286,8 @@ between_more x x' y (block ∷ xs) le h = (omega (arith, h.0), h.1, between_more
 pub blocks_between : (header : ℕ) (B : List ℕ) (b x y : ℕ) (l : List Chunk) → Tell header B b x y l → Between x y (blocks_in header B b l)
 blocks_between header B b x y [] t = tt
 blocks_between header B b x y (c ∷ l) t =
-    let enough : least_len header c ≤ c.len = t.1 in let at = place_told B b x c t.0 in let le = told_le header B b (x + c.len) y l t.2 in
-    let later : Between x y (blocks_in header B b l) = between_more (x + c.len) x y (blocks_in header B b l) (omega arith) (blocks_between header B b (x + c.len) y l t.2) in grind arith
+    let enough : least_len header c ≤ c.len = t.1 in let at = place_told B b x c t.0 in let later = blocks_between header B b (x + c.len) y l t.2 in
+    grind (arith, told_le, between_more)
 
 pub placed_behind : (x y : ℕ) (block : Block) (xs ys : List Block) → Between x y xs → y ≤ block.at → placed block (xs ++ ys) ≡ xs ++ placed block ys
 placed_behind x y block [] ys h le = refl
@@ -323,9 +316,8 @@ Ascending top (block ∷ blocks) = Between (suc block.at) top blocks × (block.a
 pub blocks_ascending : (header : ℕ) (B : List ℕ) (b x y : ℕ) (l : List Chunk) → Tell header B b x y l → Ascending y (blocks_in header B b l)
 blocks_ascending header B b x y [] t = tt
 blocks_ascending header B b x y (c ∷ l) t =
-    let enough : least_len header c ≤ c.len = t.1 in let at = place_told B b x c t.0 in let le = told_le header B b (x + c.len) y l t.2 in
-    let later = blocks_ascending header B b (x + c.len) y l t.2 in
-    let above : Between (suc c.at) y (blocks_in header B b l) = between_more (x + c.len) (suc c.at) y (blocks_in header B b l) (omega arith) (blocks_between header B b (x + c.len) y l t.2) in grind arith
+    let enough : least_len header c ≤ c.len = t.1 in let at = place_told B b x c t.0 in let later = blocks_ascending header B b (x + c.len) y l t.2 in
+    grind (arith, told_le, between_more, blocks_between)
 
 pub filter_between : (p : Block → Bool) (x y : ℕ) (xs : List Block) → Between x y xs → Between x y (filter p xs)
 filter_between p x y [] h = tt
@@ -386,12 +378,7 @@ spliced old new B B' x y before mid behind span same within changes front told b
     let here : chunks_from end B' b 0 end ≡ l = walked header end B' b 0 end l all (omega arith) in
     let is : chunks_from end B' new.span.at 0 end ≡ l = subst (λ (s : Span). chunks s ≡ l) (sym span) here in
     record {
-      has = record {
-        within = subst (λ (s : Span). s.at + s.len ≤ length B') (sym span) (omega (arith, changes.size, within));
-        told = subst (λ k. Tell k B' new.span.at 0 end (chunks new.span)) (sym same)
-            (subst (λ (s : Span). Tell header B' s.at 0 end (chunks s)) (sym span) (subst (Tell header B' b 0 end) (sym here) all));
-        joined = subst (λ k. AreJoined k (chunks new.span)) (sym same) (subst (AreJoined header) (sym is) joined);
-      };
+      has = grind arith;
       is = is;
       store = ap (λ s. store s new.header) span
           ∙ ap (store old.span) same

@@ -4,8 +4,7 @@ use Rattle.heap_core.proofs.ChunkHeaders.{Around, ended, Split, place_told, told
 use Rattle.heap_core.proofs.Gaps.{none_in_front}
 
 with_free_append : (c : Chunk) (o : Option ℕ) (xs ys : List Chunk) → with_free c o (xs ++ ys) ≡ with_free c o xs ++ ys
-with_free_append c None xs ys = refl
-with_free_append c (Some name) xs ys = refl
+with_free_append c o xs ys = grind arith
 
 pub gaps_append : (l r : List Chunk) → gaps_among (l ++ r) ≡ gaps_among l ++ gaps_among r
 gaps_append [] r = refl
@@ -74,8 +73,7 @@ followed header B b x end head (c ∷ l) t h =
           let k = linked_gap head None c l e h in
           let first = followed header B b (x + c.len) end c.link l t.2 k.1 in grind arith
       | inr s ↦
-          let later = followed header B b (x + c.len) end head l t.2 (linked_live head None s.0 c l s.1 h) in
-          subst (λ gaps. Follow B b end head gaps × (x + 12 * length gaps ≤ end)) (sym (live_first c s.0 l s.1)) (later.0, omega (arith, later.1))
+          let later = followed header B b (x + c.len) end head l t.2 (linked_live head None s.0 c l s.1 h) in grind arith
     ]
 
 -- what a hole leaves of the list
@@ -357,8 +355,7 @@ record BeginsFree (l : List Chunk) : Type 0 where
   pub len : front_gap l ≡ gap.len
 
 begins_free : (l : List Chunk) → front_gap l ≢ 0 → BeginsFree l
-begins_free [] some = absurd (some refl)
-begins_free (c ∷ l) some = grind arith
+begins_free l some = grind arith
 
 module _ (heap : Region) (B : List ℕ) (has : HasChunks heap B) (linked : LinkedTo heap.lowest (chunks_of heap B) None) where
   abbrev from_place : ℕ → Option ℕ
@@ -368,8 +365,7 @@ module _ (heap : Region) (B : List ℕ) (has : HasChunks heap B) (linked : Linke
   pub behind_gap : (gap : Chunk) → Around heap.header B heap.span.at heap.footprint gap (chunks_of heap B) → gap.owner ≡ None → gap.link ≡ from_place (gap.at + gap.len)
   behind_gap gap a free =
       let e = ends_of heap B gap.at (gap.at + gap.len) a.before (gap ∷ []) a.behind has linked a.is a.front a.back in
-      let p = linked_parted heap.lowest None a.before (gap ∷ a.behind) (subst (λ l. LinkedTo heap.lowest l None) a.is linked) in
-      linked_same gap.link (from_place (gap.at + gap.len)) None a.behind (linked_gap p.mid None gap a.behind free p.back).1 e.back
+      grind (arith, linked_parted, l, linked_same, linked_gap)
 
   -- none lies above the footprint
   pub above_all : from_place heap.footprint ≡ None
