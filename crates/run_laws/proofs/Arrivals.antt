@@ -1,6 +1,8 @@
 -- What an input does to the scheduler: a process is marked, or the note of a lost frame is in front.
-use Rattle.std.proofs.Common.{ℕ, Bool, [], ◌∷◌, length, Option, Some, None}
-use Rattle.run_laws.proofs.Common.{Entry, Input, Note, Refusal, free_slot, Item, Scheduler, marked, in_front, Machine, effect, frame_held, frame_refusal, held_unless_lost}
+use Rattle.std.proofs.Common.{ℕ, Bool, [], ◌∷◌, length, Option, Some, None, ◌≡◌, arith}
+use Rattle.run_laws.proofs.Common.{Entry, Input, Note, Refusal, free_slot, Item, Scheduler, marked, in_front, Machine, effect, frame_held, frame_refusal, held_unless_lost, length-map, Call, Event, state_of, after_call, serve}
+use Rattle.run_laws.proofs.Changes.{Changes, of_changes}
+use Rattle.run_laws.proofs.Marks.{state_of-with_mark}
 
 -- what holds of the scheduler, and outlasts both
 pub effect-keeps : (P : Scheduler Bool → Type 0) (input : Input) (m : Machine) → P m.scheduler → ((q : ℕ) → P (marked q m.scheduler))
@@ -16,3 +18,35 @@ effect-keeps P (Input.Frame bytes) m h marks shows = arrives (frame_refusal (len
     arrives : (o : Option Refusal) → P (held_unless_lost o bytes.items m).scheduler
     arrives (Some refusal) = shows refusal
     arrives None = held (free_slot m.packets)
+
+-- What a call or a kernel process leaves as it was.
+
+-- a kernel process puts nothing on the agenda, lets nobody in or out, and is no work
+pub record Untouched (old new : Machine) : Type 0 where
+  pub agenda : new.scheduler.agenda ≡ old.scheduler.agenda
+  pub processes : length new.scheduler.processes ≡ length old.scheduler.processes
+  pub applications : new.scheduler.applications ≡ old.scheduler.applications
+  pub states : (p : ℕ) → state_of p new.scheduler.processes ≡ state_of p old.scheduler.processes
+  pub memory : new.memory ≡ old.memory
+  pub frames : new.packets.frames ≡ old.packets.frames
+  pub work : new.work ≡ old.work
+  pub halted : new.is_halted ≡ old.is_halted
+
+pub serve-untouched : (q : ℕ) (event : Event) (m : Machine) → Untouched m (serve q event m)
+serve-untouched q event = of_changes changes
+  where
+    changes : Changes Untouched q event
+    changes =
+        record {
+          same = λ m. grind arith;
+          chained = λ a b c h k. grind (arith, h, k);
+          expired = λ timer m e. grind arith;
+          timers_gone = λ n m z k e. grind arith;
+          callbacks_gone = λ n m. grind arith;
+          posted = λ notice m n. grind arith;
+          devices = λ serial is_waiting packets m e. grind (arith, e);
+          marked = λ n m. grind (arith, length-map, state_of-with_mark);
+        }
+
+pub call-work : (call : Call) (p : ℕ) (m : Machine) → (after_call call p m).work ≡ m.work
+call-work call p m = grind arith

@@ -1,16 +1,7 @@
 -- Transcripts that no run makes: each breaks one law, which says so.
 use Rattle.std.proofs.Common.{◌≡◌, ℕ, List, [], ◌∷◌, ◌++◌, ap, refl, arith}
-use Rattle.run_laws.proofs.Common.{ArrayVec, number_event, plain_event, INIT, TIMER, Call, Entry, Note, Event, Origin, Payload, Stimulus, Refusal, Reply, IsAtRest, HasCall}
-use Rattle.run_laws.specs.RunLaws.{BlocksAreOwn, EventsArriveInOrder, TimersAreKept}
-
-abbrev init : Stimulus
-init = Stimulus.Event (plain_event INIT)
-
-abbrev started : ℕ → Call → Entry
-started p call = Entry.Turn (record { 0 = p }) Origin.Synch init call
-
-abbrev told : ℕ → Reply → Call → Entry
-told p reply call = Entry.Turn (record { 0 = p }) Origin.Answer (Stimulus.Answer reply) call
+use Rattle.run_laws.proofs.Common.{ArrayVec, number_event, plain_event, TIMER, Call, Entry, Note, Event, Origin, Payload, Stimulus, Refusal, Reply, IsAtRest, HasCall, BlocksAreOwn, EventsArriveInOrder, TimersAreKept}
+use Rattle.run_laws.proofs.Examples.{started, told}
 
 abbrev given : ℕ → Event → Entry
 given p event = Entry.Turn (record { 0 = p }) Origin.Event (Stimulus.Event event) Call.Wait
@@ -21,7 +12,7 @@ abbrev posted : List Entry
 posted = started 5 (Call.Post 4 140 Payload.Empty) ∷ told 5 Reply.Done (Call.Post 4 141 Payload.Empty) ∷ told 5 Reply.Done Call.Wait ∷ []
 
 never_given : EventsArriveInOrder 2 posted → ⊥
-never_given laws = absurd (let all = laws.none_lost 4 refl posted (IsAtRest.at_end refl) refl in cc)
+never_given laws = cc (laws.none_lost 4 refl posted (IsAtRest.at_end refl) refl)
 
 abbrev first_code : List Event → ℕ
 first_code [] = 0
@@ -29,23 +20,21 @@ first_code (event ∷ later) = event.code
 
 second_given_first : EventsArriveInOrder 2 (posted ++ given 4 (plain_event 141) ∷ []) → ⊥
 second_given_first laws =
-    absurd (let front = laws.in_order 4 refl (posted ++ given 4 (plain_event 141) ∷ []) [] refl refl in
-    let same : 141 ≡ 140 = ap first_code front.1 in
-    omega (arith, same))
+    let same : 141 ≡ 140 = ap first_code (laws.in_order 4 refl (posted ++ given 4 (plain_event 141) ∷ []) [] refl refl).1 in
+    omega (arith, same)
 
 -- Timers of process 4.
 
 given_unarmed : TimersAreKept 1 (given 4 (number_event TIMER 2) ∷ []) → ⊥
 given_unarmed laws =
-    absurd (let few = laws.not_early 4 refl (given 4 (number_event TIMER 2) ∷ []) [] 2 refl in
-    omega (arith, few))
+    omega (arith, laws.not_early 4 refl (given 4 (number_event TIMER 2) ∷ []) [] 2 refl)
 
 -- a timer of no ticks is due at once
 abbrev armed : List Entry
 armed = started 4 (Call.TimerSet 2 0) ∷ told 4 Reply.Done Call.Wait ∷ []
 
 never_told : TimersAreKept 1 armed → ⊥
-never_told laws = absurd (let told = laws.not_lost 4 refl armed 2 (IsAtRest.at_end refl) refl refl (omega arith) in cc)
+never_told laws = cc (laws.not_lost 4 refl armed 2 (IsAtRest.at_end refl) refl refl (omega arith))
 
 -- Blocks of process 4.
 
@@ -62,13 +51,11 @@ has_answered made call reply = record { later = told 4 reply Call.Wait ∷ []; i
 -- what was read isn't what the block has
 managed_misread : BlocksAreOwn (answered (Call.MmemAlloc 0 2) (Call.MmemRead 0 0 2) (Reply.Bytes nines)) → ⊥
 managed_misread laws =
-    absurd (let read = laws.managed.reads (started 4 (Call.MmemAlloc 0 2) ∷ []) 4 Origin.Answer (Stimulus.Answer Reply.Done) (Call.MmemRead 0 0 2) nines 0 0 2 (omega arith) (has_answered (Call.MmemAlloc 0 2) (Call.MmemRead 0 0 2) (Reply.Bytes nines)) refl in
-    cc)
+    cc (laws.managed.reads (started 4 (Call.MmemAlloc 0 2) ∷ []) 4 Origin.Answer (Stimulus.Answer Reply.Done) (Call.MmemRead 0 0 2) nines 0 0 2 (omega arith) (has_answered (Call.MmemAlloc 0 2) (Call.MmemRead 0 0 2) (Reply.Bytes nines)) refl)
 
 heap_misread : BlocksAreOwn (answered (Call.HeapAlloc 0 2) (Call.HeapRead 0 0 2) (Reply.Bytes nines)) → ⊥
 heap_misread laws =
-    absurd (let read = laws.heap.reads (started 4 (Call.HeapAlloc 0 2) ∷ []) 4 Origin.Answer (Stimulus.Answer Reply.Done) (Call.HeapRead 0 0 2) nines 0 0 2 (omega arith) (has_answered (Call.HeapAlloc 0 2) (Call.HeapRead 0 0 2) (Reply.Bytes nines)) refl in
-    cc)
+    cc (laws.heap.reads (started 4 (Call.HeapAlloc 0 2) ∷ []) 4 Origin.Answer (Stimulus.Answer Reply.Done) (Call.HeapRead 0 0 2) nines 0 0 2 (omega arith) (has_answered (Call.HeapAlloc 0 2) (Call.HeapRead 0 0 2) (Reply.Bytes nines)) refl)
 
 abbrev not_live : Reply
 not_live = Reply.Refused Refusal.NotLive
@@ -76,24 +63,20 @@ not_live = Reply.Refused Refusal.NotLive
 -- a block that is there is called not live
 managed_denied : BlocksAreOwn (answered (Call.MmemAlloc 0 2) (Call.MmemFree 0) not_live) → ⊥
 managed_denied laws =
-    absurd (let gone = (laws.managed.live (started 4 (Call.MmemAlloc 0 2) ∷ []) 4 Origin.Answer (Stimulus.Answer Reply.Done) (Call.MmemFree 0) not_live (omega arith) (has_answered (Call.MmemAlloc 0 2) (Call.MmemFree 0) not_live) refl).0 refl in
-    cc)
+    cc ((laws.managed.live (started 4 (Call.MmemAlloc 0 2) ∷ []) 4 Origin.Answer (Stimulus.Answer Reply.Done) (Call.MmemFree 0) not_live (omega arith) (has_answered (Call.MmemAlloc 0 2) (Call.MmemFree 0) not_live) refl).0 refl)
 
 heap_denied : BlocksAreOwn (answered (Call.HeapAlloc 0 2) (Call.HeapFree 0) not_live) → ⊥
 heap_denied laws =
-    absurd (let gone = (laws.heap.live (started 4 (Call.HeapAlloc 0 2) ∷ []) 4 Origin.Answer (Stimulus.Answer Reply.Done) (Call.HeapFree 0) not_live (omega arith) (has_answered (Call.HeapAlloc 0 2) (Call.HeapFree 0) not_live) refl).0 refl in
-    cc)
+    cc ((laws.heap.live (started 4 (Call.HeapAlloc 0 2) ∷ []) 4 Origin.Answer (Stimulus.Answer Reply.Done) (Call.HeapFree 0) not_live (omega arith) (has_answered (Call.HeapAlloc 0 2) (Call.HeapFree 0) not_live) refl).0 refl)
 
 -- a second block of one name is made
 managed_made_twice : BlocksAreOwn (answered (Call.MmemAlloc 0 2) (Call.MmemAlloc 0 2) Reply.Done) → ⊥
 managed_made_twice laws =
-    absurd (let refused = (laws.managed.unused (started 4 (Call.MmemAlloc 0 2) ∷ []) 4 Origin.Answer (Stimulus.Answer Reply.Done) (Call.MmemAlloc 0 2) Reply.Done (omega arith) (has_answered (Call.MmemAlloc 0 2) (Call.MmemAlloc 0 2) Reply.Done) refl).1 refl in
-    cc)
+    cc ((laws.managed.unused (started 4 (Call.MmemAlloc 0 2) ∷ []) 4 Origin.Answer (Stimulus.Answer Reply.Done) (Call.MmemAlloc 0 2) Reply.Done (omega arith) (has_answered (Call.MmemAlloc 0 2) (Call.MmemAlloc 0 2) Reply.Done) refl).1 refl)
 
 heap_made_twice : BlocksAreOwn (answered (Call.HeapAlloc 0 2) (Call.HeapAlloc 0 2) Reply.Done) → ⊥
 heap_made_twice laws =
-    absurd (let refused = (laws.heap.unused (started 4 (Call.HeapAlloc 0 2) ∷ []) 4 Origin.Answer (Stimulus.Answer Reply.Done) (Call.HeapAlloc 0 2) Reply.Done (omega arith) (has_answered (Call.HeapAlloc 0 2) (Call.HeapAlloc 0 2) Reply.Done) refl).1 refl in
-    cc)
+    cc ((laws.heap.unused (started 4 (Call.HeapAlloc 0 2) ∷ []) 4 Origin.Answer (Stimulus.Answer Reply.Done) (Call.HeapAlloc 0 2) Reply.Done (omega arith) (has_answered (Call.HeapAlloc 0 2) (Call.HeapAlloc 0 2) Reply.Done) refl).1 refl)
 
 -- Frames.
 

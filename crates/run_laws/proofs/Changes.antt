@@ -1,13 +1,9 @@
 -- What a kernel process does with an event is a chain of a few changes: what each of them keeps, all of it keeps.
 use Rattle.std.proofs.Common.{◌≡◌, ℕ, zero, suc, Bool, true, false, ◌&&◌, ◌||◌, List, refl, arith, Option, Some, None, if◌then◌else◌, ◌==◌}
-use Rattle.run_laws.proofs.Common.{nat_tests, Event, POLL, EXITED, plain_event, number_event, Queued, has_room, Timer, first_due, Frame, PacketQueue, Machine, with_event, free_places, mark, serve, times, post_expiry, post_first_due, post_due, is_any_due, exited_application, forget_callback_timers}
-use Rattle.mote_types.specs.EventNumbers.{CONTINUE, SERIAL_LINE, PACKET}
+use Rattle.run_laws.proofs.Common.{nat_tests, Event, POLL, EXITED, plain_event, number_event, Queued, has_room, Timer, first_due, Frame, PacketQueue, Machine, with_event, free_places, mark, serve, times, post_expiry, post_first_due, post_due, is_any_due, exited_application, forget_callback_timers, CONTINUE, SERIAL_LINE, PACKET, unannounced, with_announced, forgotten, with_serial, forget_event_timers, etimer, ctimer}
 use Rattle.device_core.specs.SerialLine.{SerialLine, next_line, after_line}
-use Rattle.device_core.specs.PacketQueue.{unannounced, with_announced, forgotten}
-use Rattle.kernel_core.specs.Machine.{with_serial}
 use Rattle.kernel_core.specs.PacketProcess.{announce_to, announce_next, announce, has_news, forget_receiver, packet}
 use Rattle.kernel_core.specs.SerialProcess.{line_event, broadcast_line, post_continue, line_served, serve_line, line_count, empty_ring, serial_line_polled, serial_line}
-use Rattle.kernel_core.specs.TimerProcesses.{forget_event_timers, etimer, ctimer}
 
 -- what kernel processes post, but for timers that run out
 abbrev pub is_notice : Queued Bool → Bool

@@ -1,25 +1,25 @@
 -- The names that most proofs here cite, passed on from one place. Declares nothing.
 pub use Rattle.arrayvec.specs.ArrayVec.{ArrayVec}
-pub use Rattle.device_core.specs.PacketQueue.{PacketQueue, front_slot}
 unfoldable pub use Rattle.device_core.specs.PacketQueue.{free_slot}
+pub use Rattle.device_core.specs.PacketQueue.{PacketQueue, forgotten, front_slot, is_held, unannounced, with_announced}
 pub use Rattle.device_core.specs.declared.frame.Frame.{Frame}
-pub use Rattle.heap_core.specs.HeapStore.{HeapStore, reallocated, allocated}
-pub use Rattle.kernel_core.specs.Calls.{refused_or, answer_done, after_call, event_of, is_callback_timer}
+pub use Rattle.heap_core.specs.HeapStore.{HeapStore, allocated, freed, reallocated, with_bytes}
+pub use Rattle.kernel_core.specs.Calls.{after_call, answer_done, asked_of_memory, callback_refusal, event_of, is_callback_timer, refused_or, reset_refusal, timer_refusal}
 pub use Rattle.kernel_core.specs.Expiries.{cancelled_if, expiries_cancelled}
-pub use Rattle.kernel_core.specs.Inputs.{effect, frame_held, frame_refusal, held_unless_lost, fed}
+pub use Rattle.kernel_core.specs.Inputs.{effect, fed, frame_held, frame_refusal, held_unless_lost}
 pub use Rattle.kernel_core.specs.KernelProcesses.{serve}
-pub use Rattle.kernel_core.specs.Machine.{Machine, scheduled, booted, is_bootable, mark, shown_first, with_event, free_places, with_timers}
-pub use Rattle.kernel_core.specs.PacketCalls.{front_refusal, front_dropped}
+pub use Rattle.kernel_core.specs.Machine.{Machine, booted, free_places, is_bootable, mark, scheduled, shown_first, with_event, with_serial, with_timers}
+pub use Rattle.kernel_core.specs.PacketCalls.{front_dropped, front_refusal, sent}
 unfoldable pub use Rattle.kernel_core.specs.Repeating.{times}
-pub use Rattle.kernel_core.specs.Run.{with_more_work, Running, Runs, at_start, after_steps, Answers, StepMade, ComesToRest, one_step, job_done, within_limit, is_still, after_step, answers_after, with_input, silent, turn_taken, is_at_rest, heard}
-pub use Rattle.kernel_core.specs.TimerProcesses.{post_expiry, post_first_due, post_due, is_any_due, exited_application, forget_callback_timers, expiry_of}
+pub use Rattle.kernel_core.specs.Run.{Answers, ComesToRest, Running, Runs, StepMade, after_step, after_steps, answers_after, at_start, gone_on, heard, is_at_rest, is_still, job_done, one_step, silent, stimulus_of, turn_taken, with_input, with_more_work, within_limit}
+pub use Rattle.kernel_core.specs.TimerProcesses.{ctimer, etimer, exited_application, expiry_of, forget_callback_timers, forget_event_timers, is_any_due, post_due, post_expiry, post_first_due}
 pub use Rattle.kernel_core.specs.declared.config.Config.{Config}
-pub use Rattle.mmem_core.specs.ManagedStore.{block_of, bytes_of, size_of, taken_by, with_block, ManagedStore}
+pub use Rattle.mmem_core.specs.ManagedStore.{ManagedStore, block_of, bytes_of, free, handles, size_of, taken_by, with_block}
 pub use Rattle.mote_types.specs.Applications.{Applications}
 pub use Rattle.mote_types.specs.BlockNames.{number_of}
-pub use Rattle.mote_types.specs.Bytes.{zeros, overwritten, range_of}
-pub use Rattle.mote_types.specs.Codes.{number_event, plain_event, is_reserved}
-pub use Rattle.mote_types.specs.EventNumbers.{EXIT, INIT, TIMER, EXITED, POLL}
+pub use Rattle.mote_types.specs.Bytes.{overwritten, range_of, resized, zeros}
+pub use Rattle.mote_types.specs.Codes.{is_reserved, number_event, plain_event}
+pub use Rattle.mote_types.specs.EventNumbers.{CONTINUE, EXIT, EXITED, INIT, PACKET, POLL, SERIAL_LINE, TIMER}
 pub use Rattle.mote_types.specs.declared.call.Call.{Call}
 pub use Rattle.mote_types.specs.declared.entry.Entry.{Entry}
 pub use Rattle.mote_types.specs.declared.entry.Input.{Input}
@@ -31,34 +31,37 @@ pub use Rattle.mote_types.specs.declared.event.Pid.{Pid}
 pub use Rattle.mote_types.specs.declared.event.Stimulus.{Stimulus}
 pub use Rattle.mote_types.specs.declared.refusal.Refusal.{Refusal}
 pub use Rattle.mote_types.specs.declared.reply.Reply.{Reply}
-pub use Rattle.node_memory.specs.Ask.{Asked, ask, ask_part, ask_managed, ask_heap, ask_pool_of, done_or_no_room, bytes_read}
-pub use Rattle.node_memory.specs.Frames.{frame_taken}
-pub use Rattle.node_memory.specs.HeapCalls.{alloc_refusal, realloc_refusal, is_heap_block}
-pub use Rattle.node_memory.specs.ManagedCalls.{is_handle}
-pub use Rattle.node_memory.specs.Memory.{Memory, with_managed, with_heap, with_pool, pool_in}
-pub use Rattle.node_memory.specs.Parts.{part_called}
+pub use Rattle.node_memory.specs.Answered.{done, unless_refused}
+pub use Rattle.node_memory.specs.Ask.{Asked, ask, ask_heap, ask_managed, ask_part, ask_pool_of, bytes_read, done_or_no_room}
+pub use Rattle.node_memory.specs.Frames.{frame_dropped, frame_taken, send_refusal}
+pub use Rattle.node_memory.specs.HeapCalls.{alloc_refusal, free_refusal, is_heap_block, realloc_refusal, write_refusal}
+pub use Rattle.node_memory.specs.ManagedCalls.{copy_refusal, is_handle}
+pub use Rattle.node_memory.specs.Memory.{Memory, pool_in, with_heap, with_managed, with_pool}
+pub use Rattle.node_memory.specs.Parts.{is_memory_call, part_called}
 pub use Rattle.node_memory.specs.PoolCalls.{ask_pool}
 pub use Rattle.node_memory.specs.declared.parts.Part.{Part}
-pub use Rattle.process_core.specs.Agenda.{Item, Queued, Job}
-pub use Rattle.process_core.specs.Idle.{is_empty}
-pub use Rattle.process_core.specs.Processes.{is_kernel_process, state_of, numbers, with_state, with_mark, without, is_on_list, is_running, is_application, is_process, is_marked, is_any_marked, is_ending}
-pub use Rattle.process_core.specs.Requests.{farewells, kill_refusal, killed_by}
-pub use Rattle.process_core.specs.Scheduler.{in_front, Scheduler, after_item, first_event, delivery, marked, after_front, job, job_at, job_of_item, job_of_give, job_of_event, wants_round, has_room, of_event, after_front_of, state_in, put_in_state}
+pub use Rattle.process_core.specs.Agenda.{Item, Job, Queued}
+pub use Rattle.process_core.specs.Idle.{is_empty, is_idle}
+pub use Rattle.process_core.specs.Processes.{is_any_marked, is_application, is_ending, is_kernel_process, is_marked, is_on_list, is_process, is_running, numbers, state_of, with_mark, with_state, without}
+pub use Rattle.process_core.specs.Requests.{farewells, given_in_turn, kill_refusal, killed_by, synch_refusal}
+pub use Rattle.process_core.specs.Scheduler.{Scheduler, after_front, after_front_of, after_item, at_boot, delivery, first_event, has_room, in_front, job, job_at, job_of_event, job_of_give, job_of_item, marked, of_event, put_in_state, state_in, wants_round}
 pub use Rattle.process_core.specs.declared.process.Process.{Process}
 pub use Rattle.process_core.specs.declared.state.State.{State}
-pub use Rattle.run_laws.specs.BlockHistory.{Blocks, managed_after, no_blocks, managed_block, heap_after}
-pub use Rattle.run_laws.specs.EventLaws.{IsAtRest, accepted_events, given_events, has_ended, is_exit, posted_event, is_event_of_code, event_for}
-pub use Rattle.run_laws.specs.Isolation.{is_managed_call, managed_calls, managed_replies, private_replies, IsAnsweredAlone, as_over_quota, private_memory}
-pub use Rattle.run_laws.specs.MemoryLaws.{ReadsItsBlock, NotLiveExactly, InUseExactly, are_names, managed_kind, managed_needs, managed_makes, managed_reads, heap_makes, heap_needs, heap_reads}
-pub use Rattle.run_laws.specs.OwnTurns.{reply_of, reply_in, HasCall, up_to_call, OwnTurn, own, own_from, is_done, ticks_in, is_turn_entry, own_turn}
-pub use Rattle.run_laws.specs.TimerLaws.{ripe_armings, standing, timer_events, arms, stops, cell_after, is_timer_event, is_arming, is_arming_or_stop, clock_after, Standing, standing_after, is_number}
+pub use Rattle.run_laws.specs.BlockHistory.{Blocks, copied, heap_after, heap_block, managed_after, managed_block, no_blocks, over_accepted}
+pub use Rattle.run_laws.specs.EventLaws.{InOrderFor, IsAtRest, NoLostEventFor, accepted_event, accepted_events, event_for, given_events, has_ended, is_event_of_code, is_exit, posted_event}
+pub use Rattle.run_laws.specs.Isolation.{IsAnsweredAlone, as_over_quota, is_managed_call, managed_answer, managed_calls, managed_replies, private_memory, private_replies, replies_from}
+pub use Rattle.run_laws.specs.MemoryLaws.{InUseExactly, Kind, NotLiveExactly, ReadsItsBlock, are_names, heap_kind, heap_makes, heap_needs, heap_reads, managed_kind, managed_makes, managed_needs, managed_reads}
+pub use Rattle.run_laws.specs.OwnTurns.{HasCall, OwnTurn, is_done, is_turn_entry, own, own_from, own_turn, reply_in, reply_of, ticks_in, up_to_call}
+pub use Rattle.run_laws.specs.RunLaws.{AreAnsweredAlike, AreOwn, BlocksAreOwn, EventsArriveInOrder, TimersAreKept}
+pub use Rattle.run_laws.specs.TimerLaws.{NoEarlyTimerFor, NoLostTimerFor, Standing, arms, cell_after, cell_at, clock_after, is_arming, is_arming_or_stop, is_number, is_timer_event, ripe_armings, ripe_from, standing, standing_after, stood_until, stops, timer_events}
 pub use Rattle.std.proofs.lemmas.Bool.Decides.{nat_tests}
-pub use Rattle.std.proofs.lemmas.List.{length-map}
-pub use Rattle.std.proofs.lemmas.List.Sums.{fold-append}
-pub use Rattle.std.specs.List.{list_all, range_with_len, list_any, cons_option}
-pub use Rattle.std.specs.Option.{option_map_or}
+pub use Rattle.std.proofs.lemmas.List.{get_or-set_other, get_or-set_same, length-map, length-set}
+pub use Rattle.std.proofs.lemmas.List.Folds.{list_all-append, list_any-append, list_any_at, sum_by-replicate}
+pub use Rattle.std.proofs.lemmas.List.Sums.{fold-append, sum_by-cons, sum_by-set}
+pub use Rattle.std.specs.List.{cons_option, list_all, list_any, range_with_len}
+pub use Rattle.std.specs.Option.{option_map, option_map_or}
 unfoldable pub use Rattle.timer_core.specs.Names.{all_timers}
-pub use Rattle.timer_core.specs.Names.{event_timer, callback_timer, is_timer, is_event_timer_of, is_callback_timer_of}
-pub use Rattle.timer_core.specs.Timers.{deadline, first_due, Timers, cell_of, is_armed, armed_with, set_timer, stop_timer, restart_timer, reset_timer, is_due, without_callback_timers, zero_cell}
+pub use Rattle.timer_core.specs.Names.{callback_timer, event_timer, is_callback_timer_of, is_event_timer_of, is_timer}
+pub use Rattle.timer_core.specs.Timers.{NamedCell, Timers, armed_with, can_reset, cell_of, cell_under, deadline, first_due, given_cell, is_armed, is_due, reset_timer, restart_timer, set_timer, stop_timer, with_cell, without_callback_timers, zero_cell}
 pub use Rattle.timer_core.specs.declared.timer.Cell.{Cell}
 pub use Rattle.timer_core.specs.declared.timer.Timer.{Timer}

@@ -1,17 +1,15 @@
 -- Worked examples: what the turns of a transcript make of blocks, events and timers.
 use Rattle.std.proofs.Common.{◌≡◌, ℕ, true, false, List, [], ◌∷◌, ◌++◌, map, refl, Some, None, length}
-use Rattle.run_laws.proofs.Common.{list_any, Call, Reply, Refusal, Origin, Stimulus, EXIT, INIT, TIMER, Entry, Input, Payload, number_event, plain_event, deadline, managed_block, IsAtRest, accepted_events, given_events, has_ended, is_exit, are_names, heap_makes, heap_needs, heap_reads, managed_makes, managed_needs, managed_reads, HasCall, own, ripe_armings, standing, timer_events}
-use Rattle.run_laws.specs.BlockHistory.{heap_block}
+use Rattle.run_laws.proofs.Common.{list_any, Call, Reply, Refusal, Origin, Stimulus, EXIT, INIT, TIMER, Entry, Input, Payload, number_event, plain_event, deadline, managed_block, IsAtRest, accepted_events, given_events, has_ended, is_exit, are_names, heap_makes, heap_needs, heap_reads, managed_makes, managed_needs, managed_reads, HasCall, own, ripe_armings, standing, timer_events, heap_block}
 
-unfoldable pub started : ℕ → Call → Entry
+abbrev pub started : ℕ → Call → Entry
 started p call = Entry.Turn (record { 0 = p }) Origin.Synch (Stimulus.Event (plain_event INIT)) call
 
-unfoldable pub told : ℕ → Reply → Call → Entry
+abbrev pub told : ℕ → Reply → Call → Entry
 told p reply call = Entry.Turn (record { 0 = p }) Origin.Answer (Stimulus.Answer reply) call
 
 -- process 4 makes a block of 4 bytes and writes its second one; process 5 frees a block of its own of that name
-transcript : List Entry
-unfolding started told
+abbrev transcript : List Entry
 transcript =
     started 4 (Call.MmemAlloc 0 4)
     ∷ told 4 Reply.Done (Call.MmemWrite 0 1 (record { items = 7 ∷ [] }))
@@ -22,20 +20,16 @@ transcript =
     ∷ []
 
 four_turns : length (own 4 transcript) ≡ 4
-unfolding transcript started told
 four_turns = refl
 
 block_written : managed_block transcript 4 0 ≡ Some (0 ∷ 7 ∷ 0 ∷ 0 ∷ [])
-unfolding transcript started told
 block_written = refl
 
 others_have_none : managed_block transcript 5 0 ≡ None
-unfolding transcript started told
 others_have_none = refl
 
 -- the reply to a call stands in the next turn
 write_answered : HasCall transcript (started 4 (Call.MmemAlloc 0 4) ∷ []) 4 Origin.Answer (Stimulus.Answer Reply.Done) (Call.MmemWrite 0 1 (record { items = 7 ∷ [] })) Reply.Done
-unfolding transcript started told
 write_answered =
     record {
       later = started 5 (Call.MmemFree 0) ∷ told 5 (Reply.Refused Refusal.NotLive) Call.Wait
@@ -46,12 +40,10 @@ write_answered =
 
 -- the last call has no reply yet, so it counts for nothing
 not_yet_resized : heap_block transcript 4 2 ≡ Some (0 ∷ 0 ∷ [])
-unfolding transcript started told
 not_yet_resized = refl
 
 -- Events and timers: process 5 posts event 140 to process 4, which is given it; 4 sets timer 2 to 5 ticks, and 7 ticks pass.
-before_ticks : List Entry
-unfolding started told
+abbrev before_ticks : List Entry
 before_ticks =
     started 4 Call.Wait
     ∷ started 5 (Call.Post 4 140 Payload.Empty)
@@ -60,56 +52,44 @@ before_ticks =
     ∷ told 4 Reply.Done Call.Wait
     ∷ []
 
-ticked : List Entry
-unfolding before_ticks started told
+abbrev ticked : List Entry
 ticked = before_ticks ++ Entry.Input (Input.Tick 7) ∷ []
 
 event_given : given_events ticked 4 ≡ accepted_events 4 ticked
-unfolding ticked before_ticks started told
 event_given = refl
 
 one_accepted : accepted_events 4 ticked ≡ plain_event 140 ∷ []
-unfolding ticked before_ticks started told
 one_accepted = refl
 
 -- none was posted to 5
 none_for_the_poster : accepted_events 5 ticked ≡ []
-unfolding ticked before_ticks started told
 none_for_the_poster = refl
 
 now_ripe : ripe_armings ticked 4 2 ≡ 1
-unfolding ticked before_ticks started told
 now_ripe = refl
 
 not_given_yet : timer_events ticked 4 2 ≡ 0
-unfolding ticked before_ticks started told
 not_given_yet = refl
 
 deadline_at_five : deadline (standing ticked 4 2).cell ≡ 5
-unfolding ticked before_ticks started told
 deadline_at_five = refl
 
 -- the timer stands, and its event was not given since
 armed_now : (standing ticked 4 2).is_armed ≡ true
-unfolding ticked before_ticks started told
 armed_now = refl
 
 not_given_since : (standing ticked 4 2).was_given ≡ false
-unfolding ticked before_ticks started told
 not_given_since = refl
 
 -- the mote rests before the ticks, and behind them
 rests_before_ticks : IsAtRest ticked before_ticks
-unfolding ticked before_ticks started told
 rests_before_ticks = IsAtRest.before_input before_ticks [] (Input.Tick 7) refl
 
 rests_at_the_end : IsAtRest ticked ticked
-unfolding ticked before_ticks started told
 rests_at_the_end = IsAtRest.at_end refl
 
 -- Process 4 is given its timer's event, and then sets the timer anew.
-set_anew : List Entry
-unfolding told
+abbrev set_anew : List Entry
 set_anew =
     told 4 Reply.Done (Call.TimerSet 2 0)
     ∷ told 4 Reply.Done Call.Wait
@@ -119,24 +99,19 @@ set_anew =
     ∷ []
 
 given_once : timer_events set_anew 4 2 ≡ 1
-unfolding set_anew told
 given_once = refl
 
 ripe_once : ripe_armings set_anew 4 2 ≡ 1
-unfolding set_anew told
 ripe_once = refl
 
 given_before_it_was_set_anew : (standing set_anew 4 2).was_given ≡ false
-unfolding set_anew told
 given_before_it_was_set_anew = refl
 
 -- a process ends by its Exit, or by being killed
 still_there : has_ended 4 set_anew ≡ false
-unfolding set_anew told
 still_there = refl
 
 exited : has_ended 4 (told 4 Reply.Done Call.Exit ∷ []) ≡ true
-unfolding told
 exited = refl
 
 killed : has_ended 4 (Entry.Turn (record { 0 = 4 }) Origin.Synch (Stimulus.Event (plain_event EXIT)) Call.Wait ∷ []) ≡ true

@@ -1,10 +1,7 @@
 -- Heap memory: what its calls are answered, and that a process's blocks are its own.
 use Rattle.std.proofs.Common.{◌≡◌, ℕ, Bool, true, false, refl, ap, arith, subst, Option, Some, None, if◌then◌else◌}
-use Rattle.run_laws.proofs.Common.{nat_tests, Call, Reply, ArrayVec, HeapStore, allocated, reallocated, Memory, is_heap_block, alloc_refusal, realloc_refusal, ask, done_or_no_room, Config, Machine, booted, after_call, no_blocks}
+use Rattle.run_laws.proofs.Common.{nat_tests, Call, Reply, ArrayVec, HeapStore, allocated, reallocated, Memory, is_heap_block, alloc_refusal, realloc_refusal, ask, done_or_no_room, Config, Machine, booted, after_call, no_blocks, unless_refused, heap_kind}
 use Rattle.heap_core.specs.HeapStore.{block_of}
-use Rattle.node_memory.specs.Ask as memory
-use Rattle.node_memory.specs.Answered.{unless_refused}
-use Rattle.run_laws.specs.MemoryLaws.{heap_kind}
 use Rattle.run_laws.proofs.Marks.{marks, due}
 use Rattle.run_laws.proofs.HeapStores.{own_heap, heap_store, heap-change, ask-rest}
 use Rattle.run_laws.proofs.KindLaws.{KindLaw, nothing, same_blocks}

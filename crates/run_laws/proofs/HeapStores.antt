@@ -1,13 +1,8 @@
 -- The heap blocks of a process, as its calls leave them.
 use Rattle.std.proofs.Common.{◌≡◌, ℕ, Bool, true, false, List, length, refl, ◌∙◌, ap, arith, Option, Some, None, ◌==◌, if◌then◌else◌}
-use Rattle.run_laws.proofs.Common.{nat_tests, Call, Refusal, number_of, zeros, overwritten, HeapStore, allocated, reallocated, Memory, with_heap, is_heap_block, alloc_refusal, realloc_refusal, Part, part_called, ask, ask_part, ask_managed, ask_heap, ask_pool_of, done_or_no_room, is_kernel_process, Blocks, heap_after}
-use Rattle.std.specs.Option.{option_map}
-use Rattle.mote_types.specs.Bytes.{resized}
-use Rattle.heap_core.specs.HeapStore.{block_of, freed, with_bytes}
-use Rattle.node_memory.specs.HeapCalls.{free_refusal, write_refusal}
-use Rattle.node_memory.specs.Answered.{unless_refused}
+use Rattle.run_laws.proofs.Common.{nat_tests, Call, Refusal, number_of, zeros, overwritten, HeapStore, allocated, reallocated, Memory, with_heap, is_heap_block, alloc_refusal, realloc_refusal, Part, part_called, ask, ask_part, ask_managed, ask_heap, ask_pool_of, done_or_no_room, is_kernel_process, Blocks, heap_after, option_map, resized, freed, with_bytes, free_refusal, write_refusal, unless_refused, heap_kind}
+use Rattle.heap_core.specs.HeapStore.{block_of}
 use Rattle.node_memory.proofs.HeapBlocks.{Becomes, Results, alloc-results, realloc-results, free-results, write-results}
-use Rattle.run_laws.specs.MemoryLaws.{heap_kind}
 use Rattle.run_laws.proofs.KindLaws.{Store, IsChange, same_blocks}
 use Rattle.run_laws.proofs.Stores.{name_apart}
 

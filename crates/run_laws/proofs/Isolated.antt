@@ -1,16 +1,81 @@
--- Under a quota a process is answered by managed memory as by a memory of its own.
-use Rattle.std.proofs.Common.{◌≡◌, ℕ, zero, suc, ◌+◌, ◌≤◌, Bool, true, false, List, [], ◌∷◌, ◌++◌, refl, ◌∙◌, sym, ap, arith, subst, cond, append-nil, Option, Some, None, ◌==◌, map, filter_map, take}
-use Rattle.run_laws.proofs.Common.{nat_tests, Call, Reply, Origin, Pid, Stimulus, Entry, Input, Applications, Frame, Memory, ask, is_application, is_kernel_process, Config, Machine, booted, is_bootable, after_call, Running, Runs, at_start, Blocks, managed_after, is_managed_call, as_over_quota, managed_calls, managed_replies, private_memory, private_replies, IsAnsweredAlone, managed_kind, OwnTurn, own_from, reply_in, reply_of, is_done, ticks_in}
-use Rattle.run_laws.specs.Isolation.{managed_answer, replies_from}
-use Rattle.run_laws.specs.RunLaws.{AreAnsweredAlike}
-use Rattle.run_laws.proofs.Alone.{IsAlone, no-own, alone-at-first, same-reply, stays-alone}
-use Rattle.run_laws.proofs.KindLaws.{KindLaw, accepted, same_blocks}
-use Rattle.run_laws.proofs.Managed.{managed-keeps}
+-- A memory that nobody else uses answers a process as a shared one does under a quota.
+use Rattle.std.proofs.Common.{◌≡◌, ℕ, ◌≤◌, Bool, true, false, length, refl, ◌∙◌, sym, ap, arith, Some, None, if◌then◌else◌, sum_by, zero, suc, ◌+◌, List, [], ◌∷◌, ◌++◌, subst, cond, append-nil, Option, ◌==◌, map, filter_map, take}
+use Rattle.run_laws.proofs.Common.{nat_tests, Call, number_of, block_of, size_of, taken_by, Memory, is_handle, ask, is_kernel_process, Blocks, no_blocks, managed_after, as_over_quota, is_managed_call, private_memory, sum_by-replicate, free, handles, Reply, Origin, Pid, Stimulus, Entry, Input, Applications, Frame, is_application, Config, Machine, booted, is_bootable, after_call, Running, Runs, at_start, IsAnsweredAlone, managed_kind, OwnTurn, own_from, reply_in, reply_of, is_done, ticks_in, managed_answer, replies_from, AreAnsweredAlike}
+use Rattle.run_laws.proofs.KindLaws.{accepted, same_blocks, KindLaw}
+use Rattle.run_laws.proofs.Managed.{all_same, managed-keeps}
+use Rattle.run_laws.proofs.Stores.{own_blocks, changes_managed, ask-rest, ask-shape, managed-change, managed_store}
 use Rattle.run_laws.proofs.Marks.{marks, due}
 use Rattle.run_laws.proofs.OwnBlocks.{HasBlocks, own-laws, boot-has, each-call, one_reply, told-reply}
-use Rattle.run_laws.proofs.Stores.{own_blocks, managed_store, changes_managed, ask-shape}
-use Rattle.run_laws.proofs.Knowledge.{Knowledge, told, answered, LawAt, Laws}
-use Rattle.run_laws.proofs.Whole.{WellTold, law-of, run-told}
+use Rattle.run_laws.proofs.Whole.{Knowledge, told, answered, LawAt, Laws, WellTold, law-of, run-told}
+
+-- all blocks of this memory are p's, and no quota limits it
+pub record IsAlone (bytes p : ℕ) (s : Memory) : Type 0 where
+  pub unlimited : s.managed.quota ≡ None
+  pub capacity : s.managed.capacity ≡ bytes
+  pub size : length s.managed.blocks ≡ 272
+  pub total : sum_by size_of s.managed.blocks ≡ taken_by p s.managed
+
+-- p has the same blocks in a memory under a quota
+module _ (quota p : ℕ) (m s : Memory) (limit : m.managed.quota ≡ Some quota) (alone : IsAlone quota p s) (own : (h : ℕ) → own_blocks p m h ≡ own_blocks p s h) where
+  same_block : (h : ℕ) → is_handle h ≡ true → block_of p h m.managed ≡ block_of p h s.managed
+  same_block h e = grind (arith, e, own h)
+
+  same_taken : taken_by p m.managed ≡ taken_by p s.managed
+  same_taken = grind (arith, nat_tests, same_blocks)
+
+  same_free : free p m.managed ≡ free p s.managed
+  same_free = grind (arith, nat_tests, same_taken)
+
+  pub same-reply : (call : Call) → is_managed_call call ≡ true → as_over_quota (ask call p s).1 ≡ (ask call p m).1
+  same-reply (Call.MmemAlloc h n) e = grind (arith, nat_tests, same_block h, same_free, limit, alone.unlimited)
+  same-reply (Call.MmemFree h) e = grind (arith, nat_tests, same_block h)
+  same-reply (Call.MmemWrite h at chunk) e = grind (arith, nat_tests, same_block h)
+  same-reply (Call.MmemRead h at len) e = grind (arith, nat_tests, same_block h)
+  same-reply (Call.MmemCopy source target) e = grind (arith, nat_tests, same_block source, same_block target)
+  same-reply Call.MmemAvail e = grind (arith, same_free)
+  same-reply call e = absurd (grind (arith, e))
+
+-- after a call of p it is still so
+pub record StaysAlone (bytes p : ℕ) (call : Call) (s : Memory) : Type 0 where
+  pub alone : IsAlone bytes p (ask call p s).0
+  pub own : (h : ℕ) → own_blocks p (ask call p s).0 h ≡ accepted managed_after call (ask call p s).1 (own_blocks p s) h
+
+module _ (bytes p : ℕ) (s : Memory) (few : p ≤ 19) (mortal : is_kernel_process p ≡ false) (alone : IsAlone bytes p s) where
+  shaped-alone : (call : Call) → sum_by size_of (ask call p s).0.managed.blocks ≡ taken_by p (ask call p s).0.managed → IsAlone bytes p (ask call p s).0
+  shaped-alone call total =
+      let shape = ask-shape call p s in
+      record { unlimited = shape.quota ∙ alone.unlimited; capacity = shape.capacity ∙ alone.capacity; size = shape.size ∙ alone.size; total = total }
+
+  pub stays-alone : (call : Call) → StaysAlone bytes p call s
+  stays-alone call = go (changes_managed call) refl
+    where
+      go : (b : Bool) → changes_managed call ≡ b → StaysAlone bytes p call s
+      go true e =
+          let change = managed-change call p s e in
+          let sums = change.total few mortal alone.size in
+          record { alone = shaped-alone call (omega (arith, sums, alone.total)); own = λ h. ap (λ (b : Blocks). b h) (change.blocks.own few mortal alone.size) }
+      go false e =
+          let same : (ask call p s).0.managed ≡ s.managed = ask-rest call p s e in
+          record { alone = shaped-alone call (rw same alone.total); own = λ h. grind (arith, e, same) }
+
+-- at first no block is live
+
+no_block : (bytes p h : ℕ) → no_blocks h ≡ own_blocks p (private_memory bytes) h
+no_block bytes p h = go (is_handle h)
+  where
+    go : (b : Bool) → None ≡ (if b then block_of p h (private_memory bytes).managed else None)
+    go true = sym (all_same None 272 (number_of p h))
+    go false = refl
+
+pub no-own : (bytes p : ℕ) → no_blocks ≡ own_blocks p (private_memory bytes)
+no-own bytes p = same_blocks _ _ (no_block bytes p)
+
+pub alone-at-first : (bytes p : ℕ) → IsAlone bytes p (private_memory bytes)
+alone-at-first bytes p =
+    let taken : taken_by p (private_memory bytes).managed ≡ 0 = sym (ap (λ (blocks : Blocks). sum_by (λ h. size_of (blocks h)) handles) (no-own bytes p)) in
+    record { unlimited = refl; capacity = refl; size = refl; total = sum_by-replicate size_of 272 None ∙ sym taken }
+
+-- Under a quota a process is answered by managed memory as by a memory of its own.
 
 -- a call on managed memory is told what memory answers
 told-managed : (call : Call) (p : ℕ) (m : Machine) → is_managed_call call ≡ true
@@ -92,22 +157,7 @@ module _ (quota p : ℕ) where
   -- one turn more, in front
   one-more : (turn : OwnTurn) (turns : List OwnTurn) (s : Memory) → LawAt AsAlone (Some turn.call) s turn.reply
       → Replied turns (answered own_after (Some turn.call) turn.reply s) → Replied (turn ∷ turns) s
-  one-more turn turns s law later = go turn.reply (is_managed_call turn.call) refl refl law later
-    where
-      go : (reply : Option Reply) (test : Bool) → turn.reply ≡ reply → is_managed_call turn.call ≡ test → LawAt AsAlone (Some turn.call) s reply
-          → Replied turns (answered own_after (Some turn.call) reply s) → Replied (turn ∷ turns) s
-      go (Some reply) true e f law later =
-          let shown : managed_answer turn ≡ Some (record { call = turn.call; reply = reply }) = grind (arith, e, f) in
-          let private = law f in
-          let rest : Replied turns (ask turn.call p s).0 = rw f at later in
-          rw (shown, private, rest)
-      go (Some reply) false e f law later =
-          let none : managed_answer turn ≡ None = grind (arith, e, f) in
-          let rest : Replied turns s = rw f at later in
-          rw none rest
-      go None test e f law later =
-          let none : managed_answer turn ≡ None = grind (arith, e, f) in
-          rw none later
+  one-more turn turns s law later = grind (arith, nat_tests)
 
   law-at : (later : List Entry) (t : Knowledge Memory) → WellTold own_after AsAlone IsLikeOwn p t later → LawAt AsAlone t.last t.now (reply_in p later)
   law-at later t h = go t.last (reply_in p later) refl refl
@@ -125,10 +175,7 @@ module _ (quota p : ℕ) where
       → WellTold own_after AsAlone IsLikeOwn p (told own_after p t (Entry.Turn pid origin stimulus call)) later
       → RepliedAfter (told own_after p t (Entry.Turn pid origin stimulus call)) (clock + 0) later
       → RepliedAfter t clock (Entry.Turn pid origin stimulus call ∷ later)
-  replied-turn false pid origin stimulus call later clock t e h rest =
-      let same : told own_after p t (Entry.Turn pid origin stimulus call) ≡ t = grind (arith, e) in
-      let rest_here : RepliedAfter t (clock + 0) later = rw same at rest in
-      rw e rest_here
+  replied-turn false pid origin stimulus call later clock t e h rest = grind (arith, nat_tests, e, told)
   replied-turn true pid origin stimulus call later clock t e h rest =
       let s = answered own_after t.last (reply_of stimulus) t.now in
       let new : Knowledge Memory = record { now = s; last = Some call } in
@@ -180,12 +227,4 @@ replies-take p (suc n) [] memory = refl
 replies-take p (suc n) (call ∷ calls) memory = grind (arith, nat_tests, replies-take p n calls (ask call p memory).0)
 
 pub alone-alike : (quota p : ℕ) (X Y : List Entry) → IsAnsweredAlone quota p X → IsAnsweredAlone quota p Y → AreAnsweredAlike p X Y
-alone-alike quota p X Y one other =
-    record {
-      same = λ e. one ∙ (ap (private_replies quota p) e ∙ sym other);
-      same_so_far = λ n e. front X n one ∙ (ap (private_replies quota p) e ∙ sym (front Y n other));
-    }
-  where
-    front : (entries : List Entry) (n : ℕ) → IsAnsweredAlone quota p entries
-        → take n (managed_replies p entries) ≡ private_replies quota p (take n (managed_calls p entries))
-    front entries n alone = ap (take n) alone ∙ replies-take p n (managed_calls p entries) (private_memory quota)
+alone-alike quota p X Y one other = grind (arith, nat_tests, replies-take)

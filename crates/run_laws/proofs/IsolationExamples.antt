@@ -7,8 +7,7 @@ six_calls : list_all is_managed_call (Call.MmemAlloc 0 1 ∷ Call.MmemFree 0 ∷
 six_calls = refl
 
 -- Managed memory has 48 bytes, of which each process may hold 16: process 4 fills its part, and process 5 has all of its own.
-shared : List Entry
-unfolding started told
+abbrev shared : List Entry
 shared =
     started 4 (Call.MmemAlloc 0 10)
     ∷ told 4 Reply.Done (Call.MmemAlloc 1 5)
@@ -21,32 +20,27 @@ shared =
     ∷ []
 
 -- so says the machine, where the processes make these calls one after the other, and then wait
-config : Config
+abbrev config : Config
 config = record { mmem = 48; heap = 20; apps = 2; quota = Some 16; header = 16 }
 
-calls_in_turn : ℕ → List Call
+abbrev calls_in_turn : ℕ → List Call
 calls_in_turn p =
     if p == 4 then Call.MmemAlloc 0 10 ∷ Call.MmemAlloc 1 5 ∷ Call.MmemAlloc 1 4 ∷ Call.MmemAvail ∷ []
     else Call.MmemAvail ∷ Call.MmemAlloc 0 16 ∷ []
 
-says : Applications
-unfolding calls_in_turn
+abbrev says : Applications
 says p heard = get_or (calls_in_turn p) (length heard - 1) Call.Wait
 
 boots : is_bootable config ≡ true
-unfolding config
 boots = refl
 
 made_by_the_machine : (after_steps says 30 (at_start config)).entries ≡ shared
-unfolding config says calls_in_turn shared started told
 made_by_the_machine = refl
 
 calls_of_the_first : managed_calls 4 shared ≡ Call.MmemAlloc 0 10 ∷ Call.MmemAlloc 1 5 ∷ Call.MmemAlloc 1 4 ∷ Call.MmemAvail ∷ []
-unfolding shared started told
 calls_of_the_first = refl
 
 replies_to_the_first : managed_replies 4 shared ≡ Reply.Done ∷ Reply.Refused Refusal.OverQuota ∷ Reply.Done ∷ Reply.Num 0 ∷ []
-unfolding shared started told
 replies_to_the_first = refl
 
 first_alone : private_replies 16 4 (Call.MmemAlloc 0 10 ∷ Call.MmemAlloc 1 5 ∷ Call.MmemAlloc 1 4 ∷ Call.MmemAvail ∷ [])
@@ -54,11 +48,9 @@ first_alone : private_replies 16 4 (Call.MmemAlloc 0 10 ∷ Call.MmemAlloc 1 5 �
 first_alone = refl
 
 calls_of_the_second : managed_calls 5 shared ≡ Call.MmemAvail ∷ Call.MmemAlloc 0 16 ∷ []
-unfolding shared started told
 calls_of_the_second = refl
 
 replies_to_the_second : managed_replies 5 shared ≡ Reply.Num 16 ∷ Reply.Done ∷ []
-unfolding shared started told
 replies_to_the_second = refl
 
 second_alone : private_replies 16 5 (Call.MmemAvail ∷ Call.MmemAlloc 0 16 ∷ []) ≡ Reply.Num 16 ∷ Reply.Done ∷ []
@@ -66,10 +58,8 @@ second_alone = refl
 
 -- a call without a reply doesn't count
 not_answered_yet : managed_calls 4 (started 4 (Call.MmemAlloc 0 10) ∷ []) ≡ []
-unfolding started
 not_answered_yet = refl
 
 -- what process 4 leaves of the 48 bytes is no reply of a memory of one's own
 told_of_another : IsAnsweredAlone 16 5 (started 5 Call.MmemAvail ∷ told 5 (Reply.Num 32) Call.Wait ∷ []) → ⊥
-unfolding started told
 told_of_another e = cc

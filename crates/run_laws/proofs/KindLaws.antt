@@ -1,11 +1,7 @@
 -- From what each call keeps to what a transcript shows, for a kind of memory.
 use Rattle.std.proofs.Common.{◌≡◌, ℕ, ◌+◌, ◌≤◌, Bool, true, false, List, [], ◌∷◌, refl, arith, Option, Some, None, ◌==◌, if◌then◌else◌, is_some, is_none, fold, ◌↔◌, length}
-use Rattle.run_laws.proofs.Common.{nat_tests, list_any, Call, Reply, Refusal, Origin, Stimulus, Entry, ArrayVec, range_of, OwnTurn, own, own_from, reply_in, reply_of, is_done, ticks_in, HasCall, up_to_call, Blocks, no_blocks, are_names, Asked, Memory, is_kernel_process}
-use Rattle.std.specs.Option.{option_map}
-use Rattle.run_laws.specs.BlockHistory.{over_accepted}
-use Rattle.run_laws.specs.MemoryLaws.{Kind}
-use Rattle.run_laws.specs.RunLaws.{AreOwn}
-use Rattle.run_laws.proofs.Knowledge.{Knowledge, told, told_all, answered}
+use Rattle.run_laws.proofs.Common.{nat_tests, list_any, Call, Reply, Refusal, Origin, Stimulus, Entry, ArrayVec, range_of, OwnTurn, own, own_from, reply_in, reply_of, is_done, ticks_in, HasCall, up_to_call, Blocks, no_blocks, are_names, Asked, Memory, is_kernel_process, option_map, over_accepted, Kind, AreOwn}
+use Rattle.run_laws.proofs.Whole.{Knowledge, told, told_all, answered}
 
 -- what a call and its reply say of the caller's blocks
 pub record KindLaw (kind : Kind) (blocks : Blocks) (call : Call) (reply : Reply) : Type 0 where

@@ -1,8 +1,6 @@
 pub mod event_order
 pub mod timer_deadlines
-pub mod Alone
 pub mod Arrivals
-pub mod Caller
 pub mod Callers
 pub mod Changes
 mod Examples
@@ -16,12 +14,8 @@ pub mod Marks
 pub mod OwnBlocks
 pub mod Outsiders
 pub mod Rests
-pub mod Senders
-pub mod Silent
 pub mod Stores
-pub mod Knowledge
 pub mod Totals
-pub mod Untouched
 pub mod Whole
 mod BrokenLaws
 pub mod Common

@@ -1,6 +1,6 @@
 -- What the agenda holds for one process.
-use Rattle.std.proofs.Common.{◌≡◌, ℕ, Bool, true, false, not, ◌&&◌, ◌||◌, List, [], ◌∷◌, ◌++◌, refl, arith, Option, Some, None, map, flat_map, ◌==◌, if◌then◌else◌}
-use Rattle.run_laws.proofs.Common.{cons_option, nat_tests, Event, Stimulus, Origin, Reply, Process, State, Queued, Item, state_of, with_state, with_mark, without, is_on_list, is_running, is_kernel_process, Scheduler, delivery, reply_of, is_turn_entry}
+use Rattle.std.proofs.Common.{◌≡◌, ℕ, Bool, true, false, not, ◌&&◌, ◌||◌, List, [], ◌∷◌, ◌++◌, refl, arith, Option, Some, None, map, flat_map, ◌==◌, if◌then◌else◌, ap, append_assoc}
+use Rattle.run_laws.proofs.Common.{cons_option, nat_tests, Event, Stimulus, Origin, Reply, Process, State, Queued, Item, state_of, with_state, with_mark, without, is_on_list, is_running, is_kernel_process, Scheduler, delivery, reply_of, is_turn_entry, numbers, after_item, first_event, Call, EXITED, number_event, farewells, Machine, after_call}
 
 -- what an item is to a process
 pub data Mark : Type 0 where
@@ -45,10 +45,6 @@ due _ = None
 
 abbrev pub idle : ℕ → List Process → Bool
 idle p list = is_kernel_process p || not (is_on_list (state_of p list)) || is_running (state_of p list)
-
-pub marks-append : (p : ℕ) (xs ys : List Item) → marks p (xs ++ ys) ≡ marks p xs ++ marks p ys
-marks-append p [] ys = refl
-marks-append p (x ∷ xs) ys = grind (arith, marks-append p xs ys)
 
 pub marks-gives : (p : ℕ) (origin : Origin) (event : Event) (ns : List ℕ) (items : List Item)
     → marks p (map (λ q. Item.Give q origin (Stimulus.Event event)) ns ++ items) ≡ marks p items
@@ -109,3 +105,63 @@ due-only ms h = grind (arith, nat_tests)
 pub record Kept (p : ℕ) (before : List Item) (list : List Process) (s : Scheduler Bool) : Type 0 where
   pub is_fit : fit (idle p s.processes) (marks p s.agenda) ≡ true
   pub same_due : due (marks p s.agenda) ≡ due (marks p before)
+
+-- An item that is worked off without a turn.
+
+-- p's state and marks are as they were
+stays : (p : ℕ) (before : List Item) (list : List Process) (s : Scheduler Bool) → fit (idle p list) (marks p before) ≡ true
+    → state_of p s.processes ≡ state_of p list → marks p s.agenda ≡ marks p before → Kept p before list s
+stays p before list s h e f = record { is_fit = rw (e, f) h; same_due = ap due f }
+
+abbrev pub is_turn_item : Item → Bool
+is_turn_item (Item.Turn p origin stimulus) = true
+is_turn_item _ = false
+
+pub after_item-kept : (p : ℕ) (item : Item) (s : Scheduler Bool) → is_turn_item item ≡ false
+    → fit (idle p s.processes) (marks p (item ∷ s.agenda)) ≡ true
+    → Kept p (item ∷ s.agenda) s.processes (after_item item s)
+after_item-kept p (Item.Give q origin stimulus) s n h =
+    record { is_fit = grind (arith, nat_tests, fit-idle, due-only, state_of-with_state, state_of-with_other); same_due = grind (arith, nat_tests, fit-idle, due-only) }
+after_item-kept p (Item.Turn q origin stimulus) s n h = absurd (grind arith)
+after_item-kept p (Item.GiveExit q) s n h =
+    record { is_fit = grind (arith, nat_tests, state_of-with_same p q State.Ending s.processes, state_of-with_other p q State.Ending s.processes); same_due = grind (arith, nat_tests) }
+after_item-kept p (Item.Remove q) s n h = record { is_fit = grind (arith, nat_tests, fit-only, state_of-without, state_of-without_other); same_due = grind (arith, nat_tests, due-only) }
+after_item-kept p Item.Polls s n h =
+    record { is_fit = grind (arith, marks-polls p (numbers s.processes) s.agenda); same_due = grind (arith, marks-polls p (numbers s.processes) s.agenda) }
+after_item-kept p Item.Deliver s n h =
+    stays p (Item.Deliver ∷ s.agenda) s.processes (after_item Item.Deliver s) h refl (marks-delivery p (numbers s.processes) (first_event s) s.agenda)
+after_item-kept p item s n h = record { is_fit = grind (arith, nat_tests, state_of-with_mark); same_due = grind (arith, nat_tests) }
+
+-- What a call leaves for the caller and for others.
+
+marks-farewells : (o p : ℕ) (s : Scheduler Bool) (rest agenda : List Item)
+    → marks o ((farewells p s ++ rest) ++ agenda) ≡ marks o (rest ++ agenda)
+marks-farewells o p s rest agenda =
+    rw (append_assoc) (marks-gives o Origin.Synch (number_event EXITED p) (numbers (without p s.processes)) (rest ++ agenda))
+
+pub after_call-fit : (call : Call) (p : ℕ) (m : Machine) → idle p m.scheduler.processes ≡ false → only_removes (marks p m.scheduler.agenda) ≡ true
+    → fit (idle p (after_call call p m).scheduler.processes) (marks p (after_call call p m).scheduler.agenda) ≡ true
+after_call-fit Call.Wait p m n h = grind (arith, nat_tests, fit-only)
+after_call-fit Call.Exit p m n h = grind (arith, nat_tests, fit-only, marks-farewells)
+after_call-fit (Call.Kill q) p m n h = grind (arith, nat_tests, state_of-with_other, marks-farewells)
+after_call-fit (Call.PostSynch q code payload) p m n h = grind (arith, nat_tests)
+after_call-fit (Call.Start q) p m n h = grind (arith, nat_tests)
+after_call-fit call p m n h = grind (arith, nat_tests, state_of-with_mark)
+
+pub after_call-others : (call : Call) (o p : ℕ) (m : Machine) → (p == o) ≡ false → fit (idle o m.scheduler.processes) (marks o m.scheduler.agenda) ≡ true
+    → Kept o m.scheduler.agenda m.scheduler.processes (after_call call p m).scheduler
+after_call-others Call.Wait o p m n h =
+    record { is_fit = grind (arith, nat_tests, state_of-with_other o p State.Running m.scheduler.processes); same_due = grind (arith, nat_tests) }
+after_call-others Call.Exit o p m n h =
+    record {
+      is_fit = grind (arith, nat_tests, state_of-with_other o p State.Leaving m.scheduler.processes, marks-farewells o p m.scheduler (Item.Remove p ∷ []) m.scheduler.agenda);
+      same_due = grind (arith, nat_tests, marks-farewells o p m.scheduler (Item.Remove p ∷ []) m.scheduler.agenda);
+    }
+after_call-others (Call.Kill q) o p m n h =
+    record {
+      is_fit = grind (arith, nat_tests, fit-idle, state_of-with_same o q State.Leaving m.scheduler.processes, state_of-with_other o q State.Leaving m.scheduler.processes, marks-farewells o q m.scheduler);
+      same_due = grind (arith, nat_tests, fit-idle, due-only, marks-farewells o q m.scheduler);
+    }
+after_call-others (Call.PostSynch q code payload) o p m n h = record { is_fit = grind (arith, nat_tests); same_due = grind (arith, nat_tests) }
+after_call-others (Call.Start q) o p m n h = record { is_fit = grind (arith, nat_tests); same_due = grind (arith, nat_tests) }
+after_call-others call o p m n h = record { is_fit = grind (arith, nat_tests, state_of-with_mark); same_due = grind (arith, nat_tests) }

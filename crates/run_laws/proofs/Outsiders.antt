@@ -1,15 +1,13 @@
 -- Nobody takes a turn but the applications of the mote.
-use Rattle.std.proofs.Common.{◌≡◌, ℕ, zero, suc, ◌+◌, ◌≤◌, Bool, true, false, not, List, [], ◌∷◌, ◌++◌, refl, ◌∙◌, arith, ◌==◌, map, nat_le}
-use Rattle.run_laws.proofs.Common.{list_all, range_with_len, nat_tests, Call, Origin, Stimulus, Entry, Input, Note, Event, Applications, State, Item, state_of, is_application, Scheduler, after_item, in_front, Config, Machine, is_bootable, after_call, effect, serve, Running, Runs, with_more_work, at_start}
-use Rattle.run_laws.proofs.Arrivals.{effect-keeps}
+use Rattle.std.proofs.Common.{◌≡◌, ℕ, zero, suc, ◌+◌, ◌≤◌, Bool, true, false, not, List, [], ◌∷◌, ◌++◌, refl, arith, ◌==◌, map, nat_le}
+use Rattle.run_laws.proofs.Common.{list_all, range_with_len, nat_tests, Call, Origin, Stimulus, Entry, Input, Event, Applications, State, Item, state_of, is_application, Scheduler, after_item, in_front, Config, Machine, is_bootable, after_call, effect, serve, Running, Runs, with_more_work, at_start}
+use Rattle.run_laws.proofs.Arrivals.{effect-keeps, serve-untouched}
 use Rattle.run_laws.proofs.event_order.Items.{with_agenda, facing}
 use Rattle.run_laws.proofs.event_order.Runs.{AtEach, each-more, at_each}
-use Rattle.run_laws.proofs.event_order.Shape.{is_note}
+use Rattle.run_laws.proofs.event_order.Tally.{is_note, is_turn}
 use Rattle.run_laws.proofs.event_order.Steps.{Cases, law_of, turn_entry}
-use Rattle.run_laws.proofs.event_order.Tally.{is_turn}
 use Rattle.run_laws.proofs.timer_deadlines.Fronts.{all-append, all-mapped, all-delivered, after-all}
 use Rattle.run_laws.proofs.Marks.{state_of-with_other, state_of-with_mark, state_of-without, state_of-without_other}
-use Rattle.run_laws.proofs.Untouched.{serve-untouched}
 
 -- p is no kernel process, and no application either
 module _ (p : ℕ) (high : nat_le 4 p ≡ true) where
@@ -51,13 +49,7 @@ module _ (p : ℕ) (high : nat_le 4 p ≡ true) where
   without_item item items s h = record { stranger = h.stranger; absent = h.absent; agenda = grind (arith, h.agenda) }
 
   after_item-out : (item : Item) (items : List Item) (s : Scheduler Bool) → IsOut (with_agenda (item ∷ items) s) → IsOut (after_item item (with_agenda items s))
-  after_item-out item items s h =
-      let one : keeps_out item ≡ true = grind (arith, h.agenda) in
-      record {
-        stranger = rw (after_item-applications item (with_agenda items s)) h.stranger;
-        absent = after_item-state item items s one h.absent;
-        agenda = after_item-agenda item items s one h.absent (without_item item items s h).agenda;
-      }
+  after_item-out item items s h = grind (arith, nat_tests, h.agenda, after_item-applications, after_item-state, after_item-agenda, without_item)
 
   -- a call
 
@@ -72,22 +64,7 @@ module _ (p : ℕ) (high : nat_le 4 p ≡ true) where
   call-state call q m other out h = grind (arith, nat_tests, state_of-with_other, state_of-with_mark)
 
   call-out : (call : Call) (q : ℕ) (m : Machine) → (q == p) ≡ false → IsOut m.scheduler → IsOut (after_call call q m).scheduler
-  call-out call q m other h =
-      record {
-        stranger = rw (call-applications call q m) h.stranger;
-        absent = call-state call q m other h.stranger h.absent;
-        agenda = after-all keeps_out call q m
-            (record {
-              answer = λ reply. rw other refl;
-              give = λ r stimulus. refl;
-              note = λ note. refl;
-              start = λ r named. not_named m.scheduler r h.stranger named;
-              exit = λ r named. not_named m.scheduler r h.stranger named;
-              remove = λ r named. refl;
-              leave = refl;
-            })
-            h.agenda;
-      }
+  call-out call q m other h = grind (arith, nat_tests, call-applications, call-state, after-all, not_named)
 
   -- a step
 
@@ -96,14 +73,10 @@ module _ (p : ℕ) (high : nat_le 4 p ≡ true) where
   in_front-out xs s k h = record { stranger = h.stranger; absent = h.absent; agenda = all-append keeps_out xs s.agenda k h.agenda }
 
   served-out : (q : ℕ) (event : Event) (m : Machine) → IsOut m.scheduler → IsOut (serve q event m).scheduler
-  served-out q event m h =
-      let kept = serve-untouched q event m in
-      record { stranger = rw kept.applications h.stranger; absent = kept.states p ∙ h.absent; agenda = rw kept.agenda h.agenda }
+  served-out q event m h = grind (arith, nat_tests, serve-untouched)
 
   effect-out : (input : Input) (m : Machine) → IsOut m.scheduler → IsOut (effect input m).scheduler
-  effect-out input m h =
-      effect-keeps IsOut input m h (λ q. record { stranger = h.stranger; absent = state_of-with_mark p q true m.scheduler.processes ∙ h.absent; agenda = h.agenda })
-      (λ refusal. in_front-out (Item.Show (Entry.Note (Note.Lost refusal)) ∷ []) m.scheduler refl h)
+  effect-out input m h = grind (arith, nat_tests, effect-keeps, state_of-with_mark, in_front-out)
 
   -- the run
 
@@ -141,13 +114,10 @@ module _ (p : ℕ) (high : nat_le 4 p ≡ true) where
   starts-out zero from h = refl
   starts-out (suc n) from h =
       let other : (from == p) ≡ false = grind (arith, nat_tests, h) in
-      let few : (from + 1) + n ≤ p = omega (arith, h) in
-      rw other (starts-out n (from + 1) few)
+      rw other (starts-out n (from + 1) (omega (arith, h)))
 
   boot-out : (c : Config) → is_application c.apps p ≡ false → IsOut (at_start c).machine.scheduler
-  boot-out c out =
-      let far : 4 + c.apps ≤ p = grind (arith, nat_tests, high, out) in
-      record { stranger = out; absent = grind (arith, nat_tests, high); agenda = starts-out c.apps 4 far }
+  boot-out c out = grind (arith, nat_tests, out, starts-out)
 
   run-out : (c : Config) (says : Applications) (inputs : List Input) (after : Running) → Runs says (at_start c) inputs after
       → is_application c.apps p ≡ false → AtEach IsOthers after.entries

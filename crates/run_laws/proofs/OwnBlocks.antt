@@ -1,18 +1,10 @@
 -- The blocks of a process are what its own calls make of them: through each call, and so in every run.
-use Rattle.std.proofs.Common.{◌≡◌, ℕ, ◌≤◌, Bool, true, false, ◌&&◌, List, [], ◌∷◌, ◌++◌, length, refl, ◌∙◌, sym, ap, arith, subst, subst₂, append-nil, Option, Some, None, ◌==◌, if◌then◌else◌, nat_le, drop, slice_get}
-use Rattle.run_laws.proofs.Common.{list_all, nat_tests, Call, Reply, Refusal, Origin, Stimulus, Input, Entry, Applications, number_of, Frame, front_slot, with_block, Memory, with_managed, ask, Item, is_kernel_process, Config, Machine, booted, after_call, refused_or, answer_done, front_refusal, front_dropped, Running, Runs, at_start, Blocks, no_blocks, own, is_done, up_to_call}
-use Rattle.std.specs.Option.{option_map}
-use Rattle.std.proofs.lemmas.List.{length-set}
-use Rattle.node_memory.specs.Frames.{frame_dropped}
-use Rattle.node_memory.specs.Parts.{is_memory_call}
-use Rattle.kernel_core.specs.Calls.{asked_of_memory}
-use Rattle.run_laws.specs.BlockHistory.{over_accepted}
-use Rattle.run_laws.specs.RunLaws.{AreOwn}
+use Rattle.std.proofs.Common.{◌≡◌, ℕ, ◌≤◌, Bool, true, false, ◌&&◌, List, [], ◌∷◌, ◌++◌, length, refl, ◌∙◌, sym, arith, subst, subst₂, append-nil, Option, Some, None, ◌==◌, nat_le, drop, slice_get}
+use Rattle.run_laws.proofs.Common.{list_all, nat_tests, Call, Reply, Origin, Stimulus, Input, Entry, Applications, number_of, Frame, front_slot, with_block, Memory, with_managed, ask, Item, is_kernel_process, Config, Machine, booted, after_call, Running, Runs, at_start, Blocks, no_blocks, own, up_to_call, option_map, length-set, frame_dropped, is_memory_call, asked_of_memory, over_accepted, AreOwn}
 use Rattle.run_laws.proofs.Marks.{marks, due}
 use Rattle.run_laws.proofs.KindLaws.{KindLaw, Store, IsChange, EveryCall, accepted, at_first, blocks-told, every-own}
 use Rattle.run_laws.proofs.Stores.{ask-shape}
-use Rattle.run_laws.proofs.Knowledge.{Laws, answered}
-use Rattle.run_laws.proofs.Whole.{run-told, call-law}
+use Rattle.run_laws.proofs.Whole.{Laws, answered, run-told, call-law}
 
 -- what memory answers is told next
 
@@ -23,8 +15,7 @@ asks : (call : Call) (p : ℕ) (m : Machine) → is_memory_call call ≡ true �
 asks call p m e = grind (arith, nat_tests)
 
 pub told-reply : (call : Call) (p : ℕ) (m : Machine) → is_memory_call call ≡ true → due (marks p (after_call call p m).scheduler.agenda) ≡ Some (ask call p m.memory).1
-told-reply call p m e =
-    ap (λ (x : Machine). due (marks p x.scheduler.agenda)) (asks call p m e) ∙ told_next p (ask call p m.memory).1 m.scheduler.agenda
+told-reply call p m e = grind (arith, nat_tests, due, asks, told_next)
 
 pub one_reply : (o : Option Reply) (a b : Reply) → o ≡ Some a → o ≡ Some b → a ≡ b
 one_reply o a b e f = cc
@@ -49,16 +40,7 @@ module _ (P : Memory → List Frame → Type 0) (q : ℕ) (m : Machine) (same : 
   by_part call false n e asked = subst₂ P (sym (memory-stays call q m e n)) (sym (frames-stay call q m n)) same
 
   pub each-call : (call : Call) → P (ask call q m.memory).0 m.packets.frames → P (after_call call q m).memory (after_call call q m).packets.frames
-  each-call Call.PacketDone asked = go (front_refusal q m)
-    where
-      at : (o : Option ℕ) → front_slot m.packets ≡ o → P (front_dropped o m).memory (front_dropped o m).packets.frames
-      at None e = same
-      at (Some slot) e = dropped slot e
-
-      go : (o : Option Refusal) → P (refused_or o q m (answer_done q (front_dropped (front_slot m.packets) m))).memory (refused_or o q m (answer_done q (front_dropped (front_slot m.packets) m))).packets.frames
-      go None = at (front_slot m.packets) refl
-      go (Some refusal) = same
-  each-call call asked = by_part call (is_memory_call call) refl refl asked
+  each-call call asked = grind (arith, nat_tests, by_part)
 
 -- 272 names have places, and frames lie under names of process 3
 
@@ -74,8 +56,7 @@ front_low [] slot h e = absurd (cc)
 front_low (frame ∷ frames) slot h e = let same : frame.slot ≡ slot = cc in grind (arith, h, same)
 
 fewer_slots : (frames : List Frame) → are_slots frames ≡ true → are_slots (drop 1 frames) ≡ true
-fewer_slots [] h = refl
-fewer_slots (frame ∷ frames) h = grind (arith, h)
+fewer_slots frames h = grind (arith, nat_tests, h)
 
 more_slots : (frames : List Frame) (slot len : ℕ) → slot ≤ 15 → are_slots frames ≡ true → are_slots (frames ++ record { slot = slot; len = len } ∷ []) ≡ true
 more_slots [] slot len low h = grind (arith, nat_tests)
@@ -122,31 +103,18 @@ module _ (store : Store) (keeps : Keeps store) (p : ℕ) (few : p ≤ 19) where
       go false e other = keeps.rest call q p m.memory e
 
   plain-answer : (call : Call) (reply : Option Reply) (blocks : Blocks) → store.changes call ≡ false → answered (accepted store.change) (Some call) reply blocks ≡ blocks
-  plain-answer call None blocks e = refl
-  plain-answer call (Some reply) blocks e = go (is_done (Some reply))
-    where
-      go : (b : Bool) → (if b then store.change call blocks else blocks) ≡ blocks
-      go true = keeps.plain call blocks e
-      go false = refl
+  plain-answer call reply blocks e = grind (arith, nat_tests)
 
   own-after : (call : Call) (m : Machine) (b : Bool) (reply : Option Reply) → store.changes call ≡ b → is_kernel_process p ≡ false → IsSound m.memory m.packets.frames
       → due (marks p (after_call call p m).scheduler.agenda) ≡ reply
       → store.blocks p (after_call call p m).memory ≡ answered (accepted store.change) (Some call) reply (store.blocks p m.memory)
-  own-after call m true reply e k sound d =
-      let is_asked = keeps.asked call e in
-      let told : Some (ask call p m.memory).1 ≡ reply = sym (told-reply call p m is_asked) ∙ d in
-      subst (λ (r : Option Reply). store.blocks p (after_call call p m).memory ≡ answered (accepted store.change) (Some call) r (store.blocks p m.memory)) told
-      (ap (λ (x : Machine). store.blocks p x.memory) (asks call p m is_asked) ∙ (keeps.change call p m.memory e).own few k sound.size)
+  own-after call m true reply e k sound d = grind (arith, nat_tests, told-reply, asks)
   own-after call m false reply e k sound d = left-after call p m (rw e refl) k sound ∙ sym (plain-answer call reply (store.blocks p m.memory) e)
 
   call-has : (call : Call) (m : Machine) (blocks : Blocks) (reply : Option Reply) → HasBlocks store p m.memory m.packets.frames blocks
       → due (marks p (after_call call p m).scheduler.agenda) ≡ reply
       → HasBlocks store p (after_call call p m).memory (after_call call p m).packets.frames (answered (accepted store.change) (Some call) reply blocks)
-  call-has call m blocks reply has d =
-      record {
-        sound = call-sound call p m has.sound;
-        own = λ k. own-after call m (store.changes call) reply refl k has.sound d ∙ ap (λ (b : Blocks). answered (accepted store.change) (Some call) reply b) (has.own k);
-      }
+  call-has call m blocks reply has d = grind (arith, nat_tests, call-sound, own-after)
 
   pub own-laws : Laws (accepted store.change) (KindLaw store.kind) (HasBlocks store p) p
   own-laws =

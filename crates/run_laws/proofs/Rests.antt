@@ -1,10 +1,10 @@
 -- Every run comes to rest after each input, or is halted: each step takes something off a measure.
 use Rattle.std.proofs.Common.{◌≡◌, ℕ, zero, suc, ◌+◌, ◌-◌, ◌*◌, ◌≤◌, Bool, true, false, not, ◌&&◌, List, [], ◌∷◌, length, refl, arith, Option, Some, None, if◌then◌else◌, ◌==◌, map}
-use Rattle.run_laws.proofs.Common.{length-map, nat_tests, Call, Stimulus, Origin, Entry, Input, Applications, Item, Job, is_empty, Scheduler, after_front, job, job_at, job_of_item, wants_round, in_front, Config, Machine, scheduled, after_call, fed, serve, Answers, StepMade, Running, Runs, ComesToRest, one_step, job_done, within_limit, is_still, after_step, answers_after, with_input, at_start, silent, with_more_work, turn_taken, farewells, of_event, number_event, EXITED, numbers, without, is_process}
+use Rattle.run_laws.proofs.Common.{length-map, nat_tests, Call, Stimulus, Origin, Input, Applications, Item, Job, is_empty, Scheduler, after_front, job, job_at, job_of_item, wants_round, in_front, Config, Machine, scheduled, after_call, fed, Answers, StepMade, Running, Runs, ComesToRest, one_step, job_done, within_limit, is_still, after_step, answers_after, with_input, at_start, silent, with_more_work, turn_taken, farewells, of_event, number_event, EXITED, numbers, without, is_process}
 use Rattle.std.proofs.Math.Nat.{suc-mul}
 use Rattle.kernel_core.specs.Code.Cost.{starts, present, costs, round_cost, IsPaid}
 use Rattle.kernel_core.proofs.Costs.{starts-append, length-without, after_front-present, costs-cons, costs-nil, costs-append, paid}
-use Rattle.run_laws.proofs.Untouched.{serve-untouched, call-work}
+use Rattle.run_laws.proofs.Arrivals.{serve-untouched, call-work}
 
 -- what those are told who are left where a process ends
 
@@ -32,9 +32,6 @@ module _ (bound : ℕ) where
 
 -- a call
 
-call-processes : (call : Call) (p : ℕ) (m : Machine) → length (after_call call p m).scheduler.processes ≡ length m.scheduler.processes
-call-processes call p m = grind (arith, length-map)
-
 -- a call starts one process at most
 call-starts : (call : Call) (p : ℕ) (m : Machine) → present (after_call call p m).scheduler ≤ present m.scheduler + 1
 call-starts Call.Exit p m = grind (arith, length-map, starts-append, starts-farewells p m.scheduler)
@@ -45,9 +42,7 @@ module _ (bound : ℕ) where
   -- a call puts little on the agenda
   call-costs : (call : Call) (p : ℕ) (m : Machine) → length m.scheduler.processes ≤ bound
       → costs bound (after_call call p m).scheduler.agenda ≤ costs bound m.scheduler.agenda + 2 * bound + 4
-  call-costs Call.Exit p m h = grind (arith, costs-append bound, costs-cons bound, costs-nil bound, costs-farewells bound p m.scheduler)
-  call-costs (Call.Kill q) p m h = grind (arith, costs-append bound, costs-cons bound, costs-nil bound, costs-farewells bound q m.scheduler)
-  call-costs call p m h = grind (arith, costs-cons bound, costs-nil bound)
+  call-costs call p m h = grind (arith, nat_tests, costs-append, costs-cons, costs-nil, costs-farewells)
 
 -- a step
 
@@ -61,8 +56,7 @@ job_of_item-works item s = grind (arith, nat_tests)
 
 -- the job is Rest only where nothing is left to be done
 job_at-works : (agenda : List Item) (s : Scheduler Bool) → (is_empty agenda && not (wants_round s)) ≡ false → is_rest (job_at agenda s) ≡ false
-job_at-works [] s h = grind arith
-job_at-works (item ∷ items) s h = job_of_item-works item s
+job_at-works agenda s h = grind (arith, nat_tests, job_of_item-works)
 
 -- how many processes there can be on the list before the next input
 abbrev reserve : Machine → ℕ
@@ -88,47 +82,24 @@ one_less work unit h n =
 module _ (bound : ℕ) where
   limit-falls : (left : ℕ) (m : Machine) (step : StepMade) → m.work ≤ 10000 → ((m.work == 10000) ≡ false → Falls bound left m step.0)
       → Falls bound left m (within_limit m step).0
-  limit-falls left m step w h = go (m.work == 10000) refl
-    where
-      go : (b : Bool) → (m.work == 10000) ≡ b → Falls bound left m (if b then (record m { is_halted = true }, Some Entry.Halt) else step).0
-      go true e = record { work = w; reserve = omega arith; measure = λ running. absurd (cc) }
-      go false e = h e
+  limit-falls left m step w h = grind (arith, nat_tests, measure)
 
   call-falls : (old : ℕ) (call : Call) (p : ℕ) (m : Machine) → m.work ≤ 10000 → (m.work == 10000) ≡ false → length m.scheduler.processes ≤ bound
       → costs bound m.scheduler.agenda + 1 ≤ old
       → Falls bound ((10000 - m.work) * suc (round_cost bound) + old) m (after_call call p (with_more_work m))
   unfolding measure
-  call-falls old call p m w n few paid =
-      let next : Machine = with_more_work m in
-      let same : (after_call call p next).work ≡ m.work + 1 = call-work call p next in
-      let low : m.work + 1 ≤ 10000 = grind (arith, nat_tests) in
-      let more = call-starts call p next in
-      let cheap = call-costs bound call p next few in
-      let worth = one_less m.work (suc (round_cost bound)) w n in
-      record {
-        work = rw same low;
-        reserve = rw same (omega (arith, more, low));
-        measure = λ running. rw same (rw worth (omega (arith, cheap, paid)));
-      }
+  call-falls old call p m w n few paid = grind (arith, nat_tests, paid, call-work, call-starts, call-costs, one_less, measure)
 
   round-falls : (old : ℕ) (m : Machine) → m.work ≤ 10000 → (m.work == 10000) ≡ false → costs bound m.scheduler.agenda ≤ round_cost bound
       → Falls bound ((10000 - m.work) * suc (round_cost bound) + old) m (with_more_work m)
   unfolding measure
-  round-falls old m w n paid =
-      let low : m.work + 1 ≤ 10000 = grind (arith, nat_tests) in
-      let worth = one_less m.work (suc (round_cost bound)) w n in
-      record {
-        work = low;
-        reserve = omega (arith, low);
-        measure = λ running. rw worth (omega (arith, paid));
-      }
+  round-falls old m w n paid = grind (arith, nat_tests, paid, one_less, measure)
 
   -- the machine is the same but for less on its agenda
   quiet-falls : (old : ℕ) (m new : Machine) → m.work ≤ 10000 → new.work ≡ m.work → present new.scheduler ≤ present m.scheduler
       → costs bound new.scheduler.agenda + 1 ≤ old → Falls bound ((10000 - m.work) * suc (round_cost bound) + old) m new
   unfolding measure
-  quiet-falls old m new w same few less =
-      record { work = rw same w; reserve = rw same (omega (arith, few)); measure = λ running. rw same (omega (arith, less)) }
+  quiet-falls old m new w same few less = grind (arith, nat_tests, few, less, measure)
 
   -- a job that was worth so much, and is done
   job-falls : (answers : Answers) (next : Option (Job Bool)) (m : Machine) (old : ℕ) → length m.scheduler.processes ≤ bound → m.work ≤ 10000 → is_rest next ≡ false
@@ -136,11 +107,7 @@ module _ (bound : ℕ) where
       → Falls bound ((10000 - m.work) * suc (round_cost bound) + old) m (job_done answers next m).0
   job-falls answers (Some (Job.TakeTurn p origin stimulus)) m old h w r paid =
       limit-falls _ m (turn_taken p origin stimulus (answers p stimulus) m) w (λ n. call-falls old (answers p stimulus) p m w n h paid)
-  job-falls answers (Some (Job.Serve p event)) m old h w r paid =
-      let kept = serve-untouched p event m in
-      let few : present (serve p event m).scheduler ≤ present m.scheduler = rw (kept.agenda, kept.processes) (omega arith) in
-      let less : costs bound (serve p event m).scheduler.agenda + 1 ≤ old = rw kept.agenda paid in
-      quiet-falls old m (serve p event m) w kept.work few less
+  job-falls answers (Some (Job.Serve p event)) m old h w r paid = grind (arith, nat_tests, serve-untouched, paid, quiet-falls)
   job-falls answers (Some (Job.CallBack p c true)) m old h w r paid = quiet-falls old m m w refl (omega arith) (omega arith)
   job-falls answers (Some (Job.CallBack p c false)) m old h w r paid =
       let given : Machine = scheduled (in_front (Item.Give p Origin.Callback (Stimulus.Callback c) ∷ [])) m in

@@ -1,11 +1,7 @@
 -- Managed memory: what each call keeps of it.
 use Rattle.std.proofs.Common.{◌≡◌, ℕ, ◌+◌, ◌≤◌, ◌<◌, Bool, true, false, List, [], length, refl, ◌∙◌, ap, arith, get_or, slice_set, Option, Some, None, ◌==◌, if◌then◌else◌, ◌≢◌, is_some, sum_by, unwrap_or}
-use Rattle.run_laws.proofs.Common.{nat_tests, Call, Refusal, number_of, zeros, overwritten, block_of, bytes_of, size_of, taken_by, with_block, Memory, with_managed, is_handle, Part, part_called, Asked, ask, ask_part, ask_managed, ask_heap, ask_pool_of, is_kernel_process, Blocks, managed_after, managed_kind}
-use Rattle.std.specs.Option.{option_map}
-use Rattle.std.proofs.lemmas.List.{get_or-set_same, get_or-set_other, length-set}
-use Rattle.node_memory.specs.ManagedCalls.{alloc_refusal, free_refusal, write_refusal, copy_refusal}
-use Rattle.node_memory.specs.Answered.{unless_refused, done}
-use Rattle.run_laws.specs.BlockHistory.{copied}
+use Rattle.run_laws.proofs.Common.{nat_tests, Call, Refusal, number_of, zeros, overwritten, block_of, bytes_of, size_of, taken_by, with_block, Memory, with_managed, is_handle, Part, part_called, Asked, ask, ask_part, ask_managed, ask_heap, ask_pool_of, is_kernel_process, Blocks, managed_after, managed_kind, option_map, get_or-set_same, get_or-set_other, length-set, copy_refusal, unless_refused, done, copied}
+use Rattle.node_memory.specs.ManagedCalls.{alloc_refusal, free_refusal, write_refusal}
 use Rattle.run_laws.proofs.KindLaws.{Store, IsChange, same_blocks}
 use Rattle.run_laws.proofs.Totals.{total-put}
 
@@ -15,12 +11,7 @@ own_blocks p m h = if is_handle h then block_of p h m.managed else None
 
 -- blocks of different names have different places
 pub name_apart : (q k p h : ℕ) → (q == p) ≡ false → is_kernel_process p ≡ false → is_handle k ≡ true → is_handle h ≡ true → number_of p h ≢ number_of q k
-name_apart q k p h n a low high e =
-    let ne : q ≢ p = grind (arith, nat_tests) in
-    let pa : 4 ≤ p = grind (arith, nat_tests) in
-    let kb : k ≤ 15 = grind (arith, nat_tests) in
-    let hb : h ≤ 15 = grind (arith, nat_tests) in
-    absurd (omega arith)
+name_apart q k p h n a low high e = grind (arith, nat_tests)
 
 pub put_other : (q k p h : ℕ) (block : Option (List ℕ)) (m : Memory) → (q == p) ≡ false → is_kernel_process p ≡ false → is_handle k ≡ true
     → own_blocks p (with_managed (with_block q k block m.managed) m) h ≡ own_blocks p m h
@@ -112,12 +103,7 @@ module _ (call : Call) (q k : ℕ) (block : Option (List ℕ)) (m : Memory) wher
           others = λ p n a. same_blocks _ _ (λ h. put_other q k p h block m n a (low refl));
         };
       }
-  is_change (Some refusal) low made =
-      record {
-        shape = record { size = refl; capacity = refl; quota = refl };
-        total = λ few a size. refl;
-        blocks = record { own = λ few a size. refl; others = λ p n a. refl };
-      }
+  is_change (Some refusal) low made = grind (arith, nat_tests)
 
 -- the bytes of a live block
 live_block : (b : Bool) (o : Option (List ℕ)) (f : List ℕ → List ℕ) → b ≡ true → is_some o ≡ true → Some (f (unwrap_or o [])) ≡ option_map f (if b then o else None)
@@ -146,19 +132,14 @@ managed-change (Call.MmemCopy source target) q m c =
     made : copy_refusal q source target m.managed ≡ None
         → (h : ℕ) → (if h == target then Some (overwritten 0 (bytes_of q source m.managed) (bytes_of q target m.managed)) else own_blocks q m h) ≡ managed_after (Call.MmemCopy source target) (own_blocks q m) h
     made e h =
-        let named : is_handle target ≡ true = grind (arith, e) in
         let live : is_some (block_of q target m.managed) ≡ true = grind (arith, e) in
         let from_named : is_handle source ≡ true = grind (arith, e) in
         let from_live : is_some (block_of q source m.managed) ≡ true = grind (arith, e) in
         ap (λ o. if h == target then o else own_blocks q m h)
-        (live_block (is_handle target) (block_of q target m.managed) (overwritten 0 (bytes_of q source m.managed)) named live
+        (live_block (is_handle target) (block_of q target m.managed) (overwritten 0 (bytes_of q source m.managed)) (grind (arith, e)) live
         ∙ live_source (is_handle source) (block_of q source m.managed) (own_blocks q m target) from_named from_live)
 managed-change call q m c = absurd (grind (arith, c))
 
 -- every call on memory keeps its shape
 pub ask-shape : (call : Call) (q : ℕ) (m : Memory) → HasShape m (ask call q m).0
-ask-shape call q m = go (changes_managed call) refl
-  where
-    go : (b : Bool) → changes_managed call ≡ b → HasShape m (ask call q m).0
-    go true e = (managed-change call q m e).shape
-    go false e = let same = ask-rest call q m e in record { size = rw same refl; capacity = rw same refl; quota = rw same refl }
+ask-shape call q m = grind (arith, nat_tests, managed-change, ask-rest)

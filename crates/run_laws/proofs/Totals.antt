@@ -1,19 +1,16 @@
 -- What a process's managed blocks take, and what all managed blocks take.
 use Rattle.std.proofs.Common.{◌≡◌, ℕ, zero, suc, ◌+◌, ◌≤◌, ◌<◌, Bool, true, false, List, length, refl, ◌∙◌, ap, arith, Option, None, ◌==◌, ◌≢◌, sum_by}
-use Rattle.run_laws.proofs.Common.{range_with_len, nat_tests, number_of, ManagedStore, block_of, size_of, taken_by, with_block}
-use Rattle.std.proofs.lemmas.List.{get_or-set_same, get_or-set_other}
-use Rattle.std.proofs.lemmas.List.Sums.{sum_by-cons, sum_by-set}
+use Rattle.run_laws.proofs.Common.{range_with_len, nat_tests, number_of, ManagedStore, block_of, size_of, taken_by, with_block, get_or-set_same, get_or-set_other, sum_by-cons, sum_by-set}
 
 -- sums over numbers in a row
 
 same-terms : (f g : ℕ → ℕ) (n from : ℕ) → ((h : ℕ) → from ≤ h → g h ≡ f h) → sum_by g (range_with_len from n) ≡ sum_by f (range_with_len from n)
 same-terms f g zero from e = refl
 same-terms f g (suc n) from e =
-    let later = same-terms f g n (from + 1) (λ h low. e h (omega (arith, low))) in
     let first : g from ≡ f from = e from (omega arith) in
     let left = sum_by-cons g from (range_with_len (from + 1) n) in
     let right = sum_by-cons f from (range_with_len (from + 1) n) in
-    omega (arith, later, first, left, right)
+    omega (arith, (same-terms f g n (from + 1) (λ h low. e h (omega (arith, low)))), first, left, right)
 
 -- one term differs
 other-term : (f g : ℕ → ℕ) (k n from : ℕ) → from ≤ k → k < from + n → ((h : ℕ) → h ≢ k → g h ≡ f h)
@@ -39,9 +36,8 @@ other-term f g k (suc n) from low high e =
         omega (arith, left, right, later, old, new)
     go false same more =
         let ne : from ≢ k = grind (arith, nat_tests, same) in
-        let later = more ne in
         let first : g from ≡ f from = e from ne in
-        omega (arith, left, right, later, first)
+        omega (arith, left, right, (more ne), first)
 
 -- a block in the place of another one: what p's blocks take changes as much as what all blocks take
 
@@ -59,6 +55,5 @@ module _ (p k : ℕ) (block : Option (List ℕ)) (store : ManagedStore) (low : k
 
   pub total-put : sum_by size_of after.blocks + taken_by p store ≡ sum_by size_of store.blocks + taken_by p after
   total-put =
-      let all = sum_by-set size_of store.blocks (number_of p k) block None inside in
       let own = taken-put in
-      omega (arith, all, own)
+      omega (arith, (sum_by-set size_of store.blocks (number_of p k) block None inside), own)

@@ -1,18 +1,138 @@
--- Over a whole run.
-use Rattle.std.proofs.Common.{◌≡◌, ℕ, zero, suc, ◌+◌, ◌≤◌, Bool, true, false, not, List, [], ◌∷◌, ◌++◌, refl, ◌∙◌, sym, arith, subst, append_assoc, Option, Some, None, ◌==◌, map, length, find, nat_le}
-use Rattle.run_laws.proofs.Common.{list_all, range_with_len, nat_tests, fold-append, Call, Reply, Refusal, Event, Origin, Stimulus, Entry, Input, Note, Applications, Frame, PacketQueue, free_slot, Memory, Item, state_of, Config, Scheduler, after_call, effect, frame_held, frame_refusal, held_unless_lost, serve, Machine, booted, Running, Runs, with_more_work, at_start, reply_of, reply_in, HasCall, up_to_call}
-use Rattle.device_core.specs.PacketQueue.{is_held}
-use Rattle.run_laws.proofs.Marks.{marks, state_of-with_mark}
-use Rattle.run_laws.proofs.Arrivals.{effect-keeps}
-use Rattle.run_laws.proofs.Silent.{is_turn_item}
-use Rattle.run_laws.proofs.Knowledge.{Knowledge, told, told_all, answered, Fine, LawAt, Laws, Now, Turned, same-now, carried-now, served-now, called_back-now, turn-step}
-use Rattle.run_laws.proofs.Untouched.{serve-untouched}
-use Rattle.run_laws.proofs.event_order.Items.{facing}
+-- What the entries told a process, and how a step adds to it.
+use Rattle.std.proofs.Common.{◌≡◌, ℕ, Bool, true, false, List, [], ◌∷◌, ◌++◌, ◌≤◌, refl, sym, arith, subst, Option, Some, None, ◌==◌, if◌then◌else◌, fold, zero, suc, ◌+◌, not, ◌∙◌, append_assoc, map, find, nat_le}
+use Rattle.run_laws.proofs.Common.{nat_tests, Call, Reply, Event, Origin, Stimulus, Entry, Frame, frame_taken, Memory, Item, is_kernel_process, in_front, Machine, scheduled, after_call, serve, with_more_work, reply_of, list_all, range_with_len, fold-append, Input, Note, Applications, PacketQueue, free_slot, state_of, Config, Scheduler, effect, booted, Running, Runs, at_start, reply_in, HasCall, up_to_call, is_held}
+use Rattle.run_laws.proofs.Marks.{marks, fit, due, idle, only_removes, is_turn_item, after_item-kept, after_call-fit, after_call-others, state_of-with_mark}
+use Rattle.run_laws.proofs.Arrivals.{serve-untouched, effect-keeps}
+use Rattle.run_laws.proofs.event_order.Items.{with_agenda, facing}
+use Rattle.run_laws.proofs.event_order.Steps.{carried, turn_entry, Cases, law_of, kernel_carried, is_quiet_item}
 use Rattle.run_laws.proofs.event_order.Runs.{Prefixes, at_prefixes}
-use Rattle.run_laws.proofs.event_order.Steps.{Cases, law_of, carried, kernel_carried, turn_entry, is_quiet_item}
 use Rattle.run_laws.proofs.event_order.Tally.{is_turn}
 use Rattle.run_laws.proofs.timer_deadlines.Fronts.{all-mapped}
 use Rattle.run_laws.proofs.timer_deadlines.Regular.{is_regular, carried-regular, after-regular}
+
+-- what a process knows, and its last call
+pub record Knowledge (S : Type 0) : Type 0 where
+  pub now : S
+  pub last : Option Call
+
+module _ {S : Type 0} (next : Call → Reply → S → S) where
+  abbrev pub answered : Option Call → Option Reply → S → S
+  answered (Some call) (Some reply) s = next call reply s
+  answered _ _ s = s
+
+  abbrev pub told : ℕ → Knowledge S → Entry → Knowledge S
+  told p t (Entry.Turn pid origin stimulus call) =
+      if pid.0 == p then record { now = answered t.last (reply_of stimulus) t.now; last = Some call } else t
+  told p t _ = t
+
+  abbrev pub told_all : ℕ → Knowledge S → List Entry → Knowledge S
+  told_all p t entries = fold (told p) t entries
+
+module _ {S : Type 0} (Law : S → Call → Reply → Type 0) where
+  abbrev pub LawAt : Option Call → S → Option Reply → Type 0
+  LawAt (Some call) s (Some reply) = Law s call reply
+  LawAt _ s _ = Unit {0}
+
+  abbrev pub Fine : ℕ → Knowledge S → Entry → Type 0
+  Fine p t (Entry.Turn pid origin stimulus call) = (pid.0 == p) ≡ true → LawAt t.last t.now (reply_of stimulus)
+  Fine p t _ = Unit {0}
+
+module _ {S : Type 0} (next : Call → Reply → S → S) (Law : S → Call → Reply → Type 0) (Rel : Memory → List Frame → S → Type 0) (p : ℕ) where
+  -- what the calls have to keep
+  pub record Laws : Type 0 where
+    pub self : (call : Call) (m : Machine) (s : S) (reply : Reply) → is_kernel_process p ≡ false → Rel m.memory m.packets.frames s
+        → only_removes (marks p m.scheduler.agenda) ≡ true
+        → due (marks p (after_call call p m).scheduler.agenda) ≡ Some reply
+        → Law s call reply × Rel (after_call call p m).memory (after_call call p m).packets.frames (next call reply s)
+    pub silent : (call : Call) (m : Machine) (s : S) → is_kernel_process p ≡ false → Rel m.memory m.packets.frames s
+        → due (marks p (after_call call p m).scheduler.agenda) ≡ None → Rel (after_call call p m).memory (after_call call p m).packets.frames s
+    pub other : (call : Call) (q : ℕ) (m : Machine) (s : S) → (q == p) ≡ false → Rel m.memory m.packets.frames s
+        → Rel (after_call call q m).memory (after_call call q m).packets.frames s
+    pub frame : (slot len : ℕ) (bytes : List ℕ) (memory : Memory) (frames : List Frame) (s : S) → slot ≤ 15 → Rel memory frames s
+        → Rel (frame_taken slot bytes memory) (frames ++ record { slot = slot; len = len } ∷ []) s
+
+  pub record Now (t : Knowledge S) (m : Machine) : Type 0 where
+    pub is_fit : fit (idle p m.scheduler.processes) (marks p m.scheduler.agenda) ≡ true
+    pub law : LawAt Law t.last t.now (due (marks p m.scheduler.agenda))
+    pub rel : Rel m.memory m.packets.frames (answered next t.last (due (marks p m.scheduler.agenda)) t.now)
+
+  -- the same marks, state and memory
+  pub same-now : (t : Knowledge S) (old new : Machine) → Now t old → fit (idle p new.scheduler.processes) (marks p new.scheduler.agenda) ≡ true
+      → due (marks p new.scheduler.agenda) ≡ due (marks p old.scheduler.agenda) → new.memory ≡ old.memory → new.packets.frames ≡ old.packets.frames → Now t new
+  same-now t old new h f d e g = record { is_fit = f; law = rw d h.law; rel = rw (d, e, g) h.rel }
+
+  -- an item that is no turn
+  pub carried-now : (item : Item) (items : List Item) (t : Knowledge S) (m : Machine) → is_turn_item item ≡ false → Now t (facing (item ∷ items) m) → Now t (carried item items m)
+  carried-now item items t m n h =
+      let kept = after_item-kept p item (with_agenda items m.scheduler) n h.is_fit in
+      same-now t (facing (item ∷ items) m) (carried item items m) h kept.is_fit kept.same_due refl refl
+
+  pub served-now : (q : ℕ) (event : Event) (t : Knowledge S) (m : Machine) → Now t m → Now t (serve q event m)
+  served-now q event t m h = grind (arith, nat_tests, h.is_fit, serve-untouched, same-now)
+
+  pub called_back-now : (q c : ℕ) (t : Knowledge S) (m : Machine) → Now t m → Now t (scheduled (in_front (Item.Give q Origin.Callback (Stimulus.Callback c) ∷ [])) m)
+  called_back-now q c t m h = grind (arith, nat_tests, h.is_fit, same-now)
+
+  -- what a turn tells, and leaves
+  pub record Turned (t : Knowledge S) (entry : Entry) (m : Machine) : Type 0 where
+    pub fine : Fine Law p t entry
+    pub now : Now (told next p t entry) m
+
+  module _ (laws : Laws) where
+    -- what p owes after its call
+    after-self : (call : Call) (m : Machine) (s : S) (reply : Option Reply) → is_kernel_process p ≡ false → idle p m.scheduler.processes ≡ false
+        → only_removes (marks p m.scheduler.agenda) ≡ true → Rel m.memory m.packets.frames s
+        → due (marks p (after_call call p m).scheduler.agenda) ≡ reply
+        → LawAt Law (Some call) s reply × Rel (after_call call p m).memory (after_call call p m).packets.frames (answered next (Some call) reply s)
+    after-self call m s (Some reply) k n h rel e = laws.self call m s reply k rel h e
+    after-self call m s None k n h rel e = (tt, laws.silent call m s k rel e)
+
+    turn-self : (call : Call) (origin : Origin) (stimulus : Stimulus) (items : List Item) (t : Knowledge S) (m : Machine)
+        → Now t (facing (Item.Turn p origin stimulus ∷ items) m)
+        → Turned t (turn_entry p origin stimulus call) (after_call call p (with_more_work (facing items m)))
+    turn-self call origin stimulus items t m h =
+        let old = with_more_work (facing items m) in
+        let new = after_call call p old in
+        let busy : idle p m.scheduler.processes ≡ false = grind (arith, h.is_fit, nat_tests) in
+        let rest : only_removes (marks p items) ≡ true = grind (arith, h.is_fit, nat_tests) in
+        let mortal : is_kernel_process p ≡ false = grind (arith, busy) in
+        let turns : due (marks p (Item.Turn p origin stimulus ∷ items)) ≡ reply_of stimulus = grind (arith, nat_tests) in
+        let s = answered next t.last (reply_of stimulus) t.now in
+        let rel : Rel m.memory m.packets.frames s = rw turns at h.rel in
+        let owed = after-self call old s (due (marks p new.scheduler.agenda)) mortal busy rest rel refl in
+        let new_told : told next p t (turn_entry p origin stimulus call) ≡ record { now = s; last = Some call } = grind (arith, nat_tests) in
+        let is_now : Now (record { now = s; last = Some call }) new = record { is_fit = after_call-fit call p old busy rest; law = owed.0; rel = owed.1 } in
+        record {
+          fine = λ _. rw turns at h.law;
+          now = rw new_told is_now;
+        }
+
+    turn-other : (call : Call) (q : ℕ) (origin : Origin) (stimulus : Stimulus) (items : List Item) (t : Knowledge S) (m : Machine) → (q == p) ≡ false
+        → Now t (facing (Item.Turn q origin stimulus ∷ items) m)
+        → Turned t (turn_entry q origin stimulus call) (after_call call q (with_more_work (facing items m)))
+    turn-other call q origin stimulus items t m n h =
+        let old = with_more_work (facing items m) in
+        let new = after_call call q old in
+        let same : marks p (Item.Turn q origin stimulus ∷ items) ≡ marks p items = grind (arith, n) in
+        let kept = after_call-others call p q old n (rw same at h.is_fit) in
+        let is_now : Now t new =
+        record { is_fit = kept.is_fit; law = rw kept.same_due (rw same at h.law); rel = rw kept.same_due (laws.other call q old _ n (rw same at h.rel)) } in
+        let new_told : told next p t (turn_entry q origin stimulus call) ≡ t = grind (arith, n) in
+        record {
+          fine = λ e. absurd (grind (arith, n, e));
+          now = rw new_told is_now;
+        }
+
+    pub turn-step : (b : Bool) (call : Call) (q : ℕ) (origin : Origin) (stimulus : Stimulus) (items : List Item) (t : Knowledge S) (m : Machine) → (q == p) ≡ b
+        → Now t (facing (Item.Turn q origin stimulus ∷ items) m)
+        → Turned t (turn_entry q origin stimulus call) (after_call call q (with_more_work (facing items m)))
+    turn-step true call q origin stimulus items t m e h =
+        let same : q ≡ p = grind (arith, nat_tests, e) in
+        subst (λ (o : ℕ). Now t (facing (Item.Turn o origin stimulus ∷ items) m) → Turned t (turn_entry o origin stimulus call) (after_call call o (with_more_work (facing items m))))
+        (sym same) (turn-self call origin stimulus items t m) h
+    turn-step false call q origin stimulus items t m e h = turn-other call q origin stimulus items t m e h
+
+-- Over a whole run.
 
 -- a slot is one of 0 to 7
 found : (test : ℕ → Bool) (ns : List ℕ) (slot : ℕ) → list_all (λ n. nat_le n 15) ns ≡ true → find test ns ≡ Some slot → slot ≤ 15
@@ -49,11 +169,7 @@ module _ {S : Type 0} (next : Call → Reply → S → S) (Law : S → Call → 
   well-more start X e h k = well-append start X (e ∷ []) h (k, tt)
 
   well-other : (start : Knowledge S) (X : List Entry) (e : Entry) → is_turn e ≡ false → WellTold start X → WellTold start (X ++ e ∷ [])
-  well-other start X e n h = well-more start X e h (fine e n)
-    where
-      fine : (e : Entry) → is_turn e ≡ false → Fine Law p (told_all next p start X) e
-      fine (Entry.Turn pid origin stimulus call) n = absurd (grind (arith, n))
-      fine _ n = tt
+  well-other start X e n h = grind (arith, nat_tests, n, well-more)
 
   not_turn : (item : Item) → is_quiet_item item ≡ true → is_turn_item item ≡ false
   not_turn item n = grind (arith, n)
@@ -64,8 +180,7 @@ module _ {S : Type 0} (next : Call → Reply → S → S) (Law : S → Call → 
       record { regular = carried-regular item items m.scheduler h.regular; now = carried-now next Law Rel p item items (told_all next p start X) m n h.now }
 
   served-holds : (start : Knowledge S) (q : ℕ) (event : Event) (m : Machine) (X : List Entry) → Holds start m X → Holds start (serve q event m) X
-  served-holds start q event m X h =
-      record { regular = rw ((serve-untouched q event m).agenda) h.regular; now = served-now next Law Rel p q event (told_all next p start X) m h.now }
+  served-holds start q event m X h = grind (arith, nat_tests, serve-untouched, served-now)
 
   turned : Laws next Law Rel p → (start : Knowledge S) (m : Machine) (X : List Entry) (items : List Item) (q : ℕ) (origin : Origin) (stimulus : Stimulus) (call : Call)
       → Holds start (facing (Item.Turn q origin stimulus ∷ items) m) X
@@ -86,47 +201,22 @@ module _ {S : Type 0} (next : Call → Reply → S → S) (Law : S → Call → 
 
   shown-holds : (start : Knowledge S) (m : Machine) (X : List Entry) (items : List Item) (note : Note) → Holds start (facing (Item.Show (Entry.Note note) ∷ items) m) X
       → Holds start (facing items m) (X ++ Entry.Note note ∷ [])
-  shown-holds start m X items note h =
-      let k = carried-holds start (Item.Show (Entry.Note note)) items m X refl h in
-      record { regular = k.regular; now = rw (told-other start X (Entry.Note note) refl) k.now }
+  shown-holds start m X items note h = grind (arith, nat_tests, carried-holds, told-other)
 
   -- what an input brings
   effect-rel : Laws next Law Rel p → (input : Input) (m : Machine) (s : S) → Rel m.memory m.packets.frames s → Rel (effect input m).memory (effect input m).packets.frames s
-  effect-rel laws (Input.Tick n) m s h = h
-  effect-rel laws (Input.Serial bytes) m s h = h
-  effect-rel laws (Input.Frame bytes) m s h = arrives (frame_refusal (length bytes.items) m)
-    where
-      held : (o : Option ℕ) → free_slot m.packets ≡ o → Rel (frame_held o bytes.items m).memory (frame_held o bytes.items m).packets.frames s
-      held None e = h
-      held (Some slot) e = laws.frame slot (length bytes.items) bytes.items m.memory m.packets.frames s (slot_low m.packets slot e) h
-
-      arrives : (o : Option Refusal) → Rel (held_unless_lost o bytes.items m).memory (held_unless_lost o bytes.items m).packets.frames s
-      arrives (Some refusal) = h
-      arrives None = held (free_slot m.packets) refl
+  effect-rel laws input m s h = grind (arith, nat_tests, slot_low)
 
   record Alike (old new : Scheduler Bool) : Type 0 where
     marks_are : marks p new.agenda ≡ marks p old.agenda
     state : state_of p new.processes ≡ state_of p old.processes
 
   effect-alike : (input : Input) (m : Machine) → Alike m.scheduler (effect input m).scheduler
-  effect-alike input m =
-      effect-keeps (λ s. Alike m.scheduler s) input m (record { marks_are = refl; state = refl })
-      (λ q. record { marks_are = refl; state = state_of-with_mark p q true m.scheduler.processes }) (λ refusal. record { marks_are = refl; state = refl })
+  effect-alike input m = grind (arith, nat_tests, effect-keeps, state_of-with_mark)
 
   input-holds : Laws next Law Rel p → (start : Knowledge S) (input : Input) (m : Machine) (X : List Entry) → Holds start m X
       → Holds start (effect input (record m { work = 0 })) (X ++ Entry.Input input ∷ [])
-  input-holds laws start input m X h =
-      let woken : Machine = record m { work = 0 } in
-      let kept = effect-alike input woken in
-      record {
-        regular = effect-keeps (λ s. list_all is_regular s.agenda ≡ true) input woken h.regular (λ q. h.regular) (λ refusal. h.regular);
-        now = rw (told-other start X (Entry.Input input) refl)
-            (record {
-              is_fit = rw (kept.marks_are, kept.state) h.now.is_fit;
-              law = rw kept.marks_are h.now.law;
-              rel = rw kept.marks_are (effect-rel laws input woken _ h.now.rel);
-            });
-      }
+  input-holds laws start input m X h = grind (arith, nat_tests, effect-alike, effect-keeps, told-other, effect-rel)
 
   pub told_cases : Laws next Law Rel p → (start : Knowledge S) → Cases (Holds start) (Holds start) (WellTold start)
   told_cases laws start =
@@ -152,26 +242,13 @@ module _ {S : Type 0} (next : Call → Reply → S → S) (Law : S → Call → 
   marks-starts (suc n) from = marks-starts n (from + 1)
 
   nothing-law : (start : Knowledge S) → LawAt Law start.last start.now None
-  nothing-law start = go start.last
-    where
-      go : (last : Option Call) → LawAt Law last start.now None
-      go None = tt
-      go (Some call) = tt
+  nothing-law start = grind (arith, nat_tests)
 
   nothing-rel : (start : Knowledge S) (memory : Memory) (frames : List Frame) → Rel memory frames start.now → Rel memory frames (answered next start.last None start.now)
-  nothing-rel start memory frames h = go start.last
-    where
-      go : (last : Option Call) → Rel memory frames (answered next last None start.now)
-      go None = h
-      go (Some call) = h
+  nothing-rel start memory frames h = grind (arith, nat_tests)
 
   pub boot-holds : (start : Knowledge S) (c : Config) → Rel (booted c).memory [] start.now → Holds start (at_start c).machine []
-  boot-holds start c rel =
-      let none : marks p (booted c).scheduler.agenda ≡ [] = marks-starts c.apps 4 in
-      record {
-        regular = all-mapped is_regular (λ n. Item.Start n) (range_with_len 4 c.apps) (λ n. refl);
-        now = record { is_fit = rw none; law = rw none (nothing-law start); rel = rw none (nothing-rel start (booted c).memory [] rel) };
-      }
+  boot-holds start c rel = grind (arith, nat_tests, marks-starts, all-mapped, nothing-law, nothing-rel)
 
   pub run-told : Laws next Law Rel p → (start : Knowledge S) (c : Config) (says : Applications) (inputs : List Input) (after : Running)
       → Runs says (at_start c) inputs after → Rel (booted c).memory [] start.now → Prefixes (WellTold start) after.entries
@@ -182,16 +259,7 @@ module _ {S : Type 0} (next : Call → Reply → S → S) (Law : S → Call → 
   pub law-of : (later : List Entry) (t : Knowledge S) (call : Call) (reply : Reply) → t.last ≡ Some call → reply_in p later ≡ Some reply → WellTold t later
       → Law t.now call reply
   law-of [] t call reply e r h = absurd (grind arith)
-  law-of (Entry.Turn pid origin stimulus other ∷ later) t call reply e r h = go (pid.0 == p) refl (law-of later t call reply e)
-    where
-      go : (b : Bool) → (pid.0 == p) ≡ b → (reply_in p later ≡ Some reply → WellTold t later → Law t.now call reply) → Law t.now call reply
-      go true same rest =
-          let told_it : reply_of stimulus ≡ Some reply = grind (arith, same, r) in
-          rw (e, told_it) at (h.0 same)
-      go false same rest =
-          let silent : told next p t (Entry.Turn pid origin stimulus other) ≡ t = grind (arith, same) in
-          let later_reply : reply_in p later ≡ Some reply = grind (arith, same, r) in
-          rest later_reply (rw silent at h.1)
+  law-of (Entry.Turn pid origin stimulus other ∷ later) t call reply e r h = grind (arith, nat_tests, r, told, (law-of later t call reply e))
   law-of (entry ∷ later) t call reply e r h = law-of later t call reply e r h.1
 
   pub call-law : (start : Knowledge S) (X before : List Entry) (origin : Origin) (stimulus : Stimulus) (call : Call) (reply : Reply)
@@ -199,9 +267,8 @@ module _ {S : Type 0} (next : Call → Reply → S → S) (Law : S → Call → 
       → Law (told_all next p start (up_to_call before p origin stimulus call)).now call reply
   call-law start X before origin stimulus call reply well has =
       let turn = Entry.Turn (record { 0 = p }) origin stimulus call in
-      let same : (p == p) ≡ true = grind (arith, nat_tests) in
       let split : (before ++ turn ∷ []) ++ has.later ≡ X = append_assoc before (turn ∷ []) has.later ∙ has.is_split in
       let whole : WellTold start ((before ++ turn ∷ []) ++ has.later) = subst (λ (x : List Entry). WellTold start x) (sym split) well in
       let behind : WellTold (told_all next p start (before ++ turn ∷ [])) has.later = well-after start (before ++ turn ∷ []) has.later whole in
-      let last_is : (told_all next p start (before ++ turn ∷ [])).last ≡ Some call = rw (fold-append (told next p) start before (turn ∷ [])) (grind (arith, same)) in
+      let last_is : (told_all next p start (before ++ turn ∷ [])).last ≡ Some call = rw (fold-append (told next p) start before (turn ∷ [])) (grind (arith, nat_tests)) in
       law-of has.later (told_all next p start (before ++ turn ∷ [])) call reply last_is has.is_answered behind

@@ -1,9 +1,6 @@
 pub mod After
-pub mod Events
 pub mod Items
 pub mod Runs
-pub mod Serving
-pub mod Shape
 pub mod Sound
 pub mod Steps
 pub mod Tally

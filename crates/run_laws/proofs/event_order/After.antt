@@ -1,11 +1,9 @@
 -- What a call does to the shape.
 use Rattle.std.proofs.Common.{◌≡◌, ℕ, Bool, true, false, not, ◌&&◌, List, [], ◌∷◌, ◌++◌, refl, ap, sym, arith, append-nil, append_assoc, Option, Some, None, option_to_list, map, if◌then◌else◌, ◌==◌}
 use Rattle.run_laws.proofs.Common.{list_all, nat_tests, Call, Reply, Refusal, Stimulus, Origin, Payload, Entry, Note, EXIT, EXITED, number_event, is_reserved, State, Queued, Item, numbers, without, is_ending, is_application, farewells, kill_refusal, killed_by, Scheduler, of_event, in_front, state_in, put_in_state, has_room, Machine, scheduled, with_event, after_call, refused_or, event_of, answer_done, is_event_of_code, event_for}
-use Rattle.run_laws.proofs.event_order.Tally.{Known, own_event, ends_in}
-use Rattle.run_laws.proofs.event_order.Shape.{is_plain, is_ordered, ordered-append, seats, seats-with_mark, seats-with_state, state_of-seats, first_state, put, stands, waiting_in, waits, queued, queued_in, posted_for, FrontAgrees}
+use Rattle.run_laws.proofs.event_order.Tally.{Known, own_event, ends_in, is_plain, is_ordered, ordered-append, seats, seats-with_mark, seats-with_state, state_of-seats, first_state, put, stands, waiting_in, waits, queued, queued_in, posted_for, FrontAgrees}
 use Rattle.run_laws.proofs.event_order.Items.{holds, holds-append, is_quiet}
-use Rattle.run_laws.proofs.event_order.Waiting.{waits-append, queued-append}
-use Rattle.run_laws.proofs.event_order.Serving.{queued-cancelled}
+use Rattle.run_laws.proofs.event_order.Waiting.{waits-append, queued-append, queued-cancelled}
 
 -- every call but Wait, Exit and Kill
 abbrev pub is_plain_call : Call → Bool
@@ -68,15 +66,11 @@ after-ordered (Call.Kill r) q m h = go (kill_refusal m.scheduler r)
         let f : list_all is_plain (told_all r m.scheduler) ≡ true = farewells-plain (of_event (number_event EXITED r)) (numbers (without r m.scheduler.processes)) in
         let xs : List Item = Item.GiveExit r ∷ Item.Remove r ∷ Item.Turn q Origin.Answer (Stimulus.Answer Reply.Done) ∷ [] in
         rw (append_assoc (told_all r m.scheduler) xs m.scheduler.agenda) (ordered-append (told_all r m.scheduler) (xs ++ m.scheduler.agenda) f h)
-after-ordered call q m h = plain call (grind arith)
-  where
-    plain : (call : Call) → is_plain_call call ≡ true → is_ordered (after_call call q m).scheduler.agenda ≡ true
-    plain call k = call-front is_ordered call q m k (λ reply. h) (λ r stimulus items i. i) (λ r items i. i) (λ note items i. i)
+after-ordered call q m h = grind (arith, nat_tests, call-front)
 
 -- the events
 
 pub after-waits : (p : ℕ) (call : Call) (q : ℕ) (m : Machine) → waits p (after_call call q m).scheduler.agenda ≡ waits p m.scheduler.agenda
-after-waits p Call.Wait q m = grind arith
 after-waits p Call.Exit q m = go (is_ending (state_in m.scheduler q))
   where
     go : (b : Bool) → waits p (if b then m.scheduler else in_front (farewells q m.scheduler ++ Item.Remove q ∷ []) (put_in_state q State.Leaving m.scheduler)).agenda ≡ waits p m.scheduler.agenda
@@ -200,21 +194,7 @@ pub after-stands : (p : ℕ) (call : Call) (q : ℕ) (origin : Origin) (stimulus
     → ends_in p (Entry.Turn (record { 0 = q }) origin stimulus call) ≡ false
     → holds p (seats p m.scheduler.processes) (Item.Turn q origin stimulus ∷ m.scheduler.agenda) ≡ true
     → stands p (after_call call q m).scheduler ≡ true
-after-stands p Call.Wait q origin stimulus m n h = go (is_ending (state_in m.scheduler q)) (p == q) refl refl
-  where
-    go : (b same : Bool) → is_ending (state_in m.scheduler q) ≡ b → (p == q) ≡ same
-        → stands p (if b then m.scheduler else put_in_state q State.Running m.scheduler) ≡ true
-    go true true b e =
-        let t : is_ending (first_state (seats p m.scheduler.processes)) ≡ true = grind (arith, nat_tests, state_of-seats q m.scheduler.processes) in
-        let w = wait-holds p q origin stimulus (seats p m.scheduler.processes) m.scheduler.agenda (grind (arith, n)) h in
-        rw t at w
-    go true false b e = turn_other-holds p q origin stimulus (seats p m.scheduler.processes) m.scheduler.agenda (flip p q false e) h
-    go false true b e =
-        let t : is_ending (first_state (seats p m.scheduler.processes)) ≡ false = grind (arith, nat_tests, state_of-seats q m.scheduler.processes) in
-        let w = wait-holds p q origin stimulus (seats p m.scheduler.processes) m.scheduler.agenda (grind (arith, n)) h in
-        rw (seats-with_state p q State.Running m.scheduler.processes, e) (rw t at w)
-    go false false b e =
-        rw (seats-with_state p q State.Running m.scheduler.processes, e) (turn_other-holds p q origin stimulus (seats p m.scheduler.processes) m.scheduler.agenda (flip p q false e) h)
+after-stands p Call.Wait q origin stimulus m n h = grind (arith, nat_tests, state_of-seats q m.scheduler.processes, n, state_of-seats, wait-holds, turn_other-holds, flip, seats-with_state)
 after-stands p Call.Exit q origin stimulus m n h = go (is_ending (state_in m.scheduler q))
   where
     go : (b : Bool) → stands p (if b then m.scheduler else in_front (farewells q m.scheduler ++ Item.Remove q ∷ []) (put_in_state q State.Leaving m.scheduler)) ≡ true

@@ -1,7 +1,7 @@
 -- An item that makes no entry keeps the shape.
 use Rattle.std.proofs.Common.{◌≡◌, ℕ, Bool, true, false, not, ◌&&◌, List, [], ◌∷◌, ◌++◌, refl, arith, append-nil, Option, Some, map, ◌==◌}
 use Rattle.run_laws.proofs.Common.{list_all, nat_tests, Stimulus, Origin, EXIT, INIT, plain_event, State, Queued, Item, numbers, is_on_list, is_running, Scheduler, of_event, delivery, after_item, first_event, Machine}
-use Rattle.run_laws.proofs.event_order.Shape.{is_plain, is_ordered, ordered-append, ordered-walk, delivery-ordered, seats-with_state, seats-with_mark, seats-without, state_of-seats, first_state, put, is_placed, is_covered, stands, placed-append, covered-append, is_remove}
+use Rattle.run_laws.proofs.event_order.Tally.{is_plain, is_ordered, ordered-append, ordered-walk, delivery-ordered, seats-with_state, seats-with_mark, seats-without, state_of-seats, first_state, put, is_placed, is_covered, stands, placed-append, covered-append, is_remove}
 
 abbrev pub with_agenda : List Item → Scheduler Bool → Scheduler Bool
 with_agenda items s = record s { agenda = items }
@@ -19,7 +19,6 @@ pub carried-ordered : (item : Item) (items : List Item) (s : Scheduler Bool) →
 carried-ordered Item.Deliver [] s h =
     let l : List Item = delivery (numbers s.processes) (first_event s) in
     rw (append-nil l) (ordered-walk l (delivery-ordered (numbers s.processes) (first_event s)))
-carried-ordered Item.Deliver (item ∷ items) s h = absurd (grind (arith, h))
 carried-ordered Item.Polls items s h =
     grind (arith, h, ordered-append (map (λ p. Item.PollOne p) (numbers s.processes)) items, polls-plain (numbers s.processes))
 carried-ordered (Item.Give q origin stimulus) items s h = grind (arith, h)

@@ -1,11 +1,9 @@
 -- What every step keeps holds in every run: at each prefix of its transcript, and where the mote rests.
-use Rattle.std.proofs.lemmas.Bool.Decides.{nat_tests}
-use Rattle.std.proofs.Common.{◌≡◌, ℕ, zero, suc, ◌+◌, Bool, true, false, ◌||◌, ◌⊎◌, inl, inr, List, [], ◌∷◌, ◌++◌, refl, ap, ◌∙◌, sym, subst, arith, append-nil, Option, Some, None, option_to_list, if◌then◌else◌, ◌==◌}
-use Rattle.run_laws.proofs.Common.{list_any, Input, Entry, Call, Applications, Job, after_front, job, Config, Machine, scheduled, after_call, serve, IsAtRest, effect, fed, Answers, StepMade, Running, Runs, ComesToRest, silent, one_step, job_done, within_limit, is_still, is_at_rest, after_step, after_steps, answers_after, at_start, with_input}
+use Rattle.run_laws.proofs.Common.{nat_tests, list_any, Input, Entry, Call, Applications, Job, after_front, job, Config, Machine, scheduled, after_call, serve, IsAtRest, effect, fed, Answers, StepMade, Running, Runs, ComesToRest, silent, one_step, job_done, within_limit, is_still, is_at_rest, after_step, after_steps, answers_after, at_start, with_input, gone_on, list_any-append}
+use Rattle.std.proofs.Common.{◌≡◌, ℕ, zero, suc, ◌+◌, Bool, true, false, ◌||◌, ◌⊎◌, inl, inr, List, [], ◌∷◌, ◌++◌, refl, ap, ◌∙◌, sym, subst, arith, append-nil, Option, Some, None, option_to_list, if◌then◌else◌}
 use Rattle.mote_types.specs.Entries.{is_halt}
-use Rattle.kernel_core.specs.Run.{gone_on}
-use Rattle.run_laws.proofs.event_order.Shape.{is_note}
-use Rattle.run_laws.proofs.Untouched.{serve-untouched}
+use Rattle.run_laws.proofs.event_order.Tally.{is_note}
+use Rattle.run_laws.proofs.Arrivals.{serve-untouched}
 
 -- what a step shows
 
@@ -22,11 +20,7 @@ call-halted : (call : Call) (q : ℕ) (m : Machine) → (after_call call q m).is
 call-halted call q m = grind arith
 
 limit_kind : (m after : Machine) (step : StepMade) → m.is_halted ≡ false → StepKind m step → StepKind m (within_limit after step)
-limit_kind m after step live h = go (after.work == 10000)
-  where
-    go : (b : Bool) → StepKind m (if b then (record after { is_halted = true }, Some Entry.Halt) else step)
-    go true = record { halts = grind (arith, live); inputs = refl }
-    go false = h
+limit_kind m after step live h = grind (arith, nat_tests, live)
 
 silent_kind : (m after : Machine) → m.is_halted ≡ false → after.is_halted ≡ false → StepKind m (silent after)
 silent_kind m after live still = record { halts = grind (arith, live, still); inputs = refl }
@@ -49,9 +43,7 @@ job_kind answers (Some (Job.CallBack q c false)) m after live still note = silen
 job_kind answers (Some (Job.CallBack q c true)) m after live still note = silent_kind m after live still
 job_kind answers (Some (Job.Serve q event)) m after live still note =
     silent_kind m (serve q event after) live ((serve-untouched q event after).halted ∙ still)
-job_kind answers (Some (Job.TakeTurn q origin stimulus)) m after live still note =
-    limit_kind m after _ live
-    (record { halts = rw live (call-halted (answers q stimulus) q (record after { work = after.work + 1 }) ∙ still); inputs = refl })
+job_kind answers (Some (Job.TakeTurn q origin stimulus)) m after live still note = grind (arith, nat_tests, limit_kind, call-halted)
 
 step_kind : (answers : Answers) (m : Machine) → m.is_halted ≡ false → ShowsNotes m → StepKind m (one_step answers m)
 step_kind answers m live notes = go m.is_halted live
@@ -83,45 +75,25 @@ last_split : {A : Type 0} (X before later : List A) (e : A) → before ++ later 
 last_split X [] later e h = inr (X, refl)
 last_split [] (b ∷ []) later e h = inl (ap (λ x. x ∷ []) (heads h))
 last_split [] (b ∷ c ∷ cs) later e h = absurd (not_nil [] c (cs ++ later) (tails h))
-last_split {A = A} (x ∷ xs) (b ∷ bs) later e h = go (last_split xs bs later e (tails h))
-  where
-    go : (bs ≡ xs ++ e ∷ []) ⊎ ((rest : List A) × (bs ++ rest ≡ xs)) → (b ∷ bs ≡ x ∷ (xs ++ e ∷ [])) ⊎ ((rest : List A) × (b ∷ (bs ++ rest) ≡ x ∷ xs))
-    go (inl k) = inl (rw (heads h, k) refl)
-    go (inr k) = inr (k.0, rw (heads h, k.1) refl)
+last_split {A = A} (x ∷ xs) (b ∷ bs) later e h = grind (arith, nat_tests, tails, heads, (last_split xs bs later e (tails h)))
 
 mid_split : {A : Type 0} (X before later : List A) (a e : A) → before ++ a ∷ later ≡ X ++ e ∷ []
     → ((before ≡ X) × (a ≡ e)) ⊎ ((rest : List A) × (before ++ a ∷ rest ≡ X))
 mid_split [] [] later a e h = inl (refl, heads h)
 mid_split (x ∷ xs) [] later a e h = inr (xs, ap (λ y. y ∷ xs) (heads h))
 mid_split [] (b ∷ bs) later a e h = absurd (not_nil bs a later (tails h))
-mid_split {A = A} (x ∷ xs) (b ∷ bs) later a e h = go (mid_split xs bs later a e (tails h))
-  where
-    go : ((bs ≡ xs) × (a ≡ e)) ⊎ ((rest : List A) × (bs ++ a ∷ rest ≡ xs)) → ((b ∷ bs ≡ x ∷ xs) × (a ≡ e)) ⊎ ((rest : List A) × (b ∷ (bs ++ a ∷ rest) ≡ x ∷ xs))
-    go (inl k) = inl (rw (heads h, k.0) refl, k.1)
-    go (inr k) = inr (k.0, rw (heads h, k.1) refl)
+mid_split {A = A} (x ∷ xs) (b ∷ bs) later a e h = grind (arith, nat_tests, tails, heads, (mid_split xs bs later a e (tails h)))
 
 prefixes-more : (P : List Entry → Type 0) (X : List Entry) (o : Option Entry) → Prefixes P X → P (X ++ option_to_list o) → Prefixes P (X ++ option_to_list o)
 prefixes-more P X None all new = λ before later e. all before later (e ∙ append-nil X)
-prefixes-more P X (Some entry) all new = λ before later e. go before (last_split X before later entry e)
-  where
-    go : (before : List Entry) → (before ≡ X ++ entry ∷ []) ⊎ ((rest : List Entry) × (before ++ rest ≡ X)) → P before
-    go before (inl k) = subst P (sym k) new
-    go before (inr k) = all before k.0 k.1
+prefixes-more P X (Some entry) all new = grind (arith, nat_tests, last_split)
 
 inputs-more : (Q : List Entry → Type 0) (X : List Entry) (o : Option Entry) → BeforeInputs Q X → list_any is_input (option_to_list o) ≡ false → BeforeInputs Q (X ++ option_to_list o)
 inputs-more Q X None all n = λ before later input e. all before later input (e ∙ append-nil X)
-inputs-more Q X (Some entry) all n = λ before later input e. go before input (mid_split X before later (Entry.Input input) entry e)
-  where
-    go : (before : List Entry) (input : Input) → ((before ≡ X) × (Entry.Input input ≡ entry)) ⊎ ((rest : List Entry) × (before ++ Entry.Input input ∷ rest ≡ X)) → Q before
-    go before input (inl k) = absurd (grind (arith, n, sym k.1))
-    go before input (inr k) = all before k.0 input k.1
+inputs-more Q X (Some entry) all n = grind (arith, nat_tests, n, mid_split)
 
 inputs-fed : (Q : List Entry → Type 0) (X : List Entry) (fed : Input) → BeforeInputs Q X → Q X → BeforeInputs Q (X ++ Entry.Input fed ∷ [])
-inputs-fed Q X fed all here = λ before later input e. go before input (mid_split X before later (Entry.Input input) (Entry.Input fed) e)
-  where
-    go : (before : List Entry) (input : Input) → ((before ≡ X) × (Entry.Input input ≡ Entry.Input fed)) ⊎ ((rest : List Entry) × (before ++ Entry.Input input ∷ rest ≡ X)) → Q before
-    go before input (inl k) = subst Q (sym k.0) here
-    go before input (inr k) = all before k.0 input k.1
+inputs-fed Q X fed all here = grind (arith, nat_tests, mid_split)
 
 -- R holds of each entry, behind those before it
 abbrev pub AtEach : (List Entry → Entry → Type 0) → List Entry → Type 0
@@ -131,11 +103,7 @@ pub each-none : (R : List Entry → Entry → Type 0) → AtEach R []
 each-none R = λ before later e h. absurd (not_nil before e later h)
 
 pub each-more : (R : List Entry → Entry → Type 0) (X : List Entry) (e : Entry) → AtEach R X → R X e → AtEach R (X ++ e ∷ [])
-each-more R X e all new = λ before later a h. go before a (mid_split X before later a e h)
-  where
-    go : (before : List Entry) (a : Entry) → ((before ≡ X) × (a ≡ e)) ⊎ ((rest : List Entry) × (before ++ a ∷ rest ≡ X)) → R before a
-    go before a (inl k) = rw (k.0, k.1) new
-    go before a (inr k) = all before k.0 a k.1
+each-more R X e all new = grind (arith, nat_tests, mid_split)
 
 -- what is kept
 
@@ -161,10 +129,6 @@ record Good (I : Machine → List Entry → Type 0) (P Q : List Entry → Type 0
   holds : r.machine.is_halted ≡ false → I r.machine r.entries
   halts : r.machine.is_halted ≡ true → list_any is_halt r.entries ≡ true
 
-halt-append : (X Y : List Entry) → list_any is_halt (X ++ Y) ≡ (list_any is_halt X || list_any is_halt Y)
-halt-append [] Y = refl
-halt-append (x ∷ xs) Y = grind (arith, halt-append xs Y)
-
 module _ (I : Machine → List Entry → Type 0) (P Q : List Entry → Type 0) (law : Law I P) where
   now : (X : List Entry) → Prefixes P X → P X
   now X all = all X [] (append-nil X)
@@ -180,7 +144,7 @@ module _ (I : Machine → List Entry → Type 0) (P Q : List Entry → Type 0) (
         prefixes = prefixes-more P r.entries step.1 g.prefixes k.shown;
         inputs = inputs-more Q r.entries step.1 g.inputs kind.inputs;
         holds = k.holds;
-        halts = λ halted. grind (arith, live, kind.halts, halted, halt-append r.entries (option_to_list step.1));
+        halts = λ halted. grind (arith, live, kind.halts, halted, list_any-append is_halt r.entries (option_to_list step.1));
       }
 
   -- a halted machine stays as it is
@@ -190,11 +154,7 @@ module _ (I : Machine → List Entry → Type 0) (P Q : List Entry → Type 0) (
   halted-step says r g false e = absurd (cc)
 
   good-step : (says : Applications) (r : Running) → Good I P Q r → Good I P Q (after_step says r)
-  good-step says r g = go r.machine.is_halted refl
-    where
-      go : (b : Bool) → r.machine.is_halted ≡ b → Good I P Q (after_step says r)
-      go true e = halted-step says r g r.machine.is_halted e
-      go false e = live-step says r e g
+  good-step says r g = grind (arith, nat_tests, halted-step, live-step)
 
   good-steps : (says : Applications) (n : ℕ) (r : Running) → Good I P Q r → Good I P Q (after_steps says n r)
   good-steps says zero r g = g
@@ -242,10 +202,7 @@ module _ (I : Machine → List Entry → Type 0) (P Q : List Entry → Type 0) (
   rested-holds r g still live = rest r.machine r.entries (grind (arith, still, live)) (g.holds live)
 
   fed-leads : (says : Applications) (r : Running) (input : Input) → Good I P Q r → is_still r.machine ≡ true → r.machine.is_halted ≡ false → Leads says (with_input input r)
-  fed-leads says r input g still live new (zero, goes, quiet) =
-      let awake = fed_awake r input live in
-      let same : is_still (with_input input r).machine ≡ is_still new.machine = ap (λ (x : Running). is_still x.machine) goes in
-      absurd (cc)
+  fed-leads says r input g still live new (zero, goes, quiet) = grind (arith, nat_tests, fed_awake)
   fed-leads says r input g still live new (suc n, goes, quiet) =
       let first = fed_first says r input live in
       let later : after_steps says n (after_fed r input) ≡ new = ap (after_steps says n) (sym first) ∙ goes in

@@ -1,14 +1,13 @@
 -- One step keeps the invariant, and each entry keeps the order of events.
-use Rattle.std.proofs.Common.{◌≡◌, ℕ, Bool, true, false, List, [], ◌∷◌, ◌++◌, refl, ap, ◌∙◌, sym, arith, append-nil, append_assoc, nat_le}
-use Rattle.run_laws.proofs.Common.{nat_tests, Call, Stimulus, Origin, Event, Note, Entry, Item, Scheduler, after_item, in_front, Machine, after_call, serve, reply_of, has_ended, given_events, accepted_events}
-use Rattle.run_laws.proofs.event_order.Tally.{Known, nothing_known, told, accepted_with, accepted_with-none, accepted-turn, accepted-other, own_event, given_in, given-more, ends_in, ended-more, is_turn}
-use Rattle.run_laws.proofs.event_order.Shape.{is_ordered, seats, stands, waiting_in, waits, queued, FrontAgrees}
-use Rattle.run_laws.proofs.event_order.Items.{with_agenda, carried-ordered, carried-stands, is_silent, holds-append}
-use Rattle.run_laws.proofs.event_order.Waiting.{all_waiting, carried-waiting}
-use Rattle.run_laws.proofs.Untouched.{serve-untouched}
-use Rattle.run_laws.proofs.event_order.Serving.{serve-served}
-use Rattle.run_laws.proofs.event_order.Steps.{is_quiet_item}
+use Rattle.std.proofs.Common.{◌≡◌, ℕ, Bool, true, false, List, [], ◌∷◌, ◌++◌, refl, ap, ◌∙◌, sym, arith, append-nil, append_assoc, nat_le, zero, suc, ◌+◌, length, subst, map, nat_lt}
+use Rattle.run_laws.proofs.Common.{nat_tests, Call, Stimulus, Origin, Event, Note, Entry, Item, Scheduler, after_item, in_front, Machine, after_call, serve, reply_of, has_ended, given_events, accepted_events, list_any, range_with_len, Input, Applications, Queued, is_empty, is_application, Config, effect, Running, Runs, at_start, with_more_work, at_boot, is_idle, InOrderFor, NoLostEventFor}
+use Rattle.run_laws.proofs.event_order.Tally.{Known, nothing_known, told, accepted_with, accepted_with-none, accepted-turn, accepted-other, own_event, given_in, given-more, ends_in, ended-more, is_turn, is_ordered, seats, stands, waiting_in, waits, queued, FrontAgrees, seats-with_mark, is_start, is_covered}
+use Rattle.run_laws.proofs.event_order.Items.{with_agenda, carried-ordered, carried-stands, holds-append, facing}
+use Rattle.run_laws.proofs.event_order.Waiting.{all_waiting, carried-waiting, serve-served}
+use Rattle.run_laws.proofs.Arrivals.{serve-untouched, effect-keeps}
+use Rattle.run_laws.proofs.event_order.Steps.{is_quiet_item, Cases, law_of, kernel_carried}
 use Rattle.run_laws.proofs.event_order.After.{after-ordered, after-stands, after-waits, after-queued}
+use Rattle.run_laws.proofs.event_order.Runs.{Law, at_prefixes, at_rest}
 
 -- The events accepted for p are those given and those that wait. The reply in front counts as made; which replies those
 -- get that are further down makes no difference.
@@ -26,8 +25,7 @@ IsInOrder p X = has_ended p X ≡ false → (waiting : List Event) × (given_eve
 -- an entry that is no turn
 pub order-other : (p : ℕ) (X : List Entry) (e : Entry) → is_turn e ≡ false → IsInOrder p X → IsInOrder p (X ++ e ∷ [])
 order-other p X e n i = λ alive.
-    let before : has_ended p X ≡ false = grind (arith, alive, ended-more p X e) in
-    let old = i before in
+    let old = i (grind (arith, alive, ended-more p X e)) in
     let given : given_events (X ++ e ∷ []) p ≡ given_events X p = given-more p X e ∙ rw (no_given e n) (append-nil (given_events X p)) in
     let accepted : accepted_events p (X ++ e ∷ []) ≡ accepted_events p X =
     sym (accepted_with-none p (X ++ e ∷ [])) ∙ accepted-other nothing_known p X e n ∙ accepted_with-none p X in
@@ -85,7 +83,6 @@ turn_sound p X m q origin stimulus call h =
       ordered = after-ordered call q m h.ordered;
       place = λ alive. after-stands p call q origin stimulus m (not_ended_in p X e alive) (h.place (still_alive p X e alive));
       tally = λ alive known agrees.
-          let old = h.tally (still_alive p X e alive) (told q stimulus known) (told_front q stimulus known) in
           let w : List Event = waiting_in p (Item.Turn q origin stimulus) in
           let items : List Event = waits p m.scheduler.agenda in
           let events : List Event = queued p m.scheduler.events in
@@ -94,7 +91,7 @@ turn_sound p X m q origin stimulus call h =
           rw (
             accepted-turn known p X (record { 0 = q }) origin stimulus call,
             given-more p X e,
-            old,
+            (h.tally (still_alive p X e alive) (told q stimulus known) (told_front q stimulus known)),
             after-waits p call q m,
             after-queued known p call q m agrees,
           ) (shuffle given w items events own);
@@ -118,30 +115,16 @@ sound-free p s X h = record { ordered = h.ordered; place = h.place; tally = λ a
 -- an item that makes no entry
 
 no_reply_front : (known : Known) (item : Item) (items : List Item) → is_quiet_item item ≡ true → FrontAgrees known (item ∷ items)
-no_reply_front known (Item.Turn q origin stimulus) items n = absurd (grind (arith, n))
-no_reply_front known (Item.Show entry) items n = absurd (grind (arith, n))
-no_reply_front known item items n = tt
+no_reply_front known item items n = grind (arith, nat_tests, n)
 
 pub carried_sound : (p : ℕ) (X : List Entry) (item : Item) (items : List Item) (s : Scheduler Bool) → nat_le 4 p ≡ true → is_quiet_item item ≡ true
     → Sound p (with_agenda (item ∷ items) s) X → SoundFree p (after_item item (with_agenda items s)) X
-carried_sound p X item items s a n h =
-    let quiet : is_silent item ≡ true = grind (arith, n) in
-    record {
-      ordered = carried-ordered item items s h.ordered;
-      place = λ alive. carried-stands p item items s quiet (h.place alive);
-      tally = λ alive known.
-          rw (carried-waiting p item items s quiet a h.ordered (h.place alive)) (h.tally alive known (no_reply_front known item items n));
-    }
+carried_sound p X item items s a n h = grind (arith, nat_tests, n, carried-ordered, carried-stands, carried-waiting, no_reply_front)
 
 -- a change that leaves agenda, places and events
 pub alike_sound : (p : ℕ) (X : List Entry) (old new : Scheduler Bool) → new.agenda ≡ old.agenda → seats p new.processes ≡ seats p old.processes
     → queued p new.events ≡ queued p old.events → Sound p old X → Sound p new X
-alike_sound p X old new e f g h =
-    record {
-      ordered = rw e h.ordered;
-      place = λ alive. rw (e, f) (h.place alive);
-      tally = λ alive known agrees. rw (e, g) (h.tally alive known (rw e at agrees));
-    }
+alike_sound p X old new e f g h = grind (arith, nat_tests)
 
 pub served_sound : (p : ℕ) (X : List Entry) (q : ℕ) (event : Event) (m : Machine) → nat_le 4 p ≡ true → SoundFree p m.scheduler X → SoundFree p (serve q event m).scheduler X
 served_sound p X q event m a h =
@@ -154,23 +137,10 @@ served_sound p X q event m a h =
     }
 
 pub callback_sound : (p : ℕ) (X : List Entry) (q c : ℕ) (s : Scheduler Bool) → SoundFree p s X → SoundFree p (in_front (Item.Give q Origin.Callback (Stimulus.Callback c) ∷ []) s) X
-callback_sound p X q c s h =
-    record {
-      ordered = h.ordered;
-      place = λ alive. holds-append p (seats p s.processes) (Item.Give q Origin.Callback (Stimulus.Callback c) ∷ []) s.agenda refl (h.place alive);
-      tally = λ alive known. rw (silent_callback p q c) (h.tally alive known);
-    }
-  where
-    silent_callback : (p q c : ℕ) → waiting_in p (Item.Give q Origin.Callback (Stimulus.Callback c)) ≡ []
-    silent_callback p q c = grind arith
+callback_sound p X q c s h = grind (arith, nat_tests, holds-append)
 
 pub round_sound : (p : ℕ) (X : List Entry) (s : Scheduler Bool) → Sound p (with_agenda [] s) X → SoundFree p (with_agenda (Item.Polls ∷ Item.Deliver ∷ []) s) X
-round_sound p X s h =
-    record {
-      ordered = refl;
-      place = λ alive. holds-append p (seats p s.processes) (Item.Polls ∷ Item.Deliver ∷ []) [] refl (h.place alive);
-      tally = λ alive known. h.tally alive known tt;
-    }
+round_sound p X s h = grind (arith, nat_tests, holds-append)
 
 pub shown_sound : (p : ℕ) (X : List Entry) (items : List Item) (note : Note) (s : Scheduler Bool) → Sound p (with_agenda (Item.Show (Entry.Note note) ∷ items) s) X
     → Sound p (with_agenda items s) (X ++ Entry.Note note ∷ [])
@@ -181,3 +151,111 @@ shown_sound p X items note s h =
       place = λ alive. carried-stands p (Item.Show (Entry.Note note)) items s refl (h.place alive);
       tally = λ alive known agrees. h.tally alive known agrees;
     })
+
+-- The events given to an application are those accepted for it, in order, in every run.
+-- boot
+
+starts-ordered : (ns : List ℕ) → is_ordered (map (λ n. Item.Start n) ns) ≡ true
+starts-ordered [] = refl
+starts-ordered (n ∷ ns) = starts-ordered ns
+
+starts-covered : (p : ℕ) (ns : List ℕ) → is_covered p (map (λ n. Item.Start n) ns) ≡ true
+starts-covered p [] = refl
+starts-covered p (n ∷ ns) = starts-covered p ns
+
+starts-waits : (p : ℕ) (ns : List ℕ) → waits p (map (λ n. Item.Start n) ns) ≡ []
+starts-waits p [] = refl
+starts-waits p (n ∷ ns) = starts-waits p ns
+
+starts-all : (p : ℕ) (n from : ℕ) → nat_le from p ≡ true → nat_lt p (from + n) ≡ true
+    → list_any (is_start p) (map (λ k. Item.Start k) (range_with_len from n)) ≡ true
+starts-all p zero from a b = absurd (grind (arith, nat_tests, a, b))
+starts-all p (suc n) from a b = grind (arith, nat_tests, starts-all p n (suc from))
+
+boot_seats : (p : ℕ) (c : Config) → nat_le 4 p ≡ true → seats p (at_boot {X = Bool} c.apps).processes ≡ []
+boot_seats p c a = grind (arith, nat_tests)
+
+pub boot-sound : (p : ℕ) (c : Config) → is_application c.apps p ≡ true → Sound p (at_start c).machine.scheduler []
+boot-sound p c a =
+    let ns : List ℕ = range_with_len 4 c.apps in
+    let low : nat_le 4 p ≡ true = grind (arith, a) in
+    record {
+      ordered = starts-ordered ns;
+      place = λ alive. rw (boot_seats p c low, starts-all p c.apps 4 low (grind (arith, a)), starts-covered p ns) refl;
+      tally = λ alive known agrees. rw (starts-waits p ns) refl;
+    }
+
+-- an input
+
+shown-sound : (p : ℕ) (X : List Entry) (note : Note) (s : Scheduler Bool) → Sound p s X → Sound p (in_front (Item.Show (Entry.Note note) ∷ []) s) X
+shown-sound p X note s h = grind (arith, nat_tests, holds-append)
+
+pub effect-sound : (p : ℕ) (X : List Entry) (input : Input) (m : Machine) → Sound p m.scheduler X → Sound p (effect input m).scheduler X
+effect-sound p X input m h = grind (arith, nat_tests, effect-keeps, alike_sound, seats-with_mark, shown-sound)
+
+-- at rest
+
+-- the events given to p are all that were accepted for it
+abbrev pub IsAllGiven : ℕ → List Entry → Type 0
+IsAllGiven p X = has_ended p X ≡ false → given_events X p ≡ accepted_events p X
+
+-- at rest nothing waits
+pub nothing_on : (agenda : List Item) → is_empty agenda ≡ true → agenda ≡ []
+nothing_on agenda e = grind (arith, nat_tests)
+
+pub nothing_queued : (events : List (Queued Bool)) → nat_lt 0 (length events) ≡ false → events ≡ []
+nothing_queued [] e = refl
+nothing_queued (event ∷ events) e = absurd (grind (arith, nat_tests, e))
+
+rest_given : (p : ℕ) (X : List Entry) (s : Scheduler Bool) → is_idle s ≡ true → Sound p s X → IsAllGiven p X
+rest_given p X s e h = λ alive.
+    let none : s.agenda ≡ [] = nothing_on s.agenda (grind (arith, e)) in
+    let empty : s.events ≡ [] = nothing_queued s.events (grind (arith, e)) in
+    let t = h.tally alive nothing_known (rw none tt) in
+    let all : all_waiting p s ≡ [] = rw (none, empty) refl in
+    sym (append-nil (given_events X p)) ∙ ap (λ l. given_events X p ++ l) (sym all) ∙ sym t ∙ accepted_with-none p X
+
+-- the run
+
+abbrev pub SoundOf : ℕ → Machine → List Entry → Type 0
+SoundOf p m X = Sound p m.scheduler X
+
+abbrev pub SoundFreeOf : ℕ → Machine → List Entry → Type 0
+SoundFreeOf p m X = SoundFree p m.scheduler X
+
+pub sound_cases : (p : ℕ) → nat_le 4 p ≡ true → Cases (SoundOf p) (SoundFreeOf p) (IsInOrder p)
+sound_cases p a =
+    record {
+      notes = λ m X entry items h. grind (arith, h.ordered);
+      free = λ m X h. sound-free p m.scheduler X h;
+      carried = λ m X item items n s h. carried_sound p X item items m.scheduler a n h;
+      served = λ m X q origin event items k h.
+          served_sound p X q event (facing items m) a
+          (subst (λ n. SoundFreeOf p n X) (kernel_carried q origin (Stimulus.Event event) items m k)
+          (carried_sound p X (Item.Give q origin (Stimulus.Event event)) items m.scheduler a refl h));
+      called_back = λ m X q c h. callback_sound p X q c m.scheduler h;
+      round = λ m X h. round_sound p X m.scheduler h;
+      turn = λ m X items q origin stimulus call h. turn_sound p X (with_more_work (facing items m)) q origin stimulus call h;
+      told = λ m X items q origin stimulus call h i. turn_order p X m.scheduler items q origin stimulus call h;
+      shown = λ m X items note h. shown_sound p X items note m.scheduler h;
+      noted = λ m X items note h. order-other p X (Entry.Note note) refl;
+      other = λ X e n k. order-other p X e n;
+      input = λ input m X h.
+          let woken : Machine = record m { work = 0 } in
+          sound-other p X (Entry.Input input) (effect input woken).scheduler refl (effect-sound p X input woken h);
+    }
+
+order_law : (p : ℕ) → nat_le 4 p ≡ true → Law (SoundOf p) (IsInOrder p)
+order_law p a = law_of (SoundOf p) (SoundFreeOf p) (IsInOrder p) (sound_cases p a)
+
+module _ (c : Config) (says : Applications) (inputs : List Input) (after : Running) (runs : Runs says (at_start c) inputs after) (p : ℕ) (a : is_application c.apps p ≡ true) where
+  -- the events given to an application are a prefix of those accepted for it
+  pub in_order : InOrderFor p after.entries
+  in_order =
+      at_prefixes (SoundOf p) (IsInOrder p) (order_law p (grind (arith, a))) c says inputs after runs (boot-sound p c a) (λ alive. ([], refl))
+
+  -- and at rest all of them
+  pub no_lost_event : NoLostEventFor p after.entries
+  no_lost_event =
+      at_rest (SoundOf p) (IsInOrder p) (IsAllGiven p) (order_law p (grind (arith, a))) (λ m X rest s. rest_given p X m.scheduler (grind (arith, rest)) s)
+      c says inputs after runs (boot-sound p c a) (λ alive. ([], refl))

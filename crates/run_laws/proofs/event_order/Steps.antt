@@ -1,8 +1,7 @@
 -- What holds of each kind of step holds of every step.
-use Rattle.std.proofs.Common.{◌≡◌, ℕ, Bool, true, false, List, [], ◌∷◌, ◌++◌, refl, sym, subst, arith, append-nil, Option, Some, None, if◌then◌else◌, ◌==◌}
-use Rattle.run_laws.proofs.Common.{Call, Stimulus, Event, Origin, Input, Note, Entry, Queued, Item, Job, is_kernel_process, after_item, in_front, after_front, after_front_of, job, job_at, job_of_give, job_of_event, first_event, wants_round, Machine, scheduled, after_call, serve, Answers, StepMade, silent, one_step, job_done, within_limit, turn_taken, with_more_work, effect}
-use Rattle.run_laws.proofs.event_order.Tally.{is_turn}
-use Rattle.run_laws.proofs.event_order.Shape.{is_note}
+use Rattle.std.proofs.Common.{◌≡◌, ℕ, Bool, true, false, List, [], ◌∷◌, ◌++◌, refl, sym, subst, arith, append-nil, Option, Some, None, if◌then◌else◌}
+use Rattle.run_laws.proofs.Common.{nat_tests, Call, Stimulus, Event, Origin, Input, Note, Entry, Queued, Item, Job, is_kernel_process, after_item, in_front, after_front_of, job_at, job_of_give, job_of_event, first_event, wants_round, Machine, scheduled, after_call, serve, Answers, StepMade, silent, one_step, job_done, within_limit, turn_taken, with_more_work, effect}
+use Rattle.run_laws.proofs.event_order.Tally.{is_turn, is_note}
 use Rattle.run_laws.proofs.event_order.Items.{with_agenda, facing}
 use Rattle.run_laws.proofs.event_order.Runs.{Law, Kept}
 
@@ -59,11 +58,7 @@ module _ (I J : Machine → List Entry → Type 0) (P : List Entry → Type 0) (
   free_kept X m i h = silent_kept X m i (cases.free m X h)
 
   limit_kept : (X : List Entry) (m : Machine) (step : StepMade) → P X → Kept I P X step → Kept I P X (within_limit m step)
-  limit_kept X m step i h = go (m.work == 10000)
-    where
-      go : (b : Bool) → Kept I P X (if b then (record m { is_halted = true }, Some Entry.Halt) else step)
-      go true = record { holds = λ live. absurd (grind (arith, live)); shown = cases.other X Entry.Halt refl refl i }
-      go false = h
+  limit_kept X m step i h = grind (arith, nat_tests)
 
   quiet_kept : (X : List Entry) (item : Item) (items : List Item) (m : Machine) → is_quiet_item item ≡ true → is_served item ≡ false → P X
       → I (facing (item ∷ items) m) X → Kept I P X (silent (carried item items m))
@@ -84,17 +79,11 @@ module _ (I J : Machine → List Entry → Type 0) (P : List Entry → Type 0) (
   give_kept X answers q origin (Stimulus.Callback c) items m i h = quiet_kept X (Item.Give q origin (Stimulus.Callback c)) items m refl refl i h
 
   deliver_kept : (X : List Entry) (answers : Answers) (event : Option (Queued Bool)) (m : Machine) → P X → J m X → Kept I P X (job_done answers (job_of_event event) m)
-  deliver_kept X answers None m i h = free_kept X m i h
-  deliver_kept X answers (Some (Queued.To q event)) m i h = free_kept X m i h
-  deliver_kept X answers (Some (Queued.ToAll event)) m i h = free_kept X m i h
-  deliver_kept X answers (Some (Queued.Expiry q c true)) m i h = free_kept X m i h
-  deliver_kept X answers (Some (Queued.Expiry q c false)) m i h =
-      free_kept X (scheduled (in_front (Item.Give q Origin.Callback (Stimulus.Callback c) ∷ [])) m) i (cases.called_back m X q c h)
+  deliver_kept X answers event m i h = grind (arith, nat_tests, free_kept)
 
   shown_kept : (X : List Entry) (m : Machine) (entry : Entry) (items : List Item) → P X → is_note entry ≡ true
       → I (facing (Item.Show entry ∷ items) m) X → Kept I P X (facing items m, Some entry)
-  shown_kept X m (Entry.Note note) items i n h = record { holds = λ live. cases.shown m X items note h; shown = cases.noted m X items note h i }
-  shown_kept X m _ items i n h = absurd (grind (arith, n))
+  shown_kept X m entry items i n h = grind (arith, nat_tests, n)
 
   at_agenda : (X : List Entry) (agenda : List Item) (m : Machine) → m.scheduler.agenda ≡ agenda → I m X → I (facing agenda m) X
   at_agenda X agenda m e h = subst (λ a. I (facing a m) X) e h
@@ -128,11 +117,7 @@ module _ (I J : Machine → List Entry → Type 0) (P : List Entry → Type 0) (
   step_kept X answers (item ∷ items) m e i h = quiet_kept X item items m refl refl i (at_agenda X (item ∷ items) m e h)
 
   one_step_kept : (answers : Answers) (m : Machine) (X : List Entry) → I m X → P X → Kept I P X (one_step answers m)
-  one_step_kept answers m X h i = go m.is_halted
-    where
-      go : (b : Bool) → Kept I P X (if b then silent m else job_done answers (job m.scheduler) (scheduled after_front m))
-      go true = silent_kept X m i h
-      go false = step_kept X answers m.scheduler.agenda m refl i h
+  one_step_kept answers m X h i = grind (arith, nat_tests, silent_kept, step_kept)
 
   shows_notes : (X : List Entry) (agenda : List Item) (m : Machine) → m.scheduler.agenda ≡ agenda → I m X → (entry : Entry)
       → job_at agenda m.scheduler ≡ Some (Job.ShowEntry entry) → is_note entry ≡ true

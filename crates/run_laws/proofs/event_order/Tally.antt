@@ -1,9 +1,7 @@
 -- What one more entry adds to what a transcript tells of p.
-use Rattle.std.proofs.Common.{◌≡◌, ℕ, ◌+◌, Bool, true, false, ◌||◌, List, [], ◌∷◌, ◌++◌, refl, ap, ◌∙◌, arith, append-nil, Option, Some, None, option_to_list, filter_map, if◌then◌else◌, ◌==◌}
-use Rattle.run_laws.proofs.Common.{cons_option, list_any, nat_tests, Call, Reply, Stimulus, Event, Origin, Pid, Entry, EXIT, heard, OwnTurn, own_from, own_turn, reply_in, reply_of, is_done, ticks_in, has_ended, is_exit, is_event_of_code, posted_event, given_events, event_for, accepted_events}
+use Rattle.std.proofs.Common.{◌≡◌, ℕ, ◌+◌, Bool, true, false, ◌||◌, List, [], ◌∷◌, ◌++◌, refl, ◌∙◌, arith, append-nil, Option, Some, None, option_to_list, filter_map, if◌then◌else◌, ◌==◌, not, ◌&&◌, flat_map, map}
+use Rattle.run_laws.proofs.Common.{cons_option, list_any, nat_tests, Call, Reply, Stimulus, Event, Origin, Pid, Entry, EXIT, heard, OwnTurn, own_from, own_turn, reply_in, reply_of, is_done, ticks_in, has_ended, is_exit, is_event_of_code, posted_event, given_events, event_for, accepted_events, stimulus_of, accepted_event, list_all, State, Queued, Item, Process, is_process, numbers, state_of, with_state, with_mark, without, Scheduler, of_event, delivery}
 use Rattle.std.proofs.lemmas.List.Elements.{filter_map-append}
-use Rattle.kernel_core.specs.Run.{stimulus_of}
-use Rattle.run_laws.specs.EventLaws.{accepted_event}
 
 abbrev pub Known : Type 0
 Known = ℕ → Option Reply
@@ -34,8 +32,7 @@ pub reply_or-none : (p : ℕ) (later : List Entry) → reply_or None (heard p la
 reply_or-none p later = grind (arith, nat_tests)
 
 accepted_or-none : (p : ℕ) (entry : Entry) (later : List Entry) → accepted_or nothing_known p entry later ≡ accepted_event p entry later
-accepted_or-none p (Entry.Turn pid origin stimulus call) later = rw (reply_or-none pid.0 later)
-accepted_or-none p _ later = refl
+accepted_or-none p entry later = grind (arith, nat_tests, reply_or-none)
 
 pub accepted_with-none : (p : ℕ) (X : List Entry) → accepted_with nothing_known p X ≡ accepted_events p X
 accepted_with-none p [] = refl
@@ -44,17 +41,11 @@ accepted_with-none p (entry ∷ later) = rw (accepted_or-none p entry later, acc
 -- one more turn
 pub heard-turn : (r : ℕ) (X : List Entry) (pid : Pid) (origin : Origin) (stimulus : Stimulus) (call : Call)
     → heard r (X ++ Entry.Turn pid origin stimulus call ∷ []) ≡ heard r X ++ option_to_list (if pid.0 == r then Some stimulus else None)
-heard-turn r X pid origin stimulus call =
-    filter_map-append (stimulus_of r) X (Entry.Turn pid origin stimulus call ∷ []) ∙ ap (λ l. heard r X ++ l) (go (pid.0 == r))
-  where
-    go : (b : Bool) → cons_option (if b then Some stimulus else None) [] ≡ option_to_list (if b then Some stimulus else None)
-    go true = refl
-    go false = refl
+heard-turn r X pid origin stimulus call = grind (arith, nat_tests, filter_map-append)
 
 reply_or-told : (known : Known) (r q : ℕ) (stimulus : Stimulus) (l : List Stimulus)
     → reply_or (known r) (l ++ option_to_list (if q == r then Some stimulus else None)) ≡ reply_or (told q stimulus known r) l
-reply_or-told known r q stimulus [] = grind (arith, nat_tests)
-reply_or-told known r q stimulus (first ∷ l) = refl
+reply_or-told known r q stimulus l = grind (arith, nat_tests)
 
 accepted_or-turn : (known : Known) (p : ℕ) (entry : Entry) (X : List Entry) (pid : Pid) (origin : Origin) (stimulus : Stimulus) (call : Call)
     → accepted_or known p entry (X ++ Entry.Turn pid origin stimulus call ∷ []) ≡ accepted_or (told pid.0 stimulus known) p entry X
@@ -67,12 +58,10 @@ abbrev pub own_event : Known → ℕ → ℕ → Call → List Event
 own_event known p q call = option_to_list (if is_done (known q) then event_for p call else None)
 
 pub cons_option-append : {A : Type 0} (o : Option A) (xs ys : List A) → cons_option o (xs ++ ys) ≡ cons_option o xs ++ ys
-cons_option-append None xs ys = refl
-cons_option-append (Some x) xs ys = refl
+cons_option-append o xs ys = grind (arith, nat_tests)
 
 pub cons_option-nil : {A : Type 0} (o : Option A) → cons_option o [] ≡ option_to_list o
-cons_option-nil None = refl
-cons_option-nil (Some x) = refl
+cons_option-nil o = grind (arith, nat_tests)
 
 pub accepted-turn : (known : Known) (p : ℕ) (X : List Entry) (pid : Pid) (origin : Origin) (stimulus : Stimulus) (call : Call)
     → accepted_with known p (X ++ Entry.Turn pid origin stimulus call ∷ []) ≡ accepted_with (told pid.0 stimulus known) p X ++ own_event known p pid.0 call
@@ -148,3 +137,180 @@ ended-from p k (entry ∷ X) e = grind (arith, nat_tests, ends_one, or-assoc, en
 
 pub ended-more : (p : ℕ) (X : List Entry) (e : Entry) → has_ended p (X ++ e ∷ []) ≡ (has_ended p X || ends_in p e)
 ended-more p X e = ended-from p 0 X e
+
+-- In which order items lie on the agenda, and what it holds of one process.
+-- the order
+
+abbrev pub is_from_queue : Origin → Bool
+is_from_queue Origin.Event = true
+is_from_queue _ = false
+
+-- what may lie below a Give of origin event
+abbrev pub is_walk : Item → Bool
+is_walk Item.Polls = true
+is_walk (Item.Give q origin stimulus) = is_from_queue origin
+is_walk _ = false
+
+abbrev pub is_empty : List Item → Bool
+is_empty [] = true
+is_empty _ = false
+
+abbrev pub is_note : Entry → Bool
+is_note (Entry.Note note) = true
+is_note _ = false
+
+abbrev pub is_fit_above : Item → List Item → Bool
+is_fit_above (Item.Give q origin stimulus) items = not (is_from_queue origin) || list_all is_walk items
+is_fit_above Item.Deliver items = is_empty items
+is_fit_above (Item.Show entry) items = is_note entry
+is_fit_above _ items = true
+
+abbrev pub is_ordered : List Item → Bool
+is_ordered [] = true
+is_ordered (item ∷ items) = is_fit_above item items && is_ordered items
+
+-- neither a Give of origin event nor a Deliver
+abbrev pub is_plain : Item → Bool
+is_plain (Item.Give q origin stimulus) = not (is_from_queue origin)
+is_plain Item.Deliver = false
+is_plain (Item.Show entry) = is_note entry
+is_plain _ = true
+
+pub ordered-append : (xs ys : List Item) → list_all is_plain xs ≡ true → is_ordered ys ≡ true → is_ordered (xs ++ ys) ≡ true
+ordered-append [] ys h o = o
+ordered-append (x ∷ xs) ys h o = grind (arith, ordered-append xs ys)
+
+pub ordered-walk : (xs : List Item) → list_all is_walk xs ≡ true → is_ordered xs ≡ true
+ordered-walk [] h = refl
+ordered-walk (x ∷ xs) h = grind (arith, ordered-walk xs)
+
+-- the places of p on the list
+
+abbrev pub seat : ℕ → Process → Option State
+seat p process = if is_process p process then Some process.state else None
+
+abbrev pub seats : ℕ → List Process → List State
+seats p list = filter_map (seat p) list
+
+abbrev pub first_state : List State → State
+first_state [] = State.Absent
+first_state (state ∷ _) = state
+
+pub state_of-seats : (p : ℕ) (list : List Process) → state_of p list ≡ first_state (seats p list)
+state_of-seats p [] = refl
+state_of-seats p (x ∷ xs) = grind (arith, state_of-seats p xs)
+
+abbrev pub put : State → List State → List State
+put state l = map (λ _. state) l
+
+pub seats-with_state : (p q : ℕ) (state : State) (list : List Process)
+    → seats p (with_state q state list) ≡ (if p == q then put state (seats p list) else seats p list)
+seats-with_state p q state [] = grind arith
+seats-with_state p q state (x ∷ xs) = grind (arith, nat_tests, seats-with_state p q state xs)
+
+pub seats-with_mark : (p q : ℕ) (mark : Bool) (list : List Process) → seats p (with_mark q mark list) ≡ seats p list
+seats-with_mark p q mark [] = refl
+seats-with_mark p q mark (x ∷ xs) = grind (arith, nat_tests, seats-with_mark p q mark xs)
+
+pub seats-without : (p q : ℕ) (list : List Process) → seats p (without q list) ≡ (if p == q then [] else seats p list)
+seats-without p q [] = grind arith
+seats-without p q (x ∷ xs) = grind (arith, nat_tests, seats-without p q xs)
+
+-- what the agenda holds of p, while it hasn't ended
+
+abbrev pub is_start : ℕ → Item → Bool
+is_start p (Item.Start q) = q == p
+is_start p _ = false
+
+abbrev pub is_turn_of : ℕ → Item → Bool
+is_turn_of p (Item.Turn q origin stimulus) = q == p
+is_turn_of p _ = false
+
+abbrev pub is_give_exit : ℕ → Item → Bool
+is_give_exit p (Item.GiveExit q) = q == p
+is_give_exit p _ = false
+
+abbrev pub is_exit_turn : ℕ → Item → Bool
+is_exit_turn p (Item.Turn q origin stimulus) = q == p && is_event_of_code EXIT stimulus
+is_exit_turn p _ = false
+
+abbrev pub is_remove : ℕ → Item → Bool
+is_remove p (Item.Remove q) = q == p
+is_remove p _ = false
+
+abbrev pub is_kept : ℕ → State → List Item → Bool
+is_kept p State.Absent agenda = false
+is_kept p State.Running agenda = true
+is_kept p State.Called agenda = list_any (is_turn_of p) agenda
+is_kept p State.Leaving agenda = list_any (is_give_exit p) agenda
+is_kept p State.Ending agenda = list_any (is_exit_turn p) agenda
+
+-- not on the list, it is to be started; on the list it is once
+abbrev pub is_placed : ℕ → List State → List Item → Bool
+is_placed p [] agenda = list_any (is_start p) agenda
+is_placed p (state ∷ []) agenda = is_kept p state agenda
+is_placed p _ agenda = false
+
+-- before it leaves the list it is given EXIT
+abbrev pub is_covered : ℕ → List Item → Bool
+is_covered p [] = true
+is_covered p (item ∷ items) = if is_remove p item then false else is_give_exit p item || (is_exit_turn p item || is_covered p items)
+
+abbrev pub stands : ℕ → Scheduler Bool → Bool
+stands p s = is_placed p (seats p s.processes) s.agenda && is_covered p s.agenda
+
+-- none of these items says anything of p's place
+abbrev pub is_neutral : ℕ → Item → Bool
+is_neutral p item = not (is_start p item) && (not (is_turn_of p item) && (not (is_give_exit p item) && not (is_remove p item)))
+
+pub placed-more : (p : ℕ) (l : List State) (item : Item) (items : List Item) → is_placed p l items ≡ true → is_placed p l (item ∷ items) ≡ true
+placed-more p l item items h = grind (arith, nat_tests)
+
+pub placed-append : (p : ℕ) (l : List State) (xs items : List Item) → is_placed p l items ≡ true → is_placed p l (xs ++ items) ≡ true
+placed-append p l [] items h = h
+placed-append p l (x ∷ xs) items h = placed-more p l x (xs ++ items) (placed-append p l xs items h)
+
+pub covered-append : (p : ℕ) (xs items : List Item) → list_all (λ item. not (is_remove p item)) xs ≡ true → is_covered p items ≡ true → is_covered p (xs ++ items) ≡ true
+covered-append p [] items n h = h
+covered-append p (x ∷ xs) items n h = grind (arith, covered-append p xs items)
+
+-- the events that wait for p
+
+abbrev pub waiting_in : ℕ → Item → List Event
+waiting_in p (Item.Give q origin stimulus) = if q == p then option_to_list (posted_event origin stimulus) else []
+waiting_in p (Item.Turn q origin stimulus) = if q == p then option_to_list (posted_event origin stimulus) else []
+waiting_in p _ = []
+
+abbrev pub waits : ℕ → List Item → List Event
+waits p items = flat_map (waiting_in p) items
+
+abbrev pub posted_for : Event → List Event
+posted_for event = option_to_list (posted_event Origin.Event (of_event event))
+
+abbrev pub queued_in : ℕ → Queued Bool → List Event
+queued_in p (Queued.To q event) = if q == p then posted_for event else []
+queued_in p (Queued.ToAll event) = posted_for event
+queued_in p (Queued.Expiry q c cancelled) = []
+
+abbrev pub queued : ℕ → List (Queued Bool) → List Event
+queued p events = flat_map (queued_in p) events
+
+-- the reply that is known is the one that is given next; the answers of outer activations may be any
+abbrev pub FrontAgrees : Known → List Item → Type 0
+FrontAgrees known (Item.Turn q origin stimulus ∷ items) = known q ≡ reply_of stimulus
+FrontAgrees known (Item.Show entry ∷ items) = FrontAgrees known items
+FrontAgrees known _ = Unit {0}
+
+abbrev pub to_all : Event → Option (Queued Bool)
+to_all event = Some (Queued.ToAll event)
+
+-- all receivers of a broadcast get it once
+pub waits-broadcast : (p : ℕ) (event : Event) (list : List Process)
+    → waits p (delivery (numbers list) (to_all event)) ≡ flat_map (λ _. posted_for event) (seats p list)
+waits-broadcast p event [] = refl
+waits-broadcast p event (x ∷ xs) = grind (arith, nat_tests, waits-broadcast p event xs)
+
+pub delivery-ordered : (list : List ℕ) (event : Option (Queued Bool)) → list_all is_walk (delivery list event) ≡ true
+delivery-ordered [] (Some (Queued.ToAll event)) = refl
+delivery-ordered (n ∷ ns) (Some (Queued.ToAll event)) = delivery-ordered ns (Some (Queued.ToAll event))
+delivery-ordered list _ = refl

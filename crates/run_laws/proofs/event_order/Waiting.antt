@@ -1,8 +1,9 @@
 -- An item that makes no entry loses no event that waits for p, and changes no order.
 use Rattle.std.proofs.Common.{◌≡◌, ℕ, Bool, true, false, not, ◌&&◌, ◌||◌, List, [], ◌∷◌, ◌++◌, refl, ap, ◌∙◌, sym, arith, append-nil, append_assoc, flat_map, map, drop, slice_get, if◌then◌else◌, ◌==◌, nat_le}
-use Rattle.run_laws.proofs.Common.{list_any, list_all, nat_tests, Stimulus, Event, Origin, EXIT, INIT, POLL, plain_event, State, Queued, Item, numbers, with_mark, is_on_list, is_running, is_kernel_process, is_marked, is_any_marked, Scheduler, of_event, delivery, after_item, first_event, state_in, in_front, put_in_state}
-use Rattle.run_laws.proofs.event_order.Shape.{is_walk, is_ordered, seats, state_of-seats, first_state, is_placed, is_start, is_turn_of, is_give_exit, is_exit_turn, stands, waiting_in, waits, posted_for, queued_in, queued, waits-broadcast}
+use Rattle.run_laws.proofs.Common.{list_any, list_all, nat_tests, Stimulus, Event, Origin, EXIT, plain_event, State, Queued, Item, numbers, is_running, is_kernel_process, is_any_marked, Scheduler, of_event, delivery, after_item, first_event, state_in, in_front, Timer, Machine, cancelled_if, serve, expiry_of}
+use Rattle.run_laws.proofs.event_order.Tally.{is_walk, is_ordered, seats, state_of-seats, first_state, is_placed, is_start, is_turn_of, is_give_exit, is_exit_turn, stands, waiting_in, waits, posted_for, queued_in, queued, waits-broadcast, seats-with_mark}
 use Rattle.run_laws.proofs.event_order.Items.{with_agenda, is_silent, holds}
+use Rattle.run_laws.proofs.Changes.{Changes, of_changes, is_notice}
 
 pub waits-append : (p : ℕ) (xs ys : List Item) → waits p (xs ++ ys) ≡ waits p xs ++ waits p ys
 waits-append p [] ys = refl
@@ -19,8 +20,7 @@ walk-free p [] h = refl
 walk-free p (item ∷ items) h = grind (arith, h, walk-free p items)
 
 placed-running : (p : ℕ) (l : List State) (items : List Item) → list_all is_walk items ≡ true → is_placed p l items ≡ true → is_running (first_state l) ≡ true
-placed-running p (_ ∷ _ ∷ _) items w h = absurd (grind (arith, h))
-placed-running p _ items w h = grind (arith, walk-free p items w)
+placed-running p l items w h = grind (arith, nat_tests, h, walk-free p items w, walk-free)
 
 -- a Give of origin event finds p Running
 pub given-running : (p q : ℕ) (stimulus : Stimulus) (items : List Item) (s : Scheduler Bool) → (q == p) ≡ true
@@ -64,32 +64,54 @@ no_exit p q stimulus = grind arith
 pub carried-waiting : (p : ℕ) (item : Item) (items : List Item) (s : Scheduler Bool) → is_silent item ≡ true → nat_le 4 p ≡ true
     → is_ordered (item ∷ items) ≡ true → stands p (with_agenda (item ∷ items) s) ≡ true
     → all_waiting p (after_item item (with_agenda items s)) ≡ all_waiting p (with_agenda (item ∷ items) s)
-carried-waiting p (Item.Start q) items s n a o h = go (is_on_list (state_in s q))
-  where
-    go : (on : Bool)
-        → all_waiting p (if on then with_agenda items s else in_front (Item.Give q Origin.Synch (of_event (plain_event INIT)) ∷ [])
-        (record (with_agenda items s) { processes = record { number = q; state = State.Running; marked = false } ∷ s.processes })) ≡ all_waiting p (with_agenda items s)
-    go true = refl
-    go false = rw (no_synch p q (of_event (plain_event INIT))) refl
-carried-waiting p (Item.Give q origin stimulus) items s n a o h = go (not (is_kernel_process q) && is_running (state_in s q)) refl
-  where
-    go : (taken : Bool) → (not (is_kernel_process q) && is_running (state_in s q)) ≡ taken
-        → all_waiting p (if taken then in_front (Item.Turn q origin stimulus ∷ []) (put_in_state q State.Called (with_agenda items s)) else with_agenda items s)
-        ≡ (waiting_in p (Item.Give q origin stimulus) ++ waits p items) ++ queued p s.events
-    go true t = refl
-    go false t = rw (lost p q origin stimulus items s a o h t) refl
+carried-waiting p (Item.Start q) items s n a o h = grind (arith, nat_tests, no_synch)
+carried-waiting p (Item.Give q origin stimulus) items s n a o h = grind (arith, nat_tests, lost)
 carried-waiting p (Item.GiveExit q) items s n a o h = rw (no_exit p q (of_event (plain_event EXIT))) refl
 carried-waiting p Item.Polls items s n a o h = go (is_any_marked s.processes)
   where
     go : (b : Bool) → all_waiting p (if b then in_front (map (λ n. Item.PollOne n) (numbers s.processes)) (with_agenda items s) else with_agenda items s) ≡ all_waiting p (with_agenda items s)
     go true = rw (waits-append p (map (λ n. Item.PollOne n) (numbers s.processes)) items, waits-polls p (numbers s.processes)) refl
     go false = refl
-carried-waiting p (Item.PollOne q) items s n a o h = go (is_marked q s.processes)
-  where
-    go : (b : Bool) → all_waiting p (if b then in_front (Item.Give q Origin.Poll (of_event (plain_event POLL)) ∷ []) (record (with_agenda items s) { processes = with_mark q false s.processes }) else with_agenda items s) ≡ all_waiting p (with_agenda items s)
-    go true = rw (no_poll p q (of_event (plain_event POLL))) refl
-    go false = refl
+carried-waiting p (Item.PollOne q) items s n a o h = grind (arith, nat_tests, no_poll)
 carried-waiting p Item.Deliver [] s n a o h = rw (append-nil (delivery (numbers s.processes) (first_event s))) (delivered p s s.events h)
 carried-waiting p Item.Deliver (item ∷ items) s n a o h = absurd (grind (arith, o))
 carried-waiting p (Item.Turn q origin stimulus) items s n a o h = absurd (grind (arith, n))
 carried-waiting p _ items s n a o h = refl
+
+-- The kernel's own processes leave every process's place and the events for applications as they are.
+
+pub record Served (p : ℕ) (old new : Machine) : Type 0 where
+  pub places : seats p new.scheduler.processes ≡ seats p old.scheduler.processes
+  pub events : queued p new.scheduler.events ≡ queued p old.scheduler.events
+
+pub queued-cancelled : (p : ℕ) (test : ℕ → ℕ → Bool) (events : List (Queued Bool)) → queued p (map (cancelled_if test) events) ≡ queued p events
+queued-cancelled p test [] = refl
+queued-cancelled p test (Queued.To q event ∷ events) = rw (queued-cancelled p test events) refl
+queued-cancelled p test (Queued.ToAll event ∷ events) = rw (queued-cancelled p test events) refl
+queued-cancelled p test (Queued.Expiry q c x ∷ events) = queued-cancelled p test events
+
+-- an event of the kernel's isn't one for an application
+queued-silent : (p : ℕ) (events : List (Queued Bool)) (event : Queued Bool) → queued_in p event ≡ [] → queued p (events ++ event ∷ []) ≡ queued p events
+queued-silent p events event h = rw (queued-append p events (event ∷ []), h) (append-nil (queued p events))
+
+expiry-silent : (p : ℕ) (timer : Timer) → queued_in p (expiry_of timer) ≡ []
+expiry-silent p timer = grind (arith, nat_tests)
+
+notice-silent : (p : ℕ) (notice : Queued Bool) → nat_le 4 p ≡ true → is_notice notice ≡ true → queued_in p notice ≡ []
+notice-silent p notice h n = grind (arith, nat_tests, h, n)
+
+pub serve-served : (p : ℕ) → nat_le 4 p ≡ true → (q : ℕ) (event : Event) (m : Machine) → Served p m (serve q event m)
+serve-served p a q event = of_changes changes
+  where
+    changes : Changes (Served p) q event
+    changes =
+        record {
+          same = λ m. record { places = refl; events = refl };
+          chained = λ a b c h k. record { places = k.places ∙ h.places; events = k.events ∙ h.events };
+          expired = λ timer m e. record { places = refl; events = queued-silent p m.scheduler.events (expiry_of timer) (expiry-silent p timer) };
+          timers_gone = λ n m z k e. record { places = refl; events = refl };
+          callbacks_gone = λ n m. record { places = refl; events = queued-cancelled p (λ r c. r == n) m.scheduler.events };
+          posted = λ notice m n. record { places = refl; events = queued-silent p m.scheduler.events notice (notice-silent p notice a n) };
+          devices = λ serial is_waiting packets m e. record { places = refl; events = refl };
+          marked = λ n m. record { places = seats-with_mark p n true m.scheduler.processes; events = refl };
+        }

@@ -1,19 +1,21 @@
 -- While p goes on, an armed timer of p is on the list, or its TIMER event waits or was given.
-use Rattle.std.proofs.Common.{◌≡◌, ℕ, Bool, true, false, ◌&&◌, ◌||◌, List, [], ◌∷◌, ◌++◌, refl, arith, Option, None, fold, ◌==◌, nat_le}
-use Rattle.run_laws.proofs.Common.{list_all, list_any, nat_tests, Call, Reply, Stimulus, Event, Origin, Entry, Item, of_event, zero_cell, is_armed, Machine, after_call, serve, OwnTurn, has_ended, clock_after, Standing, standing_after, standing, is_timer_event, is_arming, is_arming_or_stop, with_more_work}
+-- where the timer stands, if the reply to p's last call is k unless the entries show it
+use Rattle.std.proofs.Common.{◌≡◌, ℕ, Bool, true, false, ◌&&◌, ◌||◌, List, [], ◌∷◌, ◌++◌, refl, arith, Option, None, fold, ◌==◌, nat_le, ◌≤◌, subst, nat_lt}
+use Rattle.run_laws.proofs.Common.{list_all, list_any, nat_tests, Call, Reply, Stimulus, Event, Origin, Entry, Item, of_event, zero_cell, is_armed, Machine, after_call, serve, OwnTurn, has_ended, clock_after, Standing, standing_after, standing, is_timer_event, with_more_work, range_with_len, Input, Applications, Timer, is_timer, Timers, cell_of, is_due, deadline, Config, is_bootable, effect, Running, Runs, is_at_rest, at_start, is_application, NoLostTimerFor}
 use Rattle.run_laws.proofs.event_order.Tally.{is_turn, ended-more, ends_in}
 use Rattle.run_laws.proofs.event_order.Items.{with_agenda, facing}
 use Rattle.run_laws.proofs.timer_deadlines.Ledgers.{Ledger, ledger_after, turns_or, told_reply, told-front, turns-turn, turns-other, turns-none, fold-append}
-use Rattle.run_laws.proofs.event_order.Sound.{Sound}
-use Rattle.run_laws.proofs.Untouched.{serve-untouched}
+use Rattle.run_laws.proofs.event_order.Sound.{Sound, SoundFree, IsInOrder, sound-free, SoundOf, SoundFreeOf, sound_cases, boot-sound, nothing_on, nothing_queued}
+use Rattle.run_laws.proofs.Arrivals.{serve-untouched, effect-keeps}
 use Rattle.run_laws.proofs.timer_deadlines.Moves.{own_timer, FrontIs, Setting, after-moves}
-use Rattle.run_laws.proofs.timer_deadlines.EarlyRuns.{no_reply_front}
-use Rattle.run_laws.proofs.event_order.Steps.{is_quiet_item, carried, turn_entry}
-use Rattle.run_laws.proofs.timer_deadlines.Farewells.{is_no_exited, is_doomed, has_farewell, is_farewell, carried-doomed, carried-farewell, after-doomed, after-farewell}
-use Rattle.run_laws.proofs.timer_deadlines.Awaited.{is_expected, gives, queues, carried-expected, serve-held}
-use Rattle.run_laws.proofs.timer_deadlines.AwaitedTurns.{Awaits, standing_then, after-expected, turn-awaits}
-
--- where the timer stands, if the reply to p's last call is k unless the entries show it
+use Rattle.run_laws.proofs.timer_deadlines.Early.{no_reply_front, turn_setting, Timely, Free, IsTimely, timely-free, timely_cases, boot_timely, has_timers}
+use Rattle.run_laws.proofs.event_order.Steps.{is_quiet_item, carried, turn_entry, Cases, law_of, kernel_carried}
+use Rattle.run_laws.proofs.timer_deadlines.Farewells.{is_no_exited, is_doomed, has_farewell, is_farewell, carried-doomed, carried-farewell, after-doomed, after-farewell, after-events, serve-events}
+use Rattle.run_laws.proofs.timer_deadlines.Awaited.{is_expected, gives, queues, carried-expected, serve-held, Awaits, standing_then, after-expected, turn-awaits}
+use Rattle.run_laws.proofs.timer_deadlines.Fronts.{none-mapped, carried-queue}
+use Rattle.run_laws.proofs.timer_deadlines.Timed.{that_timer}
+use Rattle.run_laws.proofs.event_order.Runs.{at_rest}
+use Rattle.run_laws.proofs.timer_deadlines.Watched.{Watched, without_item, watched-carried, watched-front, watched-serve, watched-turn, watched-input, watched-boot, rest-not_due}
 
 abbrev pub fresh_standing : Standing
 fresh_standing = record { cell = zero_cell; is_armed = false; was_given = false }
@@ -37,12 +39,7 @@ pub record Agree (ledger : Ledger) (st : Standing) : Type 0 where
   pub cell : ledger.cell ≡ st.cell
 
 agree-step : (t : ℕ) (ledger : Ledger) (st : Standing) (turn : OwnTurn) → Agree ledger st → Agree (ledger_after t ledger turn) (standing_after t st turn)
-agree-step t ledger st turn h = go (is_arming_or_stop t turn) refl (is_arming t turn) refl
-  where
-    go : (b : Bool) → is_arming_or_stop t turn ≡ b → (a : Bool) → is_arming t turn ≡ a → Agree (ledger_after t ledger turn) (standing_after t st turn)
-    go false e a f = record { cell = rw e h.cell }
-    go true e true f = record { cell = rw (e, f, h.cell) refl }
-    go true e false f = record { cell = rw (e, f) h.cell }
+agree-step t ledger st turn h = grind (arith, nat_tests)
 
 pub agree-fold : (t : ℕ) (ledger : Ledger) (st : Standing) (turns : List OwnTurn) → Agree ledger st → Agree (fold (ledger_after t) ledger turns) (fold (standing_after t) st turns)
 agree-fold t ledger st [] h = h
@@ -144,3 +141,154 @@ heeded-other p t X e old new n doomed farewell front expected timers h =
   where
     was_alive : has_ended p (X ++ e ∷ []) ≡ false → has_ended p X ≡ false
     was_alive alive = grind (arith, alive, ended-more p X e)
+
+-- No timer is lost.
+
+-- by what is known where a reply may be in front, or where none is
+pub record AttendedBy (Timed Ordered Told : Type 0) (m : Machine) : Type 0 where
+  pub timely : Timed
+  pub sound : Ordered
+  pub watched : Watched m
+  pub clean : list_all is_no_exited m.scheduler.events ≡ true
+  pub heeded : Told
+
+abbrev Attended : ℕ → ℕ → Machine → List Entry → Type 0
+Attended p t m X = AttendedBy (Timely p t m X) (Sound p m.scheduler X) (Heeded p t m X) m
+
+abbrev AttendedFree : ℕ → ℕ → Machine → List Entry → Type 0
+AttendedFree p t m X = AttendedBy (Free p t m X) (SoundFree p m.scheduler X) (HeededFree p t m X) m
+
+-- nothing of this speaks of the entries
+abbrev Anything : List Entry → Type 0
+Anything X = Unit {0}
+
+module _ (p t : ℕ) (low : nat_le 4 p ≡ true) (high : nat_lt p 20 ≡ true) where
+  timely : Cases (Timely p t) (Free p t) (IsTimely p t)
+  timely = timely_cases p t low high
+
+  sound : Cases (SoundOf p) (SoundFreeOf p) (IsInOrder p)
+  sound = sound_cases p low
+
+  heeded-input : (input : Input) (m : Machine) (X : List Entry) → Heeded p t m X → Heeded p t (effect input (record m { work = 0 })) (X ++ Entry.Input input ∷ [])
+  heeded-input input m X h = grind (arith, nat_tests, heeded-other, effect-keeps)
+
+  attended_cases : Cases (Attended p t) (AttendedFree p t) Anything
+  attended_cases =
+      record {
+        notes = λ m X entry items h. timely.notes m X entry items h.timely;
+        free = λ m X h.
+            record {
+              timely = timely-free p t m X h.timely;
+              sound = sound-free p m.scheduler X h.sound;
+              watched = h.watched;
+              clean = h.clean;
+              heeded = heeded-free p t m X h.heeded;
+            };
+        carried = λ m X item items n s h.
+            record {
+              timely = timely.carried m X item items n s h.timely;
+              sound = sound.carried m X item items n s h.sound;
+              watched = watched-carried item items m n s (grind (arith, h.timely.steady.regular)) h.watched;
+              clean = carried-queue is_no_exited item items m.scheduler h.clean;
+              heeded = heeded-carried p t X item items m low n h.sound h.clean h.heeded;
+            };
+        served = λ m X q origin event items k h.
+            let gone : HeededFree p t (facing items m) X =
+            subst (λ n. HeededFree p t n X) (kernel_carried q origin (Stimulus.Event event) items m k)
+            (heeded-carried p t X (Item.Give q origin (Stimulus.Event event)) items m low refl h.sound h.clean h.heeded) in
+            record {
+              timely = timely.served m X q origin event items k h.timely;
+              sound = sound.served m X q origin event items k h.sound;
+              watched = watched-serve q origin event items m h.watched;
+              clean = serve-events q event (facing items m) h.clean;
+              heeded = heeded-serve p t X q origin event items m h.heeded gone;
+            };
+        called_back = λ m X q c h.
+            record {
+              timely = timely.called_back m X q c h.timely;
+              sound = sound.called_back m X q c h.sound;
+              watched = watched-front (Item.Give q Origin.Callback (Stimulus.Callback c) ∷ []) m h.watched;
+              clean = h.clean;
+              heeded = record { farewell = h.heeded.farewell; kept = h.heeded.kept };
+            };
+        round = λ m X h.
+            record {
+              timely = timely.round m X h.timely;
+              sound = sound.round m X h.sound;
+              watched = record { home = h.watched.home; due = h.watched.due };
+              clean = h.clean;
+              heeded = record { farewell = h.heeded.farewell; kept = λ alive spared k. h.heeded.kept alive spared k tt };
+            };
+        turn = λ m X items q origin stimulus call h.
+            record {
+              timely = timely.turn m X items q origin stimulus call h.timely;
+              sound = sound.turn m X items q origin stimulus call h.sound;
+              watched = watched-turn items q origin stimulus call m (with_more_work (facing items m)) refl refl refl h.watched;
+              clean = after-events call q (with_more_work (facing items m)) h.clean;
+              heeded = heeded-turn p t X m items q origin stimulus call h.timely.steady.clock (turn_setting p t low high X m items q origin stimulus h.timely) h.heeded;
+            };
+        told = λ m X items q origin stimulus call h i. tt;
+        shown = λ m X items note h.
+            record {
+              timely = timely.shown m X items note h.timely;
+              sound = sound.shown m X items note h.sound;
+              watched = without_item (Item.Show (Entry.Note note)) items m refl h.watched;
+              clean = h.clean;
+              heeded = heeded-other p t X (Entry.Note note) (facing (Item.Show (Entry.Note note) ∷ items) m) (facing items m) refl (λ d. d) refl (λ k f. f) refl refl h.heeded;
+            };
+        noted = λ m X items note h i. tt;
+        other = λ X e n k i. tt;
+        input = λ input m X h.
+            record {
+              timely = timely.input input m X h.timely;
+              sound = sound.input input m X h.sound;
+              watched = watched-input input m h.watched;
+              clean = effect-keeps (λ s. list_all is_no_exited s.events ≡ true) input (record m { work = 0 }) h.clean (λ q. h.clean) (λ refusal. h.clean);
+              heeded = heeded-input input m X h.heeded;
+            };
+      }
+
+-- at rest
+
+-- a timer on the list whose deadline came is one that is due
+due_listed : (p t clock : ℕ) (timers : Timers) (xs : List Timer) → is_due clock timers (own_timer p t) ≡ true → list_any (is_timer (own_timer p t)) xs ≡ true
+    → list_any (is_due clock timers) xs ≡ true
+due_listed p t clock timers [] d h = absurd (grind (arith, h))
+due_listed p t clock timers (x ∷ xs) d h = go (is_timer (own_timer p t) x) refl h (λ k. due_listed p t clock timers xs d k)
+  where
+    go : (b : Bool) → is_timer (own_timer p t) x ≡ b → (b || list_any (is_timer (own_timer p t)) xs) ≡ true
+        → (list_any (is_timer (own_timer p t)) xs ≡ true → list_any (is_due clock timers) xs ≡ true) → (is_due clock timers x || list_any (is_due clock timers) xs) ≡ true
+    go true e k more = let same : x ≡ own_timer p t = that_timer p t x e in let due : is_due clock timers x ≡ true = rw same d in rw due refl
+    go false e k more = let rest : list_any (is_due clock timers) xs ≡ true = more k in grind (arith, rest)
+
+-- the standing has the timer's own cell
+standing-cell : (p t : ℕ) (m : Machine) (X : List Entry) → FrontIs p None m.scheduler.agenda → Timely p t m X → nat_le t 7 ≡ true → cell_of (own_timer p t) m.timers ≡ (standing_of p t None X).cell
+standing-cell p t m X front h number = grind (arith, nat_tests, agree-fold)
+
+abbrev pub IsGivenAtRest : ℕ → ℕ → List Entry → Type 0
+IsGivenAtRest p t X =
+    has_ended p X ≡ false → (standing X p t).is_armed ≡ true → deadline (standing X p t).cell ≤ clock_after X → (standing X p t).was_given ≡ true
+
+rest-given : (p t : ℕ) (m : Machine) (X : List Entry) → is_at_rest m ≡ true → Attended p t m X → IsGivenAtRest p t X
+rest-given p t m X rest h = grind (arith, nat_tests, rest, standing-none, nothing_on, nothing_queued, rest-not_due, standing-cell, due_listed)
+
+-- boot
+
+boot-attended : (p t : ℕ) (c : Config) → nat_lt p 20 ≡ true → is_application c.apps p ≡ true → Attended p t (at_start c).machine []
+boot-attended p t c high a =
+    record {
+      timely = boot_timely p t c (grind (arith, a)) high;
+      sound = boot-sound p c a;
+      watched = watched-boot c;
+      clean = refl;
+      heeded = record { farewell = λ alive spared. none-mapped (is_farewell p) (λ n. Item.Start n) (range_with_len 4 c.apps) (λ n. refl); kept = λ alive spared k front armed. absurd (grind (arith, armed)) };
+    }
+
+-- no timer is lost
+pub no_lost_timer : (c : Config) (says : Applications) (inputs : List Input) (after : Running) → Runs says (at_start c) inputs after
+    → (p : ℕ) → is_bootable c ≡ true → is_application c.apps p ≡ true → NoLostTimerFor p after.entries
+no_lost_timer c says inputs after runs p b a before t place =
+    let low : nat_le 4 p ≡ true = grind (arith, a) in
+    let high : nat_lt p 20 ≡ true = has_timers c p b a in
+    at_rest (Attended p t) Anything (IsGivenAtRest p t) (law_of (Attended p t) (AttendedFree p t) Anything (attended_cases p t low high)) (rest-given p t)
+    c says inputs after runs (boot-attended p t c high a) tt before place

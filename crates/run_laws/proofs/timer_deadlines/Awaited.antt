@@ -1,15 +1,16 @@
 -- A TIMER event that p waits for isn't lost on its way, and a timer leaves the list for one.
-use Rattle.std.proofs.Common.{◌≡◌, ℕ, Bool, true, false, not, ◌&&◌, ◌||◌, List, [], ◌∷◌, ◌++◌, refl, ◌∙◌, arith, Some, map, filter, drop, slice_get, ◌==◌, nat_le}
-use Rattle.run_laws.proofs.Common.{list_any, nat_tests, Stimulus, Event, Origin, Payload, EXITED, Queued, Item, Scheduler, after_item, delivery, of_event, Timer, event_timer, is_timer, is_event_timer_of, is_callback_timer_of, is_armed, stop_timer, without_callback_timers, Machine, with_event, with_timers, cancelled_if, expiries_cancelled, serve, expiry_of, post_expiry, exited_application, is_number, is_timer_event}
+use Rattle.std.proofs.Common.{◌≡◌, ℕ, Bool, true, false, not, ◌&&◌, ◌||◌, List, [], ◌∷◌, ◌++◌, refl, ◌∙◌, arith, Some, map, filter, drop, slice_get, ◌==◌, nat_le, Option, if◌then◌else◌}
+use Rattle.run_laws.proofs.Common.{list_any, nat_tests, Stimulus, Event, Origin, Payload, EXITED, Queued, Item, Scheduler, after_item, delivery, of_event, Timer, event_timer, is_timer, is_event_timer_of, is_callback_timer_of, is_armed, stop_timer, without_callback_timers, Machine, with_event, with_timers, cancelled_if, expiries_cancelled, serve, expiry_of, post_expiry, exited_application, is_number, is_timer_event, list_any-append, Call, Reply, Timers, after_call, is_callback_timer, is_done, Standing, standing_after, arms, stops}
 use Rattle.run_laws.proofs.Changes.{Changes, of_changes}
-use Rattle.run_laws.proofs.event_order.Shape.{is_from_queue, is_ordered, stands}
+use Rattle.run_laws.proofs.event_order.Tally.{is_from_queue, is_ordered, stands}
 use Rattle.run_laws.proofs.event_order.Items.{with_agenda}
 use Rattle.run_laws.proofs.event_order.Waiting.{given-running}
 use Rattle.run_laws.proofs.timer_deadlines.Timing.{stopped-other, symm}
-use Rattle.run_laws.proofs.timer_deadlines.Fronts.{any-append, carried-any}
-use Rattle.run_laws.proofs.timer_deadlines.Timed.{that_timer}
+use Rattle.run_laws.proofs.timer_deadlines.Fronts.{carried-any, after-any}
+use Rattle.run_laws.proofs.timer_deadlines.Timed.{that_timer, turn_of}
 use Rattle.run_laws.proofs.timer_deadlines.Farewells.{is_farewell}
 use Rattle.run_laws.proofs.event_order.Steps.{is_quiet_item}
+use Rattle.run_laws.proofs.timer_deadlines.Moves.{own_timer, Moves}
 
 -- a TIMER event of timer t waits for p
 abbrev pub gives : ℕ → ℕ → Item → Bool
@@ -24,19 +25,11 @@ queues p t _ = false
 abbrev pub is_expected : ℕ → ℕ → Scheduler Bool → Bool
 is_expected p t s = list_any (gives p t) s.agenda || list_any (queues p t) s.events
 
-pub any-more : {A : Type 0} (test : A → Bool) (xs : List A) (y : A) → list_any test xs ≡ true → list_any test (xs ++ y ∷ []) ≡ true
-any-more test [] y h = absurd (grind (arith, h))
-any-more test (x ∷ xs) y h = grind (arith, h, any-more test xs y)
-
-any-last : {A : Type 0} (test : A → Bool) (xs : List A) (y : A) → test y ≡ true → list_any test (xs ++ y ∷ []) ≡ true
-any-last test [] y h = grind (arith, h)
-any-last test (x ∷ xs) y h = grind (arith, any-last test xs y h)
-
 -- an item
 
 delivered-expected : (p t : ℕ) (ns : List ℕ) (items : List Item) (events : List (Queued Bool)) → (list_any (gives p t) items || list_any (queues p t) events) ≡ true
     → (list_any (gives p t) (delivery ns (slice_get events 0) ++ items) || list_any (queues p t) (drop 1 events)) ≡ true
-delivered-expected p t ns items events h = grind (arith, nat_tests, any-append)
+delivered-expected p t ns items events h = grind (arith, nat_tests, list_any-append)
 
 given-expected : (p t q : ℕ) (origin : Origin) (stimulus : Stimulus) (items : List Item) (s : Scheduler Bool) → nat_le 4 p ≡ true
     → is_ordered (Item.Give q origin stimulus ∷ items) ≡ true → stands p (with_agenda (Item.Give q origin stimulus ∷ items) s) ≡ true
@@ -56,7 +49,7 @@ abbrev pub Held : ℕ → ℕ → Bool → Machine → Type 0
 Held p t g m = (is_armed (event_timer p t) m.timers || (is_expected p t m.scheduler || g)) ≡ true
 
 posted-held : (p t : ℕ) (g : Bool) (event : Queued Bool) (m : Machine) → Held p t g m → Held p t g (with_event event m)
-posted-held p t g event m h = grind (arith, h, any-more (queues p t) m.scheduler.events event)
+posted-held p t g event m h = grind (arith, nat_tests, h, list_any-append (queues p t) m.scheduler.events (event ∷ []))
 
 expired-held : (p t : ℕ) (g : Bool) (timer : Timer) (m : Machine) → Held p t g m → Held p t g (post_expiry (Some timer) m)
 expired-held p t g timer m h = go (is_timer (event_timer p t) timer) refl
@@ -64,9 +57,7 @@ expired-held p t g timer m h = go (is_timer (event_timer p t) timer) refl
     go : (b : Bool) → is_timer (event_timer p t) timer ≡ b → Held p t g (post_expiry (Some timer) m)
     go true e =
         let same : timer ≡ event_timer p t = that_timer p t timer e in
-        let waits : list_any (queues p t) (m.scheduler.events ++ expiry_of timer ∷ []) ≡ true =
-        any-last (queues p t) m.scheduler.events (expiry_of timer) (rw same (grind (arith, nat_tests))) in
-        grind (arith, waits)
+        grind (arith, nat_tests, same, list_any-append (queues p t) m.scheduler.events (expiry_of timer ∷ []))
     go false e =
         let off : Machine = with_timers (stop_timer timer m.timers) m in
         let kept : is_armed (event_timer p t) (stop_timer timer m.timers) ≡ is_armed (event_timer p t) m.timers =
@@ -121,3 +112,53 @@ serve-held p t g q origin event m none = of_changes changes m
           devices = λ serial is_waiting packets m e h. h;
           marked = λ n m h. h;
         }
+
+-- After each turn an armed timer is on the list, or its TIMER event waits, or one was given.
+-- what waits goes on waiting
+
+after-queues : (p t : ℕ) (call : Call) (q : ℕ) (m : Machine) → list_any (queues p t) m.scheduler.events ≡ true → list_any (queues p t) (after_call call q m).scheduler.events ≡ true
+after-queues p t (Call.CallbackSet c interval) q m h = grind (arith, h, queues-cancelled p t (is_callback_timer q c) m.scheduler.events)
+after-queues p t (Call.CallbackStop c) q m h = grind (arith, h, queues-cancelled p t (is_callback_timer q c) m.scheduler.events)
+after-queues p t (Call.Post r code payload) q m h = grind (arith, h, list_any-append (queues p t) m.scheduler.events)
+after-queues p t (Call.Broadcast code payload) q m h = grind (arith, h, list_any-append (queues p t) m.scheduler.events)
+after-queues p t call q m h = grind (arith, h)
+
+pub after-expected : (p t : ℕ) (call : Call) (q : ℕ) (m : Machine) → is_expected p t m.scheduler ≡ true → is_expected p t (after_call call q m).scheduler ≡ true
+after-expected p t call q m h = go (list_any (gives p t) m.scheduler.agenda) refl h
+  where
+    go : (b : Bool) → list_any (gives p t) m.scheduler.agenda ≡ b → (b || list_any (queues p t) m.scheduler.events) ≡ true → is_expected p t (after_call call q m).scheduler ≡ true
+    go true e k = rw (after-any (gives p t) call q m e) refl
+    go false e k = grind (arith, after-queues p t call q m k)
+
+-- the standing of the timer
+
+-- its last arming is followed by a TIMER event, or one waits, or it is on the list
+abbrev pub Awaits : ℕ → ℕ → Timers → Bool → Standing → Type 0
+Awaits p t timers waits st = st.is_armed ≡ true → (is_armed (own_timer p t) timers || (waits || st.was_given)) ≡ true
+
+abbrev pub standing_then : Bool → ℕ → ℕ → Stimulus → Origin → Call → Option Reply → Standing → Standing
+standing_then same t clock stimulus origin call k st = if same then standing_after t st (turn_of clock stimulus origin call k) else st
+
+-- a turn of q that was told the stimulus
+pub turn-awaits : (p t q clock : ℕ) (stimulus : Stimulus) (origin : Origin) (call : Call) (k : Option Reply) (old new : Timers) (w v : Bool) (st : Standing)
+    → Moves p t q clock call k old new → (w ≡ true → v ≡ true) → Awaits p t old ((q == p && is_timer_event t stimulus) || w) st
+    → Awaits p t new v (standing_then (q == p) t clock stimulus origin call k st)
+turn-awaits p t q clock stimulus origin call k old new w v st moves more h =
+    go (q == p) (is_done k) (arms t call) (stops t call) refl refl refl refl moves.kept moves.set h
+  where
+    go : (same d a s : Bool) → (q == p) ≡ same → is_done k ≡ d → arms t call ≡ a → stops t call ≡ s
+        → ((same && (d && (a || s))) ≡ false → is_armed (own_timer p t) new ≡ is_armed (own_timer p t) old)
+        → ((same && (d && a)) ≡ true → is_armed (own_timer p t) new ≡ true)
+        → Awaits p t old ((same && is_timer_event t stimulus) || w) st
+        → Awaits p t new v (standing_then same t clock stimulus origin call k st)
+    go false d a s e f g i stays sets h = λ armed. grind (arith, stays refl, more, h armed)
+    go true true true s e f g i stays sets h = λ armed. rw (sets refl) refl
+    go true true false true e f g i stays sets h = λ armed. absurd (grind (arith, armed, f, g, i))
+    go true true false false e f g i stays sets h = λ armed. last (grind (arith, armed, f, g, i))
+      where
+        last : st.is_armed ≡ true → (is_armed (own_timer p t) new || (v || (standing_after t st (turn_of clock stimulus origin call k)).was_given)) ≡ true
+        last armed = grind (arith, f, g, i, stays refl, more, h armed)
+    go true false a s e f g i stays sets h = λ armed. last (grind (arith, armed, f))
+      where
+        last : st.is_armed ≡ true → (is_armed (own_timer p t) new || (v || (standing_after t st (turn_of clock stimulus origin call k)).was_given)) ≡ true
+        last armed = grind (arith, f, stays refl, more, h armed)

@@ -1,15 +1,18 @@
 -- A turn keeps the balance of timers, and tells of no more TIMER events than are ripe.
-use Rattle.std.proofs.Common.{◌≡◌, ℕ, ◌+◌, ◌≤◌, Bool, true, false, ◌&&◌, List, [], ◌∷◌, ◌++◌, refl, ◌∙◌, sym, arith, Option, None, if◌then◌else◌, ◌==◌, nat_le, nat_lt}
-use Rattle.run_laws.proofs.Common.{list_all, nat_tests, Call, Reply, Stimulus, Origin, Entry, Item, event_timer, Timers, is_armed, deadline, Machine, after_call, ticks_in, clock_after, with_more_work}
+use Rattle.std.proofs.Common.{◌≡◌, ℕ, ◌+◌, ◌≤◌, true, false, List, [], ◌∷◌, ◌++◌, refl, arith, Option, None, ◌==◌, nat_le, nat_lt, subst, map}
+use Rattle.run_laws.proofs.Common.{list_all, nat_tests, Call, Reply, Stimulus, Origin, Entry, Item, event_timer, Timers, Machine, after_call, ticks_in, clock_after, with_more_work, range_with_len, Input, Applications, in_front, all_timers, Config, scheduled, is_bootable, effect, Running, Runs, at_start, is_application, NoEarlyTimerFor}
 use Rattle.run_laws.proofs.event_order.Tally.{is_turn}
-use Rattle.run_laws.proofs.timer_deadlines.Ledgers.{Ledger, one_if, ledger_of, ripe_at, turns_or, told_reply, told-front, turns-turn, turns-other, fold-append}
+use Rattle.run_laws.proofs.timer_deadlines.Ledgers.{Ledger, ledger_of, ripe_at, turns_or, told_reply, told-front, turns-turn, turns-other, fold-append, timer_events-ledger, ripe_armings-ledger}
 use Rattle.run_laws.proofs.event_order.Items.{facing}
-use Rattle.run_laws.proofs.timer_deadlines.Timed.{Balanced, timer_for, in_wait}
-use Rattle.run_laws.proofs.timer_deadlines.TimedItems.{after-count}
+use Rattle.run_laws.proofs.timer_deadlines.Timed.{Balanced, timer_for, in_wait, after-count, ledger_then, turn-balanced, count_items, serve-fair, carried-count}
 use Rattle.run_laws.proofs.timer_deadlines.Moves.{FrontIs, Setting, after-moves, after-clock, still_moves}
-use Rattle.run_laws.proofs.timer_deadlines.TimedTurns.{ledger_then, turn-balanced}
 use Rattle.run_laws.proofs.timer_deadlines.Regular.{is_regular}
-use Rattle.run_laws.proofs.timer_deadlines.Steady.{Steady, clock-more, steady-turn}
+use Rattle.run_laws.proofs.timer_deadlines.Steady.{Steady, clock-more, steady-turn, steady-carried, steady-front, steady-serve, steady-shown, steady-input}
+use Rattle.run_laws.proofs.Arrivals.{effect-keeps}
+use Rattle.run_laws.proofs.timer_deadlines.Timing.{zero-cells, zero-names}
+use Rattle.run_laws.proofs.timer_deadlines.Fronts.{all-mapped}
+use Rattle.run_laws.proofs.event_order.Runs.{at_prefixes}
+use Rattle.run_laws.proofs.event_order.Steps.{Cases, law_of, is_quiet_item, carried, kernel_carried}
 
 abbrev pub timer_ledger : ℕ → ℕ → Option Reply → List Entry → Ledger
 timer_ledger p t k X = ledger_of t (turns_or k p 0 X)
@@ -48,8 +51,7 @@ pub ripe-later : (n clock : ℕ) (ledger : Ledger) → ripe_at clock ledger ≤ 
 ripe-later n clock ledger = grind (arith, nat_tests)
 
 pub timely-other : (p t : ℕ) (X : List Entry) (e : Entry) → is_turn e ≡ false → IsTimely p t X → IsTimely p t (X ++ e ∷ [])
-timely-other p t X e n h =
-    rw (ledger-other p t None X e n, clock-more X e) (omega (arith, h, ripe-later (ticks_in e) (clock_after X) (timer_ledger p t None X)))
+timely-other p t X e n h = grind (arith, nat_tests, h, ledger-other, clock-more, ripe-later)
 
 -- what was given is no more than what is ripe
 early_of : (p t w clock : ℕ) (timers : Timers) (ledger : Ledger) → Balanced p t timers clock w ledger → ledger.given ≤ ripe_at clock ledger
@@ -59,13 +61,7 @@ pub less-balanced : (p t clock v w : ℕ) (timers : Timers) (ledger : Ledger) �
 less-balanced p t clock v w timers ledger less b = record { cell = b.cell; named = b.named; set = b.set; count = omega (arith, less, b.count) }
 
 pub later-balanced : (p t n w clock : ℕ) (timers : Timers) (ledger : Ledger) → Balanced p t timers clock w ledger → Balanced p t timers (clock + n) w ledger
-later-balanced p t n w clock timers ledger b =
-    record { cell = b.cell; named = b.named; set = b.set; count = go (is_armed (event_timer p t) timers) b.count }
-  where
-    go : (on : Bool) → w + ledger.given ≤ ledger.after_items + (if on then 0 else one_if (ledger.is_set && nat_le (deadline ledger.cell) clock))
-        → w + ledger.given ≤ ledger.after_items + (if on then 0 else one_if (ledger.is_set && nat_le (deadline ledger.cell) (clock + n)))
-    go true h = h
-    go false h = omega (arith, h, ripe-later n clock ledger)
+later-balanced p t n w clock timers ledger b = grind (arith, nat_tests, ripe-later n clock ledger, ripe-later)
 
 -- a turn
 
@@ -83,8 +79,7 @@ module _ (p t : ℕ) (low : nat_le 4 p ≡ true) (high : nat_lt p 20 ≡ true) w
 
   pub turn_setting : (X : List Entry) (m : Machine) (items : List Item) (q : ℕ) (origin : Origin) (stimulus : Stimulus)
       → Timely p t (facing (Item.Turn q origin stimulus ∷ items) m) X → Setting p m.timers
-  turn_setting X m items q origin stimulus h =
-      record { low = low; high = high; names = h.steady.names }
+  turn_setting X m items q origin stimulus h = grind (arith, nat_tests)
 
   pub turn_timely : (X : List Entry) (m : Machine) (items : List Item) (q : ℕ) (origin : Origin) (stimulus : Stimulus) (call : Call)
       → Timely p t (facing (Item.Turn q origin stimulus ∷ items) m) X
@@ -104,13 +99,126 @@ module _ (p t : ℕ) (low : nat_le 4 p ≡ true) (high : nat_lt p 20 ≡ true) w
 
   pub turn_early : (X : List Entry) (m : Machine) (items : List Item) (q : ℕ) (origin : Origin) (stimulus : Stimulus) (call : Call)
       → Timely p t (facing (Item.Turn q origin stimulus ∷ items) m) X → IsTimely p t (X ++ Entry.Turn (record { 0 = q }) origin stimulus call ∷ [])
-  turn_early X m items q origin stimulus call h =
-      let e : Entry = Entry.Turn (record { 0 = q }) origin stimulus call in
-      let clock : clock_after (X ++ e ∷ []) ≡ m.clock = clock-more X e ∙ rw (sym h.steady.clock) (omega arith) in
-      let ledger : Ledger = timer_ledger p t (told_reply p q stimulus None) X in
-      let w : ℕ = in_wait p t (facing items m) in
-      rw (clock, ledger-turn p t m.clock None X q origin stimulus call h.steady.clock)
-      (early_of p t w m.clock m.timers (ledger_then (q == p) t m.clock stimulus origin call None ledger)
-      (turn-balanced p t q w m.clock stimulus origin call None m.timers m.timers ledger
-      (still_moves p t q m.clock call None m.timers m.timers (grind arith) refl (λ number. refl))
-      (turn_before X m items q origin stimulus None h)))
+  turn_early X m items q origin stimulus call h = grind (arith, nat_tests, clock-more, facing, ledger-turn, early_of, turn-balanced, still_moves, turn_before)
+
+-- No TIMER event comes early or twice.
+
+-- an item that is neither a turn nor shown: no reply is in front
+pub no_reply_front : (p : ℕ) (k : Option Reply) (item : Item) (items : List Item) → is_quiet_item item ≡ true → FrontIs p k (item ∷ items)
+no_reply_front p k item items n = grind (arith, nat_tests, n)
+
+free-carried : (p t : ℕ) (X : List Entry) (item : Item) (items : List Item) (m : Machine) → is_quiet_item item ≡ true
+    → Timely p t (facing (item ∷ items) m) X → Free p t (carried item items m) X
+free-carried p t X item items m n h =
+    record {
+      steady = steady-carried item items m X h.steady;
+      balanced = λ k.
+          less-balanced p t m.clock (in_wait p t (carried item items m)) (in_wait p t (facing (item ∷ items) m)) m.timers (timer_ledger p t k X)
+          (carried-count p t item items m.scheduler h.steady.plain) (h.balanced k (no_reply_front p k item items n));
+    }
+
+no_callback : (p t q c : ℕ) → count_items p t (Item.Give q Origin.Callback (Stimulus.Callback c) ∷ []) ≡ 0
+no_callback p t q c = grind (arith, nat_tests)
+
+-- an input
+
+-- the clock goes on by its ticks, and no more TIMER events wait
+effect-clock : (input : Input) (m : Machine) → (effect input m).clock ≡ m.clock + ticks_in (Entry.Input input)
+effect-clock input m = grind (arith, nat_tests)
+
+effect-timers : (input : Input) (m : Machine) → (effect input m).timers ≡ m.timers
+effect-timers input m = grind (arith, nat_tests)
+
+effect-wait : (p t : ℕ) (input : Input) (m : Machine) → in_wait p t (effect input m) ≤ in_wait p t m
+effect-wait p t input m = effect-keeps (λ s. in_wait p t (record m { scheduler = s }) ≤ in_wait p t m) input m (omega arith) (λ q. omega arith) (λ refusal. omega arith)
+
+effect_timely : (p t : ℕ) (input : Input) (m : Machine) (X : List Entry) → Timely p t m X → Timely p t (effect input (record m { work = 0 })) (X ++ Entry.Input input ∷ [])
+effect_timely p t input m X h =
+    let woken : Machine = record m { work = 0 } in
+    record {
+      steady = steady-input input m X h.steady;
+      balanced = λ k front.
+          let before = h.balanced k (effect-keeps (λ s. FrontIs p k s.agenda → FrontIs p k m.scheduler.agenda) input woken (λ f. f) (λ q f. f) (λ refusal f. f) front) in
+          rw (ledger-other p t k X (Entry.Input input) refl, effect-clock input woken, effect-timers input woken)
+          (later-balanced p t (ticks_in (Entry.Input input)) (in_wait p t (effect input woken)) m.clock m.timers (timer_ledger p t k X)
+          (less-balanced p t m.clock (in_wait p t (effect input woken)) (in_wait p t m) m.timers (timer_ledger p t k X) (effect-wait p t input woken) before));
+    }
+
+-- every step
+pub timely_cases : (p t : ℕ) → nat_le 4 p ≡ true → nat_lt p 20 ≡ true → Cases (Timely p t) (Free p t) (IsTimely p t)
+timely_cases p t low high =
+    record {
+      notes = λ m X entry items h. grind (arith, h.steady.regular);
+      free = timely-free p t;
+      carried = λ m X item items n s h. free-carried p t X item items m n h;
+      served = λ m X q origin event items k h.
+          let free = subst (λ n. Free p t n X) (kernel_carried q origin (Stimulus.Event event) items m k) (free-carried p t X (Item.Give q origin (Stimulus.Event event)) items m refl h) in
+          record {
+            steady = steady-serve q event (facing items m) X free.steady;
+            balanced = λ r. (serve-fair p t q event (facing items m)).balanced (timer_ledger p t r X) (free.balanced r);
+          };
+      called_back = λ m X q c h.
+          let x = Item.Give q Origin.Callback (Stimulus.Callback c) in
+          record {
+            steady = steady-front (x ∷ []) m X h.steady.regular h.steady;
+            balanced = λ k.
+                less-balanced p t m.clock (in_wait p t (scheduled (in_front (x ∷ [])) m)) (in_wait p t m) m.timers (timer_ledger p t k X) (omega (arith, no_callback p t q c)) (h.balanced k);
+          };
+      round = λ m X h.
+          record {
+            steady = record { clock = h.steady.clock; names = h.steady.names; plain = h.steady.plain; regular = refl };
+            balanced = λ k.
+                less-balanced p t m.clock (in_wait p t (facing (Item.Polls ∷ Item.Deliver ∷ []) m)) (in_wait p t (facing [] m)) m.timers (timer_ledger p t k X) (omega arith)
+                (h.balanced k tt);
+          };
+      turn = λ m X items q origin stimulus call h. turn_timely p t low high X m items q origin stimulus call h;
+      told = λ m X items q origin stimulus call h i. turn_early p t low high X m items q origin stimulus call h;
+      shown = λ m X items note h.
+          let e : Entry = Entry.Note note in
+          let here : Steady (facing items m) X = record { clock = h.steady.clock; names = h.steady.names; plain = h.steady.plain; regular = h.steady.regular } in
+          record {
+            steady = steady-shown note (facing items m) X here;
+            balanced = λ k front.
+                rw (ledger-other p t k X e refl)
+                (less-balanced p t m.clock (in_wait p t (facing items m)) (in_wait p t (facing (Item.Show e ∷ items) m)) m.timers (timer_ledger p t k X) (omega arith) (h.balanced k front));
+          };
+      noted = λ m X items note h. timely-other p t X (Entry.Note note) refl;
+      other = λ X e n k. timely-other p t X e n;
+      input = effect_timely p t;
+    }
+
+-- boot
+
+pub starts-count : (p t : ℕ) (ns : List ℕ) → count_items p t (map (λ n. Item.Start n) ns) ≡ 0
+starts-count p t [] = refl
+starts-count p t (n ∷ ns) = omega (arith, starts-count p t ns)
+
+pub boot_steady : (c : Config) → Steady (at_start c).machine []
+boot_steady c = record { clock = refl; names = zero-names all_timers; plain = refl; regular = all-mapped is_regular (λ n. Item.Start n) (range_with_len 4 c.apps) (λ n. refl) }
+
+pub boot_timely : (p t : ℕ) (c : Config) → nat_le 4 p ≡ true → nat_lt p 20 ≡ true → Timely p t (at_start c).machine []
+boot_timely p t c low high =
+    record {
+      steady = boot_steady c;
+      balanced = λ k front.
+          record {
+            cell = λ number. zero-cells (event_timer p t) all_timers;
+            named = λ h. absurd (grind (arith, h));
+            set = λ h. absurd (grind (arith, h));
+            count = omega (arith, starts-count p t (range_with_len 4 c.apps));
+          };
+    }
+
+-- p is one of the 16 that have timers
+pub has_timers : (c : Config) (p : ℕ) → is_bootable c ≡ true → is_application c.apps p ≡ true → nat_lt p 20 ≡ true
+has_timers c p b a = grind (arith, nat_tests, b, a)
+
+-- no TIMER event comes early or twice
+pub no_early_timer : (c : Config) (says : Applications) (inputs : List Input) (after : Running) → Runs says (at_start c) inputs after
+    → (p : ℕ) → is_bootable c ≡ true → is_application c.apps p ≡ true → NoEarlyTimerFor p after.entries
+no_early_timer c says inputs after runs p b a before later t e =
+    let low : nat_le 4 p ≡ true = grind (arith, a) in
+    let high : nat_lt p 20 ≡ true = has_timers c p b a in
+    let h : IsTimely p t before =
+    at_prefixes (Timely p t) (IsTimely p t) (law_of (Timely p t) (Free p t) (IsTimely p t) (timely_cases p t low high)) c says inputs after runs (boot_timely p t c low high) (omega arith) before later e in
+    rw (timer_events-ledger before p t, ripe_armings-ledger before p t) h

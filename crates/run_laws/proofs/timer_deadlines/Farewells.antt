@@ -1,13 +1,10 @@
 -- Nobody is told that p ended while p goes on.
-use Rattle.std.proofs.Common.{◌≡◌, ℕ, Bool, true, false, not, ◌&&◌, ◌||◌, List, [], ◌∷◌, ◌++◌, refl, ◌∙◌, arith, append_assoc, Option, Some, None, map, slice_get, if◌then◌else◌, ◌==◌}
-use Rattle.run_laws.proofs.Common.{list_all, list_any, nat_tests, Call, Reply, Refusal, Stimulus, Event, Origin, INIT, POLL, EXITED, plain_event, number_event, State, Queued, Item, numbers, without, is_ending, farewells, killed_by, kill_refusal, Scheduler, after_item, delivery, first_event, of_event, in_front, state_in, put_in_state, Timer, Machine, scheduled, after_call, refused_or, event_of, is_callback_timer, cancelled_if, serve, expiry_of, is_number}
-use Rattle.process_core.specs.Requests.{synch_refusal, given_in_turn}
+use Rattle.std.proofs.Common.{◌≡◌, ℕ, Bool, true, false, not, ◌&&◌, ◌||◌, List, [], ◌∷◌, refl, ◌∙◌, arith, append_assoc, map, slice_get, ◌==◌}
+use Rattle.run_laws.proofs.Common.{list_all, list_any, nat_tests, Call, Stimulus, Event, Origin, POLL, EXITED, plain_event, number_event, Queued, Item, numbers, Scheduler, after_item, delivery, first_event, of_event, Timer, Machine, after_call, is_callback_timer, cancelled_if, serve, expiry_of, is_number, list_any-append}
 use Rattle.run_laws.proofs.Changes.{Changes, of_changes, is_notice}
-use Rattle.run_laws.proofs.event_order.Tally.{ends_in}
-use Rattle.run_laws.proofs.event_order.Shape.{is_give_exit, is_exit_turn, to_all}
+use Rattle.run_laws.proofs.event_order.Tally.{ends_in, is_give_exit, is_exit_turn, to_all}
 use Rattle.run_laws.proofs.event_order.Items.{with_agenda}
 use Rattle.run_laws.proofs.timer_deadlines.Fronts.{none-mapped, carried-any, after-any, all-more, all-cancelled}
-use Rattle.run_laws.proofs.event_order.After.{told_all}
 use Rattle.run_laws.proofs.event_order.Steps.{is_quiet_item, turn_entry}
 
 -- p is given EXIT
@@ -30,14 +27,6 @@ abbrev pub is_no_exited : Queued Bool → Bool
 is_no_exited (Queued.To q event) = not (event.code == EXITED)
 is_no_exited (Queued.ToAll event) = not (event.code == EXITED)
 is_no_exited (Queued.Expiry q c x) = true
-
-any-left : {A : Type 0} (test : A → Bool) (xs ys : List A) → list_any test (xs ++ ys) ≡ false → list_any test ys ≡ false
-any-left test [] ys h = h
-any-left test (x ∷ xs) ys h = any-left test xs ys (grind (arith, h))
-
-any-both : {A : Type 0} (test : A → Bool) (xs ys : List A) → list_any test xs ≡ false → list_any test ys ≡ false → list_any test (xs ++ ys) ≡ false
-any-both test [] ys h k = k
-any-both test (x ∷ xs) ys h k = grind (arith, h, any-both test xs ys)
 
 -- the queue
 
@@ -102,10 +91,9 @@ carried-doomed p item items s n h = grind (arith, nat_tests, spared-before, carr
 pub carried-farewell : (p : ℕ) (item : Item) (items : List Item) (s : Scheduler Bool) → list_all is_no_exited s.events ≡ true
     → has_farewell p (item ∷ items) ≡ false → has_farewell p (after_item item (with_agenda items s)).agenda ≡ false
 carried-farewell p Item.Polls items s n h =
-    grind (arith, h, any-both (is_farewell p) (map (λ n. Item.PollOne n) (numbers s.processes)) items (none-mapped (is_farewell p) (λ n. Item.PollOne n) (numbers s.processes) (λ n. refl)))
+    grind (arith, h, list_any-append (is_farewell p) (map (λ n. Item.PollOne n) (numbers s.processes)) items, none-mapped (is_farewell p) (λ n. Item.PollOne n) (numbers s.processes) (λ n. refl))
 carried-farewell p Item.Deliver items s n h =
-    any-both (is_farewell p) (delivery (numbers s.processes) (first_event s)) items (no_farewell-delivery p (numbers s.processes) s.events n) h
-carried-farewell p (Item.Start q) items s n h = grind (arith, h, no_farewell-given p q Origin.Synch (plain_event INIT) refl)
+    rw (list_any-append (is_farewell p) (delivery (numbers s.processes) (first_event s)) items, no_farewell-delivery p (numbers s.processes) s.events n) h
 carried-farewell p (Item.PollOne q) items s n h = grind (arith, h, no_farewell-given p q Origin.Poll (plain_event POLL) refl)
 carried-farewell p item items s n h = grind (arith, h)
 
@@ -121,34 +109,6 @@ after-doomed p call q m h = spared-before (is_doomed p m.scheduler.agenda) (is_d
 -- only who ends, or is doomed, is said farewell
 pub after-farewell : (p : ℕ) (call : Call) (q : ℕ) (origin : Origin) (stimulus : Stimulus) (m : Machine) → ends_in p (turn_entry q origin stimulus call) ≡ false
     → is_doomed p (after_call call q m).scheduler.agenda ≡ false → has_farewell p m.scheduler.agenda ≡ false → has_farewell p (after_call call q m).scheduler.agenda ≡ false
-after-farewell p Call.Exit q origin stimulus m n d h = go (is_ending (state_in m.scheduler q))
-  where
-    other : (q == p) ≡ false
-    other = grind (arith, nat_tests, n)
-
-    go : (b : Bool) → has_farewell p (if b then m.scheduler else in_front (farewells q m.scheduler ++ Item.Remove q ∷ []) (put_in_state q State.Leaving m.scheduler)).agenda ≡ false
-    go true = h
-    go false =
-        rw (append_assoc (told_all q m.scheduler) (Item.Remove q ∷ []) m.scheduler.agenda)
-        (any-both (is_farewell p) (told_all q m.scheduler) (Item.Remove q ∷ m.scheduler.agenda) (no_farewell-others p q (numbers (without q m.scheduler.processes)) other) h)
-after-farewell p (Call.Kill r) q origin stimulus m n d h = go (kill_refusal m.scheduler r) d
-  where
-    go : (o : Option Refusal) → is_doomed p (refused_or o q m (scheduled (killed_by q r) m)).scheduler.agenda ≡ false
-        → has_farewell p (refused_or o q m (scheduled (killed_by q r) m)).scheduler.agenda ≡ false
-    go (Some refusal) d = h
-    go None d =
-        let xs : List Item = Item.GiveExit r ∷ Item.Remove r ∷ Item.Turn q Origin.Answer (Stimulus.Answer Reply.Done) ∷ [] in
-        let front : is_doomed p (xs ++ m.scheduler.agenda) ≡ false =
-        any-left (dooms p) (told_all r m.scheduler) (xs ++ m.scheduler.agenda) (rw (append_assoc (told_all r m.scheduler) xs m.scheduler.agenda) at d) in
-        let other : (r == p) ≡ false = grind (arith, front) in
-        rw (append_assoc (told_all r m.scheduler) xs m.scheduler.agenda)
-        (any-both (is_farewell p) (told_all r m.scheduler) (xs ++ m.scheduler.agenda) (no_farewell-others p r (numbers (without r m.scheduler.processes)) other) h)
-after-farewell p (Call.PostSynch r code payload) q origin stimulus m n d h = go (synch_refusal m.scheduler r code) refl
-  where
-    go : (o : Option Refusal) → synch_refusal m.scheduler r code ≡ o
-        → has_farewell p (refused_or o q m (scheduled (given_in_turn q r (event_of code payload)) m)).scheduler.agenda ≡ false
-    go (Some refusal) e = h
-    go None e =
-        let free : (code == EXITED) ≡ false = grind (arith, nat_tests, e) in
-        grind (arith, h, no_farewell-given p r Origin.Synch (event_of code payload) free)
+after-farewell p Call.Exit q origin stimulus m n d h = grind (arith, nat_tests, n, append_assoc, list_any-append, no_farewell-others)
+after-farewell p (Call.Kill r) q origin stimulus m n d h = grind (arith, nat_tests, append_assoc, list_any-append, no_farewell-others)
 after-farewell p call q origin stimulus m n d h = grind (arith, h)

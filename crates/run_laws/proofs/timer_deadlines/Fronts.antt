@@ -1,17 +1,11 @@
 -- A call or an item leaves what is on the agenda, and puts in front of it what passes a test.
-use Rattle.std.proofs.lemmas.Bool.Decides.{nat_tests}
+use Rattle.run_laws.proofs.Common.{nat_tests, list_all, list_any, Call, Reply, Stimulus, Origin, Entry, Note, Queued, Item, is_application, Scheduler, of_event, delivery, after_item, Machine, after_call, cancelled_if, list_any-append, list_all-append}
 use Rattle.std.proofs.Common.{◌≡◌, ℕ, Bool, true, false, List, [], ◌∷◌, ◌++◌, refl, arith, Option, Some, map}
-use Rattle.run_laws.proofs.Common.{list_all, list_any, Call, Reply, Stimulus, Origin, Entry, Note, Queued, Item, is_application, Scheduler, of_event, delivery, after_item, Machine, after_call, cancelled_if}
 use Rattle.run_laws.proofs.event_order.Items.{with_agenda}
 use Rattle.run_laws.proofs.event_order.After.{call-front}
 
-pub any-append : {A : Type 0} (test : A → Bool) (xs ys : List A) → list_any test ys ≡ true → list_any test (xs ++ ys) ≡ true
-any-append test [] ys h = h
-any-append test (x ∷ xs) ys h = grind (arith, any-append test xs ys h)
-
 pub all-append : {A : Type 0} (test : A → Bool) (xs ys : List A) → list_all test xs ≡ true → list_all test ys ≡ true → list_all test (xs ++ ys) ≡ true
-all-append test [] ys h e = e
-all-append test (x ∷ xs) ys h k = grind (arith, h, all-append test xs ys)
+all-append test xs ys h k = rw (list_all-append test xs ys, h) k
 
 pub all-mapped : (test : Item → Bool) (f : ℕ → Item) (ns : List ℕ) → ((n : ℕ) → test (f n) ≡ true) → list_all test (map f ns) ≡ true
 all-mapped test f [] h = refl
@@ -25,7 +19,6 @@ none-mapped test f (n ∷ ns) h = rw (h n) (none-mapped test f ns h)
 pub all-delivered : (test : Item → Bool) (ns : List ℕ) (event : Option (Queued Bool)) → test Item.Polls ≡ true → ((n : ℕ) (stimulus : Stimulus) → test (Item.Give n Origin.Event stimulus) ≡ true)
     → list_all test (delivery ns event) ≡ true
 all-delivered test ns (Some (Queued.To q event)) p g = rw (g q (of_event event)) refl
-all-delivered test [] (Some (Queued.ToAll event)) p g = refl
 all-delivered test (n ∷ ns) (Some (Queued.ToAll event)) p g = rw (p, g n (of_event event)) (all-delivered test ns (Some (Queued.ToAll event)) p g)
 all-delivered test ns _ p g = refl
 
@@ -47,15 +40,14 @@ carried-queue keep item items s h = grind (arith, nat_tests)
 
 pub carried-any : (test : Item → Bool) (item : Item) (items : List Item) (s : Scheduler Bool) → list_any test items ≡ true
     → list_any test (after_item item (with_agenda items s)).agenda ≡ true
-carried-any test item items s h = grind (arith, nat_tests, any-append)
+carried-any test item items s h = grind (arith, nat_tests, list_any-append)
 
 -- a call
 
 pub after-any : (test : Item → Bool) (call : Call) (q : ℕ) (m : Machine) → list_any test m.scheduler.agenda ≡ true
     → list_any test (after_call call q m).scheduler.agenda ≡ true
-after-any test Call.Wait q m h = grind (arith, h)
-after-any test Call.Exit q m h = grind (arith, nat_tests, any-append)
-after-any test (Call.Kill r) q m h = grind (arith, nat_tests, any-append)
+after-any test Call.Exit q m h = grind (arith, nat_tests, list_any-append)
+after-any test (Call.Kill r) q m h = grind (arith, nat_tests, list_any-append)
 after-any test call q m h = grind (arith, nat_tests, call-front)
 
 -- the items that a call puts in front
@@ -67,14 +59,6 @@ pub record Passes (test : Item → Bool) (q : ℕ) (s : Scheduler Bool) : Type 0
   pub exit : (r : ℕ) → is_application s.applications r ≡ true → test (Item.GiveExit r) ≡ true
   pub remove : (r : ℕ) → is_application s.applications r ≡ true → test (Item.Remove r) ≡ true
   pub leave : test (Item.Remove q) ≡ true
-
--- every call but Wait, Exit, Kill and Start
-abbrev is_calm_call : Call → Bool
-is_calm_call Call.Wait = false
-is_calm_call Call.Exit = false
-is_calm_call (Call.Kill q) = false
-is_calm_call (Call.Start q) = false
-is_calm_call _ = true
 
 pub after-all : (test : Item → Bool) (call : Call) (q : ℕ) (m : Machine) → Passes test q m.scheduler → list_all test m.scheduler.agenda ≡ true
     → list_all test (after_call call q m).scheduler.agenda ≡ true

@@ -1,8 +1,6 @@
 -- Timer t of p by the turns of p, from the first on.
-use Rattle.std.proofs.lemmas.Bool.Decides.{nat_tests}
+use Rattle.run_laws.proofs.Common.{nat_tests, cons_option, option_map_or, Call, Reply, Stimulus, Origin, Pid, Entry, Cell, zero_cell, deadline, heard, is_done, OwnTurn, own, own_from, own_turn, reply_of, ticks_in, clock_after, arms, stops, cell_after, is_arming, is_arming_or_stop, ripe_armings, is_timer_event, timer_events, cell_at, stood_until, ripe_from}
 use Rattle.std.proofs.Common.{◌≡◌, ℕ, ◌+◌, Bool, true, false, ◌&&◌, ◌||◌, List, [], ◌∷◌, ◌++◌, refl, ◌∙◌, sym, arith, Option, Some, None, option_to_list, fold, find, if◌then◌else◌, ◌==◌, nat_le}
-use Rattle.run_laws.proofs.Common.{cons_option, option_map_or, Call, Reply, Stimulus, Origin, Pid, Entry, Cell, zero_cell, deadline, heard, is_done, OwnTurn, own, own_from, own_turn, reply_of, ticks_in, clock_after, arms, stops, cell_after, is_arming, is_arming_or_stop, ripe_armings, is_timer_event, timer_events}
-use Rattle.run_laws.specs.TimerLaws.{cell_at, stood_until, ripe_from}
 use Rattle.run_laws.proofs.event_order.Tally.{reply_or, reply_or-none, heard-turn, heard-other, is_turn, cons_option-append, cons_option-nil}
 
 -- the turns of p, where the reply to the last one is k unless the entries show it
@@ -22,8 +20,7 @@ abbrev pub clock_from : ℕ → List Entry → ℕ
 clock_from clock entries = fold (λ clock entry. clock + ticks_in entry) clock entries
 
 turn-none : (p clock : ℕ) (entry : Entry) (later : List Entry) → own_turn_or None p clock entry later ≡ own_turn p clock entry later
-turn-none p clock (Entry.Turn pid origin stimulus call) later = rw (reply_or-none p later)
-turn-none p clock _ later = refl
+turn-none p clock entry later = grind (arith, nat_tests, reply_or-none)
 
 pub turns-none : (p clock : ℕ) (X : List Entry) → turns_or None p clock X ≡ own_from p clock X
 turns-none p clock [] = refl

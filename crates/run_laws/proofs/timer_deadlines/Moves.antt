@@ -1,7 +1,7 @@
 -- What a call does to a timer: an accepted arming puts it on the list with its new cell, a stop takes it off, and no other call moves it.
-use Rattle.std.proofs.Common.{◌≡◌, ℕ, ◌+◌, Bool, true, false, not, ◌&&◌, ◌||◌, List, ◌∷◌, refl, ◌∙◌, sym, subst, arith, Option, Some, None, if◌then◌else◌, ◌==◌, nat_le, nat_lt}
+use Rattle.std.proofs.Common.{◌≡◌, ℕ, ◌+◌, Bool, true, false, ◌&&◌, ◌||◌, List, ◌∷◌, refl, subst, arith, Option, Some, None, ◌==◌, nat_le, nat_lt}
 use Rattle.run_laws.proofs.Common.{nat_tests, Call, Reply, Refusal, Item, Timer, Cell, all_timers, event_timer, callback_timer, is_timer, Timers, cell_of, is_armed, armed_with, set_timer, stop_timer, restart_timer, reset_timer, Machine, with_timers, mark, expiries_cancelled, after_call, answer_done, refused_or, is_callback_timer, reply_of, is_done, arms, stops, cell_after}
-use Rattle.timer_core.specs.Timers.{can_reset}
+use Rattle.kernel_core.specs.Calls.{timer_refusal, callback_refusal, reset_refusal}
 use Rattle.run_laws.proofs.timer_deadlines.Timing.{cell_names, armed-names, cell-armed_own, cell-armed_other, armed-own, armed-other, stopped-own, stopped-other}
 
 abbrev pub own_timer : ℕ → ℕ → Timer
@@ -58,28 +58,14 @@ pub record Moves (p t q clock : ℕ) (call : Call) (k : Option Reply) (old new :
 pub still_moves : (p t q clock : ℕ) (call : Call) (k : Option Reply) (old new : Timers) → is_moved_by p t q call k ≡ false
     → is_armed (own_timer p t) new ≡ is_armed (own_timer p t) old → (nat_le t 7 ≡ true → cell_of (own_timer p t) new ≡ cell_of (own_timer p t) old)
     → Moves p t q clock call k old new
-still_moves p t q clock call k old new n e f =
-    let unarmed : is_set_by p t q call k ≡ false = grind (arith, n) in
-    let unstopped : (q == p && (is_done k && stops t call)) ≡ false = grind (arith, n) in
-    record {
-      kept = λ h. e;
-      kept_cell = λ h number. f number;
-      set = λ h. absurd (grind (arith, h, unarmed));
-      set_cell = λ h. absurd (grind (arith, h, unarmed));
-      named = λ h. absurd (grind (arith, h, unarmed));
-      unset = λ h. absurd (grind (arith, h, unstopped));
-    }
+still_moves p t q clock call k old new n e f = grind (arith, nat_tests, n)
 
 -- the reply to q's call, if q is p
 abbrev Knowledge : ℕ → ℕ → Option Reply → Reply → Type 0
 Knowledge p q k reply = (q == p) ≡ true → k ≡ Some reply
 
 refused_moves : (p t q clock : ℕ) (call : Call) (k : Option Reply) (refusal : Refusal) (old : Timers) → Knowledge p q k (Reply.Refused refusal) → Moves p t q clock call k old old
-refused_moves p t q clock call k refusal old told = still_moves p t q clock call k old old (go (q == p) refl) refl (λ number. refl)
-  where
-    go : (b : Bool) → (q == p) ≡ b → (b && (is_done k && (arms t call || stops t call))) ≡ false
-    go false e = refl
-    go true e = let refused : is_done k ≡ false = rw (told e) refl in rw refused refl
+refused_moves p t q clock call k refusal old told = grind (arith, nat_tests, still_moves)
 
 same_timer : (p t q u : ℕ) → (q == p) ≡ true → (u == t) ≡ true → own_timer p t ≡ own_timer q u
 same_timer p t q u e f = let qp : q ≡ p = grind (arith, nat_tests, e) in let ut : u ≡ t = grind (arith, nat_tests, f) in rw (qp, ut) refl
@@ -88,38 +74,7 @@ same_timer p t q u e f = let qp : q ≡ p = grind (arith, nat_tests, e) in let u
 armed_moves : (p t q u clock : ℕ) (call : Call) (k : Option Reply) (cell : Cell) (old : Timers) → Setting p old → nat_le u 7 ≡ true → Knowledge p q k Reply.Done
     → arms t call ≡ (u == t) → stops t call ≡ false → ((u == t) ≡ true → cell ≡ cell_after t clock call (cell_of (own_timer q u) old))
     → Moves p t q clock call k old (armed_with (own_timer q u) cell old)
-armed_moves p t q u clock call k cell old s fits told arm stop value = go (q == p) (u == t) refl refl
-  where
-    new : Timers
-    new = armed_with (own_timer q u) cell old
-
-    other : (p == q && t == u) ≡ false → Moves p t q clock call k old new
-    other ne =
-        let n : is_timer (own_timer p t) (own_timer q u) ≡ false = grind (arith, ne) in
-        let unmoved : is_moved_by p t q call k ≡ false = grind (arith, nat_tests, ne, arm, stop) in
-        still_moves p t q clock call k old new unmoved (armed-other (own_timer p t) (own_timer q u) cell old n)
-        (λ number. cell-armed_other (own_timer p t) (own_timer q u) cell old n)
-
-    go : (same this : Bool) → (q == p) ≡ same → (u == t) ≡ this → Moves p t q clock call k old new
-    go false this e f = other (grind (arith, nat_tests, e))
-    go true false e f = other (grind (arith, nat_tests, f))
-    go true true e f =
-        let number : nat_le t 7 ≡ true = grind (arith, nat_tests, f, fits) in
-        let answer_done : is_done k ≡ true = rw (told e) refl in
-        let armed : is_set_by p t q call k ≡ true = grind (arith, e, answer_done, arm, f) in
-        let same : own_timer p t ≡ own_timer q u = same_timer p t q u e f in
-        let on : is_armed (own_timer p t) new ≡ true = subst (λ x. is_armed (own_timer p t) (armed_with x cell old) ≡ true) same (armed-own (own_timer p t) cell old) in
-        let own : cell_of (own_timer p t) new ≡ cell =
-        subst (λ x. cell_of (own_timer p t) (armed_with x cell old) ≡ cell) same (cell-armed_own p t cell old s.names s.low s.high number) in
-        let it : cell ≡ cell_after t clock call (cell_of (own_timer p t) old) = subst (λ x. cell ≡ cell_after t clock call (cell_of x old)) (sym same) (value f) in
-        record {
-          kept = λ h. absurd (grind (arith, h, e, answer_done, arm, f));
-          kept_cell = λ h number. absurd (grind (arith, h, armed));
-          set = λ h. on;
-          set_cell = λ h. own ∙ it;
-          named = λ h. number;
-          unset = λ h. absurd (grind (arith, h, stop));
-        }
+armed_moves p t q u clock call k cell old s fits told arm stop value = grind (arith, nat_tests, arm, stop, fits, still_moves, armed-other, cell-armed_other, same_timer, armed-own, cell-armed_own)
 
 -- a stop of timer u of q
 stopped_moves : (p t q u clock : ℕ) (k : Option Reply) (old : Timers) → Knowledge p q k Reply.Done → Moves p t q clock (Call.TimerStop u) k old (stop_timer (own_timer q u) old)
@@ -153,8 +108,17 @@ stopped_moves p t q u clock k old told = go (q == p) (u == t) refl refl
           unset = λ h. off;
         }
 
-number_fits : (u : ℕ) → nat_lt u 8 ≡ true → nat_le u 7 ≡ true
+-- a call that may be refused
+by_refusal : (p t : ℕ) (call : Call) (q : ℕ) (k : Option Reply) (m after : Machine) (o : Option Refusal) → FrontIs p k (refused_or o q m (answer_done q after)).scheduler.agenda
+    → (o ≡ None → Knowledge p q k Reply.Done → Moves p t q m.clock call k m.timers after.timers)
+    → Moves p t q m.clock call k m.timers (refused_or o q m (answer_done q after)).timers
+by_refusal p t call q k m after o front made = grind (arith, nat_tests, refused_moves)
+
+number_fits : (u : ℕ) → timer_refusal u ≡ None → nat_le u 7 ≡ true
 number_fits u h = grind (arith, nat_tests, h)
+
+reset_fits : (q u : ℕ) (m : Machine) → reset_refusal q u m ≡ None → nat_le u 7 ≡ true
+reset_fits q u m h = grind (arith, nat_tests, h)
 
 -- a call that names no event timer
 unmoved_by : (p t q : ℕ) (call : Call) (k : Option Reply) → arms t call ≡ false → stops t call ≡ false → is_moved_by p t q call k ≡ false
@@ -162,82 +126,26 @@ unmoved_by p t q call k a b = grind (arith, a, b)
 
 pub after-moves : (p t : ℕ) (call : Call) (q : ℕ) (k : Option Reply) (m : Machine) → Setting p m.timers → FrontIs p k (after_call call q m).scheduler.agenda
     → Moves p t q m.clock call k m.timers (after_call call q m).timers
-after-moves p t (Call.TimerSet u interval) q k m s front = go (nat_lt u 8) refl front
-  where
-    after : Machine
-    after = mark 0 (with_timers (set_timer m.clock (event_timer q u) interval m.timers) m)
-
-    go : (b : Bool) → nat_lt u 8 ≡ b → FrontIs p k (refused_or (if b then None else Some Refusal.BadName) q m (answer_done q after)).scheduler.agenda
-        → Moves p t q m.clock (Call.TimerSet u interval) k m.timers (refused_or (if b then None else Some Refusal.BadName) q m (answer_done q after)).timers
-    go false e f = refused_moves p t q m.clock (Call.TimerSet u interval) k Refusal.BadName m.timers f
-    go true e f =
-        armed_moves p t q u m.clock (Call.TimerSet u interval) k (record { start = m.clock; interval = interval }) m.timers s (number_fits u e) f refl refl (λ this. rw this refl)
-after-moves p t (Call.TimerRestart u) q k m s front = go (nat_lt u 8) refl front
-  where
-    after : Machine
-    after = mark 0 (with_timers (restart_timer m.clock (event_timer q u) m.timers) m)
-
-    go : (b : Bool) → nat_lt u 8 ≡ b → FrontIs p k (refused_or (if b then None else Some Refusal.BadName) q m (answer_done q after)).scheduler.agenda
-        → Moves p t q m.clock (Call.TimerRestart u) k m.timers (refused_or (if b then None else Some Refusal.BadName) q m (answer_done q after)).timers
-    go false e f = refused_moves p t q m.clock (Call.TimerRestart u) k Refusal.BadName m.timers f
-    go true e f =
-        armed_moves p t q u m.clock (Call.TimerRestart u) k (record (cell_of (event_timer q u) m.timers) { start = m.clock }) m.timers s (number_fits u e) f refl refl
-        (λ this. rw this refl)
-after-moves p t (Call.TimerReset u) q k m s front = go (nat_lt u 8) (can_reset (event_timer q u) m.timers) refl front
-  where
-    cell : Cell
-    cell = cell_of (event_timer q u) m.timers
-
-    after : Machine
-    after = mark 0 (with_timers (reset_timer (event_timer q u) m.timers) m)
-
-    go : (b can : Bool) → nat_lt u 8 ≡ b
-        → FrontIs p k (refused_or (if not b then Some Refusal.BadName else if can then None else Some Refusal.Range) q m (answer_done q after)).scheduler.agenda
-        → Moves p t q m.clock (Call.TimerReset u) k m.timers (refused_or (if not b then Some Refusal.BadName else if can then None else Some Refusal.Range) q m (answer_done q after)).timers
-    go false can e f = refused_moves p t q m.clock (Call.TimerReset u) k Refusal.BadName m.timers f
-    go true false e f = refused_moves p t q m.clock (Call.TimerReset u) k Refusal.Range m.timers f
-    go true true e f =
-        armed_moves p t q u m.clock (Call.TimerReset u) k (record cell { start = cell.start + cell.interval }) m.timers s (number_fits u e) f refl refl (λ this. rw this refl)
-after-moves p t (Call.TimerStop u) q k m s front = go (nat_lt u 8) front
-  where
-    after : Machine
-    after = with_timers (stop_timer (event_timer q u) m.timers) m
-
-    go : (b : Bool) → FrontIs p k (refused_or (if b then None else Some Refusal.BadName) q m (answer_done q after)).scheduler.agenda
-        → Moves p t q m.clock (Call.TimerStop u) k m.timers (refused_or (if b then None else Some Refusal.BadName) q m (answer_done q after)).timers
-    go false f = refused_moves p t q m.clock (Call.TimerStop u) k Refusal.BadName m.timers f
-    go true f = stopped_moves p t q u m.clock k m.timers f
-after-moves p t (Call.CallbackSet c interval) q k m s front = go (nat_lt c 4)
-  where
-    cell : Cell
-    cell = record { start = m.clock; interval = interval }
-
-    after : Machine
-    after = mark 0 (expiries_cancelled (is_callback_timer q c) (with_timers (set_timer m.clock (callback_timer q c) interval m.timers) m))
-
-    none : is_moved_by p t q (Call.CallbackSet c interval) k ≡ false
-    none = unmoved_by p t q (Call.CallbackSet c interval) k refl refl
-
-    go : (b : Bool) → Moves p t q m.clock (Call.CallbackSet c interval) k m.timers (refused_or (if b then None else Some Refusal.BadName) q m (answer_done q after)).timers
-    go false = still_moves p t q m.clock (Call.CallbackSet c interval) k m.timers m.timers none refl (λ number. refl)
-    go true =
-        still_moves p t q m.clock (Call.CallbackSet c interval) k m.timers (armed_with (callback_timer q c) cell m.timers) none
-        (armed-other (own_timer p t) (callback_timer q c) cell m.timers refl)
-        (λ number. cell-armed_other (own_timer p t) (callback_timer q c) cell m.timers refl)
-after-moves p t (Call.CallbackStop c) q k m s front = go (nat_lt c 4)
-  where
-    after : Machine
-    after = expiries_cancelled (is_callback_timer q c) (with_timers (stop_timer (callback_timer q c) m.timers) m)
-
-    none : is_moved_by p t q (Call.CallbackStop c) k ≡ false
-    none = unmoved_by p t q (Call.CallbackStop c) k refl refl
-
-    go : (b : Bool) → Moves p t q m.clock (Call.CallbackStop c) k m.timers (refused_or (if b then None else Some Refusal.BadName) q m (answer_done q after)).timers
-    go false = still_moves p t q m.clock (Call.CallbackStop c) k m.timers m.timers none refl (λ number. refl)
-    go true =
-        still_moves p t q m.clock (Call.CallbackStop c) k m.timers (stop_timer (callback_timer q c) m.timers) none
-        (stopped-other (own_timer p t) (callback_timer q c) m.timers.armed refl) (λ number. refl)
-after-moves p t call q k m s front = plain call (grind arith) (grind arith)
-  where
-    plain : (call : Call) → is_timer_call call ≡ false → is_moved_by p t q call k ≡ false → Moves p t q m.clock call k m.timers (after_call call q m).timers
-    plain call n a = rw (after-timers call q m n) (still_moves p t q m.clock call k m.timers m.timers a refl (λ number. refl))
+after-moves p t (Call.TimerSet u interval) q k m s front =
+    by_refusal p t (Call.TimerSet u interval) q k m (mark 0 (with_timers (set_timer m.clock (event_timer q u) interval m.timers) m)) (timer_refusal u) front
+    (λ e told. armed_moves p t q u m.clock (Call.TimerSet u interval) k (record { start = m.clock; interval = interval }) m.timers s (number_fits u e) told refl refl (λ this. rw this refl))
+after-moves p t (Call.TimerRestart u) q k m s front =
+    by_refusal p t (Call.TimerRestart u) q k m (mark 0 (with_timers (restart_timer m.clock (event_timer q u) m.timers) m)) (timer_refusal u) front
+    (λ e told.
+    armed_moves p t q u m.clock (Call.TimerRestart u) k (record (cell_of (event_timer q u) m.timers) { start = m.clock }) m.timers s (number_fits u e) told refl refl
+    (λ this. rw this refl))
+after-moves p t (Call.TimerReset u) q k m s front =
+    let cell : Cell = cell_of (event_timer q u) m.timers in
+    by_refusal p t (Call.TimerReset u) q k m (mark 0 (with_timers (reset_timer (event_timer q u) m.timers) m)) (reset_refusal q u m) front
+    (λ e told.
+    armed_moves p t q u m.clock (Call.TimerReset u) k (record cell { start = cell.start + cell.interval }) m.timers s (reset_fits q u m e) told refl refl (λ this. rw this refl))
+after-moves p t (Call.TimerStop u) q k m s front =
+    by_refusal p t (Call.TimerStop u) q k m (with_timers (stop_timer (event_timer q u) m.timers) m) (timer_refusal u) front (λ e told. stopped_moves p t q u m.clock k m.timers told)
+after-moves p t (Call.CallbackSet c interval) q k m s front = grind (arith, nat_tests, by_refusal, still_moves, unmoved_by, armed-other, cell-armed_other)
+after-moves p t (Call.CallbackStop c) q k m s front =
+    let timer : Timer = callback_timer q c in
+    by_refusal p t (Call.CallbackStop c) q k m (expiries_cancelled (is_callback_timer q c) (with_timers (stop_timer timer m.timers) m)) (callback_refusal c) front
+    (λ e told.
+    still_moves p t q m.clock (Call.CallbackStop c) k m.timers (stop_timer timer m.timers) (unmoved_by p t q (Call.CallbackStop c) k refl refl)
+    (stopped-other (own_timer p t) timer m.timers.armed refl) (λ number. refl))
+after-moves p t call q k m s front = grind (arith, nat_tests, after-timers, still_moves)

@@ -1,7 +1,7 @@
 -- The kernel's own processes take no turn and never leave, and only notes are shown.
 use Rattle.std.proofs.Common.{◌≡◌, ℕ, Bool, true, List, ◌∷◌, arith, nat_le}
 use Rattle.run_laws.proofs.Common.{list_all, nat_tests, Call, Item, Scheduler, after_item, Machine, after_call}
-use Rattle.run_laws.proofs.event_order.Shape.{is_note}
+use Rattle.run_laws.proofs.event_order.Tally.{is_note}
 use Rattle.run_laws.proofs.event_order.Items.{with_agenda}
 use Rattle.run_laws.proofs.timer_deadlines.Fronts.{all-append, all-mapped, all-delivered, after-all}
 

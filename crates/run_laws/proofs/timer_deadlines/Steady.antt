@@ -1,9 +1,9 @@
 -- The clock, the names of the cells and the codes in the queue, step by step.
-use Rattle.std.proofs.Common.{◌≡◌, ℕ, ◌+◌, true, List, [], ◌∷◌, ◌++◌, length, refl, ◌∙◌, arith, Option, Some, None, nat_le}
-use Rattle.run_laws.proofs.Common.{list_all, nat_tests, Call, Refusal, Stimulus, Event, Origin, Input, Note, Entry, Item, after_item, in_front, free_slot, all_timers, Machine, scheduled, after_call, is_callback_timer, serve, ticks_in, clock_after, effect, frame_held, frame_refusal, held_unless_lost}
+use Rattle.std.proofs.Common.{◌≡◌, ℕ, ◌+◌, true, List, [], ◌∷◌, ◌++◌, ◌∙◌, arith, nat_le}
+use Rattle.run_laws.proofs.Common.{list_all, nat_tests, Call, Stimulus, Event, Origin, Input, Note, Entry, Item, after_item, in_front, all_timers, Machine, scheduled, after_call, is_callback_timer, serve, ticks_in, clock_after, effect}
 use Rattle.run_laws.proofs.timer_deadlines.Ledgers.{fold-append}
 use Rattle.run_laws.proofs.event_order.Items.{with_agenda, facing}
-use Rattle.run_laws.proofs.Untouched.{serve-untouched}
+use Rattle.run_laws.proofs.Arrivals.{serve-untouched}
 use Rattle.run_laws.proofs.timer_deadlines.Fronts.{all-more, carried-queue}
 use Rattle.run_laws.proofs.timer_deadlines.Timed.{is_no_timer, plain-cancelled, serve-fair}
 use Rattle.run_laws.proofs.timer_deadlines.Timing.{cell_names}
@@ -24,13 +24,7 @@ clock-more X e = fold-append (λ clock entry. clock + ticks_in entry) 0 X (e ∷
 
 pub steady-carried : (item : Item) (items : List Item) (m : Machine) (X : List Entry) → Steady (facing (item ∷ items) m) X
     → Steady (record m { scheduler = after_item item (with_agenda items m.scheduler) }) X
-steady-carried item items m X h =
-    record {
-      clock = h.clock;
-      names = h.names;
-      plain = carried-queue is_no_timer item items m.scheduler h.plain;
-      regular = carried-regular item items m.scheduler h.regular;
-    }
+steady-carried item items m X h = grind (arith, nat_tests, carried-queue, carried-regular)
 
 -- these items, which are no turns
 pub steady-front : (items : List Item) (m : Machine) (X : List Entry) → list_all is_regular (items ++ m.scheduler.agenda) ≡ true → Steady m X
@@ -59,35 +53,12 @@ after-plain call q m h = grind (arith, h)
 
 pub steady-turn : (q : ℕ) (origin : Origin) (stimulus : Stimulus) (call : Call) (m : Machine) (X : List Entry) → nat_le 4 q ≡ true → Steady m X
     → Steady (after_call call q m) (X ++ Entry.Turn (record { 0 = q }) origin stimulus call ∷ [])
-steady-turn q origin stimulus call m X a h =
-    let e : Entry = Entry.Turn (record { 0 = q }) origin stimulus call in
-    record {
-      clock = rw (after-clock call q m, clock-more X e, h.clock) (omega arith);
-      names = after-names call q m ∙ h.names;
-      plain = after-plain call q m h.plain;
-      regular = after-regular call q m a h.regular;
-    }
+steady-turn q origin stimulus call m X a h = grind (arith, nat_tests, after-clock, clock-more, after-names, after-plain, after-regular)
 
 -- an entry that is shown
 pub steady-shown : (note : Note) (m : Machine) (X : List Entry) → Steady m X → Steady m (X ++ Entry.Note note ∷ [])
-steady-shown note m X h =
-    record { clock = rw (clock-more X (Entry.Note note), h.clock) (omega arith); names = h.names; plain = h.plain; regular = h.regular }
+steady-shown note m X h = grind (arith, nat_tests, clock-more)
 
 -- an input
 pub steady-input : (input : Input) (m : Machine) (X : List Entry) → Steady m X → Steady (effect input (record m { work = 0 })) (X ++ Entry.Input input ∷ [])
-steady-input (Input.Tick n) m X h =
-    record { clock = rw (clock-more X (Entry.Input (Input.Tick n)), h.clock) refl; names = h.names; plain = h.plain; regular = h.regular }
-steady-input (Input.Serial bytes) m X h =
-    record { clock = rw (clock-more X (Entry.Input (Input.Serial bytes)), h.clock) (omega arith); names = h.names; plain = h.plain; regular = h.regular }
-steady-input (Input.Frame bytes) m X h = arrives (frame_refusal (length bytes.items) (record m { work = 0 }))
-  where
-    same : m.clock ≡ clock_after (X ++ Entry.Input (Input.Frame bytes) ∷ [])
-    same = rw (clock-more X (Entry.Input (Input.Frame bytes)), h.clock) (omega arith)
-
-    held : (o : Option ℕ) → Steady (frame_held o bytes.items (record m { work = 0 })) (X ++ Entry.Input (Input.Frame bytes) ∷ [])
-    held None = record { clock = same; names = h.names; plain = h.plain; regular = h.regular }
-    held (Some slot) = record { clock = same; names = h.names; plain = h.plain; regular = h.regular }
-
-    arrives : (o : Option Refusal) → Steady (held_unless_lost o bytes.items (record m { work = 0 })) (X ++ Entry.Input (Input.Frame bytes) ∷ [])
-    arrives (Some refusal) = record { clock = same; names = h.names; plain = h.plain; regular = h.regular }
-    arrives None = held (free_slot m.packets)
+steady-input input m X h = grind (arith, nat_tests, clock-more)

@@ -1,16 +1,13 @@
 -- The machine's timers against the ledger.
-use Rattle.std.proofs.Common.{◌≡◌, ℕ, ◌+◌, ◌-◌, ◌<◌, ◌≤◌, Bool, true, false, not, ◌||◌, List, [], ◌∷◌, ◌++◌, refl, ◌∙◌, arith, map, filter, flat_map, ◌==◌, nat_le, nat_lt}
-use Rattle.run_laws.proofs.Common.{list_any, range_with_len, nat_tests, Timer, Cell, all_timers, event_timer, callback_timer, is_timer, Timers, zero_cell, cell_of, is_armed, armed_with}
+use Rattle.std.proofs.Common.{◌≡◌, ℕ, ◌+◌, ◌-◌, ◌<◌, ◌≤◌, Bool, true, false, not, ◌||◌, List, [], ◌∷◌, refl, ◌∙◌, arith, map, filter, flat_map, ◌==◌, nat_le, nat_lt}
+use Rattle.run_laws.proofs.Common.{list_any, range_with_len, nat_tests, Timer, Cell, all_timers, event_timer, is_timer, Timers, zero_cell, cell_of, is_armed, armed_with, list_any-append, list_any_at, NamedCell, cell_under, given_cell, with_cell}
 use Rattle.std.proofs.lemmas.Bool.{eq-eqb, eqb-true}
-use Rattle.std.proofs.lemmas.List.Folds.{list_any-append, list_any_at}
 use Rattle.std.proofs.lemmas.List.FromFn.{length-range_with_len, get_or-range_with_len}
-use Rattle.timer_core.specs.Timers.{NamedCell, cell_under, given_cell, with_cell}
 
 -- names
 
 same_timer : (timer : Timer) → is_timer timer timer ≡ true
-same_timer (Timer.Event p t) = grind (arith, nat_tests)
-same_timer (Timer.Callback p t) = grind (arith, nat_tests)
+same_timer timer = grind (arith, nat_tests)
 
 pub symm : (a b : Timer) → is_timer a b ≡ is_timer b a
 symm a b = grind (arith, nat_tests)
@@ -76,9 +73,7 @@ in_range from n p low high =
 
 event_timer-named : (p t : ℕ) → nat_le 4 p ≡ true → nat_lt p 20 ≡ true → nat_le t 7 ≡ true → list_any (is_timer (event_timer p t)) all_timers ≡ true
 unfolding all_timers
-event_timer-named p t a b c =
-    any_of_each (is_timer (event_timer p t)) (λ q. map (event_timer q) (range_with_len 0 8) ++ map (callback_timer q) (range_with_len 0 4)) p (range_with_len 4 16)
-    (in_range 4 16 p (grind (arith, nat_tests, a)) (grind (arith, nat_tests, b))) (grind (arith, nat_tests, c))
+event_timer-named p t a b c = grind (arith, nat_tests, a, b, c, any_of_each, in_range)
 
 pub cell-armed_own : (p t : ℕ) (cell : Cell) (timers : Timers) → cell_names timers.cells ≡ all_timers → nat_le 4 p ≡ true → nat_lt p 20 ≡ true → nat_le t 7 ≡ true
     → cell_of (event_timer p t) (armed_with (event_timer p t) cell timers) ≡ cell

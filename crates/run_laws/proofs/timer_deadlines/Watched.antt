@@ -1,12 +1,13 @@
 -- While a timer is due, etimer is marked or its POLL is on the agenda.
-use Rattle.std.proofs.Common.{◌≡◌, ℕ, Bool, true, false, not, ◌&&◌, ◌||◌, List, [], ◌∷◌, refl, ◌∙◌, arith, Some, is_some, find, filter, if◌then◌else◌, ◌==◌}
-use Rattle.run_laws.proofs.Common.{list_any, nat_tests, Stimulus, Event, Origin, POLL, State, Item, Process, is_process, is_marked, with_state, with_mark, without, Scheduler, after_item, in_front, Timer, is_timer, is_event_timer_of, is_callback_timer_of, Timers, is_due, stop_timer, without_callback_timers, Machine, scheduled, with_event, with_timers, free_places, mark, serve, times, post_expiry, post_first_due, post_due, is_any_due, forget_callback_timers}
+use Rattle.std.proofs.Common.{◌≡◌, ℕ, Bool, true, false, not, ◌&&◌, ◌||◌, List, [], ◌∷◌, refl, ◌∙◌, arith, Some, is_some, find, filter, if◌then◌else◌, ◌==◌, ap, Option}
+use Rattle.run_laws.proofs.Common.{list_any, nat_tests, Stimulus, Event, Origin, POLL, State, Item, Process, is_process, is_marked, with_state, with_mark, without, Scheduler, after_item, in_front, Timer, is_timer, is_event_timer_of, is_callback_timer_of, Timers, is_due, stop_timer, without_callback_timers, Machine, scheduled, with_event, with_timers, free_places, mark, serve, times, post_expiry, post_first_due, post_due, is_any_due, forget_callback_timers, list_any-append, Call, Refusal, Input, is_any_marked, event_timer, set_timer, reset_timer, restart_timer, Config, after_call, refused_or, answer_done, effect, at_start, timer_refusal, reset_refusal}
 use Rattle.run_laws.proofs.Changes.{Changes, of_changes, with_devices, times-keeps}
 use Rattle.run_laws.proofs.event_order.Items.{with_agenda, facing}
-use Rattle.run_laws.proofs.timer_deadlines.Fronts.{any-append, carried-any}
+use Rattle.run_laws.proofs.timer_deadlines.Fronts.{carried-any, after-any}
 use Rattle.run_laws.proofs.timer_deadlines.Timed.{any-filter}
 use Rattle.run_laws.proofs.timer_deadlines.Regular.{is_regular}
 use Rattle.run_laws.proofs.event_order.Steps.{is_quiet_item, is_served, carried}
+use Rattle.run_laws.proofs.timer_deadlines.Moves.{is_timer_call, after-timers, after-clock}
 
 abbrev pub is_etimer_poll : Item → Bool
 is_etimer_poll (Item.Give q origin (Stimulus.Event event)) = q == 0 && event.code == POLL
@@ -67,8 +68,7 @@ home-without q (x ∷ xs) n = grind (arith, nat_tests, n, home-without q xs n)
 
 carried-home : (item : Item) (items : List Item) (s : Scheduler Bool) → is_regular item ≡ true → is_home s.processes ≡ true
     → is_home (after_item item (with_agenda items s)).processes ≡ true
-carried-home (Item.Remove q) items s r h = let n : (q == 0) ≡ false = grind (arith, nat_tests, r) in home-without q s.processes n ∙ h
-carried-home item items s r h = grind (arith, h, home-with_state, home-with_mark)
+carried-home item items s r h = grind (arith, nat_tests, r, h, home-with_state, home-with_mark, home-without)
 
 carried-watched : (item : Item) (items : List Item) (s : Scheduler Bool) → is_quiet_item item ≡ true → is_served item ≡ false → is_regular item ≡ true
     → is_watched (with_agenda (item ∷ items) s) ≡ true → is_watched (after_item item (with_agenda items s)) ≡ true
@@ -76,12 +76,11 @@ carried-watched item items s n k r h = grind (arith, nat_tests, marks-with_state
 
 pub watched-carried : (item : Item) (items : List Item) (m : Machine) → is_quiet_item item ≡ true → is_served item ≡ false → is_regular item ≡ true
     → Watched (facing (item ∷ items) m) → Watched (carried item items m)
-watched-carried item items m n k r h =
-    record { home = carried-home item items m.scheduler r h.home; due = λ d. carried-watched item items m.scheduler n k r (h.due d) }
+watched-carried item items m n k r h = grind (arith, nat_tests, carried-home, carried-watched)
 
 -- these items in front
 pub watched-front : (xs : List Item) (m : Machine) → Watched m → Watched (scheduled (in_front xs) m)
-watched-front xs m h = record { home = h.home; due = λ d. grind (arith, h.due d, any-append is_etimer_poll xs m.scheduler.agenda) }
+watched-front xs m h = record { home = h.home; due = λ d. grind (arith, h.due d, list_any-append is_etimer_poll xs m.scheduler.agenda) }
 
 -- a kernel process
 
@@ -110,26 +109,18 @@ watched-due m home = go (is_any_due after) (some-find (is_due after.clock after.
 pub lesser : (old new : Machine) → new.scheduler.agenda ≡ old.scheduler.agenda → (is_timer_due new.clock new.timers ≡ true → is_timer_due old.clock old.timers ≡ true)
     → (is_marked 0 old.scheduler.processes ≡ true → is_marked 0 new.scheduler.processes ≡ true)
     → (is_home old.scheduler.processes ≡ true → is_home new.scheduler.processes ≡ true) → Watched old → Watched new
-lesser old new e less marks home h =
-    record { home = home h.home; due = λ d. rw e (go (is_marked 0 old.scheduler.processes) (h.due (less d)) marks) }
-  where
-    go : (b : Bool) → (b || is_polled old.scheduler.agenda) ≡ true → (b ≡ true → is_marked 0 new.scheduler.processes ≡ true)
-        → (is_marked 0 new.scheduler.processes || is_polled old.scheduler.agenda) ≡ true
-    go true k marks = rw (marks refl) refl
-    go false k marks = grind (arith, k)
+lesser old new e less marks home h = grind (arith, nat_tests)
 
 pub alike : (old new : Machine) → new.scheduler.agenda ≡ old.scheduler.agenda → new.scheduler.processes ≡ old.scheduler.processes → new.timers ≡ old.timers → new.clock ≡ old.clock
     → Watched old → Watched new
 alike old new a b c d h = lesser old new a (λ k. rw (c, d) at k) (λ k. rw b k) (λ k. rw b k) h
 
 pub marked_too : (q : ℕ) (m : Machine) → Watched m → Watched (mark q m)
-marked_too q m h =
-    lesser m (mark q m) refl (λ k. k) (λ k. marks-with_mark q m.scheduler.processes k) (λ k. home-with_mark q true m.scheduler.processes ∙ k) h
+marked_too q m h = grind (arith, nat_tests, lesser, marks-with_mark, home-with_mark)
 
 -- timers leave the list
 pub dropped : (keep : Timer → Bool) (m : Machine) → Watched m → Watched (record m { timers = record m.timers { armed = filter keep m.timers.armed } })
-dropped keep m h =
-    lesser m (record m { timers = record m.timers { armed = filter keep m.timers.armed } }) refl (any-filter (is_due m.clock m.timers) keep m.timers.armed) (λ k. k) (λ k. k) h
+dropped keep m h = grind (arith, nat_tests, lesser, any-filter)
 
 -- an item that isn't etimer's POLL is gone
 pub without_item : (item : Item) (items : List Item) (m : Machine) → is_etimer_poll item ≡ false → Watched (facing (item ∷ items) m) → Watched (facing items m)
@@ -162,3 +153,64 @@ watched-serve q origin event items m h = go (q == 0 && event.code == POLL) refl
         let polled : (event.code == POLL) ≡ true = grind (arith, e) in
         rw (etimer, polled) (watched-due (facing items m) h.home)
     go false e = of_changes (changes-watched q event) (facing items m) (without_item (Item.Give q origin (Stimulus.Event event)) items m e h)
+
+-- Calls and inputs that make a timer due mark etimer.
+
+after-marks : (call : Call) (q : ℕ) (m : Machine) → is_marked 0 m.scheduler.processes ≡ true → is_marked 0 (after_call call q m).scheduler.processes ≡ true
+after-marks call q m h = grind (arith, h, marks-with_state, marks-with_mark)
+
+after-home : (call : Call) (q : ℕ) (m : Machine) → is_home m.scheduler.processes ≡ true → is_home (after_call call q m).scheduler.processes ≡ true
+after-home call q m h = grind (arith, h, home-with_state, home-with_mark)
+
+after-watched : (call : Call) (q : ℕ) (m : Machine) → is_watched m.scheduler ≡ true → is_watched (after_call call q m).scheduler ≡ true
+after-watched call q m h = grind (arith, nat_tests, after-marks, after-any)
+
+-- a call that makes no more timers due
+fewer : (call : Call) (q : ℕ) (m : Machine) → Watched m → (is_timer_due m.clock (after_call call q m).timers ≡ true → is_timer_due m.clock m.timers ≡ true) → Watched (after_call call q m)
+fewer call q m h less = grind (arith, nat_tests, after-home, after-watched, after-clock)
+
+-- a call that is refused, or else marks etimer
+refused_or_marked : (q : ℕ) (o : Option Refusal) (m after : Machine) → Watched m → after.scheduler ≡ (mark 0 m).scheduler → Watched (refused_or o q m (answer_done q after))
+refused_or_marked q o m after h e = grind (arith, nat_tests, watched-front, home-with_mark, marks-home)
+
+-- every call
+pub watched-after : (call : Call) (q : ℕ) (m : Machine) → Watched m → Watched (after_call call q m)
+watched-after (Call.TimerSet u interval) q m h =
+    refused_or_marked q (timer_refusal u) m (mark 0 (with_timers (set_timer m.clock (event_timer q u) interval m.timers) m)) h refl
+watched-after (Call.TimerRestart u) q m h =
+    refused_or_marked q (timer_refusal u) m (mark 0 (with_timers (restart_timer m.clock (event_timer q u) m.timers) m)) h refl
+watched-after (Call.TimerReset u) q m h =
+    refused_or_marked q (reset_refusal q u m) m (mark 0 (with_timers (reset_timer (event_timer q u) m.timers) m)) h refl
+watched-after (Call.CallbackSet c interval) q m h = grind (arith, nat_tests, watched-front, home-with_mark, marks-home)
+watched-after (Call.TimerStop u) q m h = grind (arith, nat_tests, fewer, any-filter)
+watched-after (Call.CallbackStop c) q m h = grind (arith, nat_tests, fewer, any-filter)
+watched-after call q m h = plain call (grind arith)
+  where
+    plain : (call : Call) → is_timer_call call ≡ false → Watched (after_call call q m)
+    plain call n = fewer call q m h (λ d. rw (after-timers call q m n) at d)
+
+pub watched-turn : (items : List Item) (q : ℕ) (origin : Origin) (stimulus : Stimulus) (call : Call) (m after : Machine) → after.scheduler ≡ (facing items m).scheduler
+    → after.timers ≡ m.timers → after.clock ≡ m.clock → Watched (facing (Item.Turn q origin stimulus ∷ items) m) → Watched (after_call call q after)
+watched-turn items q origin stimulus call m after a b c h =
+    let n : Machine = facing items m in
+    watched-after call q after (alike n after (ap (λ s. s.agenda) a) (ap (λ s. s.processes) a) b c (without_item (Item.Turn q origin stimulus) items m refl h))
+
+-- a change of the memory and of the work
+idle : (m after : Machine) → after.scheduler ≡ m.scheduler → after.timers ≡ m.timers → after.clock ≡ m.clock → Watched m → Watched after
+idle m after a b c h = alike m after (ap (λ s. s.agenda) a) (ap (λ s. s.processes) a) b c h
+
+-- an input
+pub watched-input : (input : Input) (m : Machine) → Watched m → Watched (effect input (record m { work = 0 }))
+watched-input input m h = grind (arith, nat_tests, home-with_mark, marks-home, idle, marked_too, watched-front)
+
+-- boot
+pub watched-boot : (c : Config) → Watched (at_start c).machine
+watched-boot c = record { home = refl; due = λ d. absurd (grind (arith, d)) }
+
+-- at rest no timer is due
+unmarked : (list : List Process) → is_any_marked list ≡ false → is_marked 0 list ≡ false
+unmarked [] h = refl
+unmarked (x ∷ xs) h = grind (arith, h, unmarked xs)
+
+pub rest-not_due : (m : Machine) → m.scheduler.agenda ≡ [] → is_any_marked m.scheduler.processes ≡ false → Watched m → is_timer_due m.clock m.timers ≡ false
+rest-not_due m e r h = grind (arith, nat_tests, unmarked)

@@ -1,5 +1,5 @@
 use Rattle.run_laws.proofs.events.events_arrive_in_order.Goals as goal
-use Rattle.run_laws.proofs.event_order.Events.{in_order, no_lost_event}
+use Rattle.run_laws.proofs.event_order.Sound.{in_order, no_lost_event}
 
 pub returns : goal.returns
 returns c = record {
