@@ -1,21 +1,7 @@
 -- How many arming numbers the agenda will draw.
-use Rattle.std.proofs.lemmas.Bool.Decides.{nat_tests}
-use Rattle.std.proofs.Common.{◌≡◌, ℕ, zero, suc, ◌+◌, ◌≤◌, Bool, true, false, not, List, [], ◌∷◌, ◌++◌, refl, arith, All}
-use Rattle.std.proofs.lemmas.List.Elements.{All-head, All-tail}
-use Rattle.std.specs.Prelude.{Option, Some, None, map, flat_map, slice_get, drop, ◌==◌, eqb, if◌then◌else◌}
-use Rattle.std.specs.List.{IsDistinct, AllByRecursion}
-use Rattle.mote_types.specs.declared.event.Event.{Event}
-use Rattle.mote_types.specs.declared.event.Stimulus.{Stimulus}
-use Rattle.mote_types.specs.declared.event.Origin.{Origin}
-use Rattle.mote_types.specs.EventNumbers.{EXITED}
-use Rattle.mote_types.specs.Codes.{number_event}
-use Rattle.process_core.specs.Agenda.{Queued, Item, Job}
-use Rattle.process_core.specs.declared.process.Process.{Process}
-use Rattle.process_core.specs.Processes.{numbers, without, is_process, is_kernel_process}
+use Rattle.kernel_core.proofs.Common.{nat_tests, All-head, All-tail, IsDistinct, AllByRecursion, Event, Stimulus, Origin, EXITED, number_event, Queued, Item, Job, Process, numbers, without, is_process, IsDistinct-head, IsDistinct-tail, Scheduler, after_front, after_front_of, job_at, job_of_item, job_of_event, after_item, delivery, first_event, of_event, after_items, ComesTo, draws, draws_of_event, draws_of_job, IsQueueable, IsQueueableJob}
+use Rattle.std.proofs.Common.{◌≡◌, ℕ, zero, suc, ◌+◌, ◌≤◌, Bool, true, false, not, List, [], ◌∷◌, ◌++◌, refl, arith, All, Option, Some, None, map, flat_map, slice_get, drop, ◌==◌, eqb, if◌then◌else◌}
 use Rattle.process_core.specs.Requests.{ended, killed_by}
-use Rattle.std.proofs.lemmas.Map.Keys.{IsDistinct-head, IsDistinct-tail}
-use Rattle.process_core.specs.Scheduler.{Scheduler, after_front, after_front_of, job, job_at, job_of_item, job_of_event, after_item, delivery, first_event, of_event, after_items, ComesTo, wants_round}
-use Rattle.kernel_core.specs.Code.Draws.{draws, draws_of_event, draws_of_job, IsQueueable, IsQueueableJob}
 
 pub draws-append : (xs ys : List Item) → draws (xs ++ ys) ≡ draws xs + draws ys
 draws-append [] ys = omega arith
@@ -54,8 +40,7 @@ module _ (drawn : ℕ) where
   fit_carried _ s fit = fit
 
   fit_after_front_of : (agenda : List Item) (s : Scheduler ℕ) → All (IsQueueable drawn) s.events → All (IsQueueable drawn) (after_front_of agenda s).events
-  fit_after_front_of [] s fit = let e : (after_front_of [] s).events ≡ s.events = grind arith in rw e fit
-  fit_after_front_of (item ∷ items) s fit = fit_carried item (record s { agenda = items }) fit
+  fit_after_front_of agenda s fit = grind (arith, nat_tests, fit_carried)
 
   abbrev draws_asked : Option (Job ℕ) → ℕ
   draws_asked None = 0
@@ -75,11 +60,7 @@ module _ (drawn : ℕ) where
 
   after_front_of-draws : (agenda : List Item) (s : Scheduler ℕ) → s.agenda ≡ agenda → All (IsQueueable drawn) s.events
       → draws (after_front_of agenda s).agenda + draws_asked (job_at agenda s) ≤ draws agenda
-  after_front_of-draws [] s e fit = grind arith
-  after_front_of-draws (item ∷ items) s e fit =
-      let split : draws (item ∷ items) ≡ draws (item ∷ []) + draws items = draws-append (item ∷ []) items in
-      let first = after_item-draws item items s fit in
-      omega (arith, split, first)
+  after_front_of-draws agenda s e fit = grind (arith, nat_tests, draws, draws-append, after_item-draws)
 
   abbrev IsQueueableAsked : Option (Job ℕ) → Type 0
   IsQueueableAsked None = Unit {0}
@@ -98,10 +79,7 @@ module _ (drawn : ℕ) where
   fit_served false p event = tt
 
   fit_asked : (agenda : List Item) (s : Scheduler ℕ) → All (IsQueueable drawn) s.events → IsQueueableAsked (job_at agenda s)
-  fit_asked [] s fit = fit_round (wants_round s)
-  fit_asked (Item.Deliver ∷ items) s fit = fit_delivery s.events fit
-  fit_asked (Item.Give p origin (Stimulus.Event event) ∷ items) s fit = fit_served (is_kernel_process p) p event
-  fit_asked _ s fit = tt
+  fit_asked agenda s fit = grind (arith, nat_tests, fit_round, fit_delivery, fit_served)
 
   -- items that are no jobs draw nothing
   pub record IsQueueableAfter (old new : Scheduler ℕ) : Type 0 where
@@ -110,14 +88,7 @@ module _ (drawn : ℕ) where
 
   after_items_fit : (n : ℕ) (s : Scheduler ℕ) → All (IsQueueable drawn) s.events → IsQueueableAfter s (after_items n s)
   after_items_fit zero s fit = record { events = fit; draws = omega arith }
-  after_items_fit (suc n) s fit = by_job (job s) refl (after_items_fit n (after_front s) (fit_after_front_of s.agenda s fit))
-    where
-      by_job : (asked : Option (Job ℕ)) → job s ≡ asked → IsQueueableAfter (after_front s) (after_items n (after_front s)) → IsQueueableAfter s (after_items (suc n) s)
-      by_job (Some next) e rest = rw e (record { events = fit; draws = omega arith })
-      by_job None e rest =
-          let first = after_front_of-draws s.agenda s refl fit in
-          let less : draws (after_front s).agenda ≤ draws s.agenda = omega (arith, first) in
-          rw e (record { events = rest.events; draws = omega (arith, less, rest.draws) })
+  after_items_fit (suc n) s fit = grind (arith, nat_tests, after_items_fit n (after_front s) (fit_after_front_of s.agenda s fit), fit_after_front_of s.agenda s fit, after_front_of-draws s.agenda s refl fit)
 
   pub job_is_fit : (s after : Scheduler ℕ) (next : Job ℕ) → All (IsQueueable drawn) s.events → ComesTo s next after
       → IsQueueableAfter s after × (draws after.agenda + draws_of_job next ≤ draws s.agenda) × IsQueueableJob drawn next
@@ -126,8 +97,7 @@ module _ (drawn : ℕ) where
       let t = after_items n s in
       let d = rw (asks, works) at (after_front_of-draws t.agenda t refl r.events) in
       let events = rw works at (fit_after_front_of t.agenda t r.events) in
-      let f = rw asks at (fit_asked t.agenda t r.events) in
-      (record { events = events; draws = omega (arith, d, r.draws) }, omega (arith, d, r.draws), f)
+      (record { events = events; draws = omega (arith, d, r.draws) }, omega (arith, d, r.draws), (rw asks at (fit_asked t.agenda t r.events)))
 
 -- at boot
 pub draws-starts : (ns : List ℕ) → draws (map (λ p. Item.Start p) ns) ≡ 0
@@ -139,11 +109,7 @@ told p list = map (λ q. Item.Give q Origin.Synch (of_event (number_event EXITED
 
 none_told : (p : ℕ) (list : List Process) → AllByRecursion (λ y. eqb 1 y ≡ false) (numbers list) → draws (told p list) ≡ 0
 none_told p [] none = refl
-none_told p (process ∷ list) none = split (not (is_process p process)) refl (none_told p list none.1)
-  where
-    split : (b : Bool) → not (is_process p process) ≡ b → draws (told p list) ≡ 0 → draws (told p (process ∷ list)) ≡ 0
-    split true e rest = let n : (process.number == 1) ≡ false = grind (arith, none.0) in rw e (grind (arith, rest, n))
-    split false e rest = rw e rest
+none_told p (process ∷ list) none = grind (arith, nat_tests, none.0, draws, none_told p list none.1)
 
 -- ctimer is on the list once, and is told once
 pub one_told : (p : ℕ) (list : List Process) → IsDistinct eqb (numbers list) → draws (told p list) ≤ 4
@@ -156,8 +122,7 @@ one_told p (process ∷ list) distinct =
     split false e is_ctimer n rest = rw e rest
     split true e false n rest =
         let none : draws_of_event process.number (number_event EXITED p) ≡ 0 = grind (arith, n) in
-        let later : 0 + draws (told p list) ≤ 4 = omega (arith, rest) in
-        rw (e, none) later
+        rw (e, none) (omega (arith, rest))
     split true e true n rest =
         let same : process.number ≡ 1 = grind (arith, n) in
         let others = rw same at (IsDistinct-head eqb process.number (numbers list) distinct) in
@@ -166,8 +131,7 @@ one_told p (process ∷ list) distinct =
         rw (e, nobody) (omega (arith, give))
 
 pub ended-draws : (p : ℕ) (s : Scheduler ℕ) → IsDistinct eqb (numbers s.processes) → draws (ended p s).agenda ≤ draws s.agenda + 4
-ended-draws p s distinct =
-    grind (arith, draws-append (told p s.processes) (Item.Remove p ∷ s.agenda), one_told p s.processes distinct, draws-append (told p s.processes ++ Item.Remove p ∷ []) s.agenda, draws-append (told p s.processes) (Item.Remove p ∷ []))
+ended-draws p s distinct = grind (arith, nat_tests, one_told p s.processes distinct, draws-append, one_told)
 
 pub killed_by-draws : (p q : ℕ) (s : Scheduler ℕ) → IsDistinct eqb (numbers s.processes) → draws (killed_by p q s).agenda ≤ draws s.agenda + 4
 killed_by-draws p q s distinct = grind (arith, nat_tests, draws-append, one_told)

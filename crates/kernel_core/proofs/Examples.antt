@@ -1,32 +1,13 @@
 -- Worked examples: how small motes start, what a killed process is told, what the kernel's own processes do, and the limit of work.
-use Rattle.std.proofs.Common.{◌≡◌, ℕ, true, [], ◌∷◌, refl}
-use Rattle.std.specs.Prelude.{Some, None, length, if◌then◌else◌, ◌==◌}
-use Rattle.mote_types.specs.Applications.{Applications, Says, fold_says, says_of}
-use Rattle.mote_types.specs.Codes.{number_event, plain_event}
-use Rattle.mote_types.specs.EventNumbers.{CONTINUE, INIT, POLL, EXIT, TIMER, SERIAL_LINE, PACKET}
-use Rattle.mote_types.specs.declared.call.Call.{Call}
-use Rattle.mote_types.specs.declared.entry.Entry.{Entry}
-use Rattle.mote_types.specs.declared.event.Event.{Event}
-use Rattle.mote_types.specs.declared.event.Origin.{Origin}
+use Rattle.std.proofs.Common.{◌≡◌, ℕ, true, [], ◌∷◌, refl, Some, None, length, if◌then◌else◌, ◌==◌}
+use Rattle.kernel_core.proofs.Common.{Applications, Says, fold_says, says_of, number_event, plain_event, CONTINUE, INIT, POLL, EXIT, TIMER, SERIAL_LINE, PACKET, Call, Entry, Event, Origin, Stimulus, Refusal, Reply, after_bytes, quiet_line, Queued, no_timers, set_timer, Machine, booted, with_serial, announce, times, Running, after_steps, at_start, is_at_rest, serial_line, post_due}
 use Rattle.mote_types.specs.declared.event.Payload.{Payload}
-use Rattle.mote_types.specs.declared.event.Stimulus.{Stimulus}
-use Rattle.mote_types.specs.declared.refusal.Refusal.{Refusal}
-use Rattle.mote_types.specs.declared.reply.Reply.{Reply}
 use Rattle.device_core.specs.PacketQueue as PacketQueue
-use Rattle.device_core.specs.SerialLine.{after_bytes, quiet_line}
-use Rattle.process_core.specs.Agenda.{Queued}
 use Rattle.timer_core.specs.Names as Names
 use Rattle.timer_core.specs.Names.{event_timer}
-use Rattle.timer_core.specs.Timers.{no_timers, set_timer}
 use Rattle.kernel_core.specs.declared.config.Config.{Config}
 use Rattle.kernel_core.specs.Inputs.{frame_arrived, frame_refusal}
-use Rattle.kernel_core.specs.Machine.{Machine, booted, with_serial}
 use Rattle.kernel_core.specs.PacketCalls.{receiver_claimed}
-use Rattle.kernel_core.specs.PacketProcess.{announce}
-use Rattle.kernel_core.specs.Repeating.{times}
-use Rattle.kernel_core.specs.Run.{Running, after_steps, at_start, is_at_rest}
-use Rattle.kernel_core.specs.SerialProcess.{serial_line}
-use Rattle.kernel_core.specs.TimerProcesses.{post_due}
 
 -- a mote of so many applications
 abbrev small : ℕ → Config

@@ -1,29 +1,18 @@
 -- The held frames, and the blocks that have their bytes.
-use Rattle.std.proofs.lemmas.Bool.Decides.{nat_tests}
-use Rattle.std.proofs.Common.{◌≡◌, ◌≢◌, ◌∙◌, ℕ, Bool, true, false, List, [], ◌∷◌, ◌++◌, length, ap, sym, arith, refl, ◌<◌, ◌≤◌, Option, Some, None, eqb, map}
-use Rattle.std.specs.Prelude.{is_some, if◌then◌else◌, ◌==◌, ◌||◌, slice_get, drop}
-use Rattle.std.specs.List.{list_any, AllByRecursion, IsDistinct}
-use Rattle.std.specs.Option.{option_map}
-use Rattle.std.proofs.lemmas.List.{get_or-set_same, get_or-replicate, length-set, length-replicate}
-use Rattle.std.proofs.lemmas.Map.Keys.{IsDistinct-head}
-use Rattle.mote_types.specs.declared.call.Call.{Call}
+use Rattle.kernel_core.proofs.Common.{nat_tests, list_any, AllByRecursion, IsDistinct, option_map, get_or-set_same, get_or-replicate, length-set, length-replicate, IsDistinct-head, Call, Memory, fresh_memory, Refusal, Reply, pool_in, with_managed, with_pool, HoldsFrames}
+use Rattle.std.proofs.Common.{◌≡◌, ◌≢◌, ◌∙◌, ℕ, Bool, true, false, List, [], ◌∷◌, ◌++◌, length, ap, sym, arith, refl, ◌<◌, ◌≤◌, Option, Some, None, eqb, map, is_some, if◌then◌else◌, ◌==◌, ◌||◌, slice_get, drop}
 use Rattle.device_core.specs.declared.frame.Frame.{Frame}
 use Rattle.mote_types.specs.BlockNames.{number_of}
 use Rattle.node_memory.specs.Frames.{frame_in, frame_taken, frame_dropped}
-use Rattle.node_memory.specs.Memory.{Memory, fresh_memory}
 use Rattle.node_memory.specs.declared.sizes.Sizes.{Sizes}
 use Rattle.node_memory.specs.Separation.{BlockName, LeavesOthers, changed_block, frame_block}
 use Rattle.heap_core.specs.HeapStore.{HeapStore}
 use Rattle.mmem_core.specs.ManagedStore.{with_block}
-use Rattle.mote_types.specs.declared.refusal.Refusal.{Refusal}
-use Rattle.mote_types.specs.declared.reply.Reply.{Reply}
 use Rattle.node_memory.specs.Ask.{Asked, ask, ask_part, ask_managed, ask_heap, done_or_no_room}
 use Rattle.node_memory.specs.Answered.{unless_refused}
-use Rattle.node_memory.specs.Memory.{pool_in, with_managed, with_pool}
 use Rattle.node_memory.specs.declared.parts.Part.{Part}
 use Rattle.node_memory.specs.Parts.{part_called}
 use Rattle.node_memory.specs.PoolCalls.{ask_pool}
-use Rattle.kernel_core.specs.Code.View.{HoldsFrames}
 
 abbrev has_slot : ℕ → Frame → Bool
 has_slot slot frame = frame.slot == slot
@@ -32,34 +21,25 @@ has_slot slot frame = frame.slot == slot
 pub front_is_live : (memory : Memory) (frames : List Frame) (slot : ℕ) → HoldsFrames memory frames → slot < 8
     → option_map (λ (frame : Frame). frame.slot) (slice_get frames 0) ≡ Some slot → is_some (frame_in slot memory) ≡ true
 front_is_live memory [] slot holds below e = absurd (cc)
-front_is_live memory (frame ∷ frames) slot holds below e =
-    let is : frame.slot ≡ slot = cc in
-    holds.live slot below ∙ rw is (grind arith)
+front_is_live memory (frame ∷ frames) slot holds below e = grind (arith, nat_tests)
 
 same_frame : (changed : Option BlockName) (old new : Memory) (slot : ℕ) → LeavesOthers changed old new → slot < 8 → changed ≢ Some (frame_block slot)
     → frame_in slot new ≡ frame_in slot old
 same_frame changed old new slot leaves below other = leaves (frame_block slot) (omega arith, omega arith, omega (arith, below)) other
 
 not_pooled : (k slot : ℕ) (block : Option ℕ) → option_map (BlockName.Pooled k) block ≢ Some (frame_block slot)
-not_pooled k slot None = λ e. absurd (cc)
-not_pooled k slot (Some b) = λ e. absurd (cc)
+not_pooled k slot block = grind (arith, nat_tests)
 
 -- an application's call changes no frame's block
 ask_elsewhere : (call : Call) (p slot : ℕ) (m : Memory) → 4 ≤ p → changed_block call p m ≢ Some (frame_block slot)
-ask_elsewhere (Call.MmemAlloc h n) p slot m least = λ e. let same : p ≡ 3 = cc in absurd (omega (arith, least, same))
-ask_elsewhere (Call.MmemFree h) p slot m least = λ e. let same : p ≡ 3 = cc in absurd (omega (arith, least, same))
-ask_elsewhere (Call.MmemWrite h at chunk) p slot m least = λ e. let same : p ≡ 3 = cc in absurd (omega (arith, least, same))
-ask_elsewhere (Call.MmemCopy source target) p slot m least = λ e. let same : p ≡ 3 = cc in absurd (omega (arith, least, same))
-ask_elsewhere (Call.MembAlloc k) p slot m least = not_pooled k slot _
-ask_elsewhere _ p slot m least = λ e. absurd (cc)
+ask_elsewhere call p slot m least = grind (arith, nat_tests, least, not_pooled)
 
 -- nor the number of names
 abbrev count : Memory → ℕ
 count m = length m.managed.blocks
 
 count_unless : (refusal : Option Refusal) (old : Memory) (asked : Asked) → count asked.0 ≡ count old → count (unless_refused refusal old asked).0 ≡ count old
-count_unless None old asked same = same
-count_unless (Some refusal) old asked same = refl
+count_unless refusal old asked same = grind (arith, nat_tests)
 
 count_changed : (p h : ℕ) (block : Option (List ℕ)) (old : Memory) → count (with_managed (with_block p h block old.managed) old) ≡ count old
 count_changed p h block old = length-set old.managed.blocks (number_of p h) block
@@ -106,9 +86,7 @@ module _ (slot len : ℕ) (bytes : List ℕ) (old new : Memory) (frames : List F
   taken_here = ap (frame_in slot) taken ∙ get_or-set_same old.managed.blocks (number_of 3 slot) (Some bytes) None (omega (arith, holds.names, below))
 
   live_at : (s : ℕ) (test : Bool) → s < 8 → (slot == s) ≡ test → is_some (frame_in s new) ≡ list_any (has_slot s) (frames ++ frame ∷ [])
-  live_at s true few e =
-      let is : slot ≡ s = grind (arith, e) in
-      rw (list_any_push (has_slot s) frames frame, ← is, taken_here) (grind arith)
+  live_at s true few e = grind (arith, nat_tests, e, list_any_push, taken_here)
   live_at s false few e =
       rw (list_any_push (has_slot s) frames frame, e, same_frame (Some (frame_block slot)) old new s leaves few (other_slot slot s e), holds.live s few) (grind arith)
 
@@ -145,7 +123,4 @@ module _ (slot : ℕ) (old new : Memory) (below : slot < 8) (count : length old.
 
 -- fresh memory holds no frame
 pub no_frames : (sizes : Sizes) → HoldsFrames (fresh_memory sizes) []
-no_frames sizes = record {
-  names = length-replicate {A = Option (List ℕ)} 272 None;
-  live = λ slot below. ap is_some (get_or-replicate 272 (number_of 3 slot) None None (omega (arith, below)));
-}
+no_frames sizes = grind (arith, nat_tests, length-replicate, get_or-replicate)

@@ -1,11 +1,6 @@
 -- The free places of the event queue.
 use Rattle.std.proofs.Common.{◌≡◌, suc, ◌+◌, true, false, length, arith}
-use Rattle.std.proofs.lemmas.List.{length-map}
-use Rattle.kernel_core.specs.Code.Carrying.{event_carrying}
-use Rattle.process_core.specs.Scheduler.{has_room}
-use Rattle.kernel_core.specs.declared.fields.KernelFields.{KernelFields}
-use Rattle.kernel_core.specs.Machine.{free_places}
-use Rattle.kernel_core.specs.Code.View.{machine_of, is_cancelled}
+use Rattle.kernel_core.proofs.Common.{length-map, event_carrying, has_room, KernelFields, free_places, machine_of, is_cancelled}
 
 places_of : (k : KernelFields) → length (machine_of k).scheduler.events ≡ length k.scheduler.state.events
 places_of k = length-map k.scheduler.state.events (event_carrying (is_cancelled k.timers.armings))

@@ -1,23 +1,8 @@
 -- The kernel's processes that do nothing with an event are passed by steps that make no entry.
-use Rattle.std.proofs.Common.{◌≡◌, ℕ, suc, ◌≤◌, ◌==◌, Bool, true, false, ◌&&◌, List, ◌∷◌, refl, ap, arith}
-use Rattle.std.specs.Prelude.{if◌then◌else◌}
-use Rattle.std.proofs.lemmas.Bool.Decides.{nat_tests}
-use Rattle.mote_types.specs.declared.event.Event.{Event}
-use Rattle.mote_types.specs.declared.event.Origin.{Origin}
-use Rattle.mote_types.specs.declared.event.Stimulus.{Stimulus}
-use Rattle.process_core.specs.Agenda.{Item}
+use Rattle.std.proofs.Common.{◌≡◌, ℕ, suc, ◌≤◌, Bool, true, false, List, ◌∷◌, refl, ap, arith}
+use Rattle.kernel_core.proofs.Common.{nat_tests, Event, Origin, Stimulus, Item, is_any_marked, is_kernel_process, Scheduler, KernelFields, starts, present, draws, machine_of, no_pending_entries, IsInOrder, serve, Machine, scheduled, Answers, silent, one_step, GoesSilently}
 use Rattle.process_core.specs.Code.KernelReceivers.{behind_kernel_receivers, is_other_than, kernel_receivers_passed}
-use Rattle.process_core.specs.Processes.{is_any_marked, is_kernel_process}
-use Rattle.process_core.specs.Scheduler.{Scheduler}
-use Rattle.kernel_core.specs.declared.fields.KernelFields.{KernelFields}
-use Rattle.kernel_core.specs.Code.Cost.{starts, present}
-use Rattle.kernel_core.specs.Code.Draws.{draws}
-use Rattle.kernel_core.specs.Code.View.{machine_of, no_pending_entries, IsInOrder}
 use Rattle.kernel_core.specs.Code.IdleReceivers.{kernel_events}
-use Rattle.kernel_core.specs.KernelProcesses.{serve}
-use Rattle.kernel_core.specs.Machine.{Machine, scheduled}
-use Rattle.kernel_core.specs.Run.{Answers, silent, one_step}
-use Rattle.kernel_core.specs.Code.Steps.{GoesSilently}
 use Rattle.kernel_core.proofs.Reaching.{silently_here}
 
 -- what the kernel's processes do with other events
@@ -77,36 +62,11 @@ starts_behind codes (Item.Polls ∷ Item.Give p origin (Stimulus.Event event) �
 starts_behind codes _ = refl
 
 draws_behind : (codes : List ℕ) (items : List Item) → draws (behind_kernel_receivers codes items) ≤ draws items
-draws_behind codes (Item.Polls ∷ Item.Give p origin (Stimulus.Event event) ∷ items) =
-    split (is_kernel_process p && is_other_than codes event.code) (draws_behind codes items)
-  where
-    whole : List Item
-    whole = receiver_first p origin event items
-
-    split : (b : Bool) → draws (behind_kernel_receivers codes items) ≤ draws items
-        → draws (if b then behind_kernel_receivers codes items else whole) ≤ draws whole
-    split true rest = omega (arith, rest)
-    split false rest = omega arith
+draws_behind codes (Item.Polls ∷ Item.Give p origin (Stimulus.Event event) ∷ items) = grind (arith, nat_tests, draws, draws_behind codes items)
 draws_behind codes _ = omega arith
 
 pub present_passed : (s : Scheduler ℕ) → present (kernel_receivers_passed kernel_events s) ≡ present s
 present_passed s = grind (arith, starts_behind kernel_events s.agenda)
 
 pub order_passed : (k : KernelFields) → IsInOrder k → IsInOrder (passed k)
-order_passed k order = split (is_any_marked k.scheduler.state.processes) refl
-  where
-    split : (b : Bool) → is_any_marked k.scheduler.state.processes ≡ b → IsInOrder (passed k)
-    split true e = rw e order
-    split false e =
-        rw e record {
-          work = order.work;
-          applications = order.applications;
-          few = order.few;
-          idle = order.idle;
-          clock = order.clock;
-          inputs = order.inputs;
-          events = order.events;
-          frames = order.frames;
-          owners = order.owners;
-          draws = omega (arith, draws_behind kernel_events k.scheduler.state.agenda, order.draws);
-        }
+order_passed k order = grind (arith, nat_tests, order.draws, draws, draws_behind)

@@ -1,23 +1,6 @@
 -- A round in which nothing is done but that etimer looks for due timers, and finds none.
-use Rattle.std.proofs.Common.{◌≡◌, ℕ, ◌+◌, ◌==◌, Bool, true, false, refl, ap}
-use Rattle.std.specs.Prelude.{is_some}
-use Rattle.std.proofs.lemmas.List.{length-map}
-use Rattle.mote_types.specs.EventNumbers.{POLL}
-use Rattle.mote_types.specs.Codes.{plain_event}
-use Rattle.process_core.specs.Agenda.{Job}
-use Rattle.process_core.specs.Idle.{is_idle}
-use Rattle.process_core.specs.Code.LonePoll.{unmarked, IsLonePoll}
-use Rattle.process_core.specs.Scheduler.{Scheduler}
-use Rattle.kernel_core.specs.Code.Carrying.{carrying}
-use Rattle.process_core.specs.Code.SchedulerView.{awaiting_nothing}
-use Rattle.timer_core.specs.Timers.{first_due}
-use Rattle.kernel_core.specs.declared.fields.KernelFields.{KernelFields}
-use Rattle.kernel_core.specs.Code.View.{machine_of, no_pending_entries, is_cancelled}
-use Rattle.kernel_core.specs.KernelProcesses.{serve}
-use Rattle.kernel_core.specs.Machine.{Machine, free_places}
-use Rattle.kernel_core.specs.Run.{Answers, silent, work_limit}
-use Rattle.kernel_core.specs.Code.Steps.{GoesToRest}
-use Rattle.kernel_core.specs.TimerProcesses.{post_first_due, is_any_due}
+use Rattle.std.proofs.Common.{◌≡◌, ℕ, ◌+◌, ◌==◌, Bool, true, false, refl, ap, is_some}
+use Rattle.kernel_core.proofs.Common.{length-map, POLL, plain_event, Job, is_idle, unmarked, IsLonePoll, Scheduler, carrying, awaiting_nothing, first_due, KernelFields, machine_of, no_pending_entries, is_cancelled, serve, Machine, free_places, Answers, silent, work_limit, GoesToRest, post_first_due, is_any_due}
 use Rattle.kernel_core.proofs.Leftover.{due_stops}
 use Rattle.kernel_core.proofs.Reaching.{fields_reach, then_job, job_silently}
 use Rattle.kernel_core.proofs.Repeating.{times_same}

@@ -1,15 +1,7 @@
 -- Where something is left that was to be posted, every free place of the queue was taken.
-use Rattle.std.proofs.lemmas.Bool.Decides.{nat_tests}
-use Rattle.std.proofs.Common.{◌≡◌, ℕ, zero, suc, ◌+◌, Bool, true, false, List, ◌∷◌, [], ◌++◌, length, refl, ap, sym, ◌∙◌, arith}
-use Rattle.std.specs.Prelude.{if◌then◌else◌}
-use Rattle.process_core.specs.Scheduler.{has_room}
-use Rattle.kernel_core.specs.declared.fields.KernelFields.{KernelFields}
-use Rattle.kernel_core.specs.Machine.{Machine, free_places, mark}
-use Rattle.kernel_core.specs.Code.View.{machine_of}
+use Rattle.kernel_core.proofs.Common.{nat_tests, has_room, KernelFields, Machine, free_places, mark, machine_of, times, post_first_due, is_any_due, post_due, announce_next, has_news, announce}
+use Rattle.std.proofs.Common.{◌≡◌, ℕ, zero, suc, ◌+◌, Bool, true, false, List, ◌∷◌, [], ◌++◌, length, refl, ap, sym, ◌∙◌, arith, if◌then◌else◌}
 use Rattle.kernel_core.proofs.FreePlaces.{room_of}
-use Rattle.kernel_core.specs.Repeating.{times}
-use Rattle.kernel_core.specs.TimerProcesses.{post_first_due, is_any_due, post_due}
-use Rattle.kernel_core.specs.PacketProcess.{announce_next, has_news, announce}
 use Rattle.kernel_core.proofs.Repeating.{times_none, times_next, times_same}
 
 abbrev waiting : Machine → ℕ
@@ -25,12 +17,8 @@ module _ (change : Machine → Machine) (is_left : Machine → Bool) (takes : (m
   filled_at : (n : ℕ) (m : Machine) (b : Bool) → is_left m ≡ b → is_left (times (suc n) change m) ≡ true
       → (is_left (times n change (change m)) ≡ true → waiting (times n change (change m)) ≡ n + waiting (change m))
       → waiting (times (suc n) change m) ≡ suc n + waiting m
-  filled_at n m true here left rest =
-      let later = rest (ap is_left (sym (times_next n change m)) ∙ left) in
-      ap waiting (times_next n change m) ∙ later ∙ omega (arith, takes m here)
-  filled_at n m false here left rest =
-      let same : true ≡ false = sym left ∙ ap is_left (times_same (suc n) change m (stops m here)) ∙ here in
-      absurd (cc)
+  filled_at n m true here left rest = grind (arith, nat_tests, times_next)
+  filled_at n m false here left rest = grind (arith, nat_tests, times_same)
 
   filled : (n : ℕ) (m : Machine) → is_left (times n change m) ≡ true → waiting (times n change m) ≡ n + waiting m
   filled zero m left = ap waiting (times_none change m) ∙ omega arith

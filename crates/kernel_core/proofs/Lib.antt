@@ -13,3 +13,4 @@ pub mod Lines
 pub mod Drawing
 mod Examples
 pub mod Repeating
+pub mod Common

@@ -1,13 +1,7 @@
 -- The lines in the ring, one after another.
-use Rattle.std.proofs.lemmas.Bool.Decides.{nat_tests}
-use Rattle.std.proofs.Common.{◌≡◌, ℕ, suc, ◌+◌, Bool, true, false, List, [], ◌∷◌, refl, ap, ◌∙◌, arith, Some, None}
-use Rattle.std.specs.Prelude.{filter, length, if◌then◌else◌}
-use Rattle.std.specs.List.{list_any, after_first}
-use Rattle.std.specs.Option.{option_map}
+use Rattle.kernel_core.proofs.Common.{nat_tests, list_any, after_first, option_map, SerialLine, is_line_end, line_of, next_line, after_line, Machine, with_serial, line_count, line_served, serve_line, post_continue, broadcast_line}
+use Rattle.std.proofs.Common.{◌≡◌, ℕ, suc, Bool, true, false, List, [], ◌∷◌, refl, ap, arith, Some, None, filter, length, if◌then◌else◌}
 use Rattle.arrayvec.specs.ArrayVec.{ArrayVec}
-use Rattle.device_core.specs.SerialLine.{SerialLine, is_line_end, line_of, next_line, after_line}
-use Rattle.kernel_core.specs.Machine.{Machine, with_serial}
-use Rattle.kernel_core.specs.SerialProcess.{line_count, line_served, serve_line, post_continue, broadcast_line}
 
 abbrev ends : List ℕ → ℕ
 ends ring = length (filter is_line_end ring)

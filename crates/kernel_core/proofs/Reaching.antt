@@ -1,17 +1,7 @@
 -- Jobs of the scheduler, as steps of the kernel's machine.
 use Rattle.std.proofs.Common.{◌≡◌, ℕ, false, ◌∷◌, ◌∙◌, refl, Some}
-use Rattle.mote_types.specs.declared.entry.Entry.{Entry}
-use Rattle.process_core.specs.Agenda.{Item, Job}
-use Rattle.kernel_core.specs.Code.Carrying.{job_carrying, carrying}
-use Rattle.process_core.specs.Code.SchedulerView.{SchedulerView}
-use Rattle.process_core.specs.Scheduler.{ComesTo}
-use Rattle.timer_core.specs.Code.Armings.{Armings}
-use Rattle.kernel_core.specs.declared.fields.KernelFields.{KernelFields}
+use Rattle.kernel_core.proofs.Common.{Entry, Item, Job, job_carrying, carrying, SchedulerView, ComesTo, Armings, KernelFields, Machine, shown_first, Answers, silent, job_done, MakesEntry, GoesSilently, machine_of, no_pending_entries, pending_items, is_cancelled, ComesToJob}
 use Rattle.kernel_core.specs.declared.pending_entries.PendingEntries.{PendingEntries}
-use Rattle.kernel_core.specs.Machine.{Machine, shown_first}
-use Rattle.kernel_core.specs.Run.{Answers, silent, job_done}
-use Rattle.kernel_core.specs.Code.Steps.{MakesEntry, GoesSilently}
-use Rattle.kernel_core.specs.Code.View.{machine_of, no_pending_entries, pending_items, is_cancelled, ComesToJob}
 use Rattle.kernel_core.proofs.Silent.{job_reached, silently_on}
 
 -- the machine of a kernel that has nothing to show first: its scheduler is the kernel's

@@ -1,6 +1,6 @@
 -- A change that is made again and again.
 use Rattle.std.proofs.Common.{◌≡◌, ℕ, zero, suc, refl, ap, ◌∙◌}
-use Rattle.kernel_core.specs.Repeating.{times}
+use Rattle.kernel_core.proofs.Common.{times}
 
 pub times_none : {A : Type 0} (change : A → A) (a : A) → times 0 change a ≡ a
 unfolding times

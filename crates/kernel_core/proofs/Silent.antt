@@ -1,13 +1,6 @@
 -- The scheduler's items that are no jobs, as steps of the machine that make no entry.
-use Rattle.std.proofs.Common.{◌≡◌, ℕ, zero, suc, Bool, false, refl}
-use Rattle.std.specs.Prelude.{Option, Some, None}
-use Rattle.std.specs.Option.{option_map}
-use Rattle.process_core.specs.Agenda.{Job}
-use Rattle.kernel_core.specs.Code.Carrying.{job_carrying, carrying}
-use Rattle.process_core.specs.Scheduler.{Scheduler, job, after_front, after_items, ComesTo}
-use Rattle.kernel_core.specs.Machine.{Machine}
-use Rattle.kernel_core.specs.Run.{Answers, silent, one_step, job_done}
-use Rattle.kernel_core.specs.Code.Steps.{Silently}
+use Rattle.std.proofs.Common.{◌≡◌, ℕ, zero, suc, Bool, false, refl, Option, Some, None}
+use Rattle.kernel_core.proofs.Common.{option_map, Job, job_carrying, carrying, Scheduler, job, after_front, after_items, ComesTo, Machine, Answers, silent, one_step, job_done, Silently}
 use Rattle.kernel_core.proofs.Carrying.{after_front-carrying, job-carrying}
 
 -- one run of silent steps after another

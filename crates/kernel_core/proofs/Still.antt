@@ -1,23 +1,14 @@
 -- Where nothing more happens, a machine stays as it is.
-use Rattle.std.proofs.lemmas.Bool.Decides.{nat_tests}
-use Rattle.std.proofs.Common.{◌≡◌, ℕ, zero, suc, Bool, true, false, cond, List, [], ◌∷◌, refl, ap, arith, append-nil}
-use Rattle.std.specs.Prelude.{Some, None, not, ◌||◌, ◌&&◌}
-use Rattle.mote_types.specs.Applications.{Applications}
-use Rattle.process_core.specs.Agenda.{Job, Item}
-use Rattle.process_core.specs.Idle.{is_empty}
-use Rattle.process_core.specs.Scheduler.{Scheduler, after_front_of, job_at, wants_round}
-use Rattle.kernel_core.specs.Machine.{Machine}
-use Rattle.kernel_core.specs.Run.{Running, Answers, one_step, after_step, after_steps, answers_after, is_still}
+use Rattle.kernel_core.proofs.Common.{nat_tests, Applications, Job, Item, is_empty, Scheduler, after_front_of, job_at, wants_round, Machine, Running, Answers, one_step, after_step, after_steps, is_still}
+use Rattle.std.proofs.Common.{◌≡◌, ℕ, zero, suc, Bool, true, false, cond, List, refl, arith, append-nil, Some, None, not, ◌||◌, ◌&&◌}
 
 -- a scheduler with nothing left to do stays as it is
 idle_after_front_of : (agenda : List Item) (s : Scheduler Bool) → (is_empty agenda && not (wants_round s)) ≡ true → after_front_of agenda s ≡ s
-idle_after_front_of [] s h = grind arith
-idle_after_front_of (item ∷ items) s h = absurd (cc)
+idle_after_front_of agenda s h = grind (arith, nat_tests)
 
 -- and its job is Rest
 idle_job_at : (agenda : List Item) (s : Scheduler Bool) → (is_empty agenda && not (wants_round s)) ≡ true → job_at agenda s ≡ Some Job.Rest
-idle_job_at [] s h = grind arith
-idle_job_at (item ∷ items) s h = absurd (cc)
+idle_job_at agenda s h = grind (arith, nat_tests)
 
 pick : {A : Type 0} (b : Bool) (x y : A) → (b ≡ false → y ≡ x) → cond b x y ≡ x
 pick true x y e = refl
@@ -32,8 +23,7 @@ still_step : (answers : Answers) (m : Machine) → is_still m ≡ true → one_s
 still_step answers m h = grind (arith, nat_tests, pick, right_of, idle_job_at, idle_after_front_of)
 
 still_after_step : (says : Applications) (r : Running) → is_still r.machine ≡ true → after_step says r ≡ r
-still_after_step says r h =
-    rw (still_step (answers_after says r.entries) r.machine h) (ap (λ entries. record { machine = r.machine; entries = entries }) (append-nil r.entries))
+still_after_step says r h = grind (arith, nat_tests, still_step, append-nil)
 
 pub still_after_steps : (says : Applications) (n : ℕ) (r : Running) → is_still r.machine ≡ true → after_steps says n r ≡ r
 still_after_steps says zero r h = refl

@@ -1,10 +1,5 @@
 use Rattle.std.proofs.Common.{rules, ◌∙◌, sym, ap, suc, ◌≡◌, true, Some, None}
-use Rattle.std.specs.Option.{option_map}
-use Rattle.device_core.specs.SerialLine.{line_of, next_line, after_line}
-use Rattle.kernel_core.specs.Code.View.{machine_of}
-use Rattle.kernel_core.specs.Machine.{with_serial}
-use Rattle.kernel_core.specs.Repeating.{times}
-use Rattle.kernel_core.specs.SerialProcess.{line_count, serve_line, post_continue, broadcast_line}
+use Rattle.kernel_core.proofs.Common.{option_map, line_of, next_line, after_line, machine_of, with_serial, times, line_count, serve_line, post_continue, broadcast_line}
 use Rattle.kernel_core.proofs.Lines.{fewer_lines, no_lines, waits, served_line, served_no_line}
 use Rattle.kernel_core.proofs.Repeating.{times_none, times_next, times_same}
 use Rattle.kernel_core.proofs.fields.KernelFields.empty_ring.Goals as goal

@@ -1,8 +1,5 @@
 use Rattle.std.proofs.Common.{◌≡◌, false, suc, length}
-use Rattle.kernel_core.specs.Code.Draws.{drawn_in_all}
-use Rattle.kernel_core.specs.Code.View.{machine_of, IsServed}
-use Rattle.kernel_core.specs.Repeating.{times}
-use Rattle.kernel_core.specs.SerialProcess.{line_count, serve_line}
+use Rattle.kernel_core.proofs.Common.{drawn_in_all, machine_of, IsServed, times, line_count, serve_line}
 use Rattle.kernel_core.proofs.fields.KernelFields.empty_ring.Given as goal
 
 abbrev pub invariant-loop-line : goal.invariant-loop-line

@@ -1,10 +1,5 @@
-use Rattle.std.proofs.Common.{ap, ◌∙◌, ℕ, Bool, ◌≡◌, Some, rules}
-use Rattle.std.specs.Prelude.{◌==◌}
-use Rattle.kernel_core.specs.Expiries.{expiries_cancelled}
-use Rattle.kernel_core.specs.TimerProcesses.{exited_application}
-use Rattle.kernel_core.specs.Machine.{with_timers}
-use Rattle.kernel_core.specs.Code.View.{machine_of}
-use Rattle.kernel_core.specs.declared.fields.KernelFields.{KernelFields}
+use Rattle.std.proofs.Common.{ap, ◌∙◌, ℕ, Bool, ◌≡◌, Some, rules, ◌==◌}
+use Rattle.kernel_core.proofs.Common.{expiries_cancelled, exited_application, with_timers, machine_of, KernelFields}
 use Rattle.kernel_core.proofs.Fitness.{renewed_all, cancelled_machine}
 use Rattle.kernel_core.proofs.fields.KernelFields.forget_callback_timers.Goals as goal
 

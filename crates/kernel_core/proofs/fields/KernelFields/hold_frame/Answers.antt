@@ -1,5 +1,5 @@
 use Rattle.std.proofs.Common.{rules, ◌≡◌, ◌∙◌, ap}
-use Rattle.kernel_core.specs.Code.View.{HoldsFrames}
+use Rattle.kernel_core.proofs.Common.{HoldsFrames}
 use Rattle.kernel_core.proofs.FrameBlocks.{frames_after_taken}
 use Rattle.kernel_core.proofs.fields.KernelFields.hold_frame.Goals as goal
 

@@ -1,4 +1,4 @@
-use Rattle.process_core.specs.Code.SchedulerView.{job_of}
+use Rattle.kernel_core.proofs.Common.{job_of}
 use Rattle.process_core.specs.Code.NextJobs.{job_told}
 use Rattle.kernel_core.proofs.Reaching.{fields_reach}
 use Rattle.std.proofs.Common.{arith}

@@ -1,9 +1,5 @@
-use Rattle.std.proofs.Common.{◌≡◌, false, sym, ◌∙◌, arith}
-use Rattle.std.specs.Prelude.{is_some, ◌==◌}
-use Rattle.std.proofs.lemmas.Bool.Decides.{nat_tests}
-use Rattle.timer_core.specs.Timers.{first_due}
-use Rattle.process_core.specs.Code.LonePoll.{IsLonePoll}
-use Rattle.kernel_core.specs.Run.{work_limit}
+use Rattle.std.proofs.Common.{◌≡◌, false, sym, ◌∙◌, arith, is_some, ◌==◌}
+use Rattle.kernel_core.proofs.Common.{nat_tests, first_due, IsLonePoll, work_limit}
 use Rattle.kernel_core.proofs.IdleRound.{idle_round}
 use Rattle.kernel_core.proofs.fields.KernelFields.pass_idle_round.Goals as goal
 

@@ -1,6 +1,5 @@
 use Rattle.std.proofs.Common.{◌≡◌, true, rules}
-use Rattle.process_core.specs.Scheduler.{has_room}
-use Rattle.kernel_core.specs.Code.View.{machine_of}
+use Rattle.kernel_core.proofs.Common.{has_room, machine_of}
 use Rattle.kernel_core.proofs.Leftover.{posted_all}
 use Rattle.kernel_core.proofs.fields.KernelFields.post_due.Goals as goal
 

@@ -1,9 +1,5 @@
 use Rattle.std.proofs.Common.{rules, ◌∙◌, sym, ap, ◌≡◌, true, false}
-use Rattle.process_core.specs.Scheduler.{has_room}
-use Rattle.kernel_core.specs.Code.View.{machine_of}
-use Rattle.kernel_core.specs.Machine.{free_places}
-use Rattle.kernel_core.specs.Repeating.{times}
-use Rattle.kernel_core.specs.TimerProcesses.{post_first_due}
+use Rattle.kernel_core.proofs.Common.{has_room, machine_of, free_places, times, post_first_due}
 use Rattle.kernel_core.proofs.FreePlaces.{place_taken, no_place}
 use Rattle.kernel_core.proofs.Repeating.{times_none, times_next, times_same}
 use Rattle.kernel_core.proofs.fields.KernelFields.post_while_room.Goals as goal

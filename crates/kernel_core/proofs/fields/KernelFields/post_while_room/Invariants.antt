@@ -1,9 +1,5 @@
 use Rattle.std.proofs.Common.{◌≡◌, ◌-◌, length}
-use Rattle.kernel_core.specs.Code.Draws.{drawn_in_all}
-use Rattle.kernel_core.specs.Code.View.{machine_of, IsServed}
-use Rattle.kernel_core.specs.Machine.{free_places}
-use Rattle.kernel_core.specs.Repeating.{times}
-use Rattle.kernel_core.specs.TimerProcesses.{post_first_due}
+use Rattle.kernel_core.proofs.Common.{drawn_in_all, machine_of, IsServed, free_places, times, post_first_due}
 use Rattle.kernel_core.proofs.fields.KernelFields.post_while_room.Given as goal
 
 abbrev pub invariant-loop-self : goal.invariant-loop-self

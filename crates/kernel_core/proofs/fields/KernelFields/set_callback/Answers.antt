@@ -1,9 +1,5 @@
 use Rattle.std.proofs.Common.{arith, ap, ◌∙◌, ◌≡◌, ℕ, Bool, None}
-use Rattle.kernel_core.specs.Calls.{callback_refusal, answer_done, is_callback_timer}
-use Rattle.kernel_core.specs.Expiries.{expiries_cancelled}
-use Rattle.kernel_core.specs.Machine.{mark, with_timers}
-use Rattle.kernel_core.specs.Code.View.{machine_of}
-use Rattle.kernel_core.specs.declared.fields.KernelFields.{KernelFields}
+use Rattle.kernel_core.proofs.Common.{callback_refusal, answer_done, is_callback_timer, expiries_cancelled, mark, with_timers, machine_of, KernelFields}
 use Rattle.kernel_core.proofs.Fitness.{renewed_one, cancelled_machine}
 use Rattle.kernel_core.proofs.fields.KernelFields.set_callback.Goals as goal
 

@@ -1,33 +1,20 @@
 use Rattle.std.proofs.Common.{◌≡◌, Bool, true, false, rules, refl, arith, ap}
 use Rattle.kernel_core.proofs.Reaching.{then_job, job_makes, job_silently}
 use Rattle.kernel_core.proofs.Costs.{costs-cons}
-use Rattle.kernel_core.specs.Code.Cost.{present}
-use Rattle.kernel_core.specs.Code.View.{is_cancelled}
-use Rattle.kernel_core.specs.declared.fields.KernelFields.{KernelFields}
-use Rattle.process_core.specs.Agenda.{Item}
-use Rattle.mote_types.specs.declared.event.Origin.{Origin}
-use Rattle.mote_types.specs.declared.event.Stimulus.{Stimulus}
+use Rattle.kernel_core.proofs.Common.{present, is_cancelled, KernelFields, Item, Origin, Stimulus}
 use Rattle.kernel_core.proofs.fields.KernelFields.work_on.Goals as goal
 
 pub returns-then-take_turn-clause-machine : goal.returns-then-take_turn-clause-machine
 returns-then-take_turn-clause-machine g c =
-    job_makes (then_job (c.job.invariant.so_far _) (c.in-Give.ensures.reached _)) (rw c.job.invariant.apps at c.take_turn.ensures.taken (search rules))
+    job_makes (then_job (c.job.invariant.so_far _) (c.in-Give.ensures.reached _)) (rw c.job.invariant.found.apps at c.take_turn.ensures.taken (search rules))
 
 pub returns-in-Give-clause-machine : goal.returns-in-Give-clause-machine
 returns-in-Give-clause-machine g c =
-    job_makes (then_job (c.job.invariant.so_far _) (c.in-Give.ensures.reached _)) (rw c.job.invariant.apps at c.take_turn.ensures.halts (search rules))
+    job_makes (then_job (c.job.invariant.so_far _) (c.in-Give.ensures.reached _)) (rw c.job.invariant.found.apps at c.take_turn.ensures.halts (search rules))
 
 pub job-preserved-in-Serve : goal.job-preserved-in-Serve
 job-preserved-in-Serve g c = record {
-  order = search rules;
-  running = search rules;
-  nothing_shown = search rules;
-  inputs = search rules;
-  applications = search rules;
-  clock = search rules;
-  apps = search rules;
-  other = search rules;
-  left = search rules;
+  found = search rules;
   so_far = λ answers. job_silently (then_job (c.job.invariant.so_far answers) (c.in-Serve.ensures.reached answers)) (c.serve_told.ensures.machine answers _);
   present =
       let paid = c.in-Serve.ensures.paid _ c.job.invariant.present in
@@ -43,28 +30,12 @@ pub job-preserved-in-Callback : goal.job-preserved-in-Callback
 job-preserved-in-Callback g c =
     either (is_cancelled c.next_job.new.self.timers.armings c.in-Callback.pid.0 c.in-Callback.number c.in-Callback.arming)
     (λ cancelled. rw (c.expire.ensures.cancelled cancelled) record {
-      order = search rules;
-      running = search rules;
-      nothing_shown = search rules;
-      inputs = search rules;
-      applications = search rules;
-      clock = search rules;
-      apps = search rules;
-      other = search rules;
-      left = search rules;
+      found = search rules;
       so_far = λ answers. job_silently (then_job (c.job.invariant.so_far answers) (c.in-Callback.ensures.reached answers)) (search (cancelled, rules));
       present = search rules;
     })
     (λ counts. rw (c.expire.ensures.given counts) record {
-      order = search rules;
-      running = search rules;
-      nothing_shown = search rules;
-      inputs = search rules;
-      applications = search rules;
-      clock = search rules;
-      apps = search rules;
-      other = search rules;
-      left = search rules;
+      found = search rules;
       so_far = λ answers. job_silently (then_job (c.job.invariant.so_far answers) (c.in-Callback.ensures.reached answers)) (search (counts, rules));
       present = search rules;
     })
@@ -82,15 +53,7 @@ returns-then-not-begin_round-clause-machine g c =
 
 pub job-preserved : goal.job-preserved
 job-preserved g c = record {
-  order = search rules;
-  running = search rules;
-  nothing_shown = search rules;
-  inputs = search rules;
-  applications = search rules;
-  clock = search rules;
-  apps = search rules;
-  other = search rules;
-  left = search rules;
+  found = search rules;
   so_far = λ answers. job_silently (then_job (c.job.invariant.so_far answers) (c.in-Round.ensures.reached answers)) (c.begin_round.ensures.begins (search rules));
   present =
       let paid = c.in-Round.ensures.paid _ c.job.invariant.present in

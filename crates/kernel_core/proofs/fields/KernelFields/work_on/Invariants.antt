@@ -1,21 +1,20 @@
 use Rattle.std.proofs.Common.{◌≡◌, ◌≤◌, ◌*◌, ◌-◌, ◌+◌, false}
-use Rattle.kernel_core.specs.Code.View.{machine_of, no_pending_entries, entries_left_in, IsInOrder}
-use Rattle.kernel_core.specs.Run.{Answers, work_limit}
-use Rattle.kernel_core.specs.Code.Steps.{GoesSilently}
-use Rattle.kernel_core.specs.Code.Cost.{present, costs, round_cost}
+use Rattle.kernel_core.proofs.Common.{machine_of, no_pending_entries, entries_left_in, IsInOrder, Answers, work_limit, GoesSilently, present, costs, round_cost}
 use Rattle.kernel_core.proofs.fields.KernelFields.work_on.Given as goal
 
 abbrev pub invariant-job : goal.invariant-job
 invariant-job g l = record {
-  order : IsInOrder l.self;
-  running : l.self.halted ≡ false;
-  nothing_shown : l.self.pending ≡ no_pending_entries;
-  inputs : l.self.inputs ≡ l.fn.self.inputs;
-  applications : l.self.scheduler.state.applications ≡ l.fn.self.scheduler.state.applications;
-  clock : l.self.clock ≡ l.fn.self.clock;
-  apps : l.apps ≡ l.fn.apps;
-  other : l.other ≡ l.fn.other;
-  left : entries_left_in l.self ≤ entries_left_in l.fn.self;
+  found : record {
+    order : IsInOrder l.self;
+    running : l.self.halted ≡ false;
+    nothing_shown : l.self.pending ≡ no_pending_entries;
+    inputs : l.self.inputs ≡ l.fn.self.inputs;
+    applications : l.self.scheduler.state.applications ≡ l.fn.self.scheduler.state.applications;
+    clock : l.self.clock ≡ l.fn.self.clock;
+    apps : l.apps ≡ l.fn.apps;
+    other : l.other ≡ l.fn.other;
+    left : entries_left_in l.self ≤ entries_left_in l.fn.self;
+  };
   so_far : (answers : Answers) → GoesSilently answers (machine_of l.fn.self) (machine_of l.self);
   present : present l.self.scheduler.state ≤ present l.fn.self.scheduler.state;
 }

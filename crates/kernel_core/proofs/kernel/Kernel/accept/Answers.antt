@@ -1,5 +1,5 @@
 use Rattle.std.proofs.Common.{rules}
-use Rattle.mote_types.specs.declared.entry.Entry.{Entry}
+use Rattle.kernel_core.proofs.Common.{Entry}
 use Rattle.kernel_core.proofs.Reaching.{entry_comes_first}
 use Rattle.kernel_core.proofs.kernel.Kernel.accept.Goals as goal
 

@@ -1,14 +1,7 @@
 use Rattle.std.proofs.Common.{rules, refl, ◌≡◌}
-use Rattle.node_memory.specs.Memory.{fresh_memory}
-use Rattle.process_core.specs.Code.SchedulerView.{awaiting_nothing}
-use Rattle.process_core.specs.Scheduler.{at_boot}
-use Rattle.timer_core.specs.Timers.{no_timers}
-use Rattle.kernel_core.specs.Machine.{sizes_of}
-use Rattle.std.specs.List.{range_with_len}
+use Rattle.kernel_core.proofs.Common.{fresh_memory, awaiting_nothing, at_boot, no_timers, sizes_of, range_with_len, quiet_line, no_pending_entries}
 use Rattle.device_core.specs.PacketQueue.{no_packets}
-use Rattle.device_core.specs.SerialLine.{quiet_line}
 use Rattle.kernel_core.proofs.FrameBlocks.{no_frames}
-use Rattle.kernel_core.specs.Code.View.{no_pending_entries}
 use Rattle.kernel_core.proofs.Drawing.{draws-starts}
 use Rattle.kernel_core.proofs.kernel.Kernel.boot.Goals as goal
 
