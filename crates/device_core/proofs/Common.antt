@@ -1,7 +1,11 @@
 -- The names that most proofs here cite, passed on from one place. Declares nothing.
 pub use Rattle.device_core.specs.Code.Taking.{takes_all}
-pub use Rattle.device_core.specs.PacketQueue.{PacketQueue, IsWellFormed}
 unfoldable pub use Rattle.device_core.specs.PacketQueue.{free_slot}
-pub use Rattle.device_core.specs.SerialLine.{after_bytes, after_byte, with_bytes}
-pub use Rattle.std.proofs.lemmas.Bool.Decides.{nat_tests}
-pub use Rattle.std.specs.List.{list_any}
+pub use Rattle.device_core.specs.PacketQueue.{IsWellFormed, PacketQueue, is_full, is_held, no_packets, receiver_number, with_frame}
+pub use Rattle.device_core.specs.SerialLine.{SerialLine, after_byte, after_bytes, after_line, is_line_end, line_of, next_line, with_bytes}
+pub use Rattle.device_core.specs.declared.frame.Frame.{Frame}
+pub use Rattle.std.proofs.lemmas.Bool.Decides.{eqb_tells, nat_tests}
+pub use Rattle.std.proofs.lemmas.List.{append-nil, drop_more, length-map, length_push, map_push, take_all, take_at}
+unfoldable pub use Rattle.std.specs.List.{IsDistinct}
+pub use Rattle.std.specs.List.{after_first, before_first, find, list_any, position_or_len, range_with_len}
+pub use Rattle.std.specs.Option.{option_map}

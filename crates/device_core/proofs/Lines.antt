@@ -1,10 +1,7 @@
 -- Lines, byte by byte.
-use Rattle.std.proofs.Common.{◌≡◌, ℕ, zero, suc, ◌≤◌, ◌<◌, ◌+◌, ◌-◌, Bool, true, false, List, [], ◌∷◌, ◌++◌, length, take, drop, refl, ap, sym, ◌∙◌, arith, append_assoc, Some, None, length-append, length-take, ◌⊎◌, inl, inr, slice_get}
-use Rattle.device_core.proofs.Common.{nat_tests, list_any, after_byte, with_bytes}
-use Rattle.std.proofs.lemmas.List.{take_all, take_at, append-nil}
-use Rattle.std.specs.List.{before_first, after_first, position_or_len}
+use Rattle.std.proofs.Common.{◌≡◌, ℕ, zero, suc, ◌≤◌, ◌<◌, ◌+◌, Bool, true, false, List, [], ◌∷◌, ◌++◌, length, take, drop, refl, ap, sym, ◌∙◌, arith, append_assoc, Some, None, length-append, length-take, ◌⊎◌, slice_get}
+use Rattle.device_core.proofs.Common.{nat_tests, list_any, after_byte, with_bytes, take_all, take_at, append-nil, before_first, after_first, position_or_len, SerialLine, next_line, after_line, is_line_end}
 use Rattle.circular_buffer.specs.Buffer.{keep_last}
-use Rattle.device_core.specs.SerialLine.{SerialLine, next_line, after_line, is_line_end}
 
 abbrev pub state : List ℕ → Bool → List ℕ → SerialLine
 state ring overflow line = record { ring = ring; overflow = overflow; line = line }
@@ -36,8 +33,7 @@ pub with_bytes_fits : (line bytes : List ℕ) → length (with_bytes line bytes)
 with_bytes_fits line bytes = omega (arith, length-take 127 (line ++ bytes))
 
 first_and_rest : (xs : List ℕ) (x : ℕ) → slice_get xs 0 ≡ Some x → xs ≡ x ∷ drop 1 xs
-first_and_rest [] x h = absurd (cc)
-first_and_rest (y ∷ ys) x h = cc
+first_and_rest xs x h = grind (arith, nat_tests)
 
 nothing_first : (xs : List ℕ) → slice_get xs 0 ≡ None → xs ≡ []
 nothing_first [] h = refl
@@ -57,11 +53,7 @@ after_first_past byte ring h = grind (arith, nat_tests)
 
 serves_alike_past : (byte : ℕ) (ring : List ℕ) (overflow : Bool) (line : List ℕ) → is_line_end byte ≡ false
     → ServesAlike (state ring overflow (with_bytes line (byte ∷ []))) (state (byte ∷ ring) overflow line)
-serves_alike_past byte ring overflow line h =
-    record {
-      line = rw (list_any_past byte ring h, before_first_past byte ring h, with_bytes_one_more line byte (before_first is_line_end ring)) refl;
-      rest = rw (list_any_past byte ring h, after_first_past byte ring h, with_bytes_one_more line byte ring) refl;
-    }
+serves_alike_past byte ring overflow line h = grind (arith, nat_tests, list_any_past, before_first_past, with_bytes_one_more, after_first_past)
 
 -- a byte that ends no line goes into the line that began
 pub alike_one_more : (ring line kept : List ℕ) (overflow : Bool) (byte : ℕ) (s : SerialLine) → ServesAlike (state ring overflow line) s
@@ -88,12 +80,9 @@ rest_at_empty_ring ring line overflow s alike empty fits = grind (arith, nat_tes
 
 -- a buffer that has room keeps all it held
 pub keep_last_all : (n : ℕ) (xs : List ℕ) (x : ℕ) → length xs < n → keep_last n (xs ++ x ∷ []) ≡ xs ++ x ∷ []
-keep_last_all n xs x room =
-    let none : length (xs ++ x ∷ []) - n ≡ 0 = omega (arith, length-append xs (x ∷ [])) in
-    rw none refl
+keep_last_all n xs x room = grind (arith, nat_tests, length-append xs (x ∷ []), length-append)
 
 -- where the ring has room, a byte that isn't ignored is taken, but in the overflow state a line end alone
 pub byte_taken : (ring : List ℕ) (overflow : Bool) (line : List ℕ) (byte : ℕ) → (byte ≡ 13 → ⊥) → length ring < 127
     → (overflow ≡ false) ⊎ ((overflow ≡ true) × (byte ≡ 10)) → after_byte (state ring overflow line) byte ≡ state (ring ++ byte ∷ []) false line
-byte_taken ring overflow line byte other room (inl calm) = grind (arith, nat_tests, other, calm)
-byte_taken ring overflow line byte other room (inr (lost, is_end)) = grind (arith, nat_tests, other, lost, is_end)
+byte_taken ring overflow line byte other room is = grind (arith, nat_tests, other)

@@ -1,31 +1,19 @@
 -- Slots of frames: which are held, and which is the least free one.
-use Rattle.std.proofs.Common.{◌≡◌, ℕ, zero, suc, ◌+◌, ◌-◌, ◌≤◌, ◌<◌, Bool, true, false, List, [], ◌∷◌, ◌++◌, length, drop, map, refl, ap, ◌∙◌, arith, eqb, Option, Some, None, All, inl, inr, not, ◌==◌}
-use Rattle.device_core.proofs.Common.{nat_tests, list_any, PacketQueue, free_slot, IsWellFormed}
-use Rattle.std.specs.List.{find, range_with_len, IsDistinct}
+use Rattle.std.proofs.Common.{◌≡◌, ℕ, zero, suc, ◌+◌, ◌-◌, ◌≤◌, ◌<◌, Bool, true, false, List, [], ◌∷◌, ◌++◌, length, drop, map, refl, ◌∙◌, arith, eqb, Option, Some, None, All, not, ◌==◌}
+use Rattle.device_core.proofs.Common.{nat_tests, list_any, PacketQueue, free_slot, IsWellFormed, find, range_with_len, IsDistinct, length-map, length_push, map_push, no_packets, is_held, with_frame, Frame}
 use Rattle.std.proofs.lemmas.Bool.{eqb-true}
-use Rattle.std.proofs.lemmas.Bool.Decides.{eqb_tells}
 use Rattle.std.proofs.lemmas.Cmp.{nat_eq_equiv}
-use Rattle.std.proofs.lemmas.List.{drop_more, length-map, length_push, map_push}
 use Rattle.std.proofs.lemmas.List.Elements.{All-append}
 use Rattle.std.proofs.lemmas.List.FromFn.{get_or-range_with_len}
 use Rattle.std.proofs.lemmas.Map.Keys.{IsDistinct-push, IsDistinct-tail}
 use Rattle.std.proofs.lemmas.Map.Steps.{length-le_from_distinct_below, le-length_from_below}
-use Rattle.device_core.specs.PacketQueue.{no_packets, is_held, with_frame}
-use Rattle.device_core.specs.declared.frame.Frame.{Frame}
 
 -- the least slot from this one on that no held frame has
 abbrev pub free_slot_from : ℕ → PacketQueue → Option ℕ
 free_slot_from slot queue = find (λ s. not (is_held queue s)) (drop slot (range_with_len 0 8))
 
 pub free_slot_from_more : (queue : PacketQueue) (slot : ℕ) → slot < 8 → is_held queue slot ≡ true → free_slot_from (slot + 1) queue ≡ free_slot_from slot queue
-free_slot_from_more queue slot below held =
-    let slots = range_with_len 0 8 in
-    let here = get_or-range_with_len 0 8 slot 0 below ∙ at_zero in
-    let first : drop slot slots ≡ slot ∷ drop (slot + 1) slots = drop_more slots slot 0 below ∙ ap (λ s. s ∷ drop (slot + 1) slots) here in
-    rw first (rw held refl)
-  where
-    at_zero : 0 + slot ≡ slot
-    at_zero = omega arith
+free_slot_from_more queue slot below held = grind (arith, nat_tests, get_or-range_with_len 0 8 slot 0 below)
 
 -- the first that passes among n numbers from a on
 find_passes : (p : ℕ → Bool) (a n x : ℕ) → find p (range_with_len a n) ≡ Some x → p x ≡ true
@@ -67,14 +55,11 @@ true_from_not false h = absurd (cc)
 
 pub unused_where_free : (queue : PacketQueue) (slot : ℕ) → free_slot queue ≡ Some slot → (slot < 8) × (is_held queue slot ≡ false)
 unfolding free_slot
-unused_where_free queue slot h =
-    let test = λ (s : ℕ). not (is_held queue s) in
-    (find_below test 0 8 slot h, false_from_not (is_held queue slot) (find_passes test 0 8 slot h))
+unused_where_free queue slot h = grind (arith, nat_tests, find_below, false_from_not, find_passes)
 
 all_held_where_none_free : (queue : PacketQueue) (slot : ℕ) → free_slot queue ≡ None → slot < 8 → is_held queue slot ≡ true
 unfolding free_slot
-all_held_where_none_free queue slot h below =
-    true_from_not (is_held queue slot) (none_passes (λ s. not (is_held queue s)) 0 8 slot h (omega arith) below)
+all_held_where_none_free queue slot h below = grind (arith, nat_tests, true_from_not, none_passes)
 
 below_where_one : (slot len : ℕ) → slot < 8 → let new : Frame = record { slot = slot; len = len } in All (λ frame. frame.slot < 8) (new ∷ [])
 below_where_one slot len below zero d lt = below
@@ -107,8 +92,7 @@ room_where_free queue slot well h =
 
 pub full_where_none_free : (queue : PacketQueue) → free_slot queue ≡ None → 8 ≤ length queue.frames
 full_where_none_free queue h =
-    let all = le-length_from_below (slots_of queue.frames) 8 each in
-    omega (arith, all, length-map queue.frames (λ frame. frame.slot))
+    omega (arith, (le-length_from_below (slots_of queue.frames) 8 each), length-map queue.frames (λ frame. frame.slot))
   where
     each : (q : ℕ) → q < 8 → list_any (eqb q) (slots_of queue.frames) ≡ true
     each q below = member_where_held queue.frames q ∙ all_held_where_none_free queue q h below
@@ -116,14 +100,7 @@ full_where_none_free queue h =
 pub well_formed_without_front : (frames : List Frame) (announced : ℕ) (receiver : Option ℕ)
     → IsWellFormed (record { frames = frames; announced = announced; receiver = receiver })
     → IsWellFormed (record { frames = drop 1 frames; announced = announced - 1; receiver = receiver })
-well_formed_without_front [] announced receiver well =
-    record {
-      few = well.few;
-      distinct = well.distinct;
-      slots = well.slots;
-      told = omega (arith, well.told);
-      receiver = well.receiver;
-    }
+well_formed_without_front [] announced receiver well = grind (arith, nat_tests, well.told)
 well_formed_without_front (frame ∷ frames) announced receiver well =
     record {
       few = omega (arith, well.few);

@@ -1,7 +1,6 @@
 -- Bytes of which none is ignored or lost go into the ring together.
 use Rattle.std.proofs.Common.{◌≡◌, ℕ, ◌≤◌, ◌+◌, ◌-◌, Bool, true, false, List, [], ◌∷◌, ◌++◌, length, take, refl, ap, ◌∙◌, arith, append_assoc, length-append, inl, min, ◌==◌}
-use Rattle.device_core.proofs.Common.{nat_tests, list_any, after_bytes, takes_all}
-use Rattle.std.proofs.lemmas.List.{take_all, append-nil}
+use Rattle.device_core.proofs.Common.{nat_tests, list_any, after_bytes, takes_all, take_all, append-nil}
 use Rattle.device_core.proofs.Lines.{state, byte_taken}
 
 -- none of the bytes is ignored, and the ring has room for all of them
@@ -13,9 +12,8 @@ after_bytes_that_fit : (ring bytes line : List ℕ) → AllFit ring bytes
     → after_bytes (state ring false line) bytes ≡ state (ring ++ bytes) false line
 after_bytes_that_fit ring [] line fits = rw append-nil refl
 after_bytes_that_fit ring (byte ∷ bytes) line fits =
-    let other : byte ≡ 13 → ⊥ = grind (arith, nat_tests, fits.none_ignored) in
     let none_ignored : list_any (λ b. b == 13) bytes ≡ false = grind (arith, nat_tests, fits.none_ignored) in
-    let first = byte_taken ring false line byte other (omega (arith, fits.room)) (inl refl) in
+    let first = byte_taken ring false line byte (grind (arith, nat_tests, fits.none_ignored)) (omega (arith, fits.room)) (inl refl) in
     let room : length (ring ++ byte ∷ []) + length bytes ≤ 127 = omega (arith, fits.room, length-append ring (byte ∷ [])) in
     let rest = after_bytes_that_fit (ring ++ byte ∷ []) bytes line (record { none_ignored = none_ignored; room = room }) in
     ap (λ s. after_bytes s bytes) first ∙ rest ∙ ap (λ r. state r false line) (append_assoc ring (byte ∷ []) bytes)

@@ -1,6 +1,6 @@
 -- Worked examples: what small scripts give, and what small transcripts show.
 use Rattle.std.proofs.Common.{◌≡◌, ◌≤◌, ℕ, true, [], ◌∷◌, codes, refl, ◌∙◌, arith, lit≤}
-use Rattle.mote_text.proofs.Common.{encode_with, Entry, Input, entry_line, line_of, inputs, read_line, script_limit, whole_lines}
+use Rattle.mote_text.proofs.Common.{encode_with, Entry, Input, entry_line, line_of, inputs, read_line, script_limit, whole_lines, End}
 use Rattle.std.specs.Fmt.{digits}
 use Rattle.mote_types.specs.declared.call.Call.{Call}
 use Rattle.mote_types.specs.declared.entry.Note.{Note}
@@ -8,7 +8,6 @@ use Rattle.mote_types.specs.declared.event.Origin.{Origin}
 use Rattle.mote_types.specs.declared.event.Stimulus.{Stimulus}
 use Rattle.mote_types.specs.declared.refusal.Refusal.{Refusal}
 use Rattle.mote_types.specs.declared.reply.Reply.{Reply}
-use Rattle.mote_text.specs.declared.script.End.{End}
 use Rattle.mote_text.proofs.WholeLines.{inputs_of_short}
 use Rattle.mote_text.specs.Transcript.{final_line, shown, text}
 
@@ -34,11 +33,11 @@ nothing = inputs_of_short [] (small 0 (lit≤ tt)) ∙ refl
 one_whole_line : whole_lines (codes "tick 5\ntick") ≡ codes "tick 5" ∷ []
 one_whole_line = refl
 
-printed : Entry
+abbrev printed : Entry
 printed = Entry.Turn (record { 0 = 4 }) Origin.Answer (Stimulus.Answer Reply.Done) (Call.Print (record { items = 104 ∷ 105 ∷ 10 ∷ [] }))
 
 line_of_a_turn : entry_line printed ≡ codes "4 answer done -> print 68690a\n"
-unfolding entry_line line_of printed digits encode_with
+unfolding entry_line line_of digits encode_with
 line_of_a_turn = refl
 
 text_of_a_bad_script : text (Entry.Input (Input.Tick 5) ∷ Entry.Halt ∷ []) (End.BadLine 3) ≡ codes "> tick 5\nhalt\nbad line 3\n"
@@ -51,5 +50,4 @@ too_long = refl
 
 -- a quiet transcript
 shown_quietly : shown true (Entry.Input (Input.Tick 5) ∷ printed ∷ Entry.Note (Note.Lost Refusal.NotLive) ∷ Entry.Halt ∷ []) ≡ printed ∷ Entry.Halt ∷ []
-unfolding printed
 shown_quietly = refl

@@ -1,8 +1,6 @@
 -- The end of a line among the bytes of a piece.
 use Rattle.std.proofs.Common.{◌≡◌, ◌<◌, ◌≤◌, ℕ, zero, suc, Bool, true, false, not, List, [], ◌∷◌, ◌++◌, ◌==◌, length, take, refl, ◌∙◌, arith, min, nat_le}
-use Rattle.mote_text.proofs.Common.{nat_tests}
-use Rattle.std.proofs.lemmas.List.{take_all}
-use Rattle.std.proofs.lemmas.List.Folds.{list_all-append}
+use Rattle.mote_text.proofs.Common.{nat_tests, take_all, list_all-append}
 use Rattle.memchr.specs.Find.{Nowhere, Passes, is_byte}
 use Rattle.mote_text.specs.Code.Lines.{has_no_end, GoesOnAt}
 
@@ -19,8 +17,7 @@ no_end_before bytes zero h none = refl
 no_end_before [] (suc k) h none = absurd (omega arith)
 no_end_before (byte ∷ bytes) (suc k) h none =
     let first : not (byte == 10) ≡ true = first_goes_on byte (byte == 10) refl (λ e. none 0 (omega arith) (omega arith) e) in
-    let later = no_end_before bytes k (omega arith) (λ j low high e. none (suc j) (omega arith) (omega arith) e) in
-    rw (first, later) refl
+    rw (first, (no_end_before bytes k (omega arith) (λ j low high e. none (suc j) (omega arith) (omega arith) e))) refl
 
 -- the front of a piece that is at most so long
 pub take_few : (n k : ℕ) (piece : List ℕ) (is_short : Bool) → nat_le (length piece) n ≡ is_short → k ≡ min (length piece) n → take n piece ≡ take k piece
@@ -28,10 +25,7 @@ take_few n k piece true test e =
     let short : length piece ≤ n = grind (arith, nat_tests, test) in
     let same : k ≡ length piece = omega (arith, short, e) in
     rw (same, take_all n piece short, take_all (length piece) piece (omega arith)) refl
-take_few n k piece false test e =
-    let long : n ≤ length piece = grind (arith, nat_tests, test) in
-    let same : k ≡ n = omega (arith, long, e) in
-    rw same refl
+take_few n k piece false test e = grind (arith, nat_tests, test, e)
 
 -- where the front of a piece has no end at a place, a byte stands there that ends no line
 pub goes_on_at : (piece : List ℕ) (m k : ℕ) → k < m → m ≤ length piece → (Passes (is_byte 10) (take m piece) k → ⊥) → GoesOnAt piece k

@@ -1,15 +1,8 @@
 -- The line of an input in the transcript is its script's line in lower case.
-use Rattle.std.proofs.Common.{◌≡◌, inl, inr, ◌<◌, ◌≢◌, ◌^◌, ◌+◌, ◌*◌, ◌/◌, ◌%◌, ◌==◌, ◌&&◌, ℕ, zero, suc, Bool, true, false, List, [], ◌∷◌, ◌++◌, length, map, take, codes, decimal, bytes_eq, nat_le, nat_lt, slice_index, unwrap_or, Option, Some, None, option_map, option_and_then, Result, Ok, Err, refl, sym, ap, subst, ◌∙◌, arith, ne_eqb}
-use Rattle.mote_text.proofs.Common.{is_ascii_digit, list_all, option_or, digits_value, nat_tests, encode_lower, encode_with, lower_digits, Entry, Input, entry_line, line_of, argument_of, is_number, line_limit, read_bytes, read_line, read_number, says_nothing}
-use Rattle.std.specs.Char.{to_ascii_lowercase}
+use Rattle.std.proofs.Common.{◌≡◌, inl, inr, ◌<◌, ◌^◌, ◌+◌, ◌*◌, ◌/◌, ◌%◌, ◌==◌, ◌&&◌, ℕ, zero, suc, Bool, true, false, List, [], ◌∷◌, ◌++◌, length, map, codes, decimal, nat_le, nat_lt, slice_index, Option, Some, None, option_map, option_and_then, Result, Ok, refl, ap, ◌∙◌, arith}
+use Rattle.mote_text.proofs.Common.{is_ascii_digit, list_all, option_or, digits_value, nat_tests, encode_lower, encode_with, lower_digits, Entry, Input, entry_line, line_of, argument_of, is_number, line_limit, read_bytes, read_line, read_number, says_nothing, to_ascii_lowercase, and_parts, cases_lt, append-nil, decode_of, decode_pairs, digit_or_error, hex_digit_value, pair_value, value_at, ◌>>=◌, decode_of-even, decode_of-ok, hex, read_words}
 use Rattle.std.specs.Result.{result_ok, result_unwrap_or}
-use Rattle.std.proofs.lemmas.Bool.{and_parts, cases_lt, eqb-true}
-use Rattle.std.proofs.lemmas.List.{append-nil}
-use Rattle.hex.specs.Hex.{decode_of, decode_pairs, digit_or_error, hex_digit_value, pair_value, value_at, ◌>>=◌}
 use Rattle.hex.specs.declared.error.FromHexError.{FromHexError}
-use Rattle.hex.proofs.HexLemmas.{decode_of-even, decode_of-ok}
-use Rattle.mote_text.specs.EntryText.{hex}
-use Rattle.mote_text.specs.Script.{read_words}
 use Rattle.mote_text.proofs.Ticks.{behind_word, decimal_of_read}
 
 -- a digit in lower case is the digit of its value
@@ -35,21 +28,17 @@ digit_is_small : (c v : ℕ) → hex_digit_value c ≡ Some v → (c < 103) × (
 digit_is_small c v is = (grind (arith), grind (arith))
 
 lowered_digit : (c v : ℕ) → hex_digit_value c ≡ Some v → to_ascii_lowercase c ≡ slice_index lower_digits v
-lowered_digit c v is =
-    let same = rw is at (lowered_below 103 c refl (digit_is_small c v is).0) in
-    eqb-true (to_ascii_lowercase c) (slice_index lower_digits v) same
+lowered_digit c v is = grind (arith, nat_tests, lowered_below 103 c refl (digit_is_small c v is).0, digit_is_small c v is)
 
 -- so are the digits of bytes
 
 then_ok : {A B : Type 0} (first : Result A FromHexError) (next : A → Result B FromHexError) (value : B) →
     (first >>= next) ≡ Ok value →
     (a : A) × (first ≡ Ok a) × (next a ≡ Ok value)
-then_ok (Ok a) next value is = (a, refl, is)
-then_ok (Err fault) next value is = absurd (cc)
+then_ok first next value is = grind (arith, nat_tests)
 
 value_is : (c i v : ℕ) (value : Option ℕ) → digit_or_error c i value ≡ Ok v → value ≡ Some v
-value_is c i v (Some w) is = ap (λ r. Some (result_unwrap_or r w)) is
-value_is c i v None is = absurd (cc)
+value_is c i v value is = grind (arith, nat_tests)
 
 high_of : (high low : ℕ) → low < 16 → (high * 16 + low) / 16 ≡ high
 high_of high low small = omega arith
@@ -62,9 +51,7 @@ lowered_pair : (high low h l byte : ℕ) (rest later : List ℕ) → hex_digit_v
     map to_ascii_lowercase rest ≡ encode_lower later →
     map to_ascii_lowercase (high ∷ low ∷ rest) ≡ encode_lower (byte ∷ later)
 unfolding encode_with
-lowered_pair high low h l byte rest later high_is low_is value same =
-    let small = (digit_is_small low l low_is).1 in
-    rw (← value, high_of h l small, low_of h l small, lowered_digit high h high_is, lowered_digit low l low_is, same) refl
+lowered_pair high low h l byte rest later high_is low_is value same = grind (arith, nat_tests, digit_is_small, high_of, low_of, lowered_digit)
 
 lowered_pairs : (i : ℕ) (digits bytes : List ℕ) → decode_pairs i digits ≡ Ok bytes →
     map to_ascii_lowercase digits ≡ encode_lower bytes
@@ -80,12 +67,10 @@ lowered_pairs i (high ∷ low ∷ rest) bytes is =
     let low_is = value_is low (i + 1) second.0 (hex_digit_value low) second.1 in
     let value : first.0 * 16 + second.0 ≡ byte.0 = ap (λ r. result_unwrap_or r 0) second.2 in
     let all : byte.0 ∷ later.0 ≡ bytes = ap (λ r. result_unwrap_or r []) later.2 in
-    let behind = lowered_pairs (i + 2) rest later.0 later.1 in
-    lowered_pair high low first.0 second.0 byte.0 rest later.0 high_is low_is value behind ∙ ap encode_lower all
+    lowered_pair high low first.0 second.0 byte.0 rest later.0 high_is low_is value (lowered_pairs (i + 2) rest later.0 later.1) ∙ ap encode_lower all
 
 lowered_hex : (digits bytes : List ℕ) → decode_of digits ≡ Ok bytes → map to_ascii_lowercase digits ≡ encode_lower bytes
-lowered_hex digits bytes is =
-    lowered_pairs 0 digits bytes (sym (decode_of-even digits (decode_of-ok digits bytes is).0) ∙ is)
+lowered_hex digits bytes is = grind (arith, nat_tests, lowered_pairs, decode_of-even, decode_of-ok)
 
 -- and so are the digits of a number
 
@@ -108,18 +93,13 @@ lowered_number text n reads = grind (arith, nat_tests, lowered_numeral, numeral_
 -- what a line's argument is read as
 
 ok_is : (r : Result (List ℕ) FromHexError) (bytes : List ℕ) → result_ok r ≡ Some bytes → r ≡ Ok bytes
-ok_is (Ok read) bytes is = ap (λ o. Ok (unwrap_or o read)) is
-ok_is (Err fault) bytes is = absurd (cc)
+ok_is r bytes is = grind (arith, nat_tests)
 
 hex_if : (most : ℕ) (digits bytes : List ℕ) (is_read : Bool) →
     (nat_le 2 (length digits) && nat_le (length digits) (2 * most)) ≡ is_read →
     read_bytes most digits ≡ Some bytes → map to_ascii_lowercase digits ≡ hex bytes
 hex_if most digits bytes false test reads = let none : None ≡ Some bytes = rw test at reads in absurd (cc)
-hex_if most digits bytes true test reads =
-    let is : decode_of digits ≡ Ok bytes = ok_is (decode_of digits) bytes (rw test at reads) in
-    let twice = (decode_of-ok digits bytes is).2 in
-    let some : length bytes ≢ 0 = λ none. absurd (grind (arith, nat_tests, test, twice, none)) in
-    rw (ne_eqb (length bytes) 0 some) (lowered_hex digits bytes is)
+hex_if most digits bytes true test reads = grind (arith, nat_tests, test, ok_is, decode_of-ok, lowered_hex)
 
 lowered_bytes : (most : ℕ) (digits bytes : List ℕ) → read_bytes most digits ≡ Some bytes →
     map to_ascii_lowercase digits ≡ hex bytes
@@ -166,18 +146,11 @@ shows_one : (P : Input → Type 0) (number : Option ℕ) (serial frame : Option 
     (option_or (option_map (λ bytes. Input.Serial (record { items = bytes })) serial)
     (option_map (λ bytes. Input.Frame (record { items = bytes })) frame))
     ≡ Some input → P input
-shows_one P (Some n) serial frame tick of_serial of_frame input says =
-    subst P (ap (λ o. unwrap_or o (Input.Tick n)) says) (tick n refl)
-shows_one P None (Some bytes) frame tick of_serial of_frame input says =
-    subst P (ap (λ o. unwrap_or o (Input.Tick 0)) says) (of_serial bytes refl)
-shows_one P None None (Some bytes) tick of_serial of_frame input says =
-    subst P (ap (λ o. unwrap_or o (Input.Tick 0)) says) (of_frame bytes refl)
-shows_one P None None None tick of_serial of_frame input says = absurd (cc)
+shows_one P number serial frame tick of_serial of_frame input says = grind (arith, nat_tests)
 
 some_input : (words : Option Input) (input : Input) → option_map (λ said. Some said) words ≡ Some (Some input) →
     words ≡ Some input
-some_input (Some said) input says = ap (λ o. unwrap_or o None) says
-some_input None input says = absurd (cc)
+some_input words input says = grind (arith, nat_tests)
 
 said_words : (line : List ℕ) (input : Input) (is_long is_nothing : Bool) → nat_lt line_limit (length line) ≡ is_long →
     says_nothing line ≡ is_nothing →

@@ -1,11 +1,7 @@
--- A script as far as it was read: what it gives, whatever stands behind. Each lemma reads one byte more, or the end.
+-- A script as far as it was read: what it gives, whatever stands behind. Each lemma reads one byte more.
 use Rattle.std.proofs.Common.{◌≡◌, ◌≢◌, ◌<◌, ◌≤◌, ◌+◌, ◌-◌, ℕ, suc, List, [], ◌∷◌, ◌++◌, length, Option, Some, None, refl, arith, lt-ltb, le-ltb, append_assoc, length-append, ne_eqb, eq-eqb, ◌∙◌, sym}
-use Rattle.mote_text.proofs.Common.{nat_tests, Input, with_line, read_line, line_limit, script_limit, inputs, read_lines, whole_lines, read_on}
-use Rattle.std.proofs.lemmas.List.{append-nil}
-use Rattle.mote_text.specs.declared.script.End.{End}
-use Rattle.mote_text.specs.Script.{preceded_by}
+use Rattle.mote_text.proofs.Common.{nat_tests, Input, with_line, read_line, line_limit, script_limit, inputs, read_lines, whole_lines, read_on, append-nil, End, preceded_by, Before}
 use Rattle.mote_text.proofs.WholeLines.{inputs_of_short, whole_lines_stay, lines_end_whole}
-use Rattle.mote_text.specs.Code.Reading.{Before}
 use Rattle.mote_text.proofs.Bytewise.{inputs_by_bytes}
 
 pub script_limit_is : script_limit ≡ 16_777_216
@@ -17,9 +13,7 @@ abbrev pub Gives : List ℕ → List Input → End → Type 0
 Gives taken earlier end = (rest : List ℕ) → inputs (taken ++ rest) ≡ (earlier, end)
 
 pub start : Before [] [] 1 []
-start =
-    let all : script_limit - 0 ≡ script_limit = omega arith in
-    record { whole = refl; onward = λ rest. rw all (inputs_by_bytes rest) }
+start = grind (arith, nat_tests, inputs_by_bytes)
 
 -- reading on
 
@@ -53,27 +47,20 @@ module _ {taken : List ℕ} {earlier : List Input} {number : ℕ} {line : List �
 
   next : length taken < script_limit → (rest : List ℕ) →
       inputs ((taken ++ byte ∷ []) ++ rest) ≡ preceded_by earlier (read_on number line (suc room_behind) (byte ∷ rest))
-  next room rest =
-      let less : script_limit - length taken ≡ suc room_behind = omega (arith, length-append taken (byte ∷ [])) in
-      rw (append_assoc taken (byte ∷ []) rest, ← less) (before.onward (byte ∷ rest))
+  next room rest = grind (arith, nat_tests, length-append, append_assoc)
 
   -- a byte of the present line
   pub another_byte : length taken < script_limit → byte ≢ 10 → length line < line_limit →
       Before (taken ++ byte ∷ []) earlier number (line ++ byte ∷ [])
-  another_byte room other fits = record {
-    whole = rw (whole_lines_stay taken byte (ne_eqb byte 10 other)) before.whole;
-    onward = λ rest. rw (read_on_byte number line room_behind byte rest other fits) at (next room rest);
-  }
+  another_byte room other fits = grind (arith, nat_tests, whole_lines_stay, read_on_byte, next)
 
   -- one byte more than a line may have
   pub line_too_long : length taken < script_limit → byte ≢ 10 → line_limit ≤ length line → Gives (taken ++ byte ∷ []) earlier (End.BadLine number)
-  line_too_long room other full = λ rest.
-      rw (read_on_too_long_line number line room_behind byte rest other full, append-nil earlier) at (next room rest)
+  line_too_long room other full = grind (arith, nat_tests, read_on_too_long_line, append-nil, next)
 
   line_ends : (read : Option (Option Input)) → length taken < script_limit → byte ≡ 10 → read_line line ≡ read → (rest : List ℕ) →
       inputs ((taken ++ byte ∷ []) ++ rest) ≡ preceded_by earlier (with_line number read (read_on (number + 1) [] room_behind rest))
-  line_ends read room is_end says rest =
-      rw (read_on_line_end number line room_behind byte rest is_end, says) at (next room rest)
+  line_ends read room is_end says rest = grind (arith, nat_tests, read_on_line_end, next)
 
   -- at a line's end all lines are whole
   whole_at_end : (inputs_so_far : List Input) → length taken < script_limit → byte ≡ 10 →
@@ -81,10 +68,9 @@ module _ {taken : List ℕ} {earlier : List Input} {number : ℕ} {line : List �
       read_lines 1 End.Finished (whole_lines (taken ++ byte ∷ [])) ≡ (inputs_so_far, End.Finished)
   unfolding read_line
   whole_at_end inputs_so_far room is_end onward =
-      let short : length (taken ++ byte ∷ []) ≤ script_limit = omega (arith, length-append taken (byte ∷ [])) in
       let whole = lines_end_whole taken byte (eq-eqb byte 10 is_end) in
       let given = rw (append-nil (taken ++ byte ∷ []), read_on_end (number + 1) [] room_behind, append-nil inputs_so_far) at (onward []) in
-      rw (← whole) (sym (inputs_of_short (taken ++ byte ∷ []) short) ∙ given)
+      rw (← whole) (sym (inputs_of_short (taken ++ byte ∷ []) (omega (arith, length-append taken (byte ∷ [])))) ∙ given)
 
   -- the end of an empty line, or of a comment
   pub line_of_nothing : length taken < script_limit → byte ≡ 10 → read_line line ≡ Some None → Before (taken ++ byte ∷ []) earlier (number + 1) []
@@ -96,8 +82,7 @@ module _ {taken : List ℕ} {earlier : List Input} {number : ℕ} {line : List �
       Before (taken ++ byte ∷ []) (earlier ++ input ∷ []) (number + 1) []
   line_of_input input room is_end says =
       let onward : (rest : List ℕ) → inputs ((taken ++ byte ∷ []) ++ rest) ≡ preceded_by (earlier ++ input ∷ []) (read_on (number + 1) [] room_behind rest) = λ rest.
-      let later = read_on (number + 1) [] room_behind rest in
-      rw (append_assoc earlier (input ∷ []) later.0) (line_ends (Some (Some input)) room is_end says rest) in
+      rw (append_assoc earlier (input ∷ []) (read_on (number + 1) [] room_behind rest).0) (line_ends (Some (Some input)) room is_end says rest) in
       record { whole = whole_at_end (earlier ++ input ∷ []) room is_end onward; onward = onward }
 
   pub line_of_no_form : length taken < script_limit → byte ≡ 10 → read_line line ≡ None → Gives (taken ++ byte ∷ []) earlier (End.BadLine number)
@@ -105,21 +90,4 @@ module _ {taken : List ℕ} {earlier : List Input} {number : ℕ} {line : List �
 
   -- one byte more than a script may have
   pub script_too_long : script_limit ≤ length taken → Gives (taken ++ byte ∷ []) earlier End.TooLong
-  script_too_long full = λ rest.
-      let none : script_limit - length taken ≡ 0 = omega arith in
-      let onward = rw (read_on_past_limit number line (script_limit - length taken) byte rest none, append-nil earlier) at (before.onward (byte ∷ rest)) in
-      rw (append_assoc taken (byte ∷ []) rest) onward
-
--- the source's end, which ends the present line too
-module _ {taken : List ℕ} {earlier : List Input} {number : ℕ} {line : List ℕ} (before : Before taken earlier number line) where
-  ends : (read : Option (Option Input)) → read_line line ≡ read → inputs taken ≡ preceded_by earlier (with_line number read ([], End.Finished))
-  ends read says = rw (append-nil taken, read_on_end number line (script_limit - length taken), says) at (before.onward [])
-
-  pub ends_with_nothing : read_line line ≡ Some None → inputs taken ≡ (earlier, End.Finished)
-  ends_with_nothing says = rw (append-nil earlier) at (ends (Some None) says)
-
-  pub ends_with_input : (input : Input) → read_line line ≡ Some (Some input) → inputs taken ≡ (earlier ++ input ∷ [], End.Finished)
-  ends_with_input input says = ends (Some (Some input)) says
-
-  pub ends_with_no_form : read_line line ≡ None → inputs taken ≡ (earlier, End.BadLine number)
-  ends_with_no_form says = rw (append-nil earlier) at (ends None says)
+  script_too_long full = grind (arith, nat_tests, read_on_past_limit, append-nil, append_assoc)

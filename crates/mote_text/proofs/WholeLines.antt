@@ -1,10 +1,6 @@
 -- The whole lines among the bytes of a script, as the bytes come.
-use Rattle.std.proofs.Common.{◌≡◌, ◌<◌, ◌≤◌, ℕ, Bool, true, false, List, [], ◌∷◌, ◌++◌, length, ◌==◌, refl, sym, ap, ◌∙◌, arith, le-ltb}
-use Rattle.mote_text.proofs.Common.{nat_tests, onto_first, slice_split-cons_yes, slice_split-cons_no, read_lines, script_limit, with_last_line, parts, whole_lines, inputs}
-use Rattle.std.proofs.lemmas.List.{take_all}
-use Rattle.std.proofs.lemmas.List.Splits.{length-slice_split}
-use Rattle.mote_text.specs.declared.script.End.{End}
-use Rattle.mote_text.specs.Script.{without_last}
+use Rattle.std.proofs.Common.{◌≡◌, ◌<◌, ◌≤◌, ℕ, Bool, true, false, List, [], ◌∷◌, ◌++◌, length, ◌==◌, refl, ap, arith, le-ltb}
+use Rattle.mote_text.proofs.Common.{nat_tests, onto_first, slice_split-cons_yes, slice_split-cons_no, read_lines, script_limit, with_last_line, parts, whole_lines, inputs, take_all, length-slice_split, End, without_last}
 
 pub some_part : (bytes : List ℕ) → 0 < length (parts bytes)
 some_part bytes = rw (length-slice_split (λ byte. byte == 10) bytes) (omega arith)
@@ -15,8 +11,7 @@ unfolding inputs
 inputs_of_short bytes short = rw (take_all script_limit bytes short, le-ltb script_limit (length bytes) short)
 
 without_last_cons : (line : List ℕ) (later : List (List ℕ)) → 0 < length later → without_last (line ∷ later) ≡ line ∷ without_last later
-without_last_cons line [] some = absurd (omega arith)
-without_last_cons line (next ∷ later) some = refl
+without_last_cons line later some = grind (arith, nat_tests)
 
 -- a byte that ends no line
 
@@ -34,8 +29,7 @@ whole_lines_stay (first ∷ bytes) byte other = grind (arith, nat_tests, same_be
 -- a byte that ends a line
 
 onto_first_append : (byte : ℕ) (xs ys : List (List ℕ)) → 0 < length xs → onto_first byte (xs ++ ys) ≡ onto_first byte xs ++ ys
-onto_first_append byte [] ys some = absurd (omega arith)
-onto_first_append byte (x ∷ xs) ys some = refl
+onto_first_append byte xs ys some = grind (arith, nat_tests)
 
 part_behind : (first : ℕ) (xs ys : List ℕ) (last : List (List ℕ)) (is_end : Bool) → (first == 10) ≡ is_end → parts ys ≡ parts xs ++ last →
     parts (first ∷ ys) ≡ parts (first ∷ xs) ++ last

@@ -1,6 +1,5 @@
 use Rattle.std.proofs.Common.{◌≡◌, [], refl, arith}
-use Rattle.mote_text.proofs.Common.{common_steps}
-use Rattle.std.proofs.lemmas.List.{append-nil}
+use Rattle.mote_text.proofs.Common.{common_steps, append-nil}
 use Rattle.mote_text.specs.Code.CallWords.{argument_words}
 use Rattle.mote_text.proofs.Spaced.{spaced_none}
 use Rattle.mote_text.proofs.calls.push_arguments.Goals as goal

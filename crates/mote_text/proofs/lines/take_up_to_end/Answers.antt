@@ -1,6 +1,5 @@
 use Rattle.std.proofs.Common.{◌≡◌, ◌++◌, take, refl, arith}
-use Rattle.mote_text.proofs.Common.{common_steps}
-use Rattle.std.proofs.lemmas.List.{length-take}
+use Rattle.mote_text.proofs.Common.{common_steps, length-take}
 use Rattle.mote_text.proofs.LineEnds.{no_end_append, no_end_before, goes_on_at, within}
 use Rattle.mote_text.proofs.lines.take_up_to_end.Goals as goal
 

@@ -1,11 +1,6 @@
 use Rattle.std.proofs.Common.{◌≡◌, ℕ, Bool, ◌+◌, ◌*◌, ◌^◌, ◌<◌, ◌≤◌, true, false, cond, ◌&&◌, nat_lt, List, length, get_or, take, Some, None, sym, ap, ◌∙◌, arith}
-use Rattle.mote_text.proofs.Common.{list_all, is_ascii_digit, digits_value, and_left, and_right, nat_tests}
-use Rattle.std.specs.Char.{digit_value}
-use Rattle.std.proofs.lemmas.List.{take_all}
-use Rattle.std.proofs.lemmas.List.Folds.{list_all_more}
-use Rattle.std.proofs.lemmas.Bool.{and_from, le-ltb, lt-ltb, cond-true, cond-false}
+use Rattle.mote_text.proofs.Common.{list_all, is_ascii_digit, digits_value, and_left, and_right, nat_tests, digit_value, take_all, list_all_more, and_from, le-ltb, lt-ltb, cond-true, cond-false, digits_value-take-le}
 use Rattle.std.proofs.lemmas.Int.Digits.{digits_value_more}
-use Rattle.std.proofs.lemmas.Str.Parse.{digits_value-take-le}
 use Rattle.mote_text.proofs.Digits.{digit_fails}
 use Rattle.mote_text.proofs.script.read_digits.Goals as goal
 

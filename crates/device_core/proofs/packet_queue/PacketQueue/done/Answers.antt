@@ -1,5 +1,4 @@
-use Rattle.std.specs.Option.{option_map}
-use Rattle.device_core.specs.PacketQueue.{receiver_number}
+use Rattle.device_core.proofs.Common.{option_map, receiver_number}
 use Rattle.device_core.proofs.Slots.{well_formed_without_front}
 use Rattle.device_core.proofs.packet_queue.PacketQueue.done.Goals as goal
 

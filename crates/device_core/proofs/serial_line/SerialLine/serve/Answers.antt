@@ -1,7 +1,5 @@
 use Rattle.std.proofs.Common.{◌≡◌, [], ◌∷◌, length-drop, ap, arith, sym, ◌∙◌}
-use Rattle.device_core.proofs.Common.{with_bytes}
-use Rattle.std.specs.Option.{option_map}
-use Rattle.device_core.specs.SerialLine.{line_of}
+use Rattle.device_core.proofs.Common.{with_bytes, option_map, line_of}
 use Rattle.device_core.proofs.Lines.{alike_one_more, answer_at_line_end, rest_at_empty_ring, with_bytes_room, with_bytes_full, with_bytes_fits}
 use Rattle.device_core.proofs.serial_line.SerialLine.serve.Goals as goal
 

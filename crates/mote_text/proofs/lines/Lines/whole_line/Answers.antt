@@ -1,5 +1,5 @@
 use Rattle.std.proofs.Common.{◌≡◌, length, refl, take, arith, nat_le}
-use Rattle.std.proofs.lemmas.List.{take_all}
+use Rattle.mote_text.proofs.Common.{take_all}
 use Rattle.mote_text.proofs.LineEnds.{no_end_before, take_few}
 use Rattle.mote_text.proofs.lines.Lines.whole_line.Goals as goal
 
