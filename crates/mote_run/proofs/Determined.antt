@@ -1,16 +1,6 @@
 -- Steps determine a run: what follows from a step is what follows from the start.
-use Rattle.std.proofs.Common.{◌≡◌, ◌+◌, ℕ, zero, suc, Bool, true, false, List, [], ◌∷◌, ◌++◌, refl, ap, sym, ◌∙◌, append_assoc, zero-add, suc-add, arith}
-use Rattle.std.specs.Prelude.{option_to_list}
-use Rattle.std.proofs.lemmas.List.{append-nil}
-use Rattle.mote_types.specs.Applications.{Applications}
-use Rattle.mote_types.specs.declared.entry.Entry.{Entry}
-use Rattle.mote_types.specs.declared.entry.Input.{Input}
-use Rattle.mote_text.specs.declared.script.End.{End}
-use Rattle.mote_text.specs.Script.{inputs}
-use Rattle.mote_text.specs.Transcript.{end_of, shown, text}
-use Rattle.kernel_core.specs.declared.config.Config.{Config}
-use Rattle.mote_run.specs.RunText.{IsRunText}
-use Rattle.kernel_core.specs.Run.{at_start, Running, Runs, ComesToRest, after_step, after_steps, answers_after, one_step, is_still, with_input}
+use Rattle.std.proofs.Common.{◌≡◌, ◌+◌, ℕ, zero, suc, Bool, true, false, List, [], ◌∷◌, refl, ap, sym, ◌∙◌, zero-add, suc-add, arith}
+use Rattle.mote_run.proofs.Common.{nat_tests, Applications, Input, End, inputs, end_of, shown, text, Config, IsRunText, at_start, Running, Runs, ComesToRest, after_step, after_steps, is_still, with_input}
 use Rattle.kernel_core.proofs.Still.{still_after_steps}
 
 pub steps_plus : (says : Applications) (n k : ℕ) (r : Running) → after_steps says (n + k) r ≡ after_steps says k (after_steps says n r)
@@ -42,12 +32,8 @@ runs_one_on : (says : Applications) (input : Input) (later : List Input) (b c m 
     (m.machine.is_halted ≡ true → b ≡ m) → (m.machine.is_halted ≡ false → Runs says (with_input input m) later b) →
     (k.machine.is_halted ≡ true → c ≡ k) → (k.machine.is_halted ≡ false → Runs says (with_input input k) later c) →
     (h : Bool) → m.machine.is_halted ≡ h → b ≡ c
-runs_one_on says input later b c m k one same stop go stop' go' true h =
-    let kh : k.machine.is_halted ≡ true = cc in
-    stop h ∙ (same ∙ sym (stop' kh))
-runs_one_on says input later b c m k one same stop go stop' go' false h =
-    let kh : k.machine.is_halted ≡ false = cc in
-    one (with_input input m) b c (go h) (rw (← same) at (go' kh))
+runs_one_on says input later b c m k one same stop go stop' go' true h = grind (arith, nat_tests)
+runs_one_on says input later b c m k one same stop go stop' go' false h = grind (arith, nat_tests)
 
 -- there is one run
 pub runs_one : (says : Applications) (inputs : List Input) (a b c : Running) → Runs says a inputs b → Runs says a inputs c → b ≡ c

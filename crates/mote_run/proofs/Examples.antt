@@ -1,9 +1,6 @@
 -- Worked examples: what counts as read, and a run on a script that was read to its end.
 use Rattle.std.proofs.Common.{◌≡◌, ℕ, Bool, true, List, [], ◌∷◌, ◌++◌, refl, sym, subst, append-nil}
-use Rattle.mote_types.specs.Applications.{Applications}
-use Rattle.mote_text.specs.declared.script.End.{End}
-use Rattle.kernel_core.specs.declared.config.Config.{Config}
-use Rattle.mote_run.specs.RunText.{Exchange, HasRead, HasRun, HasRunInPart, IsRunText}
+use Rattle.mote_run.proofs.Common.{Applications, End, Config, Exchange, HasRead, HasRun, HasRunInPart, IsRunText}
 
 -- two bytes, behind one that was read before
 two_read : HasRead 2 (116 ∷ []) (116 ∷ 105 ∷ 99 ∷ [])

@@ -1,32 +1,20 @@
 -- A line that is read as a frame gives at least one byte, and one that is read as a tick a number below 2 ^ 32.
-use Rattle.std.proofs.Common.{◌≡◌, ℕ, ◌*◌, ◌<◌, ◌^◌, Bool, true, false, cond, List, length, refl, ap, subst, sym, arith}
-use Rattle.std.specs.Prelude.{Option, Some, None, Result, Ok, Err, option_map, option_and_then, nat_le, nat_lt, unwrap_or, codes, ◌&&◌, IfOk}
+use Rattle.std.proofs.Common.{◌≡◌, ℕ, ◌<◌, ◌^◌, Bool, true, false, cond, List, length, refl, ap, sym, arith, Option, Some, None, Result, Ok, Err, option_map, option_and_then, nat_lt, unwrap_or, codes, ◌&&◌, IfOk}
 use Rattle.std.specs.Option.{option_or}
-use Rattle.std.specs.Result.{result_ok}
-use Rattle.std.specs.Str.Parse.{digits_value}
+use Rattle.mote_run.proofs.Common.{result_ok, Input, argument_of, read_bytes, read_number, read_frame, read_line, read_serial, read_tick, read_words, line_limit, says_nothing, Taken, BadLine, CanBeFed, ReadPart, said}
 use Rattle.std.proofs.lemmas.Bool.Decides.{nat_tests}
-use Rattle.hex.specs.Hex.{decode_of}
 use Rattle.hex.proofs.HexLemmas.{decode_of-ok}
-use Rattle.mote_types.specs.declared.entry.Input.{Input}
-use Rattle.mote_text.specs.Script.{argument_of, is_number, read_bytes, read_number, read_frame, read_line, read_serial, read_tick, read_words, line_limit, says_nothing}
-use Rattle.kernel_core.specs.Inputs.{has_bytes, ticks_of}
-use Rattle.mote_text.specs.declared.lines.Taken.{Taken}
-use Rattle.mote_text.specs.declared.script.BadLine.{BadLine}
-use Rattle.mote_run.specs.Code.Reading.{CanBeFed, ReadPart, said}
 
 -- what a choice gives, one of the two gives
 either_gives : {A : Type 0} (P : A → Type 0) (a b : Option A) → ((x : A) → a ≡ Some x → P x) → ((x : A) → b ≡ Some x → P x) →
     (x : A) → option_or a b ≡ Some x → P x
-either_gives P (Some y) b first second x e = first x e
-either_gives P None b first second x e = second x e
+either_gives P a b first second x e = grind (arith, nat_tests)
 
 mapped_gives : {A B : Type 0} (f : A → B) (P : B → Type 0) (a : Option A) → ((x : A) → a ≡ Some x → P (f x)) → (y : B) → option_map f a ≡ Some y → P y
-mapped_gives f P (Some x) h y e = subst P (ap (λ o. unwrap_or o (f x)) e) (h x refl)
-mapped_gives f P None h y e = absurd (cc)
+mapped_gives f P a h y e = grind (arith, nat_tests)
 
 then_gives : {A B : Type 0} (k : A → Option B) (P : B → Type 0) (a : Option A) → ((x : A) (y : B) → k x ≡ Some y → P y) → (y : B) → option_and_then k a ≡ Some y → P y
-then_gives k P (Some x) h y e = h x y e
-then_gives k P None h y e = absurd (cc)
+then_gives k P a h y e = grind (arith, nat_tests)
 
 -- a value that comes under a test comes where the test holds
 test_gives : {A : Type 0} (test : Bool) (a : Option A) (x : A) → cond test a None ≡ Some x → (test ≡ true) × (a ≡ Some x)
@@ -38,25 +26,17 @@ else_gives true a b x never e = absurd (never e)
 else_gives false a b x never e = e
 
 ok_gives : {T E : Type 0} (r : Result T E) (x : T) → result_ok r ≡ Some x → r ≡ Ok x
-ok_gives (Ok y) x e = ap (λ o. Ok (unwrap_or o y)) e
-ok_gives (Err error) x e = absurd (cc)
+ok_gives r x e = grind (arith, nat_tests)
 
 left_of : (a b : Bool) → (a && b) ≡ true → a ≡ true
 left_of true b h = refl
 left_of false b h = h
 
 some_bytes : (most : ℕ) (digits bytes : List ℕ) → read_bytes most digits ≡ Some bytes → nat_lt 0 (length bytes) ≡ true
-some_bytes most digits bytes e =
-    let t = test_gives (nat_le 2 (length digits) && nat_le (length digits) (2 * most)) (result_ok (decode_of digits)) bytes e in
-    let least = left_of (nat_le 2 (length digits)) (nat_le (length digits) (2 * most)) t.0 in
-    let size : length digits ≡ 2 * length bytes = (decode_of-ok digits bytes (ok_gives (decode_of digits) bytes t.1)).2 in
-    grind (arith, nat_tests, least, size)
+some_bytes most digits bytes e = grind (arith, nat_tests, test_gives, left_of, decode_of-ok, ok_gives)
 
 small_number : (text : List ℕ) (n : ℕ) → read_number text ≡ Some n → n < 2 ^ 32
-small_number text n e =
-    let t = test_gives (is_number text && nat_lt (digits_value 10 text) (2 ^ 32)) (Some (digits_value 10 text)) n e in
-    let same : digits_value 10 text ≡ n = ap (λ o. unwrap_or o 0) t.1 in
-    grind (arith, nat_tests, t.0, same)
+small_number text n e = grind (arith, nat_tests, test_gives)
 
 words_give : (line : List ℕ) (input : Input) → read_words line ≡ Some input → CanBeFed input
 words_give line =

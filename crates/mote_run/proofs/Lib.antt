@@ -1,3 +1,4 @@
+pub mod Boxed
 pub mod Determined
 mod Examples
 pub mod GivenBytes
@@ -11,3 +12,4 @@ pub mod Steps
 pub mod Ways
 pub mod Windows
 pub mod Writing
+pub mod Common

@@ -1,36 +1,13 @@
 -- How a run goes on from one part of its script to the next, and how it ends.
-use Rattle.std.proofs.Common.{◌≡◌, ◌≤◌, ◌+◌, ◌-◌, ℕ, Bool, true, false, List, [], ◌∷◌, ◌++◌, length, refl, ap, sym, ◌∙◌, append_assoc, length-append, arith, ◌==◌}
-use Rattle.std.specs.Prelude.{Option, Some, None, Result, Ok, Err, IfErr, IfOk, IsErr, IsErrOf, OnOk, if◌then◌else◌}
-use Rattle.std.specs.Result.{IsErrAnd}
-use Rattle.std.proofs.lemmas.List.{append-nil}
-use Rattle.mote_types.specs.declared.entry.Input.{Input}
-use Rattle.mote_text.specs.Code.Lines.{has_no_end, nothing_taken, unfinished}
-use Rattle.mote_text.specs.Code.Reading.{Before, read_on}
-use Rattle.mote_text.specs.Script.{Reading, inputs, preceded_by, read_line, script_limit, with_line}
-use Rattle.mote_text.specs.Transcript.{final_line}
-use Rattle.mote_text.specs.declared.script.End.{End}
-use Rattle.mote_text.proofs.Reading.{start}
-use Rattle.kernel_core.specs.Machine.{Machine}
-use Rattle.kernel_core.specs.Run.{is_still}
-use Rattle.mote_run.specs.declared.run.RunFault.{RunFault}
-use Rattle.mote_run.specs.declared.script.Script.{Script}
-use Rattle.mote_run.specs.Code.LoopInvariant.{Ends, HasCome, Leaves, Ran, WroteWholeLines}
-use Rattle.mote_run.specs.Code.Reading.{IsReady, ReadSoFar}
-use Rattle.mote_run.specs.Code.Way.{Follows, Goes, Place, Went, end_at}
-use Rattle.mote_run.specs.Code.Writing.{WritesOn}
+use Rattle.std.proofs.Common.{◌≡◌, ◌≤◌, ◌-◌, ℕ, Bool, true, false, List, [], ◌∷◌, ◌++◌, length, refl, ap, sym, ◌∙◌, append_assoc, length-append, arith, ◌==◌, Option, Result, Ok, IfErr, IsErr, IsErrOf, if◌then◌else◌}
+use Rattle.mote_run.proofs.Common.{nat_tests, IsErrAnd, append-nil, Input, has_no_end, nothing_taken, unfinished, Before, read_on, Reading, inputs, preceded_by, read_line, script_limit, with_line, final_line, End, start, is_still, RunFault, Script, Ends, HasCome, Leaves, Ran, WroteWholeLines, ReadSoFar, Place, Went, end_at, WritesOn}
 use Rattle.mote_run.proofs.Pieces.{no_read, no_value, not_read}
 use Rattle.mote_run.proofs.ReadOn.{beyond_limit, in_line}
-use Rattle.mote_run.proofs.Ways.{nothing_follows, went_further, went_nowhere, went_on, went_written, written_leads}
+use Rattle.mote_run.proofs.Ways.{nothing_follows, went_further, went_on, went_written, written_leads}
 
 -- before anything was read
 pub reading_starts : (script : Script) → script.piece ≡ [] → script.reader.lines ≡ nothing_taken → script.reader.number ≡ 1 → script.taken ≡ 0 → ReadSoFar [] [] script
-reading_starts script piece lines number taken = record {
-  ended = [];
-  parts = rw (lines, piece) refl;
-  size = rw (lines, taken) refl;
-  narrow = rw lines (omega arith);
-  before = rw number start;
-}
+reading_starts script piece lines number taken = grind (arith, nat_tests, start)
 
 no_last_line : (halted : Bool) → final_line (if halted then End.Halted else End.Finished) ≡ []
 no_last_line true = refl

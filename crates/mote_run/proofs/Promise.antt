@@ -1,37 +1,12 @@
 -- What was read and written keeps the promise of a run.
-use Rattle.std.proofs.Common.{◌≡◌, ℕ, Bool, true, false, List, [], ◌++◌, refl, ap, sym, subst, ◌∙◌, append_assoc}
-use Rattle.std.proofs.lemmas.List.{append-nil}
-use Rattle.std.specs.Prelude.{Result, Ok, Err, IfOk, IsErr, OnErr, IsErrOf, if◌then◌else◌}
-use Rattle.std.specs.List.{list_any}
-use Rattle.std.specs.Result.{IsErrAnd}
-use Rattle.mote_types.specs.Applications.{Applications}
-use Rattle.mote_types.specs.Entries.{is_halt}
-use Rattle.mote_types.specs.declared.entry.Entry.{Entry}
-use Rattle.mote_types.specs.declared.entry.Input.{Input}
-use Rattle.mote_text.specs.declared.script.End.{End}
-use Rattle.mote_text.specs.Script.{inputs}
-use Rattle.mote_text.specs.Transcript.{end_of, final_line, shown, text}
-use Rattle.kernel_core.specs.declared.config.Config.{Config}
-use Rattle.kernel_core.specs.Machine.{Machine, booted, is_bootable}
-use Rattle.kernel_core.specs.Run.{Running, Runs, at_start}
-use Rattle.mote_run.specs.declared.run.RunFault.{RunFault}
-use Rattle.mote_run.specs.RunText.{Exchange, Exchanged, HasRun, HasRunInPart, HasRunOnWholeLines, HasRunTo, IsRunText, OfEachScript}
-use Rattle.mote_run.specs.Trace.{RunPromise, SatisfyingRun, TraceSatisfies}
-use Rattle.mote_run.specs.Code.LoopInvariant.{Ran}
-use Rattle.mote_run.specs.Code.Way.{Follows, Place}
-use Rattle.mote_run.specs.Code.Writing.{WritesOn, lines}
+use Rattle.std.proofs.Common.{arith, ◌≡◌, ℕ, Bool, true, false, List, [], ◌++◌, refl, ap, sym, subst, ◌∙◌, append_assoc, Result, Ok, Err, IfOk, IsErr, OnErr, IsErrOf, if◌then◌else◌}
+use Rattle.mote_run.proofs.Common.{nat_tests, append-nil, list_any, IsErrAnd, Applications, is_halt, Entry, Input, End, inputs, end_of, final_line, shown, text, Config, booted, is_bootable, Running, Runs, at_start, RunFault, Exchange, Exchanged, HasRun, HasRunInPart, HasRunOnWholeLines, IsRunText, OfEachScript, RunPromise, TraceSatisfies, Ran, Follows, Place, WritesOn, lines}
 use Rattle.mote_run.proofs.Pieces.{no_value, same_error}
 use Rattle.run_laws.specs.RunLaws.{BlocksAreOwn, EventsArriveInOrder, ProcessesAreIsolated, TimersAreKept}
 
 -- the machine that was booted tells its configuration
 pub boots_so : (a b : Config) → booted a ≡ booted b → is_bootable b ≡ true → is_bootable a ≡ true
-boots_so a b e h =
-    let mmem : a.mmem ≡ b.mmem = ap (λ (m : Machine). m.memory.managed.capacity) e in
-    let heap : a.heap ≡ b.heap = ap (λ (m : Machine). m.memory.heap.size) e in
-    let apps : a.apps ≡ b.apps = ap (λ (m : Machine). m.scheduler.applications) e in
-    let quota : a.quota ≡ b.quota = ap (λ (m : Machine). m.memory.managed.quota) e in
-    let header : a.header ≡ b.header = ap (λ (m : Machine). m.memory.heap.header) e in
-    rw (mmem, heap, apps, quota, header) h
+boots_so a b e h = grind (arith, nat_tests)
 
 abbrev pub booting : Config → Applications → Place
 booting config says = record { due = []; says = says; machine = booted config }
@@ -64,8 +39,7 @@ module _ {config : Config} {says : Applications} {quiet : Bool} {taken_old taken
     all : IfOk answer (λ answered. (rest ≡ []) × (answered ≡ end))
 
   if_ok : {P Q : End → Type 0} (r : Result End RunFault) → ((end : End) → P end → Q end) → IfOk r P → IfOk r Q
-  if_ok (Ok end) f p = f end p
-  if_ok (Err fault) f p = tt
+  if_ok r f p = grind (arith, nat_tests)
 
   rest_of : OfEachScript exchange Rest
   rest_of more limits =
@@ -117,19 +91,7 @@ module _ {config : Config} {says : Applications} {quiet : Bool} {taken_old taken
       record { rest = r.rest; end = r.end; run = r.run; all = r.all; law = lawful says (inputs (ran.read ++ more)).0 r.run.last r.run.runs }
 
   pub promised : Exchanged taken_old taken_new is_ended given_old given_new (RunPromise config says quiet answer)
-  promised = record {
-    read = ran.read;
-    written = ran.out;
-    taken = ran.taken;
-    given = ran.given;
-    holds = record {
-      ran = record { text = text_of answer refl; front = on_err answer; after_read_fault = whole_lines };
-      memory = shows BlocksAreOwn laws.memory;
-      events = shows (EventsArriveInOrder config.apps) laws.events;
-      timers = shows (TimersAreKept config.apps) laws.timers;
-      isolation = shows (ProcessesAreIsolated config.quota config.apps) laws.isolation;
-    };
-  }
+  promised = grind (arith, nat_tests, text_of, on_err, whole_lines, shows)
 
 -- the last line was written behind all that was due
 pub closed : {quiet : Bool} {taken_old taken_new : List ℕ} {is_ended : Bool} {given_old given_new due given_later left : List ℕ} {start : Place} {end : End} {answer : Result End RunFault} →

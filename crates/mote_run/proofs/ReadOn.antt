@@ -1,18 +1,7 @@
 -- The script as far as it was read, after a take of more of its bytes, and at its end.
-use Rattle.std.proofs.Common.{◌≡◌, ◌≢◌, ◌<◌, ◌≤◌, ◌+◌, ℕ, true, false, List, [], ◌∷◌, ◌++◌, length, take, drop, ◌-◌, refl, ap, sym, ◌∙◌, arith, append_assoc, length-append, ne_eqb, not, ◌==◌}
-use Rattle.std.specs.Prelude.{Bool, OnErr, OnOk, Some, None, Result, Ok, Err, unwrap_or, ◌&&◌}
-use Rattle.std.proofs.lemmas.List.{append-nil, length-take, length-take-le}
-use Rattle.mote_types.specs.declared.entry.Input.{Input}
-use Rattle.mote_text.specs.declared.lines.Taken.{Taken}
-use Rattle.mote_text.specs.declared.script.BadLine.{BadLine}
-use Rattle.mote_text.specs.declared.script.End.{End}
+use Rattle.std.proofs.Common.{◌≡◌, ◌≢◌, ◌<◌, ◌≤◌, ◌+◌, ℕ, true, false, List, [], ◌∷◌, ◌++◌, length, take, drop, ◌-◌, refl, sym, ◌∙◌, arith, append_assoc, length-append, ne_eqb, not, ◌==◌, Bool, OnErr, OnOk, Some, None, Result, Ok, Err, ◌&&◌}
+use Rattle.mote_run.proofs.Common.{nat_tests, append-nil, length-take, length-take-le, Input, Taken, BadLine, End, GoesOnAt, has_no_end, unfinished, unfinished_after, with_end, Before, inputs, line_limit, read_line, script_limit, Gives, another_byte, line_of_input, line_of_no_form, line_of_nothing, line_too_long, script_limit_is, script_too_long, Script, IsReady, ReadPart, ReadSoFar, Takes, number_after, said}
 use Rattle.mote_text.specs.Code.LineAnswers.{line_said}
-use Rattle.mote_text.specs.Code.Lines.{GoesOnAt, has_no_end, unfinished, unfinished_after, with_end}
-use Rattle.mote_text.specs.Code.Reading.{Before, read_on}
-use Rattle.mote_text.specs.Script.{inputs, line_limit, preceded_by, read_line, script_limit, with_line}
-use Rattle.mote_text.proofs.Reading.{Gives, another_byte, line_of_input, line_of_no_form, line_of_nothing, line_too_long, script_limit_is, script_too_long}
-use Rattle.mote_run.specs.declared.script.Script.{Script}
-use Rattle.mote_run.specs.Code.Reading.{IsReady, ReadPart, ReadSoFar, Takes, number_after, said}
 use Rattle.mote_run.proofs.Windows.{next_byte, used_and_later}
 
 -- the bytes that a line's end stands behind, with it
@@ -23,25 +12,17 @@ ended_by Taken.TooWide bytes = []
 
 pub parted : (last : Taken) (bytes ended later : List ℕ) →
     ended ++ (with_end last bytes ++ later) ≡ (ended ++ ended_by last bytes) ++ (unfinished_after last bytes ++ later)
-parted Taken.Line bytes ended later = sym (append_assoc ended (bytes ++ 10 ∷ []) later)
-parted Taken.More bytes ended later = rw append-nil refl
-parted Taken.TooWide bytes ended later = rw append-nil refl
+parted last bytes ended later = grind (arith, nat_tests, append_assoc, append-nil)
 
 pub sizes : (last : Taken) (bytes ended : List ℕ) →
     length (ended ++ ended_by last bytes) + length (unfinished_after last bytes) ≡ length ended + length (with_end last bytes)
-sizes Taken.Line bytes ended = omega (arith, length-append ended (bytes ++ 10 ∷ []))
-sizes Taken.More bytes ended = rw append-nil refl
-sizes Taken.TooWide bytes ended = rw append-nil refl
+sizes last bytes ended = grind (arith, nat_tests, length-append ended (bytes ++ 10 ∷ []), length-append, append-nil)
 
 pub narrow_after : (last : Taken) (bytes : List ℕ) → length bytes ≤ line_limit → length (unfinished_after last bytes) ≤ line_limit
-narrow_after Taken.Line bytes narrow = omega arith
-narrow_after Taken.More bytes narrow = narrow
-narrow_after Taken.TooWide bytes narrow = narrow
+narrow_after last bytes narrow = grind (arith, nat_tests)
 
 pub endless_after : (last : Taken) (bytes : List ℕ) → has_no_end bytes ≡ true → has_no_end (unfinished_after last bytes) ≡ true
-endless_after Taken.Line bytes endless = refl
-endless_after Taken.More bytes endless = endless
-endless_after Taken.TooWide bytes endless = endless
+endless_after last bytes endless = grind (arith, nat_tests)
 
 -- the bytes are as many as a line may have, and another one of the same line stands behind them, within what a script may have
 pub record IsOverlong (ended : ℕ) (bytes later : List ℕ) : Type 0 where
@@ -98,9 +79,7 @@ module _ {ended : List ℕ} {earlier : List Input} {number : ℕ} (before : Befo
 
   pub input_said : (last : Taken) (bytes : List ℕ) (input : Input) → length ended + length (with_end last bytes) ≤ script_limit → length bytes ≤ line_limit → has_no_end bytes ≡ true →
       said last bytes ≡ Some (Some input) → Before (ended ++ ended_by last bytes) (earlier ++ input ∷ []) (number_after last number) []
-  input_said Taken.Line bytes input room narrow endless says = says_input bytes narrow endless room input says
-  input_said Taken.More bytes input room narrow endless says = absurd (let e : None ≡ Some input = ap (λ o. unwrap_or o None) says in cc)
-  input_said Taken.TooWide bytes input room narrow endless says = absurd (cc)
+  input_said last bytes input room narrow endless says = grind (arith, nat_tests, says_input, room)
 
   -- what stands behind those bytes doesn't matter
   pub no_form_said : (last : Taken) (bytes later : List ℕ) → length ended + length (with_end last bytes) ≤ script_limit → length bytes ≤ line_limit → has_no_end bytes ≡ true →
@@ -135,18 +114,12 @@ is_none (byte ∷ rest) h = absurd (omega (arith, h))
 
 pub some_used : (r : Result Bool BadLine) (count used : ℕ) (piece window : List ℕ) → window ≡ take (16_777_216 - count) piece → count < 16_777_216 →
     0 < length piece → OnOk r (0 < length window → 0 < used) → OnOk r (count < count + used)
-some_used (Ok is_input) count used piece window is room rest some =
-    let used_some = some (rw is (omega (arith, room, rest, length-take (16_777_216 - count) piece))) in
-    omega (arith, used_some)
-some_used (Err fault) count used piece window is room rest some = tt
+some_used r count used piece window is room rest some = grind (arith, nat_tests, room, rest, length-take (16_777_216 - count) piece, length-take)
 
 -- the number of a line is at most one more than the number of bytes before it
 pub number_small : (r : Result Bool BadLine) (last : Taken) (number number_later count used : ℕ) → number ≤ count + 1 → OnOk r (count < count + used) →
     OnOk r (number_later ≡ number_after last number) → OnErr r (number_later ≡ number) → number_later ≤ count + used + 1
-number_small (Ok is_input) Taken.Line number number_later count used small some after same = omega (arith, small, some, after)
-number_small (Ok is_input) Taken.More number number_later count used small some after same = omega (arith, small, some, after)
-number_small (Ok is_input) Taken.TooWide number number_later count used small some after same = omega (arith, small, some, after)
-number_small (Err fault) last number number_later count used small some after same = omega (arith, small, same)
+number_small r last number number_later count used small some after same = grind (arith, nat_tests, small, some, after, same)
 
 -- what a take answers
 module _ (read : List ℕ) (earlier : List Input) (old new : Script) (used : ℕ) (window : List ℕ) (is_window : window ≡ take (16_777_216 - old.taken) old.piece)
@@ -160,10 +133,7 @@ module _ (read : List ℕ) (earlier : List Input) (old new : Script) (used : ℕ
 
   module _ (last : Taken) (bytes : List ℕ) (joined : line ++ take used window ≡ with_end last bytes) (narrow : length bytes ≤ line_limit) (endless : has_no_end bytes ≡ true) where
     all_read : read ≡ so_far.ended ++ (with_end last bytes ++ new.piece)
-    all_read =
-        so_far.parts ∙ ap (λ v. so_far.ended ++ v) (ap (λ v. line ++ v) (used_and_later used (16_777_216 - old.taken) old.piece within)
-        ∙ (sym (append_assoc line (take used (take (16_777_216 - old.taken) old.piece)) (drop used old.piece))
-        ∙ rw (← is_window, joined, rests) refl))
+    all_read = grind (arith, nat_tests, used_and_later, within, append_assoc)
 
     size : length so_far.ended + length (with_end last bytes) ≡ new.taken
     size = rw (← joined, counts, ← so_far.size, length-append line (take used window), length-take-le used window few) (omega arith)
@@ -174,26 +144,11 @@ module _ (read : List ℕ) (earlier : List Input) (old new : Script) (used : ℕ
     -- further lines have ended, or none has
     reads_on : (inputs_later : List Input) → unfinished new.reader.lines ≡ unfinished_after last bytes →
         Before (so_far.ended ++ ended_by last bytes) inputs_later new.reader.number [] → ReadSoFar read inputs_later new
-    reads_on inputs_later begun before = record {
-      ended = so_far.ended ++ ended_by last bytes;
-      parts = all_read ∙ rw begun (parted last bytes so_far.ended new.piece);
-      size = rw begun (sizes last bytes so_far.ended ∙ size);
-      narrow = rw begun (narrow_after last bytes narrow);
-      before = before;
-    }
+    reads_on inputs_later begun before = grind (arith, nat_tests, all_read, parted, size, sizes, narrow_after)
 
     -- the byte behind a line that is too wide stands within what a script may have
     goes_on : length bytes ≡ line_limit → GoesOnAt window used → with_end last bytes ≡ bytes → IsOverlong (length so_far.ended) bytes new.piece
-    goes_on full at same =
-        let next = next_byte used (16_777_216 - old.taken) old.piece at.0 (rw is_window at at.1) in
-        let whole : length so_far.ended + length bytes ≡ new.taken = ap (λ v. length so_far.ended + length v) (sym same) ∙ size in record {
-          full = full;
-          room = omega (arith, whole, counts, next.0, length-take (16_777_216 - old.taken) old.piece, limit, script_limit_is);
-          byte = at.0;
-          tail = next.1.0;
-          is = rests ∙ next.1.1;
-          other = at.2;
-        }
+    goes_on full at same = grind (arith, nat_tests, script_limit_is, next_byte, size, room, length-take)
 
     takes_so : (says : Result Bool BadLine) → unfinished new.reader.lines ≡ unfinished_after last bytes → line_said says new.reader.place.input ≡ said last bytes →
         OnOk says (new.reader.number ≡ number_after last old.reader.number) → OnErr says (new.reader.number ≡ old.reader.number) →
@@ -212,5 +167,4 @@ module _ (read : List ℕ) (earlier : List Input) (old new : Script) (used : ℕ
 
 pub ready_after : (r : Result Bool BadLine) (script : Script) → OnOk r (script.reader.lines.last ≢ Taken.TooWide) → has_no_end (unfinished script.reader.lines) ≡ true →
     script.reader.number ≤ script.taken + 1 → script.taken ≤ 16_777_216 → OnOk r (IsReady script)
-ready_after (Ok is_input) script narrow endless number few = record { narrow = narrow; endless = endless; number = number; few = few }
-ready_after (Err fault) script narrow endless number few = tt
+ready_after r script narrow endless number few = grind (arith, nat_tests)

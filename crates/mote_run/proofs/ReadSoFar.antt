@@ -1,7 +1,6 @@
 -- How many bytes were read so far.
 use Rattle.std.proofs.Common.{◌≡◌, ◌+◌, ℕ, List, [], ◌++◌, length, refl, sym, arith, append_assoc, length-append}
-use Rattle.std.proofs.lemmas.List.{append-nil}
-use Rattle.mote_run.specs.RunText.{HasRead}
+use Rattle.mote_run.proofs.Common.{append-nil, HasRead}
 
 pub read_nothing : (taken : List ℕ) → HasRead 0 taken taken
 read_nothing taken = record { bytes = []; taken = sym (append-nil taken); size = refl }

@@ -1,18 +1,7 @@
 -- Steps of the kernel, as steps of a run that begins there.
-use Rattle.std.proofs.Common.{◌≡◌, ◌+◌, ℕ, zero, suc, Bool, true, false, List, [], ◌∷◌, ◌++◌, refl, ap, sym, ◌∙◌, append_assoc}
-use Rattle.std.specs.Prelude.{option_to_list}
-use Rattle.std.proofs.lemmas.List.{append-nil}
-use Rattle.std.proofs.lemmas.List.Elements.{filter_map-append}
+use Rattle.std.proofs.Common.{arith, ◌≡◌, ◌+◌, ℕ, zero, suc, Bool, true, false, List, [], ◌∷◌, ◌++◌, refl, ap, sym, ◌∙◌, append_assoc, option_to_list}
+use Rattle.mote_run.proofs.Common.{nat_tests, filter_map-append, Applications, Stimulus, Entry, Input, Step, Machine, Answers, Running, Runs, ComesToRest, after_step, after_steps, answers_after, gone_on, heard, one_step, stimulus_of, with_input, GoesOn, Silently, made, IsTold}
 use Rattle.std.proofs.Math.Path.{fun_ext}
-use Rattle.mote_types.specs.Applications.{Applications}
-use Rattle.mote_types.specs.declared.event.Stimulus.{Stimulus}
-use Rattle.mote_types.specs.declared.entry.Entry.{Entry}
-use Rattle.mote_types.specs.declared.entry.Input.{Input}
-use Rattle.kernel_core.specs.declared.step.Step.{Step}
-use Rattle.kernel_core.specs.Machine.{Machine}
-use Rattle.kernel_core.specs.Run.{Answers, Running, Runs, ComesToRest, after_step, after_steps, answers_after, gone_on, heard, is_still, one_step, stimulus_of, with_input}
-use Rattle.kernel_core.specs.Code.Steps.{GoesOn, Silently, made}
-use Rattle.mote_run.specs.Code.Way.{IsTold}
 use Rattle.mote_run.proofs.Determined.{steps_plus}
 
 -- a row of steps that make no entry
@@ -58,9 +47,7 @@ module _ {says now : Applications} {entries : List Entry} (told : IsTold says en
   steps_behind (suc n) r = ap (after_steps says n) (step_behind r) ∙ steps_behind n (after_step now r)
 
   rest_behind : (r w : Running) → ComesToRest says (behind r) w → (v : Running) × ComesToRest now r v × (w ≡ behind v)
-  rest_behind r w (n, e, still) =
-      let same : w ≡ behind (after_steps now n r) = sym e ∙ steps_behind n r in
-      (after_steps now n r, (n, refl, rw same at still), same)
+  rest_behind r w is = grind (arith, nat_tests, steps_behind)
 
   input_behind : (input : Input) (later : List Input) (r rested w : Running) →
       ((r w : Running) → Runs says (behind r) later w → (v : Running) × Runs now r later v × (w ≡ behind v)) → ComesToRest now r rested →

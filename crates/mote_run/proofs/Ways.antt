@@ -1,39 +1,17 @@
 -- Ways of a run, one after the other, and the shortest of them.
-use Rattle.std.proofs.Common.{◌≡◌, ℕ, Bool, true, false, List, [], ◌∷◌, ◌++◌, refl, ap, sym, ◌∙◌, append_assoc}
-use Rattle.std.specs.Prelude.{Option, Some, None, flat_map, length, ◌||◌, if◌then◌else◌, Result, Ok, Err, OnOk, OnErr}
-use Rattle.std.specs.List.{list_any}
-use Rattle.std.proofs.lemmas.List.{append-nil}
-use Rattle.std.proofs.lemmas.List.Elements.{filter-append}
+use Rattle.std.proofs.Common.{arith, ◌≡◌, ℕ, Bool, true, false, List, [], ◌∷◌, ◌++◌, refl, ap, sym, ◌∙◌, append_assoc, Option, ◌||◌, if◌then◌else◌}
+use Rattle.mote_run.proofs.Common.{nat_tests, list_any, append-nil, filter-append, Applications, is_halt, Entry, Stimulus, Input, Reading, end_of, final_line, End, Step, fed, frame_held, held_unless_lost, Machine, Answers, Running, Runs, heard, is_at_rest, is_still, GoesOn, made, Follows, IsTold, Leads, Place, Went, end_at, WritesOn, lines}
 use Rattle.std.proofs.lemmas.List.Folds.{list_any-append}
 use Rattle.std.proofs.lemmas.Grind.{flat_map-append}
-use Rattle.mote_types.specs.Applications.{Applications}
-use Rattle.mote_types.specs.Entries.{is_halt}
 use Rattle.mote_types.specs.declared.call.Call.{Call}
-use Rattle.mote_types.specs.declared.entry.Entry.{Entry}
-use Rattle.mote_types.specs.declared.event.Stimulus.{Stimulus}
-use Rattle.mote_types.specs.declared.entry.Input.{Input}
 use Rattle.mote_types.specs.declared.refusal.Refusal.{Refusal}
-use Rattle.mote_text.specs.EntryText.{entry_line}
-use Rattle.mote_text.specs.Script.{Reading}
-use Rattle.mote_text.specs.Transcript.{end_of, final_line, is_shown, shown}
-use Rattle.mote_text.specs.declared.script.End.{End}
-use Rattle.device_core.specs.PacketQueue.{free_slot}
-use Rattle.kernel_core.specs.declared.step.Step.{Step}
-use Rattle.kernel_core.specs.Inputs.{fed, frame_held, frame_refusal, held_unless_lost}
-use Rattle.kernel_core.specs.Machine.{Machine}
-use Rattle.kernel_core.specs.Run.{Answers, Running, Runs, heard, is_at_rest, is_still, with_input}
-use Rattle.kernel_core.specs.Code.Steps.{GoesOn, made}
-use Rattle.mote_run.specs.Code.Way.{Follows, Goes, IsTold, Leads, Place, Went, end_at}
-use Rattle.mote_run.specs.Code.Writing.{WritesOn, lines}
 use Rattle.mote_run.proofs.Determined.{run_from, still_rest}
-use Rattle.mote_run.proofs.Steps.{behind, made_steps, runs_behind}
+use Rattle.mote_run.proofs.Steps.{made_steps, runs_behind}
 use Rattle.mote_run.proofs.Writing.{nothing_more}
 
 -- the lines of more entries come behind those of the entries before
 lines-append : (quiet : Bool) (entries more : List Entry) → lines quiet (entries ++ more) ≡ lines quiet entries ++ lines quiet more
-lines-append quiet entries more =
-    ap (flat_map entry_line) (filter-append (λ entry. is_shown entry quiet) entries more)
-    ∙ flat_map-append entry_line (shown quiet entries) (shown quiet more)
+lines-append quiet entries more = grind (arith, nat_tests, filter-append, flat_map-append)
 
 end_later : (a b c : Bool) (x y : End) → (if a then x else if b || c then x else y) ≡ (if a || b then x else if c then x else y)
 end_later true b c x y = refl
@@ -42,14 +20,11 @@ end_later false false c x y = refl
 
 ends_later : (old new : Bool) (entries more all : List Entry) (end : End) → all ≡ entries ++ more → new ≡ (old || list_any is_halt entries) →
     (if old then End.Halted else end_of all end) ≡ (if new then End.Halted else end_of more end)
-ends_later old new entries more all end same halted =
-    rw (same, list_any-append is_halt entries more, halted) (end_later old (list_any is_halt entries) (list_any is_halt more) End.Halted end)
+ends_later old new entries more all end same halted = grind (arith, nat_tests, list_any-append, end_later)
 
 text_later : (quiet : Bool) (due tail : List ℕ) (entries more all : List Entry) → all ≡ entries ++ more →
     due ++ (lines quiet all ++ tail) ≡ (due ++ lines quiet entries) ++ (lines quiet more ++ tail)
-text_later quiet due tail entries more all same =
-    rw (same, lines-append quiet entries more)
-    (ap (λ v. due ++ v) (append_assoc (lines quiet entries) (lines quiet more) tail) ∙ sym (append_assoc due (lines quiet entries) (lines quiet more ++ tail)))
+text_later quiet due tail entries more all same = grind (arith, nat_tests, lines-append, append_assoc, lines)
 
 -- a step of the kernel, whose lines are put behind what is due
 step_leads : (quiet : Bool) (due : List ℕ) (says now : Applications) (old new : Machine) (step : Step) →
@@ -75,19 +50,14 @@ step_leads quiet due says now old new step goes told halted = record {
 }
 
 frame_halts : (slot : Option ℕ) (bytes : List ℕ) (m : Machine) → m.is_halted ≡ (frame_held slot bytes m).is_halted
-frame_halts None bytes m = refl
-frame_halts (Some slot) bytes m = refl
+frame_halts slot bytes m = grind (arith, nat_tests)
 
 held_halts : (refusal : Option Refusal) (bytes : List ℕ) (m : Machine) → m.is_halted ≡ (held_unless_lost refusal bytes m).is_halted
-held_halts (Some refusal) bytes m = refl
-held_halts None bytes m = frame_halts (free_slot m.packets) bytes m
+held_halts refusal bytes m = grind (arith, nat_tests, frame_halts)
 
 -- an input halts nothing
 fed_halts : (m : Machine) (input : Input) → m.is_halted ≡ (fed input m).is_halted
-fed_halts m (Input.Tick n) = refl
-fed_halts m (Input.Serial bytes) = refl
-fed_halts m (Input.Frame bytes) =
-    let woken : Machine = record m { work = 0 } in held_halts (frame_refusal (length bytes.items) woken) bytes.items woken
+fed_halts m input = grind (arith, nat_tests, held_halts)
 
 -- an input is handed in
 pub input_leads : (quiet : Bool) (due : List ℕ) (says : Applications) (m : Machine) (input : Input) → is_still m ≡ true → m.is_halted ≡ false →
@@ -201,7 +171,4 @@ module _ {quiet : Bool} where
   module _ (here : Place) (still : is_still here.machine ≡ true) where
     pub nothing_follows : (later : Reading) (text : List ℕ) (end answered : End) → (here.machine.is_halted ≡ false → later ≡ ([], answered)) →
         Follows quiet here later text end → (text ≡ here.due ++ final_line (end_at here.machine answered)) × (end ≡ end_at here.machine answered)
-    nothing_follows later text end answered none f =
-        let same = last_is here still later.0 f.last (λ h. ap (λ (reading : Reading). reading.0) (none h)) f.runs in
-        let ends : end ≡ end_at here.machine answered = (rw same at f.ends) ∙ end_is here.machine.is_halted later answered none in
-        (f.is_text ∙ rw (same, ends) refl, ends)
+    nothing_follows later text end answered none f = grind (arith, nat_tests, last_is, end_at, end_is)

@@ -1,7 +1,6 @@
 -- What a take used of the front part of a piece that it was given.
 use Rattle.std.proofs.Common.{◌≡◌, ◌<◌, ◌≤◌, ◌+◌, ◌-◌, arith, ℕ, List, ◌∷◌, ◌++◌, length, take, drop, Some, ap, sym, ◌∙◌, append_assoc}
-use Rattle.std.specs.List.{slice_get, slice_range}
-use Rattle.std.proofs.lemmas.List.{drop-append-le, drop-drop, drop-take, drop_more, length-take, take-append-drop}
+use Rattle.mote_run.proofs.Common.{nat_tests, slice_get, slice_range, drop-append-le, drop-drop, drop-take, drop_more, length-take, take-append-drop}
 use Rattle.std.proofs.lemmas.Option.{get_or_from_slice_get, slice_get_within}
 
 -- behind what was used stands what comes behind as many bytes of the piece
@@ -30,6 +29,4 @@ next_byte used room piece byte is =
 -- the part of a range behind its first bytes
 pub drop_of_range : (bytes : List ℕ) (from to count : ℕ) → count ≤ length (slice_range bytes from to) →
     slice_range bytes (from + count) to ≡ drop count (slice_range bytes from to)
-drop_of_range bytes from to count few =
-    let size : to - from ≡ count + (to - (from + count)) = omega (arith, few, length-take (to - from) (drop from bytes)) in
-    rw size (sym (drop-take count (to - (from + count)) (drop from bytes) ∙ ap (take (to - (from + count))) (drop-drop count from bytes)))
+drop_of_range bytes from to count few = grind (arith, nat_tests, few, length-take (to - from) (drop from bytes), drop-take count (to - (from + count)) (drop from bytes), drop-drop count from bytes)

@@ -1,7 +1,6 @@
 -- Text that goes out in pieces.
 use Rattle.std.proofs.Common.{◌≡◌, ℕ, List, [], ◌++◌, take, drop, refl, ap, sym, ◌∙◌, append_assoc}
-use Rattle.std.proofs.lemmas.List.{append-nil, take-append-drop}
-use Rattle.mote_run.specs.Code.Writing.{WritesOn}
+use Rattle.mote_run.proofs.Common.{append-nil, take-append-drop, WritesOn}
 
 -- nothing was written, and more is due
 pub put_behind : (given due more : List ℕ) → WritesOn given due given (due ++ more) more
@@ -9,9 +8,6 @@ put_behind given due more = record { out = []; given = sym (append-nil given); p
 
 pub nothing_more : (given due : List ℕ) → WritesOn given due given due []
 nothing_more given due = record { out = []; given = sym (append-nil given); parted = append-nil due }
-
-pub all_written : (given_old due given_new : List ℕ) → given_new ≡ given_old ++ due → WritesOn given_old due given_new [] []
-all_written given_old due given_new given = record { out = due; given = given; parted = refl }
 
 pub front_written : (given_old due given_new : List ℕ) (n : ℕ) → given_new ≡ given_old ++ take n due → WritesOn given_old due given_new (drop n due) []
 front_written given_old due given_new n given = record { out = take n due; given = given; parted = append-nil due ∙ sym (take-append-drop n due) }

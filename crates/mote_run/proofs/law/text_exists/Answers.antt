@@ -1,7 +1,5 @@
 use Rattle.std.proofs.Common.{refl}
-use Rattle.mote_text.specs.declared.script.End.{End}
-use Rattle.mote_text.specs.Script.{inputs}
-use Rattle.mote_text.specs.Transcript.{end_of, shown, text}
+use Rattle.mote_run.proofs.Common.{End, inputs, end_of, shown, text}
 use Rattle.mote_run.proofs.law.text_exists.Goals as goal
 
 pub returns : goal.returns

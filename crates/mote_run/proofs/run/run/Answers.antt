@@ -1,5 +1,5 @@
 use Rattle.std.proofs.Common.{◌≡◌, ◌∙◌, true, sym, refl}
-use Rattle.kernel_core.specs.Machine.{is_bootable}
+use Rattle.mote_run.proofs.Common.{is_bootable}
 use Rattle.mote_run.proofs.Pieces.{no_value, not_read}
 use Rattle.mote_run.proofs.Promise.{Laws, boots_so, closed, promised, ran_failed}
 use Rattle.mote_run.proofs.run.run.Goals as goal

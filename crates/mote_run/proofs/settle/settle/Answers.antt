@@ -1,13 +1,11 @@
-use Rattle.std.proofs.Common.{rules, refl, sym, []}
-use Rattle.std.proofs.lemmas.List.{append-nil}
-use Rattle.kernel_core.specs.Code.Steps.{entry_of}
-use Rattle.kernel_core.specs.declared.step.Step.{Step}
+use Rattle.std.proofs.Common.{rules, refl, sym}
+use Rattle.mote_run.proofs.Common.{append-nil, entry_of, Step}
 use Rattle.mote_run.proofs.Pieces.{no_ok}
 use Rattle.mote_run.proofs.Ways.{went_further, went_nowhere, went_step, went_written}
 use Rattle.mote_run.proofs.settle.settle.Goals as goal
 
 pub entry-init : goal.entry-init
-entry-init g c = record { went = λ named. went_nowhere _ _; applications = refl; clock = refl; inputs = refl; same = refl }
+entry-init g c = record { went = λ named. went_nowhere _ _; found = record { applications = refl; clock = refl; inputs = refl; same = refl } }
 
 pub returns-in_err-make_room-clause-goes : goal.returns-in_err-make_room-clause-goes
 returns-in_err-make_room-clause-goes g c = λ named.
@@ -35,10 +33,7 @@ entry-preserved-in-Turn g c = record {
   went = λ named.
       went_step (Step.Entry (entry_of c.step_to.new.turn)) (c.entry.invariant.went named) (c.in_ok-make_room.ensures.written named)
       c.in-Turn.ensures.machine c.in-Turn.ensures.law c.in-Turn.ensures.halted c.put_turn.ensures;
-  applications = search rules;
-  clock = search rules;
-  inputs = search rules;
-  same = search rules;
+  found = search rules;
 }
 
 pub entry-preserved : goal.entry-preserved
@@ -46,8 +41,5 @@ entry-preserved g c = record {
   went = λ named.
       went_step (Step.Entry c.step_to.new.other) (c.entry.invariant.went named) (c.in_ok-make_room.ensures.written named)
       c.in-Other.ensures.machine c.in-Other.ensures.law c.in-Other.ensures.halted c.put_entry.ensures;
-  applications = search rules;
-  clock = search rules;
-  inputs = search rules;
-  same = search rules;
+  found = search rules;
 }

@@ -1,6 +1,5 @@
 use Rattle.std.proofs.Common.{◌≡◌, []}
-use Rattle.mote_types.specs.Applications.{says_of}
-use Rattle.mote_run.specs.Code.Way.{Went, place}
+use Rattle.mote_run.proofs.Common.{says_of, Went, place}
 use Rattle.mote_run.proofs.settle.settle.Given as goal
 
 abbrev pub invariant-entry : goal.invariant-entry
@@ -8,10 +7,12 @@ invariant-entry g l = record {
   went : g.K.ByteSink.is_named → Went l.quiet [] (g.K.ByteSink.given l.fn.sink) (g.K.ByteSink.given l.sink)
       (place l.fn.work (says_of (λ b. (goal.App-dyn g (b.vtable, b.value)).says b.value) l.fn.apps))
       (place l.work (says_of (λ b. (goal.App-dyn g (b.vtable, b.value)).says b.value) l.apps));
-  applications : l.work.kernel.machine.scheduler.applications ≡ l.fn.work.kernel.machine.scheduler.applications;
-  clock : l.work.kernel.machine.clock ≡ l.fn.work.kernel.machine.clock;
-  inputs : l.work.kernel.inputs ≡ l.fn.work.kernel.inputs;
-  same : g.K.ByteSink.failure_count l.sink ≡ g.K.ByteSink.failure_count l.fn.sink;
+  found : record {
+    applications : l.work.kernel.machine.scheduler.applications ≡ l.fn.work.kernel.machine.scheduler.applications;
+    clock : l.work.kernel.machine.clock ≡ l.fn.work.kernel.machine.clock;
+    inputs : l.work.kernel.inputs ≡ l.fn.work.kernel.inputs;
+    same : g.K.ByteSink.failure_count l.sink ≡ g.K.ByteSink.failure_count l.fn.sink;
+  };
 }
 
 abbrev pub decreases-entry : goal.decreases-entry

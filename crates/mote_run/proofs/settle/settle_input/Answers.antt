@@ -1,4 +1,4 @@
-use Rattle.std.proofs.Common.{[], refl}
+use Rattle.std.proofs.Common.{refl}
 use Rattle.mote_run.proofs.Pieces.{no_ok}
 use Rattle.mote_run.proofs.Ways.{input_leads, rest_is_still, went_further, went_input, went_to_rest, went_unseen, went_written}
 use Rattle.mote_run.proofs.settle.settle_input.Goals as goal

@@ -1,8 +1,5 @@
-use Rattle.std.proofs.Common.{◌≡◌, ◌≤◌, ◌∷◌, [], true, refl, sym, arith}
-use Rattle.std.specs.Prelude.{Some, None}
-use Rattle.mote_text.specs.Script.{script_limit}
-use Rattle.mote_text.specs.declared.script.End.{End}
-use Rattle.mote_text.proofs.Reading.{script_limit_is}
+use Rattle.std.proofs.Common.{◌≤◌, sym, arith, Some, None}
+use Rattle.mote_run.proofs.Common.{script_limit, End, script_limit_is}
 use Rattle.mote_run.proofs.GivenBytes.{input_can_be_fed}
 use Rattle.mote_run.proofs.LoopInvariant.{ends_after, ends_at_once, fails_after, last_line}
 use Rattle.mote_run.proofs.ReadOn.{none_left}

@@ -1,9 +1,5 @@
 use Rattle.std.proofs.Common.{rules, ◌≡◌, ◌≤◌, ◌+◌, ◌-◌, ◌∙◌, ℕ, [], length, refl, sym, arith, true, false}
-use Rattle.std.proofs.lemmas.List.{append-nil}
-use Rattle.mote_text.specs.Script.{script_limit}
-use Rattle.mote_text.specs.declared.script.End.{End}
-use Rattle.mote_text.proofs.Reading.{script_limit_is}
-use Rattle.mote_run.specs.declared.run.RunFault.{RunFault}
+use Rattle.mote_run.proofs.Common.{append-nil, script_limit, End, script_limit_is, RunFault}
 use Rattle.mote_run.proofs.Pieces.{same_error}
 use Rattle.mote_run.proofs.ReadSoFar.{read_more, read_nothing}
 use Rattle.mote_run.proofs.ReadOn.{is_none}

@@ -1,10 +1,5 @@
 use Rattle.std.proofs.Common.{◌≡◌, ◌≤◌, ◌+◌, ◌*◌, ◌-◌, ◌^◌, length, true, false}
-use Rattle.mote_types.specs.Applications.{says_of}
-use Rattle.kernel_core.specs.Run.{is_still}
-use Rattle.mote_run.specs.RunText.{HasRead}
-use Rattle.mote_run.specs.Code.LoopInvariant.{HasCome}
-use Rattle.mote_run.specs.Code.Reading.{IsReady}
-use Rattle.mote_run.specs.Code.Way.{place}
+use Rattle.mote_run.proofs.Common.{says_of, is_still, HasRead, HasCome, IsReady, place}
 use Rattle.mote_run.proofs.work.take_script.Given as goal
 
 abbrev pub invariant-part : goal.invariant-part

@@ -1,5 +1,5 @@
 use Rattle.std.proofs.Common.{rules, ◌≡◌, ◌++◌}
-use Rattle.mote_text.specs.Transcript.{final_line}
+use Rattle.mote_run.proofs.Common.{final_line}
 use Rattle.mote_run.proofs.Pieces.{failed_with, on_err}
 use Rattle.mote_run.proofs.Writing.{put_behind, then_flushed, then_written}
 use Rattle.mote_run.proofs.pending_text.PendingText.close.Goals as goal

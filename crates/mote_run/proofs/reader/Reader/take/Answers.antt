@@ -1,4 +1,4 @@
-use Rattle.mote_text.specs.declared.lines.Taken.{Taken}
+use Rattle.mote_run.proofs.Common.{Taken}
 use Rattle.mote_run.proofs.reader.Reader.take.Goals as goal
 
 pub returns-in-Some-clause-says : goal.returns-in-Some-clause-says

@@ -1,0 +1,35 @@
+-- The names that most proofs here cite, passed on from one place. Declares nothing.
+pub use Rattle.kernel_core.specs.Code.Steps.{GoesOn, Silently, entry_of, made}
+pub use Rattle.kernel_core.specs.Inputs.{fed, frame_held, frame_refusal, has_bytes, held_unless_lost, ticks_of}
+pub use Rattle.kernel_core.specs.Machine.{Machine, booted, is_bootable}
+pub use Rattle.kernel_core.specs.Run.{Answers, ComesToRest, Running, Runs, after_step, after_steps, answers_after, at_start, gone_on, heard, is_at_rest, is_still, one_step, stimulus_of, with_input}
+pub use Rattle.kernel_core.specs.declared.config.Config.{Config}
+pub use Rattle.kernel_core.specs.declared.step.Step.{Step}
+pub use Rattle.mote_run.specs.Code.LoopInvariant.{Ends, HasCome, Leaves, Ran, WroteWholeLines}
+pub use Rattle.mote_run.specs.Code.Reading.{CanBeFed, IsReady, ReadPart, ReadSoFar, Takes, number_after, said}
+pub use Rattle.mote_run.specs.Code.Way.{Follows, Goes, IsTold, Leads, Place, Went, end_at, place}
+pub use Rattle.mote_run.specs.Code.Writing.{WritesOn, lines}
+pub use Rattle.mote_run.specs.RunText.{Exchange, Exchanged, HasRead, HasRun, HasRunInPart, HasRunOnWholeLines, HasRunTo, IsRunText, OfEachScript}
+pub use Rattle.mote_run.specs.Trace.{RunPromise, SatisfyingRun, TraceSatisfies}
+pub use Rattle.mote_run.specs.declared.run.RunFault.{RunFault}
+pub use Rattle.mote_run.specs.declared.script.Script.{Script}
+pub use Rattle.mote_text.proofs.Reading.{Gives, another_byte, line_of_input, line_of_no_form, line_of_nothing, line_too_long, script_limit_is, script_too_long, start}
+pub use Rattle.mote_text.specs.Code.Lines.{GoesOnAt, has_no_end, nothing_taken, unfinished, unfinished_after, with_end}
+unfoldable pub use Rattle.mote_text.specs.Code.Reading.{read_on}
+pub use Rattle.mote_text.specs.Code.Reading.{Before}
+unfoldable pub use Rattle.mote_text.specs.Script.{read_line}
+pub use Rattle.mote_text.specs.Script.{Reading, argument_of, inputs, is_number, line_limit, preceded_by, read_bytes, read_frame, read_number, read_serial, read_tick, read_words, says_nothing, script_limit, with_line}
+pub use Rattle.mote_text.specs.Transcript.{end_of, final_line, is_shown, shown, text}
+pub use Rattle.mote_text.specs.declared.lines.Taken.{Taken}
+pub use Rattle.mote_text.specs.declared.script.BadLine.{BadLine}
+pub use Rattle.mote_text.specs.declared.script.End.{End}
+pub use Rattle.mote_types.specs.Applications.{Applications, says_of}
+pub use Rattle.mote_types.specs.Entries.{is_halt}
+pub use Rattle.mote_types.specs.declared.entry.Entry.{Entry}
+pub use Rattle.mote_types.specs.declared.entry.Input.{Input}
+pub use Rattle.mote_types.specs.declared.event.Stimulus.{Stimulus}
+pub use Rattle.std.proofs.lemmas.Bool.Decides.{nat_tests}
+pub use Rattle.std.proofs.lemmas.List.{append-nil, drop-append-le, drop-drop, drop-take, drop_more, length-drop, length-take, length-take-le, take-append-drop, take_all}
+pub use Rattle.std.proofs.lemmas.List.Elements.{filter-append, filter_map-append}
+pub use Rattle.std.specs.List.{list_any, slice_get, slice_range}
+pub use Rattle.std.specs.Result.{IsErrAnd, result_ok}
