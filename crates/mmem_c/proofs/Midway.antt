@@ -7,7 +7,7 @@ use Rattle.mmem_core.proofs.StoreLemmas.{block_in, blocks-moved}
 use Rattle.mmem_c.specs.declared.block.Block.{Block}
 use Rattle.mmem_c.specs.Stored.{places_told, stored, IsTable}
 use Rattle.mmem_c.specs.Code.Rows.{row_of, IsNext}
-use Rattle.mmem_c.proofs.Rows.{told_some, room_is, at_is, live_below, live_is}
+use Rattle.mmem_c.proofs.Rows.{table_lies, table_of, told_some, room_is, at_is, live_below, live_is}
 use Rattle.mmem_c.proofs.Sliding.{AreSliding, sliding_first, sliding_more, inside, left, last_is_end, end_le_total}
 use Rattle.mmem_c.proofs.Stores.{same_store, told-set}
 
@@ -17,7 +17,7 @@ pub record IsMidway (old now : List Block) (before after : List ℕ) (end : ℕ)
   pub store : stored now after ≡ stored old before
 
 pub midway_first : (table : List Block) (buffer : List ℕ) → IsTable table (length buffer) → IsMidway table table buffer buffer 0
-midway_first table buffer sound = record { size = refl; sliding = sliding_first (length buffer) (places_told table) sound; store = refl }
+midway_first table buffer sound = record { size = refl; sliding = sliding_first (length buffer) (places_told table) (table_lies table (length buffer) sound); store = refl }
 
 module _ (old now : List Block) (before after : List ℕ) (end : ℕ) (midway : IsMidway old now before after end) where
   module _ (i : ℕ) (next : IsNext now end (length now) (Some i)) where
@@ -67,6 +67,9 @@ module _ (old now : List Block) (before after : List ℕ) (end : ℕ) (midway : 
       let some' : 0 < (row_of now j).size = omega arith in
       let a = at_is now j some' in
       omega (arith, none j (live_below now j some') some'))
+
+  pub still_table : IsTable now (length after)
+  still_table = subst (IsTable now) (sym midway.size) (table_of now (length before) midway.sliding.apart)
 
   pub end_together : end ≤ sum_by room_of (places_told old)
   end_together = end_le_total (length before) (sum_by room_of (places_told old)) end (places_told now) midway.sliding

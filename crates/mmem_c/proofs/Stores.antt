@@ -13,7 +13,7 @@ use Rattle.mmem_c.specs.Stored.{place_told, places_told, stored, IsTable, proces
 use Rattle.mmem_c.specs.Answers.{is_live, answer_to}
 use Rattle.mmem_c.specs.declared.status.TheConstants.{ALLOCATED, NO_HANDLE, IN_USE, NO_BYTES, NO_ROOM}
 use Rattle.mmem_c.specs.Code.Rows.{row_of}
-use Rattle.mmem_c.proofs.Rows.{number_is, told_some, live_is, unused_is}
+use Rattle.mmem_c.proofs.Rows.{table_lies, table_of, number_is, told_some, live_is, unused_is}
 
 -- two stores of one capacity with the same blocks
 pub same_store : (size size' : ℕ) (blocks blocks' : List (Option (List ℕ))) → size ≡ size' → blocks ≡ blocks'
@@ -40,9 +40,12 @@ still_unused table table' buffer buffer' i same none = elim (cases_eq (row_of ta
 
 -- what is free: what the places leave
 pub unused_left : (table : List Block) (buffer : List ℕ) → IsTable table (length buffer) → unused (stored table buffer) ≡ length buffer - sum_by room_of (places_told table)
-unused_left table buffer sound = ap (λ n. length buffer - n) (sum_same buffer (places_told table) sound.inside)
+unused_left table buffer sound = ap (λ n. length buffer - n) (sum_same buffer (places_told table) (table_lies table (length buffer) sound).inside)
 
 module _ (table : List Block) (capacity i : ℕ) (row : Block) (below : i < length table) (sound : IsTable table capacity) where
+  lie : LieApart (places_told table) capacity
+  lie = table_lies table capacity sound
+
   abbrev xs : List (Option Place)
   xs = places_told table
 
@@ -62,7 +65,7 @@ module _ (table : List Block) (capacity i : ℕ) (row : Block) (below : i < leng
     added_inside : (j : ℕ) → at_of (place_in added j) + room_of (place_in added j) ≤ capacity
     added_inside j = elim (cases_eq j i) [
       | inl e ↦ let a = ap at_of (here j e) in let r = ap room_of (here j e) in omega arith
-      | inr ne ↦ let a = ap at_of (there j ne) in let r = ap room_of (there j ne) in omega (arith, sound.inside j)
+      | inr ne ↦ let a = ap at_of (there j ne) in let r = ap room_of (there j ne) in omega (arith, lie.inside j)
     ]
 
     added_apart : (j k : ℕ) → j ≢ k → 0 < room_of (place_in added j) → 0 < room_of (place_in added k) → at_of (place_in added j) ≤ at_of (place_in added k)
@@ -79,14 +82,14 @@ module _ (table : List Block) (capacity i : ℕ) (row : Block) (below : i < leng
             | inl e ↦ let b = ap at_of (here k e) in omega (arith, end_le_last xs j)
             | inr ne'' ↦
                 let b = ap at_of (there k ne'') in let s = ap room_of (there k ne'') in
-                omega (arith, sound.apart j k ne (omega arith) (omega arith) (omega arith))
+                omega (arith, lie.apart j k ne (omega arith) (omega arith) (omega arith))
           ]
     ]
 
     added_some : (j : ℕ) → place_in added j ≢ None → 0 < room_of (place_in added j)
     added_some j live = elim (cases_eq j i) [
       | inl e ↦ let r = ap room_of (here j e) in omega arith
-      | inr ne ↦ let r = ap room_of (there j ne) in omega (arith, sound.no_empty j (λ none. live (there j ne ∙ none)))
+      | inr ne ↦ let r = ap room_of (there j ne) in omega (arith, lie.no_empty j (λ none. live (there j ne ∙ none)))
     ]
 
     told_added : places_told (slice_set table i row) ≡ added
@@ -94,7 +97,7 @@ module _ (table : List Block) (capacity i : ℕ) (row : Block) (below : i < leng
 
     -- a table with a new block behind the last one
     pub table_added : IsTable (slice_set table i row) capacity
-    table_added = subst (λ ys. LieApart ys capacity) (sym told_added) (record { inside = added_inside; apart = added_apart; no_empty = added_some })
+    table_added = table_of (slice_set table i row) capacity (subst (λ ys. LieApart ys capacity) (sym told_added) (record { inside = added_inside; apart = added_apart; no_empty = added_some }))
 
     pub last_added : last_end (places_told (slice_set table i row)) ≡ row.place + up4 row.size
     last_added =
@@ -137,7 +140,8 @@ store_unused count buffer =
 
 pub table_unused : (count capacity : ℕ) → IsTable (replicate count no_row) capacity
 table_unused count capacity =
-    subst (λ places. LieApart places capacity) (sym (told_unused count)) (LieApart-from (replicate count None) [] 0 capacity (IsLaidOut-none count capacity))
+    table_of (replicate count no_row) capacity
+    (subst (λ places. LieApart places capacity) (sym (told_unused count)) (LieApart-from (replicate count None) [] 0 capacity (IsLaidOut-none count capacity)))
 
 -- whether a handle has a block
 live_some : (table : List Block) (buffer : List ℕ) (i : ℕ) → 0 < (row_of table i).size → is_live i (stored table buffer) ≡ true
@@ -169,6 +173,9 @@ store_freed table buffer i =
     ∙ ap (λ k. slice_set (stored table buffer).blocks k None) (sym (number_is i)))
 
 module _ (table : List Block) (capacity i : ℕ) (sound : IsTable table capacity) (below : i < length table) where
+  lie' : LieApart (places_told table) capacity
+  lie' = table_lies table capacity sound
+
   abbrev kept : List (Option Place)
   kept = slice_set (places_told table) i None
 
@@ -184,7 +191,7 @@ module _ (table : List Block) (capacity i : ℕ) (sound : IsTable table capacity
   kept_inside : (j : ℕ) → at_of (place_in kept j) + room_of (place_in kept j) ≤ capacity
   kept_inside j = elim (cases_eq j i) [
     | inl e ↦ let a = ap at_of (gone j e) in let r = ap room_of (gone j e) in omega arith
-    | inr ne ↦ let a = ap at_of (same j ne) in let r = ap room_of (same j ne) in omega (arith, sound.inside j)
+    | inr ne ↦ let a = ap at_of (same j ne) in let r = ap room_of (same j ne) in omega (arith, lie'.inside j)
   ]
 
   kept_apart : (j k : ℕ) → j ≢ k → 0 < room_of (place_in kept j) → 0 < room_of (place_in kept k) → at_of (place_in kept j) ≤ at_of (place_in kept k)
@@ -192,16 +199,16 @@ module _ (table : List Block) (capacity i : ℕ) (sound : IsTable table capacity
   kept_apart j k ne one other le =
       let e = some_same j one in let f = some_same k other in
       let a = ap at_of e in let r = ap room_of e in let b = ap at_of f in let s = ap room_of f in
-      omega (arith, sound.apart j k ne (omega arith) (omega arith) (omega arith))
+      omega (arith, lie'.apart j k ne (omega arith) (omega arith) (omega arith))
 
   kept_some : (j : ℕ) → place_in kept j ≢ None → 0 < room_of (place_in kept j)
   kept_some j live = elim (cases_eq j i) [
     | inl e ↦ absurd (live (gone j e))
-    | inr ne ↦ let r = ap room_of (same j ne) in omega (arith, sound.no_empty j (λ none. live (same j ne ∙ none)))
+    | inr ne ↦ let r = ap room_of (same j ne) in omega (arith, lie'.no_empty j (λ none. live (same j ne ∙ none)))
   ]
 
   pub table_freed : IsTable (slice_set table i no_row) capacity
-  table_freed = subst (λ places. LieApart places capacity) (sym (told-set table i no_row)) (record { inside = kept_inside; apart = kept_apart; no_empty = kept_some })
+  table_freed = table_of (slice_set table i no_row) capacity (subst (λ places. LieApart places capacity) (sym (told-set table i no_row)) (record { inside = kept_inside; apart = kept_apart; no_empty = kept_some }))
 
 -- a block that lies in the buffer is read from there
 pub block_read : (table : List Block) (buffer : List ℕ) (i capacity : ℕ) → 0 < (row_of table i).size → (row_of table i).place + up4 (row_of table i).size ≤ capacity → length buffer ≡ capacity

@@ -1,10 +1,12 @@
 -- Managed memory that C keeps: a table with a row for each handle, and a buffer.
-use Rattle.std.specs.Prelude.{ℕ, ◌+◌, ◌/◌, ◌%◌, ◌==◌, List, length, map, replicate, Option, Some, None, if◌then◌else◌}
+use Rattle.std.specs.Prelude.{◌≡◌, ◌≢◌, ℕ, ◌≤◌, ◌+◌, ◌/◌, ◌%◌, ◌==◌, List, length, map, replicate, Option, Some, None, if◌then◌else◌}
 use Rattle.std.specs.Option.{option_map}
+use Rattle.mote_types.specs.Rounding.{up4}
+use Rattle.arena_core.specs.Extents.{Extent, AreApart}
 use Rattle.mmem_core.specs.declared.place.Place.{Place}
 use Rattle.mmem_core.specs.ManagedStore.{ManagedStore, empty_store}
 use Rattle.mmem_core.specs.HandleTable.{bytes_at}
-use Rattle.mmem_core.specs.Code.Laid.{LieApart}
+use Rattle.mmem_core.specs.Places.{place_in}
 use Rattle.mmem_c.specs.declared.block.Block.{Block}
 
 -- where a row says that a block lies, if it has one
@@ -22,9 +24,15 @@ stored table buffer = record {
   blocks = map (option_map (bytes_at buffer)) (places_told table);
 }
 
+-- the part of the buffer that a block takes: its length, rounded up
+abbrev pub part_of : Place → Extent
+part_of place = record { at = place.at; len = up4 place.len }
+
 -- the blocks lie in so many bytes, and no two of them share one
-abbrev pub IsTable : List Block → ℕ → Type 0
-IsTable table capacity = LieApart (places_told table) capacity
+pub record IsTable (table : List Block) (capacity : ℕ) : Type 0 where
+  pub inside : (i : ℕ) (place : Place) → place_in (places_told table) i ≡ Some place → place.at + up4 place.len ≤ capacity
+  pub apart : (i j : ℕ) (one other : Place) → i ≢ j → place_in (places_told table) i ≡ Some one → place_in (places_told table) j ≡ Some other
+      → AreApart (part_of one) (part_of other)
 
 -- a handle as a name of mmem_core's: sixteen of them to a process, the first ones to process 3
 abbrev pub process_of : ℕ → ℕ

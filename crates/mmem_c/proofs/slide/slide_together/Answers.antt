@@ -1,7 +1,7 @@
 use Rattle.std.proofs.Common.{sym, arith, length, slice_index_or}
 use Rattle.mmem_core.proofs.PlaceLemmas.{len_le_room, last_le}
 use Rattle.mmem_c.specs.Stored.{places_told}
-use Rattle.mmem_c.proofs.Midway.{next_inside, midway_more, end_is}
+use Rattle.mmem_c.proofs.Midway.{midway_first, next_inside, midway_more, still_table, end_is}
 use Rattle.mmem_c.proofs.slide.slide_together.Goals as goal
 
 pub slide_down-requires-clause-inside : goal.slide_down-requires-clause-inside
@@ -45,3 +45,11 @@ returns-clause-inside c =
     let l = c.loop-number in
     let end = end_is c.args.blocks.now l.blocks c.args.buffer.now l.buffer l.end l.invariant c.in_default.ensures in
     omega (arith, end, last_le (places_told l.blocks) (length c.args.buffer.now) l.invariant.sliding.apart.inside, l.invariant.size)
+
+pub returns-clause-table : goal.returns-clause-table
+returns-clause-table c =
+    let l = c.loop-number in
+    still_table c.args.blocks.now l.blocks c.args.buffer.now l.buffer l.end l.invariant
+
+pub loop-number-init : goal.loop-number-init
+loop-number-init c = midway_first c.args.blocks.now c.args.buffer.now c.requires

@@ -3,7 +3,7 @@ use Rattle.std.proofs.lemmas.Bool.{cases_eq}
 use Rattle.mmem_core.specs.Places.{last_end}
 use Rattle.mmem_core.proofs.PlaceLemmas.{last_le}
 use Rattle.mmem_c.specs.Stored.{places_told}
-use Rattle.mmem_c.proofs.Rows.{row_inside, row_le_last, last_le_rows}
+use Rattle.mmem_c.proofs.Rows.{table_lies, row_inside, row_le_last, last_le_rows}
 use Rattle.mmem_c.proofs.table.end_of_last.Goals as goal
 use Rattle.mmem_c.proofs.table.end_of_last.Goals.{then-end-here, else-end-here}
 
@@ -32,4 +32,4 @@ pub returns-clause-end : goal.returns-clause-end
 returns-clause-end c = omega (arith, c.loop-block.invariant.0, last_le_rows c.args.blocks.now c.loop-block.end (λ j below some. c.loop-block.invariant.1 j (omega arith) some))
 
 pub returns-clause-inside : goal.returns-clause-inside
-returns-clause-inside c = omega (arith, c.loop-block.invariant.0, last_le (places_told c.args.blocks.now) c.args.capacity c.requires.inside)
+returns-clause-inside c = omega (arith, c.loop-block.invariant.0, last_le (places_told c.args.blocks.now) c.args.capacity (table_lies c.args.blocks.now c.args.capacity c.requires).inside)
