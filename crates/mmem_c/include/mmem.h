@@ -83,7 +83,10 @@ mmem_free(struct mmem *m, size_t handle)
   return toarmuts_mmem_free(m->blocks, m->num, handle);
 }
 
-/* Where a handle's block begins, a multiple of 4; NULL where the handle has none. It is good until the next mmem_alloc. */
+/*
+ * Where a handle's block begins, a multiple of 4; NULL where the handle has none that lies in the buffer. The pointer is good
+ * until the next mmem_alloc.
+ */
 static inline void *
 mmem_ptr(struct mmem *m, size_t handle)
 {
@@ -93,7 +96,7 @@ mmem_ptr(struct mmem *m, size_t handle)
 
 #define MMEM_PTR(m, handle) mmem_ptr(m, handle)
 
-/* How many bytes are free. A block takes its length, rounded up to a multiple of 4. */
+/* How many bytes are free: a block takes its length, rounded up to a multiple of 4. 0 where the table is none. */
 static inline size_t
 mmem_avail(struct mmem *m)
 {
