@@ -153,8 +153,7 @@ module _ (heap : Region) (B : List ℕ) (laid_out : IsLaidOut heap B) where
       subst (λ (k : Block). k.bytes ≡ bytes_behind_header heap B k) f.is (ap same (sym (block_bytes heap B laid f.chunk name f.small f.owned)))
 
   read_as : (name : ℕ) (o : Option Block) → find_block name (heap_of heap B) ≡ o → option_map (λ (block : Block). block.bytes) o ≡ option_map (bytes_behind_header heap B) o
-  read_as name None e = refl
-  read_as name (Some block) e = ap Some (read_named name block e)
+  read_as name o e = grind (arith, read_named)
 
   room : (name : ℕ) (block : Block) → find_block name (heap_of heap B) ≡ Some block → length block.bytes ≤ block.room
   room name block e =

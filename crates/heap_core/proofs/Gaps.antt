@@ -49,8 +49,7 @@ module _ (header : ℕ) (B : List ℕ) (b : ℕ) where
 
 -- the best gap is one of the gaps
 better_is : (need : ℕ) (best : Option Gap) (gap : Gap) → (better need best gap ≡ best) ⊎ ((better need best gap ≡ Some gap) × (need ≤ gap.len))
-better_is need None gap = grind arith
-better_is need (Some other) gap = grind arith
+better_is need best gap = grind arith
 
 -- a gap among the chunks
 pub record Found (need : ℕ) (gap : Gap) (l : List Chunk) : Type 0 where
@@ -115,12 +114,10 @@ gaps_many [] = refl
 gaps_many (c ∷ l) = let later = gaps_many l in grind arith
 
 pub is_gap_none : (o : Option ℕ) → is_none o ≡ true → o ≡ None
-is_gap_none None e = refl
-is_gap_none (Some name) e = absurd (false≢true e)
+is_gap_none o e = grind arith
 
 pub is_live_some : (o : Option ℕ) → is_none o ≡ false → (name : ℕ) × (o ≡ Some name)
-is_live_some None e = absurd (false≢true (sym e))
-is_live_some (Some name) e = (name, refl)
+is_live_some o e = grind arith
 
 pub best_fits : (header : ℕ) (B : List ℕ) (b z need : ℕ) (gap : Gap) (l : List Chunk) → Tell header B b 0 z l → AreJoined header l → Some gap ≡ best_gap need (gaps_from header 0 (blocks_in header B b l)) → Found need gap l
 best_fits header B b z need gap l told joined e = grind (arith, found, gaps_are)
@@ -146,13 +143,11 @@ pub record Least (header n : ℕ) : Type 0 where
 
 known_of : (header : ℕ) → IsHeaderLength header → Known header
 unfolding shortest
-known_of header (inl e) = subst Known (sym e) (record { long = omega arith; whole = omega arith; least = omega arith; room = omega arith; most = omega arith })
-known_of header (inr e) = subst Known (sym e) (record { long = omega arith; whole = omega arith; least = omega arith; room = omega arith; most = omega arith })
+known_of header known = grind arith
 
 least_of : (header n : ℕ) → IsHeaderLength header → 1 ≤ n → Least header n
 unfolding shortest
-least_of header n (inl e) some = subst (λ k. Least k n) (sym e) (record { enough = omega arith; whole = (omega arith, omega arith) })
-least_of header n (inr e) some = subst (λ k. Least k n) (sym e) (record { enough = omega arith; whole = (omega arith, omega arith) })
+least_of header n known some = grind arith
 
 module _ (heap : Region) where
   pub lengths : Known heap.header
@@ -169,8 +164,7 @@ abbrev len_or_none : Option Gap → ℕ
 len_or_none o = option_map_or (λ (gap : Gap). gap.len) o 0
 
 with_gap_append : (c : Chunk) (o : Option ℕ) (xs ys : List Gap) → with_gap c o (xs ++ ys) ≡ with_gap c o xs ++ ys
-with_gap_append c None xs ys = refl
-with_gap_append c (Some name) xs ys = refl
+with_gap_append c o xs ys = grind arith
 
 gaps_append : (l r : List Chunk) → gaps_in (l ++ r) ≡ gaps_in l ++ gaps_in r
 gaps_append [] r = refl
@@ -179,12 +173,10 @@ gaps_append (c ∷ l) r = ap (with_gap c c.owner) (gaps_append l r) ∙ with_gap
 no_gap : (header : ℕ) (B : List ℕ) (b p x y : ℕ) (l : List Chunk) → Tell header B b x y l → (p < x) ⊎ (y ≤ p) → find (begins p) (gaps_in l) ≡ None
 no_gap header B b p x y [] t side = refl
 no_gap header B b p x y (c ∷ l) t side =
-    let enough : least_len header c ≤ c.len = t.1 in let at = place_told B b x c t.0 in let le = told_le header B b (x + c.len) y l t.2 in
-    let later : find (begins p) (gaps_in l) ≡ None = no_gap header B b p (x + c.len) y l t.2 (elim side [ inl low ↦ inl (omega arith) | inr high ↦ inr (omega arith) ]) in grind arith
+    let enough : least_len header c ≤ c.len = t.1 in let at = place_told B b x c t.0 in let later = no_gap header B b p (x + c.len) y l t.2 (elim side [ inl low ↦ inl (omega arith) | inr high ↦ inr (omega arith) ]) in grind (arith, told_le)
 
 front_found : (header : ℕ) (B : List ℕ) (b at z : ℕ) (l : List Chunk) → Tell header B b at z l → len_or_none (find (begins at) (gaps_in l)) ≡ front_gap l
-front_found header B b at z [] t = refl
-front_found header B b at z (d ∷ l) t = let enough : least_len header d ≤ d.len = t.1 in let here = place_told B b at d t.0 in grind (arith, place_told, owner_cases, eq-eqb, with_gap, gaps_in, no_gap)
+front_found header B b at z l t = grind (arith, place_told, owner_cases, eq-eqb, no_gap)
 
 pub gap_at_end : (heap : Region) (B : List ℕ) (chunk : Chunk) (a : Around heap.header B heap.span.at heap.footprint chunk (chunks_of heap B)) → HasChunks heap B → chunk.owner ≢ None
     → gap_at (chunk.at + chunk.len) (store_of heap B) ≡ front_gap a.behind
@@ -194,10 +186,7 @@ gap_at_end heap B chunk a has live =
       | inl e ↦ absurd (live e)
       | inr s ↦
           let all : gaps (store_of heap B) ≡ gaps_in a.before ++ gaps_in a.behind =
-          gaps_are heap.header B b 0 heap.footprint (chunks_of heap B) has.told has.joined
-          ∙ ap gaps_in a.is
-          ∙ gaps_append a.before (chunk ∷ a.behind)
-          ∙ ap (λ o. gaps_in a.before ++ with_gap chunk o (gaps_in a.behind)) s.1 in
+          grind (arith, gaps_are, gaps_append) in
           ap (λ l. len_or_none (find (begins end) l)) all
           ∙ ap len_or_none (find-append (begins end) (gaps_in a.before) (gaps_in a.behind))
           ∙ ap (λ o. len_or_none (option_or o (find (begins end) (gaps_in a.behind)))) (no_gap heap.header B b end 0 chunk.at a.before a.front (inr (omega arith)))
@@ -252,8 +241,7 @@ abbrev pub IsWholeGap : ℕ → ℕ → Type 0
 IsWholeGap header gap = (gap ≡ 0) ⊎ ((shortest header ≤ gap) × (gap % 4 ≡ 0))
 
 pub front_gap_whole : (header : ℕ) (l : List Chunk) → AreJoined header l → IsWholeGap header (front_gap l)
-front_gap_whole header [] joined = inl refl
-front_gap_whole header (d ∷ l) joined = grind arith
+front_gap_whole header l joined = grind arith
 
 module _ (header least room end top_at top gap chosen : ℕ) (most : shortest header ≤ 20) (whole_least : IsWholeRoom header least) (whole_room : room % 4 ≡ 0) (long : IsWholeGap header gap) where
   pub taken : choice least room end top_at top gap ≡ Some chosen → Taken header least room end top_at top gap chosen
@@ -292,8 +280,7 @@ module _ (heap : Region) (B : List ℕ) (has : HasChunks heap B) (n : ℕ) (targ
       let whole = whole_at heap.header f.before f.behind f.chunk (subst (AreJoined heap.header) f.is has.joined) in grind arith
 
   chosen : (best : Option Gap) → best_gap (heap.header + need) (gaps (store_of heap B)) ≡ best → option_or (option_map (place_in heap.header need) best) (top_place (need) (store_of heap B)) ≡ Some target → Outcome
-  chosen None none e = on_top e
-  chosen (Some gap) found e = in_gap gap found (let two : Some (place_in heap.header need gap) ≡ Some target = e in cc)
+  chosen best none e = grind (arith, on_top, in_gap)
 
   pub place_cases : place n (store_of heap B) ≡ Some target → Outcome
   place_cases e = chosen (best_gap (heap.header + need) (gaps (store_of heap B))) refl e
@@ -306,6 +293,5 @@ elsewhere_placed heap B has n target some chunk live e same =
       | inl top ↦ absurd (omega (arith, top.at, a.fits, a.enough))
       | inr low ↦
           let g = around heap B low.gap.gap has low.gap.stands in
-          let one : low.gap.gap ≡ chunk = sym g.here ∙ ap (chunk_at B heap.span.at) (low.gap.at ∙ same) ∙ a.here in
-          live.live (sym (ap (λ (k : Chunk). k.owner) one) ∙ low.gap.free)
+          grind arith
     ]

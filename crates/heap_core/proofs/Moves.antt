@@ -4,8 +4,7 @@ use Rattle.heap_core.proofs.ChunkHeaders.{count}
 use Rattle.heap_core.proofs.Names.{named_with, count_filter, count_unnamed}
 
 named_moved : (store : HeapStore) (block : Block) (n : ℕ) → ((other : ℕ) → count other store.blocks ≤ 1) → (o : Option Place) (new : HeapStore) → option_map (λ place. moved place block n store) o ≡ Some new → (other : ℕ) → count other new.blocks ≤ 1
-named_moved store block n named None new e other = absurd (cc)
-named_moved store block n named (Some place) new e other = grind (arith, count, named_with, count_unnamed, count_filter)
+named_moved store block n named o new e other = grind (arith, named_with, count_unnamed, count_filter)
 
 module _ (heap : Region) (B : List ℕ) (store : HeapStore) (chunk : Chunk) (p h name n : ℕ) (left_is : without_place chunk.at store ≡ without_block name store)
     (same : name ≡ number_of p h) (found : find_block name store ≡ Some (block_in_chunk heap.header B heap.span.at name chunk)) where

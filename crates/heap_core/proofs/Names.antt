@@ -7,8 +7,7 @@ find_is header B b name [] = refl
 find_is header B b name (c ∷ l) = let later = find_is header B b name l in grind arith
 
 owner_is : (name : ℕ) (o : Option ℕ) → is_owner name o ≡ true → o ≡ Some name
-owner_is name None e = absurd (false≢true e)
-owner_is name (Some other) e = ap Some (eqb-true other name e)
+owner_is name o e = grind arith
 
 pub owned : (name : ℕ) (chunk : Chunk) (l : List Chunk) → find (owned_by name) l ≡ Some chunk → Owned name chunk l
 owned name chunk [] e = absurd (cc)
@@ -29,8 +28,7 @@ owned name chunk (c ∷ l) e = elim (cases_Bool (owned_by name c)) [
 
 -- a name that has a block has a chunk
 pub some_owned : (header : ℕ) (B : List ℕ) (b name : ℕ) (l : List Chunk) (o : Option Chunk) → o ≡ find (owned_by name) l → IsSome (find (has_name name) (blocks_in header B b l)) → IsSome o
-some_owned header B b name l None e live = grind (arith, false≢true, find_is)
-some_owned header B b name l (Some c) e live = refl
+some_owned header B b name l o e live = grind (arith, false≢true, find_is)
 
 -- how many blocks a name has
 pub count_append : (name : ℕ) (xs ys : List Block) → count name (xs ++ ys) ≡ count name xs + count name ys
@@ -82,8 +80,7 @@ pub keeps_place : (name : ℕ) (f : Block → Block) → ((block : Block) → (f
 keeps_place name f keeps block = elim (cases_Bool (eqb block.name name)) [ inl hit ↦ rw hit (keeps block) | inr miss ↦ rw miss refl ]
 
 pub map_none : {X Y : Type 0} (f : X → Y) (o : Option X) → option_map f o ≡ None → o ≡ None
-map_none f None e = refl
-map_none f (Some x) e = absurd (cc)
+map_none f o e = grind arith
 
 -- blocks without those of a name
 pub count_unnamed : (name : ℕ) (xs : List Block) → count name (filter (λ block. not (has_name name block)) xs) ≡ 0

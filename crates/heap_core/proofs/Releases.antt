@@ -108,8 +108,7 @@ front_whole header B b x at i (c ∷ []) old t none joined = let place = place_t
 front_whole header B b x at i (c ∷ (d ∷ l)) old t none joined = front_whole header B b (x + c.len) at (free_behind c c.owner) (d ∷ l) old t.2 (λ e. absurd (cc)) joined.2
 
 pub gap_len_whole : (header : ℕ) (l : List Chunk) → AreJoined header l → front_gap l % 4 ≡ 0
-gap_len_whole header [] joined = refl
-gap_len_whole header (d ∷ l) joined = grind arith
+gap_len_whole header l joined = grind arith
 
 module _ (heap : Region) (B : List ℕ) (has : HasChunks heap B) (chunk : Chunk) (a : Around heap.header B heap.span.at heap.footprint chunk (chunks_of heap B)) (live : chunk.owner ≢ None) where
   abbrev b : ℕ
@@ -186,8 +185,7 @@ module _ (heap : Region) (B : List ℕ) (has : HasChunks heap B) (chunk : Chunk)
   gap_whole =
       let whole = whole_at heap.header a.before a.behind chunk was_joined in
       let front = front_whole heap.header B b 0 chunk.at 0 a.before (chunk ∷ a.behind) a.front (λ e. refl) was_joined in
-      let back = gap_len_whole heap.header a.behind (joined_behind heap.header a.before (chunk ∷ a.behind) was_joined).2 in
-      let low = from_below in (omega (arith, whole.0), omega (arith, whole.1, front, back))
+      grind (arith, gap_len_whole, a, joined_behind, was_joined, from_below)
 
   abbrev gap : Option ℕ → Chunk
   gap link = record { at = from; len = end - from; owner = None; size = 0; link = link }
@@ -196,10 +194,7 @@ module _ (heap : Region) (B : List ℕ) (has : HasChunks heap B) (chunk : Chunk)
       → chunk_at B' b from ≡ gap link → ChangesOnly (b + from) 12 B B' → end ≢ heap.footprint → Cleared heap new B B' chunk from end (Some from) link
   cleared_gap new B' link span header top count told changes more =
       let low = from_below in
-      let begins : BeginsLive r.post = elim r.begins [
-        | inl e ↦ absurd (more (subst (Tell heap.header B b end heap.footprint) e.0 r.told))
-        | inr begins ↦ begins
-      ] in
+      let begins : BeginsLive r.post = grind arith in
       cleared new B' (gap link ∷ []) (Some from) link
       (spliced heap new B B' from end f.pre (gap link ∷ []) r.post span header has.within
       (changes_more (b + from) 12 (b + from) (end - from) B B' changes (omega arith) (omega (arith, a.enough)))

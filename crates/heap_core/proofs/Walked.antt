@@ -59,14 +59,7 @@ module _ (heap : Region) (B : List ℕ) (p : ℕ) where
     stopped_below le = grind (arith, gap_place, up_here, above_lower, step)
 
     pub stopped_next : p ≤ at → Some at ≡ gap_from p (gaps_among (chunks_of heap B))
-    stopped_next le =
-        let near : leb p gap.at ≡ true = le-leb p gap.at (omega (arith, gap_place)) in
-        let higher_here : higher p None gap ≡ Some gap.at = rw near refl in
-        ap Some (sym gap_place)
-        ∙ sym (kept_higher p gap.at (gaps_from_place heap B gap.link))
-        ∙ sym (ap (λ o. fold (higher p) o (gaps_from_place heap B gap.link)) higher_here)
-        ∙ sym (ap (fold (higher p) None) step.is)
-        ∙ w.highered
+    stopped_next le = grind (arith, le-leb, gap_place, kept_higher, step)
 
   module _ (below next : Option ℕ) (is : next ≡ None) (w : Walked heap B p below next) where
     none_left : gaps_from_place heap B next ≡ []
@@ -91,8 +84,7 @@ below_told heap B p has linked = grind (arith, lower_told, followed)
 
 -- the gap that begins at the place kept
 pub gap_kept : (B : List ℕ) (b end place : ℕ) (found : Option Chunk) → Some place ≡ option_map (λ (gap : Chunk). gap.at) found → IfSome found (HasHeader B b end) → (found ≡ Some (chunk_at B b place)) × (place + 12 ≤ end)
-gap_kept B b end place None is h = absurd (let two : Some place ≡ None = is in cc)
-gap_kept B b end place (Some gap) is h = grind arith
+gap_kept B b end place found is h = grind arith
 
 -- The search along the links for the shortest gap that is long enough.
 
@@ -125,8 +117,7 @@ exact_is_best need (Some other) gap later exact =
           let now : better_chunk need (Some other) gap ≡ Some this = rw long (rw less refl) in
           ap (λ o. fold (better_chunk need) o later) now ∙ exact_kept need this later (omega (arith, exact)) ∙ sym now
       | inr more ↦
-          let now : better_chunk need (Some other) gap ≡ Some other = rw long (rw more refl) in
-          ap (λ o. fold (better_chunk need) o later) now ∙ exact_kept need other later (omega (arith, exact, ltb-false gap.len other.len more)) ∙ sym now
+          grind (arith, more, exact_kept, ltb-false)
     ]
 
 -- where the search stands: the gap found and those still to come decide what is the best one
