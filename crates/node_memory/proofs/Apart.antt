@@ -13,7 +13,7 @@ spans_apart : (s t : Span) (e f : Extent) → LiesIn s e → LiesIn t f → s.at
 spans_apart s t e f one other behind = inl (omega (arith, one, other, behind))
 
 swapped : (e f : Extent) → AreApart e f → AreApart f e
-swapped e f h2 = grind arith
+swapped e f apart = grind arith
 
 -- what is found where a map of it is
 mapped : {X Y : Type 0} (f : X → Y) (found : Option X) (y : Y) → option_map f found ≡ Some y → (x : X) × (found ≡ Some x) × (f x ≡ y)

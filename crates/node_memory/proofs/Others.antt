@@ -62,7 +62,7 @@ number-differs p h q g low named other ne same = grind arith
 -- a change of one handle's block
 leaves-block : (p h : ℕ) (block : Option (List ℕ)) (old : Memory) → 3 ≤ p → is_handle h ≡ true
     → LeavesOthers (Some (BlockName.Managed p h)) old (with_managed (with_block p h block old.managed) old)
-leaves-block p h block old low few h6 named differs = grind (arith, number-differs, ap₂, get_or-set_other)
+leaves-block p h block old low few name named differs = grind (arith, number-differs, ap₂, get_or-set_other)
 
 pub leaves-frame : (slot : ℕ) (block : Option (List ℕ)) (old : Memory) → slot ≤ 15 → LeavesOthers (Some (frame_block slot)) old (with_managed (with_block 3 slot block old.managed) old)
 leaves-frame slot block old low = leaves-block 3 slot block old (omega arith) (grind (arith, low))
