@@ -67,14 +67,8 @@ along_is (suc n) B b end head (c ∷ l) h few = let later = along_is n B b end c
 pub followed : (header : ℕ) (B : List ℕ) (b x end : ℕ) (head : Option ℕ) (l : List Chunk) → Tell header B b x end l → LinkedTo head l None → Follow B b end head (gaps_among l) × (x + 12 * length (gaps_among l) ≤ end)
 followed header B b x end head [] t h = (h, omega (arith, t))
 followed header B b x end head (c ∷ l) t h =
-    let enough : least_len header c ≤ c.len = t.1 in let at = place_told B b x c t.0 in let le = told_le header B b (x + c.len) end l t.2 in
-    elim (owner_cases c.owner) [
-      | inl e ↦
-          let k = linked_gap head None c l e h in
-          let first = followed header B b (x + c.len) end c.link l t.2 k.1 in grind arith
-      | inr s ↦
-          let later = followed header B b (x + c.len) end head l t.2 (linked_live head None s.0 c l s.1 h) in grind arith
-    ]
+    let gap = followed header B b (x + c.len) end c.link l t.2 in let live = followed header B b (x + c.len) end head l t.2 in
+    let at = place_told B b x c t.0 in let le = told_le header B b (x + c.len) end l t.2 in grind arith
 
 -- what a hole leaves of the list
 pub record Ends (head : Option ℕ) (p q : ℕ) (all before behind : List Chunk) : Type 0 where
@@ -111,9 +105,8 @@ first_taken B b end p y head (gap ∷ gaps) h follow = let near : leb p gap.at �
 
 each_small : (p x most : ℕ) (found : Option ℕ) (gaps : List Chunk) → Within x most gaps → IfSome found (λ place. place < most) → IfSome (fold (higher p) found gaps) (λ place. place < most)
 each_small p x most found [] h small = small
-each_small p x most (Some at) (gap ∷ gaps) h small = each_small p x most (Some at) gaps h.2 small
-each_small p x most None (gap ∷ gaps) h small =
-    let later = each_small p x most (Some gap.at) gaps h.2 h.1 in let other = each_small p x most None gaps h.2 tt in grind arith
+each_small p x most found (gap ∷ gaps) h small =
+    let some = each_small p x most (Some gap.at) gaps h.2 in let later = each_small p x most found gaps h.2 in grind arith
 
 -- the gap below a place, and the one from a place on
 module _ (header : ℕ) (B : List ℕ) (b : ℕ) where
@@ -265,13 +258,8 @@ walk_free i l = fold (λ _ (c : Chunk). free_behind c c.owner) i l
 
 free_live : (header : ℕ) (B : List ℕ) (b x at i : ℕ) (l : List Chunk) → Tell header B b x at l → gaps_among l ≡ [] → (l ≡ [] → i ≡ at) → walk_free i l ≡ at
 free_live header B b x at i [] t none empty = empty refl
-free_live header B b x at i (c ∷ l) t none empty = elim (owner_cases c.owner) [
-  | inl e ↦ absurd (let two : c ∷ gaps_among l ≡ [] = sym (gap_first c l e) ∙ none in cc)
-  | inr s ↦
-      let place = place_told B b x c t.0 in
-      let later = free_live header B b (x + c.len) at (x + c.len) l t.2 (sym (live_first c s.0 l s.1) ∙ none) (λ e. subst (Tell header B b (x + c.len) at) e t.2) in
-      grind arith
-]
+free_live header B b x at i (c ∷ l) t none empty =
+    let later = free_live header B b (x + c.len) at (x + c.len) l t.2 in let place = place_told B b x c t.0 in grind arith
 
 module _ (header : ℕ) (B : List ℕ) (b at : ℕ) (before : List Chunk) (told : Tell header B b 0 at before) where
   pub free_no_gap : last_of (gaps_among before) ≡ None → free_from before ≡ at

@@ -1,5 +1,5 @@
 -- The block of a name, and how many blocks a name has.
-use Rattle.heap_core.proofs.Words.{◌≡◌, ◌≢◌, ℕ, ◌+◌, ◌≤◌, inl, inr, Bool, true, not, List, [], ◌∷◌, ◌++◌, length, eqb, refl, sym, ap, ◌∙◌, arith, Option, Some, None, IsSome, filter, find, map, if◌then◌else◌, option_map, cases_Bool, cases_eq, eqb-true, false≢true, length-append, filter-append, Chunk, Block, has_name, placed, blocks_in, is_owner, owned_by, Owned, block_in_chunk, ◌<◌, false, Region, IsLaidOut, heap_of, is_named, chunks_of, find_block, number_of, store_of, HasChunks, ArePlaced, rules, get_or, slice_set, replicate, zero, suc, subst, get_or-set_same, get_or-set_other, length-set, eq-eqb, ne_eqb, Place, HeapStore, with_block, without_block, block_at, chunk_at, place_found}
+use Rattle.heap_core.proofs.Words.{◌≡◌, ◌≢◌, ℕ, ◌+◌, ◌≤◌, inl, inr, Bool, true, not, List, [], ◌∷◌, ◌++◌, length, eqb, refl, sym, ap, ◌∙◌, arith, Option, Some, None, IsSome, filter, find, map, if◌then◌else◌, option_map, cases_Bool, cases_eq, false≢true, length-append, filter-append, Chunk, Block, has_name, placed, blocks_in, is_owner, owned_by, Owned, block_in_chunk, ◌<◌, false, Region, IsLaidOut, heap_of, is_named, chunks_of, find_block, number_of, store_of, HasChunks, ArePlaced, rules, get_or, slice_set, replicate, zero, suc, subst, get_or-set_same, get_or-set_other, length-set, eq-eqb, ne_eqb, Place, HeapStore, with_block, without_block, block_at, chunk_at, place_found}
 use Rattle.heap_core.proofs.ChunkHeaders.{count, around}
 
 pub find_is : (header : ℕ) (B : List ℕ) (b name : ℕ) (l : List Chunk) → find (has_name name) (blocks_in header B b l) ≡ option_map (block_in_chunk header B b name) (find (owned_by name) l)
