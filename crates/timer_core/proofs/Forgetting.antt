@@ -1,15 +1,10 @@
 -- The timers of a process are taken from the list one after another.
-use Rattle.timer_core.proofs.Words.{◌≡◌, ℕ, ◌+◌, Bool, true, false, not, ◌&&◌, List, [], ◌∷◌, refl, sym, ◌∙◌, ap, arith, ◌==◌, nat_lt, filter, lt-ltb, nat_tests, Pid, Timer, IsNamed, is_timer, is_event_timer_of, is_callback_timer_of, Timers, stop_timer, without_event_timers, without_callback_timers}
+use Rattle.timer_core.proofs.Words.{◌≡◌, ℕ, ◌+◌, Bool, true, false, not, ◌&&◌, List, [], ◌∷◌, refl, sym, ap, arith, ◌==◌, nat_lt, filter, Pid, Timer, IsNamed, is_timer, is_event_timer_of, is_callback_timer_of, Timers, stop_timer, without_event_timers, without_callback_timers}
 use Rattle.timer_core.proofs.LinkLemmas.{AllNamed}
 
 filter_split : (f g h : Timer → Bool) → ((t : Timer) → (f t && g t) ≡ h t) → (list : List Timer) → filter g (filter f list) ≡ filter h list
 filter_split f g h same [] = refl
-filter_split f g h same (t ∷ later) = split (f t) (g t) refl refl (filter_split f g h same later)
-  where
-    split : (a b : Bool) → f t ≡ a → g t ≡ b → filter g (filter f later) ≡ filter h later → filter g (filter f (t ∷ later)) ≡ filter h (t ∷ later)
-    split true true e d r = let k : h t ≡ true = sym (same t) ∙ rw (e, d) in rw (e, k) (rw d (ap (λ l. t ∷ l) r))
-    split true false e d r = let k : h t ≡ false = sym (same t) ∙ rw (e, d) in rw (e, k) (rw d r)
-    split false b e d r = let k : h t ≡ false = sym (same t) ∙ rw e in rw (e, k) r
+filter_split f g h same (t ∷ later) = let first = filter_split f g h same later in grind arith
 
 filter_named : (f g : Timer → Bool) → ((t : Timer) → IsNamed t → f t ≡ g t) → (list : List Timer) → AllNamed list → filter f list ≡ filter g list
 filter_named f g same [] h = refl
@@ -39,24 +34,19 @@ abbrev same_cells : Timers → List Timer → Timers
 same_cells timers armed = record timers { armed = armed }
 
 more : (b : Bool) (n t : ℕ) → (not (b && nat_lt t n) && not (b && n == t)) ≡ not (b && nat_lt t (n + 1))
-more false n t = refl
-more true n t = grind (arith, nat_tests)
+more b n t = grind arith
 
 all : (b : Bool) → not (b && true) ≡ not b
-all true = refl
-all false = refl
+all b = grind arith
 
 events_none : (p : ℕ) (t : Timer) → not (is_event_below p 0 t) ≡ true
-events_none p (Timer.Event q t) = grind (arith, nat_tests)
-events_none p (Timer.Callback q t) = refl
+events_none p t = grind arith
 
 events_more : (p : Pid) (n : ℕ) (t : Timer) → (not (is_event_below p.0 n t) && not (is_timer (Timer.Event p n) t)) ≡ not (is_event_below p.0 (n + 1) t)
-events_more p n (Timer.Event q t) = more (p.0 == q.0) n t
-events_more p n (Timer.Callback q t) = refl
+events_more p n t = grind arith
 
 events_all : (p : ℕ) (t : Timer) → IsNamed t → not (is_event_below p 8 t) ≡ not (is_event_timer_of p t)
-events_all p (Timer.Event q t) h = let few = lt-ltb t 8 h.2 in rw few (all (p == q.0))
-events_all p (Timer.Callback q t) h = refl
+events_all p t h = grind arith
 
 pub without_events_at_first : (p : ℕ) (timers : Timers) → timers ≡ without_events_below p 0 timers
 without_events_at_first p timers = ap (same_cells timers) (sym (filter_all (λ t. not (is_event_below p 0 t)) (events_none p) timers.armed))
@@ -68,16 +58,13 @@ pub without_events_at_last : (p : ℕ) (timers : Timers) → AllNamed timers.arm
 without_events_at_last p timers h = grind (arith, filter_named, events_all)
 
 callbacks_none : (p : ℕ) (t : Timer) → not (is_callback_below p 0 t) ≡ true
-callbacks_none p (Timer.Event q t) = refl
-callbacks_none p (Timer.Callback q t) = grind (arith, nat_tests)
+callbacks_none p t = grind arith
 
 callbacks_more : (p : Pid) (n : ℕ) (t : Timer) → (not (is_callback_below p.0 n t) && not (is_timer (Timer.Callback p n) t)) ≡ not (is_callback_below p.0 (n + 1) t)
-callbacks_more p n (Timer.Event q t) = refl
-callbacks_more p n (Timer.Callback q t) = more (p.0 == q.0) n t
+callbacks_more p n t = grind arith
 
 callbacks_all : (p : ℕ) (t : Timer) → IsNamed t → not (is_callback_below p 4 t) ≡ not (is_callback_timer_of p t)
-callbacks_all p (Timer.Event q t) h = refl
-callbacks_all p (Timer.Callback q t) h = let few = lt-ltb t 4 h.2 in rw few (all (p == q.0))
+callbacks_all p t h = grind arith
 
 pub without_callbacks_at_first : (p : ℕ) (timers : Timers) → timers ≡ without_callbacks_below p 0 timers
 without_callbacks_at_first p timers = ap (same_cells timers) (sym (filter_all (λ t. not (is_callback_below p 0 t)) (callbacks_none p) timers.armed))

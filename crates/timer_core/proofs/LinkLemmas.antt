@@ -136,9 +136,7 @@ relinked_first cells link t x h within e none l =
     let next : next_of (set cells (place_of t) x) t ≡ link = next_of_same cells t x within ∙ e in
     let later : Names (set cells (place_of t) x) link (listed_from cells link) = names_other cells t x link (listed_from cells link) h none l.ends in
     let names : Names (set cells (place_of t) x) (Some t) (t ∷ listed_from cells link) = (refl, (h, rw next later)) in
-    let apart : AreApart (t ∷ listed_from cells link) = (none, l.apart) in
-    relinked _ (Some t) (t ∷ listed_from cells link) names apart
-    (few_timers (t ∷ listed_from cells link) (h, all_named cells link (listed_from cells link) l.ends) apart)
+    search (rules, relinked, few_timers, all_named)
 
 -- at boot
 pub table_at_boot : IsTable (record { cells = replicate 192 zero_linked; first = None })
