@@ -1,5 +1,5 @@
 -- Each cell says whether its timer is on the list.
-use Rattle.timer_core.proofs.Words.{rules, ◌||◌, arith, ◌≡◌, ◌<◌, Bool, true, false, List, [], ◌∷◌, length, refl, sym, ◌∙◌, ap, subst, set, list_any, get_or-set_same, get_or-set_other, Timer, LinkedCell, place_of, IsNamed, is_timer, flag_of, AreFlagged, zero_linked}
+use Rattle.timer_core.proofs.Words.{rules, arith, ◌≡◌, ◌<◌, true, false, List, [], ◌∷◌, length, refl, ◌∙◌, ap, set, list_any, get_or-set_same, get_or-set_other, Timer, LinkedCell, place_of, IsNamed, is_timer, flag_of, AreFlagged, zero_linked}
 use Rattle.timer_core.proofs.NameLemmas.{same_timer, is_timer_itself, is_timer_flips, places_differ}
 use Rattle.timer_core.proofs.Unlinking.{others}
 
@@ -15,12 +15,7 @@ flag_same cells t x within = ap (λ (c : LinkedCell). c.is_armed) (get_or-set_sa
 pub flags_set : (cells : List LinkedCell) (t : Timer) (x : LinkedCell) (list new : List Timer) → IsNamed t → place_of t < length cells →
     AreFlagged cells list → x.is_armed ≡ list_any (is_timer t) new →
     ((u : Timer) → is_timer t u ≡ false → list_any (is_timer u) new ≡ list_any (is_timer u) list) → AreFlagged (set cells (place_of t) x) new
-flags_set cells t x list new h within flags own others = λ u k. by_test u k (is_timer t u) refl
-  where
-    by_test : (u : Timer) → IsNamed u → (b : Bool) → is_timer t u ≡ b → flag_of (set cells (place_of t) x) u ≡ list_any (is_timer u) new
-    by_test u k true e =
-        subst (λ v. flag_of (set cells (place_of t) x) v ≡ list_any (is_timer v) new) (same_timer t u e) (flag_same cells t x within ∙ own)
-    by_test u k false e = flag_other cells t u x h k e ∙ (flags u k ∙ sym (others u e))
+flags_set cells t x list new h within flags own others = grind (arith, same_timer, flag_same, flag_other)
 
 -- a write that keeps the flag
 pub flags_kept : (cells : List LinkedCell) (t : Timer) (x : LinkedCell) (list : List Timer) → IsNamed t → place_of t < length cells →
@@ -34,22 +29,11 @@ flags_added cells t x list h within flags on = search (rules, flags_set, is_time
 
 none_left : (t : Timer) (list : List Timer) → list_any (is_timer t) (others t list) ≡ false
 none_left t [] = refl
-none_left t (u ∷ later) = split (is_timer t u) refl (none_left t later)
-  where
-    split : (b : Bool) → is_timer t u ≡ b → list_any (is_timer t) (others t later) ≡ false → list_any (is_timer t) (others t (u ∷ later)) ≡ false
-    split true e r = rw e r
-    split false e r = rw (e, e) r
+none_left t (u ∷ later) = let first = none_left t later in grind arith
 
 others_stay : (t u : Timer) (list : List Timer) → is_timer t u ≡ false → list_any (is_timer u) (others t list) ≡ list_any (is_timer u) list
 others_stay t u [] apart = refl
-others_stay t u (v ∷ later) apart = split (is_timer t v) refl (others_stay t u later apart)
-  where
-    split : (b : Bool) → is_timer t v ≡ b → list_any (is_timer u) (others t later) ≡ list_any (is_timer u) later →
-        list_any (is_timer u) (others t (v ∷ later)) ≡ list_any (is_timer u) (v ∷ later)
-    split true e r =
-        let left : is_timer u v ≡ false = subst (λ w. is_timer u w ≡ false) (same_timer t v e) (is_timer_flips t u apart) in
-        rw (e, left) r
-    split false e r = rw e (ap (λ b. is_timer u v || b) r)
+others_stay t u (v ∷ later) apart = let first = others_stay t u later apart in grind arith
 
 -- the timer leaves the list
 pub flags_removed : (cells : List LinkedCell) (t : Timer) (x : LinkedCell) (list : List Timer) → IsNamed t → place_of t < length cells →
