@@ -177,12 +177,7 @@ last_le (x ∷ xs) n each = omega (arith, end_is x, each 0, last_le xs n (λ i. 
 pub last_end-added : (places : List (Option Place)) (i n : ℕ) → i < length places → last_end (slice_set places i (Some (record { at = last_end places; len = n }))) ≡ last_end places + up4 n
 last_end-added places i n below =
     let fresh : Option Place = Some (record { at = last_end places; len = n }) in let added = slice_set places i fresh in
-    let new = place_in-set_same places i fresh below in let new_at = ap at_of new in let new_room = ap room_of new in
-    let up = last_le added (last_end places + up4 n) (λ j. elim (cases_eq j i) [
-      | inl e ↦ let same = ap (place_in added) e ∙ new in let a = ap at_of same in let r = ap room_of same in omega arith
-      | inr ne ↦ let same = place_in-set_other places i j fresh ne in let a = ap at_of same in let r = ap room_of same in omega (arith, end_le_last places j)
-    ]) in
-    omega (arith, up, end_le_last added i)
+    let new = place_in-set_same places i fresh below in let new_at = ap at_of new in grind (arith, last_le, cases_eq, place_in-set_other, end_le_last)
 
 module _ (places : List (Option Place)) (order : List ℕ) (used size : ℕ) (sound : IsLaidOut places order used size) where
   listed_or_dead : (i : ℕ) → (place_in places i ≡ None) ⊎ Contains order i
@@ -339,10 +334,7 @@ module _ (places : List (Option Place)) (order : List ℕ) (used size end : ℕ)
           full = omega (arith, sum_by_push (λ i. room_of (place_in moved i)) lower x, sum_kept places moved lower same, sliding.full);
           to_come = laid_kept places moved (end + up4 place.len) higher size (others_same places x lowered higher apart')
               (laid_from places mid (end + up4 place.len) higher size (omega (arith, sliding.to_come.0)) sliding.to_come.2);
-          listed = λ i here. elim (cases_eq i x) [
-            | inl g ↦ sliding.listed i (λ none. absurd (let l = ap (place_in places) g ∙ live in cc))
-            | inr ne ↦ sliding.listed i (λ none. here (place_in-set_other places x i lowered ne ∙ none))
-          ];
+          listed = grind (arith, cases_eq, place_in-set_other);
           total = omega (arith, sum_by-set room_of places x lowered None below, sliding.total);
           fits = sliding.fits;
         }
