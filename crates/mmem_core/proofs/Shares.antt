@@ -85,9 +85,7 @@ module _ (quotas : Quotas) (places : List (Option Place)) (taken : List ℕ) (us
       let most = sum_within quota all quotas.owners
       (λ i. elim (cases_eq i (p - 3)) [
         | inl here ↦
-            let mine : get_or all i 0 ≡ quota = ap (λ k. get_or all k 0) here ∙ get_or-set_same taken (p - 3) quota 0 entry in
-            let whole : share quota quotas.owners i ≡ quota = ap (share quota quotas.owners) here ∙ share_of_owner quota quotas.owners p low owner in
-            omega (arith, mine, whole)
+            grind (arith, get_or-set_same, share_of_owner)
         | inr other ↦ omega (arith, get_or-set_other taken (p - 3) i quota 0 other, shared.within quota each i)
       ]) in
       omega (arith, most, sum_by-set (λ n. n) taken (p - 3) quota 0 entry, shared.total, shared.fit quota each)
