@@ -1,6 +1,6 @@
 -- Every note of a packet that was sent comes behind the turn that sends it.
 use Rattle.std.proofs.Common.{◌≡◌, ℕ, ◌≤◌, Bool, true, false, not, ◌&&◌, ◌||◌, List, [], ◌∷◌, ◌++◌, refl, ◌∙◌, sym, ap, arith, subst, append_assoc, ◌⊎◌, inl, inr, Some, fold, Option, None, ◌==◌, if◌then◌else◌}
-use Rattle.run_laws.proofs.Common.{nat_tests, fold-append, list_any, list_all, range_with_len, Call, Origin, Stimulus, EXITED, Entry, Note, Input, number_event, Applications, Item, numbers, without, farewells, Scheduler, after_item, Config, Machine, booted, is_bootable, after_call, effect, Running, Runs, with_more_work, at_start, Pid, managed_block, is_turn_entry, up_to_call, ArrayVec, is_kernel_process, shown_first, refused_or, answer_done, Refusal, reply_of, Blocks, no_blocks, managed_after, managed_kind, send_refusal, sent}
+use Rattle.run_laws.proofs.Common.{nat_tests, fold-append, list_any, list_all, range_with_len, Call, Origin, Stimulus, Entry, Note, Input, Applications, Item, farewells, Scheduler, after_item, Config, Machine, booted, is_bootable, after_call, effect, Running, Runs, with_more_work, at_start, Pid, managed_block, is_turn_entry, up_to_call, ArrayVec, Blocks, no_blocks, managed_after, managed_kind}
 use Rattle.run_laws.specs.Sent.{Sender, IsSent, EverySent}
 use Rattle.run_laws.proofs.Outsiders.{turns-low}
 use Rattle.run_laws.proofs.Arrivals.{serve-untouched, effect-keeps}
@@ -10,8 +10,8 @@ use Rattle.run_laws.proofs.event_order.Tally.{is_note, is_turn}
 use Rattle.run_laws.proofs.event_order.Steps.{Cases, law_of, is_quiet_item, turn_entry}
 use Rattle.run_laws.proofs.timer_deadlines.Fronts.{all-append, all-mapped, all-delivered}
 use Rattle.run_laws.proofs.Stores.{own_blocks, managed_store}
-use Rattle.run_laws.proofs.Marks.{marks, due}
-use Rattle.run_laws.proofs.Whole.{Knowledge, told, told_all, answered, Holds, WellTold, told_cases, boot-holds}
+use Rattle.run_laws.proofs.Marks.{due}
+use Rattle.run_laws.proofs.Whole.{Knowledge, told, told_all, Holds, WellTold, told_cases, boot-holds}
 use Rattle.run_laws.proofs.KindLaws.{KindLaw, accepted, at_first, blocks-told}
 use Rattle.run_laws.proofs.Managed.{managed-keeps}
 use Rattle.run_laws.proofs.OwnBlocks.{HasBlocks, own-laws, boot-has}
@@ -74,14 +74,9 @@ module _ (p : ℕ) (few : p ≤ 19) where
   quiet_front : (handle : Option ℕ) (blocks : Blocks) (item : Item) (items : List Item) → is_quiet_item item ≡ true → FrontOf handle blocks (item ∷ items) → handle ≡ None
   quiet_front handle blocks item items n f = grind (arith, nat_tests)
 
-  sent_now : (handle : Option ℕ) (blocks : Blocks) (h : ℕ) (m : Machine) → handle ≡ Some h → own_blocks p m.memory ≡ blocks
-      → (refusal : Option Refusal) → send_refusal p h m.memory.managed ≡ refusal
-      → FrontOf handle blocks (refused_or refusal p m (shown_first (sent p h m) (answer_done p m))).scheduler.agenda
-  sent_now handle blocks h m e rel refusal f = grind (arith, nat_tests, e, f)
-
   after_send : (call : Call) (handle : Option ℕ) (blocks : Blocks) (m : Machine) → handle ≡ handle_in call → own_blocks p m.memory ≡ blocks
       → FrontOf handle blocks (after_call call p m).scheduler.agenda
-  after_send call handle blocks m e rel = grind (arith, nat_tests, sent_now, front_none)
+  after_send call handle blocks m e rel = grind (arith, nat_tests, front_none)
 
   abbrev ToldOf : Machine → List Entry → Type 0
   ToldOf m X = Holds (accepted managed_after) (KindLaw managed_kind) (HasBlocks managed_store p) p at_first m X
@@ -92,25 +87,8 @@ module _ (p : ℕ) (few : p ≤ 19) where
   sent_turn : (b : Bool) (m : Machine) (X : List Entry) (items : List Item) (q : ℕ) (origin : Origin) (stimulus : Stimulus) (call : Call) → (q == p) ≡ b
       → ToldOf (facing (Item.Turn q origin stimulus ∷ items) m) X
       → FrontAfter (X ++ turn_entry q origin stimulus call ∷ []) (after_call call q (with_more_work (facing items m))).scheduler.agenda
-  sent_turn false m X items q origin stimulus call e h =
-      let entry = turn_entry q origin stimulus call in
-      let none : handle_after (X ++ entry ∷ []) ≡ None = fold-append sent_by None X (entry ∷ []) ∙ grind (arith, e) in
-      front_none (handle_after (X ++ entry ∷ [])) (told_after (X ++ entry ∷ [])).now (after_call call q (with_more_work (facing items m))).scheduler.agenda none
-  sent_turn true m X items q origin stimulus call e h =
-      let same : q ≡ p = grind (arith, nat_tests, e) in
-      let on = with_more_work (facing items m) in
-      let entry = turn_entry q origin stimulus call in
-      let t = told_after X in
-      let mortal : is_kernel_process p ≡ false = grind (arith, e, h.now.is_fit) in
-      let turns : due (marks p (Item.Turn q origin stimulus ∷ items)) ≡ reply_of stimulus = grind (arith, e) in
-      let has : HasBlocks managed_store p m.memory m.packets.frames (answered (accepted managed_after) t.last (reply_of stimulus) t.now) = rw turns at h.now.rel in
-      let rel : own_blocks p m.memory ≡ answered (accepted managed_after) t.last (reply_of stimulus) t.now =
-      has.own mortal in
-      let told_now : (told_after (X ++ entry ∷ [])).now ≡ answered (accepted managed_after) t.last (reply_of stimulus) t.now =
-      rw (fold-append (told (accepted managed_after) p) at_first X (entry ∷ [])) (grind (arith, e)) in
-      let handle_now : handle_after (X ++ entry ∷ []) ≡ handle_in call = fold-append sent_by None X (entry ∷ []) ∙ grind (arith, e) in
-      subst (λ (o : ℕ). FrontAfter (X ++ entry ∷ []) (after_call call o on).scheduler.agenda) (sym same)
-      (after_send call (handle_after (X ++ entry ∷ [])) (told_after (X ++ entry ∷ [])).now on handle_now (rel ∙ sym told_now))
+  sent_turn false m X items q origin stimulus call e h = grind (arith, nat_tests, e, fold-append, front_none)
+  sent_turn true m X items q origin stimulus call e h = grind (arith, nat_tests, e, h.now.is_fit, due, fold-append, told, after_send)
 
   record Sending (m : Machine) (X : List Entry) : Type 0 where
     holds : ToldOf m X
@@ -216,12 +194,7 @@ plain-leads sends (Item.Show entry ∷ items) h = grind (arith, h, plain-leads s
 plain-leads sends (item ∷ items) h = h
 
 plain-farewells : (p : ℕ) (s : Scheduler Bool) (rest agenda : List Item) → all_plain (rest ++ agenda) ≡ true → all_plain ((farewells p s ++ rest) ++ agenda) ≡ true
-plain-farewells p s rest agenda h =
-    let told = all-mapped is_plain (λ q. Item.Give q Origin.Synch (Stimulus.Event (number_event EXITED p))) (numbers (without p s.processes)) (λ q. refl) in
-    rw (append_assoc) (all-append is_plain (farewells p s) (rest ++ agenda) told h)
-
-after_item-plain : (item : Item) (s : Scheduler Bool) → all_plain s.agenda ≡ true → all_plain (after_item item s).agenda ≡ true
-after_item-plain item s h = grind (arith, nat_tests, all-mapped, all-append, all-delivered)
+plain-farewells p s rest agenda h = grind (arith, nat_tests, told, all-mapped, append_assoc, all-append)
 
 after_call-leads : (call : Call) (p : ℕ) (m : Machine) → all_plain m.scheduler.agenda ≡ true
     → leads (is_send call) (after_call call p m).scheduler.agenda ≡ true
@@ -247,7 +220,7 @@ Plain m X = all_plain m.scheduler.agenda ≡ true
 
 after_item-leads : (sends : Bool) (item : Item) (items : List Item) (s : Scheduler Bool) → is_quiet_item item ≡ true → leads sends (item ∷ items) ≡ true
     → all_plain (after_item item (with_agenda items s)).agenda ≡ true
-after_item-leads sends item items s n h = grind (arith, nat_tests, n, h, after_item-plain)
+after_item-leads sends item items s n h = grind (arith, nat_tests, n, h, all-mapped, all-append, all-delivered)
 
 -- an entry that is no turn
 led-other : (X : List Entry) (e : Entry) (agenda : List Item) → is_turn e ≡ false → leads (sends_all X) agenda ≡ true → leads (sends_all (X ++ e ∷ [])) agenda ≡ true

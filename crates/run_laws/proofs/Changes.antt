@@ -1,9 +1,9 @@
 -- What a kernel process does with an event is a chain of a few changes: what each of them keeps, all of it keeps.
-use Rattle.std.proofs.Common.{◌≡◌, ℕ, zero, suc, Bool, true, false, ◌&&◌, ◌||◌, List, refl, arith, Option, Some, None, if◌then◌else◌, ◌==◌}
-use Rattle.run_laws.proofs.Common.{nat_tests, Event, POLL, EXITED, plain_event, number_event, Queued, has_room, Timer, first_due, Frame, PacketQueue, Machine, with_event, free_places, mark, serve, times, post_expiry, post_first_due, post_due, is_any_due, exited_application, forget_callback_timers, CONTINUE, SERIAL_LINE, PACKET, unannounced, with_announced, forgotten, with_serial, forget_event_timers, etimer, ctimer}
-use Rattle.device_core.specs.SerialLine.{SerialLine, next_line, after_line}
-use Rattle.kernel_core.specs.PacketProcess.{announce_to, announce_next, announce, has_news, forget_receiver, packet}
-use Rattle.kernel_core.specs.SerialProcess.{line_event, broadcast_line, post_continue, line_served, serve_line, line_count, empty_ring, serial_line_polled, serial_line}
+use Rattle.std.proofs.Common.{◌≡◌, ℕ, zero, suc, Bool, true, false, ◌&&◌, ◌||◌, refl, arith, Option, Some, None, if◌then◌else◌, ◌==◌}
+use Rattle.run_laws.proofs.Common.{nat_tests, Event, POLL, EXITED, Queued, Timer, first_due, PacketQueue, Machine, with_event, free_places, mark, serve, times, post_expiry, post_first_due, post_due, is_any_due, exited_application, forget_callback_timers, CONTINUE, SERIAL_LINE, PACKET, forget_event_timers, etimer, ctimer}
+use Rattle.device_core.specs.SerialLine.{SerialLine}
+use Rattle.kernel_core.specs.PacketProcess.{announce_next, packet}
+use Rattle.kernel_core.specs.SerialProcess.{serve_line, line_count, empty_ring, serial_line_polled, serial_line}
 
 -- what kernel processes post, but for timers that run out
 abbrev pub is_notice : Queued Bool → Bool
@@ -46,11 +46,7 @@ module _ (R : Machine → Machine → Type 0) (q : ℕ) (event : Event) (changes
   again old m test n h = either old test (mark n m) m (changes.chained old m (mark n m) h (changes.marked n m)) h
 
   first_due-changes : (m : Machine) → R m (post_first_due m)
-  first_due-changes m = go (first_due m.clock m.timers) refl
-    where
-      go : (o : Option Timer) → first_due m.clock m.timers ≡ o → R m (post_expiry o m)
-      go None e = changes.same m
-      go (Some timer) e = changes.expired timer m e
+  first_due-changes m = grind (arith, nat_tests)
 
   -- a notice after a change of the devices
   noticed : (notice : Queued Bool) (serial : SerialLine) (is_waiting : Bool) (packets : PacketQueue) (m : Machine) → is_notice notice ≡ true
@@ -60,34 +56,10 @@ module _ (R : Machine → Machine → Type 0) (q : ℕ) (event : Event) (changes
       changes.chained m a (with_event notice a) (changes.devices serial is_waiting packets m e) (changes.posted notice a n)
 
   line-changes : (m : Machine) → R m (serve_line m)
-  line-changes m = either m m.is_serial_waiting m (line_served (next_line m.serial) taken) (changes.same m) (go (next_line m.serial))
-    where
-      taken : Machine
-      taken = with_serial (after_line m.serial) m
-
-      first : R m taken
-      first = changes.devices (after_line m.serial) m.is_serial_waiting m.packets m refl
-
-      continued : (b : Machine) → R b (post_continue b)
-      continued b =
-          either b (has_room b.scheduler) (with_event (Queued.To 2 (plain_event CONTINUE)) (record b { is_serial_waiting = true })) b
-          (noticed (Queued.To 2 (plain_event CONTINUE)) b.serial true b.packets b refl refl) (changes.same b)
-
-      go : (o : Option (List ℕ)) → R m (line_served o taken)
-      go None = first
-      go (Some line) =
-          let b : Machine = broadcast_line line taken in
-          let told : R taken b = either taken (has_room taken.scheduler) (with_event (Queued.ToAll (line_event line)) taken) taken (changes.posted (Queued.ToAll (line_event line)) taken refl) (changes.same taken) in
-          changes.chained m b (post_continue b) (changes.chained m taken b first told) (continued b)
+  line-changes m = grind (arith, nat_tests, either, noticed)
 
   next-changes : (m : Machine) → R m (announce_next m)
-  next-changes m = go m.packets.receiver (unannounced m.packets)
-    where
-      go : (o : Option ℕ) (f : Option Frame) → R m (announce_to o f m)
-      go (Some receiver) (Some frame) =
-          noticed (Queued.To receiver (number_event PACKET frame.len)) m.serial m.is_serial_waiting (with_announced m.packets) m (grind (arith, nat_tests)) refl
-      go None f = changes.same m
-      go (Some receiver) None = changes.same m
+  next-changes m = grind (arith, nat_tests, noticed)
 
   etimer-changes : (m : Machine) → (q == 0) ≡ true → R m (etimer event m)
   etimer-changes m z =
@@ -104,11 +76,7 @@ module _ (R : Machine → Machine → Type 0) (q : ℕ) (event : Event) (changes
       told false e = changes.same m
 
   ctimer-changes : (m : Machine) → R m (ctimer event m)
-  ctimer-changes m = either m (event.code == EXITED) _ m (gone (exited_application event.payload)) (changes.same m)
-    where
-      gone : (o : Option ℕ) → R m (forget_callback_timers o m)
-      gone None = changes.same m
-      gone (Some n) = changes.callbacks_gone n m
+  ctimer-changes m = grind (arith, nat_tests, either)
 
   serial_line-changes : (m : Machine) → R m (serial_line event m)
   serial_line-changes m =
@@ -120,25 +88,10 @@ module _ (R : Machine → Machine → Type 0) (q : ℕ) (event : Event) (changes
       emptied x = repeated serve_line line-changes (suc (line_count x.serial)) x
 
   packet-changes : (m : Machine) → R m (packet event m)
-  packet-changes m =
-      let after : Machine = times (free_places m) announce_next m in
-      either m (event.code == POLL) (announce m) _
-      (again m after (has_news after.packets) 3 (repeated announce_next next-changes (free_places m) m))
-      (either m (event.code == EXITED) _ m (gone (exited_application event.payload)) (changes.same m))
-    where
-      gone : (o : Option ℕ) → R m (forget_receiver o m)
-      gone None = changes.same m
-      gone (Some n) = changes.devices m.serial m.is_serial_waiting (forgotten n m.packets) m (grind arith)
+  packet-changes m = grind (arith, nat_tests, either, again, repeated, next-changes)
 
   serve-changes : (m : Machine) → R m (serve q event m)
-  serve-changes m = go (q == 0) refl
-    where
-      go : (b : Bool) → (q == 0) ≡ b → R m (if b then etimer event m else if q == 1 then ctimer event m
-          else if q == 2 then serial_line event m else if q == 3 then packet event m else m)
-      go true e = etimer-changes m e
-      go false e =
-          either m (q == 1) (ctimer event m) _ (ctimer-changes m)
-          (either m (q == 2) (serial_line event m) _ (serial_line-changes m) (either m (q == 3) (packet event m) m (packet-changes m) (changes.same m)))
+  serve-changes m = grind (arith, nat_tests, etimer-changes, either, ctimer-changes, serial_line-changes, packet-changes)
 
 pub of_changes : {R : Machine → Machine → Type 0} {q : ℕ} {event : Event} → Changes R q event → (m : Machine) → R m (serve q event m)
 of_changes {R = R} {q = q} {event = event} changes m = serve-changes R q event changes m

@@ -1,5 +1,5 @@
 -- The heap blocks of a process, as its calls leave them.
-use Rattle.std.proofs.Common.{◌≡◌, ℕ, Bool, true, false, List, length, refl, ◌∙◌, ap, arith, Option, Some, None, ◌==◌, if◌then◌else◌}
+use Rattle.std.proofs.Common.{◌≡◌, ℕ, Bool, true, false, List, length, refl, ap, arith, Option, Some, None, ◌==◌, if◌then◌else◌}
 use Rattle.run_laws.proofs.Common.{nat_tests, Call, Refusal, number_of, zeros, overwritten, HeapStore, allocated, reallocated, Memory, with_heap, is_heap_block, alloc_refusal, realloc_refusal, Part, part_called, ask, ask_part, ask_managed, ask_heap, ask_pool_of, done_or_no_room, is_kernel_process, Blocks, heap_after, option_map, resized, freed, with_bytes, free_refusal, write_refusal, unless_refused, heap_kind}
 use Rattle.heap_core.specs.HeapStore.{block_of}
 use Rattle.node_memory.proofs.HeapBlocks.{Becomes, Results, alloc-results, realloc-results, free-results, write-results}
@@ -37,14 +37,7 @@ module _ (call : Call) (q k : ℕ) (bytes : Option (List ℕ)) (m : Memory) wher
   is_change : (o : Option Refusal) (result : Option HeapStore) → (o ≡ None → is_heap_block k ≡ true) → (o ≡ None → Results q k bytes m.heap result)
       → (o ≡ None → (h : ℕ) → (if h == k then bytes else own_heap q m h) ≡ heap_after call (own_heap q m) h)
       → IsChange heap_store call q m (unless_refused o m (done_or_no_room result m))
-  is_change None (Some new) low results made =
-      let becomes = (results refl).each new refl in
-      record {
-        own = λ few a size. same_blocks _ _ (λ h. becomes_own new becomes (low refl) h ∙ made refl h);
-        others = λ p n a. same_blocks _ _ (becomes_other new becomes (low refl) p n a);
-      }
-  is_change None None low results made = record { own = λ few a size. refl; others = λ p n a. refl }
-  is_change (Some refusal) result low results made = record { own = λ few a size. refl; others = λ p n a. refl }
+  is_change o result low results made = grind (arith, nat_tests, same_blocks, becomes_own, becomes_other)
 
 pub heap-change : (call : Call) (q : ℕ) (m : Memory) → changes_heap call ≡ true → IsChange heap_store call q m (ask call q m)
 heap-change (Call.HeapAlloc k n) q m c =

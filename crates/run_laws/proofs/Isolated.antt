@@ -24,7 +24,7 @@ module _ (quota p : ℕ) (m s : Memory) (limit : m.managed.quota ≡ Some quota)
   same_taken = grind (arith, nat_tests, same_blocks)
 
   same_free : free p m.managed ≡ free p s.managed
-  same_free = grind (arith, nat_tests, same_taken)
+  same_free = grind (arith, nat_tests)
 
   pub same-reply : (call : Call) → is_managed_call call ≡ true → as_over_quota (ask call p s).1 ≡ (ask call p m).1
   same-reply (Call.MmemAlloc h n) e = grind (arith, nat_tests, same_block h, same_free, limit, alone.unlimited)
@@ -87,9 +87,6 @@ call-quota : (call : Call) (q : ℕ) (m : Machine) → (after_call call q m).mem
 call-quota call q m =
     each-call (λ x frames. x.managed.quota ≡ m.memory.managed.quota) q m refl (λ slot e. refl) call (ask-shape call q m.memory).quota
 
-no-change : (call : Call) → is_managed_call call ≡ false → changes_managed call ≡ false
-no-change call e = grind (arith, e)
-
 done-alike : (reply : Reply) → is_done (Some (as_over_quota reply)) ≡ is_done (Some reply)
 done-alike reply = grind arith
 
@@ -123,7 +120,7 @@ module _ (quota p : ℕ) where
         → due (marks p (after_call call p m).scheduler.agenda) ≡ Some reply
         → AsAlone s call reply × IsLikeOwn (after_call call p m).memory (after_call call p m).packets.frames (cond test (ask call p s).0 s)
     own-call call m s reply false f k rel has e =
-        let plain : accepted managed_after call reply (own_blocks p s) ≡ own_blocks p s = grind (arith, no-change call f) in
+        let plain : accepted managed_after call reply (own_blocks p s) ≡ own_blocks p s = grind arith in
         let like = still-like m.memory m.packets.frames s (after_call call p m).memory (after_call call p m).packets.frames rel (rw plain at has) (call-quota call p m) in
         (λ g. absurd (grind (arith, f, g)), like)
     own-call call m s reply true f k rel has e =

@@ -15,12 +15,7 @@ pub record KindLaw (kind : Kind) (blocks : Blocks) (call : Call) (reply : Reply)
 -- a call that names no block
 pub nothing : (kind : Kind) (blocks : Blocks) (call : Call) (reply : Reply) → kind.needs call ≡ [] → kind.makes call ≡ [] → kind.reads call ≡ None
     → KindLaw kind blocks call reply
-nothing kind blocks call reply needs makes reads =
-    record {
-      reads = λ bytes name at len e f. absurd (grind (arith, reads, f));
-      live = λ names. absurd (grind (arith, needs, names));
-      unused = λ names. absurd (grind (arith, makes, names));
-    }
+nothing kind blocks call reply needs makes reads = grind (arith, nat_tests, reads, needs, makes)
 
 abbrev pub accepted : (Call → Blocks → Blocks) → Call → Reply → Blocks → Blocks
 accepted change call reply blocks = if is_done (Some reply) then change call blocks else blocks

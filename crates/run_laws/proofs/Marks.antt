@@ -152,16 +152,8 @@ pub after_call-others : (call : Call) (o p : ℕ) (m : Machine) → (p == o) ≡
     → Kept o m.scheduler.agenda m.scheduler.processes (after_call call p m).scheduler
 after_call-others Call.Wait o p m n h =
     record { is_fit = grind (arith, nat_tests, state_of-with_other o p State.Running m.scheduler.processes); same_due = grind (arith, nat_tests) }
-after_call-others Call.Exit o p m n h =
-    record {
-      is_fit = grind (arith, nat_tests, state_of-with_other o p State.Leaving m.scheduler.processes, marks-farewells o p m.scheduler (Item.Remove p ∷ []) m.scheduler.agenda);
-      same_due = grind (arith, nat_tests, marks-farewells o p m.scheduler (Item.Remove p ∷ []) m.scheduler.agenda);
-    }
-after_call-others (Call.Kill q) o p m n h =
-    record {
-      is_fit = grind (arith, nat_tests, fit-idle, state_of-with_same o q State.Leaving m.scheduler.processes, state_of-with_other o q State.Leaving m.scheduler.processes, marks-farewells o q m.scheduler);
-      same_due = grind (arith, nat_tests, fit-idle, due-only, marks-farewells o q m.scheduler);
-    }
+after_call-others Call.Exit o p m n h = grind (arith, nat_tests, state_of-with_other o p State.Leaving m.scheduler.processes, marks-farewells o p m.scheduler (Item.Remove p ∷ []) m.scheduler.agenda, state_of-with_other, marks-farewells)
+after_call-others (Call.Kill q) o p m n h = grind (arith, nat_tests, fit-idle, state_of-with_same o q State.Leaving m.scheduler.processes, state_of-with_other o q State.Leaving m.scheduler.processes, marks-farewells o q m.scheduler, due-only, state_of-with_same, state_of-with_other, marks-farewells)
 after_call-others (Call.PostSynch q code payload) o p m n h = record { is_fit = grind (arith, nat_tests); same_due = grind (arith, nat_tests) }
 after_call-others (Call.Start q) o p m n h = record { is_fit = grind (arith, nat_tests); same_due = grind (arith, nat_tests) }
 after_call-others call o p m n h = record { is_fit = grind (arith, nat_tests, state_of-with_mark); same_due = grind (arith, nat_tests) }

@@ -33,10 +33,6 @@ module _ (p : ℕ) (high : nat_le 4 p ≡ true) where
 
   -- an item
 
-  after_item-state : (item : Item) (items : List Item) (s : Scheduler Bool) → keeps_out item ≡ true → state_of p s.processes ≡ State.Absent
-      → state_of p (after_item item (with_agenda items s)).processes ≡ State.Absent
-  after_item-state item items s k h = grind (arith, nat_tests, state_of-with_other, state_of-without, state_of-without_other, state_of-with_mark)
-
   after_item-agenda : (item : Item) (items : List Item) (s : Scheduler Bool) → keeps_out item ≡ true → state_of p s.processes ≡ State.Absent
       → list_all keeps_out items ≡ true → list_all keeps_out (after_item item (with_agenda items s)).agenda ≡ true
   after_item-agenda item items s k h i = grind (arith, nat_tests, all-mapped, all-append, all-delivered)
@@ -49,7 +45,7 @@ module _ (p : ℕ) (high : nat_le 4 p ≡ true) where
   without_item item items s h = record { stranger = h.stranger; absent = h.absent; agenda = grind (arith, h.agenda) }
 
   after_item-out : (item : Item) (items : List Item) (s : Scheduler Bool) → IsOut (with_agenda (item ∷ items) s) → IsOut (after_item item (with_agenda items s))
-  after_item-out item items s h = grind (arith, nat_tests, h.agenda, after_item-applications, after_item-state, after_item-agenda, without_item)
+  after_item-out item items s h = grind (arith, nat_tests, h.agenda, after_item-applications, after_item-agenda, without_item, state_of-with_other, state_of-without, state_of-without_other, state_of-with_mark)
 
   -- a call
 
@@ -59,12 +55,8 @@ module _ (p : ℕ) (high : nat_le 4 p ≡ true) where
   not_named : (s : Scheduler Bool) (r : ℕ) → is_application s.applications p ≡ false → is_application s.applications r ≡ true → not (r == p) ≡ true
   not_named s r out named = grind (arith, nat_tests)
 
-  call-state : (call : Call) (q : ℕ) (m : Machine) → (q == p) ≡ false → is_application m.scheduler.applications p ≡ false
-      → state_of p m.scheduler.processes ≡ State.Absent → state_of p (after_call call q m).scheduler.processes ≡ State.Absent
-  call-state call q m other out h = grind (arith, nat_tests, state_of-with_other, state_of-with_mark)
-
   call-out : (call : Call) (q : ℕ) (m : Machine) → (q == p) ≡ false → IsOut m.scheduler → IsOut (after_call call q m).scheduler
-  call-out call q m other h = grind (arith, nat_tests, call-applications, call-state, after-all, not_named)
+  call-out call q m other h = grind (arith, nat_tests, call-applications, after-all, not_named, state_of-with_other, state_of-with_mark)
 
   -- a step
 
@@ -112,9 +104,7 @@ module _ (p : ℕ) (high : nat_le 4 p ≡ true) where
 
   starts-out : (n from : ℕ) → from + n ≤ p → list_all keeps_out (map (λ q. Item.Start q) (range_with_len from n)) ≡ true
   starts-out zero from h = refl
-  starts-out (suc n) from h =
-      let other : (from == p) ≡ false = grind (arith, nat_tests, h) in
-      rw other (starts-out n (from + 1) (omega (arith, h)))
+  starts-out (suc n) from h = grind (arith, nat_tests, h, starts-out n (from + 1) (omega (arith, h)))
 
   boot-out : (c : Config) → is_application c.apps p ≡ false → IsOut (at_start c).machine.scheduler
   boot-out c out = grind (arith, nat_tests, out, starts-out)

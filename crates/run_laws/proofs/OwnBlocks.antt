@@ -1,6 +1,6 @@
 -- The blocks of a process are what its own calls make of them: through each call, and so in every run.
-use Rattle.std.proofs.Common.{◌≡◌, ℕ, ◌≤◌, Bool, true, false, ◌&&◌, List, [], ◌∷◌, ◌++◌, length, refl, ◌∙◌, sym, arith, subst, subst₂, append-nil, Option, Some, None, ◌==◌, nat_le, drop, slice_get}
-use Rattle.run_laws.proofs.Common.{list_all, nat_tests, Call, Reply, Origin, Stimulus, Input, Entry, Applications, number_of, Frame, front_slot, with_block, Memory, with_managed, ask, Item, is_kernel_process, Config, Machine, booted, after_call, Running, Runs, at_start, Blocks, no_blocks, own, up_to_call, option_map, length-set, frame_dropped, is_memory_call, asked_of_memory, over_accepted, AreOwn}
+use Rattle.std.proofs.Common.{◌≡◌, ℕ, ◌≤◌, Bool, true, false, ◌&&◌, List, [], ◌∷◌, ◌++◌, length, refl, ◌∙◌, sym, arith, subst, append-nil, Option, Some, None, ◌==◌, nat_le, drop, slice_get}
+use Rattle.run_laws.proofs.Common.{list_all, nat_tests, Call, Reply, Input, Entry, Applications, number_of, Frame, front_slot, with_block, Memory, with_managed, ask, is_kernel_process, Config, Machine, booted, after_call, Running, Runs, at_start, Blocks, no_blocks, own, up_to_call, option_map, length-set, frame_dropped, is_memory_call, asked_of_memory, over_accepted, AreOwn}
 use Rattle.run_laws.proofs.Marks.{marks, due}
 use Rattle.run_laws.proofs.KindLaws.{KindLaw, Store, IsChange, EveryCall, accepted, at_first, blocks-told, every-own}
 use Rattle.run_laws.proofs.Stores.{ask-shape}
@@ -8,39 +8,21 @@ use Rattle.run_laws.proofs.Whole.{Laws, answered, run-told, call-law}
 
 -- what memory answers is told next
 
-told_next : (p : ℕ) (reply : Reply) (items : List Item) → due (marks p (Item.Turn p Origin.Answer (Stimulus.Answer reply) ∷ items)) ≡ Some reply
-told_next p reply items = grind (arith, nat_tests)
-
 asks : (call : Call) (p : ℕ) (m : Machine) → is_memory_call call ≡ true → after_call call p m ≡ asked_of_memory call p m
 asks call p m e = grind (arith, nat_tests)
 
 pub told-reply : (call : Call) (p : ℕ) (m : Machine) → is_memory_call call ≡ true → due (marks p (after_call call p m).scheduler.agenda) ≡ Some (ask call p m.memory).1
-told-reply call p m e = grind (arith, nat_tests, due, asks, told_next)
+told-reply call p m e = grind (arith, nat_tests, due, asks)
 
 pub one_reply : (o : Option Reply) (a b : Reply) → o ≡ Some a → o ≡ Some b → a ≡ b
 one_reply o a b e f = cc
 
 -- what a call leaves of memory and frames
 
-abbrev is_packet_done : Call → Bool
-is_packet_done Call.PacketDone = true
-is_packet_done _ = false
-
-memory-stays : (call : Call) (q : ℕ) (m : Machine) → is_memory_call call ≡ false → is_packet_done call ≡ false → (after_call call q m).memory ≡ m.memory
-memory-stays call q m e n = grind (arith, nat_tests)
-
-frames-stay : (call : Call) (q : ℕ) (m : Machine) → is_packet_done call ≡ false → (after_call call q m).packets.frames ≡ m.packets.frames
-frames-stay call q m n = grind (arith, nat_tests)
-
 -- what holds as it is, of what memory answers, and where the front frame is dropped, holds after each call
 module _ (P : Memory → List Frame → Type 0) (q : ℕ) (m : Machine) (same : P m.memory m.packets.frames) (dropped : (slot : ℕ) → front_slot m.packets ≡ Some slot → P (frame_dropped slot m.memory) (drop 1 m.packets.frames)) where
-  by_part : (call : Call) (b : Bool) → is_packet_done call ≡ false → is_memory_call call ≡ b → P (ask call q m.memory).0 m.packets.frames
-      → P (after_call call q m).memory (after_call call q m).packets.frames
-  by_part call true n e asked = subst (λ (x : Machine). P x.memory x.packets.frames) (sym (asks call q m e)) asked
-  by_part call false n e asked = subst₂ P (sym (memory-stays call q m e n)) (sym (frames-stay call q m n)) same
-
   pub each-call : (call : Call) → P (ask call q m.memory).0 m.packets.frames → P (after_call call q m).memory (after_call call q m).packets.frames
-  each-call call asked = grind (arith, nat_tests, by_part)
+  each-call call asked = grind (arith, nat_tests)
 
 -- 272 names have places, and frames lie under names of process 3
 

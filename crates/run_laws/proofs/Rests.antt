@@ -1,6 +1,6 @@
 -- Every run comes to rest after each input, or is halted: each step takes something off a measure.
 use Rattle.std.proofs.Common.{◌≡◌, ℕ, zero, suc, ◌+◌, ◌-◌, ◌*◌, ◌≤◌, Bool, true, false, not, ◌&&◌, List, [], ◌∷◌, length, refl, arith, Option, Some, None, if◌then◌else◌, ◌==◌, map}
-use Rattle.run_laws.proofs.Common.{length-map, nat_tests, Call, Stimulus, Origin, Input, Applications, Item, Job, is_empty, Scheduler, after_front, job, job_at, job_of_item, wants_round, in_front, Config, Machine, scheduled, after_call, fed, Answers, StepMade, Running, Runs, ComesToRest, one_step, job_done, within_limit, is_still, after_step, answers_after, with_input, at_start, silent, with_more_work, turn_taken, farewells, of_event, number_event, EXITED, numbers, without, is_process}
+use Rattle.run_laws.proofs.Common.{length-map, nat_tests, Call, Stimulus, Origin, Input, Applications, Item, Job, is_empty, Scheduler, after_front, job, job_at, wants_round, in_front, Config, Machine, scheduled, after_call, fed, Answers, StepMade, Running, Runs, ComesToRest, one_step, job_done, within_limit, is_still, after_step, answers_after, with_input, at_start, silent, with_more_work, turn_taken, farewells, of_event, number_event, EXITED, numbers, without, is_process}
 use Rattle.std.proofs.Math.Nat.{suc-mul}
 use Rattle.kernel_core.specs.Code.Cost.{starts, present, costs, round_cost, IsPaid}
 use Rattle.kernel_core.proofs.Costs.{starts-append, length-without, after_front-present, costs-cons, costs-nil, costs-append, paid}
@@ -34,9 +34,7 @@ module _ (bound : ℕ) where
 
 -- a call starts one process at most
 call-starts : (call : Call) (p : ℕ) (m : Machine) → present (after_call call p m).scheduler ≤ present m.scheduler + 1
-call-starts Call.Exit p m = grind (arith, length-map, starts-append, starts-farewells p m.scheduler)
-call-starts (Call.Kill q) p m = grind (arith, length-map, starts-append, starts-farewells q m.scheduler)
-call-starts call p m = grind (arith, length-map)
+call-starts call p m = grind (arith, nat_tests, length-map, starts-append, starts-farewells p m.scheduler, starts-farewells)
 
 module _ (bound : ℕ) where
   -- a call puts little on the agenda
@@ -51,12 +49,9 @@ abbrev is_rest : Option (Job Bool) → Bool
 is_rest (Some Job.Rest) = true
 is_rest _ = false
 
-job_of_item-works : (item : Item) (s : Scheduler Bool) → is_rest (job_of_item item s) ≡ false
-job_of_item-works item s = grind (arith, nat_tests)
-
 -- the job is Rest only where nothing is left to be done
 job_at-works : (agenda : List Item) (s : Scheduler Bool) → (is_empty agenda && not (wants_round s)) ≡ false → is_rest (job_at agenda s) ≡ false
-job_at-works agenda s h = grind (arith, nat_tests, job_of_item-works)
+job_at-works agenda s h = grind (arith, nat_tests)
 
 -- how many processes there can be on the list before the next input
 abbrev reserve : Machine → ℕ
@@ -74,10 +69,7 @@ record Falls (bound left : ℕ) (old new : Machine) : Type 0 where
 
 -- what is left where one unit of work more was done
 one_less : (work unit : ℕ) → work ≤ 10000 → (work == 10000) ≡ false → (10000 - work) * unit ≡ (10000 - (work + 1)) * unit + unit
-one_less work unit h n =
-    let low : work + 1 ≤ 10000 = grind (arith, nat_tests) in
-    let e : 10000 - work ≡ suc (10000 - (work + 1)) = omega arith in
-    rw (e, suc-mul (10000 - (work + 1)) unit)
+one_less work unit h n = grind (arith, nat_tests, suc-mul (10000 - (work + 1)) unit)
 
 module _ (bound : ℕ) where
   limit-falls : (left : ℕ) (m : Machine) (step : StepMade) → m.work ≤ 10000 → ((m.work == 10000) ≡ false → Falls bound left m step.0)

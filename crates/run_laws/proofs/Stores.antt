@@ -1,5 +1,5 @@
 -- Managed memory: what each call keeps of it.
-use Rattle.std.proofs.Common.{◌≡◌, ℕ, ◌+◌, ◌≤◌, ◌<◌, Bool, true, false, List, [], length, refl, ◌∙◌, ap, arith, get_or, slice_set, Option, Some, None, ◌==◌, if◌then◌else◌, ◌≢◌, is_some, sum_by, unwrap_or}
+use Rattle.std.proofs.Common.{◌≡◌, ℕ, ◌+◌, ◌≤◌, Bool, true, false, List, [], length, refl, ◌∙◌, ap, arith, Option, Some, None, ◌==◌, if◌then◌else◌, ◌≢◌, is_some, sum_by, unwrap_or}
 use Rattle.run_laws.proofs.Common.{nat_tests, Call, Refusal, number_of, zeros, overwritten, block_of, bytes_of, size_of, taken_by, with_block, Memory, with_managed, is_handle, Part, part_called, Asked, ask, ask_part, ask_managed, ask_heap, ask_pool_of, is_kernel_process, Blocks, managed_after, managed_kind, option_map, get_or-set_same, get_or-set_other, length-set, copy_refusal, unless_refused, done, copied}
 use Rattle.node_memory.specs.ManagedCalls.{alloc_refusal, free_refusal, write_refusal}
 use Rattle.run_laws.proofs.KindLaws.{Store, IsChange, same_blocks}
@@ -15,32 +15,12 @@ name_apart q k p h n a low high e = grind (arith, nat_tests)
 
 pub put_other : (q k p h : ℕ) (block : Option (List ℕ)) (m : Memory) → (q == p) ≡ false → is_kernel_process p ≡ false → is_handle k ≡ true
     → own_blocks p (with_managed (with_block q k block m.managed) m) h ≡ own_blocks p m h
-put_other q k p h block m n a low = go (is_handle h) refl
-  where
-    go : (b : Bool) → is_handle h ≡ b
-        → (if b then get_or (slice_set m.managed.blocks (number_of q k) block) (number_of p h) None else None) ≡ (if b then get_or m.managed.blocks (number_of p h) None else None)
-    go true e = get_or-set_other m.managed.blocks (number_of q k) (number_of p h) block None (name_apart q k p h n a low e)
-    go false e = refl
+put_other q k p h block m n a low = grind (arith, nat_tests, get_or-set_other, name_apart)
 
 -- 272 names have places
 pub put_own : (p k h : ℕ) (block : Option (List ℕ)) (m : Memory) → p ≤ 19 → is_kernel_process p ≡ false → length m.managed.blocks ≡ 272 → is_handle k ≡ true
     → own_blocks p (with_managed (with_block p k block m.managed) m) h ≡ (if h == k then block else own_blocks p m h)
-put_own p k h block m few a size low = go (is_handle h) (h == k) refl refl
-  where
-    go : (b same : Bool) → is_handle h ≡ b → (h == k) ≡ same
-        → (if b then get_or (slice_set m.managed.blocks (number_of p k) block) (number_of p h) None else None)
-        ≡ (if same then block else (if b then get_or m.managed.blocks (number_of p h) None else None))
-    go true true e s =
-        let eq : h ≡ k = grind (arith, nat_tests, s) in
-        let kb : k ≤ 15 = grind (arith, nat_tests, low) in
-        let inside : number_of p k < length m.managed.blocks = rw size (omega arith) in
-        rw eq (get_or-set_same m.managed.blocks (number_of p k) block None inside)
-    go true false e s =
-        let ne : h ≢ k = grind (arith, nat_tests, s) in
-        let apart : number_of p h ≢ number_of p k = λ f. ne (omega arith) in
-        get_or-set_other m.managed.blocks (number_of p k) (number_of p h) block None apart
-    go false true e s = absurd (grind (arith, nat_tests, low, e, s))
-    go false false e s = refl
+put_own p k h block m few a size low = grind (arith, nat_tests, low, get_or-set_same, get_or-set_other)
 
 put_total : (p k : ℕ) (block : Option (List ℕ)) (m : Memory) → p ≤ 19 → is_kernel_process p ≡ false → length m.managed.blocks ≡ 272 → is_handle k ≡ true
     → sum_by size_of (with_block p k block m.managed).blocks + taken_by p m.managed ≡ sum_by size_of m.managed.blocks + taken_by p (with_block p k block m.managed)
@@ -94,16 +74,7 @@ module _ (call : Call) (q k : ℕ) (block : Option (List ℕ)) (m : Memory) wher
   is_change : (o : Option Refusal) → (o ≡ None → is_handle k ≡ true)
       → (o ≡ None → (h : ℕ) → (if h == k then block else own_blocks q m h) ≡ managed_after call (own_blocks q m) h)
       → IsManagedChange call q m (unless_refused o m (done (with_managed (with_block q k block m.managed) m)))
-  is_change None low made =
-      record {
-        shape = record { size = length-set m.managed.blocks (number_of q k) block; capacity = refl; quota = refl };
-        total = λ few a size. put_total q k block m few a size (low refl);
-        blocks = record {
-          own = λ few a size. same_blocks _ _ (λ h. put_own q k h block m few a size (low refl) ∙ made refl h);
-          others = λ p n a. same_blocks _ _ (λ h. put_other q k p h block m n a (low refl));
-        };
-      }
-  is_change (Some refusal) low made = grind (arith, nat_tests)
+  is_change o low made = grind (arith, nat_tests, length-set, put_total, same_blocks, put_own, put_other)
 
 -- the bytes of a live block
 live_block : (b : Bool) (o : Option (List ℕ)) (f : List ℕ → List ℕ) → b ≡ true → is_some o ≡ true → Some (f (unwrap_or o [])) ≡ option_map f (if b then o else None)

@@ -1,5 +1,5 @@
 -- What a process's managed blocks take, and what all managed blocks take.
-use Rattle.std.proofs.Common.{◌≡◌, ℕ, zero, suc, ◌+◌, ◌≤◌, ◌<◌, Bool, true, false, List, length, refl, ◌∙◌, ap, arith, Option, None, ◌==◌, ◌≢◌, sum_by}
+use Rattle.std.proofs.Common.{◌≡◌, ℕ, zero, suc, ◌+◌, ◌≤◌, ◌<◌, Bool, true, false, List, length, refl, ap, arith, Option, ◌==◌, ◌≢◌, sum_by}
 use Rattle.run_laws.proofs.Common.{range_with_len, nat_tests, number_of, ManagedStore, block_of, size_of, taken_by, with_block, get_or-set_same, get_or-set_other, sum_by-cons, sum_by-set}
 
 -- sums over numbers in a row
@@ -46,14 +46,7 @@ module _ (p k : ℕ) (block : Option (List ℕ)) (store : ManagedStore) (low : k
   after = with_block p k block store
 
   taken-put : taken_by p after + size_of (block_of p k store) ≡ taken_by p store + size_of block
-  taken-put =
-      let same : size_of (block_of p k after) ≡ size_of block = ap size_of (get_or-set_same store.blocks (number_of p k) block None inside) in
-      let others : (h : ℕ) → h ≢ k → size_of (block_of p h after) ≡ size_of (block_of p h store) =
-      λ h ne. ap size_of (get_or-set_other store.blocks (number_of p k) (number_of p h) block None (λ eq. ne (omega (arith, eq)))) in
-      let sums = other-term (λ h. size_of (block_of p h store)) (λ h. size_of (block_of p h after)) k 16 0 (omega arith) (omega (arith, low)) others in
-      sums ∙ ap (λ n. taken_by p store + n) same
+  taken-put = grind (arith, nat_tests, get_or-set_same, get_or-set_other, other-term)
 
   pub total-put : sum_by size_of after.blocks + taken_by p store ≡ sum_by size_of store.blocks + taken_by p after
-  total-put =
-      let own = taken-put in
-      omega (arith, (sum_by-set size_of store.blocks (number_of p k) block None inside), own)
+  total-put = grind (arith, nat_tests, taken-put, sum_by-set)

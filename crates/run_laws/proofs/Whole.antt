@@ -1,5 +1,5 @@
 -- What the entries told a process, and how a step adds to it.
-use Rattle.std.proofs.Common.{◌≡◌, ℕ, Bool, true, false, List, [], ◌∷◌, ◌++◌, ◌≤◌, refl, sym, arith, subst, Option, Some, None, ◌==◌, if◌then◌else◌, fold, zero, suc, ◌+◌, not, ◌∙◌, append_assoc, map, find, nat_le}
+use Rattle.std.proofs.Common.{◌≡◌, ℕ, Bool, true, false, List, [], ◌∷◌, ◌++◌, ◌≤◌, refl, arith, subst, Option, Some, None, ◌==◌, if◌then◌else◌, fold, zero, suc, ◌+◌, not, ◌∙◌, append_assoc, map, find, nat_le}
 use Rattle.run_laws.proofs.Common.{nat_tests, Call, Reply, Event, Origin, Stimulus, Entry, Frame, frame_taken, Memory, Item, is_kernel_process, in_front, Machine, scheduled, after_call, serve, with_more_work, reply_of, list_all, range_with_len, fold-append, Input, Note, Applications, PacketQueue, free_slot, state_of, Config, Scheduler, effect, booted, Running, Runs, at_start, reply_in, HasCall, up_to_call, is_held}
 use Rattle.run_laws.proofs.Marks.{marks, fit, due, idle, only_removes, is_turn_item, after_item-kept, after_call-fit, after_call-others, state_of-with_mark}
 use Rattle.run_laws.proofs.Arrivals.{serve-untouched, effect-keeps}
@@ -67,9 +67,6 @@ module _ {S : Type 0} (next : Call → Reply → S → S) (Law : S → Call → 
       let kept = after_item-kept p item (with_agenda items m.scheduler) n h.is_fit in
       same-now t (facing (item ∷ items) m) (carried item items m) h kept.is_fit kept.same_due refl refl
 
-  pub served-now : (q : ℕ) (event : Event) (t : Knowledge S) (m : Machine) → Now t m → Now t (serve q event m)
-  served-now q event t m h = grind (arith, nat_tests, h.is_fit, serve-untouched, same-now)
-
   pub called_back-now : (q c : ℕ) (t : Knowledge S) (m : Machine) → Now t m → Now t (scheduled (in_front (Item.Give q Origin.Callback (Stimulus.Callback c) ∷ [])) m)
   called_back-now q c t m h = grind (arith, nat_tests, h.is_fit, same-now)
 
@@ -126,10 +123,7 @@ module _ {S : Type 0} (next : Call → Reply → S → S) (Law : S → Call → 
     pub turn-step : (b : Bool) (call : Call) (q : ℕ) (origin : Origin) (stimulus : Stimulus) (items : List Item) (t : Knowledge S) (m : Machine) → (q == p) ≡ b
         → Now t (facing (Item.Turn q origin stimulus ∷ items) m)
         → Turned t (turn_entry q origin stimulus call) (after_call call q (with_more_work (facing items m)))
-    turn-step true call q origin stimulus items t m e h =
-        let same : q ≡ p = grind (arith, nat_tests, e) in
-        subst (λ (o : ℕ). Now t (facing (Item.Turn o origin stimulus ∷ items) m) → Turned t (turn_entry o origin stimulus call) (after_call call o (with_more_work (facing items m))))
-        (sym same) (turn-self call origin stimulus items t m) h
+    turn-step true call q origin stimulus items t m e h = grind (arith, nat_tests, e, turn-self call origin stimulus items t m)
     turn-step false call q origin stimulus items t m e h = turn-other call q origin stimulus items t m e h
 
 -- Over a whole run.
@@ -180,7 +174,7 @@ module _ {S : Type 0} (next : Call → Reply → S → S) (Law : S → Call → 
       record { regular = carried-regular item items m.scheduler h.regular; now = carried-now next Law Rel p item items (told_all next p start X) m n h.now }
 
   served-holds : (start : Knowledge S) (q : ℕ) (event : Event) (m : Machine) (X : List Entry) → Holds start m X → Holds start (serve q event m) X
-  served-holds start q event m X h = grind (arith, nat_tests, serve-untouched, served-now)
+  served-holds start q event m X h = grind (arith, nat_tests, serve-untouched)
 
   turned : Laws next Law Rel p → (start : Knowledge S) (m : Machine) (X : List Entry) (items : List Item) (q : ℕ) (origin : Origin) (stimulus : Stimulus) (call : Call)
       → Holds start (facing (Item.Turn q origin stimulus ∷ items) m) X
@@ -203,10 +197,6 @@ module _ {S : Type 0} (next : Call → Reply → S → S) (Law : S → Call → 
       → Holds start (facing items m) (X ++ Entry.Note note ∷ [])
   shown-holds start m X items note h = grind (arith, nat_tests, carried-holds, told-other)
 
-  -- what an input brings
-  effect-rel : Laws next Law Rel p → (input : Input) (m : Machine) (s : S) → Rel m.memory m.packets.frames s → Rel (effect input m).memory (effect input m).packets.frames s
-  effect-rel laws input m s h = grind (arith, nat_tests, slot_low)
-
   record Alike (old new : Scheduler Bool) : Type 0 where
     marks_are : marks p new.agenda ≡ marks p old.agenda
     state : state_of p new.processes ≡ state_of p old.processes
@@ -216,7 +206,7 @@ module _ {S : Type 0} (next : Call → Reply → S → S) (Law : S → Call → 
 
   input-holds : Laws next Law Rel p → (start : Knowledge S) (input : Input) (m : Machine) (X : List Entry) → Holds start m X
       → Holds start (effect input (record m { work = 0 })) (X ++ Entry.Input input ∷ [])
-  input-holds laws start input m X h = grind (arith, nat_tests, effect-alike, effect-keeps, told-other, effect-rel)
+  input-holds laws start input m X h = grind (arith, nat_tests, effect-alike, effect-keeps, told-other, slot_low)
 
   pub told_cases : Laws next Law Rel p → (start : Knowledge S) → Cases (Holds start) (Holds start) (WellTold start)
   told_cases laws start =
@@ -241,14 +231,8 @@ module _ {S : Type 0} (next : Call → Reply → S → S) (Law : S → Call → 
   marks-starts zero from = refl
   marks-starts (suc n) from = marks-starts n (from + 1)
 
-  nothing-law : (start : Knowledge S) → LawAt Law start.last start.now None
-  nothing-law start = grind (arith, nat_tests)
-
-  nothing-rel : (start : Knowledge S) (memory : Memory) (frames : List Frame) → Rel memory frames start.now → Rel memory frames (answered next start.last None start.now)
-  nothing-rel start memory frames h = grind (arith, nat_tests)
-
   pub boot-holds : (start : Knowledge S) (c : Config) → Rel (booted c).memory [] start.now → Holds start (at_start c).machine []
-  boot-holds start c rel = grind (arith, nat_tests, marks-starts, all-mapped, nothing-law, nothing-rel)
+  boot-holds start c rel = grind (arith, nat_tests, marks-starts, all-mapped)
 
   pub run-told : Laws next Law Rel p → (start : Knowledge S) (c : Config) (says : Applications) (inputs : List Input) (after : Running)
       → Runs says (at_start c) inputs after → Rel (booted c).memory [] start.now → Prefixes (WellTold start) after.entries
@@ -265,10 +249,4 @@ module _ {S : Type 0} (next : Call → Reply → S → S) (Law : S → Call → 
   pub call-law : (start : Knowledge S) (X before : List Entry) (origin : Origin) (stimulus : Stimulus) (call : Call) (reply : Reply)
       → WellTold start X → HasCall X before p origin stimulus call reply
       → Law (told_all next p start (up_to_call before p origin stimulus call)).now call reply
-  call-law start X before origin stimulus call reply well has =
-      let turn = Entry.Turn (record { 0 = p }) origin stimulus call in
-      let split : (before ++ turn ∷ []) ++ has.later ≡ X = append_assoc before (turn ∷ []) has.later ∙ has.is_split in
-      let whole : WellTold start ((before ++ turn ∷ []) ++ has.later) = subst (λ (x : List Entry). WellTold start x) (sym split) well in
-      let behind : WellTold (told_all next p start (before ++ turn ∷ [])) has.later = well-after start (before ++ turn ∷ []) has.later whole in
-      let last_is : (told_all next p start (before ++ turn ∷ [])).last ≡ Some call = rw (fold-append (told next p) start before (turn ∷ [])) (grind (arith, nat_tests)) in
-      law-of has.later (told_all next p start (before ++ turn ∷ [])) call reply last_is has.is_answered behind
+  call-law start X before origin stimulus call reply well has = grind (arith, nat_tests, append_assoc, well-after, fold-append, law-of)

@@ -1,7 +1,7 @@
 -- What a call does to the shape.
 use Rattle.std.proofs.Common.{◌≡◌, ℕ, Bool, true, false, not, ◌&&◌, List, [], ◌∷◌, ◌++◌, refl, ap, sym, arith, append-nil, append_assoc, Option, Some, None, option_to_list, map, if◌then◌else◌, ◌==◌}
 use Rattle.run_laws.proofs.Common.{list_all, nat_tests, Call, Reply, Refusal, Stimulus, Origin, Payload, Entry, Note, EXIT, EXITED, number_event, is_reserved, State, Queued, Item, numbers, without, is_ending, is_application, farewells, kill_refusal, killed_by, Scheduler, of_event, in_front, state_in, put_in_state, has_room, Machine, scheduled, with_event, after_call, refused_or, event_of, answer_done, is_event_of_code, event_for}
-use Rattle.run_laws.proofs.event_order.Tally.{Known, own_event, ends_in, is_plain, is_ordered, ordered-append, seats, seats-with_mark, seats-with_state, state_of-seats, first_state, put, stands, waiting_in, waits, queued, queued_in, posted_for, FrontAgrees}
+use Rattle.run_laws.proofs.event_order.Tally.{Known, own_event, ends_in, is_plain, is_ordered, ordered-append, seats, seats-with_mark, seats-with_state, state_of-seats, put, stands, waiting_in, waits, queued, queued_in, posted_for, FrontAgrees}
 use Rattle.run_laws.proofs.event_order.Items.{holds, holds-append, is_quiet}
 use Rattle.run_laws.proofs.event_order.Waiting.{waits-append, queued-append, queued-cancelled}
 
@@ -168,11 +168,6 @@ turn_other-holds : (p q : ℕ) (origin : Origin) (stimulus : Stimulus) (l : List
     → holds p l (Item.Turn q origin stimulus ∷ items) ≡ true → holds p l items ≡ true
 turn_other-holds p q origin stimulus l items n h = grind (arith, nat_tests)
 
--- p waits
-wait-holds : (p q : ℕ) (origin : Origin) (stimulus : Stimulus) (l : List State) (items : List Item) → (q == p && is_event_of_code EXIT stimulus) ≡ false
-    → holds p l (Item.Turn q origin stimulus ∷ items) ≡ true → holds p (if is_ending (first_state l) then l else put State.Running l) items ≡ true
-wait-holds p q origin stimulus l items n h = grind (arith, nat_tests)
-
 -- p is killed
 killed-holds : (p r : ℕ) (l : List State) (xs items : List Item) → (p == r) ≡ true → list_all (is_quiet p) xs ≡ true
     → holds p l items ≡ true → holds p (put State.Leaving l) (xs ++ Item.GiveExit r ∷ Item.Remove r ∷ items) ≡ true
@@ -194,7 +189,7 @@ pub after-stands : (p : ℕ) (call : Call) (q : ℕ) (origin : Origin) (stimulus
     → ends_in p (Entry.Turn (record { 0 = q }) origin stimulus call) ≡ false
     → holds p (seats p m.scheduler.processes) (Item.Turn q origin stimulus ∷ m.scheduler.agenda) ≡ true
     → stands p (after_call call q m).scheduler ≡ true
-after-stands p Call.Wait q origin stimulus m n h = grind (arith, nat_tests, state_of-seats q m.scheduler.processes, n, state_of-seats, wait-holds, turn_other-holds, flip, seats-with_state)
+after-stands p Call.Wait q origin stimulus m n h = grind (arith, nat_tests, state_of-seats q m.scheduler.processes, n, state_of-seats, turn_other-holds, flip, seats-with_state)
 after-stands p Call.Exit q origin stimulus m n h = go (is_ending (state_in m.scheduler q))
   where
     go : (b : Bool) → stands p (if b then m.scheduler else in_front (farewells q m.scheduler ++ Item.Remove q ∷ []) (put_in_state q State.Leaving m.scheduler)) ≡ true

@@ -1,5 +1,5 @@
 -- What every step keeps holds in every run: at each prefix of its transcript, and where the mote rests.
-use Rattle.run_laws.proofs.Common.{nat_tests, list_any, Input, Entry, Call, Applications, Job, after_front, job, Config, Machine, scheduled, after_call, serve, IsAtRest, effect, fed, Answers, StepMade, Running, Runs, ComesToRest, silent, one_step, job_done, within_limit, is_still, is_at_rest, after_step, after_steps, answers_after, at_start, with_input, gone_on, list_any-append}
+use Rattle.run_laws.proofs.Common.{nat_tests, list_any, Input, Entry, Applications, Job, after_front, job, Config, Machine, scheduled, serve, IsAtRest, effect, fed, Answers, StepMade, Running, Runs, ComesToRest, silent, one_step, job_done, within_limit, is_still, is_at_rest, after_step, after_steps, answers_after, at_start, with_input, gone_on, list_any-append}
 use Rattle.std.proofs.Common.{◌≡◌, ℕ, zero, suc, ◌+◌, Bool, true, false, ◌||◌, ◌⊎◌, inl, inr, List, [], ◌∷◌, ◌++◌, refl, ap, ◌∙◌, sym, subst, arith, append-nil, Option, Some, None, option_to_list, if◌then◌else◌}
 use Rattle.mote_types.specs.Entries.{is_halt}
 use Rattle.run_laws.proofs.event_order.Tally.{is_note}
@@ -15,9 +15,6 @@ is_input _ = false
 record StepKind (m : Machine) (step : StepMade) : Type 0 where
   halts : step.0.is_halted ≡ (m.is_halted || list_any is_halt (option_to_list step.1))
   inputs : list_any is_input (option_to_list step.1) ≡ false
-
-call-halted : (call : Call) (q : ℕ) (m : Machine) → (after_call call q m).is_halted ≡ m.is_halted
-call-halted call q m = grind arith
 
 limit_kind : (m after : Machine) (step : StepMade) → m.is_halted ≡ false → StepKind m step → StepKind m (within_limit after step)
 limit_kind m after step live h = grind (arith, nat_tests, live)
@@ -43,7 +40,7 @@ job_kind answers (Some (Job.CallBack q c false)) m after live still note = silen
 job_kind answers (Some (Job.CallBack q c true)) m after live still note = silent_kind m after live still
 job_kind answers (Some (Job.Serve q event)) m after live still note =
     silent_kind m (serve q event after) live ((serve-untouched q event after).halted ∙ still)
-job_kind answers (Some (Job.TakeTurn q origin stimulus)) m after live still note = grind (arith, nat_tests, limit_kind, call-halted)
+job_kind answers (Some (Job.TakeTurn q origin stimulus)) m after live still note = grind (arith, nat_tests, limit_kind)
 
 step_kind : (answers : Answers) (m : Machine) → m.is_halted ≡ false → ShowsNotes m → StepKind m (one_step answers m)
 step_kind answers m live notes = go m.is_halted live
@@ -171,10 +168,6 @@ after_fed r input = record { machine = effect input (record r.machine { work = 0
 fed_first : (says : Applications) (r : Running) (input : Input) → r.machine.is_halted ≡ false → after_step says (with_input input r) ≡ after_fed r input
 fed_first says r input live = grind (arith, nat_tests, effect-live)
 
--- where an input was just handed in, something is to be done
-fed_awake : (r : Running) (input : Input) → r.machine.is_halted ≡ false → is_still (with_input input r).machine ≡ false
-fed_awake r input live = grind (arith, nat_tests, effect-live)
-
 -- the run
 
 module _ (I : Machine → List Entry → Type 0) (P Q : List Entry → Type 0) (law : Law I P) (rest : (m : Machine) (X : List Entry) → is_at_rest m ≡ true → I m X → Q X) where
@@ -202,7 +195,7 @@ module _ (I : Machine → List Entry → Type 0) (P Q : List Entry → Type 0) (
   rested-holds r g still live = rest r.machine r.entries (grind (arith, still, live)) (g.holds live)
 
   fed-leads : (says : Applications) (r : Running) (input : Input) → Good I P Q r → is_still r.machine ≡ true → r.machine.is_halted ≡ false → Leads says (with_input input r)
-  fed-leads says r input g still live new (zero, goes, quiet) = grind (arith, nat_tests, fed_awake)
+  fed-leads says r input g still live new (zero, goes, quiet) = grind (arith, nat_tests)
   fed-leads says r input g still live new (suc n, goes, quiet) =
       let first = fed_first says r input live in
       let later : after_steps says n (after_fed r input) ≡ new = ap (after_steps says n) (sym first) ∙ goes in

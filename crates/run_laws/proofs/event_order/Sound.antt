@@ -47,14 +47,7 @@ not_ended_in : (p : ℕ) (X : List Entry) (e : Entry) → has_ended p (X ++ e �
 not_ended_in p X e alive = grind (arith, alive, ended-more p X e)
 
 pub sound-other : (p : ℕ) (X : List Entry) (e : Entry) (s : Scheduler Bool) → is_turn e ≡ false → Sound p s X → Sound p s (X ++ e ∷ [])
-sound-other p X e s n h =
-    record {
-      ordered = h.ordered;
-      place = λ alive. h.place (still_alive p X e alive);
-      tally = λ alive known agrees.
-          let given : given_events (X ++ e ∷ []) p ≡ given_events X p = given-more p X e ∙ rw (no_given p e n) (append-nil (given_events X p)) in
-          rw (accepted-other known p X e n, given) (h.tally (still_alive p X e alive) known agrees);
-    }
+sound-other p X e s n h = grind (arith, nat_tests, still_alive, given-more, no_given, append-nil, accepted-other)
 
 -- a turn
 
@@ -121,20 +114,8 @@ pub carried_sound : (p : ℕ) (X : List Entry) (item : Item) (items : List Item)
     → Sound p (with_agenda (item ∷ items) s) X → SoundFree p (after_item item (with_agenda items s)) X
 carried_sound p X item items s a n h = grind (arith, nat_tests, n, carried-ordered, carried-stands, carried-waiting, no_reply_front)
 
--- a change that leaves agenda, places and events
-pub alike_sound : (p : ℕ) (X : List Entry) (old new : Scheduler Bool) → new.agenda ≡ old.agenda → seats p new.processes ≡ seats p old.processes
-    → queued p new.events ≡ queued p old.events → Sound p old X → Sound p new X
-alike_sound p X old new e f g h = grind (arith, nat_tests)
-
 pub served_sound : (p : ℕ) (X : List Entry) (q : ℕ) (event : Event) (m : Machine) → nat_le 4 p ≡ true → SoundFree p m.scheduler X → SoundFree p (serve q event m).scheduler X
-served_sound p X q event m a h =
-    let same = (serve-untouched q event m).agenda in
-    let k = serve-served p a q event m in
-    record {
-      ordered = rw same h.ordered;
-      place = λ alive. rw (same, k.places) (h.place alive);
-      tally = λ alive known. rw (same, k.events) (h.tally alive known);
-    }
+served_sound p X q event m a h = grind (arith, nat_tests, serve-untouched q event m, serve-served p a q event m)
 
 pub callback_sound : (p : ℕ) (X : List Entry) (q c : ℕ) (s : Scheduler Bool) → SoundFree p s X → SoundFree p (in_front (Item.Give q Origin.Callback (Stimulus.Callback c) ∷ []) s) X
 callback_sound p X q c s h = grind (arith, nat_tests, holds-append)
@@ -187,11 +168,8 @@ boot-sound p c a =
 
 -- an input
 
-shown-sound : (p : ℕ) (X : List Entry) (note : Note) (s : Scheduler Bool) → Sound p s X → Sound p (in_front (Item.Show (Entry.Note note) ∷ []) s) X
-shown-sound p X note s h = grind (arith, nat_tests, holds-append)
-
 pub effect-sound : (p : ℕ) (X : List Entry) (input : Input) (m : Machine) → Sound p m.scheduler X → Sound p (effect input m).scheduler X
-effect-sound p X input m h = grind (arith, nat_tests, effect-keeps, alike_sound, seats-with_mark, shown-sound)
+effect-sound p X input m h = grind (arith, nat_tests, effect-keeps, seats-with_mark)
 
 -- at rest
 

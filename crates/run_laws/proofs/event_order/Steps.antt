@@ -1,6 +1,6 @@
 -- What holds of each kind of step holds of every step.
 use Rattle.std.proofs.Common.{◌≡◌, ℕ, Bool, true, false, List, [], ◌∷◌, ◌++◌, refl, sym, subst, arith, append-nil, Option, Some, None, if◌then◌else◌}
-use Rattle.run_laws.proofs.Common.{nat_tests, Call, Stimulus, Event, Origin, Input, Note, Entry, Queued, Item, Job, is_kernel_process, after_item, in_front, after_front_of, job_at, job_of_give, job_of_event, first_event, wants_round, Machine, scheduled, after_call, serve, Answers, StepMade, silent, one_step, job_done, within_limit, turn_taken, with_more_work, effect}
+use Rattle.run_laws.proofs.Common.{nat_tests, Call, Stimulus, Event, Origin, Input, Note, Entry, Queued, Item, Job, is_kernel_process, after_item, in_front, after_front_of, job_at, job_of_give, job_of_event, first_event, wants_round, Machine, scheduled, after_call, serve, Answers, StepMade, silent, one_step, job_done, within_limit, with_more_work, effect}
 use Rattle.run_laws.proofs.event_order.Tally.{is_turn, is_note}
 use Rattle.run_laws.proofs.event_order.Items.{with_agenda, facing}
 use Rattle.run_laws.proofs.event_order.Runs.{Law, Kept}
@@ -50,9 +50,7 @@ pub record Cases (I J : Machine → List Entry → Type 0) (P : List Entry → T
 
 module _ (I J : Machine → List Entry → Type 0) (P : List Entry → Type 0) (cases : Cases I J P) where
   silent_kept : (X : List Entry) (m : Machine) → P X → I m X → Kept I P X (silent m)
-  silent_kept X m i h =
-      let e : X ≡ X ++ [] = sym (append-nil X) in
-      record { holds = λ live. subst (λ Y. I m Y) e h; shown = subst P e i }
+  silent_kept X m i h = grind (arith, nat_tests, append-nil)
 
   free_kept : (X : List Entry) (m : Machine) → P X → J m X → Kept I P X (silent m)
   free_kept X m i h = silent_kept X m i (cases.free m X h)
@@ -81,10 +79,6 @@ module _ (I J : Machine → List Entry → Type 0) (P : List Entry → Type 0) (
   deliver_kept : (X : List Entry) (answers : Answers) (event : Option (Queued Bool)) (m : Machine) → P X → J m X → Kept I P X (job_done answers (job_of_event event) m)
   deliver_kept X answers event m i h = grind (arith, nat_tests, free_kept)
 
-  shown_kept : (X : List Entry) (m : Machine) (entry : Entry) (items : List Item) → P X → is_note entry ≡ true
-      → I (facing (Item.Show entry ∷ items) m) X → Kept I P X (facing items m, Some entry)
-  shown_kept X m entry items i n h = grind (arith, nat_tests, n)
-
   at_agenda : (X : List Entry) (agenda : List Item) (m : Machine) → m.scheduler.agenda ≡ agenda → I m X → I (facing agenda m) X
   at_agenda X agenda m e h = subst (λ a. I (facing a m) X) e h
 
@@ -100,15 +94,8 @@ module _ (I J : Machine → List Entry → Type 0) (P : List Entry → Type 0) (
   step_kept : (X : List Entry) (answers : Answers) (agenda : List Item) (m : Machine) → m.scheduler.agenda ≡ agenda → P X → I m X
       → Kept I P X (job_done answers (job_at agenda m.scheduler) (record m { scheduler = after_front_of agenda m.scheduler }))
   step_kept X answers [] m e i h = round_kept X answers m (wants_round m.scheduler) e i h
-  step_kept X answers (Item.Turn q origin stimulus ∷ items) m e i h =
-      let after : Machine = facing items m in
-      let call : Call = answers q stimulus in
-      let g = at_agenda X (Item.Turn q origin stimulus ∷ items) m e h in
-      limit_kept X after (turn_taken q origin stimulus call after) i
-      (record { holds = λ live. cases.turn m X items q origin stimulus call g; shown = cases.told m X items q origin stimulus call g i })
-  step_kept X answers (Item.Show entry ∷ items) m e i h =
-      let g = at_agenda X (Item.Show entry ∷ items) m e h in
-      shown_kept X m entry items i (cases.notes m X entry items g) g
+  step_kept X answers (Item.Turn q origin stimulus ∷ items) m e i h = grind (arith, nat_tests, at_agenda X (Item.Turn q origin stimulus ∷ items) m e h)
+  step_kept X answers (Item.Show entry ∷ items) m e i h = grind (arith, nat_tests, at_agenda X (Item.Show entry ∷ items) m e h)
   step_kept X answers (Item.Give q origin stimulus ∷ items) m e i h =
       give_kept X answers q origin stimulus items m i (at_agenda X (Item.Give q origin stimulus ∷ items) m e h)
   step_kept X answers (Item.Deliver ∷ items) m e i h =
@@ -122,9 +109,7 @@ module _ (I J : Machine → List Entry → Type 0) (P : List Entry → Type 0) (
   shows_notes : (X : List Entry) (agenda : List Item) (m : Machine) → m.scheduler.agenda ≡ agenda → I m X → (entry : Entry)
       → job_at agenda m.scheduler ≡ Some (Job.ShowEntry entry) → is_note entry ≡ true
   shows_notes X [] m e h entry f = absurd (grind (arith, f))
-  shows_notes X (Item.Show shown ∷ items) m e h entry f =
-      let same : shown ≡ entry = cc in
-      subst (λ x. is_note x ≡ true) same (cases.notes m X shown items (at_agenda X (Item.Show shown ∷ items) m e h))
+  shows_notes X (Item.Show shown ∷ items) m e h entry f = grind (arith, nat_tests, at_agenda X (Item.Show shown ∷ items) m e h)
   shows_notes X (item ∷ items) m e h entry f = absurd (grind (arith, f))
 
   cases_law : Law I P

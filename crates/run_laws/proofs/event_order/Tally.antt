@@ -1,6 +1,6 @@
 -- What one more entry adds to what a transcript tells of p.
 use Rattle.std.proofs.Common.{◌≡◌, ℕ, ◌+◌, Bool, true, false, ◌||◌, List, [], ◌∷◌, ◌++◌, refl, ◌∙◌, arith, append-nil, Option, Some, None, option_to_list, filter_map, if◌then◌else◌, ◌==◌, not, ◌&&◌, flat_map, map}
-use Rattle.run_laws.proofs.Common.{cons_option, list_any, nat_tests, Call, Reply, Stimulus, Event, Origin, Pid, Entry, EXIT, heard, OwnTurn, own_from, own_turn, reply_in, reply_of, is_done, ticks_in, has_ended, is_exit, is_event_of_code, posted_event, given_events, event_for, accepted_events, stimulus_of, accepted_event, list_all, State, Queued, Item, Process, is_process, numbers, state_of, with_state, with_mark, without, Scheduler, of_event, delivery}
+use Rattle.run_laws.proofs.Common.{cons_option, list_any, nat_tests, Call, Reply, Stimulus, Event, Origin, Pid, Entry, EXIT, heard, OwnTurn, own_from, own_turn, reply_in, reply_of, is_done, ticks_in, has_ended, is_exit, is_event_of_code, posted_event, given_events, event_for, accepted_events, accepted_event, list_all, State, Queued, Item, Process, is_process, numbers, state_of, with_state, with_mark, without, Scheduler, of_event, delivery}
 use Rattle.std.proofs.lemmas.List.Elements.{filter_map-append}
 
 abbrev pub Known : Type 0
@@ -74,11 +74,7 @@ is_turn (Entry.Turn pid origin stimulus call) = true
 is_turn _ = false
 
 pub heard-other : (r : ℕ) (X : List Entry) (e : Entry) → is_turn e ≡ false → heard r (X ++ e ∷ []) ≡ heard r X
-heard-other r X e h = filter_map-append (stimulus_of r) X (e ∷ []) ∙ rw (silent e h) (append-nil (heard r X))
-  where
-    silent : (e : Entry) → is_turn e ≡ false → stimulus_of r e ≡ None
-    silent (Entry.Turn pid origin stimulus call) h = cc
-    silent _ h = refl
+heard-other r X e h = grind (arith, nat_tests, filter_map-append, append-nil)
 
 accepted_or-other : (known : Known) (p : ℕ) (entry : Entry) (X : List Entry) (e : Entry) → is_turn e ≡ false
     → accepted_or known p entry (X ++ e ∷ []) ≡ accepted_or known p entry X

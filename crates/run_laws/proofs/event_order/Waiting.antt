@@ -55,9 +55,6 @@ all_waiting p s = waits p s.agenda ++ queued p s.events
 no_synch : (p q : ℕ) (stimulus : Stimulus) → waiting_in p (Item.Give q Origin.Synch stimulus) ≡ []
 no_synch p q stimulus = grind arith
 
-no_poll : (p q : ℕ) (stimulus : Stimulus) → waiting_in p (Item.Give q Origin.Poll stimulus) ≡ []
-no_poll p q stimulus = grind arith
-
 no_exit : (p q : ℕ) (stimulus : Stimulus) → waiting_in p (Item.Turn q Origin.Synch stimulus) ≡ []
 no_exit p q stimulus = grind arith
 
@@ -65,14 +62,14 @@ pub carried-waiting : (p : ℕ) (item : Item) (items : List Item) (s : Scheduler
     → is_ordered (item ∷ items) ≡ true → stands p (with_agenda (item ∷ items) s) ≡ true
     → all_waiting p (after_item item (with_agenda items s)) ≡ all_waiting p (with_agenda (item ∷ items) s)
 carried-waiting p (Item.Start q) items s n a o h = grind (arith, nat_tests, no_synch)
-carried-waiting p (Item.Give q origin stimulus) items s n a o h = grind (arith, nat_tests, lost)
+carried-waiting p (Item.Give q origin stimulus) items s n a o h = grind (arith, nat_tests, given-running)
 carried-waiting p (Item.GiveExit q) items s n a o h = rw (no_exit p q (of_event (plain_event EXIT))) refl
 carried-waiting p Item.Polls items s n a o h = go (is_any_marked s.processes)
   where
     go : (b : Bool) → all_waiting p (if b then in_front (map (λ n. Item.PollOne n) (numbers s.processes)) (with_agenda items s) else with_agenda items s) ≡ all_waiting p (with_agenda items s)
     go true = rw (waits-append p (map (λ n. Item.PollOne n) (numbers s.processes)) items, waits-polls p (numbers s.processes)) refl
     go false = refl
-carried-waiting p (Item.PollOne q) items s n a o h = grind (arith, nat_tests, no_poll)
+carried-waiting p (Item.PollOne q) items s n a o h = grind (arith, nat_tests)
 carried-waiting p Item.Deliver [] s n a o h = rw (append-nil (delivery (numbers s.processes) (first_event s))) (delivered p s s.events h)
 carried-waiting p Item.Deliver (item ∷ items) s n a o h = absurd (grind (arith, o))
 carried-waiting p (Item.Turn q origin stimulus) items s n a o h = absurd (grind (arith, n))
@@ -86,9 +83,7 @@ pub record Served (p : ℕ) (old new : Machine) : Type 0 where
 
 pub queued-cancelled : (p : ℕ) (test : ℕ → ℕ → Bool) (events : List (Queued Bool)) → queued p (map (cancelled_if test) events) ≡ queued p events
 queued-cancelled p test [] = refl
-queued-cancelled p test (Queued.To q event ∷ events) = rw (queued-cancelled p test events) refl
-queued-cancelled p test (Queued.ToAll event ∷ events) = rw (queued-cancelled p test events) refl
-queued-cancelled p test (Queued.Expiry q c x ∷ events) = queued-cancelled p test events
+queued-cancelled p test (item ∷ events) = grind (arith, nat_tests, queued-cancelled p test events)
 
 -- an event of the kernel's isn't one for an application
 queued-silent : (p : ℕ) (events : List (Queued Bool)) (event : Queued Bool) → queued_in p event ≡ [] → queued p (events ++ event ∷ []) ≡ queued p events

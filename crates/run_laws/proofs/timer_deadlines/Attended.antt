@@ -1,7 +1,7 @@
 -- While p goes on, an armed timer of p is on the list, or its TIMER event waits or was given.
 -- where the timer stands, if the reply to p's last call is k unless the entries show it
 use Rattle.std.proofs.Common.{◌≡◌, ℕ, Bool, true, false, ◌&&◌, ◌||◌, List, [], ◌∷◌, ◌++◌, refl, arith, Option, None, fold, ◌==◌, nat_le, ◌≤◌, subst, nat_lt}
-use Rattle.run_laws.proofs.Common.{list_all, list_any, nat_tests, Call, Reply, Stimulus, Event, Origin, Entry, Item, of_event, zero_cell, is_armed, Machine, after_call, serve, OwnTurn, has_ended, clock_after, Standing, standing_after, standing, is_timer_event, with_more_work, range_with_len, Input, Applications, Timer, is_timer, Timers, cell_of, is_due, deadline, Config, is_bootable, effect, Running, Runs, is_at_rest, at_start, is_application, NoLostTimerFor}
+use Rattle.run_laws.proofs.Common.{list_all, list_any, nat_tests, Call, Reply, Stimulus, Event, Origin, Entry, Item, of_event, zero_cell, is_armed, Machine, after_call, serve, OwnTurn, has_ended, clock_after, Standing, standing_after, standing, is_timer_event, with_more_work, range_with_len, Input, Applications, Timer, is_timer, Timers, is_due, deadline, Config, is_bootable, effect, Running, Runs, is_at_rest, at_start, is_application, NoLostTimerFor}
 use Rattle.run_laws.proofs.event_order.Tally.{is_turn, ended-more, ends_in}
 use Rattle.run_laws.proofs.event_order.Items.{with_agenda, facing}
 use Rattle.run_laws.proofs.timer_deadlines.Ledgers.{Ledger, ledger_after, turns_or, told_reply, told-front, turns-turn, turns-other, turns-none, fold-append}
@@ -261,16 +261,12 @@ due_listed p t clock timers (x ∷ xs) d h = go (is_timer (own_timer p t) x) ref
     go true e k more = let same : x ≡ own_timer p t = that_timer p t x e in let due : is_due clock timers x ≡ true = rw same d in rw due refl
     go false e k more = let rest : list_any (is_due clock timers) xs ≡ true = more k in grind (arith, rest)
 
--- the standing has the timer's own cell
-standing-cell : (p t : ℕ) (m : Machine) (X : List Entry) → FrontIs p None m.scheduler.agenda → Timely p t m X → nat_le t 7 ≡ true → cell_of (own_timer p t) m.timers ≡ (standing_of p t None X).cell
-standing-cell p t m X front h number = grind (arith, nat_tests, agree-fold)
-
 abbrev pub IsGivenAtRest : ℕ → ℕ → List Entry → Type 0
 IsGivenAtRest p t X =
     has_ended p X ≡ false → (standing X p t).is_armed ≡ true → deadline (standing X p t).cell ≤ clock_after X → (standing X p t).was_given ≡ true
 
 rest-given : (p t : ℕ) (m : Machine) (X : List Entry) → is_at_rest m ≡ true → Attended p t m X → IsGivenAtRest p t X
-rest-given p t m X rest h = grind (arith, nat_tests, rest, standing-none, nothing_on, nothing_queued, rest-not_due, standing-cell, due_listed)
+rest-given p t m X rest h = grind (arith, nat_tests, rest, standing-none, nothing_on, nothing_queued, rest-not_due, due_listed, agree-fold)
 
 -- boot
 

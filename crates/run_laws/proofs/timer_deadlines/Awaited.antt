@@ -1,6 +1,6 @@
 -- A TIMER event that p waits for isn't lost on its way, and a timer leaves the list for one.
-use Rattle.std.proofs.Common.{◌≡◌, ℕ, Bool, true, false, not, ◌&&◌, ◌||◌, List, [], ◌∷◌, ◌++◌, refl, ◌∙◌, arith, Some, map, filter, drop, slice_get, ◌==◌, nat_le, Option, if◌then◌else◌}
-use Rattle.run_laws.proofs.Common.{list_any, nat_tests, Stimulus, Event, Origin, Payload, EXITED, Queued, Item, Scheduler, after_item, delivery, of_event, Timer, event_timer, is_timer, is_event_timer_of, is_callback_timer_of, is_armed, stop_timer, without_callback_timers, Machine, with_event, with_timers, cancelled_if, expiries_cancelled, serve, expiry_of, post_expiry, exited_application, is_number, is_timer_event, list_any-append, Call, Reply, Timers, after_call, is_callback_timer, is_done, Standing, standing_after, arms, stops}
+use Rattle.std.proofs.Common.{◌≡◌, ℕ, Bool, true, false, not, ◌&&◌, ◌||◌, List, [], ◌∷◌, ◌++◌, refl, arith, Some, map, filter, drop, slice_get, ◌==◌, nat_le, Option, if◌then◌else◌}
+use Rattle.run_laws.proofs.Common.{list_any, nat_tests, Stimulus, Event, Origin, Payload, EXITED, Queued, Item, Scheduler, after_item, delivery, of_event, Timer, event_timer, is_timer, is_event_timer_of, is_callback_timer_of, is_armed, without_callback_timers, Machine, with_event, with_timers, cancelled_if, expiries_cancelled, serve, post_expiry, exited_application, is_number, is_timer_event, list_any-append, Call, Reply, Timers, after_call, is_callback_timer, is_done, Standing, standing_after, arms, stops}
 use Rattle.run_laws.proofs.Changes.{Changes, of_changes}
 use Rattle.run_laws.proofs.event_order.Tally.{is_from_queue, is_ordered, stands}
 use Rattle.run_laws.proofs.event_order.Items.{with_agenda}
@@ -31,16 +31,10 @@ delivered-expected : (p t : ℕ) (ns : List ℕ) (items : List Item) (events : L
     → (list_any (gives p t) (delivery ns (slice_get events 0) ++ items) || list_any (queues p t) (drop 1 events)) ≡ true
 delivered-expected p t ns items events h = grind (arith, nat_tests, list_any-append)
 
-given-expected : (p t q : ℕ) (origin : Origin) (stimulus : Stimulus) (items : List Item) (s : Scheduler Bool) → nat_le 4 p ≡ true
-    → is_ordered (Item.Give q origin stimulus ∷ items) ≡ true → stands p (with_agenda (Item.Give q origin stimulus ∷ items) s) ≡ true
-    → is_expected p t (with_agenda (Item.Give q origin stimulus ∷ items) s) ≡ true
-    → is_expected p t (after_item (Item.Give q origin stimulus) (with_agenda items s)) ≡ true
-given-expected p t q origin stimulus items s a o k h = grind (arith, nat_tests, given-running)
-
 pub carried-expected : (p t : ℕ) (item : Item) (items : List Item) (s : Scheduler Bool) → nat_le 4 p ≡ true → is_quiet_item item ≡ true
     → is_ordered (item ∷ items) ≡ true → stands p (with_agenda (item ∷ items) s) ≡ true
     → is_expected p t (with_agenda (item ∷ items) s) ≡ true → is_expected p t (after_item item (with_agenda items s)) ≡ true
-carried-expected p t item items s a n o k h = grind (arith, nat_tests, given-expected, carried-any, delivered-expected)
+carried-expected p t item items s a n o k h = grind (arith, nat_tests, carried-any, delivered-expected, given-running)
 
 -- a kernel process
 
@@ -52,17 +46,7 @@ posted-held : (p t : ℕ) (g : Bool) (event : Queued Bool) (m : Machine) → Hel
 posted-held p t g event m h = grind (arith, nat_tests, h, list_any-append (queues p t) m.scheduler.events (event ∷ []))
 
 expired-held : (p t : ℕ) (g : Bool) (timer : Timer) (m : Machine) → Held p t g m → Held p t g (post_expiry (Some timer) m)
-expired-held p t g timer m h = go (is_timer (event_timer p t) timer) refl
-  where
-    go : (b : Bool) → is_timer (event_timer p t) timer ≡ b → Held p t g (post_expiry (Some timer) m)
-    go true e =
-        let same : timer ≡ event_timer p t = that_timer p t timer e in
-        grind (arith, nat_tests, same, list_any-append (queues p t) m.scheduler.events (expiry_of timer ∷ []))
-    go false e =
-        let off : Machine = with_timers (stop_timer timer m.timers) m in
-        let kept : is_armed (event_timer p t) (stop_timer timer m.timers) ≡ is_armed (event_timer p t) m.timers =
-        stopped-other (event_timer p t) timer m.timers.armed (symm timer (event_timer p t) ∙ e) in
-        posted-held p t g (expiry_of timer) off (rw kept h)
+expired-held p t g timer m h = grind (arith, nat_tests, that_timer, list_any-append, stopped-other, symm, posted-held)
 
 kept-filter : (test keep : Timer → Bool) (xs : List Timer) → ((x : Timer) → test x ≡ true → keep x ≡ true) → list_any test (filter keep xs) ≡ list_any test xs
 kept-filter test keep [] k = refl
@@ -80,9 +64,7 @@ spares-events p t n x h = grind (arith, nat_tests, h)
 
 pub queues-cancelled : (p t : ℕ) (test : ℕ → ℕ → Bool) (events : List (Queued Bool)) → list_any (queues p t) (map (cancelled_if test) events) ≡ list_any (queues p t) events
 queues-cancelled p t test [] = refl
-queues-cancelled p t test (Queued.To q event ∷ events) = rw (queues-cancelled p t test events) refl
-queues-cancelled p t test (Queued.ToAll event ∷ events) = queues-cancelled p t test events
-queues-cancelled p t test (Queued.Expiry q c x ∷ events) = queues-cancelled p t test events
+queues-cancelled p t test (item ∷ events) = grind (arith, nat_tests, queues-cancelled p t test events)
 
 pub cancelled-held : (p t : ℕ) (g : Bool) (test : ℕ → ℕ → Bool) (m : Machine) → Held p t g m → Held p t g (expiries_cancelled test m)
 cancelled-held p t g test m h = rw (queues-cancelled p t test m.scheduler.events) h

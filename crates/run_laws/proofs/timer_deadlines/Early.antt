@@ -53,10 +53,6 @@ ripe-later n clock ledger = grind (arith, nat_tests)
 pub timely-other : (p t : ℕ) (X : List Entry) (e : Entry) → is_turn e ≡ false → IsTimely p t X → IsTimely p t (X ++ e ∷ [])
 timely-other p t X e n h = grind (arith, nat_tests, h, ledger-other, clock-more, ripe-later)
 
--- what was given is no more than what is ripe
-early_of : (p t w clock : ℕ) (timers : Timers) (ledger : Ledger) → Balanced p t timers clock w ledger → ledger.given ≤ ripe_at clock ledger
-early_of p t w clock timers ledger b = grind (arith, nat_tests)
-
 pub less-balanced : (p t clock v w : ℕ) (timers : Timers) (ledger : Ledger) → v ≤ w → Balanced p t timers clock w ledger → Balanced p t timers clock v ledger
 less-balanced p t clock v w timers ledger less b = record { cell = b.cell; named = b.named; set = b.set; count = omega (arith, less, b.count) }
 
@@ -99,7 +95,7 @@ module _ (p t : ℕ) (low : nat_le 4 p ≡ true) (high : nat_lt p 20 ≡ true) w
 
   pub turn_early : (X : List Entry) (m : Machine) (items : List Item) (q : ℕ) (origin : Origin) (stimulus : Stimulus) (call : Call)
       → Timely p t (facing (Item.Turn q origin stimulus ∷ items) m) X → IsTimely p t (X ++ Entry.Turn (record { 0 = q }) origin stimulus call ∷ [])
-  turn_early X m items q origin stimulus call h = grind (arith, nat_tests, clock-more, facing, ledger-turn, early_of, turn-balanced, still_moves, turn_before)
+  turn_early X m items q origin stimulus call h = grind (arith, nat_tests, clock-more, facing, ledger-turn, turn-balanced, still_moves, turn_before)
 
 -- No TIMER event comes early or twice.
 

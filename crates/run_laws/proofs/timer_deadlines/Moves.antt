@@ -2,7 +2,7 @@
 use Rattle.std.proofs.Common.{◌≡◌, ℕ, ◌+◌, Bool, true, false, ◌&&◌, ◌||◌, List, ◌∷◌, refl, subst, arith, Option, Some, None, ◌==◌, nat_le, nat_lt}
 use Rattle.run_laws.proofs.Common.{nat_tests, Call, Reply, Refusal, Item, Timer, Cell, all_timers, event_timer, callback_timer, is_timer, Timers, cell_of, is_armed, armed_with, set_timer, stop_timer, restart_timer, reset_timer, Machine, with_timers, mark, expiries_cancelled, after_call, answer_done, refused_or, is_callback_timer, reply_of, is_done, arms, stops, cell_after}
 use Rattle.kernel_core.specs.Calls.{timer_refusal, callback_refusal, reset_refusal}
-use Rattle.run_laws.proofs.timer_deadlines.Timing.{cell_names, armed-names, cell-armed_own, cell-armed_other, armed-own, armed-other, stopped-own, stopped-other}
+use Rattle.run_laws.proofs.timer_deadlines.Timing.{cell_names, armed-names, cell-armed_own, cell-armed_other, armed-other, stopped-own, stopped-other}
 
 abbrev pub own_timer : ℕ → ℕ → Timer
 own_timer p t = event_timer p t
@@ -64,9 +64,6 @@ still_moves p t q clock call k old new n e f = grind (arith, nat_tests, n)
 abbrev Knowledge : ℕ → ℕ → Option Reply → Reply → Type 0
 Knowledge p q k reply = (q == p) ≡ true → k ≡ Some reply
 
-refused_moves : (p t q clock : ℕ) (call : Call) (k : Option Reply) (refusal : Refusal) (old : Timers) → Knowledge p q k (Reply.Refused refusal) → Moves p t q clock call k old old
-refused_moves p t q clock call k refusal old told = grind (arith, nat_tests, still_moves)
-
 same_timer : (p t q u : ℕ) → (q == p) ≡ true → (u == t) ≡ true → own_timer p t ≡ own_timer q u
 same_timer p t q u e f = let qp : q ≡ p = grind (arith, nat_tests, e) in let ut : u ≡ t = grind (arith, nat_tests, f) in rw (qp, ut) refl
 
@@ -74,7 +71,7 @@ same_timer p t q u e f = let qp : q ≡ p = grind (arith, nat_tests, e) in let u
 armed_moves : (p t q u clock : ℕ) (call : Call) (k : Option Reply) (cell : Cell) (old : Timers) → Setting p old → nat_le u 7 ≡ true → Knowledge p q k Reply.Done
     → arms t call ≡ (u == t) → stops t call ≡ false → ((u == t) ≡ true → cell ≡ cell_after t clock call (cell_of (own_timer q u) old))
     → Moves p t q clock call k old (armed_with (own_timer q u) cell old)
-armed_moves p t q u clock call k cell old s fits told arm stop value = grind (arith, nat_tests, arm, stop, fits, still_moves, armed-other, cell-armed_other, same_timer, armed-own, cell-armed_own)
+armed_moves p t q u clock call k cell old s fits told arm stop value = grind (arith, nat_tests, arm, stop, fits, still_moves, armed-other, cell-armed_other, same_timer, cell-armed_own)
 
 -- a stop of timer u of q
 stopped_moves : (p t q u clock : ℕ) (k : Option Reply) (old : Timers) → Knowledge p q k Reply.Done → Moves p t q clock (Call.TimerStop u) k old (stop_timer (own_timer q u) old)
@@ -112,7 +109,7 @@ stopped_moves p t q u clock k old told = go (q == p) (u == t) refl refl
 by_refusal : (p t : ℕ) (call : Call) (q : ℕ) (k : Option Reply) (m after : Machine) (o : Option Refusal) → FrontIs p k (refused_or o q m (answer_done q after)).scheduler.agenda
     → (o ≡ None → Knowledge p q k Reply.Done → Moves p t q m.clock call k m.timers after.timers)
     → Moves p t q m.clock call k m.timers (refused_or o q m (answer_done q after)).timers
-by_refusal p t call q k m after o front made = grind (arith, nat_tests, refused_moves)
+by_refusal p t call q k m after o front made = grind (arith, nat_tests)
 
 number_fits : (u : ℕ) → timer_refusal u ≡ None → nat_le u 7 ≡ true
 number_fits u h = grind (arith, nat_tests, h)

@@ -1,5 +1,5 @@
 -- The clock, the names of the cells and the codes in the queue, step by step.
-use Rattle.std.proofs.Common.{◌≡◌, ℕ, ◌+◌, true, List, [], ◌∷◌, ◌++◌, ◌∙◌, arith, nat_le}
+use Rattle.std.proofs.Common.{◌≡◌, ℕ, ◌+◌, true, List, [], ◌∷◌, ◌++◌, arith, nat_le}
 use Rattle.run_laws.proofs.Common.{list_all, nat_tests, Call, Stimulus, Event, Origin, Input, Note, Entry, Item, after_item, in_front, all_timers, Machine, scheduled, after_call, is_callback_timer, serve, ticks_in, clock_after, effect}
 use Rattle.run_laws.proofs.timer_deadlines.Ledgers.{fold-append}
 use Rattle.run_laws.proofs.event_order.Items.{with_agenda, facing}
@@ -33,14 +33,7 @@ steady-front items m X r h = record { clock = h.clock; names = h.names; plain = 
 
 -- a kernel process
 pub steady-serve : (q : ℕ) (event : Event) (m : Machine) (X : List Entry) → Steady m X → Steady (serve q event m) X
-steady-serve q event m X h =
-    let fair = serve-fair 0 0 q event m in
-    record {
-      clock = fair.clock ∙ h.clock;
-      names = fair.names ∙ h.names;
-      plain = fair.plain h.plain;
-      regular = rw ((serve-untouched q event m).agenda) h.regular;
-    }
+steady-serve q event m X h = grind (arith, nat_tests, serve-fair 0 0 q event m, serve-untouched q event m)
 
 -- a turn
 

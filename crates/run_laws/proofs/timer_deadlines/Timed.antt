@@ -1,5 +1,5 @@
 -- The TIMER events of timer t of p are no more than the ripe armings.
-use Rattle.std.proofs.Common.{◌≡◌, ℕ, ◌+◌, ◌≤◌, Bool, true, false, not, ◌&&◌, List, [], ◌∷◌, ◌++◌, refl, ◌∙◌, sym, arith, Some, find, filter, map, if◌then◌else◌, ◌==◌, nat_le, drop, slice_get, ◌||◌, Option}
+use Rattle.std.proofs.Common.{◌≡◌, ℕ, ◌+◌, ◌≤◌, Bool, true, false, not, ◌&&◌, List, [], ◌∷◌, ◌++◌, refl, ◌∙◌, sym, arith, Some, find, filter, map, if◌then◌else◌, ◌==◌, nat_le, ◌||◌, Option}
 use Rattle.run_laws.proofs.Common.{list_any, list_all, nat_tests, Stimulus, Event, TIMER, Queued, Item, of_event, Timer, event_timer, is_timer, is_event_timer_of, is_callback_timer_of, Timers, cell_of, is_armed, stop_timer, deadline, is_due, first_due, without_callback_timers, Machine, with_event, with_timers, cancelled_if, expiries_cancelled, serve, expiry_of, post_expiry, is_timer_event, Call, Reply, Origin, Payload, EXITED, plain_event, number_event, is_reserved, Scheduler, delivery, after_item, after_call, Cell, OwnTurn, is_done, arms, stops, is_arming, is_arming_or_stop, cell_after}
 use Rattle.run_laws.proofs.Changes.{Changes, of_changes, is_notice}
 use Rattle.run_laws.proofs.timer_deadlines.Fronts.{all-more, all-cancelled}
@@ -62,26 +62,6 @@ pub record Fair (p t : ℕ) (old new : Machine) : Type 0 where
 fair-then : (p t : ℕ) (a b c : Machine) → Fair p t a b → Fair p t b c → Fair p t a c
 fair-then p t a b c f g = grind (arith, nat_tests)
 
--- timers may leave the list
-drop_armed : (p t : ℕ) (old new : Timers) (clock waiting : ℕ) (ledger : Ledger) (was is : Bool)
-    → is_armed (event_timer p t) old ≡ was → is_armed (event_timer p t) new ≡ is → (is ≡ true → was ≡ true) → new.cells ≡ old.cells
-    → Balanced p t old clock waiting ledger → Balanced p t new clock waiting ledger
-drop_armed p t old new clock waiting ledger was is e f less same b =
-    record {
-      cell = λ n. rw same (b.cell n);
-      named = λ h. b.named (e ∙ less (sym f ∙ h));
-      set = λ h. b.set (e ∙ less (sym f ∙ h));
-      count = go was is e f less b.count;
-    }
-  where
-    go : (was is : Bool) → is_armed (event_timer p t) old ≡ was → is_armed (event_timer p t) new ≡ is → (is ≡ true → was ≡ true)
-        → waiting + ledger.given ≤ ledger.after_items + (if is_armed (event_timer p t) old then 0 else one_if (ledger.is_set && nat_le (deadline ledger.cell) clock))
-        → waiting + ledger.given ≤ ledger.after_items + (if is_armed (event_timer p t) new then 0 else one_if (ledger.is_set && nat_le (deadline ledger.cell) clock))
-    go true true e f less h = rw f (rw e at h)
-    go true false e f less h = let k = rw e at h in rw f (omega (arith, k))
-    go false true e f less h = absurd (grind (arith, less refl))
-    go false false e f less h = rw f (rw e at h)
-
 pub any-filter : (test keep : Timer → Bool) (xs : List Timer) → list_any test (filter keep xs) ≡ true → list_any test xs ≡ true
 any-filter test keep [] h = h
 any-filter test keep (x ∷ xs) h = grind (arith, nat_tests, any-filter test keep xs)
@@ -96,7 +76,7 @@ itself timer = grind (arith, nat_tests)
 
 pub listed : (clock : ℕ) (timers : Timers) (timer : Timer) (xs : List Timer) → find (is_due clock timers) xs ≡ Some timer → list_any (is_timer timer) xs ≡ true
 listed clock timers timer [] e = cc
-listed clock timers timer (x ∷ xs) e = grind (arith, nat_tests, itself, listed clock timers timer xs)
+listed clock timers timer (x ∷ xs) e = grind (arith, nat_tests, listed clock timers timer xs)
 
 pub that_timer : (p t : ℕ) (timer : Timer) → is_timer (event_timer p t) timer ≡ true → timer ≡ event_timer p t
 that_timer p t timer h = grind (arith, nat_tests, h)
@@ -155,24 +135,16 @@ notice-plain notice n = grind (arith, nat_tests, n)
 
 pub count-cancelled : (p t : ℕ) (test : ℕ → ℕ → Bool) (events : List (Queued Bool)) → count_events p t (map (cancelled_if test) events) ≡ count_events p t events
 count-cancelled p t test [] = refl
-count-cancelled p t test (Queued.To q event ∷ events) = rw (count-cancelled p t test events) refl
-count-cancelled p t test (Queued.ToAll event ∷ events) = rw (count-cancelled p t test events) refl
-count-cancelled p t test (Queued.Expiry q c x ∷ events) = rw (count-cancelled p t test events) refl
+count-cancelled p t test (item ∷ events) = grind (arith, nat_tests, count-cancelled p t test events)
 
 pub plain-cancelled : (test : ℕ → ℕ → Bool) (events : List (Queued Bool)) → list_all is_no_timer (map (cancelled_if test) events) ≡ list_all is_no_timer events
 plain-cancelled test events = all-cancelled is_no_timer test (λ event. grind arith) events
 
 dropped-fair : (p t : ℕ) (keep : Timer → Bool) (m : Machine) → Fair p t m (record m { timers = record m.timers { armed = filter keep m.timers.armed } })
-dropped-fair p t keep m = grind (arith, nat_tests, drop_armed, any-filter)
+dropped-fair p t keep m = grind (arith, nat_tests, any-filter)
 
 cancelled-fair : (p t : ℕ) (test : ℕ → ℕ → Bool) (m : Machine) → Fair p t m (expiries_cancelled test m)
-cancelled-fair p t test m =
-    record {
-      clock = refl;
-      names = refl;
-      plain = λ h. rw (plain-cancelled test m.scheduler.events) h;
-      balanced = λ ledger k. record { cell = k.cell; named = k.named; set = k.set; count = rw (count-cancelled p t test m.scheduler.events) k.count };
-    }
+cancelled-fair p t test m = grind (arith, nat_tests, plain-cancelled test m.scheduler.events, count-cancelled p t test m.scheduler.events)
 
 pub serve-fair : (p t q : ℕ) (event : Event) (m : Machine) → Fair p t m (serve q event m)
 serve-fair p t q event = of_changes changes
@@ -211,17 +183,13 @@ broadcast-count : (p t : ℕ) (ns : List ℕ) (event : Event) → is_no_timer (Q
 broadcast-count p t [] event h = refl
 broadcast-count p t (n ∷ ns) event h = omega (arith, broadcast-count p t ns event h, no_timer_event p t n event h)
 
-delivered-count : (p t : ℕ) (ns : List ℕ) (events : List (Queued Bool)) → list_all is_no_timer events ≡ true
-    → count_items p t (delivery ns (slice_get events 0)) + count_events p t (drop 1 events) ≤ count_events p t events
-delivered-count p t ns events h = grind (arith, nat_tests, broadcast-count)
-
 abbrev all_count : ℕ → ℕ → Scheduler Bool → ℕ
 all_count p t s = count_items p t s.agenda + count_events p t s.events
 
 -- an item adds none
 pub carried-count : (p t : ℕ) (item : Item) (items : List Item) (s : Scheduler Bool) → list_all is_no_timer s.events ≡ true
     → all_count p t (after_item item (with_agenda items s)) ≤ all_count p t (with_agenda (item ∷ items) s)
-carried-count p t item items s h = grind (arith, nat_tests, no_plain, count_items-append, polls-count, delivered-count)
+carried-count p t item items s h = grind (arith, nat_tests, no_plain, count_items-append, polls-count, broadcast-count)
 
 -- a call adds none
 

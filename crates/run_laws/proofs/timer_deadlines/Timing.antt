@@ -1,7 +1,7 @@
 -- The machine's timers against the ledger.
-use Rattle.std.proofs.Common.{◌≡◌, ℕ, ◌+◌, ◌-◌, ◌<◌, ◌≤◌, Bool, true, false, not, ◌||◌, List, [], ◌∷◌, refl, ◌∙◌, arith, map, filter, flat_map, ◌==◌, nat_le, nat_lt}
-use Rattle.run_laws.proofs.Common.{list_any, range_with_len, nat_tests, Timer, Cell, all_timers, event_timer, is_timer, Timers, zero_cell, cell_of, is_armed, armed_with, list_any-append, list_any_at, NamedCell, cell_under, given_cell, with_cell}
-use Rattle.std.proofs.lemmas.Bool.{eq-eqb, eqb-true}
+use Rattle.std.proofs.Common.{◌≡◌, ℕ, ◌+◌, ◌-◌, ◌<◌, ◌≤◌, true, false, not, List, [], ◌∷◌, refl, ◌∙◌, arith, map, filter, ◌==◌, nat_le, nat_lt}
+use Rattle.run_laws.proofs.Common.{list_any, range_with_len, nat_tests, Timer, Cell, all_timers, event_timer, is_timer, Timers, zero_cell, cell_of, is_armed, armed_with, list_any_at, NamedCell, cell_under, given_cell, with_cell}
+use Rattle.std.proofs.lemmas.Bool.{eq-eqb}
 use Rattle.std.proofs.lemmas.List.FromFn.{length-range_with_len, get_or-range_with_len}
 
 -- names
@@ -57,15 +57,6 @@ under-own timer cell (named ∷ cells) n = grind (arith, nat_tests, under-own ti
 
 -- every application has its event timers
 
-any_of_each : (test : Timer → Bool) (f : ℕ → List Timer) (p : ℕ) (ns : List ℕ) → list_any (λ n. n == p) ns ≡ true → list_any test (f p) ≡ true → list_any test (flat_map f ns) ≡ true
-any_of_each test f p [] e h = absurd (cc)
-any_of_each test f p (n ∷ ns) e h = rw (list_any-append test (f n) (flat_map f ns)) (go (n == p) refl e (λ later. any_of_each test f p ns later h))
-  where
-    go : (here : Bool) → (n == p) ≡ here → (here || list_any (λ n. n == p) ns) ≡ true → (list_any (λ n. n == p) ns ≡ true → list_any test (flat_map f ns) ≡ true)
-        → (list_any test (f n) || list_any test (flat_map f ns)) ≡ true
-    go true s later more = let same : n ≡ p = eqb-true n p s in rw (same, h) refl
-    go false s later more = let rest : list_any test (flat_map f ns) ≡ true = more later in grind (arith, rest)
-
 in_range : (from n p : ℕ) → from ≤ p → p < from + n → list_any (λ k. k == p) (range_with_len from n) ≡ true
 in_range from n p low high =
     list_any_at (λ k. k == p) (range_with_len from n) (p - from) 0 (omega (arith, length-range_with_len from n))
@@ -73,16 +64,13 @@ in_range from n p low high =
 
 event_timer-named : (p t : ℕ) → nat_le 4 p ≡ true → nat_lt p 20 ≡ true → nat_le t 7 ≡ true → list_any (is_timer (event_timer p t)) all_timers ≡ true
 unfolding all_timers
-event_timer-named p t a b c = grind (arith, nat_tests, a, b, c, any_of_each, in_range)
+event_timer-named p t a b c = grind (arith, nat_tests, a, b, c)
 
 pub cell-armed_own : (p t : ℕ) (cell : Cell) (timers : Timers) → cell_names timers.cells ≡ all_timers → nat_le 4 p ≡ true → nat_lt p 20 ≡ true → nat_le t 7 ≡ true
     → cell_of (event_timer p t) (armed_with (event_timer p t) cell timers) ≡ cell
 cell-armed_own p t cell timers l a b c = under-own (event_timer p t) cell timers.cells (rw l (event_timer-named p t a b c))
 
 -- the list
-
-pub armed-own : (timer : Timer) (cell : Cell) (timers : Timers) → is_armed timer (armed_with timer cell timers) ≡ true
-armed-own timer cell timers = grind (arith, nat_tests, same_timer)
 
 pub armed-other : (timer other : Timer) (cell : Cell) (timers : Timers) → is_timer timer other ≡ false
     → is_armed timer (armed_with other cell timers) ≡ is_armed timer timers

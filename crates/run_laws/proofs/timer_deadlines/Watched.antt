@@ -70,13 +70,9 @@ carried-home : (item : Item) (items : List Item) (s : Scheduler Bool) → is_reg
     → is_home (after_item item (with_agenda items s)).processes ≡ true
 carried-home item items s r h = grind (arith, nat_tests, r, h, home-with_state, home-with_mark, home-without)
 
-carried-watched : (item : Item) (items : List Item) (s : Scheduler Bool) → is_quiet_item item ≡ true → is_served item ≡ false → is_regular item ≡ true
-    → is_watched (with_agenda (item ∷ items) s) ≡ true → is_watched (after_item item (with_agenda items s)) ≡ true
-carried-watched item items s n k r h = grind (arith, nat_tests, marks-with_state, marks-without, carried-any, marks-other)
-
 pub watched-carried : (item : Item) (items : List Item) (m : Machine) → is_quiet_item item ≡ true → is_served item ≡ false → is_regular item ≡ true
     → Watched (facing (item ∷ items) m) → Watched (carried item items m)
-watched-carried item items m n k r h = grind (arith, nat_tests, carried-home, carried-watched)
+watched-carried item items m n k r h = grind (arith, nat_tests, carried-home, marks-with_state, marks-without, carried-any, marks-other)
 
 -- these items in front
 pub watched-front : (xs : List Item) (m : Machine) → Watched m → Watched (scheduled (in_front xs) m)
@@ -162,12 +158,9 @@ after-marks call q m h = grind (arith, h, marks-with_state, marks-with_mark)
 after-home : (call : Call) (q : ℕ) (m : Machine) → is_home m.scheduler.processes ≡ true → is_home (after_call call q m).scheduler.processes ≡ true
 after-home call q m h = grind (arith, h, home-with_state, home-with_mark)
 
-after-watched : (call : Call) (q : ℕ) (m : Machine) → is_watched m.scheduler ≡ true → is_watched (after_call call q m).scheduler ≡ true
-after-watched call q m h = grind (arith, nat_tests, after-marks, after-any)
-
 -- a call that makes no more timers due
 fewer : (call : Call) (q : ℕ) (m : Machine) → Watched m → (is_timer_due m.clock (after_call call q m).timers ≡ true → is_timer_due m.clock m.timers ≡ true) → Watched (after_call call q m)
-fewer call q m h less = grind (arith, nat_tests, after-home, after-watched, after-clock)
+fewer call q m h less = grind (arith, nat_tests, after-home, after-clock, after-marks, after-any)
 
 -- a call that is refused, or else marks etimer
 refused_or_marked : (q : ℕ) (o : Option Refusal) (m after : Machine) → Watched m → after.scheduler ≡ (mark 0 m).scheduler → Watched (refused_or o q m (answer_done q after))
