@@ -1,9 +1,6 @@
 -- Worked examples: names of applications, and the configuration that is named.
-use Rattle.std.proofs.Common.{◌≡◌, true, [], ◌∷◌, codes, refl}
-use Rattle.std.specs.Prelude.{None, find, length}
-use Rattle.mote_apps.specs.Bundled.{named}
-use Rattle.mote.specs.CommandLine.{config_of}
-use Rattle.mote_words.specs.CommandLine.{applications_of, is_unknown}
+use Rattle.std.proofs.Common.{◌≡◌, true, [], ◌∷◌, codes, refl, None, find, length}
+use Rattle.mote.proofs.Common.{named, config_of, applications_of, is_unknown}
 
 -- repeats are allowed, and each name is an application's
 three_applications : length (applications_of named (codes "blink" ∷ codes "echo" ∷ codes "blink" ∷ [])) ≡ 3

@@ -1,3 +1,3 @@
-mod Boxed
 mod Examples
 mod Named
+pub mod Common

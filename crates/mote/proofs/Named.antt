@@ -1,15 +1,8 @@
 -- What was done on words, by how the run of a mote was answered.
-use Rattle.std.proofs.Common.{rules, ◌≡◌, ℕ, Bool, true, false, List, refl, sym, subst, inl, inr}
-use Rattle.std.specs.Prelude.{Result, Ok, Err, IfOk, OnErr, IsErrOf, IsErr, IsErrAnd}
-use Rattle.mote_types.specs.Applications.{Applications}
-use Rattle.mote_text.specs.declared.script.End.{End}
-use Rattle.kernel_core.specs.declared.config.Config.{Config}
-use Rattle.mote_run.specs.RunText.{Exchanged, HasRunTo}
-use Rattle.mote_run.proofs.HandedOn.{nothing_ran}
+use Rattle.std.proofs.Common.{rules, ◌≡◌, ℕ, Bool, true, false, List, refl, sym, subst, inl, inr, Result, Ok, Err, IfOk, OnErr, IsErrOf, IsErr, IsErrAnd}
+use Rattle.mote.proofs.Common.{Applications, End, Config, Exchanged, HasRunTo, nothing_ran, Refuses, Failure}
 use Rattle.mote_words.specs.declared.refusal.ParserText.{ParserText}
-use Rattle.mote.specs.CommandLine.{Refuses}
 use Rattle.mote_shell.specs.Statuses.{IsShown}
-use Rattle.mote_shell.specs.declared.failure.Failure.{Failure}
 
 -- no refusal of words says that reading failed
 refusal_is_other : (words : List (List ℕ)) (failure : Failure) → Refuses words failure → failure ≡ Failure.Read → ⊥
@@ -37,14 +30,11 @@ not_shown x = record {
 -- what holds of an outcome holds of it once it was shown, if it holds of a failed write where a text could not be shown
 pub of_shown : (P : Result End Failure → Type 0) (outcome shown : Result End Failure) → P outcome
     → ((text : ParserText) → outcome ≡ Err (Failure.Request text) → P (Err (Failure.Request text)) → P (Err Failure.Write)) → IsShown outcome shown → P shown
-of_shown P (Ok end) shown holds failed same = subst P (sym same) holds
 of_shown P (Err (Failure.Request text)) shown holds failed (inl same) = subst P (sym same) holds
 of_shown P (Err (Failure.Request text)) shown holds failed (inr lost) = subst P (sym lost) (failed text refl holds)
-of_shown P (Err (Failure.Words text)) shown holds failed same = subst P (sym same) holds
-of_shown P (Err (Failure.NoApplication name)) shown holds failed same = subst P (sym same) holds
-of_shown P (Err Failure.NotText) shown holds failed same = subst P (sym same) holds
-of_shown P (Err Failure.TooManyApplications) shown holds failed same = subst P (sym same) holds
-of_shown P (Err Failure.BadSizes) shown holds failed same = subst P (sym same) holds
-of_shown P (Err Failure.OutOfMemory) shown holds failed same = subst P (sym same) holds
-of_shown P (Err Failure.Read) shown holds failed same = subst P (sym same) holds
-of_shown P (Err Failure.Write) shown holds failed same = subst P (sym same) holds
+of_shown P outcome shown holds failed same = subst P (sym same) holds
+
+-- what holds of a run with the one holds of it with the others
+pub said_the_same : {P Q : Type 0} {G : Config → Type 0} (R : Config → Applications → Type 0) (says others : Applications) → says ≡ others →
+    (P → Q → (config : Config) → G config → R config says) → P → Q → (config : Config) → G config → R config others
+said_the_same R says others same run p q config given = subst (R config) same (run p q config given)

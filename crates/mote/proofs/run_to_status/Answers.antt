@@ -1,8 +1,5 @@
 use Rattle.std.proofs.Common.{◌≡◌, ◌∙◌, List, ℕ, ap, map, inr, string_bytes, subst}
-use Rattle.mote_apps.specs.Bundled.{named}
-use Rattle.mote_words.specs.CommandLine.{named_in, texts}
-use Rattle.mote.specs.CommandLine.{HasRunNamed, IsOutcome}
-use Rattle.mote_run.specs.RunText.{Exchanged}
+use Rattle.mote.proofs.Common.{named, named_in, texts, HasRunNamed, IsOutcome, Exchanged}
 use Rattle.mote.proofs.Named.{not_shown, of_shown}
 use Rattle.mote.proofs.run_to_status.Goals as goal
 

@@ -1,10 +1,8 @@
-use Rattle.std.proofs.Common.{rules, ℕ, ◌≡◌, ◌∙◌, ap, refl, Bool, true, false}
-use Rattle.std.specs.Prelude.{Result, Ok, Err}
-use Rattle.kernel_core.specs.declared.config.Config.{Config}
+use Rattle.std.proofs.Common.{rules, ℕ, ◌≡◌, ◌∙◌, ap, refl, Bool, true, false, Result, Ok, Err}
+use Rattle.mote.proofs.Common.{Config, config_of}
 use Rattle.kernel_core.specs.Machine.{booted, is_bootable}
 use Rattle.mote_apps.specs.declared.bundled.Bundled.{Bundled}
 use Rattle.mote_words.specs.declared.words.Named.{Named}
-use Rattle.mote.specs.CommandLine.{config_of}
 use Rattle.mote.proofs.prepare.prepare.Goals as goal
 
 abbrev is_ok : {T E : Type 0} → Result T E → Bool

@@ -1,15 +1,8 @@
-use Rattle.std.proofs.Common.{rules, refl, inl, ◌≡◌, ◌∷◌, [], ◌++◌, ◌∙◌, ap, sym, subst, length}
-use Rattle.std.specs.Prelude.{Result, Ok, Err, IsErrOf}
-use Rattle.std.specs.Result.{IsErrAnd}
-use Rattle.std.proofs.lemmas.List.{append-nil, append_assoc}
+use Rattle.std.proofs.Common.{rules, refl, inl, ◌≡◌, ◌∷◌, [], ◌++◌, ◌∙◌, ap, sym, subst, length, Result, Ok, Err, IsErrOf, IsErrAnd}
+use Rattle.mote.proofs.Common.{append-nil, append_assoc, Says, bundled_says, End, Exchanged, HasRunTo, ended, fault_handed_on, nothing_ran, Failure}
 use denote.Param.Object.{read_made}
-use Rattle.mote_types.specs.Applications.{Says}
-use Rattle.mote_apps.specs.Bundled.{bundled_says}
-use Rattle.mote_text.specs.declared.script.End.{End}
-use Rattle.mote_run.specs.RunText.{Exchanged, HasRunTo}
-use Rattle.mote_run.proofs.HandedOn.{ended, fault_handed_on, nothing_ran}
-use Rattle.mote_shell.specs.declared.failure.Failure.{Failure}
-use Rattle.mote.proofs.Boxed.{as_many_more, one_more, said_the_same, same_applications}
+use Rattle.mote.proofs.Named.{said_the_same}
+use Rattle.mote_run.proofs.Boxed.{all_yielded, as_many_more, one_more, same_applications}
 use Rattle.mote.proofs.running.run_prepared.OwnLists.{own-1}
 use Rattle.mote.proofs.running.run_prepared.Goals as goal
 
@@ -39,9 +32,7 @@ returns-in_err-push-clause-ran g c =
 
 pub run-requires-clause-booted : goal.run-requires-clause-booted
 run-requires-clause-booted g c =
-    let yielded = c.loop-application.yielded in
-    let all : yielded ≡ c.args.prepared.applications.items =
-    sym (append-nil yielded) ∙ (ap (λ rest. yielded ++ rest) (sym c.in-None.ensures.steps.0) ∙ c.loop-application.invariant.1) in
+    let all = all_yielded c.loop-application.yielded _ _ c.in-None.ensures.steps.0 c.loop-application.invariant.1 in
     let as_many : length c.as_mut_slice.result.now ≡ length c.args.prepared.applications.items =
     ap length c.as_mut_slice.ensures.value ∙ (c.loop-application.invariant.0 ∙ ap length all) in
     let given = c.requires.booted in
@@ -49,9 +40,7 @@ run-requires-clause-booted g c =
 
 pub returns-in-Ok-clause-ran : goal.returns-in-Ok-clause-ran
 returns-in-Ok-clause-ran g c =
-    let yielded = c.loop-application.yielded in
-    let all : yielded ≡ c.args.prepared.applications.items =
-    sym (append-nil yielded) ∙ (ap (λ rest. yielded ++ rest) (sym c.in-None.ensures.steps.0) ∙ c.loop-application.invariant.1) in
+    let all = all_yielded c.loop-application.yielded _ _ c.in-None.ensures.steps.0 c.loop-application.invariant.1 in
     said_the_same
     (λ config says. Exchanged (g.S.ByteSource.taken c.args.source.now) (g.S.ByteSource.taken c.run.new.source) (g.S.ByteSource.is_ended c.run.new.source) (g.K.ByteSink.given c.args.sink.now) (g.K.ByteSink.given c.run.new.sink)
     (HasRunTo config says c.args.prepared.quiet Failure.Read (Ok c.in-Ok.end)))
@@ -60,9 +49,7 @@ returns-in-Ok-clause-ran g c =
 
 pub returns-in-Err-Read-clause-ran : goal.returns-in-Err-Read-clause-ran
 returns-in-Err-Read-clause-ran g c =
-    let yielded = c.loop-application.yielded in
-    let all : yielded ≡ c.args.prepared.applications.items =
-    sym (append-nil yielded) ∙ (ap (λ rest. yielded ++ rest) (sym c.in-None.ensures.steps.0) ∙ c.loop-application.invariant.1) in
+    let all = all_yielded c.loop-application.yielded _ _ c.in-None.ensures.steps.0 c.loop-application.invariant.1 in
     said_the_same
     (λ config says. Exchanged (g.S.ByteSource.taken c.args.source.now) (g.S.ByteSource.taken c.run.new.source) (g.S.ByteSource.is_ended c.run.new.source) (g.K.ByteSink.given c.args.sink.now) (g.K.ByteSink.given c.run.new.sink)
     (HasRunTo config says c.args.prepared.quiet Failure.Read (Err Failure.Read)))
@@ -71,9 +58,7 @@ returns-in-Err-Read-clause-ran g c =
 
 pub returns-clause-ran : goal.returns-clause-ran
 returns-clause-ran g c =
-    let yielded = c.loop-application.yielded in
-    let all : yielded ≡ c.args.prepared.applications.items =
-    sym (append-nil yielded) ∙ (ap (λ rest. yielded ++ rest) (sym c.in-None.ensures.steps.0) ∙ c.loop-application.invariant.1) in
+    let all = all_yielded c.loop-application.yielded _ _ c.in-None.ensures.steps.0 c.loop-application.invariant.1 in
     said_the_same
     (λ config says. Exchanged (g.S.ByteSource.taken c.args.source.now) (g.S.ByteSource.taken c.run.new.source) (g.S.ByteSource.is_ended c.run.new.source) (g.K.ByteSink.given c.args.sink.now) (g.K.ByteSink.given c.run.new.sink)
     (HasRunTo config says c.args.prepared.quiet Failure.Read (Err Failure.Write)))

@@ -1,5 +1,5 @@
 use Rattle.std.proofs.Common.{◌≡◌, ◌++◌, length, map}
-use Rattle.mote_apps.specs.Bundled.{bundled_says}
+use Rattle.mote.proofs.Common.{bundled_says}
 use Rattle.mote.proofs.running.run_prepared.OwnLists.{own-1}
 use Rattle.mote.proofs.running.run_prepared.Given as goal
 

@@ -1,11 +1,5 @@
-use Rattle.std.proofs.Common.{subst, Bool, refl}
-use Rattle.std.specs.Prelude.{Err}
-use Rattle.mote_types.specs.Applications.{says_of}
-use Rattle.mote_apps.specs.Bundled.{bundled_says, named}
-use Rattle.mote_run.specs.RunText.{Exchanged, HasRunTo}
-use Rattle.mote_shell.specs.declared.failure.Failure.{Failure}
-use Rattle.mote_words.specs.CommandLine.{named_in, texts}
-use Rattle.mote.specs.CommandLine.{config_of}
+use Rattle.std.proofs.Common.{subst, Bool, refl, Err}
+use Rattle.mote.proofs.Common.{says_of, bundled_says, named, Exchanged, HasRunTo, Failure, named_in, texts, config_of}
 use Rattle.mote.proofs.Named.{ran_nothing}
 use Rattle.mote.proofs.running.run_words.Goals as goal
 
