@@ -1,13 +1,13 @@
 //! The shapes and words of a picture.
 
 use crate::grounds::lines_of;
-use crate::labels::{
-    push_answer, push_call, push_ending, push_input, push_note, push_told, refusal_in,
-};
 use crate::page::{CLOCK, Page, ROW};
 use crate::pen::{Area, Pen, Place, text_element, with_span};
 use picture_markup::Element;
 use run_rows::{Activation, Curve, Gift, Life, Marks, Row, Show};
+use run_words::{
+    push_answer, push_call, push_ending, push_input, push_note, push_told, refusal_in,
+};
 use std::alloc::{AllocError, Global};
 use transcript_lines::{Line, Origin, Turn, read_line};
 

@@ -4,7 +4,6 @@
 mod drawing;
 mod grounds;
 mod head;
-mod labels;
 mod memory_columns;
 mod page;
 mod pen;

@@ -1,4 +1,4 @@
-//! The words that a picture has for what a line tells.
+//! What lines tell, in words.
 
 use hex::FromHexError;
 use std::alloc::{AllocError, Global};
@@ -41,7 +41,7 @@ fn push_numbers(out: &mut String, bytes: &[u8]) -> Result<(), AllocError> {
 }
 
 /// Appends what the digits of bytes stand for: text in quotes where it is text, else two digits for each byte.
-pub(crate) fn push_bytes(alloc: Global, out: &mut String, digits: &str) -> Result<(), AllocError> {
+fn push_bytes(alloc: Global, out: &mut String, digits: &str) -> Result<(), AllocError> {
     let bytes = match hex::decode(alloc, digits) {
         Ok(bytes) => bytes,
         Err(FromHexError::OutOfMemory) => return Err(AllocError),
@@ -95,11 +95,7 @@ fn push_event(
 }
 
 /// Appends what a process was told; an answer stands with its call.
-pub(crate) fn push_told(
-    alloc: Global,
-    out: &mut String,
-    turn: &Turn<'_>,
-) -> Result<(), AllocError> {
+pub fn push_told(alloc: Global, out: &mut String, turn: &Turn<'_>) -> Result<(), AllocError> {
     match turn.origin {
         Origin::Answer => Ok(()),
         Origin::Callback => write!(out, "callback {}", turn.stimulus),
@@ -139,12 +135,12 @@ fn reason(number: &str) -> &'static str {
 }
 
 /// The number of its refusal, where an answer is one.
-pub(crate) fn refusal_in(answer: &str) -> Option<&str> {
+pub fn refusal_in(answer: &str) -> Option<&str> {
     answer.strip_prefix("refused ")
 }
 
 /// Appends an answer behind its call.
-pub(crate) fn push_answer(alloc: Global, out: &mut String, answer: &str) -> Result<(), AllocError> {
+pub fn push_answer(alloc: Global, out: &mut String, answer: &str) -> Result<(), AllocError> {
     if let Some(number) = refusal_in(answer) {
         return write!(out, "  ✗ {} ({number})", reason(number));
     }
@@ -169,7 +165,7 @@ fn ends_in_payload(word: &str) -> bool {
 }
 
 /// Appends a call: its words, and bytes among them as text where they are text.
-pub(crate) fn push_call(alloc: Global, out: &mut String, call: &str) -> Result<(), AllocError> {
+pub fn push_call(alloc: Global, out: &mut String, call: &str) -> Result<(), AllocError> {
     let Some((front, last)) = call.rsplit_once(' ') else {
         return out.push_str(call);
     };
@@ -186,11 +182,7 @@ pub(crate) fn push_call(alloc: Global, out: &mut String, call: &str) -> Result<(
 }
 
 /// Appends an input.
-pub(crate) fn push_input(
-    alloc: Global,
-    out: &mut String,
-    input: &Input<'_>,
-) -> Result<(), AllocError> {
+pub fn push_input(alloc: Global, out: &mut String, input: &Input<'_>) -> Result<(), AllocError> {
     match *input {
         Input::Tick(ticks) => write!(out, "tick {ticks}"),
         Input::Serial(digits) => {
@@ -205,11 +197,7 @@ pub(crate) fn push_input(
 }
 
 /// Appends what became of a frame.
-pub(crate) fn push_note(
-    alloc: Global,
-    out: &mut String,
-    note: &Note<'_>,
-) -> Result<(), AllocError> {
+pub fn push_note(alloc: Global, out: &mut String, note: &Note<'_>) -> Result<(), AllocError> {
     match *note {
         Note::Lost(1) => out.push_str("✗ the frame is lost: 8 are held (1)"),
         Note::Lost(number) => write!(
@@ -224,7 +212,7 @@ pub(crate) fn push_note(
 }
 
 /// Appends how the run ended.
-pub(crate) fn push_ending(out: &mut String, ending: Ending) -> Result<(), AllocError> {
+pub fn push_ending(out: &mut String, ending: Ending) -> Result<(), AllocError> {
     match ending {
         Ending::Halt => out.push_str("halt: 10,000 turns and rounds in one input"),
         Ending::BadLine(number) => write!(out, "bad line {number}: the script ends here"),
