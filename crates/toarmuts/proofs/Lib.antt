@@ -1,2 +1,2 @@
-mod Boxed
 mod ReadLines
+pub mod Common

@@ -1,12 +1,7 @@
 -- The applications of the lines that were read, and the lines that are left.
-use Rattle.std.proofs.Common.{◌≡◌, ◌∙◌, ◌+◌, ◌<◌, ℕ, suc, List, [], ◌∷◌, ◌++◌, refl, sym, ap, subst, length, arith, length-append}
-use Rattle.std.specs.Prelude.{Option, Some, None, Result, Ok, Err, IfErr, IsErr, IsErrAnd}
+use Rattle.std.proofs.Common.{◌≡◌, ◌∙◌, ◌+◌, ◌<◌, ℕ, suc, List, [], ◌∷◌, ◌++◌, refl, sym, ap, subst, length, arith, length-append, Option, Some, None, Result, Ok, Err, IfErr, IsErr, IsErrAnd}
 use Rattle.std.specs.Iterator.{AlwaysYields}
-use Rattle.std.proofs.lemmas.List.{append-nil, append_assoc}
-use Rattle.mote_apps.specs.Bundled.{named}
-use Rattle.call_lists.specs.declared.applications.Application.{Application}
-use Rattle.toarmuts.specs.Answers.{AreOfLines, AreRefused, IsOfLine, IsRefusedLine, NamesNone}
-use Rattle.toarmuts.specs.declared.refusal.Refusal.{Refusal}
+use Rattle.toarmuts.proofs.Common.{append-nil, append_assoc, named, Application, AreOfLines, AreRefused, IsOfLine, IsRefusedLine, NamesNone, Refusal}
 
 pub as_many : (lines : List (List ℕ)) (applications : List Application) → AreOfLines lines applications → length lines ≡ length applications
 as_many [] [] are = refl
@@ -99,14 +94,12 @@ module _ {S A : Type 0} (steps : S → Option A → S → Type 0) (v : A → Lis
   -- why the line that is yielded is refused, the lines are
   pub refused_line : (all : List (List ℕ)) (applications : List Application) (count : ℕ) (s t : S) (x : A) (refusal : Refusal)
       → AreLeft all applications s → steps s (Some x) t → count ≡ length applications → IsRefusedLine (v x) count refusal → AreRefused all refusal
-  refused_line all applications count s t x Refusal.NotText left step same refused = absurd refused
   refused_line all applications count s t x (Refusal.NoApplication number) left step same refused =
       subst (NamesNone all) (sym (refused.0 ∙ ap (λ n. n + 1) same)) (names_none all applications s t x left step refused.1)
   refused_line all applications count s t x Refusal.TooManyApplications left step same refused =
       let more : length applications < length all = one_too_many all applications s t x left step in
       omega (arith, same, refused, more)
-  refused_line all applications count s t x Refusal.BadSizes left step same refused = absurd refused
-  refused_line all applications count s t x Refusal.OutOfMemory left step same refused = absurd refused
+  refused_line all applications count s t x refusal left step same refused = absurd refused
 
   come_to_end : (all : List (List ℕ)) (applications : List Application) (s t : S) (left : List (List ℕ))
       → AreRead all applications left → AlwaysYields steps v s left → steps s None t → AreOfLines all applications

@@ -1,5 +1,5 @@
 use Rattle.std.proofs.Common.{◌<◌, ℕ, List, sym, subst, arith}
-use Rattle.toarmuts.specs.Answers.{HasRun}
+use Rattle.toarmuts.proofs.Common.{HasRun}
 use Rattle.toarmuts.proofs.toarmuts_run.Goals as goal
 
 pub returns-in-Ok-clause-text : goal.returns-in-Ok-clause-text

@@ -1,9 +1,6 @@
-use Rattle.std.proofs.Common.{◌≡◌, ℕ, List, inl, inr, ap, sym, subst}
-use Rattle.std.specs.Prelude.{Option, Some, None, Result, Ok, Err, IfOk, IfSome, IfNone, OnErr}
+use Rattle.std.proofs.Common.{◌≡◌, ℕ, List, inl, inr, ap, sym, subst, Option, Some, None, Result, Ok, Err, IfOk, IfSome, IfNone, OnErr}
 use Rattle.std.specs.Result.{result_ok}
-use Rattle.mote_apps.specs.Bundled.{named}
-use Rattle.call_lists.specs.declared.applications.Application.{Application}
-use Rattle.toarmuts.specs.Answers.{HasCalls, IsOfLine}
+use Rattle.toarmuts.proofs.Common.{named, Application, HasCalls, IsOfLine}
 use Rattle.toarmuts.proofs.lines.application_of.Goals as goal
 
 -- a line with calls is no name

@@ -1,8 +1,7 @@
-use Rattle.std.proofs.Common.{◌≡◌, ◌∙◌, ℕ, List, ◌++◌, inr, ap, sym}
-use Rattle.std.specs.Prelude.{Option, Some, None, MatchOption, IfSome, codes}
+use Rattle.std.proofs.Common.{◌≡◌, ◌∙◌, ℕ, List, ◌++◌, inr, ap, sym, Option, Some, None, MatchOption, IfSome, codes}
 use Rattle.std.specs.Str.Pattern.{FindsTextPrefix, StripsPrefix}
 use denote.Ref.{Bor}
-use Rattle.toarmuts.specs.Answers.{HasCalls}
+use Rattle.toarmuts.proofs.Common.{HasCalls}
 use Rattle.toarmuts.proofs.lines.calls_in.Goals as goal
 
 -- what is left behind a word that was stripped

@@ -1,9 +1,6 @@
-use Rattle.std.specs.Str.Iter.{lines_rest, lines_steps}
-use Rattle.std.specs.Str.Lines.{lines}
+use Rattle.toarmuts.proofs.Common.{lines_rest, lines_steps, lines, Application, AreRefused}
 use Rattle.std.proofs.Common.{◌≡◌, List, [], rules, length, subst, sym}
 use Rattle.std.proofs.lemmas.Iterator.Splits.{YieldsList-from_lines}
-use Rattle.call_lists.specs.declared.applications.Application.{Application}
-use Rattle.toarmuts.specs.Answers.{AreRefused}
 use Rattle.toarmuts.proofs.ReadLines.{AreRead, handed_on, none_read, none_left, one_less, refused_line}
 use Rattle.toarmuts.proofs.lines.read_applications.Goals as goal
 

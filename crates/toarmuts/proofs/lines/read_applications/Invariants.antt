@@ -1,5 +1,4 @@
-use Rattle.std.specs.Str.Iter.{lines_steps}
-use Rattle.std.specs.Str.Lines.{lines}
+use Rattle.toarmuts.proofs.Common.{lines_steps, lines}
 use Rattle.toarmuts.proofs.ReadLines.{AreLeft}
 use Rattle.toarmuts.proofs.lines.read_applications.Given as goal
 

@@ -1,13 +1,8 @@
 use Rattle.std.proofs.Common.{rules, arith, refl, inl, ◌≡◌, ◌∷◌, [], ◌++◌, ◌∙◌, List, ap, sym, subst, length, false}
-use Rattle.std.specs.Vec.Iter.{into_iter_items}
-use Rattle.std.proofs.lemmas.List.{append-nil, append_assoc}
+use Rattle.toarmuts.proofs.Common.{into_iter_items, append-nil, append_assoc, Applications, Says, says_of, IsRunText, config_of, application_says}
 use denote.Param.Object.{read_made}
-use Rattle.mote_types.specs.Applications.{Applications, Says, says_of}
 use Rattle.kernel_core.specs.Machine.{is_bootable}
-use Rattle.mote_run.specs.RunText.{IsRunText}
-use Rattle.mote_kit.specs.Runs.{config_of}
-use Rattle.call_lists.specs.Applications.{application_says}
-use Rattle.toarmuts.proofs.Boxed.{as_many_more, one_more, same_applications}
+use Rattle.mote_run.proofs.Boxed.{all_yielded, as_many_more, one_more, same_applications}
 use Rattle.toarmuts.proofs.running.run_applications.OwnLists.{own-1}
 use Rattle.toarmuts.proofs.running.run_applications.Goals as goal
 
@@ -36,11 +31,9 @@ loop-application-preserved c =
 pub returns-in-Ok-clause-text : goal.returns-in-Ok-clause-text
 returns-in-Ok-clause-text c =
     let before = c.loop-application.invariant in
-    let yielded = c.loop-application.yielded in
     let ran = c.in-Ok.ran in
     let empty : into_iter_items c.loop-application.application-iterator ≡ [] = nothing_left _ (sym before.3 ∙ c.in-None.ensures.steps.0) in
-    let all : yielded ≡ c.args.applications.items =
-    sym (append-nil yielded) ∙ (ap (λ rest. yielded ++ rest) (sym empty) ∙ (before.1 ∙ c.into_iter-application-iterator.ensures.into_iter_gives.0)) in
+    let all = all_yielded c.loop-application.yielded _ _ empty (before.1 ∙ c.into_iter-application-iterator.ensures.into_iter_gives.0) in
     let as_many : length c.as_mut_slice.result.now ≡ length c.args.applications.items =
     ap length c.as_mut_slice.ensures.value ∙ (before.0 ∙ ap length all) in
     subst (λ n. IsRunText (config_of c.args.sizes n) (says_of application_says c.args.applications.items) c.args.quiet c.args.script.now ran.transcript.items ran.end)
@@ -51,10 +44,8 @@ returns-in-Ok-clause-text c =
 pub returns-in-Err-BadSizes-clause-refused : goal.returns-in-Err-BadSizes-clause-refused
 returns-in-Err-BadSizes-clause-refused c =
     let before = c.loop-application.invariant in
-    let yielded = c.loop-application.yielded in
     let empty : into_iter_items c.loop-application.application-iterator ≡ [] = nothing_left _ (sym before.3 ∙ c.in-None.ensures.steps.0) in
-    let all : yielded ≡ c.args.applications.items =
-    sym (append-nil yielded) ∙ (ap (λ rest. yielded ++ rest) (sym empty) ∙ (before.1 ∙ c.into_iter-application-iterator.ensures.into_iter_gives.0)) in
+    let all = all_yielded c.loop-application.yielded _ _ empty (before.1 ∙ c.into_iter-application-iterator.ensures.into_iter_gives.0) in
     let as_many : length c.as_mut_slice.result.now ≡ length c.args.applications.items =
     ap length c.as_mut_slice.ensures.value ∙ (before.0 ∙ ap length all) in
     subst (λ n. is_bootable (config_of c.args.sizes n) ≡ false) as_many (c.in-Err-BadSizes.ensures.bad_sizes.0 (search rules))

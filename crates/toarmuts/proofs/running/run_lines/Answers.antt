@@ -1,33 +1,23 @@
-use Rattle.std.proofs.Common.{◌≡◌, ℕ, List, Bool, subst, length, sym}
-use Rattle.std.specs.Prelude.{Result, Ok, Err, IfOk, IfErr}
-use Rattle.std.specs.Str.Lines.{lines}
-use Rattle.mote_types.specs.Applications.{says_of}
+use Rattle.std.proofs.Common.{◌≡◌, ℕ, List, Bool, subst, length, sym, Result, Ok, Err, IfOk, IfErr}
+use Rattle.toarmuts.proofs.Common.{lines, says_of, IsRunText, config_of, application_says, AreOfLines, AreRefused, IsRefusedRun, Refuses, Refusal}
 use Rattle.node_memory.specs.declared.sizes.Sizes.{Sizes}
-use Rattle.mote_run.specs.RunText.{IsRunText}
-use Rattle.mote_kit.specs.Runs.{config_of}
-use Rattle.call_lists.specs.Applications.{application_says}
-use Rattle.toarmuts.specs.Answers.{AreOfLines, AreRefused, IsRefusedRun, Refuses}
 use Rattle.toarmuts.specs.Configurations.{sizes_of}
 use Rattle.toarmuts.specs.declared.configuration.Configuration.{Configuration}
-use Rattle.toarmuts.specs.declared.refusal.Refusal.{Refusal}
 use Rattle.toarmuts.proofs.ReadLines.{as_many, handed_on}
 use Rattle.toarmuts.proofs.running.run_lines.Goals as goal
 
 refused_lines : (configuration : Configuration) (text : List ℕ) (refusal : Refusal) → AreRefused (lines text) refusal → Refuses configuration text refusal
 refused_lines configuration text Refusal.NotText refused = absurd refused
-refused_lines configuration text (Refusal.NoApplication number) refused = refused
-refused_lines configuration text Refusal.TooManyApplications refused = refused
 refused_lines configuration text Refusal.BadSizes refused = absurd refused
 refused_lines configuration text Refusal.OutOfMemory refused = tt
+refused_lines configuration text refusal refused = refused
 
 refused_run : (configuration : Configuration) (text : List ℕ) (applications : ℕ) (refusal : Refusal) → length (lines text) ≡ applications
     → IsRefusedRun (config_of (sizes_of configuration) applications) refusal → Refuses configuration text refusal
-refused_run configuration text applications Refusal.NotText same refused = absurd refused
-refused_run configuration text applications (Refusal.NoApplication number) same refused = absurd refused
-refused_run configuration text applications Refusal.TooManyApplications same refused = absurd refused
 refused_run configuration text applications Refusal.BadSizes same refused =
     subst (λ n. IsRefusedRun (config_of (sizes_of configuration) n) Refusal.BadSizes) (sym same) refused
 refused_run configuration text applications Refusal.OutOfMemory same refused = tt
+refused_run configuration text applications refusal same refused = absurd refused
 
 on_ok : {T E : Type 0} (P Q : T → Type 0) (r : Result T E) → ((x : T) → P x → Q x) → IfOk r P → IfOk r Q
 on_ok P Q (Ok x) f p = f x p
