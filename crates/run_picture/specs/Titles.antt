@@ -3,8 +3,9 @@ use Rattle.std.specs.Prelude.{◌≡◌, ℕ, ◌+◌, ◌-◌, ◌^◌, ◌≤�
 use Rattle.std.specs.Bool.{OnTrue}
 use denote.Ref.{Bor}
 use Rattle.picture_markup.specs.declared.names.Tag.{Tag}
-use Rattle.picture_markup.specs.Markup.{AreAttributes, IsContent, escaped}
+use Rattle.picture_markup.specs.Markup.{AreAttributes, IsContent}
 use Rattle.picture_markup.specs.Parts.{Parts, text_of}
+use Rattle.picture_page.specs.Title.{title_element}
 use Rattle.run_rows.specs.declared.row.Row.{Row}
 use Rattle.run_rows.specs.declared.row.Show.{Show}
 use Rattle.run_rows.specs.declared.rows.Shown.{Shown}
@@ -31,10 +32,6 @@ title_by (Show.Again _) lines first count = folded_title first count (slice_inde
 
 abbrev pub title_of : List (List ℕ) → Row → List ℕ
 title_of lines row = title_by row.show lines row.first row.count
-
--- an element `title` with that text inside
-abbrev pub title_element : List ℕ → Parts
-title_element title = record { tag = Tag.Title; attributes = []; inside = escaped title }
 
 -- the ground of a row: a rectangle with the row's title inside
 pub record IsGround (lines : List (List ℕ)) (row : Row) (element : Parts) : Type 0 where

@@ -1,9 +1,9 @@
 //! The shapes and words of a picture.
 
 use crate::grounds::lines_of;
-use crate::page::{CLOCK, Page, ROW};
-use crate::pen::{Area, Pen, Place, text_element, with_span};
 use picture_markup::Element;
+use picture_page::page::{CLOCK, Page, ROW};
+use picture_page::pen::{Area, Pen, Place, text_element, with_span};
 use run_rows::{Activation, Curve, Gift, Life, Marks, Row, Show};
 use run_words::{
     push_answer, push_call, push_ending, push_input, push_note, push_told, refusal_in,

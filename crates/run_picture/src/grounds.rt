@@ -4,9 +4,9 @@ ghost use Rattle.std.specs.Prelude.{◌≡◌, ◌+◌, ◌^◌, ◌<◌, ◌≤
 ghost use Rattle.run_picture.specs.Titles as spec;
 ghost use Rattle.run_picture.specs.Titles.{bytes_of, ended_lines, IsGround, AreGrounds};
 
-use crate::page::{Page, ROW};
-use crate::pen::{Area, Place, area_element, title_element};
 use picture_markup::{Content, Element};
+use picture_page::page::{Page, ROW};
+use picture_page::pen::{Area, Place, area_element, title_element};
 use run_rows::{Row, Show};
 use std::alloc::{AllocError, Global};
 

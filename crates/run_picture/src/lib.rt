@@ -4,11 +4,7 @@
 mod drawing;
 mod grounds;
 mod head;
-mod memory_columns;
-mod page;
-mod pen;
 pub mod picture;
-mod pool_columns;
 pub mod reading;
 mod strip;
 mod style;

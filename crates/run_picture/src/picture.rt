@@ -8,13 +8,13 @@ ghost use Rattle.run_picture.specs.Titles.{bytes_of, IsDrawn, ShowsRows, IsPictu
 use crate::drawing::{draw_activations, draw_curves, draw_gifts, draw_lives, draw_words};
 use crate::grounds::grounds_of;
 use crate::head::{draw_ground, draw_head, draw_lanes, draw_legend, style_of, tally_text};
-use crate::memory_columns::{draw_difference, draw_heap, draw_managed};
-use crate::page::{Columns, Page};
-use crate::pen::Pen;
-use crate::pool_columns::{Pools, draw_pools};
 use crate::strip::{draw_strip, height_of};
 use crate::timer_lines::draw_timers;
 use picture_markup::{Attribute, Content, Element, Tag};
+use picture_page::memory_columns::{draw_difference, draw_heap, draw_managed};
+use picture_page::page::{Columns, Page};
+use picture_page::pen::Pen;
+use picture_page::pool_columns::{Pools, draw_pools};
 use run_memory::{Sizes, Stays};
 use run_rows::{Marks, Row, Shown, marks_of, rows_of, shown_of};
 use std::alloc::{AllocError, Global};

@@ -1,7 +1,7 @@
 //! The overview: the whole run on one narrow band, from left to right.
 
-use crate::page::{CLOCK, Page};
-use crate::pen::{Area, Pen, Place};
+use picture_page::page::{CLOCK, Page};
+use picture_page::pen::{Area, Pen, Place};
 use run_rows::{Activation, Marks};
 use std::alloc::{AllocError, Global};
 

@@ -1,7 +1,7 @@
 //! The lines of the timers, beside the lanes of their processes.
 
-use crate::page::{Page, ROW};
-use crate::pen::Pen;
+use picture_page::page::{Page, ROW};
+use picture_page::pen::Pen;
 use run_rows::{Arming, is_callback, number_in_kind};
 use std::alloc::{AllocError, Global};
 

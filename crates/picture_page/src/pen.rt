@@ -1,35 +1,35 @@
 //! Shapes and texts that are put into a picture, each with what it tells when it is pointed at.
 
 ghost use Rattle.std.specs.Prelude.{◌≡◌, [], IfOk};
-ghost use Rattle.run_picture.specs.Titles as spec;
+ghost use Rattle.picture_page.specs.Title as spec;
 
 use picture_markup::{Attribute, Content, Element, Tag};
 use std::alloc::{AllocError, Global};
 
 /// Where something stands, in units of a pixel, from the left and from above.
 #[derive(Clone, Copy, Drop)]
-pub(crate) struct Place {
-    pub(crate) left: usize,
-    pub(crate) top: usize,
+pub struct Place {
+    pub left: usize,
+    pub top: usize,
 }
 
 /// A rectangle.
 #[derive(Clone, Copy, Drop)]
-pub(crate) struct Area {
-    pub(crate) place: Place,
-    pub(crate) width: usize,
-    pub(crate) height: usize,
+pub struct Area {
+    pub place: Place,
+    pub width: usize,
+    pub height: usize,
 }
 
 /// The element that is shown when another one is pointed at.
-pub(crate) fn title_element(alloc: Global, title: &str) -> Result<Element, AllocError>
+pub fn title_element(alloc: Global, title: &str) -> Result<Element, AllocError>
     ensures { IfOk result (λ element. element ≡ spec.title_element title.now) }
 {
     Element::new(alloc, Tag::Title).saying(title)
 }
 
 /// A rectangle of a class.
-pub(crate) fn area_element(alloc: Global, class: &str, area: Area) -> Result<Element, AllocError>
+pub fn area_element(alloc: Global, class: &str, area: Area) -> Result<Element, AllocError>
     ensures tag { IfOk result (λ element. element.tag ≡ Tag.Rect) }
     ensures inside { IfOk result (λ element. element.inside ≡ []) }
 {
@@ -42,14 +42,14 @@ pub(crate) fn area_element(alloc: Global, class: &str, area: Area) -> Result<Ele
 }
 
 /// A text's element, with nothing inside.
-pub(crate) fn text_element(alloc: Global, place: Place) -> Result<Element, AllocError> {
+pub fn text_element(alloc: Global, place: Place) -> Result<Element, AllocError> {
     Element::new(alloc, Tag::Text)
         .with_number(Attribute::Left, place.left)?
         .with_number(Attribute::Top, place.top)
 }
 
 /// A text's element, with words of a class behind what it says.
-pub(crate) fn with_span(
+pub fn with_span(
     alloc: Global,
     element: Element,
     class: &str,
@@ -67,13 +67,13 @@ pub(crate) fn with_span(
 /// Draws into content. A class says how something looks, as the picture's style has it. A title may be empty: then nothing is
 /// told.
 #[derive(Drop)]
-pub(crate) struct Pen {
-    pub(crate) alloc: Global,
-    pub(crate) content: Content,
+pub struct Pen {
+    pub alloc: Global,
+    pub content: Content,
 }
 
 impl Pen {
-    pub(crate) fn new(alloc: Global) -> Self {
+    pub fn new(alloc: Global) -> Self {
         Pen {
             alloc,
             content: Content::new(alloc),
@@ -88,25 +88,20 @@ impl Pen {
         self.content.hold(&element.holding(&title)?)
     }
 
-    pub(crate) fn area(&mut self, class: &str, area: Area, title: &str) -> Result<(), AllocError> {
+    pub fn area(&mut self, class: &str, area: Area, title: &str) -> Result<(), AllocError> {
         let element = area_element(self.alloc, class, area)?;
         self.put(element, title)
     }
 
     /// A line by the commands of a path.
-    pub(crate) fn line(
-        &mut self,
-        class: &str,
-        commands: &str,
-        title: &str,
-    ) -> Result<(), AllocError> {
+    pub fn line(&mut self, class: &str, commands: &str, title: &str) -> Result<(), AllocError> {
         let element = Element::new(self.alloc, Tag::Path)
             .with(Attribute::Class, class)?
             .with(Attribute::Commands, commands)?;
         self.put(element, title)
     }
 
-    pub(crate) fn text(&mut self, class: &str, place: Place, text: &str) -> Result<(), AllocError> {
+    pub fn text(&mut self, class: &str, place: Place, text: &str) -> Result<(), AllocError> {
         let element = text_element(self.alloc, place)?
             .with(Attribute::Class, class)?
             .saying(text)?;

@@ -14,10 +14,10 @@ const LEAST_BYTES: u64 = 64;
 
 /// A column: where it begins, its width, and how many bytes that stands for.
 #[derive(Clone, Copy, Drop)]
-pub(crate) struct Column {
-    pub(crate) left: usize,
-    pub(crate) width: usize,
-    pub(crate) bytes: u64,
+pub struct Column {
+    pub left: usize,
+    pub width: usize,
+    pub bytes: u64,
 }
 
 impl Column {
@@ -30,7 +30,7 @@ impl Column {
 }
 
 /// How many bytes a column is to stand for: a power of two that all blocks lie below, but no more than there are.
-pub(crate) fn bytes_shown(stays: &[Stay], size: u64) -> u64 {
+pub fn bytes_shown(stays: &[Stay], size: u64) -> u64 {
     let mut reach: u64 = 0;
     for stay in stays {
         reach = reach.max(stay.at.saturating_add(stay.taken));
@@ -126,7 +126,7 @@ fn draw_box(
 }
 
 /// Draws managed memory: the lengths of its blocks one behind the other.
-pub(crate) fn draw_managed(
+pub fn draw_managed(
     pen: &mut Pen,
     page: &Page,
     stays: &[Stay],
@@ -191,7 +191,7 @@ fn draw_pale_parts(
 }
 
 /// Draws the map of the heap: across the places, so that one sees the gaps between the blocks.
-pub(crate) fn draw_heap(
+pub fn draw_heap(
     pen: &mut Pen,
     page: &Page,
     stays: &[Stay],
@@ -221,11 +221,7 @@ pub(crate) fn draw_heap(
 }
 
 /// Tells of the first line that a heap of these sizes answers in another way, if there is one.
-pub(crate) fn draw_difference(
-    pen: &mut Pen,
-    page: &Page,
-    line: Option<usize>,
-) -> Result<(), AllocError> {
+pub fn draw_difference(pen: &mut Pen, page: &Page, line: Option<usize>) -> Result<(), AllocError> {
     let Some(line) = line else {
         return Ok(());
     };

@@ -17,13 +17,13 @@ const MARK: usize = 2;
 
 /// Which pools have a column: those of which a block is used.
 #[derive(Clone, Copy, Drop)]
-pub(crate) struct Pools {
+pub struct Pools {
     are_used: [bool; 4],
 }
 
 impl Pools {
     /// Those of these used blocks.
-    pub(crate) fn of(used: &[Stay]) -> Self {
+    pub fn of(used: &[Stay]) -> Self {
         let mut are_used = [false; 4];
         for stay in used {
             if let Some(is_used) = are_used.get_mut((stay.at / BLOCKS) as usize) {
@@ -34,7 +34,7 @@ impl Pools {
     }
 
     /// How many pools have a column below that one.
-    pub(crate) fn below(&self, pool: u64) -> usize {
+    pub fn below(&self, pool: u64) -> usize {
         let most = pool.min(POOLS) as usize;
         self.are_used
             .iter()
@@ -44,7 +44,7 @@ impl Pools {
     }
 
     /// How many pools have a column.
-    pub(crate) fn count(&self) -> usize {
+    pub fn count(&self) -> usize {
         self.below(POOLS)
     }
 }
@@ -110,7 +110,7 @@ fn linked_title(alloc: Global, stay: &Stay) -> Result<String, AllocError> {
 }
 
 /// Draws the pools: a bar for each used block, and a mark in it while it is in a list.
-pub(crate) fn draw_pools(
+pub fn draw_pools(
     pen: &mut Pen,
     page: &Page,
     used: &[Stay],

@@ -3,10 +3,10 @@
 use crate::pen::Place;
 
 /// The height of a row.
-pub(crate) const ROW: usize = 17;
+pub const ROW: usize = 17;
 
 /// Where the clock's numbers end.
-pub(crate) const CLOCK: usize = 84;
+pub const CLOCK: usize = 84;
 
 /// Where the lanes begin.
 const LANES: usize = 126;
@@ -24,23 +24,23 @@ const MANAGED: usize = 180;
 const HEAP: usize = 340;
 
 /// The width of a pool's column.
-pub(crate) const POOL: usize = 80;
+pub const POOL: usize = 80;
 
 /// The room between two columns.
 const BETWEEN: usize = 24;
 
 /// The widths of the columns of memory behind the words, each 0 where there is nothing to show.
 #[derive(Clone, Copy, Drop)]
-pub(crate) struct Columns {
-    pub(crate) managed: usize,
-    pub(crate) heap: usize,
+pub struct Columns {
+    pub managed: usize,
+    pub heap: usize,
     /// How many pools have a column.
-    pub(crate) pools: usize,
+    pub pools: usize,
 }
 
 impl Columns {
     /// The columns for a run in which managed memory is used, or isn't, the heap, and so many pools.
-    pub(crate) fn new(is_managed: bool, is_heap: bool, pools: usize) -> Self {
+    pub fn new(is_managed: bool, is_heap: bool, pools: usize) -> Self {
         Columns {
             managed: if is_managed { MANAGED } else { 0 },
             heap: if is_heap { HEAP } else { 0 },
@@ -60,28 +60,22 @@ fn behind(left: usize, width: usize) -> usize {
 
 /// The places of the parts of a picture.
 #[derive(Clone, Copy, Drop)]
-pub(crate) struct Page {
+pub struct Page {
     /// How many processes have a lane: 4, 5, ..
-    pub(crate) lanes: usize,
-    pub(crate) rows: usize,
+    pub lanes: usize,
+    pub rows: usize,
     /// Where the overview begins.
-    pub(crate) strip: usize,
+    pub strip: usize,
     /// Where the first row begins.
-    pub(crate) top: usize,
+    pub top: usize,
     /// The width of a lane.
-    pub(crate) lane: usize,
-    pub(crate) columns: Columns,
+    pub lane: usize,
+    pub columns: Columns,
 }
 
 impl Page {
     /// The places for so many lanes and rows, where the overview begins there and has that height.
-    pub(crate) fn new(
-        lanes: usize,
-        rows: usize,
-        strip: usize,
-        height: usize,
-        columns: Columns,
-    ) -> Self {
+    pub fn new(lanes: usize, rows: usize, strip: usize, height: usize, columns: Columns) -> Self {
         let lane = match lanes {
             0..=5 => 64,
             6..=9 => 44,
@@ -98,22 +92,22 @@ impl Page {
     }
 
     /// Where a row begins.
-    pub(crate) fn top_of(&self, row: usize) -> usize {
+    pub fn top_of(&self, row: usize) -> usize {
         row.saturating_mul(ROW).saturating_add(self.top)
     }
 
     /// Where the words of a row stand.
-    pub(crate) fn base_of(&self, row: usize) -> usize {
+    pub fn base_of(&self, row: usize) -> usize {
         self.top_of(row).saturating_add(12)
     }
 
     /// Where the rows end.
-    pub(crate) fn bottom(&self) -> usize {
+    pub fn bottom(&self) -> usize {
         self.top_of(self.rows)
     }
 
     /// The middle of a process's lane.
-    pub(crate) fn lane_of(&self, pid: usize) -> usize {
+    pub fn lane_of(&self, pid: usize) -> usize {
         let number = pid.saturating_sub(4);
         number
             .saturating_mul(self.lane)
@@ -122,46 +116,46 @@ impl Page {
     }
 
     /// Where the words of the rows begin.
-    pub(crate) fn words(&self) -> usize {
+    pub fn words(&self) -> usize {
         self.lanes
             .saturating_mul(self.lane)
             .saturating_add(LANES + 14)
     }
 
     /// Where the words of the rows end.
-    pub(crate) fn words_end(&self) -> usize {
+    pub fn words_end(&self) -> usize {
         self.words().saturating_add(WORDS)
     }
 
     /// Where the column of managed memory begins.
-    pub(crate) fn managed_left(&self) -> usize {
+    pub fn managed_left(&self) -> usize {
         self.words_end().saturating_add(10)
     }
 
     /// Where the heap's map begins.
-    pub(crate) fn heap_left(&self) -> usize {
+    pub fn heap_left(&self) -> usize {
         behind(self.managed_left(), self.columns.managed)
     }
 
     /// Where the column of a pool begins that has so many others before it.
-    pub(crate) fn pool_left(&self, others: usize) -> usize {
+    pub fn pool_left(&self, others: usize) -> usize {
         behind(self.heap_left(), self.columns.heap).saturating_add(others.saturating_mul(
             POOL + BETWEEN,
         ))
     }
 
-    pub(crate) fn width(&self) -> usize {
+    pub fn width(&self) -> usize {
         self.pool_left(self.columns.pools)
             .saturating_add(10)
             .max(LEAST_WIDTH)
     }
 
-    pub(crate) fn height(&self) -> usize {
+    pub fn height(&self) -> usize {
         self.bottom().saturating_add(30)
     }
 
     /// The place of a row's words, so far from the left of all words.
-    pub(crate) fn words_of(&self, row: usize, indent: usize) -> Place {
+    pub fn words_of(&self, row: usize, indent: usize) -> Place {
         Place {
             left: self.words().saturating_add(indent),
             top: self.base_of(row),
