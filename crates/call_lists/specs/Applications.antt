@@ -1,9 +1,10 @@
 -- What the applications of a run say, and which have which name.
-use Rattle.std.specs.Prelude.{◌≡◌, ⊤, ℕ, List, codes, Some}
+use Rattle.std.specs.Prelude.{◌≡◌, ℕ, List, codes, Some}
 use Rattle.mote_types.specs.Applications.{Says}
 use Rattle.mote_types.specs.declared.call.Call.{Call}
 use Rattle.mote_apps.specs.Bundled.{bundled_says, named}
 use Rattle.mote_apps.specs.Steps.{steps_says}
+use Rattle.call_lists.specs.Calls.{IsListOf}
 use Rattle.call_lists.specs.declared.applications.Application.{Application}
 
 abbrev pub application_says : Application → Says
@@ -17,7 +18,7 @@ IsNamed name (Application.Named bundled) = named name ≡ Some bundled
 IsNamed name (Application.Listed calls) = ⊥
 IsNamed name Application.ClockWatcher = name ≡ codes "clock-watcher"
 
--- it goes through a list of calls
-abbrev pub IsListed : Application → Type 0
-IsListed (Application.Listed calls) = ⊤
-IsListed application = ⊥
+-- it goes through the calls of this text
+abbrev pub IsListed : List ℕ → Application → Type 0
+IsListed text (Application.Listed calls) = IsListOf text calls
+IsListed text application = ⊥

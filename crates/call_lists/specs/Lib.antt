@@ -1,1 +1,3 @@
 pub mod Applications
+pub mod Calls
+pub mod Code

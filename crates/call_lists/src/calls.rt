@@ -1,11 +1,18 @@
 //! From the words of a call to the call. They are those that a transcript shows.
 
+ghost use Rattle.std.specs.Prelude.{IfOk};
+ghost use Rattle.call_lists.specs.Calls.{IsCall};
+ghost use Rattle.call_lists.specs.Code.Words.{IsTaken};
+
 use crate::fault::CallFault;
 use crate::words::Words;
 use mote_types::call::Call;
 
 /// A call on pools and lists.
-fn pool_call(words: &mut Words<'_>) -> Call {
+#[tactic(auto, unfolding(mote_text::specs::EntryText::spaced))]
+fn pool_call(words: &mut Words<'_>) -> Call
+    ensures { IsTaken words.old result words.new }
+{
     match words.name() {
         "memb-alloc" => Call::MembAlloc(words.small()),
         "memb-free" => Call::MembFree(words.small(), words.small()),
@@ -34,7 +41,10 @@ fn pool_call(words: &mut Words<'_>) -> Call {
 }
 
 /// A call on managed memory, heap memory, pools and lists.
-fn block_call(words: &mut Words<'_>) -> Call {
+#[tactic(auto, unfolding(mote_text::specs::EntryText::spaced))]
+fn block_call(words: &mut Words<'_>) -> Call
+    ensures { IsTaken words.old result words.new }
+{
     match words.name() {
         "mmem-alloc" => Call::MmemAlloc(words.small(), words.number()),
         "mmem-free" => Call::MmemFree(words.small()),
@@ -53,7 +63,10 @@ fn block_call(words: &mut Words<'_>) -> Call {
 }
 
 /// A call on timers and packets, or on blocks.
-fn device_call(words: &mut Words<'_>) -> Call {
+#[tactic(auto, unfolding(mote_text::specs::EntryText::spaced))]
+fn device_call(words: &mut Words<'_>) -> Call
+    ensures { IsTaken words.old result words.new }
+{
     match words.name() {
         "timer-set" => Call::TimerSet(words.small(), words.number()),
         "timer-stop" => Call::TimerStop(words.small()),
@@ -72,7 +85,10 @@ fn device_call(words: &mut Words<'_>) -> Call {
 }
 
 /// A call on events and processes, or on devices.
-fn process_call(words: &mut Words<'_>) -> Call {
+#[tactic(auto, unfolding(mote_text::specs::EntryText::spaced))]
+fn process_call(words: &mut Words<'_>) -> Call
+    ensures { IsTaken words.old result words.new }
+{
     match words.name() {
         "post" => Call::Post(words.small(), words.small(), words.payload()),
         "broadcast" => Call::Broadcast(words.small(), words.payload()),
@@ -95,7 +111,9 @@ fn process_call(words: &mut Words<'_>) -> Call {
 /// # Errors
 ///
 /// No call has this name, or one of its words is lacking, too much, or of no form.
-pub fn call_of(text: &str) -> Result<Call, CallFault<'_>> {
+pub fn call_of(text: &str) -> Result<Call, CallFault<'_>>
+    ensures { IfOk result (IsCall text.now) }
+{
     let mut words = Words::of(text);
     let call = process_call(&mut words);
     words.finish()?;

@@ -1,5 +1,5 @@
 //! Applications as words: by their names, and as lists of calls, each with the words that a transcript shows. Its contracts
-//! promise which application a name is; of a list of calls, that reading it is safe and ends.
+//! promise which application a name is, and which calls are made where a list of calls is taken.
 #![tactic(auto)]
 
 mod applications;

@@ -1,9 +1,14 @@
 //! The words of a call: its numbers, and bytes in hex.
 
-ghost use Rattle.std.specs.Prelude.{◌<◌};
+ghost use Rattle.std.specs.Prelude.{◌≡◌, ◌≤◌, ◌++◌, [], ◌∷◌, decimal, None, IfOk, IfSome, IsSome, OnOk};
+ghost use Rattle.hex.specs.Hex.{decode_of};
+ghost use Rattle.mote_text.specs.EntryText.{hex, payload_word};
+ghost use Rattle.mote_text.specs.Script.{read_number};
+ghost use Rattle.call_lists.specs.Code.Words.{AreTaken, behind, lowered};
 
 use crate::fault::CallFault;
 use arrayvec::ArrayVec;
+use mote_text::script::read_number;
 use mote_types::event::Payload;
 use mote_types::reply::Chunk;
 
@@ -17,7 +22,9 @@ pub(crate) struct Words<'a> {
 }
 
 /// A text's first word, and what stands behind it.
-fn parted(text: &str) -> (&str, Option<&str>) {
+pub(crate) fn parted(text: &str) -> (&str, Option<&str>)
+    ensures { text.now ≡ result.0.now ++ behind result.1 }
+{
     match text.split_once(' ') {
         Some((word, rest)) => (word, Some(rest)),
         None => (text, None),
@@ -25,7 +32,10 @@ fn parted(text: &str) -> (&str, Option<&str>) {
 }
 
 impl<'a> Words<'a> {
-    pub(crate) fn of(text: &'a str) -> Self {
+    pub(crate) fn of(text: &'a str) -> Self
+        ensures text { text.now ≡ result.name.now ++ behind result.rest }
+        ensures faultless { result.fault ≡ None }
+    {
         let (name, rest) = parted(text);
         Words {
             name,
@@ -35,18 +45,24 @@ impl<'a> Words<'a> {
     }
 
     /// The first word, which names the call.
-    pub(crate) fn name(&self) -> &'a str {
+    pub(crate) fn name(&self) -> &'a str
+        ensures { result.now ≡ self.now.name.now }
+    {
         self.name
     }
 
-    pub(crate) fn note(&mut self, fault: CallFault<'a>) {
+    pub(crate) fn note(&mut self, fault: CallFault<'a>)
+        ensures fault { IsSome self.new.fault }
+    {
         if self.fault.is_none() {
             self.fault = Some(fault);
         }
     }
 
     /// The next word; an empty one where it is lacking.
-    fn next(&mut self) -> &'a str {
+    fn next(&mut self) -> &'a str
+        ensures { AreTaken self.old (lowered result.now ∷ []) self.new }
+    {
         let Some(rest) = self.rest else {
             self.note(CallFault::TooFewWords(self.name));
             return "";
@@ -57,10 +73,13 @@ impl<'a> Words<'a> {
     }
 
     /// The next word's number, from 0 to 255.
-    pub(crate) fn small(&mut self) -> u8 {
+    #[tactic(auto, using(mote_text::proofs::Lowered::lowered_number))]
+    pub(crate) fn small(&mut self) -> u8
+        ensures { AreTaken self.old (decimal result ∷ []) self.new }
+    {
         let word = self.next();
         match number_of(word, 0, 255) {
-            Ok(number) => u8::try_from(number).unwrap_or(0),
+            Ok(number) => number as u8,
             Err(fault) => {
                 self.note(fault);
                 0
@@ -69,12 +88,11 @@ impl<'a> Words<'a> {
     }
 
     /// The next word's number.
-    pub(crate) fn number(&mut self) -> u32 {
+    #[tactic(auto, using(mote_text::proofs::Lowered::lowered_number))]
+    pub(crate) fn number(&mut self) -> u32
+        ensures { AreTaken self.old (decimal result ∷ []) self.new }
+    {
         let word = self.next();
-        self.number_in(word)
-    }
-
-    fn number_in(&mut self, word: &'a str) -> u32 {
         match number_of(word, 0, u32::MAX) {
             Ok(number) => number,
             Err(fault) => {
@@ -84,39 +102,35 @@ impl<'a> Words<'a> {
         }
     }
 
-    /// The bytes of these digits.
-    fn bytes_in<const N: usize>(&mut self, digits: &'a str) -> ArrayVec<u8, N> {
-        match bytes_of(digits) {
-            Some(bytes) => bytes,
-            None => {
-                self.note(CallFault::NoHex {
-                    word: digits,
-                    most: N,
-                });
-                ArrayVec::new()
-            }
-        }
-    }
-
     /// The bytes that the next word has in hex, a dash where there are none.
-    pub(crate) fn chunk(&mut self) -> Chunk {
-        match self.next() {
-            "-" => Chunk::new(),
-            "" => {
-                self.note(CallFault::NoHex { word: "", most: 64 });
+    #[tactic(auto, using(mote_text::proofs::Lowered::lowered_hex))]
+    pub(crate) fn chunk(&mut self) -> Chunk
+        ensures { AreTaken self.old (hex result.items ∷ []) self.new }
+    {
+        let word = self.next();
+        if word == "-" {
+            return Chunk::new();
+        }
+        match bytes_of(word) {
+            Some(bytes) if !bytes.is_empty() => bytes,
+            _ => {
+                self.note(CallFault::NoHex { word, most: 64 });
                 Chunk::new()
             }
-            digits => self.bytes_in(digits),
         }
     }
 
     /// What an event carries: a dash, a number, or a line in hex behind an `x`.
-    pub(crate) fn payload(&mut self) -> Payload {
+    pub(crate) fn payload(&mut self) -> Payload
+        ensures { AreTaken self.old (payload_word result ∷ []) self.new }
+    {
         let word = self.next();
-        match word.strip_prefix("x") {
-            Some(digits) => Payload::Line(self.bytes_in(digits)),
-            None if word == "-" => Payload::Empty,
-            None => Payload::Num(self.number_in(word)),
+        match payload_of(word) {
+            Ok(payload) => payload,
+            Err(fault) => {
+                self.note(fault);
+                Payload::Empty
+            }
         }
     }
 
@@ -125,7 +139,9 @@ impl<'a> Words<'a> {
     /// # Errors
     ///
     /// The first fault.
-    pub(crate) fn finish(mut self) -> Result<(), CallFault<'a>> {
+    pub(crate) fn finish(mut self) -> Result<(), CallFault<'a>>
+        ensures { OnOk result ((self.entry.fault ≡ None) × (self.entry.rest ≡ None)) }
+    {
         if let Some(rest) = self.rest {
             self.note(CallFault::TooManyWords(rest));
         }
@@ -136,24 +152,49 @@ impl<'a> Words<'a> {
     }
 }
 
-/// The number that a word is in decimal, within these bounds.
+/// The number that a word is in decimal, as a transcript shows it, within these bounds.
 ///
 /// # Errors
 ///
 /// `NoNumber` where it is none, or lies outside.
-pub fn number_of(word: &str, least: u32, most: u32) -> Result<u32, CallFault<'_>> {
-    let number = match word.parse() {
-        Ok(number) if !word.starts_with('+') => Some(number),
-        _ => None,
-    };
-    match number {
+pub fn number_of(word: &str, least: u32, most: u32) -> Result<u32, CallFault<'_>>
+    ensures number { IfOk result (λ number. read_number word.now ≡ Some number) }
+    ensures bounds { IfOk result (λ number. (least ≤ number) × (number ≤ most)) }
+{
+    match read_number(word.as_bytes()) {
         Some(number) if least <= number && number <= most => Ok(number),
         _ => Err(CallFault::NoNumber { word, least, most }),
     }
 }
 
+/// What an event carries of which this is the word.
+///
+/// # Errors
+///
+/// `NoHex` or `NoNumber` where it is of no form.
+#[tactic(auto, using(mote_text::proofs::Lowered::lowered_number, mote_text::proofs::Lowered::lowered_hex))]
+fn payload_of(word: &str) -> Result<Payload, CallFault<'_>>
+    ensures { IfOk result (λ payload. lowered word.now ≡ payload_word payload) }
+{
+    if word == "-" {
+        return Ok(Payload::Empty);
+    }
+    match word.strip_prefix("x") {
+        Some(digits) => match bytes_of(digits) {
+            Some(line) => Ok(Payload::Line(line)),
+            None => Err(CallFault::NoHex {
+                word: digits,
+                most: 127,
+            }),
+        },
+        None => Ok(Payload::Num(number_of(word, 0, u32::MAX)?)),
+    }
+}
+
 /// The bytes of these hex digits, of which there are at most `N`.
-fn bytes_of<const N: usize>(digits: &str) -> Option<ArrayVec<u8, N>> {
+fn bytes_of<const N: usize>(digits: &str) -> Option<ArrayVec<u8, N>>
+    ensures { IfSome result (λ bytes. decode_of digits.now ≡ Ok bytes.items) }
+{
     let mut room = [0; N];
     let length = digits.len() / 2;
     if length > N {

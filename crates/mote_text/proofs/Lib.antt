@@ -2,10 +2,10 @@ pub mod Bytewise
 mod Digits
 mod Examples
 mod LineEnds
-mod Lowered
+pub mod Lowered
 pub mod Reading
 mod ShownBytes
 mod Spaced
-mod Ticks
+pub mod Ticks
 mod WholeLines
 pub mod Common

@@ -69,7 +69,7 @@ lowered_pairs i (high ∷ low ∷ rest) bytes is =
     let all : byte.0 ∷ later.0 ≡ bytes = ap (λ r. result_unwrap_or r []) later.2 in
     lowered_pair high low first.0 second.0 byte.0 rest later.0 high_is low_is value (lowered_pairs (i + 2) rest later.0 later.1) ∙ ap encode_lower all
 
-lowered_hex : (digits bytes : List ℕ) → decode_of digits ≡ Ok bytes → map to_ascii_lowercase digits ≡ encode_lower bytes
+pub lowered_hex : (digits bytes : List ℕ) → decode_of digits ≡ Ok bytes → map to_ascii_lowercase digits ≡ encode_lower bytes
 lowered_hex digits bytes is = grind (arith, nat_tests, lowered_pairs, decode_of-even, decode_of-ok)
 
 -- and so are the digits of a number
@@ -87,7 +87,7 @@ numeral_if : (text : List ℕ) (n : ℕ) (is_read : Bool) →
 numeral_if text n false test reads = let none : None ≡ Some n = rw test at reads in absurd (cc)
 numeral_if text n true test reads = grind (arith, nat_tests, test)
 
-lowered_number : (text : List ℕ) (n : ℕ) → read_number text ≡ Some n → map to_ascii_lowercase text ≡ decimal n
+pub lowered_number : (text : List ℕ) (n : ℕ) → read_number text ≡ Some n → map to_ascii_lowercase text ≡ decimal n
 lowered_number text n reads = grind (arith, nat_tests, lowered_numeral, numeral_if, decimal_of_read)
 
 -- what a line's argument is read as

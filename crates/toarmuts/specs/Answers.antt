@@ -21,7 +21,7 @@ HasCalls line text = ((line ≡ codes "calls") × (text ≡ [])) ⊎ (line ≡ c
 
 -- the line names this application, or has its calls
 abbrev pub IsOfLine : List ℕ → Application → Type 0
-IsOfLine line application = IsNamed line application ⊎ ((text : List ℕ) × HasCalls line text × IsListed application)
+IsOfLine line application = IsNamed line application ⊎ ((text : List ℕ) × HasCalls line text × IsListed text application)
 
 -- an application for each line, in their order
 abbrev pub AreOfLines : List (List ℕ) → List Application → Type 0

@@ -1,0 +1,111 @@
+-- A list that is filled with the calls of its parts, from the front on.
+use Rattle.std.proofs.Common.{◌≡◌, ◌∙◌, ◌≤◌, ◌<◌, ◌+◌, ℕ, List, [], ◌∷◌, ◌++◌, inl, inr, refl, sym, ap, subst, arith, length, take, drop, set, decimal, codes}
+use Rattle.std.proofs.lemmas.Grind.{common_steps}
+use Rattle.std.proofs.lemmas.List.{append-nil, append_assoc, drop-drop, drop-set-lt, take_more_set, take-append-drop}
+use Rattle.mote_types.specs.declared.call.Call.{Call}
+use Rattle.std.proofs.lemmas.List.Elements.{All-drop}
+use Rattle.call_lists.specs.Calls.{AreCalls, AreMade, AreOfParts, AreWaits, IsCall, IsListOf}
+use Rattle.call_lists.specs.Code.Lists.{ArePut, HasFront, IsCounted, IsPartPut}
+
+-- from the place up to the end stand so many calls of these words; the others are as they were
+pub record AreCopies (words : List ℕ) (count place end : ℕ) (old new : List Call) : Type 0 where
+  pub made : List Call
+  pub are_calls : AreCalls words made
+  pub is_count : length made ≡ count
+  pub is_end : end ≡ place + count
+  pub fits : end ≤ length new
+  pub front : take end new ≡ take place old ++ made
+  pub others : drop end new ≡ drop end old
+  pub is_long : length new ≡ length old
+
+pub no_copies : (words : List ℕ) (place : ℕ) (calls : List Call) → place ≤ length calls → AreCopies words 0 place place calls calls
+no_copies words place calls fits =
+    record {
+      made = [];
+      are_calls = tt;
+      is_count = refl;
+      is_end = omega arith;
+      fits = fits;
+      front = sym (append-nil (take place calls));
+      others = refl;
+      is_long = refl;
+    }
+
+calls_more : (words : List ℕ) (calls : List Call) (call : Call) → AreCalls words calls → IsCall words call → AreCalls words (calls ++ call ∷ [])
+calls_more words [] call are is = (is, tt)
+calls_more words (first ∷ calls) call are is = (are.0, calls_more words calls call are.1 is)
+
+pub copies_more : (words : List ℕ) (count place end : ℕ) (old new : List Call) (call : Call) → AreCopies words count place end old new
+    → IsCall words call → end < length new → AreCopies words (count + 1) place (end + 1) old (set new end call)
+copies_more words count place end old new call copies is fits =
+    record {
+      made = copies.made ++ call ∷ [];
+      are_calls = calls_more words copies.made call copies.are_calls is;
+      is_count = grind (arith, common_steps, copies.is_count);
+      is_end = omega (arith, copies.is_end);
+      fits = grind (arith, common_steps);
+      front = take_more_set new end call fits ∙ ap (λ front. front ++ call ∷ []) copies.front ∙ append_assoc (take place old) copies.made (call ∷ []);
+      others = grind (arith, common_steps, drop-set-lt, copies.others);
+      is_long = grind (arith, common_steps, copies.is_long);
+    }
+
+pub part_put : (part words : List ℕ) (count place end : ℕ) (old new : List Call) → IsCounted part count words
+    → AreCopies words count place end old new → IsPartPut part place old new end
+part_put part words count place end old new counted copies =
+    record {
+      made = copies.made;
+      are_made = made counted;
+      is_end = copies.is_end ∙ ap (λ n. place + n) (sym copies.is_count);
+      fits = copies.fits;
+      front = copies.front;
+      others = copies.others;
+      is_long = copies.is_long;
+    }
+  where
+    made : IsCounted part count words → AreMade part copies.made
+    made (inl once) = inl (copies.is_count ∙ once.0, subst (λ text. AreCalls text copies.made) once.1 copies.are_calls)
+    made (inr numbered) =
+        inr (words, subst (λ n. part ≡ decimal n ++ codes " " ++ words) (sym copies.is_count) numbered, copies.are_calls)
+
+pub nothing_put : (calls : List Call) → HasFront [] 0 calls calls
+nothing_put calls = record { are_of_parts = refl; fits = omega arith; others = refl; is_long = refl }
+
+parts_more : (parts : List (List ℕ)) (calls : List Call) (part : List ℕ) (made : List Call) → AreOfParts parts calls → AreMade part made
+    → AreOfParts (parts ++ part ∷ []) (calls ++ made)
+parts_more [] calls part made are is = (made, [], ap (λ front. front ++ made) are ∙ sym (append-nil made), is, refl)
+parts_more (first ∷ parts) calls part made are is =
+    let others : List Call = are.1 in
+    let parted : calls ≡ are.0 ++ others = are.2 in
+    (are.0, others ++ made, ap (λ front. front ++ made) parted ∙ append_assoc are.0 others made, are.3, parts_more parts others part made are.4 is)
+
+pub front_more : (parts : List (List ℕ)) (part : List ℕ) (place end : ℕ) (old calls new : List Call) → HasFront parts place old calls
+    → IsPartPut part place calls new end → HasFront (parts ++ part ∷ []) end old new
+front_more parts part place end old calls new front put =
+    record {
+      are_of_parts = subst (AreOfParts (parts ++ part ∷ [])) (sym put.front) (parts_more parts (take place calls) part put.made front.are_of_parts put.are_made);
+      fits = put.fits;
+      others = put.others ∙ further;
+      is_long = put.is_long ∙ front.is_long;
+    }
+  where
+    further : drop end calls ≡ drop end old
+    further =
+        ap (λ n. drop n calls) put.is_end ∙ sym (drop-drop (length put.made) place calls) ∙ ap (drop (length put.made)) front.others
+        ∙ drop-drop (length put.made) place old ∙ ap (λ n. drop n old) (sym put.is_end)
+
+pub listed_none : (text : List ℕ) (calls : List Call) → text ≡ [] → AreWaits calls → IsListOf text calls
+listed_none text calls none waits =
+    record { parts = []; made = []; waits = calls; is_text = none; are_of_parts = refl; are_calls = refl; are_waits = waits }
+
+-- the calls of a text in front of a list that only waits
+pub listed_put : (text : List ℕ) (old calls : List Call) → AreWaits old → ArePut text old calls → IsListOf text calls
+listed_put text old calls waits put =
+    record {
+      parts = put.parts;
+      made = take put.size calls;
+      waits = drop put.size calls;
+      is_text = put.is_text;
+      are_of_parts = put.has_front.are_of_parts;
+      are_calls = sym (take-append-drop put.size calls);
+      are_waits = subst AreWaits (sym put.has_front.others) (All-drop (λ call. call ≡ Call.Wait) put.size old waits);
+    }

@@ -1,0 +1,4 @@
+mod Examples
+pub mod Filling
+pub mod Parting
+pub mod Taken
