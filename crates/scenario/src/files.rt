@@ -170,11 +170,10 @@ fn show<R: AllocGlobal + Print + Eprint>(
         println!(rt; "== {title}")?;
     }
     rt.print(str::from_utf8(outcome.transcript.as_slice()).unwrap_or(""))?;
-    let has_ended = outcome.end.as_str() != "bad sizes";
-    if !has_ended {
-        let _ = eprintln!(rt; "scenario: {name}: bad sizes");
+    if !outcome.has_ended {
+        let _ = eprintln!(rt; "scenario: {name}: {}", outcome.end);
     }
-    Ok(has_ended)
+    Ok(outcome.has_ended)
 }
 
 /// How many of three sinks, which take few bytes at a time, get the transcript as the file has it, where a read gives so

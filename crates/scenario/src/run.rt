@@ -3,6 +3,7 @@
 ghost use Rattle.std.specs.Prelude.{◌<◌};
 
 use crate::scenario::Scenario;
+use mote_kit::fault::MoteFault;
 use mote_kit::mote::run_boxes;
 use mote_kit::script::Script;
 use mote_kit::transcript::Transcript;
@@ -23,12 +24,16 @@ fn end_words(alloc: Global, end: End) -> Result<String, AllocError> {
     }
 }
 
-/// What came of a run: how it ended, and what it wrote.
+/// What came of a run: how it ended, or why it came to no end, and what it wrote.
 #[derive(Drop)]
 pub(crate) struct Outcome {
     pub(crate) end: String,
+    pub(crate) has_ended: bool,
     pub(crate) transcript: Vec<u8>,
 }
+
+/// How many bytes a mote asks for at once.
+const READ_LIMIT: usize = 4_096;
 
 /// How many bytes a read gives at most, and how many a write takes.
 #[derive(Clone, Copy, Drop)]
@@ -57,7 +62,7 @@ pub(crate) fn outcome_of(
         boxes.push(Box::new(alloc, application)?)?;
     }
     let script = scenario.script();
-    let reads = script.len().div_ceil(widths.given) as u64;
+    let reads = script.len().div_ceil(widths.given.min(READ_LIMIT)) as u64;
     let mut source = Script::new(script)
         .in_pieces_of(widths.given)
         .failing_at(reads.saturating_add(2));
@@ -70,12 +75,14 @@ pub(crate) fn outcome_of(
         &mut sink,
         scenario.quiet,
     );
-    let end = match ran {
-        Ok(end) => end_words(alloc, end)?,
-        Err(fault) => fault.to_string(alloc)?,
+    let (end, has_ended) = match ran {
+        Ok(end) => (end_words(alloc, end)?, true),
+        Err(MoteFault::Memory) => return Err(AllocError),
+        Err(fault) => (fault.to_string(alloc)?, false),
     };
     Ok(Outcome {
         end,
+        has_ended,
         transcript: sink.text,
     })
 }
