@@ -55,7 +55,7 @@ pub(crate) fn tally_text(
         late,
     } = *tally;
     format!(in alloc;
-        "{inputs} inputs, {turns} turns, clock {clock}, {printed} bytes printed, {sent} frames sent, {lost} lost, {refused} calls refused, {late} timers late, ends: {end}"
+        "inputs {inputs}, turns {turns}, clock {clock}, bytes printed {printed}, frames sent {sent}, lost {lost}, calls refused {refused}, timers late {late}, ends: {end}"
     )
 }
 
