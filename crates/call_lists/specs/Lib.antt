@@ -1,3 +1,4 @@
 pub mod Applications
 pub mod Calls
 pub mod Code
+pub mod Faults

@@ -1,9 +1,9 @@
 //! The applications of a run: those that have a name, and lists of calls.
 
-ghost use Rattle.std.specs.Prelude.{◌≡◌, ◌≤◌, ◌<◌, ◌++◌, length, None, IfOk, IfSome, OnErr, OnOk};
-ghost use Rattle.mote_apps.specs.Bundled.{named};
+ghost use Rattle.std.specs.Prelude.{◌≡◌, ◌≤◌, ◌<◌, ◌++◌, length, IfErr, IfOk, IfSome, OnOk};
 ghost use Rattle.call_lists.specs.Applications.{application_says, IsListed, IsNamed};
 ghost use Rattle.call_lists.specs.Calls.{AreWaits};
+ghost use Rattle.call_lists.specs.Faults.{TellsNoName};
 ghost use Rattle.call_lists.specs.Code.Lists.{ArePut, IsCounted, IsPartPut, behind_comma};
 
 use crate::calls::call_of;
@@ -46,7 +46,7 @@ impl Application {
     /// `NoApplication` where no application has this name.
     pub fn named(name: &str) -> Result<Self, CallFault<'_>>
         ensures named { IfOk result (IsNamed name.now) }
-        ensures none { OnErr result (named name.now ≡ None) }
+        ensures none { IfErr result (TellsNoName name.now) }
     {
         match Bundled::named(name) {
             Some(application) => Ok(Application::Named(application)),

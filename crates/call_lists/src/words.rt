@@ -1,9 +1,10 @@
 //! The words of a call: its numbers, and bytes in hex.
 
-ghost use Rattle.std.specs.Prelude.{◌≡◌, ◌≤◌, ◌++◌, [], ◌∷◌, decimal, None, IfOk, IfSome, IsSome, OnOk};
+ghost use Rattle.std.specs.Prelude.{◌≡◌, ◌≤◌, ◌++◌, [], ◌∷◌, decimal, None, IfErr, IfOk, IfSome, IsSome, OnOk};
 ghost use Rattle.hex.specs.Hex.{decode_of};
 ghost use Rattle.mote_text.specs.EntryText.{hex, payload_word};
 ghost use Rattle.mote_text.specs.Script.{read_number};
+ghost use Rattle.call_lists.specs.Faults.{IsNoNumber};
 ghost use Rattle.call_lists.specs.Code.Words.{AreTaken, behind, lowered};
 
 use crate::fault::CallFault;
@@ -160,6 +161,7 @@ impl<'a> Words<'a> {
 pub fn number_of(word: &str, least: u32, most: u32) -> Result<u32, CallFault<'_>>
     ensures number { IfOk result (λ number. read_number word.now ≡ Some number) }
     ensures bounds { IfOk result (λ number. (least ≤ number) × (number ≤ most)) }
+    ensures refused { IfErr result (IsNoNumber word.now least most) }
 {
     match read_number(word.as_bytes()) {
         Some(number) if least <= number && number <= most => Ok(number),

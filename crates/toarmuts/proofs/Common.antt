@@ -1,5 +1,6 @@
 -- The names that most proofs here cite, passed on from one place. Declares nothing.
 pub use Rattle.call_lists.specs.Applications.{application_says}
+pub use Rattle.call_lists.specs.Faults.{IsNoName, TellsNoName}
 pub use Rattle.call_lists.specs.declared.applications.Application.{Application}
 pub use Rattle.mote_apps.specs.Bundled.{named}
 pub use Rattle.mote_kit.specs.Runs.{config_of}

@@ -1,7 +1,7 @@
 -- The applications of the lines that were read, and the lines that are left.
 use Rattle.std.proofs.Common.{◌≡◌, ◌∙◌, ◌+◌, ◌<◌, ℕ, suc, List, [], ◌∷◌, ◌++◌, refl, sym, ap, subst, length, arith, length-append, Option, Some, None, Result, Ok, Err, IfErr, IsErr, IsErrAnd}
 use Rattle.std.specs.Iterator.{AlwaysYields}
-use Rattle.toarmuts.proofs.Common.{append-nil, append_assoc, named, Application, AreOfLines, AreRefused, IsOfLine, IsRefusedLine, NamesNone, Refusal}
+use Rattle.toarmuts.proofs.Common.{append-nil, append_assoc, IsNoName, Application, AreOfLines, AreRefused, IsOfLine, IsRefusedLine, NamesNone, Refusal}
 
 pub as_many : (lines : List (List ℕ)) (applications : List Application) → AreOfLines lines applications → length lines ≡ length applications
 as_many [] [] are = refl
@@ -79,7 +79,7 @@ module _ {S A : Type 0} (steps : S → Option A → S → Type 0) (v : A → Lis
       omega (arith, same, size)
 
   names_none : (all : List (List ℕ)) (applications : List Application) (s t : S) (x : A)
-      → AreLeft all applications s → steps s (Some x) t → named (v x) ≡ None → NamesNone all (length applications + 1)
+      → AreLeft all applications s → steps s (Some x) t → IsNoName (v x) → NamesNone all (length applications + 1)
   names_none all applications s t x left step none =
       let first = next all applications s t x left step in
       record {

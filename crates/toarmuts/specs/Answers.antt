@@ -1,11 +1,11 @@
 -- What an answer says of a run.
-use Rattle.std.specs.Prelude.{◌≡◌, ◌+◌, ◌<◌, ◌≤◌, ◌⊎◌, ⊤, ℕ, false, List, [], ◌∷◌, ◌++◌, length, codes, None}
+use Rattle.std.specs.Prelude.{◌≡◌, ◌+◌, ◌<◌, ◌≤◌, ◌⊎◌, ⊤, ℕ, false, List, [], ◌∷◌, ◌++◌, length, codes}
 use Rattle.std.specs.Str.{IsUtf8}
 use Rattle.std.specs.Str.Lines.{lines}
 use Rattle.mote_types.specs.Applications.{says_of}
 use Rattle.mote_text.specs.declared.script.End.{End}
-use Rattle.mote_apps.specs.Bundled.{named}
 use Rattle.call_lists.specs.Applications.{application_says, IsListed, IsNamed}
+use Rattle.call_lists.specs.Faults.{IsNoName}
 use Rattle.call_lists.specs.declared.applications.Application.{Application}
 use Rattle.kernel_core.specs.declared.config.Config.{Config}
 use Rattle.kernel_core.specs.Machine.{is_bootable}
@@ -43,11 +43,11 @@ pub record NamesNone (all : List (List ℕ)) (number : ℕ) : Type 0 where
   pub behind : List (List ℕ)
   pub is_line : all ≡ before ++ line ∷ behind
   pub is_number : number ≡ length before + 1
-  pub is_none : named line ≡ None
+  pub is_none : IsNoName line
 
 -- why a line is no further application behind so many
 abbrev pub IsRefusedLine : List ℕ → ℕ → Refusal → Type 0
-IsRefusedLine line count (Refusal.NoApplication number) = (number ≡ count + 1) × (named line ≡ None)
+IsRefusedLine line count (Refusal.NoApplication number) = (number ≡ count + 1) × IsNoName line
 IsRefusedLine line count Refusal.TooManyApplications = 16 ≤ count
 IsRefusedLine line count refusal = ⊥
 

@@ -1,8 +1,8 @@
 //! The applications that lines name.
 
-ghost use Rattle.std.specs.Prelude.{◌≡◌, None, IfErr, IfNone, IfOk, IfSome};
+ghost use Rattle.std.specs.Prelude.{IfErr, IfNone, IfOk, IfSome};
 ghost use Rattle.std.specs.Str.Lines.{lines};
-ghost use Rattle.mote_apps.specs.Bundled.{named};
+ghost use Rattle.call_lists.specs.Faults.{IsNoName};
 ghost use Rattle.toarmuts.specs.Answers.{AreOfLines, AreRefused, HasCalls, IsOfLine, IsRefusedLine};
 
 use crate::refusal::Refusal;
@@ -25,7 +25,7 @@ fn calls_in(line: &str) -> Option<&str>
 /// The application that a line names, or whose calls it has.
 fn application_of(line: &str) -> Option<Application>
     ensures named { IfSome result (IsOfLine line.now) }
-    ensures none { IfNone result (named line.now ≡ None) }
+    ensures none { IfNone result (IsNoName line.now) }
 {
     match calls_in(line) {
         Some(text) => Application::listed(text).ok(),

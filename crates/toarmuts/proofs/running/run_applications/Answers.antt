@@ -1,5 +1,5 @@
 use Rattle.std.proofs.Common.{rules, arith, refl, inl, ◌≡◌, ◌∷◌, [], ◌++◌, ◌∙◌, List, ap, sym, subst, length, false}
-use Rattle.toarmuts.proofs.Common.{into_iter_items, append-nil, append_assoc, Applications, Says, says_of, IsRunText, config_of, application_says}
+use Rattle.toarmuts.proofs.Common.{into_iter_items, append_assoc, Applications, Says, says_of, IsRunText, config_of, application_says}
 use denote.Param.Object.{read_made}
 use Rattle.kernel_core.specs.Machine.{is_bootable}
 use Rattle.mote_run.proofs.Boxed.{all_yielded, as_many_more, one_more, same_applications}

@@ -1,0 +1,24 @@
+-- Why words name no application, and why a word is no number.
+use Rattle.std.specs.Prelude.{◌≡◌, ◌≢◌, ◌<◌, ◌⊎◌, ⊤, ℕ, List, codes, Option, Some, None}
+use Rattle.mote_apps.specs.Bundled.{named}
+use Rattle.mote_text.specs.Script.{read_number}
+use Rattle.call_lists.specs.declared.fault.CallFault.{CallFault}
+
+-- no application has this name
+abbrev pub IsNoName : List ℕ → Type 0
+IsNoName name = (named name ≡ None) × (name ≢ codes "clock-watcher")
+
+-- so it is, and the name is told
+abbrev pub TellsNoName : List ℕ → CallFault → Type 0
+TellsNoName name (CallFault.NoApplication told) = (told.now ≡ name) × IsNoName name
+TellsNoName name fault = ⊥
+
+abbrev pub LiesOutside : ℕ → ℕ → Option ℕ → Type 0
+LiesOutside least most None = ⊤
+LiesOutside least most (Some number) = (number < least) ⊎ (most < number)
+
+-- the word is no number from the least to the most, and these are told
+abbrev pub IsNoNumber : List ℕ → ℕ → ℕ → CallFault → Type 0
+IsNoNumber word least most (CallFault.NoNumber told lowest highest) =
+    (told.now ≡ word) × (lowest ≡ least) × (highest ≡ most) × LiesOutside least most (read_number word)
+IsNoNumber word least most fault = ⊥
