@@ -4,11 +4,14 @@ use hex::FromHexError;
 use std::alloc::{AllocError, Global};
 use transcript_lines::{Ending, Input, Note, Origin, Turn};
 
-/// How many bytes of a text are shown.
-const MOST_BYTES: usize = 48;
+/// How many bytes of a text are shown: so many leave room beside what memory shows.
+const MOST_BYTES: usize = 24;
+
+/// How many bytes of a print are shown, in narrower letters.
+const MOST_PRINTED: usize = 48;
 
 /// How many bytes are shown as numbers.
-const MOST_NUMBERS: usize = 16;
+const MOST_NUMBERS: usize = 8;
 
 /// Bytes of which all are text, a line end too.
 fn are_text(bytes: &[u8]) -> bool {
@@ -18,10 +21,10 @@ fn are_text(bytes: &[u8]) -> bool {
             .all(|byte| matches!(*byte, b' '..=b'~' | b'\n' | b'\r'))
 }
 
-/// Appends bytes as the text that they are.
-fn push_text(out: &mut String, bytes: &[u8]) -> Result<(), AllocError> {
+/// Appends bytes as the text that they are, so many at most.
+fn push_text(out: &mut String, bytes: &[u8], most: usize) -> Result<(), AllocError> {
     out.push_str("“")?;
-    for byte in bytes.iter().take(MOST_BYTES) {
+    for byte in bytes.iter().take(most) {
         match *byte {
             b'\n' => out.push_str("⏎")?,
             b'\r' => out.push_str("␍")?,
@@ -40,8 +43,14 @@ fn push_numbers(out: &mut String, bytes: &[u8]) -> Result<(), AllocError> {
     Ok(())
 }
 
-/// Appends what the digits of bytes stand for: text in quotes where it is text, else two digits for each byte.
-fn push_bytes(alloc: Global, out: &mut String, digits: &str) -> Result<(), AllocError> {
+/// Appends what the digits of bytes stand for: text in quotes where it is text, of so many bytes at most, else two digits for
+/// each byte.
+fn push_some(
+    alloc: Global,
+    out: &mut String,
+    digits: &str,
+    most_text: usize,
+) -> Result<(), AllocError> {
     let bytes = match hex::decode(alloc, digits) {
         Ok(bytes) => bytes,
         Err(FromHexError::OutOfMemory) => return Err(AllocError),
@@ -49,15 +58,19 @@ fn push_bytes(alloc: Global, out: &mut String, digits: &str) -> Result<(), Alloc
     };
     let is_text = are_text(bytes.as_slice());
     if is_text {
-        push_text(out, bytes.as_slice())?;
+        push_text(out, bytes.as_slice(), most_text)?;
     } else {
         push_numbers(out, bytes.as_slice())?;
     }
-    let most = if is_text { MOST_BYTES } else { MOST_NUMBERS };
+    let most = if is_text { most_text } else { MOST_NUMBERS };
     if bytes.len() > most || bytes.is_empty() {
         write!(out, "… {} bytes", bytes.len())?;
     }
     Ok(())
+}
+
+fn push_bytes(alloc: Global, out: &mut String, digits: &str) -> Result<(), AllocError> {
+    push_some(alloc, out, digits, MOST_BYTES)
 }
 
 /// Appends what an event carries.
@@ -154,9 +167,9 @@ pub fn push_answer(alloc: Global, out: &mut String, answer: &str) -> Result<(), 
     }
 }
 
-/// Whether the last word of a call is bytes.
+/// Whether the last word of a call is bytes that go to memory.
 fn ends_in_bytes(word: &str) -> bool {
-    matches!(word, "print" | "mmem-write" | "heap-write" | "memb-write")
+    matches!(word, "mmem-write" | "heap-write" | "memb-write")
 }
 
 /// Whether the last word of a call is what an event carries.
@@ -171,7 +184,10 @@ pub fn push_call(alloc: Global, out: &mut String, call: &str) -> Result<(), Allo
     };
     let word = front.split_once(' ').map_or(front, |(word, _)| word);
     out.push_str(front)?;
-    if ends_in_bytes(word) {
+    if word == "print" {
+        out.push_str(" ")?;
+        push_some(alloc, out, last, MOST_PRINTED)
+    } else if ends_in_bytes(word) {
         out.push_str(" ")?;
         push_bytes(alloc, out, last)
     } else if ends_in_payload(word) {
