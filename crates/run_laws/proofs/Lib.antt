@@ -1,6 +1,7 @@
 pub mod event_order
 pub mod timer_deadlines
 pub mod Arrivals
+pub mod CallQueues
 pub mod Callers
 pub mod Changes
 mod Examples

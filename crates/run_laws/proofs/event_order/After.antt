@@ -1,6 +1,7 @@
 -- What a call does to the shape.
 use Rattle.std.proofs.Common.{◌≡◌, ℕ, Bool, true, false, not, ◌&&◌, List, [], ◌∷◌, ◌++◌, refl, ap, sym, arith, append-nil, append_assoc, Option, Some, None, option_to_list, map, if◌then◌else◌, ◌==◌}
 use Rattle.run_laws.proofs.Common.{list_all, nat_tests, Call, Reply, Refusal, Stimulus, Origin, Payload, Entry, Note, EXIT, EXITED, number_event, is_reserved, State, Queued, Item, numbers, without, is_ending, is_application, farewells, kill_refusal, killed_by, Scheduler, of_event, in_front, state_in, put_in_state, has_room, Machine, scheduled, with_event, after_call, refused_or, event_of, answer_done, is_event_of_code, event_for}
+use Rattle.run_laws.proofs.CallQueues.{is_posting, kept_unposted}
 use Rattle.run_laws.proofs.event_order.Tally.{Known, own_event, ends_in, is_plain, is_ordered, ordered-append, seats, seats-with_mark, seats-with_state, state_of-seats, put, stands, waiting_in, waits, queued, queued_in, posted_for, FrontAgrees}
 use Rattle.run_laws.proofs.event_order.Items.{holds, holds-append, is_quiet}
 use Rattle.run_laws.proofs.event_order.Waiting.{waits-append, queued-append, queued-cancelled}
@@ -95,17 +96,10 @@ after-waits p (Call.Kill r) q m = go (kill_refusal m.scheduler r)
         ) refl
 after-waits p call q m = grind (arith, no_answer, no_synch)
 
--- a call that posts
-abbrev pub is_posting : Call → Bool
-is_posting (Call.Post r code payload) = true
-is_posting (Call.Broadcast code payload) = true
-is_posting _ = false
-
 after-queued_other : (p : ℕ) (call : Call) (q : ℕ) (m : Machine) → is_posting call ≡ false
     → queued p (after_call call q m).scheduler.events ≡ queued p m.scheduler.events
-after-queued_other p (Call.CallbackSet c interval) q m h = grind (arith, queued-cancelled p (λ r d. r == q && d == c) m.scheduler.events)
-after-queued_other p (Call.CallbackStop c) q m h = grind (arith, queued-cancelled p (λ r d. r == q && d == c) m.scheduler.events)
-after-queued_other p call q m h = grind arith
+after-queued_other p call q m n =
+    kept_unposted {P = λ events. queued p events ≡ queued p m.scheduler.events} (λ test events h. rw (queued-cancelled p test events) h) call q m n refl
 
 no_event : (p : ℕ) (call : Call) → is_posting call ≡ false → event_for p call ≡ None
 no_event p call h = grind arith

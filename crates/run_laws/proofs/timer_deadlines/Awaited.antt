@@ -1,6 +1,7 @@
 -- A TIMER event that p waits for isn't lost on its way, and a timer leaves the list for one.
 use Rattle.std.proofs.Common.{◌≡◌, ℕ, Bool, true, false, not, ◌&&◌, ◌||◌, List, [], ◌∷◌, ◌++◌, refl, arith, Some, map, filter, drop, slice_get, ◌==◌, nat_le, Option, if◌then◌else◌}
-use Rattle.run_laws.proofs.Common.{list_any, nat_tests, Stimulus, Event, Origin, Payload, EXITED, Queued, Item, Scheduler, after_item, delivery, of_event, Timer, event_timer, is_timer, is_event_timer_of, is_callback_timer_of, is_armed, without_callback_timers, Machine, with_event, with_timers, cancelled_if, expiries_cancelled, serve, post_expiry, exited_application, is_number, is_timer_event, list_any-append, Call, Reply, Timers, after_call, is_callback_timer, is_done, Standing, standing_after, arms, stops}
+use Rattle.run_laws.proofs.Common.{list_any, nat_tests, Stimulus, Event, Origin, Payload, EXITED, Queued, Item, Scheduler, after_item, delivery, of_event, Timer, event_timer, is_timer, is_event_timer_of, is_callback_timer_of, is_armed, without_callback_timers, Machine, with_event, with_timers, cancelled_if, expiries_cancelled, serve, post_expiry, exited_application, is_number, is_timer_event, list_any-append, Call, Reply, Timers, after_call, is_done, Standing, standing_after, arms, stops}
+use Rattle.run_laws.proofs.CallQueues.{KeptByCalls, kept_by_call}
 use Rattle.run_laws.proofs.Changes.{Changes, of_changes}
 use Rattle.run_laws.proofs.event_order.Tally.{is_from_queue, is_ordered, stands}
 use Rattle.run_laws.proofs.event_order.Items.{with_agenda}
@@ -98,19 +99,19 @@ serve-held p t g q origin event m none = of_changes changes m
 -- After each turn an armed timer is on the list, or its TIMER event waits, or one was given.
 -- what waits goes on waiting
 
-after-queues : (p t : ℕ) (call : Call) (q : ℕ) (m : Machine) → list_any (queues p t) m.scheduler.events ≡ true → list_any (queues p t) (after_call call q m).scheduler.events ≡ true
-after-queues p t (Call.CallbackSet c interval) q m h = grind (arith, h, queues-cancelled p t (is_callback_timer q c) m.scheduler.events)
-after-queues p t (Call.CallbackStop c) q m h = grind (arith, h, queues-cancelled p t (is_callback_timer q c) m.scheduler.events)
-after-queues p t (Call.Post r code payload) q m h = grind (arith, h, list_any-append (queues p t) m.scheduler.events)
-after-queues p t (Call.Broadcast code payload) q m h = grind (arith, h, list_any-append (queues p t) m.scheduler.events)
-after-queues p t call q m h = grind (arith, h)
+after-queues : (p t : ℕ) → KeptByCalls (λ events. list_any (queues p t) events ≡ true)
+after-queues p t =
+    record {
+      posted = λ event events posted h. grind (arith, h, list_any-append (queues p t) events);
+      cancelled = λ test events h. rw (queues-cancelled p t test events) h;
+    }
 
 pub after-expected : (p t : ℕ) (call : Call) (q : ℕ) (m : Machine) → is_expected p t m.scheduler ≡ true → is_expected p t (after_call call q m).scheduler ≡ true
 after-expected p t call q m h = go (list_any (gives p t) m.scheduler.agenda) refl h
   where
     go : (b : Bool) → list_any (gives p t) m.scheduler.agenda ≡ b → (b || list_any (queues p t) m.scheduler.events) ≡ true → is_expected p t (after_call call q m).scheduler ≡ true
     go true e k = rw (after-any (gives p t) call q m e) refl
-    go false e k = grind (arith, after-queues p t call q m k)
+    go false e k = grind (arith, kept_by_call (after-queues p t) call q m k)
 
 -- the standing of the timer
 

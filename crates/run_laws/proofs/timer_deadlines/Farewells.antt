@@ -1,6 +1,7 @@
 -- Nobody is told that p ended while p goes on.
 use Rattle.std.proofs.Common.{◌≡◌, ℕ, Bool, true, false, not, ◌&&◌, ◌||◌, List, [], ◌∷◌, refl, ◌∙◌, arith, append_assoc, map, slice_get, ◌==◌}
-use Rattle.run_laws.proofs.Common.{list_all, list_any, nat_tests, Call, Stimulus, Event, Origin, POLL, EXITED, plain_event, number_event, Queued, Item, numbers, Scheduler, after_item, delivery, first_event, of_event, Timer, Machine, after_call, is_callback_timer, cancelled_if, serve, expiry_of, is_number, list_any-append}
+use Rattle.run_laws.proofs.Common.{list_all, list_any, nat_tests, Call, Stimulus, Event, Origin, POLL, EXITED, plain_event, number_event, Queued, Item, numbers, Scheduler, after_item, delivery, first_event, of_event, Timer, Machine, after_call, cancelled_if, serve, expiry_of, is_number, list_any-append}
+use Rattle.run_laws.proofs.CallQueues.{KeptByCalls, kept_by_call}
 use Rattle.run_laws.proofs.Changes.{Changes, of_changes, is_notice}
 use Rattle.run_laws.proofs.event_order.Tally.{ends_in, is_give_exit, is_exit_turn, to_all}
 use Rattle.run_laws.proofs.event_order.Items.{with_agenda}
@@ -33,12 +34,15 @@ is_no_exited (Queued.Expiry q c x) = true
 events-cancelled : (test : ℕ → ℕ → Bool) (events : List (Queued Bool)) → list_all is_no_exited (map (cancelled_if test) events) ≡ list_all is_no_exited events
 events-cancelled test events = all-cancelled is_no_exited test (λ event. grind arith) events
 
+after-clean : KeptByCalls (λ events. list_all is_no_exited events ≡ true)
+after-clean =
+    record {
+      posted = λ event events posted h. all-more is_no_exited events event (grind (arith, nat_tests, posted)) h;
+      cancelled = λ test events h. rw (events-cancelled test events) h;
+    }
+
 pub after-events : (call : Call) (q : ℕ) (m : Machine) → list_all is_no_exited m.scheduler.events ≡ true → list_all is_no_exited (after_call call q m).scheduler.events ≡ true
-after-events (Call.CallbackSet c interval) q m h = grind (arith, h, events-cancelled (is_callback_timer q c) m.scheduler.events)
-after-events (Call.CallbackStop c) q m h = grind (arith, h, events-cancelled (is_callback_timer q c) m.scheduler.events)
-after-events (Call.Post r code payload) q m h = grind (arith, nat_tests, h, all-more is_no_exited)
-after-events (Call.Broadcast code payload) q m h = grind (arith, nat_tests, h, all-more is_no_exited)
-after-events call q m h = grind (arith, h)
+after-events = kept_by_call after-clean
 
 abbrev Clean : Machine → Type 0
 Clean m = list_all is_no_exited m.scheduler.events ≡ true

@@ -1,8 +1,9 @@
 -- The clock, the names of the cells and the codes in the queue, step by step.
 use Rattle.std.proofs.Common.{◌≡◌, ℕ, ◌+◌, true, List, [], ◌∷◌, ◌++◌, arith, nat_le}
-use Rattle.run_laws.proofs.Common.{list_all, nat_tests, Call, Stimulus, Event, Origin, Input, Note, Entry, Item, after_item, in_front, all_timers, Machine, scheduled, after_call, is_callback_timer, serve, ticks_in, clock_after, effect}
+use Rattle.run_laws.proofs.Common.{list_all, nat_tests, Call, Stimulus, Event, Origin, Input, Note, Entry, Item, after_item, in_front, all_timers, Machine, scheduled, after_call, serve, ticks_in, clock_after, effect}
 use Rattle.run_laws.proofs.timer_deadlines.Ledgers.{fold-append}
 use Rattle.run_laws.proofs.event_order.Items.{with_agenda, facing}
+use Rattle.run_laws.proofs.CallQueues.{KeptByCalls, kept_by_call}
 use Rattle.run_laws.proofs.Arrivals.{serve-untouched}
 use Rattle.run_laws.proofs.timer_deadlines.Fronts.{all-more, carried-queue}
 use Rattle.run_laws.proofs.timer_deadlines.Timed.{is_no_timer, plain-cancelled, serve-fair}
@@ -37,16 +38,16 @@ steady-serve q event m X h = grind (arith, nat_tests, serve-fair 0 0 q event m, 
 
 -- a turn
 
-after-plain : (call : Call) (q : ℕ) (m : Machine) → list_all is_no_timer m.scheduler.events ≡ true → list_all is_no_timer (after_call call q m).scheduler.events ≡ true
-after-plain (Call.CallbackSet c interval) q m h = grind (arith, h, plain-cancelled (is_callback_timer q c) m.scheduler.events)
-after-plain (Call.CallbackStop c) q m h = grind (arith, h, plain-cancelled (is_callback_timer q c) m.scheduler.events)
-after-plain (Call.Post r code payload) q m h = grind (arith, nat_tests, h, all-more is_no_timer)
-after-plain (Call.Broadcast code payload) q m h = grind (arith, nat_tests, h, all-more is_no_timer)
-after-plain call q m h = grind (arith, h)
+after-plain : KeptByCalls (λ events. list_all is_no_timer events ≡ true)
+after-plain =
+    record {
+      posted = λ event events posted h. all-more is_no_timer events event (grind (arith, nat_tests, posted)) h;
+      cancelled = λ test events h. rw (plain-cancelled test events) h;
+    }
 
 pub steady-turn : (q : ℕ) (origin : Origin) (stimulus : Stimulus) (call : Call) (m : Machine) (X : List Entry) → nat_le 4 q ≡ true → Steady m X
     → Steady (after_call call q m) (X ++ Entry.Turn (record { 0 = q }) origin stimulus call ∷ [])
-steady-turn q origin stimulus call m X a h = grind (arith, nat_tests, after-clock, clock-more, after-names, after-plain, after-regular)
+steady-turn q origin stimulus call m X a h = grind (arith, nat_tests, after-clock, clock-more, after-names, kept_by_call after-plain call q m h.plain, after-regular)
 
 -- an entry that is shown
 pub steady-shown : (note : Note) (m : Machine) (X : List Entry) → Steady m X → Steady m (X ++ Entry.Note note ∷ [])

@@ -1,6 +1,7 @@
 -- The TIMER events of timer t of p are no more than the ripe armings.
 use Rattle.std.proofs.Common.{◌≡◌, ℕ, ◌+◌, ◌≤◌, Bool, true, false, not, ◌&&◌, List, [], ◌∷◌, ◌++◌, refl, ◌∙◌, sym, arith, Some, find, filter, map, if◌then◌else◌, ◌==◌, nat_le, ◌||◌, Option}
 use Rattle.run_laws.proofs.Common.{list_any, list_all, nat_tests, Stimulus, Event, TIMER, Queued, Item, of_event, Timer, event_timer, is_timer, is_event_timer_of, is_callback_timer_of, Timers, cell_of, is_armed, stop_timer, deadline, is_due, first_due, without_callback_timers, Machine, with_event, with_timers, cancelled_if, expiries_cancelled, serve, expiry_of, post_expiry, is_timer_event, Call, Reply, Origin, Payload, EXITED, plain_event, number_event, is_reserved, Scheduler, delivery, after_item, after_call, Cell, OwnTurn, is_done, arms, stops, is_arming, is_arming_or_stop, cell_after}
+use Rattle.run_laws.proofs.CallQueues.{KeptByCalls, is_posted, kept_by_call}
 use Rattle.run_laws.proofs.Changes.{Changes, of_changes, is_notice}
 use Rattle.run_laws.proofs.timer_deadlines.Fronts.{all-more, all-cancelled}
 use Rattle.run_laws.proofs.timer_deadlines.Ledgers.{Ledger, one_if, ledger_after}
@@ -200,18 +201,28 @@ farewells-count p t q (n ∷ ns) = omega (arith, farewells-count p t q ns, no_ti
 no_answer : (p t q : ℕ) (reply : Reply) → timer_for p t q (Stimulus.Answer reply) ≡ 0
 no_answer p t q reply = grind (arith, nat_tests)
 
+posted-uncounted : (p t : ℕ) (event : Queued Bool) → is_posted event ≡ true → queued_one p t event ≡ 0
+posted-uncounted p t event h = grind (arith, nat_tests, h)
+
+after-events_count : (p t n : ℕ) → KeptByCalls (λ events. count_events p t events ≡ n)
+after-events_count p t n =
+    record {
+      posted = λ event events posted h. grind (arith, h, count_events-more p t events event, posted-uncounted p t event posted);
+      cancelled = λ test events h. rw (count-cancelled p t test events) h;
+    }
+
 free_code : (p t q code : ℕ) (payload : Payload) → is_reserved code ≡ false → timer_for p t q (of_event (record { code = code; payload = payload })) ≡ 0
 free_code p t q code payload h = grind (arith, nat_tests, h)
 
+after-items_count : (p t : ℕ) (call : Call) (q : ℕ) (m : Machine) → count_items p t (after_call call q m).scheduler.agenda ≡ count_items p t m.scheduler.agenda
+after-items_count p t Call.Exit q m = grind (arith, nat_tests, count_items-append, farewells-count)
+after-items_count p t (Call.Kill r) q m = grind (arith, nat_tests, no_answer, count_items-append, farewells-count)
+after-items_count p t (Call.PostSynch r code payload) q m = grind (arith, no_answer, free_code)
+after-items_count p t call q m = grind (arith, no_answer, no_plain)
+
 pub after-count : (p t : ℕ) (call : Call) (q : ℕ) (m : Machine) → in_wait p t (after_call call q m) ≡ in_wait p t m
-after-count p t Call.Exit q m = grind (arith, nat_tests, count_items-append, farewells-count)
-after-count p t (Call.Kill r) q m = grind (arith, nat_tests, no_answer, count_items-append, farewells-count)
-after-count p t (Call.CallbackSet c interval) q m = grind (arith, no_answer, count-cancelled p t (λ r d. r == q && d == c) m.scheduler.events)
-after-count p t (Call.CallbackStop c) q m = grind (arith, no_answer, count-cancelled p t (λ r d. r == q && d == c) m.scheduler.events)
-after-count p t (Call.Post r code payload) q m = grind (arith, no_answer, free_code, count_events-more)
-after-count p t (Call.Broadcast code payload) q m = grind (arith, no_answer, count_events-more)
-after-count p t (Call.PostSynch r code payload) q m = grind (arith, no_answer, free_code)
-after-count p t call q m = grind (arith, no_answer, no_plain)
+after-count p t call q m =
+    omega (arith, after-items_count p t call q m, kept_by_call (after-events_count p t (count_events p t m.scheduler.events)) call q m refl)
 
 -- A turn keeps the balance of timers.
 
