@@ -67,9 +67,6 @@ part_put part words count place end old new counted copies =
     made (inr numbered) =
         inr (words, subst (λ n. part ≡ decimal n ++ codes " " ++ words) (sym copies.is_count) numbered, copies.are_calls)
 
-pub nothing_put : (calls : List Call) → HasFront [] 0 calls calls
-nothing_put calls = record { are_of_parts = refl; fits = omega arith; others = refl; is_long = refl }
-
 parts_more : (parts : List (List ℕ)) (calls : List Call) (part : List ℕ) (made : List Call) → AreOfParts parts calls → AreMade part made
     → AreOfParts (parts ++ part ∷ []) (calls ++ made)
 parts_more [] calls part made are is = (made, [], ap (λ front. front ++ made) are ∙ sym (append-nil made), is, refl)

@@ -48,11 +48,7 @@ pub fn bytes_shown(stays: &[Stay], size: u64) -> u64 {
 fn area_of(page: &Page, column: &Column, stay: &Stay) -> Area {
     let left = column.reach_of(stay.at);
     let right = column.reach_of(stay.at.saturating_add(stay.taken));
-    let top = page.top_of(stay.first).saturating_add(ROW / 2);
-    let end = match stay.last {
-        Some(row) => page.top_of(row).saturating_add(ROW / 2),
-        None => page.bottom(),
-    };
+    let (top, end) = page.span_of(stay);
     Area {
         place: Place { left, top },
         width: right.saturating_sub(left).max(1),

@@ -1,6 +1,7 @@
 //! Where the parts of a picture stand.
 
 use crate::pen::Place;
+use run_memory::Stay;
 
 /// The height of a row.
 pub const ROW: usize = 17;
@@ -104,6 +105,15 @@ impl Page {
     /// Where the rows end.
     pub fn bottom(&self) -> usize {
         self.top_of(self.rows)
+    }
+
+    /// Where what stays somewhere begins and ends, from the middle of its first row on.
+    pub(crate) fn span_of(&self, stay: &Stay) -> (usize, usize) {
+        let end = match stay.last {
+            Some(row) => self.top_of(row).saturating_add(ROW / 2),
+            None => self.bottom(),
+        };
+        (self.top_of(stay.first).saturating_add(ROW / 2), end)
     }
 
     /// The middle of a process's lane.

@@ -1,6 +1,6 @@
 //! The columns of the pools: which blocks are used, and which of these are in a list.
 
-use crate::page::{POOL, Page, ROW};
+use crate::page::{POOL, Page};
 use crate::pen::{Area, Pen, Place};
 use run_memory::Stay;
 use run_memory::pools::BLOCKS;
@@ -56,11 +56,7 @@ fn area_of(page: &Page, pools: &Pools, stay: &Stay, width: usize) -> Area {
         .pool_left(pools.below(stay.at / BLOCKS))
         .saturating_add(block.saturating_mul(BLOCK))
         .saturating_add((BLOCK.saturating_sub(width)) / 2);
-    let top = page.top_of(stay.first).saturating_add(ROW / 2);
-    let end = match stay.last {
-        Some(row) => page.top_of(row).saturating_add(ROW / 2),
-        None => page.bottom(),
-    };
+    let (top, end) = page.span_of(stay);
     Area {
         place: Place { left, top },
         width,
