@@ -1,5 +1,5 @@
 -- A kernel in the midst of a turn: an application was told a stimulus, and its call is awaited.
-use Rattle.std.specs.Prelude.{ℕ, ◌≡◌, ◌≤◌, ◌<◌, ◌+◌, ◌*◌, ◌^◌, false, Option, None, Some}
+use Rattle.std.specs.Prelude.{◌≡◌, ◌≤◌, ◌<◌, ◌+◌, ◌*◌, ◌^◌, false, Option, None, Some}
 use Rattle.mote_types.specs.declared.entry.Entry.{Entry}
 use Rattle.mote_types.specs.declared.event.Stimulus.{Stimulus}
 use Rattle.mote_types.specs.declared.event.Origin.{Origin}
@@ -12,7 +12,7 @@ use Rattle.kernel_core.specs.Mote.{Mote}
 use Rattle.kernel_core.specs.Run.{Answers, work_limit}
 use Rattle.kernel_core.specs.Code.Draws.{drawn_in_all}
 use Rattle.kernel_core.specs.Code.Steps.{MakesEntry}
-use Rattle.kernel_core.specs.Code.View.{IsAtTurn, IsInOrder, machine_of, mote_of}
+use Rattle.kernel_core.specs.Code.View.{IsAtTurn, IsInOrder, mote_of}
 
 -- from old the machine comes to a turn, whatever is answered in it: once the answer is carried out on new, the turn is made
 abbrev pub AwaitsCall : Answers → Machine → Pid → Origin → Stimulus → Machine → Type 0

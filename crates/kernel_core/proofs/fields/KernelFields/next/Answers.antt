@@ -1,4 +1,3 @@
-use Rattle.std.proofs.Common.{rules}
 use Rattle.kernel_core.proofs.Reaching.{entry_is_shown}
 use Rattle.kernel_core.proofs.fields.KernelFields.next.Goals as goal
 
