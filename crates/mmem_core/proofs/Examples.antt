@@ -1,7 +1,36 @@
--- What it comes to that a call keeps to its span.
-use Rattle.mmem_core.proofs.Words.{◌+◌, ◌≤◌, sym, subst, arith, Span, Contents, HandleTable, KeepsToSpan}
+-- What it comes to that a call keeps to its span, and that it counts the bytes that it moves.
+use Rattle.mmem_core.proofs.Words.{◌≡◌, ◌+◌, ◌-◌, ◌^◌, ◌≤◌, ℕ, List, [], ◌∷◌, Option, Some, None, refl, sym, subst, arith, Span, Contents, HandleTable, KeepsToSpan, CountsMoved, Place}
 
 -- a span that was handed out stays handed out: what is carved later lies behind it
 stays_handed_out : (old new : HandleTable) (before after : Contents) → KeepsToSpan old new before after → old.span.at + old.span.len ≤ before.carved → new.span.at + new.span.len ≤ after.carved
 stays_handed_out old new before after keeps within =
     subst (λ (span : Span). span.at + span.len ≤ after.carved) (sym keeps.span) (omega (arith, keeps.carved, within))
+
+module _ (span : Span) where
+  -- three handles: blocks of 5 and of 6 bytes, the second one at this place, and so many bytes moved so far
+  abbrev table : ℕ → ℕ → HandleTable
+  table at slid =
+      record {
+        span = span;
+        quotas = record { each = None; owners = 17 };
+        places = Some (record { at = 0; len = 5 }) ∷ None ∷ Some (record { at = at; len = 6 }) ∷ [];
+        slid = slid;
+      }
+
+  -- the second block slides from 20 to 8: its 6 bytes count as 8
+  counts_rounded : CountsMoved (table 20 3) (table 8 11)
+  counts_rounded = refl
+
+  counts_no_lengths : CountsMoved (table 20 3) (table 8 9) → ⊥
+  counts_no_lengths counts = let differ : ◌≡◌ {A = ℕ} 9 11 = counts in absurd (omega arith)
+
+  -- what stays counts for nothing
+  counts_none : CountsMoved (table 8 3) (table 8 3)
+  counts_none = refl
+
+  counts_no_call : CountsMoved (table 8 3) (table 8 4) → ⊥
+  counts_no_call counts = let differ : ◌≡◌ {A = ℕ} 4 3 = counts in absurd (omega arith)
+
+  -- the count stays at the highest number
+  stays_highest : CountsMoved (table 20 18_446_744_073_709_551_614) (table 8 18_446_744_073_709_551_615)
+  stays_highest = refl

@@ -2,6 +2,7 @@
 use Rattle.std.proofs.Common.{arith, ◌≡◌, ℕ, Bool, true, false, List, [], ◌++◌, refl, ap, sym, subst, ◌∙◌, append_assoc, Result, Ok, Err, IfOk, IsErr, OnErr, IsErrOf, if◌then◌else◌}
 use Rattle.mote_run.proofs.Common.{nat_tests, append-nil, list_any, IsErrAnd, Applications, is_halt, Entry, Input, End, inputs, end_of, final_line, shown, text, Config, booted, is_bootable, Running, Runs, at_start, RunFault, Exchange, Exchanged, HasRun, HasRunInPart, HasRunOnWholeLines, IsRunText, OfEachScript, RunPromise, TraceSatisfies, Ran, Follows, Place, WritesOn, lines}
 use Rattle.mote_run.proofs.Pieces.{no_value, same_error}
+use Rattle.mote_run.specs.Trace.{IsAnsweredAlike}
 use Rattle.run_laws.specs.RunLaws.{BlocksAreOwn, EventsArriveInOrder, ProcessesAreIsolated, TimersAreKept}
 
 -- the machine that was booted tells its configuration
@@ -22,6 +23,7 @@ pub record Laws (config : Config) : Type 0 where
   pub events : (says : Applications) (inputs : List Input) (after : Running) → Runs says (at_start config) inputs after → EventsArriveInOrder config.apps after.entries
   pub timers : (says : Applications) (inputs : List Input) (after : Running) → Runs says (at_start config) inputs after → TimersAreKept config.apps after.entries
   pub isolation : (says : Applications) (inputs : List Input) (after : Running) → Runs says (at_start config) inputs after → ProcessesAreIsolated config.quota config.apps after.entries
+  pub alike : (says : Applications) (inputs : List Input) (after : Running) → Runs says (at_start config) inputs after → IsAnsweredAlike config.quota config.apps after.entries
 
 module _ {config : Config} {says : Applications} {quiet : Bool} {taken_old taken_new : List ℕ} {is_ended : Bool} {given_old given_new : List ℕ} {answer : Result End RunFault}
     (ran : Ran quiet taken_old taken_new is_ended given_old given_new (booting config says) (λ end. []) answer) (laws : Laws config) where
@@ -91,7 +93,20 @@ module _ {config : Config} {says : Applications} {quiet : Bool} {taken_old taken
       record { rest = r.rest; end = r.end; run = r.run; all = r.all; law = lawful says (inputs (ran.read ++ more)).0 r.run.last r.run.runs }
 
   pub promised : Exchanged taken_old taken_new is_ended given_old given_new (RunPromise config says quiet answer)
-  promised = grind (arith, nat_tests, text_of, on_err, whole_lines, shows)
+  promised = record {
+    read = ran.read;
+    written = ran.out;
+    taken = ran.taken;
+    given = ran.given;
+    holds = record {
+      ran = record { text = text_of answer refl; front = on_err answer; after_read_fault = whole_lines };
+      memory = shows BlocksAreOwn laws.memory;
+      events = shows (EventsArriveInOrder config.apps) laws.events;
+      timers = shows (TimersAreKept config.apps) laws.timers;
+      isolation = shows (ProcessesAreIsolated config.quota config.apps) laws.isolation;
+      alike = shows (IsAnsweredAlike config.quota config.apps) laws.alike;
+    };
+  }
 
 -- the last line was written behind all that was due
 pub closed : {quiet : Bool} {taken_old taken_new : List ℕ} {is_ended : Bool} {given_old given_new due given_later left : List ℕ} {start : Place} {end : End} {answer : Result End RunFault} →

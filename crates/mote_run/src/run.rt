@@ -14,7 +14,7 @@ use mote_text::script::End;
 use mote_types::app::App;
 use mote_types::device::{ByteSink, ByteSource};
 use run_laws::events::events_arrive_in_order;
-use run_laws::isolation::processes_are_isolated;
+use run_laws::isolation::{processes_are_isolated, same_calls_have_same_replies};
 use run_laws::memory::blocks_are_own;
 use run_laws::rest::run_exists;
 use run_laws::timers::timers_are_kept;
@@ -37,7 +37,8 @@ pub enum RunFault {
 /// is how that run ends. Of what that run shows an author of an application can rely on this: a process's managed and heap
 /// blocks are what its own calls made of them (`memory`); the events that are accepted for it arrive in order, and none is
 /// lost (`events`); no timer event comes early or twice, and none is lost (`timers`); with quotas managed memory answers a
-/// process as one of its own would, whatever the others do (`isolation`).
+/// process as one of its own would, whatever the others do (`isolation`), so in any two runs with one quota its same calls have
+/// the same replies (`alike`).
 ///
 /// # Errors
 ///
@@ -65,6 +66,7 @@ pub fn run<S: ByteSource, K: ByteSink>(
     events_arrive_in_order();
     timers_are_kept();
     processes_are_isolated();
+    same_calls_have_same_replies();
     run_exists();
     let mut work = Work::new(kernel);
     let end = take_script(source, sink, &mut work, apps, quiet)?;

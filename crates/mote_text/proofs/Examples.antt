@@ -9,6 +9,7 @@ use Rattle.mote_types.specs.declared.event.Stimulus.{Stimulus}
 use Rattle.mote_types.specs.declared.refusal.Refusal.{Refusal}
 use Rattle.mote_types.specs.declared.reply.Reply.{Reply}
 use Rattle.mote_text.proofs.WholeLines.{inputs_of_short}
+use Rattle.mote_text.specs.EntryText.{entry_line_limit}
 use Rattle.mote_text.specs.Transcript.{final_line, shown, text}
 
 small : (n : ℕ) → n ≤ 1000 → n ≤ script_limit
@@ -39,6 +40,10 @@ printed = Entry.Turn (record { 0 = 4 }) Origin.Answer (Stimulus.Answer Reply.Don
 line_of_a_turn : entry_line printed ≡ codes "4 answer done -> print 68690a\n"
 unfolding entry_line line_of digits encode_with
 line_of_a_turn = refl
+
+-- with its end
+most_of_a_line : entry_line_limit ≡ 640
+most_of_a_line = refl
 
 text_of_a_bad_script : text (Entry.Input (Input.Tick 5) ∷ Entry.Halt ∷ []) (End.BadLine 3) ≡ codes "> tick 5\nhalt\nbad line 3\n"
 unfolding entry_line line_of digits

@@ -1,9 +1,13 @@
 -- Worked examples: what words, names and numbers on the command line come to.
-use Rattle.std.proofs.Common.{◌≡◌, ℕ, List, true, false, [], ◌∷◌, codes, refl, Option, Some, None, bytes_eq, find, if◌then◌else◌}
-use Rattle.mote_words.proofs.Common.{applications_of, is_in_words, is_unknown, number_written}
+use Rattle.std.proofs.Common.{◌≡◌, ◌<◌, ◌≤◌, ◌∙◌, ℕ, List, true, false, [], ◌∷◌, codes, refl, sym, subst, ap, arith, length, replicate, Option, Some, None, bytes_eq, find, if◌then◌else◌}
+use denote.Ref.{Bor}
+use Rattle.clap.specs.Words.{kind_of}
+use Rattle.mote_words.proofs.Common.{applications_of, is_in_words, is_unknown, names_of, number_written, RefusesNames}
 use Rattle.clap.specs.declared.error.kind.ErrorKind.{ErrorKind}
 use Rattle.clap.specs.declared.parser.matches.ValueSource.{ValueSource}
-use Rattle.mote_words.specs.CommandLine.{is_request}
+use Rattle.mote_words.specs.CommandLine.{AsksForText, NamesApplications, Refuses, errors_in, is_request, matches_in}
+use Rattle.mote_words.specs.declared.refusal.ParserText.{ParserText}
+use Rattle.mote_words.specs.declared.refusal.Refusal.{Refusal}
 
 -- a table of two applications
 abbrev table : List ℕ → Option ℕ
@@ -43,3 +47,50 @@ used = refl
 
 by_default : is_in_words (Some ValueSource.DefaultValue) ≡ false
 by_default = refl
+
+-- What names are refused with: the first that is unknown, and only then that they are more than 16.
+
+refused_by_name : (name : Bor (List ℕ)) → name.now ≡ codes "hullo" → RefusesNames table (codes "echo" ∷ codes "hullo" ∷ []) (Refusal.NoApplication name)
+refused_by_name name is = ap Some (sym is)
+
+a_known_name : (name : Bor (List ℕ)) → RefusesNames table (codes "echo" ∷ []) (Refusal.NoApplication name) → ⊥
+a_known_name name refused = absurd (cc)
+
+seventeen_names : RefusesNames table (replicate 17 (codes "echo")) Refusal.TooManyApplications
+seventeen_names = (refl, omega arith)
+
+sixteen_names : RefusesNames table (replicate 16 (codes "echo")) Refusal.TooManyApplications → ⊥
+sixteen_names refused = let over : 16 < 16 = refused.1 in absurd (omega arith)
+
+unknown_before_many : RefusesNames table (codes "hullo" ∷ replicate 16 (codes "echo")) Refusal.TooManyApplications → ⊥
+unknown_before_many refused = absurd (cc)
+
+-- What words are refused with: a text that they ask for is no mistake, and no name counts where there is one.
+module _ (words : List (List ℕ)) where
+  a_mistake : (text : ParserText) → Refuses table words (Refusal.Words text) → is_request (kind_of text.error) ≡ true → ⊥
+  a_mistake text refused asked = absurd (cc)
+
+  a_text : (text : ParserText) → Refuses table words (Refusal.Request text) → AsksForText words
+  a_text text refused = (kind_of text.error, refused.0, refused.1)
+
+  found_before_names : (name : Bor (List ℕ)) → Refuses table words (Refusal.NoApplication name) → errors_in words ≡ []
+  found_before_names name refused = refused.0
+
+  found_before_number : Refuses table words Refusal.TooManyApplications → errors_in words ≡ []
+  found_before_number refused = refused.0
+
+  refused_by_its_name : (name : Bor (List ℕ)) → Refuses table words (Refusal.NoApplication name) → find (is_unknown table) (names_of (matches_in words)) ≡ Some name.now
+  refused_by_its_name name refused = refused.1
+
+  too_many : Refuses table words Refusal.TooManyApplications → 16 < length (names_of (matches_in words))
+  too_many refused = refused.1.1
+
+  -- words that name applications have no mistake, no unknown name, and at most sixteen names
+  none_wrong : NamesApplications table words → errors_in words ≡ []
+  none_wrong names = names.taken
+
+  none_unknown : (name : List ℕ) → NamesApplications table words → find (is_unknown table) (names_of (matches_in words)) ≡ Some name → ⊥
+  none_unknown name names unknown = let none = names.known in absurd (cc)
+
+  sixteen_at_most : NamesApplications table words → length (names_of (matches_in words)) ≡ 17 → ⊥
+  sixteen_at_most names many = let few = names.few in absurd (omega arith)

@@ -1,5 +1,5 @@
 -- What it comes to that blocks lie apart, and what a refused call leaves.
-use Rattle.node_memory.proofs.Common.{◌≡◌, ◌≢◌, ℕ, ◌+◌, ◌≤◌, ◌<◌, inl, inr, List, [], ◌∷◌, length, map, refl, ap, arith, Some, None, replicate, range_of, Call, Refusal, Reply, Memory, PlacedMemory, BlockName, IsBlockName, block_named, changed_block, extent_named, header_of, IsReadFrom, BlocksLieApart, LeavesAll, LeavesOthers}
+use Rattle.node_memory.proofs.Common.{◌≡◌, ◌≢◌, ℕ, ◌+◌, ◌≤◌, ◌<◌, inl, inr, List, [], ◌∷◌, length, map, refl, ap, arith, Some, None, replicate, range_of, Call, Refusal, Reply, Memory, PlacedMemory, BlockName, IsBlockName, block_named, changed_block, extent_named, header_of, IsReadFrom, BlocksLieApart, LeavesAll, LeavesOthers, IfRefused, StaysInPlace}
 
 -- the bytes of a live block lie in the arena, and those of two different blocks share none
 module _ (m : PlacedMemory) (lie : BlocksLieApart m) where
@@ -46,3 +46,14 @@ last_names_stay : (old new : Memory) → LeavesOthers (Some (BlockName.Managed 4
     × (block_named (BlockName.Pooled 3 15) new ≡ block_named (BlockName.Pooled 3 15) old)
 last_names_stay old new leaves =
     (leaves (BlockName.Managed 19 15) (omega arith, omega arith, omega arith) (λ e. absurd (cc)), leaves (BlockName.Heap 19 15) (omega arith, omega arith, omega arith) (λ e. absurd (cc)), leaves (BlockName.Pooled 3 15) tt (λ e. absurd (cc)))
+
+-- what is said of refused calls holds where the reply is a refusal, whichever; of another reply nothing is said
+holds_where_refused : (fact : Type 0) (refusal : Refusal) → IfRefused (Reply.Refused refusal) fact → fact
+holds_where_refused fact refusal held = held
+
+moves_none_where_no_room : (h n : ℕ) (old new : PlacedMemory)
+    → IfRefused (Reply.Refused Refusal.NoRoom) (LeavesAll (Call.MmemAlloc h n) (Reply.Refused Refusal.NoRoom) old new) → StaysInPlace old new
+moves_none_where_no_room h n old new leaves = leaves.blocks
+
+nothing_said_where_done : IfRefused Reply.Done ⊥
+nothing_said_where_done = tt

@@ -1,2 +1,3 @@
+mod Examples
 mod ReadLines
 pub mod Common

@@ -1,7 +1,8 @@
 -- The applications of the lines that were read, and the lines that are left.
-use Rattle.std.proofs.Common.{◌≡◌, ◌∙◌, ◌+◌, ◌<◌, ℕ, suc, List, [], ◌∷◌, ◌++◌, refl, sym, ap, subst, length, arith, length-append, Option, Some, None, Result, Ok, Err, IfErr, IsErr, IsErrAnd}
+use Rattle.std.proofs.Common.{◌≡◌, ◌∙◌, ◌+◌, ◌<◌, ◌≤◌, ℕ, suc, List, [], ◌∷◌, ◌++◌, refl, sym, ap, subst, length, arith, length-append, Option, Some, None, Result, Ok, Err, IfErr, IsErr, IsErrAnd}
 use Rattle.std.specs.Iterator.{AlwaysYields}
 use Rattle.toarmuts.proofs.Common.{append-nil, append_assoc, IsNoName, Application, AreOfLines, AreRefused, IsOfLine, IsRefusedLine, NamesNone, Refusal}
+use Rattle.toarmuts.specs.Answers.{AreTooMany}
 
 pub as_many : (lines : List (List ℕ)) (applications : List Application) → AreOfLines lines applications → length lines ≡ length applications
 as_many [] [] are = refl
@@ -70,17 +71,23 @@ module _ {S A : Type 0} (steps : S → Option A → S → Type 0) (v : A → Lis
       (first.0, one_read all applications grown (v x) first.0 application first.1 is pushed, first.2)
 
   one_too_many : (all : List (List ℕ)) (applications : List Application) (s t : S) (x : A)
-      → AreLeft all applications s → steps s (Some x) t → length applications < length all
-  one_too_many all applications s t x left step =
+      → AreLeft all applications s → steps s (Some x) t → 16 ≤ length applications → AreTooMany all
+  one_too_many all applications s t x left step many =
       let first = next all applications s t x left step in
       let read = first.1 in
       let same = as_many read.before applications read.are_of_lines in
-      let size : length all ≡ length read.before + suc (length first.0) = ap length read.are_all ∙ length-append read.before (v x ∷ first.0) in
-      omega (arith, same, size)
+      record {
+        line = v x;
+        before = read.before;
+        behind = first.0;
+        is_line = read.are_all;
+        are_named = (applications, read.are_of_lines);
+        are_full = omega (arith, same, many);
+      }
 
   names_none : (all : List (List ℕ)) (applications : List Application) (s t : S) (x : A)
-      → AreLeft all applications s → steps s (Some x) t → IsNoName (v x) → NamesNone all (length applications + 1)
-  names_none all applications s t x left step none =
+      → AreLeft all applications s → steps s (Some x) t → length applications < 16 → IsNoName (v x) → NamesNone all (length applications + 1)
+  names_none all applications s t x left step few none =
       let first = next all applications s t x left step in
       record {
         line = v x;
@@ -88,6 +95,8 @@ module _ {S A : Type 0} (steps : S → Option A → S → Type 0) (v : A → Lis
         behind = first.0;
         is_line = first.1.are_all;
         is_number = ap (λ n. n + 1) (sym (as_many first.1.before applications first.1.are_of_lines));
+        is_among = omega (arith, few);
+        are_named = (applications, first.1.are_of_lines);
         is_none = none;
       }
 
@@ -95,10 +104,10 @@ module _ {S A : Type 0} (steps : S → Option A → S → Type 0) (v : A → Lis
   pub refused_line : (all : List (List ℕ)) (applications : List Application) (count : ℕ) (s t : S) (x : A) (refusal : Refusal)
       → AreLeft all applications s → steps s (Some x) t → count ≡ length applications → IsRefusedLine (v x) count refusal → AreRefused all refusal
   refused_line all applications count s t x (Refusal.NoApplication number) left step same refused =
-      subst (NamesNone all) (sym (refused.0 ∙ ap (λ n. n + 1) same)) (names_none all applications s t x left step refused.1)
+      let few : length applications < 16 = omega (arith, same, refused.1) in
+      subst (NamesNone all) (sym (refused.0 ∙ ap (λ n. n + 1) same)) (names_none all applications s t x left step few refused.2)
   refused_line all applications count s t x Refusal.TooManyApplications left step same refused =
-      let more : length applications < length all = one_too_many all applications s t x left step in
-      omega (arith, same, refused, more)
+      one_too_many all applications s t x left step (omega (arith, same, refused))
   refused_line all applications count s t x refusal left step same refused = absurd refused
 
   come_to_end : (all : List (List ℕ)) (applications : List Application) (s t : S) (left : List (List ℕ))

@@ -36,25 +36,40 @@ pub record HasRun (configuration : Configuration) (text script out : List ℕ) (
   pub are_of_lines : AreOfLines (lines text) applications
   pub is_text : IsRunText (config_of (sizes_of configuration) (length applications)) (says_of application_says applications) (is_quiet configuration) script out end
 
--- the line of this number, from 1 on, names no application of the mote
+-- each line names an application, or has its calls
+abbrev pub AreNamed : List (List ℕ) → Type 0
+AreNamed lines = (applications : List Application) × AreOfLines lines applications
+
+-- the line of this number, from 1 on, is the first that names no application of the mote, and one of the first 16
 pub record NamesNone (all : List (List ℕ)) (number : ℕ) : Type 0 where
   pub line : List ℕ
   pub before : List (List ℕ)
   pub behind : List (List ℕ)
   pub is_line : all ≡ before ++ line ∷ behind
   pub is_number : number ≡ length before + 1
+  pub is_among : number ≤ 16
+  pub are_named : AreNamed before
   pub is_none : IsNoName line
+
+-- there is a line behind 16 that name applications
+pub record AreTooMany (all : List (List ℕ)) : Type 0 where
+  pub line : List ℕ
+  pub before : List (List ℕ)
+  pub behind : List (List ℕ)
+  pub is_line : all ≡ before ++ line ∷ behind
+  pub are_named : AreNamed before
+  pub are_full : 16 ≤ length before
 
 -- why a line is no further application behind so many
 abbrev pub IsRefusedLine : List ℕ → ℕ → Refusal → Type 0
-IsRefusedLine line count (Refusal.NoApplication number) = (number ≡ count + 1) × IsNoName line
+IsRefusedLine line count (Refusal.NoApplication number) = (number ≡ count + 1) × (count < 16) × IsNoName line
 IsRefusedLine line count Refusal.TooManyApplications = 16 ≤ count
 IsRefusedLine line count refusal = ⊥
 
 -- why lines are no applications
 abbrev pub AreRefused : List (List ℕ) → Refusal → Type 0
 AreRefused all (Refusal.NoApplication number) = NamesNone all number
-AreRefused all Refusal.TooManyApplications = 16 < length all
+AreRefused all Refusal.TooManyApplications = AreTooMany all
 AreRefused all Refusal.OutOfMemory = ⊤
 AreRefused all refusal = ⊥
 
@@ -64,12 +79,18 @@ IsRefusedRun config Refusal.BadSizes = is_bootable config ≡ false
 IsRefusedRun config Refusal.OutOfMemory = ⊤
 IsRefusedRun config refusal = ⊥
 
--- why there was no run, each under its own condition; memory may be refused at any time
+-- each line names an application, and they are at most 16, but no mote boots with these sizes and so many
+pub record HasBadSizes (configuration : Configuration) (all : List (List ℕ)) : Type 0 where
+  pub are_named : AreNamed all
+  pub are_few : length all ≤ 16
+  pub is_bad : is_bootable (config_of (sizes_of configuration) (length all)) ≡ false
+
+-- why there was no run: the first of these reasons, in this order; memory may be refused at any time
 abbrev pub Refuses : Configuration → List ℕ → Refusal → Type 0
 Refuses configuration text Refusal.NotText = IsUtf8 text → ⊥
-Refuses configuration text (Refusal.NoApplication number) = NamesNone (lines text) number
-Refuses configuration text Refusal.TooManyApplications = 16 < length (lines text)
-Refuses configuration text Refusal.BadSizes = is_bootable (config_of (sizes_of configuration) (length (lines text))) ≡ false
+Refuses configuration text (Refusal.NoApplication number) = IsUtf8 text × NamesNone (lines text) number
+Refuses configuration text Refusal.TooManyApplications = IsUtf8 text × AreTooMany (lines text)
+Refuses configuration text Refusal.BadSizes = IsUtf8 text × HasBadSizes configuration (lines text)
 Refuses configuration text Refusal.OutOfMemory = ⊤
 
 -- the number of a run's end

@@ -1,6 +1,6 @@
 //! The applications that lines name.
 
-ghost use Rattle.std.specs.Prelude.{IfErr, IfNone, IfOk, IfSome};
+ghost use Rattle.std.specs.Prelude.{◌<◌, ◌≤◌, length, IfErr, IfNone, IfOk, IfSome};
 ghost use Rattle.std.specs.Str.Lines.{lines};
 ghost use Rattle.call_lists.specs.Faults.{IsNoName};
 ghost use Rattle.toarmuts.specs.Answers.{AreOfLines, AreRefused, HasCalls, IsOfLine, IsRefusedLine};
@@ -40,6 +40,7 @@ fn application_of(line: &str) -> Option<Application>
 /// `TooManyApplications` where these are 16, and `NoApplication`.
 fn next_application(line: &str, count: usize) -> Result<Application, Refusal>
     ensures named { IfOk result (IsOfLine line.now) }
+    ensures few { IfOk result (λ _. count < 16) }
     ensures refused { IfErr result (IsRefusedLine line.now count) }
 {
     if count >= MOST_APPLICATIONS {
@@ -58,6 +59,7 @@ fn next_application(line: &str, count: usize) -> Result<Application, Refusal>
 /// The first line that names none, or more than 16 applications.
 pub fn read_applications(alloc: Global, text: &str) -> Result<Vec<Application>, Refusal>
     ensures of_lines { IfOk result (λ applications. AreOfLines (lines text.now) applications.items) }
+    ensures few { IfOk result (λ applications. length applications.items ≤ 16) }
     ensures refused { IfErr result (AreRefused (lines text.now)) }
 {
     let mut applications = Vec::new(alloc);

@@ -13,6 +13,8 @@ returns-in_err-end-clause-promise g c = λ s k config boots.
       events = c.events_arrive_in_order.ensures.in_order config;
       timers = λ says inputs after runs. c.timers_are_kept.ensures.kept config says inputs after runs bootable;
       isolation = λ says inputs after runs. c.processes_are_isolated.ensures.isolated config says inputs after runs bootable;
+      alike = λ says inputs after runs other tells others last bytes p limited named also_runs also_boots also_limited also_named.
+          c.same_calls_have_same_replies.ensures.alike config other says tells inputs others after last bytes p runs bootable limited named also_runs also_boots also_limited also_named;
     } in
     promised (ran_failed c.from_residual.ensures.0 c.from_residual.ensures.1 (rw (c.new-work.ensures.due, c.new-work.ensures.kernel, boots) at (c.in_err-end.ensures.ran s k))) laws
 
@@ -25,6 +27,8 @@ returns-in_err-close-clause-promise g c = λ s k config boots.
       events = c.events_arrive_in_order.ensures.in_order config;
       timers = λ says inputs after runs. c.timers_are_kept.ensures.kept config says inputs after runs bootable;
       isolation = λ says inputs after runs. c.processes_are_isolated.ensures.isolated config says inputs after runs bootable;
+      alike = λ says inputs after runs other tells others last bytes p limited named also_runs also_boots also_limited also_named.
+          c.same_calls_have_same_replies.ensures.alike config other says tells inputs others after last bytes p runs bootable limited named also_runs also_boots also_limited also_named;
     } in
     let ran = rw (c.new-work.ensures.due, c.new-work.ensures.kernel, boots) at (c.in_ok-end.ensures.ran s k) in
     let answer = c.from_residual-in_err-close.result in
@@ -40,6 +44,8 @@ returns-clause-promise g c = λ s k config boots.
       events = c.events_arrive_in_order.ensures.in_order config;
       timers = λ says inputs after runs. c.timers_are_kept.ensures.kept config says inputs after runs bootable;
       isolation = λ says inputs after runs. c.processes_are_isolated.ensures.isolated config says inputs after runs bootable;
+      alike = λ says inputs after runs other tells others last bytes p limited named also_runs also_boots also_limited also_named.
+          c.same_calls_have_same_replies.ensures.alike config other says tells inputs others after last bytes p runs bootable limited named also_runs also_boots also_limited also_named;
     } in
     let ran = rw (c.new-work.ensures.due, c.new-work.ensures.kernel, boots) at (c.in_ok-end.ensures.ran s k) in
     promised (closed ran (c.in_ok-close.ensures.written k) (λ is. absurd (cc)) (refl, refl)) laws

@@ -1,23 +1,32 @@
-use Rattle.std.proofs.Common.{◌≡◌, ℕ, List, Bool, subst, length, sym, Result, Ok, Err, IfOk, IfErr}
-use Rattle.toarmuts.proofs.Common.{lines, says_of, IsRunText, config_of, application_says, AreOfLines, AreRefused, IsRefusedRun, Refuses, Refusal}
+use Rattle.std.proofs.Common.{◌≡◌, ◌≤◌, ℕ, List, Bool, subst, length, sym, arith, Result, Ok, Err, IfOk, IfErr}
+use Rattle.std.specs.Str.{IsUtf8}
+use Rattle.toarmuts.proofs.Common.{lines, says_of, IsRunText, config_of, application_says, Application, AreOfLines, AreRefused, IsRefusedRun, Refuses, Refusal}
 use Rattle.node_memory.specs.declared.sizes.Sizes.{Sizes}
 use Rattle.toarmuts.specs.Configurations.{sizes_of}
 use Rattle.toarmuts.specs.declared.configuration.Configuration.{Configuration}
 use Rattle.toarmuts.proofs.ReadLines.{as_many, handed_on}
 use Rattle.toarmuts.proofs.running.run_lines.Goals as goal
 
-refused_lines : (configuration : Configuration) (text : List ℕ) (refusal : Refusal) → AreRefused (lines text) refusal → Refuses configuration text refusal
-refused_lines configuration text Refusal.NotText refused = absurd refused
-refused_lines configuration text Refusal.BadSizes refused = absurd refused
-refused_lines configuration text Refusal.OutOfMemory refused = tt
-refused_lines configuration text refusal refused = refused
+refused_lines : (configuration : Configuration) (text : List ℕ) (refusal : Refusal) → IsUtf8 text → AreRefused (lines text) refusal → Refuses configuration text refusal
+refused_lines configuration text Refusal.NotText is_text refused = absurd refused
+refused_lines configuration text Refusal.BadSizes is_text refused = absurd refused
+refused_lines configuration text Refusal.OutOfMemory is_text refused = tt
+refused_lines configuration text refusal is_text refused = (is_text, refused)
 
-refused_run : (configuration : Configuration) (text : List ℕ) (applications : ℕ) (refusal : Refusal) → length (lines text) ≡ applications
-    → IsRefusedRun (config_of (sizes_of configuration) applications) refusal → Refuses configuration text refusal
-refused_run configuration text applications Refusal.BadSizes same refused =
-    subst (λ n. IsRefusedRun (config_of (sizes_of configuration) n) Refusal.BadSizes) (sym same) refused
-refused_run configuration text applications Refusal.OutOfMemory same refused = tt
-refused_run configuration text applications refusal same refused = absurd refused
+refused_run : (configuration : Configuration) (text : List ℕ) (applications : List Application) (refusal : Refusal) → IsUtf8 text
+    → AreOfLines (lines text) applications → length applications ≤ 16
+    → IsRefusedRun (config_of (sizes_of configuration) (length applications)) refusal → Refuses configuration text refusal
+refused_run configuration text applications Refusal.BadSizes is_text are few refused =
+    let same = as_many (lines text) applications are in (
+      is_text,
+      record {
+        are_named = (applications, are);
+        are_few = omega (arith, same, few);
+        is_bad = subst (λ n. IsRefusedRun (config_of (sizes_of configuration) n) Refusal.BadSizes) (sym same) refused;
+      },
+    )
+refused_run configuration text applications Refusal.OutOfMemory is_text are few refused = tt
+refused_run configuration text applications refusal is_text are few refused = absurd refused
 
 on_ok : {T E : Type 0} (P Q : T → Type 0) (r : Result T E) → ((x : T) → P x → Q x) → IfOk r P → IfOk r Q
 on_ok P Q (Ok x) f p = f x p
@@ -30,7 +39,7 @@ on_err P Q (Err e) f p = f e p
 pub returns-in_err-applications-clause-refused : goal.returns-in_err-applications-clause-refused
 returns-in_err-applications-clause-refused c =
     handed_on (Refuses c.args.configuration.now c.args.lines.now) c.in_err-applications.field-0.0 c.from_residual.result c.from_residual.ensures
-    (refused_lines c.args.configuration.now c.args.lines.now c.in_err-applications.field-0.0
+    (refused_lines c.args.configuration.now c.args.lines.now c.in_err-applications.field-0.0 c.in-Ok.ensures.cases.1
     (subst (λ (text : List ℕ). AreRefused (lines text) c.in_err-applications.field-0.0) c.in-Ok.ensures.cases.0 c.in_err-applications.ensures.refused))
 
 pub returns-clause-run : goal.returns-clause-run
@@ -55,6 +64,6 @@ returns-clause-refused c =
     let all : AreOfLines (lines c.args.lines.now) applications =
     subst (λ (text : List ℕ). AreOfLines (lines text) applications) c.in-Ok.ensures.cases.0 c.in_ok-applications.ensures.of_lines in
     on_err _ _ c.run_applications.result
-    (λ refusal refused. refused_run c.args.configuration.now c.args.lines.now (length applications) refusal (as_many (lines c.args.lines.now) applications all)
+    (λ refusal refused. refused_run c.args.configuration.now c.args.lines.now applications refusal c.in-Ok.ensures.cases.1 all c.in_ok-applications.ensures.few
     (subst (λ (sizes : Sizes). IsRefusedRun (config_of sizes (length applications)) refusal) c.sizes-sizes.ensures refused))
     c.run_applications.ensures.refused
