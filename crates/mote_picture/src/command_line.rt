@@ -65,7 +65,7 @@ fn with_sizes<'a>(alloc: Global, command: Command<'a>) -> Result<Command<'a>, Al
     let mmem = "Bytes of managed memory, a multiple of 4 from 4 to 65536";
     let heap = "Bytes of heap memory, a multiple of 4 from 20 to 65536";
     let quota =
-        "Bytes of managed memory for each application and for the frames, a multiple of 4 from 4 to 65536";
+        "Bytes of managed memory for each application and the frames, a multiple of 4 from 4 to 65536; N x (applications + 1) <= --mmem";
     let header = "Bytes of a header in heap memory, 16 or 8";
     command
         .arg(number_option(alloc, "mmem", value_parser!(u32).range(4..=65_536), mmem).default_value(

@@ -74,7 +74,7 @@ fn quota_option<'a>(alloc: Global) -> Arg<'a>
 {
     let numbers = value_parser!(u32).range(4..=65_536);
     let help =
-        "Bytes of managed memory for each application and for the frames, a multiple of 4 from 4 to 65536";
+        "Bytes of managed memory for each application and the frames, a multiple of 4 from 4 to 65536; N x (applications + 1) <= --mmem";
     number_option(alloc, "quota", numbers, help)
 }
 
