@@ -2,6 +2,7 @@
 #![tactic(auto)]
 
 mod last_entry;
+pub mod laws;
 pub mod refusal;
 pub mod session;
 
