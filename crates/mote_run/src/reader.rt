@@ -7,9 +7,10 @@ ghost use Rattle.mote_text.specs.Code.LineAnswers.{line_said};
 ghost use Rattle.mote_text.specs.declared.lines.Taken.{Taken as Stopped};
 ghost use Rattle.mote_run.specs.Code.Reading.{HasFrameLine, ReadPart};
 
+use mote_text::hex_digits::DigitValues;
 use mote_text::line::OutputBuffer;
 use mote_text::lines::{Lines, Taken};
-use mote_text::script::{BadLine, read_input};
+use mote_text::script::{BadLine, read_input_by};
 use mote_text::transcript::said_text;
 use mote_types::entry::Input;
 
@@ -26,17 +27,18 @@ pub struct Reader {
     pub lines: Lines,
     pub number: u32,
     pub place: LineInput,
+    pub values: DigitValues,
 }
 
 /// Puts what a line says into the place. Answers whether that is an input.
 // Inlined, so that what a frame needs does not slow down the reading of a tick.
 #[inline(always)]
-fn read(line: &[u8], place: &mut LineInput) -> Result<bool, BadLine>
+fn read(line: &[u8], place: &mut LineInput, values: &DigitValues) -> Result<bool, BadLine>
     requires { length line.now ≤ line_limit }
     ensures says { line_said result place.new.input ≡ read_line line.now }
     ensures frame { IfOk result (λ is_input. is_input ≡ true → HasFrameLine place.new) }
 {
-    let is_input = read_input(line, &mut place.input)?;
+    let is_input = read_input_by(line, &mut place.input, values)?;
     // A frame is long: its digits are copied, and not made from its bytes again. Where the line says nothing, an earlier
     // frame may lie in the place, and what is put beside it counts for nothing.
     if matches!(place.input, Input::Frame(_)) {
@@ -46,7 +48,12 @@ fn read(line: &[u8], place: &mut LineInput) -> Result<bool, BadLine>
 }
 
 /// Reads what a line says, whose number this is, and counts it where it has a form.
-fn read_counted(line: &[u8], number: &mut u32, place: &mut LineInput) -> Result<bool, BadLine>
+fn read_counted(
+    line: &[u8],
+    number: &mut u32,
+    place: &mut LineInput,
+    values: &DigitValues,
+) -> Result<bool, BadLine>
     requires narrow { length line.now ≤ line_limit }
     requires countable { number.old < 2 ^ 32 - 1 }
     ensures says { line_said result place.new.input ≡ read_line line.now }
@@ -54,7 +61,7 @@ fn read_counted(line: &[u8], number: &mut u32, place: &mut LineInput) -> Result<
     ensures number { OnOk result (number.new ≡ number.old + 1) }
     ensures same_number { OnErr result (number.new ≡ number.old) }
 {
-    let is_input = read(line, place)?;
+    let is_input = read(line, place, values)?;
     *number += 1;
     Ok(is_input)
 }
@@ -71,6 +78,7 @@ impl Reader {
                 input: Input::Tick(0),
                 frame_line: OutputBuffer::new(),
             },
+            values: DigitValues::new(),
         }
     }
 
@@ -89,7 +97,7 @@ impl Reader {
     {
         // Behind a line's end this begins the next line, which is empty.
         self.lines.take(&[]);
-        read(self.lines.line(), &mut self.place)
+        read(self.lines.line(), &mut self.place, &self.values)
     }
 
     /// Takes bytes of the piece up to the end of the present line. Answers how many, and whether they say an input, which
@@ -108,15 +116,24 @@ impl Reader {
         ensures frame { IfOk result.1 (λ is_input. is_input ≡ true → HasFrameLine self.new.place) }
         ensures narrow { OnOk result.1 (self.new.lines.last ≢ Stopped.TooWide) }
     {
+        if let Some(len) = self.lines.whole_tick(piece, &mut self.place.input) {
+            self.number += 1;
+            return (len + 1, Ok(true));
+        }
         if let Some(line) = self.lines.whole_line(piece) {
-            let says = read_counted(line, &mut self.number, &mut self.place);
+            let says = read_counted(line, &mut self.number, &mut self.place, &self.values);
             return (line.len() + 1, says);
         }
         let (used, taken) = self.lines.take(piece);
         let says = match taken {
             Taken::More => Ok(false),
             Taken::TooWide => Err(BadLine),
-            Taken::Line => read_counted(self.lines.line(), &mut self.number, &mut self.place),
+            Taken::Line => read_counted(
+                self.lines.line(),
+                &mut self.number,
+                &mut self.place,
+                &self.values,
+            ),
         };
         (used, says)
     }

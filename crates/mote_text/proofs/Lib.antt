@@ -1,6 +1,7 @@
 pub mod Bytewise
 mod Digits
 mod Examples
+mod HexPairs
 mod LineEnds
 pub mod Lowered
 pub mod Reading

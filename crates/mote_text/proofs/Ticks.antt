@@ -1,6 +1,9 @@
 -- A number below 2 ^ 32 is read exactly as it is written, and so is the line of a tick.
-use Rattle.std.proofs.Common.{◌≡◌, ◌<◌, ◌^◌, le-ltb, Bool, true, false, ◌&&◌, ℕ, zero, suc, List, ◌++◌, length, decimal, codes, get_or, take, bytes_eq, nat_lt, Some, refl, sym, ap, ◌∙◌, arith, lt-ltb}
-use Rattle.mote_text.proofs.Common.{is_ascii_digit, list_all, digits_value, nat_tests, Input, is_number, read_number, read_line, argument_of, has_leading_zero}
+use Rattle.std.proofs.Common.{◌≡◌, ◌<◌, ◌≤◌, ◌+◌, ◌^◌, ◌==◌, le-ltb, Bool, true, false, not, ◌&&◌, ℕ, zero, suc, List, [], ◌∷◌, ◌++◌, length, slice_get, subst, decimal, codes, get_or, take, bytes_eq, nat_lt, Some, refl, sym, ap, ◌∙◌, arith, lt-ltb}
+use Rattle.mote_text.proofs.Common.{is_ascii_digit, list_all, digits_value, nat_tests, Input, is_number, read_number, read_line, argument_of, has_leading_zero, and_parts, length-take}
+use Rattle.mote_text.specs.Code.Lines.{has_no_end}
+use Rattle.std.proofs.lemmas.List.{take_more}
+use Rattle.std.proofs.lemmas.Option.{slice_get_within, get_or_from_slice_get}
 use Rattle.std.proofs.lemmas.Slice.Eq.{bytes_eq-Decides}
 use Rattle.std.proofs.Math.ListN.{take-append-drop}
 use Rattle.std.proofs.lemmas.Fmt.{digits_decimal, digits_value-decimal, decimal-digits_value, decimal_nonempty, decimal_digit, first_decimal, length-decimal-le}
@@ -37,6 +40,65 @@ pub behind_word : (word line text : List ℕ) (begins : Bool) → bytes_eq (take
 behind_word word line text false test e = grind (arith, nat_tests)
 behind_word word line text true test e = grind (arith, nat_tests, bytes_eq-Decides, take-append-drop)
 
+pub read_tick_text : (text : List ℕ) (n : ℕ) → length text ≤ 1000 → read_number text ≡ Some n → read_line (codes "tick " ++ text) ≡ Some (Some (Input.Tick n))
+unfolding read_line
+read_tick_text text n short reads = grind (arith, nat_tests, le-ltb, reads)
+
 pub read_tick_line : (n : ℕ) → n < 2 ^ 32 → read_line (codes "tick " ++ decimal n) ≡ Some (Some (Input.Tick n))
 unfolding read_line
 read_tick_line n small = grind (arith, nat_tests, length-decimal-le 10 n (omega arith) (omega arith) (omega arith), length-decimal-le, le-ltb, read_decimal)
+
+-- a line `tick N` at the front of a piece
+
+digits_from : (text : List ℕ) (n : ℕ) (is_read : Bool) → (is_number text && nat_lt (digits_value 10 text) (2 ^ 32)) ≡ is_read → read_number text ≡ Some n →
+    list_all is_ascii_digit text ≡ true
+digits_from text n false test reads = grind (arith, nat_tests)
+digits_from text n true test reads = grind (arith, nat_tests, test)
+
+digit_ends_no_line : (byte : ℕ) → is_ascii_digit byte ≡ true → not (byte == 10) ≡ true
+digit_ends_no_line byte is = grind (arith, nat_tests)
+
+digits_end_no_line : (text : List ℕ) → list_all is_ascii_digit text ≡ true → has_no_end text ≡ true
+digits_end_no_line [] all = refl
+digits_end_no_line (byte ∷ rest) all =
+    let parts = and_parts (is_ascii_digit byte) (list_all is_ascii_digit rest) all in
+    rw (digit_ends_no_line byte parts.0) (digits_end_no_line rest parts.1)
+
+number_ends_no_line : (text : List ℕ) (n : ℕ) → read_number text ≡ Some n → has_no_end text ≡ true
+number_ends_no_line text n reads =
+    digits_end_no_line text (digits_from text n (is_number text && nat_lt (digits_value 10 text) (2 ^ 32)) refl reads)
+
+take_word : (n : ℕ) (text : List ℕ) → take (5 + n) (codes "tick " ++ text) ≡ codes "tick " ++ take n text
+take_word n text =
+    let sum : 5 + n ≡ suc (suc (suc (suc (suc n)))) = omega arith in
+    ap (λ k. take k (codes "tick " ++ text)) sum
+
+-- the number stands behind the word, and the line's end behind the number
+pub record TickAt (piece : List ℕ) (n : ℕ) (number : ℕ) : Type 0 where
+  pub line : take (5 + n + 1) piece ≡ take (5 + n) piece ++ 10 ∷ []
+  pub size : 5 + n < length piece
+  pub endless : has_no_end (take (5 + n) piece) ≡ true
+  pub says : read_line (take (5 + n) piece) ≡ Some (Some (Input.Tick number))
+
+tick_behind : (text : List ℕ) (n number : ℕ) → n ≤ 8 → slice_get text n ≡ Some 10 → read_number (take n text) ≡ Some number →
+    TickAt (codes "tick " ++ text) n number
+tick_behind text n number short ended reads =
+    let inside : n < length text = slice_get_within text n 10 ended in
+    let front = take_word n text in
+    let more : 5 + n + 1 ≡ 5 + (n + 1) = omega arith in
+    let longer : take (5 + n + 1) (codes "tick " ++ text) ≡ codes "tick " ++ take (n + 1) text =
+    ap (λ k. take k (codes "tick " ++ text)) more ∙ take_word (n + 1) text in
+    let end : get_or text n 0 ≡ 10 = get_or_from_slice_get text n 10 0 ended in
+    let last : take (n + 1) text ≡ take n text ++ 10 ∷ [] = take_more text n 0 inside ∙ ap (λ byte. take n text ++ byte ∷ []) end in
+    record {
+      line = longer ∙ ap (λ t. codes "tick " ++ t) last ∙ ap (λ t. t ++ 10 ∷ []) (sym front);
+      size = omega arith;
+      endless = ap has_no_end front ∙ number_ends_no_line (take n text) number reads;
+      says = ap read_line front ∙ read_tick_text (take n text) number (omega (arith, length-take n text)) reads;
+    }
+
+pub tick_at : (piece text : List ℕ) (n number : ℕ) → argument_of (codes "tick ") piece ≡ Some text → n ≤ 8 → slice_get text n ≡ Some 10 → read_number (take n text) ≡ Some number →
+    TickAt piece n number
+tick_at piece text n number begins short ended reads =
+    let piece_is : piece ≡ codes "tick " ++ text = behind_word (codes "tick ") piece text (bytes_eq (take 5 piece) (codes "tick ")) refl begins in
+    subst (λ p. TickAt p n number) (sym piece_is) (tick_behind text n number short ended reads)

@@ -1,7 +1,7 @@
 //! The words of a call: an arrow, its own word, and behind it its arguments, a space in front of each.
 #![tactic(auto, unfolding(crate::specs::EntryText::spaced))]
 
-ghost use Rattle.std.specs.Prelude.{◌≡◌, ◌≤◌, ◌+◌, ◌++◌, [], ◌∷◌, length, codes, decimal};
+ghost use Rattle.std.specs.Prelude.{◌≡◌, ◌≤◌, ◌+◌, ◌++◌, [], ◌∷◌, length, take, codes, decimal};
 ghost use Rattle.mote_text.specs.EntryText.{spaced, hex, payload_word, call_words};
 ghost use Rattle.mote_text.specs.Code.CallWords.{argument_words};
 
@@ -11,63 +11,63 @@ use mote_types::call::Call;
 use mote_types::event::Payload;
 use mote_types::reply::Chunk;
 
-/// The word that a call's text begins with.
+/// The word that a call's text begins with, and its length. Blanks fill its block, so that each word is copied at once.
 #[tactic(auto)]
-fn word_of(call: &Call) -> &'static str
-    ensures word { call_words call.now ≡ result.now ∷ argument_words call.now }
-    ensures short { length result.now ≤ 13 }
+fn word_of(call: &Call) -> (&'static [u8; 16], usize)
+    ensures word { call_words call.now ≡ take result.1 result.0.now ∷ argument_words call.now }
+    ensures short { result.1 ≤ 13 }
 {
     match call {
-        Call::Post(..) => "post",
-        Call::Broadcast(..) => "broadcast",
-        Call::PostSynch(..) => "post-synch",
-        Call::Poll(_) => "poll",
-        Call::Start(_) => "start",
-        Call::Kill(_) => "kill",
-        Call::IsRunning(_) => "is-running",
-        Call::AllocEvent => "alloc-event",
-        Call::TimerSet(..) => "timer-set",
-        Call::TimerStop(_) => "timer-stop",
-        Call::TimerReset(_) => "timer-reset",
-        Call::TimerRestart(_) => "timer-restart",
-        Call::TimerExpired(_) => "timer-expired",
-        Call::CallbackSet(..) => "callback-set",
-        Call::CallbackStop(_) => "callback-stop",
-        Call::Clock => "clock",
-        Call::Print(_) => "print",
-        Call::Wait => "wait",
-        Call::Exit => "exit",
-        Call::MmemAlloc(..) => "mmem-alloc",
-        Call::MmemFree(_) => "mmem-free",
-        Call::MmemWrite(..) => "mmem-write",
-        Call::MmemRead(..) => "mmem-read",
-        Call::MmemCopy(..) => "mmem-copy",
-        Call::MmemAvail => "mmem-avail",
-        Call::HeapAlloc(..) => "heap-alloc",
-        Call::HeapRealloc(..) => "heap-realloc",
-        Call::HeapFree(_) => "heap-free",
-        Call::HeapWrite(..) => "heap-write",
-        Call::HeapRead(..) => "heap-read",
-        Call::HeapStats => "heap-stats",
-        Call::MembAlloc(_) => "memb-alloc",
-        Call::MembFree(..) => "memb-free",
-        Call::MembWrite(..) => "memb-write",
-        Call::MembRead(..) => "memb-read",
-        Call::MembNumFree(_) => "memb-num-free",
-        Call::ListAdd(..) => "list-add",
-        Call::ListPush(..) => "list-push",
-        Call::ListInsert(..) => "list-insert",
-        Call::ListPop(_) => "list-pop",
-        Call::ListChop(_) => "list-chop",
-        Call::ListRemove(..) => "list-remove",
-        Call::ListHead(_) => "list-head",
-        Call::ListNext(..) => "list-next",
-        Call::ListLength(_) => "list-length",
-        Call::PacketOpen => "packet-open",
-        Call::PacketRead(..) => "packet-read",
-        Call::PacketDone => "packet-done",
-        Call::PacketCount => "packet-count",
-        Call::PacketSend(_) => "packet-send",
+        Call::Post(..) => (b"post            ", 4),
+        Call::Broadcast(..) => (b"broadcast       ", 9),
+        Call::PostSynch(..) => (b"post-synch      ", 10),
+        Call::Poll(_) => (b"poll            ", 4),
+        Call::Start(_) => (b"start           ", 5),
+        Call::Kill(_) => (b"kill            ", 4),
+        Call::IsRunning(_) => (b"is-running      ", 10),
+        Call::AllocEvent => (b"alloc-event     ", 11),
+        Call::TimerSet(..) => (b"timer-set       ", 9),
+        Call::TimerStop(_) => (b"timer-stop      ", 10),
+        Call::TimerReset(_) => (b"timer-reset     ", 11),
+        Call::TimerRestart(_) => (b"timer-restart   ", 13),
+        Call::TimerExpired(_) => (b"timer-expired   ", 13),
+        Call::CallbackSet(..) => (b"callback-set    ", 12),
+        Call::CallbackStop(_) => (b"callback-stop   ", 13),
+        Call::Clock => (b"clock           ", 5),
+        Call::Print(_) => (b"print           ", 5),
+        Call::Wait => (b"wait            ", 4),
+        Call::Exit => (b"exit            ", 4),
+        Call::MmemAlloc(..) => (b"mmem-alloc      ", 10),
+        Call::MmemFree(_) => (b"mmem-free       ", 9),
+        Call::MmemWrite(..) => (b"mmem-write      ", 10),
+        Call::MmemRead(..) => (b"mmem-read       ", 9),
+        Call::MmemCopy(..) => (b"mmem-copy       ", 9),
+        Call::MmemAvail => (b"mmem-avail      ", 10),
+        Call::HeapAlloc(..) => (b"heap-alloc      ", 10),
+        Call::HeapRealloc(..) => (b"heap-realloc    ", 12),
+        Call::HeapFree(_) => (b"heap-free       ", 9),
+        Call::HeapWrite(..) => (b"heap-write      ", 10),
+        Call::HeapRead(..) => (b"heap-read       ", 9),
+        Call::HeapStats => (b"heap-stats      ", 10),
+        Call::MembAlloc(_) => (b"memb-alloc      ", 10),
+        Call::MembFree(..) => (b"memb-free       ", 9),
+        Call::MembWrite(..) => (b"memb-write      ", 10),
+        Call::MembRead(..) => (b"memb-read       ", 9),
+        Call::MembNumFree(_) => (b"memb-num-free   ", 13),
+        Call::ListAdd(..) => (b"list-add        ", 8),
+        Call::ListPush(..) => (b"list-push       ", 9),
+        Call::ListInsert(..) => (b"list-insert     ", 11),
+        Call::ListPop(_) => (b"list-pop        ", 8),
+        Call::ListChop(_) => (b"list-chop       ", 9),
+        Call::ListRemove(..) => (b"list-remove     ", 11),
+        Call::ListHead(_) => (b"list-head       ", 9),
+        Call::ListNext(..) => (b"list-next       ", 9),
+        Call::ListLength(_) => (b"list-length     ", 11),
+        Call::PacketOpen => (b"packet-open     ", 11),
+        Call::PacketRead(..) => (b"packet-read     ", 11),
+        Call::PacketDone => (b"packet-done     ", 11),
+        Call::PacketCount => (b"packet-count    ", 12),
+        Call::PacketSend(_) => (b"packet-send     ", 11),
     }
 }
 
@@ -266,6 +266,7 @@ pub(crate) fn push_call(line: &mut OutputBuffer, call: &Call)
     ensures length { length line.new.items ≤ length line.old.items + 315 }
 {
     line.push(b" -> ");
-    line.push(word_of(call).as_bytes());
+    let (block, len) = word_of(call);
+    line.push_front(block, len);
     push_arguments(line, call);
 }

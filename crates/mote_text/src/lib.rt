@@ -3,6 +3,7 @@
 
 pub mod by_value;
 mod calls;
+pub mod hex_digits;
 pub mod line;
 pub mod lines;
 pub mod script;

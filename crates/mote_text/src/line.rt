@@ -1,11 +1,12 @@
 //! Lines of a transcript, and how they are put together. A word, a number or bytes have a space in front.
 #![tactic(auto, unfolding(crate::specs::EntryText::spaced))]
 
-ghost use Rattle.std.specs.Prelude.{◌≡◌, ◌≤◌, ◌<◌, ◌+◌, ◌*◌, ◌++◌, [], ◌∷◌, length, decimal, map};
+ghost use Rattle.std.specs.Prelude.{◌≡◌, ◌≤◌, ◌<◌, ◌+◌, ◌*◌, ◌++◌, [], ◌∷◌, length, take, decimal, map};
 ghost use Rattle.std.specs.Char.{to_ascii_lowercase};
 ghost use Rattle.hex.specs.Hex.{encode_lower};
 ghost use Rattle.mote_text.specs.EntryText.{hex, spaced};
 
+use crate::hex_digits::DigitPairs;
 use arrayvec::ArrayVec;
 use itoa::Buffer;
 use std::marker::Model;
@@ -26,6 +27,7 @@ pub type LineBuf = ArrayVec<u8, MOST_OF_LINE>;
 pub struct OutputBuffer {
     bytes: [u8; CAPACITY],
     len: usize,
+    digits: DigitPairs,
 }
 
 impl Model for OutputBuffer {
@@ -46,6 +48,7 @@ impl OutputBuffer {
         OutputBuffer {
             bytes: [0; CAPACITY],
             len: 0,
+            digits: DigitPairs::new(),
         }
     }
 
@@ -83,6 +86,19 @@ impl OutputBuffer {
         self.len = end;
     }
 
+    /// Appends so many bytes of the front of a block. All of it is copied: what lies behind the end counts for nothing.
+    #[inline(always)]
+    pub(crate) fn push_front(&mut self, block: &[u8; 16], len: usize)
+        requires few { len ≤ 16 }
+        requires room { length self.old.items + 16 ≤ 4096 }
+        ensures text { self.new.items ≡ self.old.items ++ take len block.now }
+        ensures length { length self.new.items ≡ length self.old.items + len }
+    {
+        let end = self.len + 16;
+        self.bytes[self.len..end].copy_from_slice(block);
+        self.len += len;
+    }
+
     /// Appends these bytes, each letter in lower case.
     #[inline]
     pub(crate) fn push_in_lower_case(&mut self, bytes: &[u8])
@@ -104,7 +120,7 @@ impl OutputBuffer {
         ensures length { length self.new.items ≡ length self.old.items + 2 * length bytes.now }
     {
         let end = self.len + 2 * bytes.len();
-        let _ = hex::encode_to_slice(bytes, &mut self.bytes[self.len..end]);
+        self.digits.write(bytes, &mut self.bytes[self.len..end]);
         self.len = end;
     }
 }
@@ -128,9 +144,37 @@ pub(crate) fn push_decimal(line: &mut OutputBuffer, n: u64)
     ensures text { line.new.items ≡ line.old.items ++ decimal n }
     ensures length { length line.new.items ≤ length line.old.items + 20 }
 {
-    // Most numbers of a transcript have one digit, and need no buffer.
+    // Most numbers of a transcript have one digit.
     if n < 10 {
-        line.push(&[b'0' + n as u8]);
+        line.push(&[digit(n)]);
+    } else {
+        push_digits_of(line, n);
+    }
+}
+
+/// The decimal digit of a number below 10.
+#[inline]
+fn digit(n: u64) -> u8
+    requires { n < 10 }
+    ensures { result ≡ 48 + n }
+{
+    b'0' + n as u8
+}
+
+/// Appends this number in decimal, which has two digits or more. Two or three need no buffer.
+#[inline(never)]
+#[tactic(auto, using(std::proofs::lemmas::Fmt::decimal_digit, std::proofs::lemmas::Fmt::decimal_step))]
+fn push_digits_of(line: &mut OutputBuffer, n: u64)
+    requires some { 10 ≤ n }
+    requires room { length line.old.items + 20 ≤ 4096 }
+    ensures text { line.new.items ≡ line.old.items ++ decimal n }
+    ensures length { length line.new.items ≤ length line.old.items + 20 }
+{
+    let tens = n / 10;
+    if n < 100 {
+        line.push(&[digit(tens), digit(n % 10)]);
+    } else if n < 1000 {
+        line.push(&[digit(tens / 10), digit(tens % 10), digit(n % 10)]);
     } else {
         push_long_decimal(line, n);
     }

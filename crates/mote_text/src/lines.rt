@@ -1,13 +1,15 @@
 //! The lines of a script, whose bytes come in pieces.
 
-ghost use Rattle.std.specs.Prelude.{◌≡◌, ◌≢◌, ◌<◌, ◌≤◌, ◌+◌, ◌↔◌, ◌++◌, [], ◌∷◌, true, length, take, None, IfSome};
+ghost use Rattle.std.specs.Prelude.{◌≡◌, ◌≢◌, ◌<◌, ◌≤◌, ◌+◌, ◌↔◌, ◌++◌, [], ◌∷◌, true, length, take, Some, None, IfSome, IsTrue, ℕ};
+ghost use Rattle.mote_types.specs.declared.entry.Input.{Input as Said};
 ghost use Rattle.mote_text.specs.Code.Lines.{nothing_taken, unfinished, unfinished_after, with_end, has_no_end, GoesOnAt};
-ghost use Rattle.mote_text.specs.Script.{line_limit};
+ghost use Rattle.mote_text.specs.Script.{line_limit, read_line};
 ghost use Rattle.mote_text.specs.declared.lines.Taken.{Taken as Stopped};
 
-use crate::script::LINE_LIMIT;
+use crate::script::{LINE_LIMIT, put_tick, short_number};
 use arrayvec::ArrayVec;
 use memchr::memchr;
+use mote_types::entry::Input;
 use std::marker::Model;
 
 /// Why a take stopped.
@@ -99,12 +101,41 @@ impl Lines {
         ensures begins { IfSome result (λ line. unfinished self.now ≡ []) }
         ensures none { result ≡ None → unfinished self.now ≡ [] → has_no_end (take (line_limit + 1) piece.now) ≡ true }
     {
-        if self.last != Taken::Line && !self.bytes.is_empty() {
+        if !self.is_between() {
             return None;
         }
         let near = &piece[..piece.len().min(LINE_LIMIT + 1)];
         let end = memchr(b'\n', near)?;
         Some(&near[..end])
+    }
+
+    /// Whether none of the present line's bytes were taken.
+    fn is_between(&self) -> bool
+        ensures { IsTrue result ↔ (unfinished self.now ≡ []) }
+    {
+        self.last == Taken::Line || self.bytes.is_empty()
+    }
+
+    /// As `whole_line`, for a line `tick N` with at most eight digits, which is read in one walk: its length without its end.
+    /// The tick is put into the place. Where it answers nothing, the place is left as it was, and `whole_line` says more.
+    #[inline]
+    pub fn whole_tick(&self, piece: &[u8], input: &mut Input) -> Option<usize>
+        ensures line { IfSome result (λ len. take (len + 1) piece.now ≡ take len piece.now ++ 10 ∷ []) }
+        ensures size { IfSome result (λ len. len < length piece.now) }
+        ensures narrow { IfSome result (λ len. len ≤ 13) }
+        ensures endless { IfSome result (λ len. has_no_end (take len piece.now) ≡ true) }
+        ensures begins { IfSome result (λ len. unfinished self.now ≡ []) }
+        ensures says { IfSome result (λ len. read_line (take len piece.now) ≡ Some (Some input.new)) }
+        ensures tick { IfSome result (λ len. (number : ℕ) × (input.new ≡ Said.Tick number)) }
+        ensures none { result ≡ None → input.new ≡ input.old }
+    {
+        if !self.is_between() {
+            return None;
+        }
+        let text = piece.strip_prefix(b"tick ")?;
+        let (digits, number) = short_number(text)?;
+        put_tick(input, number);
+        Some(5 + digits)
     }
 
     /// Takes bytes of the piece up to the end of the present line; after `Line` a new one begins. Answers how many bytes

@@ -1,12 +1,14 @@
 //! The lines of a script, and how a run ends.
 
-ghost use Rattle.std.specs.Prelude.{◌≡◌, ◌≤◌, ◌&&◌, ◌^◌, false, length, nat_lt, if◌then◌else◌, Some, None, IfOk};
+ghost use Rattle.std.specs.Prelude.{◌≡◌, ◌≤◌, ◌&&◌, ◌^◌, false, length, nat_lt, slice_get, take, if◌then◌else◌, Some, None, IfOk, IfSome};
+ghost use Rattle.mote_types.specs.declared.entry.Input.{Input as Said};
 ghost use Rattle.std.specs.Char.{is_ascii_digit};
 ghost use Rattle.std.specs.List.{list_all};
 ghost use Rattle.std.specs.Str.Parse.{digits_value};
 ghost use Rattle.mote_text.specs.Script.{read_bytes, read_frame, read_line, read_number, read_serial, read_tick};
 ghost use Rattle.mote_text.specs.Code.LineAnswers.{line_said, some_if};
 
+use crate::hex_digits::DigitValues;
 use arrayvec::ArrayVec;
 use mote_types::entry::Input;
 use thiserror::Error;
@@ -73,12 +75,47 @@ fn read_tick(line: &[u8], input: &mut Input) -> bool
     let Some(number) = read_number(text) else {
         return false;
     };
+    put_tick(input, number);
+    true
+}
+
+/// Puts a tick into the place.
+#[inline]
+pub(crate) fn put_tick(input: &mut Input, number: u32)
+    ensures { input.new ≡ Said.Tick number }
+{
     match input {
         // Another kind of input is overwritten whole, with zeros behind the number.
         Input::Tick(ticks) => *ticks = number,
         _ => *input = Input::Tick(number),
     }
-    true
+}
+
+/// How many digits a number has that the piece begins with, and the number, where a line ends behind them. Nothing, where it
+/// begins with none, or with one of more than eight digits.
+// Most lines are short ticks: their end is found in the walk that reads them.
+#[inline]
+pub(crate) fn short_number(piece: &[u8]) -> Option<(usize, u32)>
+    ensures ended { IfSome result (λ found. slice_get piece.now found.0 ≡ Some 10) }
+    ensures number { IfSome result (λ found. read_number (take found.0 piece.now) ≡ Some found.1) }
+    ensures short { IfSome result (λ found. found.0 ≤ 8) }
+{
+    let mut number: u32 = 0;
+    for i in 0..piece.len().min(9) {
+        let byte = piece[i];
+        if byte == b'\n' {
+            let has_leading_zero = i > 1 && piece[0] == b'0';
+            if i == 0 || has_leading_zero {
+                return None;
+            }
+            return Some((i, number));
+        }
+        if !byte.is_ascii_digit() {
+            return None;
+        }
+        number = number * 10 + u32::from(byte - b'0');
+    }
+    None
 }
 
 /// What stands in a place until the bytes that digits write are put there.
@@ -99,7 +136,11 @@ fn resize<const N: usize>(bytes: &mut ArrayVec<u8, N>, len: usize)
 }
 
 /// Puts from one to `N` bytes, which a text is in hex digits of either case, into the place. Answers whether it is that.
-fn read_bytes<const N: usize>(digits: &[u8], bytes: &mut ArrayVec<u8, N>) -> bool
+fn read_bytes<const N: usize>(
+    digits: &[u8],
+    bytes: &mut ArrayVec<u8, N>,
+    values: &DigitValues,
+) -> bool
     requires { N ≤ 512 }
     ensures { some_if result bytes.new.items ≡ read_bytes N digits.now }
 {
@@ -108,13 +149,13 @@ fn read_bytes<const N: usize>(digits: &[u8], bytes: &mut ArrayVec<u8, N>) -> boo
         return false;
     }
     resize(bytes, len);
-    hex::decode_to_slice(digits, bytes.as_mut_slice()).is_ok()
+    values.read(digits, bytes.as_mut_slice())
 }
 
 /// Puts the bytes of a line `serial HEX` into the place. Answers whether it is one.
 // Out of the way of ticks, which most lines are.
 #[inline(never)]
-fn read_serial(line: &[u8], input: &mut Input) -> bool
+fn read_serial(line: &[u8], input: &mut Input, values: &DigitValues) -> bool
     ensures { some_if result input.new ≡ read_serial line.now }
 {
     let Some(digits) = line.strip_prefix(b"serial ") else {
@@ -124,7 +165,7 @@ fn read_serial(line: &[u8], input: &mut Input) -> bool
         *input = Input::Serial(ArrayVec::new());
     }
     match input {
-        Input::Serial(bytes) => read_bytes(digits, bytes),
+        Input::Serial(bytes) => read_bytes(digits, bytes, values),
         _ => false,
     }
 }
@@ -132,7 +173,7 @@ fn read_serial(line: &[u8], input: &mut Input) -> bool
 /// Puts the bytes of a line `frame HEX` into the place. Answers whether it is one.
 // As `read_serial`.
 #[inline(never)]
-fn read_frame(line: &[u8], input: &mut Input) -> bool
+fn read_frame(line: &[u8], input: &mut Input, values: &DigitValues) -> bool
     ensures { some_if result input.new ≡ read_frame line.now }
 {
     let Some(digits) = line.strip_prefix(b"frame ") else {
@@ -142,7 +183,7 @@ fn read_frame(line: &[u8], input: &mut Input) -> bool
         *input = Input::Frame(ArrayVec::new());
     }
     match input {
-        Input::Frame(bytes) => read_bytes(digits, bytes),
+        Input::Frame(bytes) => read_bytes(digits, bytes, values),
         _ => false,
     }
 }
@@ -155,8 +196,20 @@ fn read_frame(line: &[u8], input: &mut Input) -> bool
 /// # Errors
 ///
 /// `BadLine` where the line has none of these forms, or more than 1,024 bytes. The place may hold any input then.
-#[tactic(auto, unfolding(crate::specs::Script::read_line))]
 pub fn read_input(line: &[u8], input: &mut Input) -> Result<bool, BadLine>
+    ensures says { line_said result input.new ≡ read_line line.now }
+    ensures nothing { IfOk result (λ is_input. is_input ≡ false → input.new ≡ input.old) }
+{
+    read_input_by(line, input, &DigitValues::new())
+}
+
+/// As `read_input`, for callers that read many lines: they ask for the digits' values once.
+///
+/// # Errors
+///
+/// As `read_input`.
+#[tactic(auto, unfolding(crate::specs::Script::read_line))]
+pub fn read_input_by(line: &[u8], input: &mut Input, values: &DigitValues) -> Result<bool, BadLine>
     ensures says { line_said result input.new ≡ read_line line.now }
     ensures nothing { IfOk result (λ is_input. is_input ≡ false → input.new ≡ input.old) }
 {
@@ -166,7 +219,10 @@ pub fn read_input(line: &[u8], input: &mut Input) -> Result<bool, BadLine>
     if line.is_empty() || line[0] == b'#' {
         return Ok(false);
     }
-    if read_tick(line, input) || read_serial(line, input) || read_frame(line, input) {
+    if read_tick(line, input)
+        || read_serial(line, input, values)
+        || read_frame(line, input, values)
+    {
         return Ok(true);
     }
     Err(BadLine)

@@ -1,0 +1,100 @@
+//! Digits of bytes in hex. The crate `hex` makes and reads each of them once, and here they are looked up.
+
+ghost use Rattle.std.specs.Prelude.{◌≡◌, ◌*◌, EachIndex, length, slice_index};
+ghost use Rattle.std.specs.Result.{result_ok};
+ghost use Rattle.hex.specs.Hex.{decode_sized, encode_lower};
+ghost use Rattle.mote_text.specs.Code.HexDigits.{PairsOfDigits, ValuesOfDigits, value_or_none};
+ghost use Rattle.mote_text.specs.Code.LineAnswers.{some_if};
+
+/// What stands in the table of values for a byte that is no digit.
+const NO_DIGIT: u8 = 255;
+
+/// The two lower case digits of each byte, one pair behind the other.
+#[derive(Drop)]
+pub struct DigitPairs {
+    text: [u8; 512],
+    ghost pairs: { PairsOfDigits text },
+}
+
+/// The bytes 0 to 255.
+fn every_byte() -> [u8; 256]
+    ensures { EachIndex result (λ i. slice_index result i ≡ i) }
+{
+    let mut bytes = [0; 256];
+    'bytes: for i in 0..256 {
+        bytes[i] = i as u8;
+    }
+    bytes
+}
+
+impl DigitPairs {
+    pub fn new() -> Self {
+        let mut text = [0; 512];
+        let _ = hex::encode_to_slice(&every_byte()[..], &mut text);
+        DigitPairs { text }
+    }
+
+    /// Puts two lower case digits for each byte into the place.
+    #[inline]
+    pub fn write(&self, bytes: &[u8], place: &mut [u8])
+        requires { length place.old ≡ 2 * length bytes.now }
+        ensures { place.new ≡ encode_lower bytes.now }
+    {
+        'bytes: for i in 0..bytes.len() {
+            let at = 2 * bytes[i] as usize;
+            // Both are read before either is written, so that they may move together.
+            let (high, low) = (self.text[at], self.text[at + 1]);
+            place[2 * i] = high;
+            place[2 * i + 1] = low;
+        }
+    }
+}
+
+/// What each byte is worth as a hex digit of either case.
+#[derive(Drop)]
+pub struct DigitValues {
+    values: [u8; 256],
+    ghost right: { ValuesOfDigits values },
+}
+
+/// What this byte is worth as a digit.
+fn value_of(digit: u8) -> u8
+    ensures { result ≡ value_or_none digit }
+{
+    let mut byte = [0; 1];
+    match hex::decode_to_slice(&[b'0', digit][..], &mut byte) {
+        Ok(()) => byte[0],
+        Err(_) => NO_DIGIT,
+    }
+}
+
+impl DigitValues {
+    pub fn new() -> Self {
+        let mut values = [NO_DIGIT; 256];
+        // All digits lie from `0` to `f`.
+        'values: for digit in 48..103 {
+            values[digit] = value_of(digit as u8);
+        }
+        DigitValues { values }
+    }
+
+    /// Puts the bytes that digits of either case write into the place, which holds just so many. Answers whether they write
+    /// any; if not, the place may hold any bytes.
+    #[inline]
+    pub fn read(&self, digits: &[u8], place: &mut [u8]) -> bool
+        ensures { some_if result place.new ≡ result_ok (decode_sized digits.now (length place.old)) }
+    {
+        if digits.len() != 2 * place.len() {
+            return false;
+        }
+        'bytes: for i in 0..place.len() {
+            let high = self.values[digits[2 * i] as usize];
+            let low = self.values[digits[2 * i + 1] as usize];
+            if high > 15 || low > 15 {
+                return false;
+            }
+            place[i] = high * 16 + low;
+        }
+        true
+    }
+}
