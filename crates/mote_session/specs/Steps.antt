@@ -1,5 +1,5 @@
 -- What one call of a session does.
-use Rattle.std.specs.Prelude.{◌≡◌, ℕ, ◌+◌, ◌≤◌, ◌<◌, ⊥, ◌||◌, true, List, [], ◌∷◌, Option, Some, None}
+use Rattle.std.specs.Prelude.{◌≡◌, ℕ, ◌+◌, ◌≤◌, ◌<◌, ◌||◌, true, List, [], ◌∷◌, Option, Some, None}
 use Rattle.mote_types.specs.declared.call.Call.{Call}
 use Rattle.mote_types.specs.declared.entry.Entry.{Entry}
 use Rattle.mote_types.specs.declared.entry.Input.{Input}
@@ -48,7 +48,9 @@ pub record RestsAt (old new : SessionView) : Type 0 where
 -- the mote was halted before, and nothing happens
 pub record StaysHalted (old new : SessionView) : Type 0 where
   pub halted : old.machine.is_halted ≡ true
-  pub same : new ≡ old
+  pub machine : new.machine ≡ old.machine
+  pub last : new.last ≡ old.last
+  pub closed : new.turn ≡ None
 
 -- what `next` comes to
 abbrev pub Advances : Next → SessionView → SessionView → Type 0

@@ -4,8 +4,11 @@ ghost use Rattle.std.specs.Prelude.{◌≡◌, ◌≢◌, ◌≤◌, ◌+◌, �
 ghost use Rattle.mote_types.specs.declared.entry.Entry.{Entry as MadeEntry};
 ghost use Rattle.mote_text.specs.EntryText.{entry_line, entry_line_limit};
 ghost use Rattle.mote_text.specs.Script.{read_line};
+ghost use Rattle.kernel_core.specs.Calls.{after_call};
 ghost use Rattle.kernel_core.specs.Inputs.{ticks_of};
 ghost use Rattle.kernel_core.specs.Machine.{booted, is_bootable};
+ghost use Rattle.kernel_core.specs.declared.turn.Turn.{Turn as Taken};
+ghost use Rattle.mote_session.specs.Code.Places.{AreInPlace, session_view};
 ghost use Rattle.mote_session.specs.History.{History, at_boot, with_answer, with_input, with_said};
 ghost use Rattle.mote_session.specs.Refusals.{input_refusal, is_input, line_refusal, unfit, unrest};
 ghost use Rattle.mote_session.specs.SessionRuns.{IsHistoryOf, SessionPromise};
@@ -80,24 +83,71 @@ fn ticks(input: &Input) -> u64
     }
 }
 
+/// Works until there is something to tell, where no turn awaits its call. A turn is put into the place, and another entry into
+/// the other.
+fn work_in(
+    kernel: &mut AwaitingKernel,
+    turn: &mut Turn,
+    other: &mut Entry,
+    last: &mut LastEntry,
+) -> Next
+    requires { kernel.old.turn ≡ None }
+    ensures advances { (taken : Taken) →
+        Advances result (session_view kernel.old turn.old taken other.old last.old) (session_view kernel.new turn.new taken other.new last.new) }
+    ensures clock { kernel.new.mote.machine.clock ≡ kernel.old.mote.machine.clock }
+    ensures inputs { kernel.new.mote.inputs ≡ kernel.old.mote.inputs }
+    ensures places { AreInPlace kernel.new.turn turn.new last.new }
+{
+    match kernel.next(turn, other) {
+        StepOutcome::Turn => {
+            *last = LastEntry::Missing;
+            Next::Turn
+        }
+        StepOutcome::Other => {
+            *last = LastEntry::Other;
+            Next::Entry
+        }
+        StepOutcome::Rest => Next::Rest,
+        StepOutcome::Halted => Next::Halted,
+    }
+}
+
+/// Puts the call into the place of the turn that awaits it, and carries it out.
+fn answer_in(kernel: &mut AwaitingKernel, turn: &mut Turn, pid: Pid, call: Call)
+    requires { kernel.old.turn ≡ Some pid }
+    ensures turn { turn.new ≡ record turn.old { call = call } }
+    ensures machine { kernel.new.mote.machine ≡ after_call call pid.0 kernel.old.mote.machine }
+    ensures closed { kernel.new.turn ≡ None }
+    ensures clock { kernel.new.mote.machine.clock ≡ kernel.old.mote.machine.clock }
+    ensures inputs { kernel.new.mote.inputs ≡ kernel.old.mote.inputs }
+    ensures left { kernel.new.mote.entries_left ≤ kernel.old.mote.entries_left + 1 }
+{
+    turn.call = call;
+    kernel.answer(pid, &turn.call);
+}
+
 /// A mote in the hands of a caller that answers for its applications.
 #[derive(Drop)]
 pub struct Session {
     kernel: AwaitingKernel,
-    turn: Turn,
+    /// Turns are put into these two places by turns: while the kernel works in one, the last turn stays in the other.
+    even: Turn,
+    odd: Turn,
+    works_in_odd: bool,
     other: Entry,
     last: LastEntry,
 }
 
 impl Model for Session {
     ghost use Rattle.mote_session.specs.SessionView.{SessionView};
-    ghost use Rattle.mote_session.specs.Code.Places.{AreInPlace, session_view};
+    ghost use Rattle.std.specs.Prelude.{not};
+    ghost use Rattle.mote_session.specs.Code.Places.{AreInPlace, session_view, turn_in};
 
     ghost Value = { SessionView };
 
-    ghost view = { λ s. session_view s.kernel s.turn s.other s.last };
+    ghost view = { λ s. session_view s.kernel (turn_in s.works_in_odd s.odd s.even) (turn_in (not s.works_in_odd) s.odd s.even) s.other s.last };
 
-    ghost invariant = { λ s. AreInPlace s.kernel.turn s.turn s.last };
+    ghost invariant = { λ s. AreInPlace s.kernel.turn (turn_in s.works_in_odd s.odd s.even) s.last };
 }
 
 impl Session {
@@ -115,7 +165,9 @@ impl Session {
         match AwaitingKernel::boot(alloc, config) {
             Ok(kernel) => Ok(Session {
                 kernel,
-                turn: Turn::none_yet(),
+                even: Turn::none_yet(),
+                odd: Turn::none_yet(),
+                works_in_odd: false,
                 other: Entry::Halt,
                 last: LastEntry::Missing,
             }),
@@ -148,17 +200,20 @@ impl Session {
         ensures advances { Advances result self.old self.new }
         ensures inputs { HasSameInputs self.old self.new }
     {
-        match self.kernel.next(&mut self.turn, &mut self.other) {
-            StepOutcome::Turn => {
-                self.last = LastEntry::Missing;
-                Next::Turn
-            }
-            StepOutcome::Other => {
-                self.last = LastEntry::Other;
-                Next::Entry
-            }
-            StepOutcome::Rest => Next::Rest,
-            StepOutcome::Halted => Next::Halted,
+        if self.works_in_odd {
+            work_in(
+                &mut self.kernel,
+                &mut self.odd,
+                &mut self.other,
+                &mut self.last,
+            )
+        } else {
+            work_in(
+                &mut self.kernel,
+                &mut self.even,
+                &mut self.other,
+                &mut self.last,
+            )
         }
     }
 
@@ -188,8 +243,12 @@ impl Session {
         ensures answered { IsAnswered call self.old self.new }
         ensures inputs { HasSameInputs self.old self.new }
     {
-        self.turn.call = call;
-        self.kernel.answer(pid, &self.turn.call);
+        if self.works_in_odd {
+            answer_in(&mut self.kernel, &mut self.odd, pid, call);
+        } else {
+            answer_in(&mut self.kernel, &mut self.even, pid, call);
+        }
+        self.works_in_odd = !self.works_in_odd;
         self.last = LastEntry::Turn;
     }
 
@@ -268,11 +327,16 @@ impl Session {
         ensures some { IfSome result (λ turn. self.now.turn ≡ Some (record { process = turn.process; origin = turn.origin; stimulus = turn.stimulus.now })) }
         ensures none { IfNone result (self.now.turn ≡ None) }
     {
+        let turn = if self.works_in_odd {
+            &self.odd
+        } else {
+            &self.even
+        };
         match self.kernel.turn() {
             Some(process) => Some(OpenTurn {
                 process,
-                origin: self.turn.origin,
-                stimulus: &self.turn.stimulus,
+                origin: turn.origin,
+                stimulus: &turn.stimulus,
             }),
             None => None,
         }
@@ -311,13 +375,14 @@ impl Session {
     {
         match self.last {
             LastEntry::Missing => return Err(SessionRefusal::NoLine),
-            LastEntry::Turn => push_turn_line(
-                self.turn.pid,
-                self.turn.origin,
-                &self.turn.stimulus,
-                &self.turn.call,
-                line,
-            ),
+            LastEntry::Turn => {
+                let turn = if self.works_in_odd {
+                    &self.even
+                } else {
+                    &self.odd
+                };
+                push_turn_line(turn.pid, turn.origin, &turn.stimulus, &turn.call, line)
+            }
             LastEntry::Other => push_entry(&self.other, line),
         }
         Ok(())
