@@ -1,0 +1,24 @@
+/* The processes that are started with the program, in this order. */
+#ifndef AUTOSTART_H_
+#define AUTOSTART_H_
+
+#include "sys/process.h"
+
+extern struct process *const autostart_processes[];
+
+/* 0 in a program whose sources each say what is to be started, and that has a list of its own. */
+#ifndef AUTOSTART_ENABLE
+#define AUTOSTART_ENABLE 1
+#endif
+
+#if AUTOSTART_ENABLE
+#define AUTOSTART_PROCESSES(...) struct process *const autostart_processes[] = {__VA_ARGS__, NULL}
+#else
+#define AUTOSTART_PROCESSES(...) extern struct process *const autostart_processes[]
+#endif
+
+/* Starts the processes of a list, or ends them. The program's own list is started without this. */
+void autostart_start(struct process *const processes[]);
+void autostart_exit(struct process *const processes[]);
+
+#endif
