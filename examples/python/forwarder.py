@@ -1,0 +1,40 @@
+"""An application with a fault: it forwards frames, and where memory is short it keeps one for good."""
+from __future__ import annotations
+
+from toarmuts import (Event, EventCode, MmemAlloc, MmemFree, MmemWrite, PacketDone, PacketOpen, PacketRead, PacketSend, Run, Turns, Wait)
+
+CHUNK = 64
+
+
+def forwarder(repaired: bool = False) -> Turns:
+    """Sends each frame that it receives. The fault: a frame for which there is no block isn't given back."""
+    yield PacketOpen()
+    while True:
+        stimulus = yield Wait()
+        if not isinstance(stimulus, Event) or stimulus.code != EventCode.PACKET:
+            continue
+        length = stimulus.payload
+        answer = yield MmemAlloc(0, length)
+        if answer.refused:
+            if repaired:
+                yield PacketDone()
+            continue
+        for at in range(0, length, CHUNK):
+            answer = yield PacketRead(at, min(CHUNK, length - at))
+            yield MmemWrite(0, at, answer.value)
+        yield PacketSend(0)
+        yield MmemFree(0)
+        yield PacketDone()
+
+
+def repaired_forwarder() -> Turns:
+    """The same without the fault."""
+    return (yield from forwarder(repaired=True))
+
+
+def fault_of(run: Run) -> str | None:
+    """Each frame that the first application is told of is given back."""
+    turns = run.entries.turns(4)
+    told = sum(isinstance(turn.stimulus, Event) and turn.stimulus.code == EventCode.PACKET for turn in turns)
+    given_back = sum(turn.call == PacketDone() and turn.refusal is None for turn in turns)
+    return "a frame is never given back" if told != given_back else None

@@ -1,0 +1,43 @@
+"""An application with a fault: it is started again, and takes the block that it still has for want of memory."""
+from __future__ import annotations
+
+from toarmuts import Answer, Call, Event, EventCode, Exit, HeapAlloc, HeapWrite, Refusal, Run, Stimulus, Wait
+
+SIZE = 32
+
+
+class Journal:
+    """Keeps the last line of the serial line in a block of heap memory.
+
+    The fault: what a process holds is there when it is started again, so that its block is refused as in use then; and it ends itself.
+    """
+
+    repaired = False
+
+    def __init__(self) -> None:
+        self.opens = False
+
+    def turn(self, stimulus: Stimulus) -> Call:
+        """The call for this stimulus."""
+        match stimulus:
+            case Event(code=EventCode.INIT):
+                self.opens = True
+                return HeapAlloc(0, SIZE)
+            case Answer() if self.opens:
+                self.opens = False
+                is_there = stimulus.ok or (self.repaired and stimulus.refusal is Refusal.IN_USE)
+                return Wait() if is_there else Exit()
+            case Event(code=EventCode.SERIAL_LINE, payload=bytes(line)):
+                return HeapWrite(0, 0, line[:SIZE])
+        return Wait()
+
+
+class RepairedJournal(Journal):
+    """The same without the fault."""
+
+    repaired = True
+
+
+def fault_of(run: Run) -> str | None:
+    """The first application never ends itself."""
+    return "the journal ends itself" if any(turn.call == Exit() for turn in run.entries.turns(4)) else None

@@ -1,0 +1,144 @@
+"""What is compiled: the proved library, its memory calls, and two small files in C, as one module of the package.
+
+Where cffi is, at building and at running, the module is cffi's in API mode with Python's stable interface (abi3). Elsewhere it is
+a plain shared library for ctypes, which wants a C compiler and no header of Python. ``TOARMUTS_BACKEND`` (``cffi`` or ``ctypes``)
+chooses one; ``TOARMUTS_CRATE`` names the folder ``crates/toarmuts`` where it isn't beside this one.
+"""
+from __future__ import annotations
+
+import hashlib
+import json
+import os
+import pathlib
+import re
+import subprocess
+import sys
+import sysconfig
+from typing import Any
+
+HERE = pathlib.Path(__file__).resolve().parent
+CRATE = pathlib.Path(os.environ.get("TOARMUTS_CRATE", HERE.parent / "crates" / "toarmuts"))
+ROOT = CRATE.resolve().parent.parent
+LIBRARY = CRATE / "out" / "libtoarmuts.a"
+HEADER = CRATE / "include" / "toarmuts.h"
+PROVE = "./prove toarmuts"
+SOURCES = ["native/transcript_table.c", "native/advance.c"]
+
+# What cffi is told of the headers, since it reads no preprocessor's lines. The compiler compares it with them.
+DECLARED = """
+struct toarmuts_configuration { uint32_t mmem, heap, header, has_quota, quota, quiet; };
+struct toarmuts_answer { uint32_t status; uint64_t line; size_t length; };
+void toarmuts_run(const struct toarmuts_configuration *configuration, const uint8_t *applications, size_t applications_length,
+                  const uint8_t *script, size_t script_length, uint8_t *transcript, size_t room, struct toarmuts_answer *answer);
+struct transcript_row { ...; };
+size_t transcript_table(const uint8_t *text, size_t length, struct transcript_row *rows);
+struct toarmuts_mote { ...; };
+struct toarmuts_call { ...; };
+struct advance { ...; };
+uint32_t toarmuts_open(const struct toarmuts_configuration *configuration, uint32_t applications, struct toarmuts_mote *mote);
+uint32_t toarmuts_feed(struct toarmuts_mote *mote, const uint8_t *line, size_t length);
+uint32_t toarmuts_feed_input(struct toarmuts_mote *mote, uint32_t kind, uint32_t ticks, const uint8_t *bytes, size_t length);
+uint32_t toarmuts_clock(const struct toarmuts_mote *mote, uint64_t *clock);
+uint32_t toarmuts_close(struct toarmuts_mote *mote);
+void advance_mote(struct toarmuts_mote *mote, const struct toarmuts_call *call, struct advance *advance);
+"""
+
+
+class NotBuilt(SystemExit):
+    """The library isn't there, or isn't that of the sources. The message has the command that makes it."""
+
+
+def missing_calls() -> list[str]:
+    """The calls of the header that the library lacks: it was made of older sources."""
+    names = re.findall(r"\b(toarmuts_\w+)\(", HEADER.read_text(encoding="utf-8"))
+    library = LIBRARY.read_bytes()
+    return [name for name in dict.fromkeys(names) if name.encode() + b"\0" not in library]
+
+
+def is_stale() -> bool:
+    """Whether ./prove made the library, and of other sources than are there now."""
+    if not (CRATE / "out" / "proved").exists():
+        return False
+    return subprocess.run([str(ROOT / "prove"), "--is-current", "toarmuts"], check=False, capture_output=True).returncode == 1
+
+
+def check_library() -> None:
+    """Ends with the reason where there is no library that can be used."""
+    if not LIBRARY.exists():
+        raise NotBuilt(f"toarmuts: there is no {LIBRARY}: `{PROVE}` in {ROOT} proves and builds it")
+    lacking = missing_calls() if "pystep" not in str(CRATE) else []
+    if lacking:
+        raise NotBuilt(f"toarmuts: {LIBRARY} lacks {lacking[0]}, it is older than its header: `{PROVE}` in {ROOT} makes it anew")
+    if is_stale() and "TOARMUTS_STALE" not in os.environ:
+        raise NotBuilt(f"toarmuts: {LIBRARY} is older than its sources: `{PROVE}` in {ROOT} makes it anew (TOARMUTS_STALE=1 takes it as it is)")
+
+
+def write_call_words(folder: pathlib.Path) -> str:
+    """Writes the words of calls, of rules.json, as a table in C, and answers the file."""
+    told = json.loads((HERE / "src/toarmuts/rules.json").read_text(encoding="utf-8"))
+    rows = sorted((row["name"], kind) for kind, row in enumerate(told["calls"], 1))
+    lines = ['#include "transcript_table.h"', "const struct call_word call_words[] = {"]
+    lines += [f'  {{"{word}", {len(word)}, {kind}}},' for word, kind in rows]
+    lines += ["};", "const size_t call_words_count = sizeof call_words / sizeof *call_words;", ""]
+    folder.mkdir(parents=True, exist_ok=True)
+    place = folder / "call_words.c"
+    place.write_text("\n".join(lines), encoding="utf-8")
+    return os.path.relpath(place, HERE)
+
+
+def has_cffi() -> bool:
+    """Whether cffi is there to build with, its module for the Python that is installed into, and Python's headers."""
+    try:
+        import cffi  # noqa: F401
+    except ImportError:
+        return False
+    found = subprocess.run([sys.executable, "-I", "-c", "import _cffi_backend"], check=False, capture_output=True).returncode == 0
+    return found and has_headers()
+
+
+def has_headers() -> bool:
+    """Whether Python's headers are there."""
+    return os.path.exists(os.path.join(sysconfig.get_path("include"), "Python.h"))
+
+
+def backend() -> str:
+    """``cffi`` or ``ctypes``."""
+    asked = os.environ.get("TOARMUTS_BACKEND", "")
+    if asked not in ("", "cffi", "ctypes"):
+        raise NotBuilt(f"toarmuts: TOARMUTS_BACKEND is {asked!r}; cffi or ctypes is allowed")
+    return asked or ("cffi" if has_cffi() else "ctypes")
+
+
+def build_arguments(folder: pathlib.Path) -> dict[str, Any]:
+    """What is told to the compiler, for both ways."""
+    return {
+        "sources": [*SOURCES, write_call_words(folder), os.path.relpath(CRATE / "include" / "toarmuts_memory.c", HERE)],
+        "include_dirs": [str(HERE / "native"), str(CRATE / "include")],
+        "depends": [str(LIBRARY), str(HEADER), str(HERE / "native/transcript_table.h"), str(HERE / "native/advance.h")],
+        "extra_compile_args": ["-std=c11", "-O2"],
+        "extra_link_args": ["-Wl,--whole-archive", str(LIBRARY), "-Wl,--no-whole-archive"],
+        "py_limited_api": True,
+    }
+
+
+def extensions() -> list[Any]:
+    """The modules to be compiled: the library, and with it what makes entries where Python's headers are there."""
+    from setuptools import Extension
+
+    check_library()
+    arguments = build_arguments(HERE / "build" / "native")
+    entries = Extension("toarmuts._entries", sources=["native/entries.c"], include_dirs=[str(HERE / "native")],
+                        depends=["native/transcript_table.h"], extra_compile_args=["-std=c11", "-O2"], py_limited_api=True)
+    if backend() == "ctypes":
+        return [Extension("toarmuts._library", **arguments)] + ([entries] if has_headers() else [])
+    from cffi import FFI
+
+    builder = FFI()
+    builder.cdef(DECLARED)
+    builder.set_source("toarmuts._native", '#include "toarmuts.h"\n#include "transcript_table.h"\n#include "advance.h"\n', **arguments)
+    return [builder.distutils_extension(str(HERE / "build" / "native")), entries]
+
+
+def built() -> dict[str, str]:
+    """What is told of the build to the package: the repository, and which library it was."""
+    return {"repository": str(ROOT), "library": hashlib.sha256(LIBRARY.read_bytes()).hexdigest(), "backend": backend()}

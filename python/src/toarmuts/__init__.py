@@ -1,0 +1,39 @@
+"""Toarmuts: runs of a proved sensor mote, their transcripts as objects, and applications in Python.
+
+>>> import toarmuts
+>>> run = toarmuts.run(["blink"], "tick 10\\ntick 10\\n")
+>>> run.end.value, run.printed()
+('finished', b'on\\noff\\n')
+>>> for entry in run.entries[:3]:
+...     print(entry)
+4 synch 129 - -> timer-set 0 10
+4 answer done -> wait
+> tick 10
+
+docs/python.md of the repository goes from a clone to a first result.
+"""
+from .applications import Application, ApplicationLike, CallList, Table, Turns
+from .call import Call
+from .calls import *  # noqa: F401,F403  a class for each call
+from .calls import __all__ as _calls
+from .difference import Difference, first_difference
+from .errors import (ApplicationError, BadCall, BadInput, BadScenario, BadSizes, BadTranscript, LibraryError, MoteError, NoApplication,
+                     NoPicture, OutOfMemory, RunEnded, ToarmutsError, TooManyApplications, WrongType)
+from .mote import Mote
+from .numbers import EventCode, Origin, Refusal, ReplyKind
+from .options import Options
+from .rules import RULES, Rules
+from .runs import Run, run
+from .scenario import Scenario, read_scenarios
+from .script import Script
+from .transcript import Ending, Entry, Input, InputKind, Note, NoteKind, Transcript, Turn
+from .values import Answer, Callback, End, Event, Payload, Stats, Status, Stimulus
+
+__all__ = [
+    "Answer", "Application", "ApplicationError", "ApplicationLike", "BadCall", "BadInput", "BadScenario", "BadSizes", "BadTranscript",
+    "Call", "CallList", "Callback", "Difference", "End", "Ending", "Entry", "Event", "EventCode", "Input", "InputKind",
+    "LibraryError", "Mote", "MoteError", "NoApplication", "NoPicture", "Note", "NoteKind", "Options", "Origin", "OutOfMemory", "Payload",
+    "RULES", "Refusal", "ReplyKind", "Rules", "Run", "RunEnded", "Scenario", "Script", "Stats", "Status", "Stimulus", "Table",
+    "ToarmutsError", "TooManyApplications", "Transcript", "Turn", "Turns", "WrongType", "first_difference", "read_scenarios", "run",
+]
+__all__ += _calls

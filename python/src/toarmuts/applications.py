@@ -1,0 +1,245 @@
+"""Applications: names, lists of calls, and applications in Python.
+
+An application in Python is a class whose objects have ``turn(stimulus) -> Call``, or a generator function:
+
+>>> from toarmuts import EventCode, Print, TimerReset, TimerSet, Wait, run
+>>> def beat():
+...     answer = yield TimerSet(0, 10)
+...     while answer.ok:
+...         stimulus = yield Wait()
+...         if stimulus.code == EventCode.TIMER:
+...             yield Print(b"beat\\n")
+...             answer = yield TimerReset(0)
+>>> run([beat], "tick 10\\n").printed()
+b'beat\\n'
+"""
+from __future__ import annotations
+
+import functools
+import inspect
+from collections.abc import Callable, Generator, Iterable, Mapping, Sequence
+from dataclasses import dataclass
+from typing import Any, Protocol, Union
+
+from .call import MOST_CALLS, Call, read_calls
+from .calls import Exit, Wait
+from .errors import BadCall, NoApplication, TooManyApplications, ToarmutsError, WrongType
+from .numbers import EventCode
+from .rules import FIRST_PROCESS, MOST_APPLICATIONS, RULES
+from .values import Event, Stimulus
+
+
+class Application(Protocol):
+    """A state machine: it is told a stimulus, and answers with one call."""
+
+    def turn(self, stimulus: Stimulus) -> Call:
+        """The call for this stimulus."""
+
+
+Turns = Generator[Call, Any, object]
+"""What a generator function answers: it yields calls, and is sent what the process is told next."""
+
+ApplicationLike = Union[str, Sequence[Union[Call, str]], Application, Callable[[], Union[Application, Turns]]]
+"""A name, ``calls`` and a list of calls as text, a list of calls, a class or another callable that makes an application, an
+application, or a generator function."""
+
+
+class CallList:
+    """Makes these calls, one each time that it is told something, and then waits (``calls`` of docs/scenarios.md)."""
+
+    def __init__(self, calls: Sequence[Call]) -> None:
+        self._calls = iter(tuple(calls))
+
+    def turn(self, stimulus: Stimulus) -> Call:
+        """The next call."""
+        return next(self._calls, WAIT)
+
+
+class GeneratorApplication:
+    """An application by a generator function. Each INIT begins a new generator; where one returns, the process exits."""
+
+    def __init__(self, function: Callable[[], Turns]) -> None:
+        self._function = function
+        self._turns: Turns | None = None
+
+    def turn(self, stimulus: Stimulus) -> Call:
+        """What the generator yields next."""
+        try:
+            if self._turns is None or (isinstance(stimulus, Event) and stimulus.code == EventCode.INIT):
+                self._turns = self._function()
+                return next(self._turns)
+            return self._turns.send(stimulus)
+        except StopIteration:
+            return EXIT
+
+
+class Table:
+    """An application by a table: for each event code, or ``"callback"``, the calls that it makes then, one after the other.
+
+    It makes the next call of a list when the call before is answered, whatever the answer is, and then waits.
+
+    >>> from toarmuts import Print, TimerReset, TimerSet, run
+    >>> table = {EventCode.INIT: [TimerSet(0, 5)], EventCode.TIMER: [Print(b"."), TimerReset(0)]}
+    >>> run([lambda: Table(table)], "tick 5\\ntick 5\\n").printed()
+    b'..'
+    """
+
+    def __init__(self, rows: Mapping[int | str, Sequence[Call]]) -> None:
+        self.rows = dict(rows)
+        self._left: list[Call] = []
+
+    def turn(self, stimulus: Stimulus) -> Call:
+        """The next call of the row."""
+        if isinstance(stimulus, Event):
+            self._left = list(self.rows.get(stimulus.code, ()))
+        elif type(stimulus).__name__ == "Callback":
+            self._left = list(self.rows.get("callback", ()))
+        return self._left.pop(0) if self._left else WAIT
+
+    def __repr__(self) -> str:
+        return f"Table({self.rows!r})"
+
+
+WAIT, EXIT = Wait(), Exit()
+
+
+@dataclass(frozen=True)
+class Named:
+    """An application as it was given: ``line`` for the library, where that can carry it out, and what makes it anew."""
+
+    number: int
+    line: str | None
+    make: Callable[[], Application]
+    told: str
+    """How a picture or a message calls it."""
+
+    @property
+    def process(self) -> int:
+        """Its process."""
+        return FIRST_PROCESS + self.number - 1
+
+
+def read_applications(applications: object) -> list[Named]:
+    """The applications of a mote, each of a form that is one; why not is told else."""
+    if isinstance(applications, (str, bytes)):
+        raise WrongType(f"applications is to be a list: [{applications!r}]")
+    if not isinstance(applications, Iterable) or isinstance(applications, Mapping):
+        raise WrongType(f"applications is to be a list, not {type(applications).__name__}")
+    made = list(applications)
+    if len(made) > MOST_APPLICATIONS:
+        raise TooManyApplications(f"{len(made)} applications; a mote has at most {MOST_APPLICATIONS}")
+    return [_read(number, application) for number, application in enumerate(made, 1)]
+
+
+def _read(number: int, application: object) -> Named:
+    if isinstance(application, str):
+        return _read_line(number, application)
+    if isinstance(application, (list, tuple)):
+        return _read_list(number, application)
+    if isinstance(application, Call):
+        raise WrongType(f"application {number} is the call {application!r}: a list of calls is meant, [{application!r}]")
+    if inspect.isgeneratorfunction(_unwrapped(application)):
+        assert callable(application)
+        function = application
+        return Named(number, None, lambda: GeneratorApplication(function), _name_of(application))
+    if isinstance(application, type) and not hasattr(application, "turn"):
+        raise WrongType(f"application {number} is the class {application.__name__}, which has no turn(stimulus)")
+    if not isinstance(application, type) and callable(getattr(application, "turn", None)):
+        made: Application = application  # type: ignore[assignment]  # it has turn
+        return Named(number, None, lambda: made, type(application).__name__)
+    if callable(application):
+        return Named(number, None, functools.partial(_make, number, application), _name_of(application))
+    raise WrongType(f"application {number} is to be a name, a list of calls, a class with turn(stimulus) or a generator function, "
+                    f"not {type(application).__name__}")
+
+
+def _unwrapped(application: object) -> object:
+    while isinstance(application, functools.partial):
+        application = application.func
+    return application
+
+
+def _name_of(application: object) -> str:
+    return str(getattr(_unwrapped(application), "__name__", type(application).__name__))
+
+
+def _make(number: int, factory: Callable[[], object]) -> Application:
+    """What a class or another callable makes."""
+    made: Any = factory()
+    if inspect.isgenerator(made):
+        return GeneratorApplication(_once(made))
+    if not callable(getattr(made, "turn", None)):
+        raise WrongType(f"application {number}: {_name_of(factory)}() made a {type(made).__name__}, which has no turn(stimulus)")
+    application: Application = made
+    return application
+
+
+def _once(turns: Turns) -> Callable[[], Turns]:
+    """A generator that was made already, for the first start; it is spent at a later one."""
+    return lambda: turns
+
+
+def _read_line(number: int, line: str) -> Named:
+    """A name, or ``calls`` and a list of calls."""
+    if "\n" in line or "\r" in line:
+        raise NoApplication(number, line, f"a name has no line end: {line!r}")
+    if line == "calls" or line.startswith("calls "):
+        try:
+            calls = read_calls(line[6:])
+        except BadCall as fault:
+            raise NoApplication(number, line, str(fault), fault.place) from None
+        return Named(number, line, lambda: CallList(calls), "calls")
+    if line not in RULES.applications:
+        names = ", ".join(RULES.applications)
+        raise NoApplication(number, line, f"no application {line!r}; there are {names}, and 'calls ..'" if line else "its name is empty")
+    return Named(number, line, lambda: bundled(line), line)
+
+
+def _read_list(number: int, calls: Sequence[object]) -> Named:
+    """A list of calls."""
+    if len(calls) > MOST_CALLS:
+        raise NoApplication(number, f"{len(calls)} calls", f"{len(calls)} calls; a list has at most {MOST_CALLS}")
+    made = [_read_call(number, place, call) for place, call in enumerate(calls, 1)]
+    line = "calls " + ", ".join(map(str, made)) if made else "calls"
+    return Named(number, line, lambda: CallList(made), "calls")
+
+
+def _read_call(number: int, place: int, call: object) -> Call:
+    if isinstance(call, Call):
+        return call
+    if isinstance(call, str):
+        try:
+            return Call.parse(call)
+        except BadCall as fault:
+            raise NoApplication(number, call, str(fault), place) from None
+    raise WrongType(f"application {number}, call {place} is to be a Call or its words, not {_kind_of(call)}")
+
+
+def _kind_of(call: object) -> str:
+    if isinstance(call, type) and issubclass(call, Call):
+        return f"the class {call.__name__}: {call.__name__}(..) is meant"
+    return type(call).__name__
+
+
+def why_no_call(call: object) -> str | None:
+    """Why what an application answered is no call, or None where it is one."""
+    if isinstance(call, Call):
+        return None
+    if isinstance(call, type) and issubclass(call, Call):
+        return f"it answered the class {call.__name__}, and no call: {call.__name__}(..) is meant"
+    if inspect.isgenerator(call):
+        return "it answered a generator, and no call: a turn that yields is none; a generator function is an application itself"
+    if isinstance(call, str):
+        return f"it answered the text {call!r}, and no call: Call.parse makes one"
+    return f"it answered {call!r}, and no call"
+
+
+def bundled(name: str) -> Application:
+    """The application of the mote with this name, in Python."""
+    from .bundled import BUNDLED
+
+    return BUNDLED[name]()
+
+
+__all__ = ["Application", "ApplicationLike", "CallList", "GeneratorApplication", "Named", "Table", "ToarmutsError", "Turns",
+           "read_applications"]

@@ -1,0 +1,116 @@
+"""The library by cffi in API mode."""
+from __future__ import annotations
+
+import threading
+import weakref
+from typing import Any
+
+from ._native import ffi, lib  # type: ignore[import]
+from .errors import LibraryError
+from .library import ADVANCE_SIZE, FIRST_ROOM, MAKE, MOST_ROOM_KEPT, NO_ROOM, ROW_SIZE, Configuration, Held
+
+
+class _Room(threading.local):
+    """What a thread keeps between its calls: a configuration, an answer, and room for a transcript."""
+
+    def __init__(self) -> None:
+        self.configuration = ffi.new("struct toarmuts_configuration *")
+        self.answer = ffi.new("struct toarmuts_answer *")
+        self.size = 0
+        self.transcript: Any = None
+
+    def make(self, size: int) -> None:
+        """Has room for at least so many bytes."""
+        if self.size < size:
+            self.size = size
+            self.transcript = ffi.new("uint8_t[]", size)
+
+    def shrink(self) -> None:
+        """Gives back what is too much to be kept."""
+        if self.size > MOST_ROOM_KEPT:
+            self.size, self.transcript = 0, None
+
+
+def fill(configuration: Any, numbers: Configuration) -> None:
+    """Fills in ``struct toarmuts_configuration``."""
+    (configuration.mmem, configuration.heap, configuration.header, configuration.has_quota, configuration.quota,
+     configuration.quiet) = numbers
+
+
+class CffiLibrary:
+    """The calls of the compiled module."""
+
+    backend = "cffi"
+
+    def __init__(self) -> None:
+        self._room = _Room()
+        sizes = ffi.sizeof("struct transcript_row"), ffi.sizeof("struct advance")
+        if sizes != (ROW_SIZE, ADVANCE_SIZE):
+            raise LibraryError(f"toarmuts: the compiled library has structures of {sizes} bytes; {MAKE}")
+
+    def run(self, configuration: Configuration, applications: bytes, script: bytes) -> tuple[int, int, bytes]:
+        """Runs, again with more room where there was too little."""
+        room = self._room
+        fill(room.configuration, configuration)
+        room.make(FIRST_ROOM)
+        answer = room.answer
+        while True:
+            lib.toarmuts_run(room.configuration, applications, len(applications), script, len(script), room.transcript, room.size, answer)
+            if answer.status != NO_ROOM:
+                break
+            room.make(answer.length)
+        transcript = bytes(ffi.buffer(room.transcript, answer.length)) if answer.length else b""
+        room.shrink()
+        return answer.status, answer.line, transcript
+
+    def table(self, text: bytes, rows: bytearray) -> int:
+        """The rows of a transcript's table."""
+        count: int = lib.transcript_table(text, len(text), ffi.from_buffer("struct transcript_row *", rows))
+        return count
+
+    def open(self, configuration: Configuration, applications: int) -> tuple[int, Held]:
+        """Opens a mote."""
+        numbers = ffi.new("struct toarmuts_configuration *")
+        fill(numbers, configuration)
+        mote = ffi.new("struct toarmuts_mote *")
+        status: int = lib.toarmuts_open(numbers, applications, mote)
+        return status, CffiMote(mote)
+
+
+class CffiMote:
+    """A mote that is open, until it is closed or nothing refers to it."""
+
+    def __init__(self, mote: Any) -> None:
+        self._mote = mote
+        self.advance_bytes = bytearray(ADVANCE_SIZE)
+        self._advance = ffi.from_buffer("struct advance *", self.advance_bytes)
+        self._call = ffi.new("struct toarmuts_call *")
+        self._call_bytes = ffi.buffer(self._call)
+        self._clock = ffi.new("uint64_t *")
+        self._finalizer = weakref.finalize(self, lib.toarmuts_close, mote)
+
+    def feed(self, line: bytes) -> int:
+        """Hands in a line of a script."""
+        status: int = lib.toarmuts_feed(self._mote, line, len(line))
+        return status
+
+    def feed_input(self, kind: int, ticks: int, data: bytes) -> int:
+        """Hands in an input."""
+        status: int = lib.toarmuts_feed_input(self._mote, kind, ticks, data, len(data))
+        return status
+
+    def advance(self, call: bytes) -> None:
+        """Works on."""
+        self._call_bytes[:] = call
+        lib.advance_mote(self._mote, self._call, self._advance)
+
+    def clock(self) -> int:
+        """The ticks since boot."""
+        lib.toarmuts_clock(self._mote, self._clock)
+        clock: int = self._clock[0]
+        return clock
+
+    def close(self) -> int:
+        """Gives the memory back."""
+        status = self._finalizer()
+        return 0 if status is None else int(status)

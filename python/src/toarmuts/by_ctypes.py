@@ -1,0 +1,144 @@
+"""The library by ctypes, over a shared library: where there is no cffi."""
+from __future__ import annotations
+
+import ctypes
+import pathlib
+import threading
+import weakref
+from typing import Any
+
+from .errors import LibraryError
+from .library import ADVANCE_SIZE, FIRST_ROOM, MAKE, MOST_ROOM_KEPT, NO_ROOM, Configuration, Held
+
+NEEDED = ("toarmuts_run", "transcript_table", "toarmuts_open", "toarmuts_feed", "toarmuts_feed_input", "toarmuts_clock",
+          "toarmuts_close", "advance_mote")
+
+
+class _Answer(ctypes.Structure):
+    _fields_ = [("status", ctypes.c_uint32), ("line", ctypes.c_uint64), ("length", ctypes.c_size_t)]
+
+
+class _Mote(ctypes.Structure):
+    _fields_ = [("held", ctypes.c_void_p), ("is_open", ctypes.c_bool)]
+
+
+_Numbers = ctypes.c_uint32 * 6
+
+
+class _Room(threading.local):
+    """What a thread keeps between its calls: an answer, and room for a transcript."""
+
+    def __init__(self) -> None:
+        self.answer = _Answer()
+        self.size = 0
+        self.transcript: Any = None
+
+    def make(self, size: int) -> None:
+        """Has room for at least so many bytes."""
+        if self.size < size:
+            self.size = size
+            self.transcript = ctypes.create_string_buffer(size)
+
+    def shrink(self) -> None:
+        """Gives back what is too much to be kept."""
+        if self.size > MOST_ROOM_KEPT:
+            self.size, self.transcript = 0, None
+
+
+class CtypesLibrary:
+    """The calls of a shared library."""
+
+    backend = "ctypes"
+
+    def __init__(self, place: pathlib.Path) -> None:
+        try:
+            self._calls: Any = ctypes.CDLL(str(place))
+        except OSError as fault:
+            raise LibraryError(f"toarmuts: {place} can't be loaded: {fault}; {MAKE}") from fault
+        lacking = [name for name in NEEDED if not hasattr(self._calls, name)]
+        if lacking:
+            raise LibraryError(f"toarmuts: {place} lacks {lacking[0]}, it is older than this package; {MAKE}")
+        self._declare()
+        self._room = _Room()
+
+    def _declare(self) -> None:
+        calls, size, pointer, u32 = self._calls, ctypes.c_size_t, ctypes.c_void_p, ctypes.c_uint32
+        calls.toarmuts_run.argtypes = [pointer, ctypes.c_char_p, size, ctypes.c_char_p, size, pointer, size, pointer]
+        calls.toarmuts_run.restype = None
+        calls.transcript_table.argtypes, calls.transcript_table.restype = [ctypes.c_char_p, size, pointer], size
+        calls.toarmuts_open.argtypes = [pointer, u32, pointer]
+        calls.toarmuts_feed.argtypes = [pointer, ctypes.c_char_p, size]
+        calls.toarmuts_feed_input.argtypes = [pointer, u32, u32, ctypes.c_char_p, size]
+        calls.toarmuts_clock.argtypes, calls.toarmuts_close.argtypes = [pointer, pointer], [pointer]
+        calls.advance_mote.argtypes, calls.advance_mote.restype = [pointer, ctypes.c_char_p, pointer], None
+        for name in ("toarmuts_open", "toarmuts_feed", "toarmuts_feed_input", "toarmuts_clock", "toarmuts_close"):
+            getattr(calls, name).restype = u32
+
+    def run(self, configuration: Configuration, applications: bytes, script: bytes) -> tuple[int, int, bytes]:
+        """Runs, again with more room where there was too little."""
+        numbers, room = _Numbers(*configuration), self._room
+        room.make(FIRST_ROOM)
+        answer = room.answer
+        while True:
+            self._calls.toarmuts_run(ctypes.byref(numbers), applications, len(applications), script, len(script), room.transcript,
+                                     room.size, ctypes.byref(answer))
+            if answer.status != NO_ROOM:
+                break
+            room.make(answer.length)
+        transcript = ctypes.string_at(room.transcript, answer.length)
+        room.shrink()
+        return answer.status, answer.line, transcript
+
+    def table(self, text: bytes, rows: bytearray) -> int:
+        """The rows of a transcript's table."""
+        place = (ctypes.c_char * len(rows)).from_buffer(rows)
+        count: int = self._calls.transcript_table(text, len(text), ctypes.addressof(place))
+        return count
+
+    def open(self, configuration: Configuration, applications: int) -> tuple[int, Held]:
+        """Opens a mote."""
+        numbers, mote = _Numbers(*configuration), _Mote()
+        status: int = self._calls.toarmuts_open(ctypes.byref(numbers), applications, ctypes.byref(mote))
+        return status, CtypesMote(self._calls, mote)
+
+
+class CtypesMote:
+    """A mote that is open, until it is closed or nothing refers to it."""
+
+    def __init__(self, calls: Any, mote: _Mote) -> None:
+        self._calls, self._mote = calls, mote
+        self.advance_bytes = bytearray(ADVANCE_SIZE)
+        self._advance = (ctypes.c_char * ADVANCE_SIZE).from_buffer(self.advance_bytes)
+        self._pointer = ctypes.addressof(mote)
+        self._finalizer = weakref.finalize(self, _close, calls, mote)
+
+    def feed(self, line: bytes) -> int:
+        """Hands in a line of a script."""
+        status: int = self._calls.toarmuts_feed(self._pointer, line, len(line))
+        return status
+
+    def feed_input(self, kind: int, ticks: int, data: bytes) -> int:
+        """Hands in an input."""
+        status: int = self._calls.toarmuts_feed_input(self._pointer, kind, ticks, data, len(data))
+        return status
+
+    def advance(self, call: bytes) -> None:
+        """Works on."""
+        self._calls.advance_mote(self._pointer, call, ctypes.addressof(self._advance))
+
+    def clock(self) -> int:
+        """The ticks since boot."""
+        clock = ctypes.c_uint64()
+        self._calls.toarmuts_clock(self._pointer, ctypes.byref(clock))
+        return clock.value
+
+    def close(self) -> int:
+        """Gives the memory back."""
+        status = self._finalizer()
+        return 0 if status is None else int(status)
+
+
+def _close(calls: Any, mote: _Mote) -> int:
+    """Closes a mote; a call of its own, so that the mote's memory lasts until then."""
+    status: int = calls.toarmuts_close(ctypes.addressof(mote))
+    return status

@@ -1,0 +1,234 @@
+"""What all calls of an application have in common; :mod:`toarmuts.calls` has a class for each."""
+from __future__ import annotations
+
+import struct
+from typing import Any, Callable, ClassVar, Sequence, Union
+
+from .errors import BadCall, WrongType
+from .rules import RULES, CallRule
+from .values import Payload, bytes_word, payload_word, read_bytes_word, read_number, read_payload_word
+
+Argument = Union[int, bytes, None]
+
+MOST_DATA = RULES.limits["bytes_of_data"]
+MOST_LINE = RULES.limits["bytes_of_a_line"]
+MOST_NUMBER = 0xFFFF_FFFF
+MOST_CALLS = RULES.limits["calls_of_a_list"]
+
+# kind, four numbers, the payload's kind and number, how many bytes, and the bytes: struct toarmuts_call of toarmuts.h.
+PACKED = struct.Struct("=8I128s")
+
+
+def _check_number(word: str, name: str, argument: object, most: int) -> int:
+    if isinstance(argument, bool) or not isinstance(argument, int):
+        raise WrongType(f"{word}: {name} is to be an int, not {type(argument).__name__}")
+    if not 0 <= argument <= most:
+        raise BadCall(f"{word}: {name} is {argument}; 0 to {most:,} is allowed")
+    return int(argument)
+
+
+def _check_bytes(word: str, name: str, argument: object, most: int) -> bytes:
+    if not isinstance(argument, (bytes, bytearray, memoryview)):
+        raise WrongType(f"{word}: {name} is to be bytes, not {type(argument).__name__}")
+    data = bytes(argument)
+    if len(data) > most:
+        raise BadCall(f"{word}: {name} has {len(data)} bytes; at most {most} are allowed")
+    return data
+
+
+def _check_payload(word: str, argument: object) -> Payload:
+    if argument is None:
+        return None
+    if isinstance(argument, (bytes, bytearray, memoryview)):
+        return _check_bytes(word, "payload", argument, MOST_LINE)
+    if isinstance(argument, bool) or not isinstance(argument, int):
+        raise WrongType(f"{word}: payload is to be None, an int or bytes, not {type(argument).__name__}")
+    return _check_number(word, "payload", argument, MOST_NUMBER)
+
+
+def _checker(word: str, name: str) -> Callable[[object], Argument]:
+    """What makes sure of an argument, and answers it."""
+    most = RULES.arguments[name].most
+    if name == "payload":
+        return lambda argument: _check_payload(word, argument)
+    if name == "data":
+        return lambda argument: _check_bytes(word, name, argument, MOST_DATA)
+    assert most is not None
+    limit = most
+
+    def check(argument: object) -> int:
+        # The usual case at once: a campaign makes hundreds of thousands of calls.
+        if type(argument) is int and 0 <= argument <= limit:
+            return argument
+        return _check_number(word, name, argument, limit)
+
+    return check
+
+
+def _argument(place: int) -> property:
+    return property(lambda call: call.arguments[place])
+
+
+class Call:
+    """A call with its arguments. It can't be changed; two are equal where their words are.
+
+    >>> call = Call.parse("mmem-write 0 4 6869")
+    >>> call
+    MmemWrite(0, 4, b'hi')
+    >>> call.at, call.data, str(call)
+    (4, b'hi', 'mmem-write 0 4 6869')
+    """
+
+    __slots__ = ("arguments", "_packed")
+    word: ClassVar[str] = ""
+    """The word of a transcript, as ``timer-set``."""
+    kind: ClassVar[int] = 0
+    """The number in ``toarmuts.h``, from 1 on."""
+    rule: ClassVar[CallRule]
+    """What rules.json says of it."""
+    ends_activation: ClassVar[bool] = False
+    """Whether it is ``wait`` or ``exit``, which have no answer."""
+    by_word: ClassVar[dict[str, type["Call"]]] = {}
+    _checks: ClassVar[tuple[Callable[[object], Argument], ...]] = ()
+    _parsed: ClassVar[dict[str, "Call"]] = {}
+
+    arguments: tuple[Argument, ...]
+    """The arguments in their order."""
+    _packed: bytes | None
+
+    def __init_subclass__(cls, word: str = "", **others: Any) -> None:
+        super().__init_subclass__(**others)
+        if not word:
+            return
+        rule = RULES.calls[word]
+        cls.word, cls.kind, cls.rule, cls.ends_activation = word, rule.kind, rule, rule.reply is None
+        cls._checks = tuple(_checker(word, name) for name in rule.arguments)
+        setattr(cls, "__match_args__", rule.arguments)
+        for place, name in enumerate(rule.arguments):
+            setattr(cls, name, _argument(place))
+        Call.by_word[word] = cls
+
+    def __init__(self, *arguments: object) -> None:
+        if not self.word:
+            raise WrongType("Call is no call itself: write one of its classes, as Wait(), or Call.parse('wait')")
+        object.__setattr__(self, "arguments", tuple([check(argument) for check, argument in zip(self._checks, arguments)]))
+        object.__setattr__(self, "_packed", None)
+
+    def __setattr__(self, name: str, value: object) -> None:
+        raise AttributeError(f"a call can't be changed: {name}")
+
+    def __str__(self) -> str:
+        words = [self.word]
+        for name, argument in zip(self.rule.arguments, self.arguments):
+            if name == "payload":
+                words.append(payload_word(argument))
+            else:
+                words.append(bytes_word(argument) if isinstance(argument, bytes) else str(argument))
+        return " ".join(words)
+
+    def __repr__(self) -> str:
+        return f"{type(self).__name__}({', '.join(map(repr, self.arguments))})"
+
+    def __eq__(self, other: object) -> bool:
+        if not isinstance(other, Call):
+            return NotImplemented
+        return self.kind == other.kind and self.arguments == other.arguments
+
+    def __hash__(self) -> int:
+        return hash((self.kind, self.arguments))
+
+    def __reduce__(self) -> tuple[Any, ...]:
+        return type(self), self.arguments
+
+    def packed(self) -> bytes:
+        """The bytes of ``struct toarmuts_call``."""
+        if self._packed is None:
+            object.__setattr__(self, "_packed", self._pack())
+        return self._packed or b""
+
+    def _pack(self) -> bytes:
+        numbers: list[int] = []
+        payload = number = 0
+        data = b""
+        for name, argument in zip(self.rule.arguments, self.arguments):
+            if isinstance(argument, bytes):
+                data = argument
+                payload = 2 if name == "payload" else 0
+            elif name == "payload":
+                payload, number = (0, 0) if argument is None else (1, argument)
+            else:
+                assert argument is not None
+                numbers.append(argument)
+        numbers += [0] * (4 - len(numbers))
+        return PACKED.pack(self.kind, *numbers, payload, number, len(data), data)
+
+    @staticmethod
+    def parse(text: str) -> "Call":
+        """The call of these words, as a transcript shows them; hex digits may be of either case.
+
+        >>> Call.parse("timer-set 0 x")
+        Traceback (most recent call last):
+        toarmuts.errors.BadCall: 'timer-set 0 x': x is no number from 0 to 4294967295
+        """
+        known = Call._parsed.get(text)
+        if known is not None:
+            return known
+        made = _parse(text)
+        if len(Call._parsed) < 65536:
+            Call._parsed[text] = made
+        return made
+
+
+def _parse(text: str) -> Call:
+    if not isinstance(text, str):
+        raise WrongType(f"the words of a call are to be a str, not {type(text).__name__}")
+    word, *rest = text.split(" ")
+    kind = Call.by_word.get(word)
+    if kind is None:
+        raise BadCall(f"no call {word}", text)
+    names = kind.rule.arguments
+    try:
+        arguments = [_read_argument(name, argument) for name, argument in zip(names, rest)]
+    except BadCall as fault:
+        raise BadCall(fault.reason, text) from None
+    if len(rest) < len(names):
+        raise BadCall(f"{word} lacks a word", text)
+    if len(rest) > len(names):
+        raise BadCall(f"more words than the call takes: {' '.join(rest[len(names):])}", text)
+    return kind(*arguments)
+
+
+def _read_argument(name: str, word: str) -> Argument:
+    if name == "data":
+        return read_bytes_word(word, MOST_DATA)
+    if name == "payload":
+        return read_payload_word(word, MOST_LINE)
+    most = RULES.arguments[name].most
+    assert most is not None
+    return read_number(word, most)
+
+
+def read_calls(text: str) -> list[Call]:
+    """The calls of a list as docs/scenarios.md has them: ``timer-set 0 5, 3 wait, print 6869``.
+
+    >>> read_calls("2 wait, exit")
+    [Wait(), Wait(), Exit()]
+    """
+    made: list[Call] = []
+    for place, part in enumerate(text.split(", ") if text else [], 1):
+        try:
+            made += _repeated(part)
+        except BadCall as fault:
+            raise BadCall(fault.reason, part, place) from None
+    if len(made) > MOST_CALLS:
+        raise BadCall(f"an application makes at most {MOST_CALLS} calls")
+    return made
+
+
+def _repeated(part: str) -> Sequence[Call]:
+    """A call, or several of it where a number stands before it."""
+    first, _, rest = part.partition(" ")
+    if not first[:1].isdigit():
+        return [Call.parse(part)]
+    times = read_number(first, MOST_CALLS, least=1)
+    return [Call.parse(rest)] * times

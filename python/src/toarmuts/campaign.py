@@ -1,0 +1,308 @@
+"""Campaigns: many random runs of a target, seed by seed, over processes of this machine or over Dask.
+
+    toarmuts-campaign TARGET --seeds 0:400 --jobs 4 --found found
+    toarmuts-campaign TARGET --seeds 17:18               one seed again
+
+TARGET is ``module:name`` or ``file.py:name``: an object or a class with ``draw(chance)``, which makes a :class:`Case` from a
+``random.Random``, and ``check(run)``, which answers what is wrong with a run, or None. A seed gives the same runs, wherever it is
+carried out: files and figures of what was found don't depend on how many processes there are. What fails is made smaller, and kept as
+a scenario file that ``./scenario`` carries out as told.
+"""
+from __future__ import annotations
+
+import argparse
+import importlib
+import importlib.util
+import multiprocessing
+import os
+import pathlib
+import random
+import re
+import sys
+import time
+from collections.abc import Iterable, Iterator
+from dataclasses import dataclass, field
+from typing import Any, Protocol
+
+from .coverage import Cell, Coverage
+from .errors import ApplicationError, BadScenario, ToarmutsError
+from .runs import Run
+from .shrinking import Case, make_case, shrink
+
+__all__ = ["Case", "Found", "Target", "Unit", "carry_out_seed", "main", "make_case"]
+
+
+class Target(Protocol):
+    """What a campaign searches."""
+
+    def draw(self, chance: random.Random) -> Case:
+        """A case, made by this generator of random numbers alone."""
+
+    def check(self, run: Run) -> str | None:
+        """What is wrong with a run, in words that are the same for the same fault; None where nothing is."""
+
+
+@dataclass(frozen=True)
+class Found:
+    """A fault that a seed found: the text of the smallest file, and whether that is a scenario."""
+
+    fault: str
+    seed: int
+    text: str
+    is_scenario: bool
+
+
+@dataclass
+class Unit:
+    """What a seed came to."""
+
+    seed: int
+    runs: int = 0
+    lines: int = 0
+    processor_seconds: float = 0.0
+    found: dict[str, Found] = field(default_factory=dict)
+    coverage: dict[Cell, int] = field(default_factory=dict)
+
+
+class CampaignError(ToarmutsError):
+    """Words of the command line that name no target."""
+
+
+def load_target(name: str) -> Target:
+    """The target that ``module:name`` or ``file.py:name`` names."""
+    module_name, _, attribute = name.rpartition(":")
+    if not module_name:
+        raise CampaignError(f"{name} names no target: module:name or file.py:name is wanted")
+    try:
+        module = _load_file(module_name) if module_name.endswith(".py") else _load_module(module_name)
+        made = getattr(module, attribute)
+    except (ImportError, FileNotFoundError, AttributeError) as fault:
+        raise CampaignError(f"{name} names no target: {fault}") from fault
+    target: Any = made() if isinstance(made, type) else made
+    if not callable(getattr(target, "draw", None)) or not callable(getattr(target, "check", None)):
+        raise CampaignError(f"{name} is no target: it has no draw(chance) and check(run)")
+    checked: Target = target
+    return checked
+
+
+def _load_module(name: str) -> Any:
+    if os.getcwd() not in sys.path:
+        sys.path.insert(0, os.getcwd())
+    return importlib.import_module(name)
+
+
+def _load_file(path: str) -> Any:
+    place = pathlib.Path(path).resolve()
+    name = f"toarmuts_target_{place.stem}"
+    if name in sys.modules and sys.modules[name].__file__ == str(place):
+        return sys.modules[name]
+    spec = importlib.util.spec_from_file_location(name, place)
+    if spec is None or spec.loader is None or not place.exists():
+        raise FileNotFoundError(f"no such file: {path}")
+    module = importlib.util.module_from_spec(spec)
+    sys.modules[name] = module
+    spec.loader.exec_module(module)
+    return module
+
+
+def fault_of(target: Target, case: Case) -> tuple[str | None, Run | None]:
+    """What is wrong with a case's run, and the run; an application that raises is a fault."""
+    try:
+        run = case.run()
+    except ApplicationError as fault:
+        return f"process {fault.process} fails: {fault.reason}", None
+    return target.check(run), run
+
+
+def carry_out_seed(name: str, seed: int, count: int, cover: bool) -> Unit:
+    """So many cases from a seed. Each has a generator of its own, so none depends on those before it."""
+    target = load_target(name)
+    unit, coverage = Unit(seed), Coverage()
+    began = time.process_time()
+    for number in range(count):
+        case = target.draw(random.Random(f"{seed}/{number}"))
+        fault, run = fault_of(target, case)
+        unit.runs += 1
+        if run is not None:
+            unit.lines += run.transcript.count(b"\n")
+            if cover:
+                coverage.add(run.entries)
+        if fault is not None and fault not in unit.found:
+            unit.found[fault] = _keep(target, case, fault, f"{name}, seed {seed}, case {number}", seed)
+    unit.processor_seconds, unit.coverage = time.process_time() - began, dict(coverage)
+    return unit
+
+
+def _keep(target: Target, case: Case, fault: str, where: str, seed: int) -> Found:
+    """Makes a failing case smaller, and writes it as a file."""
+    small, tries = shrink(case, lambda smaller: _fails(target, smaller, fault))
+    comment = f"{fault}\n{where}, made smaller by {tries} runs"
+    try:
+        run = small.run()
+    except ApplicationError as raised:
+        return Found(fault, seed, f"# {comment}\n{raised}\n{raised.transcript}", False)
+    try:
+        return Found(fault, seed, run.scenario(comment=comment), True)
+    except BadScenario as reason:
+        return Found(fault, seed, f"# {comment}\n# no scenario can tell it: {reason}\n{run.text}", False)
+
+
+def _fails(target: Target, case: Case, fault: str) -> bool:
+    try:
+        return fault_of(target, case)[0] == fault
+    except ToarmutsError:
+        return False
+
+
+@dataclass(frozen=True)
+class _Work:
+    """A seed to be carried out, as one argument, so that it can be sent."""
+
+    name: str
+    count: int
+    cover: bool
+
+    def __call__(self, seed: int) -> Unit:
+        return carry_out_seed(self.name, seed, self.count, self.cover)
+
+
+def _by_processes(work: _Work, seeds: range, jobs: int) -> Iterator[Unit]:
+    if jobs == 1:
+        yield from map(work, seeds)
+        return
+    with multiprocessing.get_context("forkserver").Pool(jobs) as pool:
+        yield from pool.imap_unordered(work, seeds)
+
+
+def _by_dask(work: _Work, seeds: range, address: str, jobs: int) -> Iterator[Unit]:
+    try:
+        distributed: Any = importlib.import_module("distributed")
+    except ImportError:
+        raise CampaignError("there is no distributed: apt-get install python3-distributed") from None
+    local = address == "local"
+    cluster = distributed.LocalCluster(n_workers=jobs, threads_per_worker=1, dashboard_address=None) if local else None
+    client = distributed.Client(cluster if local else address)
+    try:
+        for future in distributed.as_completed(client.map(work, seeds, pure=False)):
+            yield future.result()
+    finally:
+        client.close()
+        if cluster is not None:
+            cluster.close()
+
+
+class _Progress:
+    """Tells on standard error how far it is: on a terminal in one line, elsewhere every ten seconds."""
+
+    def __init__(self, seeds: int) -> None:
+        self._seeds, self._began = seeds, time.monotonic()
+        self._told = self._began
+        self._is_terminal = sys.stderr.isatty()
+
+    def tell(self, units: list[Unit]) -> None:
+        """After a unit."""
+        now = time.monotonic()
+        if now - self._told < (0.2 if self._is_terminal else 10) and len(units) < self._seeds:
+            return
+        self._told = now
+        runs, found = sum(unit.runs for unit in units), len({fault for unit in units for fault in unit.found})
+        words = f"{len(units)} of {self._seeds} seeds, {runs:,} runs, {found} faults, {now - self._began:.1f} s"
+        end = "\r" if self._is_terminal and len(units) < self._seeds else "\n"
+        print(words, end=end, file=sys.stderr, flush=True)
+
+
+def carry_out(units: Iterable[Unit], seeds: int) -> list[Unit]:
+    """All units, in the order of their seeds."""
+    progress, made = _Progress(seeds), []
+    for unit in units:
+        made.append(unit)
+        progress.tell(made)
+    return sorted(made, key=lambda unit: unit.seed)
+
+
+def smallest(units: list[Unit]) -> list[tuple[Found, int]]:
+    """For each fault its smallest file, and how many seeds found it."""
+    by_fault: dict[str, list[Found]] = {}
+    for unit in units:
+        for fault, found in unit.found.items():
+            by_fault.setdefault(fault, []).append(found)
+    return [(min(several, key=lambda found: (not found.is_scenario, len(found.text), found.seed)), len(several))
+            for _, several in sorted(by_fault.items())]
+
+
+def write_found(found: Found, folder: pathlib.Path, taken: set[str]) -> pathlib.Path:
+    """Writes a file that no other fault has."""
+    stem = name = re.sub(r"[^A-Za-z0-9]+", "-", found.fault).strip("-")[:60] or "fault"
+    number = 1
+    while name in taken:
+        number += 1
+        name = f"{stem}-{number}"
+    taken.add(name)
+    folder.mkdir(parents=True, exist_ok=True)
+    place = folder / (name + (".scenario" if found.is_scenario else ".txt"))
+    place.write_text(found.text, encoding="utf-8")
+    return place
+
+
+def _seeds(word: str) -> range:
+    found = re.fullmatch(r"(\d+):(\d+)", word)
+    if found is None or int(found[1]) >= int(found[2]):
+        raise argparse.ArgumentTypeError(f"{word} is no range of seeds; 0:100 is one, of 100 seeds")
+    return range(int(found[1]), int(found[2]))
+
+
+def _positive(word: str) -> int:
+    if not word.isdigit() or int(word) == 0:
+        raise argparse.ArgumentTypeError(f"{word} is no number from 1 on")
+    return int(word)
+
+
+def _parser() -> argparse.ArgumentParser:
+    assert __doc__ is not None
+    words = argparse.ArgumentParser(prog="toarmuts-campaign", description=__doc__, formatter_class=argparse.RawDescriptionHelpFormatter)
+    words.add_argument("target", metavar="TARGET", help="module:name or file.py:name")
+    words.add_argument("--seeds", type=_seeds, default=range(100), metavar="A:B", help="from A up to, and without, B (0:100)")
+    words.add_argument("--count", type=_positive, default=100, metavar="N", help="runs for each seed (100)")
+    words.add_argument("--jobs", type=_positive, default=os.cpu_count() or 1, metavar="N", help="processes (as many as processors)")
+    words.add_argument("--found", type=pathlib.Path, default=pathlib.Path("found"), metavar="FOLDER", help="where files go (found)")
+    words.add_argument("--dask", metavar="ADDRESS", help="a Dask scheduler's address, or `local`")
+    words.add_argument("--coverage", action="store_true", help="tells which calls, refusals and events were reached")
+    return words
+
+
+def _report(units: list[Unit], asked: argparse.Namespace, seconds: float) -> int:
+    """Tells what was found, and how fast; the status is answered."""
+    faults = smallest(units)
+    taken: set[str] = set()
+    for found, seeds in faults:
+        place = write_found(found, asked.found, taken)
+        print(f"{found.fault}: found by {seeds} of {len(units)} seeds; the smallest, of seed {found.seed}: {place}")
+    if asked.coverage:
+        coverage = Coverage()
+        for unit in units:
+            coverage.update(unit.coverage)
+        print(coverage.table())
+    runs, lines = sum(unit.runs for unit in units), sum(unit.lines for unit in units)
+    processor = sum(unit.processor_seconds for unit in units)
+    print(f"{len(units)} seeds, {runs:,} runs, {lines:,} lines, {len(faults)} faults")
+    print(f"{seconds:.1f} s, {runs / seconds:,.0f} runs a second, {processor / runs * 1e6:,.0f} us of a processor for each", file=sys.stderr)
+    return 1 if faults else 0
+
+
+def main(words: list[str] | None = None) -> int:
+    """The program ``toarmuts-campaign``; its status is 0 where nothing was found, 1 where something was, 2 for wrong words."""
+    asked = _parser().parse_args(words)
+    work = _Work(asked.target, asked.count, asked.coverage)
+    began = time.monotonic()
+    try:
+        load_target(asked.target)
+        units = _by_dask(work, asked.seeds, asked.dask, asked.jobs) if asked.dask else _by_processes(work, asked.seeds, asked.jobs)
+        made = carry_out(units, len(asked.seeds))
+    except CampaignError as fault:
+        print(f"toarmuts-campaign: {fault}", file=sys.stderr)
+        return 2
+    return _report(made, asked, time.monotonic() - began)
+
+
+if __name__ == "__main__":
+    sys.exit(main())

@@ -1,0 +1,67 @@
+"""The first line in which two transcripts differ."""
+from __future__ import annotations
+
+from dataclasses import dataclass
+from typing import Union
+
+from .errors import ToarmutsError
+from .transcript import Transcript
+
+
+@dataclass(frozen=True)
+class Difference:
+    """A line that differs. Where a transcript ends before it, its text is None.
+
+    >>> told = first_difference("> tick 1\\nnote lost 12\\n", "> tick 1\\nnote lost 1\\n")
+    >>> print(told)
+    line 2 of the transcript differs, at clock 1
+              > tick 1
+    wanted:   note lost 12
+              the frame was lost: memory has no room for so many bytes
+    found:    note lost 1
+              the frame was lost: the event queue has no free place; of a frame: 8 are held
+    """
+
+    line: int
+    """Its number, from 1 on."""
+    wanted: str | None
+    found: str | None
+    before: tuple[str, ...]
+    """The lines before it, three at most."""
+    clock: int
+    """The ticks since boot where it stands, by the ticks that stand above it."""
+
+    def __str__(self) -> str:
+        told = [f"line {self.line} of the transcript differs, at clock {self.clock}", *(f"          {line}" for line in self.before)]
+        for name, text in (("wanted:   ", self.wanted), ("found:    ", self.found)):
+            told += [name + ("the transcript ends" if text is None else text), *_in_words(text)]
+        return "\n".join(told)
+
+
+def _in_words(text: str | None) -> list[str]:
+    """The line in words, if it is one of a transcript."""
+    if not text:
+        return []
+    try:
+        return ["          " + Transcript(text)[0].explain()]
+    except (ToarmutsError, ValueError):
+        return ["          (no line of a transcript)"]
+
+
+def _lines(transcript: Union[str, bytes, Transcript]) -> list[str]:
+    if isinstance(transcript, Transcript):
+        transcript = transcript.data
+    text = transcript.decode("utf-8", "replace") if isinstance(transcript, bytes) else transcript
+    lines = text.split("\n")
+    return lines if lines[-1] else lines[:-1]
+
+
+def first_difference(wanted: Union[str, bytes, Transcript], found: Union[str, bytes, Transcript]) -> Difference | None:
+    """The first line in which two transcripts differ, or None where they are the same."""
+    ours, theirs = _lines(wanted), _lines(found)
+    if ours == theirs:
+        return None
+    place = next((at for at, (one, other) in enumerate(zip(ours, theirs)) if one != other), min(len(ours), len(theirs)))
+    clock = sum(int(line[7:]) for line in theirs[:place] if line.startswith("> tick ") and line[7:].isdigit())
+    return Difference(place + 1, ours[place] if place < len(ours) else None, theirs[place] if place < len(theirs) else None,
+                      tuple(theirs[max(0, place - 3):place]), clock)

@@ -1,0 +1,101 @@
+"""What can go wrong. Each exception of this package is a :class:`ToarmutsError`, and a ``ValueError`` or ``TypeError`` where one fits.
+
+A run that the mote ends itself (a line of no form, a halt, a script that is too long) has a transcript: it is a result and no
+error. :meth:`toarmuts.Run.check` makes it one.
+"""
+from __future__ import annotations
+
+from typing import TYPE_CHECKING, Sequence
+
+if TYPE_CHECKING:
+    from .runs import Run
+    from .values import Stimulus
+
+
+class ToarmutsError(Exception):
+    """Anything that this package refuses."""
+
+
+class WrongType(ToarmutsError, TypeError):
+    """An argument is of another type than it is to be."""
+
+
+class BadCall(ToarmutsError, ValueError):
+    """Words or arguments that are no call: no such call, too few or too many words, a number out of its range.
+
+    ``reason`` is the message without the words; ``place`` counts the calls of a list from 1 on, where it is one of a list.
+    """
+
+    def __init__(self, reason: str, words: str | None = None, place: int | None = None) -> None:
+        super().__init__(reason if words is None else f"{words!r}: {reason}")
+        self.reason, self.place = reason, place
+
+
+class BadInput(ToarmutsError, ValueError):
+    """An input that is none: ticks or bytes out of range, or a line of a script that has no form."""
+
+
+class BadSizes(ToarmutsError, ValueError):
+    """No mote boots with these sizes. ``faults`` tells of each what is wrong with it."""
+
+    def __init__(self, faults: Sequence[str]) -> None:
+        super().__init__("; ".join(faults))
+        self.faults = tuple(faults)
+
+
+class NoApplication(ToarmutsError, ValueError):
+    """An application is none: ``number`` counts from 1, ``process`` is what it would have been, ``call`` counts from 1 too."""
+
+    def __init__(self, number: int, text: str, reason: str, call: int | None = None) -> None:
+        place = f", call {call}" if call is not None else ""
+        super().__init__(f"application {number} (process {number + 3}){place}: {reason}")
+        self.number, self.text, self.reason, self.call = number, text, reason, call
+        self.process = number + 3
+
+
+class TooManyApplications(ToarmutsError, ValueError):
+    """A mote has at most 16."""
+
+
+class OutOfMemory(ToarmutsError, MemoryError):
+    """The library was refused memory."""
+
+
+class LibraryError(ToarmutsError, ImportError):
+    """The library isn't there, or is another than this package was made for."""
+
+
+class RunEnded(ToarmutsError):
+    """A run did not carry its script out. ``run`` is that run."""
+
+    def __init__(self, message: str, run: "Run") -> None:
+        super().__init__(message)
+        self.run = run
+
+
+class ApplicationError(ToarmutsError):
+    """An application in Python raised an exception, which is ``__cause__``, or answered no call.
+
+    ``process`` and ``stimulus`` tell which turn it was, ``transcript`` what came before it. The mote still awaits a call for
+    that turn.
+    """
+
+    def __init__(self, process: int, stimulus: "Stimulus", reason: str, transcript: str) -> None:
+        super().__init__(f"process {process}, told {stimulus!r}: {reason}")
+        self.process, self.stimulus, self.reason, self.transcript = process, stimulus, reason, transcript
+
+
+class MoteError(ToarmutsError):
+    """A mote can't do this now: it is closed, it was halted, or it awaits a call."""
+
+
+class BadScenario(ToarmutsError, ValueError):
+    """A file of no form (docs/scenarios.md), or a run that no such file can tell."""
+
+
+class BadTranscript(ToarmutsError, ValueError):
+    """A line that is no line of a transcript."""
+
+
+class NoPicture(ToarmutsError):
+    """The program that draws pictures isn't there, or refused this run."""

@@ -1,0 +1,138 @@
+"""The compiled library: by cffi where the package was built so, else by ctypes. Each call lets other threads run meanwhile."""
+from __future__ import annotations
+
+import functools
+import hashlib
+import json
+import os
+import pathlib
+import warnings
+from typing import Any, Protocol
+
+from .errors import LibraryError
+
+HERE = pathlib.Path(__file__).resolve().parent
+MAKE = "`./prove toarmuts` in the repository, and then `pip install ./python`, make it"
+
+# Statuses of toarmuts.h beside those of a run's end.
+NOT_TEXT, NO_APPLICATION, TOO_MANY_APPLICATIONS, BAD_SIZES, NO_ROOM, OUT_OF_MEMORY = range(16, 22)
+CLOSED, IS_OPEN, AWAITS_CALL, NO_TURN, NOT_AT_REST, NO_CALL, NO_INPUT, TOO_MANY_INPUTS, NO_LINE = range(22, 31)
+
+FIRST_ROOM = 1 << 16
+MOST_ROOM_KEPT = 1 << 24
+
+ROW_SIZE = 56
+ADVANCE_SIZE = 1488
+
+Configuration = tuple[int, int, int, int, int, int]
+"""mmem, heap, header, whether there is a quota, quota, quiet: ``struct toarmuts_configuration``."""
+
+
+class Held(Protocol):
+    """A mote of the library."""
+
+    advance_bytes: bytearray
+    """``struct advance`` of native/advance.h, as the last advance left it."""
+
+    def feed(self, line: bytes) -> int:
+        """Hands in a line of a script; the status is answered."""
+
+    def feed_input(self, kind: int, ticks: int, data: bytes) -> int:
+        """Hands in an input; the status is answered."""
+
+    def advance(self, call: bytes) -> None:
+        """Hands in a call, if it has a kind, and works on; ``advance_bytes`` tells what came of it."""
+
+    def clock(self) -> int:
+        """The ticks since boot."""
+
+    def close(self) -> int:
+        """Gives the memory back."""
+
+
+class Library(Protocol):
+    """The calls of the library."""
+
+    backend: str
+
+    def run(self, configuration: Configuration, applications: bytes, script: bytes) -> tuple[int, int, bytes]:
+        """Status, line and transcript of ``toarmuts_run``."""
+
+    def table(self, text: bytes, rows: bytearray) -> int:
+        """Fills in the rows of a transcript's table, and answers how many there are."""
+
+    def open(self, configuration: Configuration, applications: int) -> tuple[int, Held]:
+        """Opens a mote that goes step by step."""
+
+
+def _by_cffi() -> Library:
+    from .by_cffi import CffiLibrary
+
+    return CffiLibrary()
+
+
+def _by_ctypes() -> Library:
+    from .by_ctypes import CtypesLibrary
+
+    return CtypesLibrary(_shared_library())
+
+
+def _shared_library() -> pathlib.Path:
+    """The library for ctypes: what TOARMUTS_LIBRARY names, or what was built with the package."""
+    named = os.environ.get("TOARMUTS_LIBRARY")
+    if named is not None:
+        if not os.path.exists(named):
+            raise LibraryError(f"TOARMUTS_LIBRARY names {named}, which isn't there; {MAKE}")
+        return pathlib.Path(named)
+    found = sorted(HERE.glob("_library*.so"))
+    if not found:
+        raise LibraryError(f"toarmuts: the compiled library isn't in {HERE}; {MAKE}")
+    return found[0]
+
+
+def _choose() -> Library:
+    asked = os.environ.get("TOARMUTS_BACKEND", "")
+    if asked not in ("", "cffi", "ctypes"):
+        raise LibraryError(f"TOARMUTS_BACKEND is {asked!r}; cffi or ctypes is allowed")
+    by_cffi = asked == "cffi" or (not asked and "TOARMUTS_LIBRARY" not in os.environ and any(HERE.glob("_native*.so")))
+    try:
+        return _by_cffi() if by_cffi else _by_ctypes()
+    except LibraryError:
+        raise
+    except (ImportError, OSError, AttributeError) as fault:
+        raise LibraryError(f"toarmuts: the compiled library can't be taken: {fault}; {MAKE}") from fault
+
+
+@functools.lru_cache(maxsize=None)
+def library() -> Library:
+    """The library, loaded once."""
+    loaded = _choose()
+    if "TOARMUTS_LIBRARY" not in os.environ:
+        _warn_where_stale()
+    return loaded
+
+
+def _note() -> dict[str, Any]:
+    """What the build noted; nothing where the package is used in its repository."""
+    try:
+        told: dict[str, Any] = json.loads((HERE / "built.json").read_text(encoding="utf-8"))
+    except OSError:
+        return {}
+    return told
+
+
+def repository() -> pathlib.Path | None:
+    """The repository that the package was built from, where it is still there; TOARMUTS_REPOSITORY may name another."""
+    named = os.environ.get("TOARMUTS_REPOSITORY") or _note().get("repository")
+    folders = [pathlib.Path(named)] if named else list(HERE.parents)
+    return next((folder for folder in folders if (folder / "crates" / "toarmuts").is_dir()), None)
+
+
+def _warn_where_stale() -> None:
+    """Warns where the repository has another library by now than the one that was built in."""
+    note, root = _note(), repository()
+    if root is None or "library" not in note:
+        return
+    made = root / "crates/toarmuts/out/libtoarmuts.a"
+    if made.exists() and hashlib.sha256(made.read_bytes()).hexdigest() != note["library"]:
+        warnings.warn(f"toarmuts was built over another library than {made}: `pip install {root}/python` builds it anew", stacklevel=2)

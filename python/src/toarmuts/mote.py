@@ -1,0 +1,197 @@
+"""A mote in hand: inputs are handed in one by one, and each gives the entries that follow."""
+from __future__ import annotations
+
+import threading
+from collections.abc import Callable, Iterable
+
+from .applications import Application, ApplicationLike, read_applications
+from .call import Call
+from .errors import BadInput, MoteError, WrongType
+from .library import CLOSED
+from .options import Options
+from .rules import FIRST_PROCESS
+from .runs import Run
+from .script import (MOST_FRAME, MOST_SERIAL, MOST_TICKS, ScriptLike, check_data, check_ticks, has_form, line_bytes, script_bytes,
+                     script_lines)
+from .stepper import BAD_LINE, Stepper, refuse
+from .transcript import Transcript
+from .values import Status, Stimulus
+
+
+class Mote:
+    """A mote that was booted, and takes inputs one by one.
+
+    Applications are those of :func:`toarmuts.run`. Each input answers the entries that follow, its own first.
+
+    >>> mote = Mote(["blink", "echo"])
+    >>> for entry in mote.tick(10):
+    ...     print(entry)
+    > tick 10
+    4 event 136 0 -> print 6f6e0a
+    4 answer done -> timer-reset 0
+    4 answer done -> wait
+    >>> mote.text("hi").printed(), mote.clock
+    (b'hi', 10)
+
+    Where an application raises, the mote is left as it was: that turn goes on awaiting its call (:attr:`awaiting`), which
+    :meth:`answer` hands in, or :meth:`resume` asks for again. One thread at a time may use a mote.
+    """
+
+    def __init__(self, applications: Iterable[ApplicationLike] = (), *, mmem: int = 4096, heap: int = 4096, header: int = 16,
+                 quota: int | None = None) -> None:
+        self.options = Options(mmem=mmem, heap=heap, header=header, quota=quota)
+        self._named = read_applications(applications)
+        self._lock = threading.Lock()
+        self._stepper = Stepper(self._named, self.options)
+        self._script: list[bytes] = []
+        self._closed = False
+        self.booted = self._do(self._stepper.work)
+        """The entries of the boot."""
+
+    def _do(self, work: Callable[[], None]) -> Transcript:
+        """Carries something out, and answers the entries that it made."""
+        if not self._lock.acquire(blocking=False):
+            raise MoteError("the mote is at work: an application can't hand in inputs, and two threads can't share a mote")
+        try:
+            stepper = self._stepper
+            place, before, clock = len(stepper.lines), stepper.line_count, stepper.held.clock()
+            work()
+            return Transcript(b"".join(stepper.lines[place:]), lines_before=before, clock_before=clock)
+        finally:
+            self._lock.release()
+
+    def _feed_input(self, kind: int, ticks: int, data: bytes, line: str) -> Transcript:
+        def work() -> None:
+            status = self._stepper.held.feed_input(kind, ticks, data)
+            if status:
+                raise refuse(status)
+            self._script.append(line.encode())
+            self._stepper.work()
+
+        return self._do(work)
+
+    def tick(self, ticks: int = 1) -> Transcript:
+        """The clock goes on by so many ticks, 0 to 4,294,967,295."""
+        return self._feed_input(0, check_ticks(ticks), b"", f"tick {ticks}")
+
+    def at(self, clock: int) -> Transcript:
+        """The ticks up to this clock; nothing where it stands there."""
+        if isinstance(clock, bool) or not isinstance(clock, int):
+            raise WrongType(f"clock is to be an int, not {type(clock).__name__}")
+        now = self.clock
+        if not now <= clock <= now + MOST_TICKS:
+            raise BadInput(f"at {clock}: the clock stands at {now}" + (" already" if clock < now else ""))
+        return self.tick(clock - now) if clock > now else self._do(lambda: None)
+
+    def serial(self, data: bytes) -> Transcript:
+        """1 to 256 bytes come in on the serial line."""
+        made = check_data("serial", data, MOST_SERIAL)
+        return self._feed_input(1, 0, made, f"serial {made.hex()}")
+
+    def text(self, line: str | bytes) -> Transcript:
+        """These bytes and a line end come in on the serial line."""
+        return self.serial(line_bytes(line))
+
+    def frame(self, data: bytes) -> Transcript:
+        """A frame of 1 to 127 bytes comes in."""
+        made = check_data("frame", data, MOST_FRAME)
+        return self._feed_input(2, 0, made, f"frame {made.hex()}")
+
+    def feed(self, line: str) -> Transcript:
+        """A line of a script (docs/transcript.md); a comment or an empty line does nothing."""
+        if not isinstance(line, str):
+            raise WrongType(f"a line of a script is to be a str, not {type(line).__name__}")
+        if "\n" in line or not has_form(line):
+            raise BadInput(f"{line[:100]!r} is no line of a script")
+        return self._do(lambda: self._feed_line(line.encode()))
+
+    def _feed_line(self, line: bytes) -> None:
+        status = self._stepper.held.feed(line)
+        if status == BAD_LINE:
+            raise BadInput(f"{line[:100]!r} is no line of a script")
+        if status:
+            raise refuse(status)
+        self._script.append(line)
+        self._stepper.work()
+
+    def run(self, script: ScriptLike) -> Transcript:
+        """All lines of a script, each to rest. A line of no form is refused; those before it were carried out."""
+        lines = script_lines(script_bytes(script))
+
+        def work() -> None:
+            for line in lines:
+                self._feed_line(line)
+
+        return self._do(work)
+
+    def answer(self, call: Call) -> Transcript:
+        """Hands in a call for the turn that awaits one, in place of its application."""
+        if not isinstance(call, Call):
+            raise WrongType(f"answer takes a Call, not {type(call).__name__}")
+        return self._do(lambda: self._stepper.work(call))
+
+    def resume(self) -> Transcript:
+        """Goes on where an application failed: it is asked again."""
+        return self._do(self._stepper.resume)
+
+    @property
+    def awaiting(self) -> tuple[int, Stimulus] | None:
+        """The process whose turn awaits a call since its application failed, and what it was told; else None."""
+        return self._stepper.awaiting
+
+    @property
+    def entries(self) -> Transcript:
+        """All entries so far."""
+        return Transcript(self._stepper.text())
+
+    @property
+    def transcript(self) -> bytes:
+        """The text of all entries so far."""
+        return self._stepper.text()
+
+    @property
+    def clock(self) -> int:
+        """The ticks since boot."""
+        if self.closed:
+            raise refuse(CLOSED)
+        return self._stepper.held.clock()
+
+    @property
+    def halted(self) -> bool:
+        """Whether the mote was halted: the turns and rounds of an input reached 10,000."""
+        return self._stepper.halted
+
+    def application(self, process: int) -> Application:
+        """The application of a process, from 4 on, as it is now."""
+        if not FIRST_PROCESS <= process < FIRST_PROCESS + len(self._named):
+            last = FIRST_PROCESS + len(self._named) - 1
+            raise WrongType(f"there is no process {process}; there are {FIRST_PROCESS} to {last}" if self._named
+                            else "the mote has no applications")
+        return self._stepper.applications[process - FIRST_PROCESS]
+
+    def so_far(self) -> "Run":
+        """The run so far: its script, its transcript, and what can be made of them."""
+        script = b"".join(line + b"\n" for line in self._script)
+        status = Status.HALTED if self.halted else Status.FINISHED
+        return Run(tuple(self._named), script, self.options, status, None, self.transcript)
+
+    @property
+    def closed(self) -> bool:
+        """Whether it was closed."""
+        return self._closed
+
+    def close(self) -> None:
+        """Gives the mote's memory back. Its entries stay; a second time does nothing."""
+        if not self._closed:
+            self._closed = True
+            self._stepper.held.close()
+
+    def __enter__(self) -> "Mote":
+        return self
+
+    def __exit__(self, *_: object) -> None:
+        self.close()
+
+    def __repr__(self) -> str:
+        names = ", ".join(named.told for named in self._named)
+        return f"<Mote of {names or 'no applications'}{', closed' if self._closed else f', clock {self.clock}'}>"

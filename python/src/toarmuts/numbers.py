@@ -1,0 +1,92 @@
+"""The numbers of a transcript by their names.
+
+Written by python/generate.py from rules.json: change that file, and run the program again.
+
+>>> Refusal(12).name
+'NO_ROOM'
+"""
+from __future__ import annotations
+
+import enum
+
+__all__ = ["EventCode", "Origin", "Refusal", "ReplyKind"]
+
+
+class Refusal(enum.IntEnum):
+    """Why a call is refused, or a frame is lost (docs/transcript.md)."""
+
+    FULL = 1
+    """The event queue has no free place; of a frame: 8 are held."""
+    NOT_RUNNING = 2
+    """The process does not run."""
+    ALREADY = 3
+    """It is so already: started, or the receiver."""
+    BUSY = 4
+    """Another activation stands in the way, or another process is the receiver."""
+    RESERVED = 5
+    """The event code is the kernel's own."""
+    NO_EVENT = 6
+    """All event numbers were drawn."""
+    BAD_NAME = 7
+    """No process, timer, handle, block, pool or list has that name."""
+    IN_USE = 8
+    """The handle or block is in use."""
+    NOT_LIVE = 9
+    """The handle or block is not live."""
+    EMPTY = 10
+    """The list is empty, or the block is its last."""
+    RANGE = 11
+    """A length or a range that is none here."""
+    NO_ROOM = 12
+    """Memory has no room for so many bytes."""
+    NO_BLOCK = 13
+    """The pool has no unused block."""
+    LINKED = 14
+    """The block is in a list, or in the pool's other list."""
+    NOT_LINKED = 15
+    """The block is not in that list."""
+    NO_PACKET = 16
+    """No frame is held."""
+    NOT_RECEIVER = 17
+    """The caller is not the receiver."""
+    OVER_QUOTA = 18
+    """With quotas: the process's own quota has no room for so many bytes of managed memory."""
+
+
+class EventCode(enum.IntEnum):
+    """The events of the kernel; applications draw 140 to 255."""
+
+    NONE = 128
+    INIT = 129
+    POLL = 130
+    EXIT = 131
+    SERVICE_REMOVED = 132
+    CONTINUE = 133
+    MSG = 134
+    EXITED = 135
+    TIMER = 136
+    COM = 137
+    SERIAL_LINE = 138
+    PACKET = 139
+
+
+class Origin(enum.IntEnum):
+    """Where a stimulus comes from."""
+
+    EVENT = 0
+    SYNCH = 1
+    POLL = 2
+    CALLBACK = 3
+    ANSWER = 4
+
+
+class ReplyKind(enum.IntEnum):
+    """The kinds of answers to calls."""
+
+    DONE = 0
+    REFUSED = 1
+    NUM = 2
+    WIDE = 3
+    FLAG = 4
+    BYTES = 5
+    STATS = 6

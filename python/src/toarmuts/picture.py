@@ -1,0 +1,92 @@
+"""Pictures of runs, by the program ``mote_picture``, and pages in HTML."""
+from __future__ import annotations
+
+import html
+import os
+import pathlib
+import shutil
+import subprocess
+from typing import TYPE_CHECKING, Iterator
+
+from .errors import NoPicture
+from .library import repository
+from .transcript import Input, Turn
+
+if TYPE_CHECKING:
+    from .runs import Run
+
+LIMIT = 120
+_STYLE = """body { font: 14px sans-serif; margin: 2em; max-width: 100em }
+table { border-collapse: collapse } td, th { padding: 1px 8px; text-align: left; vertical-align: top }
+td.text, pre { font-family: monospace } tr.input { background: #e8f0fe } tr.refused { color: #b00020 } svg { max-width: 100% }"""
+
+
+def program() -> pathlib.Path | None:
+    """The program: what TOARMUTS_PICTURE names, what the repository has built, or ``mote_picture`` in PATH."""
+    named = os.environ.get("TOARMUTS_PICTURE")
+    if named:
+        return pathlib.Path(named)
+    root = repository()
+    built = root / "crates/mote_picture/out/mote_picture" if root is not None else None
+    if built is not None and os.access(built, os.X_OK):
+        return built
+    found = shutil.which("mote_picture")
+    return pathlib.Path(found) if found else None
+
+
+def _words(run: "Run", first: int | None, last: int | None, unfolded: bool) -> list[str]:
+    words = [word for word in run.options.words() if word != "--quiet"]
+    words += ["--from", str(first)] if first is not None else []
+    words += ["--to", str(last)] if last is not None else []
+    words += ["--unfolded"] if unfolded else []
+    return [*words, "--", *(named.told for named in run.named)]
+
+
+def draw(run: "Run", *, first: int | None = None, last: int | None = None, unfolded: bool = False) -> str:
+    """The picture of a run as SVG; NoPicture tells why there is none."""
+    made_by = program()
+    if made_by is None:
+        raise NoPicture("the program that draws pictures isn't built: `./prove mote_picture` in the repository proves and builds it")
+    try:
+        done = subprocess.run([str(made_by), *_words(run, first, last, unfolded)], input=run.transcript, capture_output=True, timeout=LIMIT,
+                              check=False)
+    except (OSError, subprocess.TimeoutExpired) as fault:
+        raise NoPicture(f"{made_by}: {fault}") from fault
+    if done.returncode:
+        raise NoPicture(f"{made_by} ended with {done.returncode}: {done.stderr.decode('utf-8', 'replace').strip()}")
+    return done.stdout.decode("utf-8")
+
+
+def draw_if_built(run: "Run") -> str | None:
+    """The picture of a run, or None where there is none."""
+    try:
+        return draw(run)
+    except NoPicture:
+        return None
+
+
+def _rows(run: "Run") -> Iterator[str]:
+    clock: int | None = None
+    for entry in run.entries:
+        shown = entry.clock if entry.clock != clock else None
+        clock = entry.clock
+        kind = "input" if isinstance(entry, Input) else "refused" if isinstance(entry, Turn) and entry.refusal is not None else ""
+        cells = ["" if shown is None else str(shown), str(entry.line), entry.text, entry.explain()]
+        text = "".join(f"<td{' class=text' if place == 2 else ''}>{html.escape(cell)}</td>" for place, cell in enumerate(cells))
+        yield f'<tr class="{kind}">{text}</tr>' if kind else f"<tr>{text}</tr>"
+
+
+def page(run: "Run", title: str = "") -> str:
+    """A page in HTML that stands alone."""
+    try:
+        picture = draw(run)
+    except NoPicture as fault:
+        picture = f"<p>There is no picture: {html.escape(str(fault))}</p>"
+    head = html.escape(title or f"A run of {', '.join(named.told for named in run.named) or 'no applications'}")
+    options = " ".join(run.options.words()) or "the usual sizes"
+    told = [f"<p>It ended with: {html.escape(run.ended)}. Options: {html.escape(options)}.</p>", "<h2>Applications</h2><ol start=4>"]
+    told += [f"<li><code>{html.escape(application)}</code></li>" for application in run.applications]
+    told += ["</ol><h2>Script</h2>", f"<pre>{html.escape(run.script.decode('utf-8', 'replace'))}</pre>", "<h2>Picture</h2>", picture,
+             "<h2>Transcript</h2><table><tr><th>Clock</th><th>Line</th><th>Text</th><th>In words</th></tr>", *_rows(run), "</table>"]
+    return (f"<!DOCTYPE html>\n<html lang=en><head><meta charset=utf-8><title>{head}</title><style>{_STYLE}</style></head>\n"
+            f"<body><h1>{head}</h1>\n" + "\n".join(told) + "\n</body></html>\n")

@@ -1,0 +1,129 @@
+"""The rules of calls, refusals and events, as ``rules.json`` has them.
+
+That file is the only place where they stand: the classes of :mod:`toarmuts.calls` and :mod:`toarmuts.numbers` are written
+from it by ``python/generate.py``, and the gate compares it with the sources of the mote and with ``docs/profile.md``.
+
+>>> RULES.calls["timer-set"].arguments
+('timer', 'interval')
+>>> RULES.calls["mmem-alloc"].refusals
+(7, 8, 11, 12, 18)
+"""
+from __future__ import annotations
+
+import json
+import pathlib
+from dataclasses import dataclass
+from typing import Any, Mapping
+
+PLACE = pathlib.Path(__file__).with_name("rules.json")
+
+
+@dataclass(frozen=True)
+class ArgumentRule:
+    """An argument of calls: its name, its letter in docs/profile.md, and the largest number where it is a number."""
+
+    name: str
+    profile: str
+    most: int | None
+    about: str
+
+
+@dataclass(frozen=True)
+class CallRule:
+    """A call: its word and number, its arguments, the refusals in the order of their checks, and the kind of its reply."""
+
+    name: str
+    kind: int
+    arguments: tuple[str, ...]
+    refusals: tuple[int, ...]
+    reply: str | None
+    about: str
+
+
+@dataclass(frozen=True)
+class RefusalRule:
+    """A refusal: its number in a transcript, a name, and what it means."""
+
+    number: int
+    name: str
+    about: str
+
+
+@dataclass(frozen=True)
+class EventRule:
+    """An event of the kernel: whether applications may not post it, and the origins with which a process is told it."""
+
+    name: str
+    code: int
+    reserved: bool
+    origins: tuple[str, ...]
+
+
+@dataclass(frozen=True)
+class SizeRule:
+    """A size of a mote, in bytes."""
+
+    name: str
+    least: int
+    most: int
+    multiple_of: int
+    one_of: tuple[int, ...]
+    default: int | None
+
+    def fault(self, size: int) -> str | None:
+        """Why no mote has this size, or None.
+
+        >>> RULES.sizes["mmem"].fault(6)
+        'mmem is 6, which is no multiple of 4'
+        """
+        if self.one_of:
+            allowed = " or ".join(map(str, self.one_of))
+            return None if size in self.one_of else f"{self.name} is {size}; {allowed} is allowed"
+        if not self.least <= size <= self.most:
+            return f"{self.name} is {size}; {self.least:,} to {self.most:,} is allowed"
+        return f"{self.name} is {size}, which is no multiple of {self.multiple_of}" if size % self.multiple_of else None
+
+
+@dataclass(frozen=True)
+class Rules:
+    """All rules of the file."""
+
+    applications: tuple[str, ...]
+    limits: Mapping[str, int]
+    sizes: Mapping[str, SizeRule]
+    arguments: Mapping[str, ArgumentRule]
+    calls: Mapping[str, CallRule]
+    replies: tuple[str, ...]
+    refusals: Mapping[int, RefusalRule]
+    origins: tuple[str, ...]
+    events: Mapping[int, EventRule]
+
+
+def _call(kind: int, row: dict[str, Any]) -> CallRule:
+    return CallRule(row["name"], kind, tuple(row["arguments"]), tuple(row["refusals"]), row["reply"], row["about"])
+
+
+def _size(row: dict[str, Any]) -> SizeRule:
+    one_of = tuple(row.get("one_of", ()))
+    return SizeRule(row["name"], row.get("least", 0), row.get("most", 0), row.get("multiple_of", 1), one_of, row["default"])
+
+
+def read_rules(place: pathlib.Path = PLACE) -> Rules:
+    """Reads the file."""
+    told = json.loads(place.read_text(encoding="utf-8"))
+    return Rules(
+        applications=tuple(told["applications"]),
+        limits=told["limits"],
+        sizes={row["name"]: _size(row) for row in told["sizes"]},
+        arguments={row["name"]: ArgumentRule(**row) for row in told["arguments"]},
+        calls={row["name"]: _call(kind, row) for kind, row in enumerate(told["calls"], 1)},
+        replies=tuple(told["replies"]),
+        refusals={row["number"]: RefusalRule(**row) for row in told["refusals"]},
+        origins=tuple(told["origins"]),
+        events={row["code"]: EventRule(row["name"], row["code"], row["reserved"], tuple(row["origins"])) for row in told["events"]},
+    )
+
+
+RULES = read_rules()
+FIRST_PROCESS = RULES.limits["first_process"]
+MOST_APPLICATIONS = RULES.limits["applications"]

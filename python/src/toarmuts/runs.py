@@ -1,0 +1,226 @@
+"""Whole runs: applications over a script, and what comes of it."""
+from __future__ import annotations
+
+from collections.abc import Iterable
+from dataclasses import dataclass
+from functools import cached_property
+
+from .applications import ApplicationLike, Named, read_applications
+from .calls import PacketSend, Print
+from .difference import Difference, first_difference
+from .errors import NoApplication, OutOfMemory, RunEnded, ToarmutsError, TooManyApplications, WrongType
+from .library import BAD_SIZES, NO_APPLICATION, TOO_MANY_APPLICATIONS, library
+from .options import Options
+from .rules import RULES
+from .script import ScriptLike, script_bytes, script_lines
+from .stepper import BAD_LINE, HALTED, Stepper, refuse
+from .transcript import Ending, Entry, Note, NoteKind, Transcript, Turn
+from .values import End, Status
+
+MOST_SCRIPT = RULES.limits["bytes_of_a_script"]
+
+_ENDS = {Status.FINISHED: End.FINISHED, Status.BAD_LINE: End.BAD_LINE, Status.HALTED: End.HALTED, Status.TOO_LONG: End.TOO_LONG}
+
+
+@dataclass(frozen=True, eq=False)
+class Run:
+    """A run: what it was made of, and what came out.
+
+    >>> run = run_applications(["blink"], "tick 10\\n")
+    >>> run.status, run.end
+    (<Status.FINISHED: 0>, <End.FINISHED: 'finished'>)
+    >>> run.entries[1].call, run.entries[1].answer
+    (Wait(), None)
+    """
+
+    named: tuple[Named, ...]
+    """The applications, as they were read."""
+    script: bytes
+    options: Options
+    status: Status
+    """How it ended."""
+    line: int | None
+    """The number of the script's line of no form; None where there is none."""
+    transcript: bytes
+    """The transcript as bytes."""
+
+    @property
+    def applications(self) -> tuple[str, ...]:
+        """The applications: their names, their lists of calls, the names of their classes or functions."""
+        return tuple(named.line if named.line is not None else named.told for named in self.named)
+
+    @property
+    def end(self) -> End:
+        """How it ended."""
+        return _ENDS[self.status]
+
+    @property
+    def ended(self) -> str:
+        """How it ended, as ``ends`` of a scenario tells it: with the number of a line of no form."""
+        return f"{self.end.value} {self.line}" if self.status is Status.BAD_LINE else self.end.value
+
+    @property
+    def finished(self) -> bool:
+        """Whether the script was carried out to its end."""
+        return self.status is Status.FINISHED
+
+    def check(self) -> "Run":
+        """Itself, where the script was carried out to its end; else RunEnded."""
+        if not self.finished:
+            raise RunEnded(f"the run ended with: {self.ended}", self)
+        return self
+
+    @property
+    def text(self) -> str:
+        """The transcript as text."""
+        return self.transcript.decode("ascii")
+
+    @cached_property
+    def entries(self) -> Transcript:
+        """The entries of the transcript, made when they are asked for."""
+        return Transcript(self.transcript, quiet=self.options.quiet)
+
+    def printed(self, process: int | None = None) -> bytes:
+        """What was printed, by one process or by all."""
+        return self.entries.printed(process)
+
+    def sent(self) -> list[bytes]:
+        """The frames that were sent."""
+        return self.entries.sent()
+
+    def difference(self, wanted: "str | bytes | Transcript | Run") -> Difference | None:
+        """The first line in which the transcript differs from another one, or None."""
+        return first_difference(wanted.entries if isinstance(wanted, Run) else wanted, self.entries)
+
+    def scenario(self, *, name: str | None = None, comment: str = "", transcript: bool = True) -> str:
+        """The text of a scenario file that tells this run (docs/scenarios.md). Applications in Python become the calls that they made."""
+        from .scenario import write
+
+        return write(self, name=name, comment=comment, transcript=transcript)
+
+    def svg(self, *, first: int | None = None, last: int | None = None, unfolded: bool = False) -> str:
+        """The picture of the run, by the program ``mote_picture``: from clock ``first`` to clock ``last``."""
+        from .picture import draw
+
+        return draw(self, first=first, last=last, unfolded=unfolded)
+
+    def _repr_svg_(self) -> str | None:
+        """The picture in a notebook; None where there is no program that draws it."""
+        from .picture import draw_if_built
+
+        return draw_if_built(self)
+
+    def page(self, title: str = "") -> str:
+        """A page in HTML: the picture, where it can be drawn, what was run, and each entry in words."""
+        from .picture import page
+
+        return page(self, title)
+
+    def __str__(self) -> str:
+        return self.text
+
+    def __repr__(self) -> str:
+        lines = self.transcript.count(b"\n")
+        return f"<Run of {', '.join(named.told for named in self.named) or 'no applications'}: {self.ended}, {lines} lines>"
+
+
+def run(applications: Iterable[ApplicationLike] = (), script: ScriptLike = "", *, mmem: int = 4096, heap: int = 4096, header: int = 16,
+        quota: int | None = None, quiet: bool = False, options: Options | None = None) -> Run:
+    """Runs applications over a script.
+
+    An application is a name (``"blink"``), a list of calls (``[TimerSet(0, 5), Wait(), Print(b"hi")]``, or as text
+    ``"calls timer-set 0 5, wait, print 6869"``), a class whose objects have ``turn(stimulus)``, such an object, or a generator function.
+    They are the processes 4, 5, .. in this order. The script is text, bytes or a :class:`Script`.
+
+    Sizes are those of the program ``mote``, in bytes; ``options`` gives them all in one. A run that a line of no form, a halt or
+    a script that is too long ended is a Run too; what could not be run raises a :class:`ToarmutsError`.
+
+    >>> run(["hello"]).text
+    '4 synch 129 - -> print 68690a\\n4 answer done -> wait\\n'
+    >>> run(["hello"], mmem=5)
+    Traceback (most recent call last):
+    toarmuts.errors.BadSizes: mmem is 5, which is no multiple of 4
+    """
+    given = Options(mmem, heap, header, quota, quiet)
+    if options is not None:
+        if not isinstance(options, Options):
+            raise WrongType(f"options is to be an Options, not {type(options).__name__}")
+        if given != Options():
+            raise WrongType("options and single sizes are given: one or the other")
+        given = options
+    named = read_applications(applications)
+    data = script_bytes(script)
+    if all(application.line is not None for application in named):
+        return _run_by_library(named, data, given)
+    return _run_step_by_step(named, data, given)
+
+
+run_applications = run
+
+
+def _run_by_library(named: list[Named], script: bytes, options: Options) -> Run:
+    lines = "".join(f"{application.line}\n" for application in named)
+    status, line, transcript = library().run(options.configuration(), lines.encode(), script)
+    if status > Status.TOO_LONG:
+        raise _refusal(status, line, named, options)
+    return Run(tuple(named), script, options, Status(status), line or None, transcript)
+
+
+def _refusal(status: int, line: int, named: list[Named], options: Options) -> ToarmutsError:
+    """The exception for a status that is none of a run's end; which size or application, the rules tell."""
+    if status == BAD_SIZES:
+        options.check(len(named))
+    if status == NO_APPLICATION:
+        text = named[line - 1].line or ""
+        return NoApplication(line, text, f"the library takes no application {text!r}")
+    if status == TOO_MANY_APPLICATIONS:
+        return TooManyApplications("a mote has at most 16 applications")
+    return OutOfMemory("memory was refused")
+
+
+def _run_step_by_step(named: list[Named], script: bytes, options: Options) -> Run:
+    stepper = Stepper(named, options)
+    try:
+        status, line = _carry_out(stepper, script)
+    finally:
+        stepper.held.close()
+    text = stepper.text()
+    if options.quiet:
+        text = _quiet(text)
+    if status is Status.BAD_LINE:
+        text += b"bad line %d\n" % line
+    elif status is Status.TOO_LONG:
+        text += b"too long\n"
+    return Run(tuple(named), script, options, status, line or None, text)
+
+
+def _carry_out(stepper: Stepper, script: bytes) -> tuple[Status, int]:
+    """Hands in the lines of a script, each to rest; answers how the run ends, and the number of a line of no form."""
+    stepper.work()
+    lines = script_lines(script[:MOST_SCRIPT])
+    if len(script) > MOST_SCRIPT and lines and not script[:MOST_SCRIPT].endswith(b"\n"):
+        lines.pop()
+    for number, line in enumerate(lines, 1):
+        if stepper.halted:
+            return Status.HALTED, 0
+        status = stepper.feed_line(line)
+        if status == BAD_LINE:
+            return Status.BAD_LINE, number
+        if status == HALTED:
+            return Status.HALTED, 0
+        if status:
+            raise refuse(status)
+    if stepper.halted:
+        return Status.HALTED, 0
+    return (Status.TOO_LONG if len(script) > MOST_SCRIPT else Status.FINISHED), 0
+
+
+def _quiet(text: bytes) -> bytes:
+    """The lines of a quiet transcript: turns that print or send, frames that were sent, and the halt."""
+    return b"".join(f"{entry}\n".encode() for entry in Transcript(text) if _is_shown(entry))
+
+
+def _is_shown(entry: Entry) -> bool:
+    if isinstance(entry, Turn):
+        return isinstance(entry.call, (Print, PacketSend))
+    return isinstance(entry, Ending) or (isinstance(entry, Note) and entry.kind is NoteKind.SENT)

@@ -1,0 +1,273 @@
+"""Scenario files: read, carried out, compared, written (docs/scenarios.md has their form)."""
+from __future__ import annotations
+
+import pathlib
+import re
+from dataclasses import dataclass, field
+from typing import Iterable, Iterator, Union
+
+from .applications import ApplicationLike
+from .call import MOST_CALLS, Call, read_calls
+from .calls import Wait
+from .difference import Difference, first_difference
+from .errors import BadCall, BadScenario, BadSizes, TooManyApplications
+from .options import Options
+from .rules import FIRST_PROCESS, RULES
+from .runs import Run, run
+from .script import has_form, ticks_of
+from .transcript import Transcript
+from .values import read_number
+
+MOST_TIMES = 1_000_000
+MOST_TEXT = 255
+BAD_SIZES = "bad sizes"
+_OF_TRANSCRIPT = re.compile(r"[0-9]|(?:>|note|halt|bad|too)(?: |\Z)")
+_ENDS = ("finished", "halted", "too long", BAD_SIZES)
+
+
+@dataclass(frozen=True)
+class Outcome:
+    """What came of a scenario: the run, where there was one, and what differs from the file, if anything does."""
+
+    run: Run | None
+    difference: Difference | None
+    fault: str | None
+    """What differs, in words; None where all is as told."""
+
+
+@dataclass
+class Scenario:
+    """A run that a file tells, and what is to come of it.
+
+    >>> scenario = read_scenarios("app hello\\n4 synch 129 - -> print 68690a\\n4 answer done -> wait\\n")[0]
+    >>> print(scenario.carry_out().fault)
+    None
+    """
+
+    name: str | None = None
+    first_line: int = 1
+    applications: list[ApplicationLike] = field(default_factory=list)
+    sizes: dict[str, int] = field(default_factory=dict)
+    quiet: bool = False
+    script: str = ""
+    clock: int = 0
+    transcript: str = ""
+    end: str | None = None
+    """How it is to end, where the file says so apart from the transcript."""
+    has_ended: bool = False
+    """Whether the script's last line stands there, which has no line end."""
+
+    @property
+    def options(self) -> Options:
+        """The sizes."""
+        return Options(**self.sizes, quiet=self.quiet)
+
+    @property
+    def is_told(self) -> bool:
+        """Whether the file says what is to come of it."""
+        return self.end is not None or bool(self.transcript)
+
+    @property
+    def wanted_end(self) -> str:
+        """How it is to end: as the file says, else as the transcript's last line shows."""
+        last = self.transcript.rstrip("\n").rpartition("\n")[2]
+        shown = {"halt": "halted", "too long": "too long"}.get(last, last if last.startswith("bad line ") else "finished")
+        return self.end if self.end is not None else shown
+
+    def run(self) -> Run:
+        """Carries it out."""
+        return run(self.applications, self.script, options=self.options)
+
+    def carry_out(self) -> Outcome:
+        """Carries it out, and compares what comes of it."""
+        try:
+            found = self.run()
+        except (BadSizes, TooManyApplications) as fault:
+            return Outcome(None, None, None if self.end == BAD_SIZES else f"{BAD_SIZES}: {fault}")
+        if not self.is_told:
+            return Outcome(found, None, None)
+        difference = first_difference(self.transcript, found.transcript)
+        if difference is not None:
+            return Outcome(found, difference, str(difference))
+        same = found.ended == self.wanted_end
+        return Outcome(found, None, None if same else f"ended with: {found.ended}, and not: {self.wanted_end}")
+
+    def read_line(self, line: str) -> None:
+        """Takes a line of a file; BadCall or BadScenario tells why it has no form."""
+        word, _, rest = line.partition(" ")
+        if word in ("app", "calls"):
+            self._read_application(word, rest)
+        elif word == "last":
+            self._refuse_behind_last()
+            self.has_ended = True
+            self.script += rest
+        elif word == "at":
+            self._go_on_to(rest)
+        elif word == "times":
+            count, _, repeated = rest.partition(" ")
+            self._append(read_number(count, MOST_TIMES, 1), repeated)
+        elif word in RULES.sizes:
+            self.sizes[word] = read_number(rest, 2**32 - 1)
+        elif word in ("quiet", "ends"):
+            self._set_outcome(word, rest)
+        elif line and not line.startswith("#"):
+            self._append(1, line)
+
+    def _read_application(self, word: str, rest: str) -> None:
+        if word == "calls":
+            self.applications.append(read_calls(rest))
+        elif rest in RULES.applications:
+            self.applications.append(rest)
+        else:
+            raise BadScenario(f"no application {rest}")
+
+    def _set_outcome(self, word: str, rest: str) -> None:
+        if word == "quiet":
+            if rest:
+                raise BadScenario("quiet takes no word")
+            self.quiet = True
+        elif rest in _ENDS or re.fullmatch(r"bad line [1-9][0-9]*", rest):
+            self.end = rest
+        else:
+            raise BadScenario(f"no end of a run: {rest}")
+
+    def _go_on_to(self, word: str) -> None:
+        if not re.fullmatch(r"[0-9]{1,20}", word):
+            raise BadScenario(f"{word} is no clock")
+        left = int(word) - self.clock
+        if left < 0:
+            raise BadScenario(f"the clock stands at {self.clock} already")
+        if left >= 2**32:
+            raise BadScenario("the clock goes on by at most 4294967295 ticks at once")
+        if left:
+            self._push(1, f"tick {left}")
+
+    def _append(self, count: int, line: str) -> None:
+        """Appends a line so often, to the transcript or to the script."""
+        if _OF_TRANSCRIPT.match(line):
+            self.transcript += f"{line}\n" * count
+            return
+        word, _, rest = line.partition(" ")
+        if word == "script":
+            self._push(count, rest)
+        elif word == "text":
+            if len(rest.encode()) > MOST_TEXT:
+                raise BadScenario("a text has at most 255 bytes")
+            self._push(count, f"serial {rest.encode().hex()}0a")
+        elif word not in ("tick", "serial", "frame"):
+            raise BadScenario(f"unknown word {word}")
+        elif has_form(line):
+            self._push(count, line)
+        else:
+            raise BadScenario(f"{line} is no line of a script")
+
+    def _push(self, count: int, line: str) -> None:
+        self._refuse_behind_last()
+        self.clock += (ticks_of(line) or 0) * count
+        self.script += f"{line}\n" * count
+
+    def _refuse_behind_last(self) -> None:
+        if self.has_ended:
+            raise BadScenario("the script has ended with its last line")
+
+
+def _parts(text: str) -> Iterator[tuple[str | None, int, list[str]]]:
+    """The runs of a file: the name, the number of the first line below it, and the lines."""
+    lines = text.split("\n")
+    heads = [place for place, line in enumerate(lines) if line.startswith("== ")]
+    if not heads:
+        yield None, 1, lines
+        return
+    for place, line in enumerate(lines[:heads[0]]):
+        if line and not line.startswith("#"):
+            raise BadScenario(f"line {place + 1}: a line above the first run")
+    for head, behind in zip(heads, [*heads[1:], len(lines)]):
+        yield lines[head][3:], head + 2, lines[head + 1:behind]
+
+
+def read_scenarios(text: str) -> list[Scenario]:
+    """The runs that the text of a file tells; BadScenario tells the first line of no form.
+
+    >>> read_scenarios("calls wait, kill")
+    Traceback (most recent call last):
+    toarmuts.errors.BadScenario: line 1: kill lacks a word
+    """
+    made = []
+    for name, first_line, lines in _parts(text):
+        scenario = Scenario(name, first_line)
+        for number, line in enumerate(lines, first_line):
+            try:
+                scenario.read_line(line)
+            except BadCall as fault:
+                raise BadScenario(f"line {number}: {fault.reason}") from None
+            except BadScenario as fault:
+                raise BadScenario(f"line {number}: {fault}") from None
+        made.append(scenario)
+    return made
+
+
+def read_file(path: Union[str, pathlib.Path]) -> list[Scenario]:
+    """The runs of a file."""
+    try:
+        text = pathlib.Path(path).read_text(encoding="utf-8")
+    except UnicodeDecodeError:
+        raise BadScenario(f"{path}: not text") from None
+    try:
+        return read_scenarios(text)
+    except BadScenario as fault:
+        raise BadScenario(f"{path}: {fault}") from None
+
+
+def write(told: Run, *, name: str | None = None, comment: str = "", transcript: bool = True) -> str:
+    """The text of a file that tells a run."""
+    lines = [f"# {line}".rstrip() for line in comment.splitlines()]
+    lines += [f"== {name}"] if name is not None else []
+    lines += _option_lines(told.options)
+    lines += [_application_line(told, place) for place in range(len(told.named))]
+    lines += _script_lines(told.script)
+    if transcript:
+        lines += told.text.splitlines()
+        lines += [f"ends {told.ended}"] if not told.text or not told.finished else []
+    return "\n".join(lines) + "\n"
+
+
+def _option_lines(options: Options) -> list[str]:
+    usual = Options()
+    sizes = [(name, getattr(options, name)) for name in RULES.sizes]
+    return [f"{name} {size}" for name, size in sizes if size != getattr(usual, name)] + (["quiet"] if options.quiet else [])
+
+
+def _application_line(told: Run, place: int) -> str:
+    named = told.named[place]
+    if named.line is None:
+        return " ".join(["calls", ", ".join(_made_calls(told.entries, FIRST_PROCESS + place))]).rstrip()
+    return named.line if named.line.startswith("calls") else f"app {named.line}"
+
+
+def _made_calls(transcript: Transcript, process: int) -> Iterable[str]:
+    """The calls that an application made, as a list has them: equal ones behind one another are counted, and the last waits left out."""
+    if transcript.quiet:
+        raise BadScenario("a quiet run doesn't show the calls of an application in Python: run it with quiet=False")
+    calls: list[Call] = [turn.call for turn in transcript.turns(process)]
+    while calls and calls[-1] == Wait():
+        calls.pop()
+    if len(calls) > MOST_CALLS:
+        raise BadScenario(f"process {process} made {len(calls)} calls; a list in a file has at most {MOST_CALLS}")
+    counted: list[tuple[int, Call]] = []
+    for call in calls:
+        if counted and counted[-1][1] == call:
+            counted[-1] = (counted[-1][0] + 1, call)
+        else:
+            counted.append((1, call))
+    return [str(call) if count == 1 else f"{count} {call}" for count, call in counted]
+
+
+def _script_lines(script: bytes) -> list[str]:
+    """The lines of a script as a file has them."""
+    try:
+        text = script.decode("utf-8")
+    except UnicodeDecodeError:
+        raise BadScenario("the script is no text, so that no file can tell it") from None
+    *whole, last = text.split("\n")
+    lines = [line if line and not line.startswith("#") and has_form(line) else f"script {line}" for line in whole]
+    return lines + ([f"last {last}"] if last else [])

@@ -1,0 +1,176 @@
+"""Scripts: what comes in, line by line (docs/transcript.md)."""
+from __future__ import annotations
+
+import re
+from typing import Iterable, Iterator, Union
+
+from .errors import BadInput, WrongType
+from .rules import RULES
+
+MOST_TICKS = 2**32 - 1
+MOST_SERIAL = RULES.limits["bytes_of_serial"]
+MOST_FRAME = RULES.limits["bytes_of_a_frame"]
+
+_TICK = re.compile(r"tick (0|[1-9][0-9]{0,9})\Z")
+_BYTES = re.compile(r"(serial|frame) ((?:[0-9a-fA-F]{2})+)\Z")
+
+ScriptLike = Union["Script", str, bytes]
+"""A script, or its text."""
+
+
+def check_ticks(ticks: object) -> int:
+    """Ticks of one input."""
+    if isinstance(ticks, bool) or not isinstance(ticks, int):
+        raise WrongType(f"ticks are to be an int, not {type(ticks).__name__}")
+    if not 0 <= ticks <= MOST_TICKS:
+        raise BadInput(f"tick {ticks}: 0 to {MOST_TICKS:,} is allowed")
+    return ticks
+
+
+def check_data(what: str, data: object, most: int) -> bytes:
+    """The bytes of one input."""
+    if not isinstance(data, (bytes, bytearray, memoryview)):
+        raise WrongType(f"{what} is to be bytes, not {type(data).__name__}")
+    made = bytes(data)
+    if not 1 <= len(made) <= most:
+        raise BadInput(f"{what} of {len(made)} bytes: 1 to {most} are allowed")
+    return made
+
+
+def line_bytes(text: object) -> bytes:
+    """A line of text as it comes in on the serial line, with its end."""
+    if not isinstance(text, (str, bytes)):
+        raise WrongType(f"text is to be a str or bytes, not {type(text).__name__}")
+    data = text.encode() if isinstance(text, str) else text
+    return check_data("text with its line end", data + b"\n", MOST_SERIAL)
+
+
+def ticks_of(line: str) -> int | None:
+    """The ticks that a line of a script tells; None where it is no tick.
+
+    >>> ticks_of("tick 10"), ticks_of("tick 010")
+    (10, None)
+    """
+    found = _TICK.match(line)
+    return int(found[1]) if found and int(found[1]) <= MOST_TICKS else None
+
+
+def has_form(line: str) -> bool:
+    """Whether a line of a script has a form: is empty, a comment, or an input.
+
+    >>> has_form("serial 0a"), has_form("serial 0a ")
+    (True, False)
+    """
+    if len(line.encode()) > 1024:
+        return False
+    if not line or line.startswith("#") or ticks_of(line) is not None:
+        return True
+    found = _BYTES.match(line)
+    return found is not None and len(found[2]) <= 2 * (MOST_SERIAL if found[1] == "serial" else MOST_FRAME)
+
+
+class Script:
+    """The lines of a script. Each call answers a new one, so a beginning can be shared.
+
+    >>> script = Script().tick(5).text("on").frame(b"\\x0a")
+    >>> print(script, end="")
+    tick 5
+    serial 6f6e0a
+    frame 0a
+    >>> script.clock
+    5
+    """
+
+    __slots__ = ("lines", "clock")
+
+    lines: tuple[str, ...]
+    """The lines, without their ends."""
+    clock: int
+    """The sum of all ticks."""
+
+    def __init__(self, lines: Iterable[str] = ()) -> None:
+        if isinstance(lines, (str, bytes)):
+            raise WrongType(f"the lines of a script are to be several, not one {type(lines).__name__}: Script(text.splitlines())")
+        self.lines = tuple(lines)
+        for line in self.lines:
+            if not isinstance(line, str):
+                raise WrongType(f"a line of a script is to be a str, not {type(line).__name__}")
+            if "\n" in line:
+                raise BadInput(f"a line of a script has no line end: {line!r}")
+        self.clock = sum(ticks_of(line) or 0 for line in self.lines)
+
+    def _with(self, line: str, ticks: int = 0) -> "Script":
+        made = Script.__new__(Script)
+        made.lines, made.clock = (*self.lines, line), self.clock + ticks
+        return made
+
+    def tick(self, ticks: int = 1) -> "Script":
+        """The clock goes on by so many ticks, 0 to 4,294,967,295."""
+        return self._with(f"tick {check_ticks(ticks)}", ticks)
+
+    def at(self, clock: int) -> "Script":
+        """The ticks up to this clock; no line where it stands there."""
+        if check_ticks(clock) < self.clock:
+            raise BadInput(f"at {clock}: the clock stands at {self.clock} already")
+        return self if clock == self.clock else self.tick(clock - self.clock)
+
+    def serial(self, data: bytes) -> "Script":
+        """1 to 256 bytes come in on the serial line."""
+        return self._with(f"serial {check_data('serial', data, MOST_SERIAL).hex()}")
+
+    def text(self, line: str | bytes) -> "Script":
+        """These bytes and a line end come in on the serial line."""
+        return self._with(f"serial {line_bytes(line).hex()}")
+
+    def frame(self, data: bytes) -> "Script":
+        """A frame of 1 to 127 bytes comes in."""
+        return self._with(f"frame {check_data('frame', data, MOST_FRAME).hex()}")
+
+    def comment(self, text: str) -> "Script":
+        """A line that does nothing."""
+        return self.raw(f"# {text}")
+
+    def raw(self, line: str) -> "Script":
+        """A line as it is, of any form or none."""
+        return self + Script([line])
+
+    def __add__(self, other: "Script") -> "Script":
+        if not isinstance(other, Script):
+            return NotImplemented
+        return Script(self.lines + other.lines)
+
+    def __str__(self) -> str:
+        return "".join(f"{line}\n" for line in self.lines)
+
+    def __iter__(self) -> Iterator[str]:
+        return iter(self.lines)
+
+    def __len__(self) -> int:
+        return len(self.lines)
+
+    def __eq__(self, other: object) -> bool:
+        return isinstance(other, Script) and self.lines == other.lines
+
+    def __hash__(self) -> int:
+        return hash(self.lines)
+
+    def __repr__(self) -> str:
+        return f"Script({list(self.lines)!r})"
+
+
+def script_bytes(script: object) -> bytes:
+    """The bytes of a script that is given in one of its forms."""
+    if isinstance(script, bytes):
+        return script
+    if isinstance(script, (str, Script)):
+        return str(script).encode()
+    if isinstance(script, (bytearray, memoryview)):
+        return bytes(script)
+    hint = ": Script(lines) makes one of lines" if isinstance(script, (list, tuple)) else ""
+    raise WrongType(f"script is to be a str, bytes or Script, not {type(script).__name__}{hint}")
+
+
+def script_lines(script: bytes) -> list[bytes]:
+    """The lines of a script's bytes; the last one needs no line end."""
+    lines = script.split(b"\n")
+    return lines if lines[-1] else lines[:-1]

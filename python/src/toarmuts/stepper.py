@@ -1,0 +1,144 @@
+"""Works a mote of the library step by step, with applications in Python."""
+from __future__ import annotations
+
+import struct
+
+from .applications import Application, Named, why_no_call
+from .call import Call
+from .errors import ApplicationError, MoteError, OutOfMemory, ToarmutsError
+from .library import (AWAITS_CALL, CLOSED, NO_CALL, NO_INPUT, NO_TURN, NOT_AT_REST, OUT_OF_MEMORY, TOO_MANY_INPUTS, Held,
+                      library)
+from .numbers import Refusal, ReplyKind
+from .options import Options
+from .rules import FIRST_PROCESS
+from .values import Answer, Callback, Event, Payload, Stats, Stimulus
+
+# struct advance of native/advance.h, up to its lines.
+_ADVANCE = struct.Struct("=4I6IQ6I128s")
+_LINES = _ADVANCE.size
+_TURN, _ENTRY, _REST, _HALT = range(4)
+_EVENT, _CALLBACK, _ANSWER = range(3)
+BAD_LINE, HALTED = 2, 3
+_NO_CALL = bytes(160)
+_REPLIES = tuple(ReplyKind)
+
+REASONS = {
+    HALTED: "the mote was halted: nothing follows",
+    CLOSED: "the mote is closed",
+    AWAITS_CALL: "a turn awaits its call: `answer` takes one, `resume` asks the application again",
+    NO_TURN: "no turn awaits a call",
+    NOT_AT_REST: "work is left to be done: `resume` goes on",
+    NO_CALL: "the call is none that the library takes",
+    NO_INPUT: "the input is none that the library takes",
+    TOO_MANY_INPUTS: "there were too many inputs, or the clock would go beyond 2^62",
+}
+
+
+def refuse(status: int) -> ToarmutsError:
+    """The exception for a status of a call that goes step by step."""
+    if status == OUT_OF_MEMORY:
+        return OutOfMemory("memory was refused")
+    return MoteError(REASONS.get(status, f"the library answers {status}"))
+
+
+def _payload(kind: int, number: int, data: bytes) -> Payload:
+    return (None, number, data)[kind]
+
+
+def _answer(reply: int, number: int, stats: tuple[int, ...], data: bytes) -> Answer:
+    kind = _REPLIES[reply]
+    if kind is ReplyKind.DONE:
+        return Answer(kind)
+    if kind is ReplyKind.REFUSED:
+        return Answer(kind, Refusal(number))
+    if kind is ReplyKind.FLAG:
+        return Answer(kind, bool(number))
+    if kind is ReplyKind.BYTES:
+        return Answer(kind, data)
+    return Answer(kind, Stats(*stats)) if kind is ReplyKind.STATS else Answer(kind, number)
+
+
+class Stepper:
+    """Works a mote of the library from rest to rest, and asks applications in Python for their calls."""
+
+    def __init__(self, applications: list[Named], options: Options) -> None:
+        options.check(len(applications))
+        self.applications: list[Application] = [named.make() for named in applications]
+        status, held = library().open(options.configuration(), len(applications))
+        if status:
+            raise refuse(status)
+        self.held: Held = held
+        self.lines: list[bytes] = []
+        self.line_count = 0
+        self.awaiting: tuple[int, Stimulus] | None = None
+        self.halted = False
+
+    def work(self, call: Call | None = None) -> None:
+        """Works on to rest; a call is handed in first, for the turn that awaits one."""
+        packed = _NO_CALL if call is None else call.packed()
+        while True:
+            step = self._advance(packed)
+            if step == _TURN:
+                packed = self._ask().packed()
+            elif step == _ENTRY:
+                packed = _NO_CALL
+            else:
+                self.halted = step == _HALT
+                return
+
+    def _advance(self, packed: bytes) -> int:
+        """Hands in a call and works on, keeps the lines that were made, and notes which turn awaits a call then."""
+        held = self.held
+        held.advance(packed)
+        numbers = _ADVANCE.unpack_from(held.advance_bytes)
+        status, step, answered, length = numbers[:4]
+        if answered:
+            self.awaiting = None
+        if length:
+            made = bytes(held.advance_bytes[_LINES:_LINES + length])
+            self.lines.append(made)
+            self.line_count += made.count(b"\n")
+        if status:
+            raise refuse(status)
+        if step == _TURN:
+            self.awaiting = self._read_turn(numbers[4:])
+        return int(step)
+
+    @staticmethod
+    def _read_turn(turn: tuple[int, ...]) -> tuple[int, Stimulus]:
+        process, _, stimulus, event, payload, reply, number = turn[:7]
+        filled: object = turn[13]
+        assert isinstance(filled, bytes)
+        data = filled[:turn[12]]
+        if stimulus == _EVENT:
+            return process, Event(event, _payload(payload, number, data))
+        return process, Callback(number) if stimulus == _CALLBACK else _answer(reply, number, turn[7:12], data)
+
+    def _ask(self) -> Call:
+        """Asks the application whose turn it is. Where it fails, the turn goes on awaiting its call."""
+        assert self.awaiting is not None
+        process, stimulus = self.awaiting
+        try:
+            call = self.applications[process - FIRST_PROCESS].turn(stimulus)
+        except Exception as fault:
+            reason = f"{type(fault).__name__}: {fault}"
+            raise ApplicationError(process, stimulus, reason, self.text().decode()) from fault
+        reason_of_none = why_no_call(call)
+        if reason_of_none is not None:
+            raise ApplicationError(process, stimulus, reason_of_none, self.text().decode())
+        return call
+
+    def resume(self) -> None:
+        """Goes on where an application failed: asks it again."""
+        self.work(self._ask() if self.awaiting is not None else None)
+
+    def text(self) -> bytes:
+        """All lines so far."""
+        return b"".join(self.lines)
+
+    def feed_line(self, line: bytes) -> int:
+        """Hands in a line of a script, and works on; the status is answered."""
+        status = self.held.feed(line)
+        if status == 0:
+            self.work()
+        return status

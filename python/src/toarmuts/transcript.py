@@ -1,0 +1,335 @@
+"""A transcript as objects (docs/transcript.md).
+
+The compiled library makes a table of its lines: kinds, places, clocks, and which answer belongs to which call. An entry is made
+of a row of that table when it is asked for, and what an entry tells is read when it is asked for, once for equal words.
+"""
+from __future__ import annotations
+
+import enum
+from typing import Callable, Iterator, Sequence, TypeVar, Union, overload
+
+from .call import Call
+from .calls import Print
+from .errors import BadTranscript, WrongType
+from .library import ROW_SIZE, library
+from .numbers import Origin, Refusal
+from .rows import Row, make
+from .values import Answer, Callback, Event, Stimulus, read_answer, read_event
+
+TURN, INPUT, NOTE, HALT, BAD_LINE, TOO_LONG, NO_FORM = range(7)
+# Where a row's kind stands in struct transcript_row.
+KIND_PLACE = 44
+
+Made = TypeVar("Made")
+
+
+class InputKind(enum.Enum):
+    """What comes in."""
+
+    TICK = "tick"
+    SERIAL = "serial"
+    FRAME = "frame"
+
+
+class NoteKind(enum.Enum):
+    """What a note tells."""
+
+    LOST = "lost"
+    SENT = "sent"
+
+
+_ORIGINS = tuple(Origin)
+_INPUTS = tuple(InputKind)
+_NOTES = tuple(NoteKind)
+_MOST_KEPT = 1 << 16
+
+
+def _kept(known: dict[bytes, Made], words: bytes, read: Callable[[str], Made]) -> Made:
+    """What words tell, read once."""
+    made = known.get(words)
+    if made is None:
+        made = read(words.decode("ascii", "replace"))
+        if len(known) < _MOST_KEPT:
+            known[words] = made
+    return made
+
+
+_calls: dict[bytes, Call] = {}
+_answers: dict[bytes, Answer] = {}
+_events: dict[bytes, Event] = {}
+
+
+class Source:
+    """What entries are read from: a text, and its table, which is made when it is asked for."""
+
+    __slots__ = ("data", "quiet", "lines_before", "clock_before", "_table")
+
+    def __init__(self, data: bytes, quiet: bool, lines_before: int, clock_before: int) -> None:
+        self.data, self.quiet = data, quiet
+        # Of a part of a transcript: what came before it.
+        self.lines_before, self.clock_before = lines_before, clock_before
+        self._table: bytearray | None = None
+
+    @property
+    def table(self) -> bytearray:
+        """``struct transcript_row`` for each line."""
+        if self._table is None:
+            table = bytearray(ROW_SIZE * (self.data.count(b"\n") + 1))
+            count = library().table(self.data, table)
+            self._table = table[:count * ROW_SIZE] if count * ROW_SIZE != len(table) else table
+        return self._table
+
+
+class Entry(Row):
+    """A line of a transcript. Two are equal where their texts and their numbers are."""
+
+    __slots__ = ()
+
+    @property
+    def line(self) -> int:
+        """The number of its line in the whole transcript, from 1 on."""
+        return self._source.lines_before + self.index + 1
+
+    @property
+    def clock(self) -> int | None:
+        """The ticks since boot, of a tick those behind it; None in a quiet transcript, which shows no ticks."""
+        return None if self._source.quiet else self._source.clock_before + self._clock
+
+    def _words(self, first: int, behind: int | None = None) -> bytes:
+        begin = self._begin
+        return self._source.data[begin + first:begin + (self._length if behind is None else behind)]
+
+    @property
+    def text(self) -> str:
+        """The line as it stands, without its end."""
+        return self._words(0).decode("ascii", "replace")
+
+    def __str__(self) -> str:
+        return self.text
+
+    def __repr__(self) -> str:
+        return f"<{type(self).__name__} {self.line}: {self.text}>"
+
+    def __eq__(self, other: object) -> bool:
+        if not isinstance(other, Entry):
+            return NotImplemented
+        return self.line == other.line and self._words(0) == other._words(0)
+
+    def __hash__(self) -> int:
+        return hash((self.line, self._words(0)))
+
+    def explain(self) -> str:
+        """What it tells, in words."""
+        from .words import explain
+
+        return explain(self)
+
+
+class Turn(Entry):
+    """A process was told a stimulus, and answered with a call."""
+
+    __slots__ = ()
+    __match_args__ = ("process", "stimulus", "call")
+
+    @property
+    def process(self) -> int:
+        """The process, from 4 on."""
+        return self._process
+
+    @property
+    def origin(self) -> Origin:
+        """Where the stimulus comes from."""
+        return _ORIGINS[self._detail]
+
+    @property
+    def stimulus(self) -> Stimulus:
+        """What it was told: an Event, a Callback, or the Answer to its call before."""
+        origin = self._detail
+        words = self._words(self._told, self._call - 4)
+        if origin == Origin.ANSWER:
+            return _kept(_answers, words, read_answer)
+        return Callback(self._event) if origin == Origin.CALLBACK else _kept(_events, words, read_event)
+
+    @property
+    def call(self) -> Call:
+        """The call that it made."""
+        return _kept(_calls, self._words(self._call), Call.parse)
+
+    @property
+    def answered_in(self) -> "Turn | None":
+        """The turn in which it was told the answer to its call; None where there was none, and in a quiet transcript."""
+        source = self._source
+        if not self._answer or source.quiet:
+            return None
+        found = make(_CLASSES, source, source.table, self._answer - 1, 1)[0]
+        return found if isinstance(found, Turn) else None
+
+    @property
+    def answer(self) -> Answer | None:
+        """The answer to its call; None where there was none (``wait``, ``exit``, a halt), and in a quiet transcript."""
+        turn = self.answered_in
+        stimulus = turn.stimulus if turn is not None else None
+        return stimulus if isinstance(stimulus, Answer) else None
+
+    @property
+    def refusal(self) -> Refusal | None:
+        """Why its call was refused, or None."""
+        answer = self.answer
+        return answer.refusal if answer is not None else None
+
+
+class Input(Entry):
+    """An input is handed in."""
+
+    __slots__ = ()
+    __match_args__ = ("kind", "value")
+
+    @property
+    def kind(self) -> InputKind:
+        """What comes in."""
+        return _INPUTS[self._detail]
+
+    @property
+    def value(self) -> Union[int, bytes]:
+        """The ticks, or the bytes."""
+        words = self._words(self._told).decode()
+        return int(words) if self._detail == 0 else bytes.fromhex(words)
+
+    @property
+    def ticks(self) -> int:
+        """The ticks; 0 where it is no tick."""
+        value = self.value
+        return value if isinstance(value, int) else 0
+
+    @property
+    def data(self) -> bytes:
+        """The bytes; none where it is a tick."""
+        value = self.value
+        return value if isinstance(value, bytes) else b""
+
+
+class Note(Entry):
+    """A frame was lost, or sent."""
+
+    __slots__ = ()
+    __match_args__ = ("kind",)
+
+    @property
+    def kind(self) -> NoteKind:
+        """Which of the two."""
+        return _NOTES[self._detail]
+
+    @property
+    def refusal(self) -> Refusal | None:
+        """Why a frame was lost; None where one was sent."""
+        return Refusal(self._refusal) if self._detail == 0 else None
+
+    @property
+    def data(self) -> bytes:
+        """The bytes of a frame that was sent; none where one was lost."""
+        if self._detail == 0:
+            return b""
+        words = self._words(self._told)
+        return b"" if words == b"-" else bytes.fromhex(words.decode())
+
+
+class Ending(Entry):
+    """The last line where a script was not carried out to its end: ``halt``, ``bad line N``, ``too long``."""
+
+    __slots__ = ()
+
+    @property
+    def bad_line(self) -> int | None:
+        """The number of the script's line of no form, or None."""
+        return int(self._words(self._told)) if self._kind == BAD_LINE else None
+
+
+_CLASSES: tuple[type[Entry], ...] = (Turn, Input, Note, Ending, Ending, Ending, Ending)
+
+
+class Transcript(Sequence[Entry]):
+    """The entries of a transcript, made when they are asked for.
+
+    >>> transcript = Transcript("> tick 10\\n4 event 136 0 -> timer-stop 9\\n4 answer refused 7 -> wait\\n")
+    >>> turn = transcript.turns()[0]
+    >>> turn.clock, turn.process, turn.origin.name, turn.stimulus, turn.call, turn.refusal.name
+    (10, 4, 'EVENT', Event(code=136, payload=0), TimerStop(9), 'BAD_NAME')
+    """
+
+    def __init__(self, text: str | bytes, *, quiet: bool = False, lines_before: int = 0, clock_before: int = 0) -> None:
+        if not isinstance(text, (str, bytes)):
+            raise WrongType(f"a transcript is to be a str or bytes, not {type(text).__name__}")
+        data = text.encode() if isinstance(text, str) else text
+        self._source = Source(data, quiet, lines_before, clock_before)
+        self._entries: list[Entry] | None = None
+
+    @property
+    def data(self) -> bytes:
+        """Its text as bytes."""
+        return self._source.data
+
+    @property
+    def quiet(self) -> bool:
+        """Whether it is a quiet one: then answers and clocks aren't told."""
+        return self._source.quiet
+
+    def _all(self) -> list[Entry]:
+        if self._entries is None:
+            table = self._source.table
+            made: list[Entry] = make(_CLASSES, self._source, table, 0, len(table) // ROW_SIZE)
+            bad = table[KIND_PLACE::ROW_SIZE].find(NO_FORM)
+            if bad >= 0:
+                raise BadTranscript(f"line {made[bad].line} is no line of a transcript: {made[bad].text[:100]}")
+            self._entries = made
+        return self._entries
+
+    def __len__(self) -> int:
+        return len(self._source.table) // ROW_SIZE
+
+    @overload
+    def __getitem__(self, place: int) -> Entry: ...
+
+    @overload
+    def __getitem__(self, place: slice) -> list[Entry]: ...
+
+    def __getitem__(self, place: int | slice) -> Entry | list[Entry]:
+        return self._all()[place]
+
+    def __iter__(self) -> Iterator[Entry]:
+        return iter(self._all())
+
+    def __eq__(self, other: object) -> bool:
+        return isinstance(other, Transcript) and self.data == other.data
+
+    def __hash__(self) -> int:
+        return hash(self.data)
+
+    def __str__(self) -> str:
+        return self.data.decode("ascii", "replace")
+
+    def __repr__(self) -> str:
+        return f"<Transcript of {len(self)} lines>"
+
+    def turns(self, process: int | None = None) -> list[Turn]:
+        """The turns, of one process or of all."""
+        return [entry for entry in self._all() if isinstance(entry, Turn) and (process is None or entry.process == process)]
+
+    def inputs(self) -> list[Input]:
+        """The inputs that were handed in."""
+        return [entry for entry in self._all() if isinstance(entry, Input)]
+
+    def notes(self) -> list[Note]:
+        """The frames that were lost or sent."""
+        return [entry for entry in self._all() if isinstance(entry, Note)]
+
+    def refused(self) -> list[Turn]:
+        """The turns whose calls were refused."""
+        return [turn for turn in self.turns() if turn.refusal is not None]
+
+    def printed(self, process: int | None = None) -> bytes:
+        """What was printed, by one process or by all."""
+        return b"".join(turn.call.data for turn in self.turns(process) if isinstance(turn.call, Print))
+
+    def sent(self) -> list[bytes]:
+        """The frames that were sent."""
+        return [note.data for note in self.notes() if note.kind is NoteKind.SENT]

@@ -1,0 +1,194 @@
+"""What applications are told: events, expired callback timers, and answers to their calls; and the words for them."""
+from __future__ import annotations
+
+import enum
+import re
+from dataclasses import dataclass
+from typing import NamedTuple, Union
+
+from .errors import BadCall, BadTranscript
+from .numbers import EventCode, Refusal, ReplyKind
+from .rules import RULES
+
+Payload = Union[None, int, bytes]
+"""What an event carries: nothing, a number, or the bytes of a line."""
+
+_NUMBER = re.compile(r"0|[1-9][0-9]*")
+
+
+class Status(enum.IntEnum):
+    """How a run ended, by the number that is the status of the program ``mote`` too."""
+
+    FINISHED = 0
+    BAD_LINE = 2
+    HALTED = 3
+    TOO_LONG = 4
+
+
+class End(enum.Enum):
+    """How a run ended, by the words of ``ends`` in a scenario."""
+
+    FINISHED = "finished"
+    BAD_LINE = "bad line"
+    HALTED = "halted"
+    TOO_LONG = "too long"
+
+
+def read_number(word: str, most: int, least: int = 0) -> int:
+    """A number in decimal without needless zeros; BadCall where it is none."""
+    if not _NUMBER.fullmatch(word) or len(word) > 20 or not least <= int(word) <= most:
+        raise BadCall(f"{word or 'nothing'} is no number from {least} to {most}")
+    return int(word)
+
+
+def bytes_word(data: bytes) -> str:
+    """Bytes in hex, a dash where there are none."""
+    return data.hex() or "-"
+
+
+def read_bytes_word(word: str, most: int) -> bytes:
+    """The bytes of a word in hex; BadCall where it has none."""
+    if word == "-":
+        return b""
+    try:
+        data = bytes.fromhex(word)
+    except ValueError:
+        data = b""
+    if not data or 2 * len(data) != len(word) or len(data) > most:
+        raise BadCall(f"{word or 'nothing'} is no hex of at most {most} bytes")
+    return data
+
+
+def payload_word(payload: Payload) -> str:
+    """The word for what an event carries."""
+    if payload is None:
+        return "-"
+    return "x" + payload.hex() if isinstance(payload, bytes) else str(payload)
+
+
+def read_payload_word(word: str, most: int) -> Payload:
+    """What a word says that an event carries."""
+    if word == "-":
+        return None
+    if word == "x":
+        return b""
+    return read_bytes_word(word[1:], most) if word[:1] == "x" else read_number(word, 0xFFFF_FFFF)
+
+
+@dataclass(frozen=True)
+class Event:
+    """A process is told an event: its code and what it carries.
+
+    >>> Event(129).name, Event(140, b"hi")
+    ('INIT', Event(code=140, payload=b'hi'))
+    """
+
+    code: int
+    payload: Payload = None
+
+    @property
+    def name(self) -> str:
+        """The name of the kernel's events, else the code."""
+        return EventCode(self.code).name if self.code in RULES.events else str(self.code)
+
+    def __str__(self) -> str:
+        return f"{self.code} {payload_word(self.payload)}"
+
+
+@dataclass(frozen=True)
+class Callback:
+    """A process's callback timer has run out."""
+
+    timer: int
+
+    def __str__(self) -> str:
+        return str(self.timer)
+
+
+class Stats(NamedTuple):
+    """The state of the whole heap, all in bytes but ``chunks``."""
+
+    allocated: int
+    overhead: int
+    available: int
+    footprint: int
+    chunks: int
+
+
+@dataclass(frozen=True)
+class Answer:
+    """The answer to a process's call. What ``value`` is goes by the kind: None for ``done``, a Refusal, an int, a bool, bytes, Stats.
+
+    >>> answer = Answer(ReplyKind.REFUSED, Refusal.NO_ROOM)
+    >>> answer.ok, answer.refusal.name, str(answer)
+    (False, 'NO_ROOM', 'refused 12')
+    """
+
+    kind: ReplyKind
+    value: Union[None, int, bool, bytes, Refusal, Stats] = None
+
+    @property
+    def ok(self) -> bool:
+        """Whether the call was carried out."""
+        return self.kind is not ReplyKind.REFUSED
+
+    @property
+    def refused(self) -> bool:
+        """Whether the call was refused."""
+        return self.kind is ReplyKind.REFUSED
+
+    @property
+    def refusal(self) -> Refusal | None:
+        """Why it was refused, or None."""
+        return self.value if isinstance(self.value, Refusal) else None
+
+    def __str__(self) -> str:
+        word = self.kind.name.lower()
+        value = self.value
+        if value is None:
+            return word
+        if isinstance(value, Stats):
+            return f"{word} {' '.join(map(str, value))}"
+        if isinstance(value, bool):
+            return f"{word} {'true' if value else 'false'}"
+        return f"{word} {bytes_word(value) if isinstance(value, bytes) else int(value)}"
+
+
+DONE = Answer(ReplyKind.DONE)
+
+Stimulus = Union[Event, Callback, Answer]
+"""What a process is told at the start of a turn."""
+
+_KINDS = {kind.name.lower(): kind for kind in ReplyKind}
+_MOST = {ReplyKind.NUM: 2**32 - 1, ReplyKind.WIDE: 2**64 - 1}
+
+
+def read_answer(words: str) -> Answer:
+    """The answer of these words."""
+    word, _, rest = words.partition(" ")
+    kind = _KINDS.get(word)
+    try:
+        if kind is ReplyKind.DONE and not rest:
+            return DONE
+        if kind is ReplyKind.REFUSED:
+            return Answer(kind, Refusal(read_number(rest, 18, 1)))
+        if kind is ReplyKind.FLAG and rest in ("true", "false"):
+            return Answer(kind, rest == "true")
+        if kind is ReplyKind.BYTES:
+            return Answer(kind, read_bytes_word(rest, 64))
+        if kind is ReplyKind.STATS and rest.count(" ") == 4:
+            return Answer(kind, Stats(*(read_number(part, 2**32 - 1) for part in rest.split(" "))))
+        if kind in (ReplyKind.NUM, ReplyKind.WIDE):
+            return Answer(kind, read_number(rest, _MOST[kind]))
+    except BadCall as fault:
+        raise BadTranscript(f"{words}: {fault}") from None
+    raise BadTranscript(f"{words} is no answer")
+
+
+def read_event(words: str) -> Event:
+    """The event of these words: its code and what it carries."""
+    code, _, payload = words.partition(" ")
+    try:
+        return Event(read_number(code, 255), read_payload_word(payload, 127))
+    except BadCall as fault:
+        raise BadTranscript(f"{words}: {fault}") from None

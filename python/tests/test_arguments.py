@@ -1,0 +1,142 @@
+"""What is wrong with arguments is told: the exception, and which size, application, call or input it is."""
+import re
+
+import pytest
+
+import toarmuts
+from toarmuts import (BadCall, BadInput, BadScenario, BadSizes, BadTranscript, Call, Mote, NoApplication, Options, Post, Print, Script,
+                      TimerSet, TooManyApplications, Transcript, Wait, WrongType)
+
+
+class NoTurn:
+    """A class that is no application."""
+
+
+def run(*arguments, **options):
+    return lambda: toarmuts.run(*arguments, **options)
+
+
+WRONG = [
+    # Sizes.
+    (run([], mmem=5), BadSizes, "mmem is 5, which is no multiple of 4"),
+    (run([], mmem=2**32 + 4096), BadSizes, "mmem is 4294971392; 4 to 65,536 is allowed"),
+    (run([], mmem=-4), BadSizes, "mmem is -4; 4 to 65,536 is allowed"),
+    (run([], heap=16), BadSizes, "heap is 16; 20 to 65,536 is allowed"),
+    (run([], header=12), BadSizes, "header is 12; 16 or 8 is allowed"),
+    (run([], mmem=6, heap=6), BadSizes, "mmem is 6, which is no multiple of 4; heap is 6; 20 to 65,536 is allowed"),
+    (run([], quota=0), BadSizes, "quota is 0; 4 to 65,536 is allowed"),
+    (run(["hello"], quota=2052), BadSizes, "quota is 2052; 2 of them (1 application and the frames) exceed mmem, which is 4096"),
+    (run([], mmem="4096"), WrongType, "mmem is to be an int, not str"),
+    (run([], mmem=4096.0), WrongType, "mmem is to be an int, not float"),
+    (run([], heap=True), WrongType, "heap is to be an int, not bool"),
+    (run([], quota="8"), WrongType, "quota is to be an int or None, not str"),
+    (run([], quiet=1), WrongType, "quiet is to be True or False, not int"),
+    (run([], options={"mmem": 64}), WrongType, "options is to be an Options, not dict"),
+    (run([], options=Options(mmem=64), heap=64), WrongType, "options and single sizes are given: one or the other"),
+    # Applications.
+    (run("blink"), WrongType, "applications is to be a list: ['blink']"),
+    (run(b"blink"), WrongType, "applications is to be a list: [b'blink']"),
+    (run(None), WrongType, "applications is to be a list, not NoneType"),
+    (run({"blink": 1}), WrongType, "applications is to be a list, not dict"),
+    (run(["hello"] * 17), TooManyApplications, "17 applications; a mote has at most 16"),
+    (run(["hello", "frob"]), NoApplication, "application 2 (process 5): no application 'frob'; there are hello, blink,"),
+    (run(["hello\nblink"]), NoApplication, "application 1 (process 4): a name has no line end: 'hello\\nblink'"),
+    (run(["hello", ""]), NoApplication, "application 2 (process 5): its name is empty"),
+    (run([7]), WrongType, "application 1 is to be a name, a list of calls, a class with turn(stimulus) or a generator function, not int"),
+    (run([NoTurn]), WrongType, "application 1 is the class NoTurn, which has no turn(stimulus)"),
+    (run([lambda: 5]), WrongType, "application 1: <lambda>() made a int, which has no turn(stimulus)"),
+    (run([Wait()]), WrongType, "application 1 is the call Wait(): a list of calls is meant, [Wait()]"),
+    (run(["hello", [Wait]]), WrongType, "application 2, call 1 is to be a Call or its words, not the class Wait: Wait(..) is meant"),
+    (run([["wait", 5]]), WrongType, "application 1, call 2 is to be a Call or its words, not int"),
+    (run([["wait", "kill"]]), NoApplication, "application 1 (process 4), call 2: 'kill': kill lacks a word"),
+    (run(["calls wait, frob 1"]), NoApplication, "application 1 (process 4), call 2: 'frob 1': no call frob"),
+    (run(["calls timer-set 0 05"]), NoApplication, "call 1: 'timer-set 0 05': 05 is no number from 0 to 4294967295"),
+    (run(["calls 128 wait, clock"]), NoApplication, "application 1 (process 4): an application makes at most 128 calls"),
+    (run([[Wait()] * 129]), NoApplication, "application 1 (process 4): 129 calls; a list has at most 128"),
+    # Scripts.
+    (run([], 5), WrongType, "script is to be a str, bytes or Script, not int"),
+    (run([], ["tick 1"]), WrongType, "script is to be a str, bytes or Script, not list: Script(lines) makes one of lines"),
+    (lambda: Script("tick 1"), WrongType, "the lines of a script are to be several, not one str"),
+    (lambda: Script([b"tick 1"]), WrongType, "a line of a script is to be a str, not bytes"),
+    (lambda: Script(["tick 1\n"]), BadInput, "a line of a script has no line end: 'tick 1\\n'"),
+    (lambda: Script().tick(-1), BadInput, "tick -1: 0 to 4,294,967,295 is allowed"),
+    (lambda: Script().tick(2**32), BadInput, "tick 4294967296: 0 to 4,294,967,295 is allowed"),
+    (lambda: Script().tick(1.5), WrongType, "ticks are to be an int, not float"),
+    (lambda: Script().tick(9).at(8), BadInput, "at 8: the clock stands at 9 already"),
+    (lambda: Script().serial("on"), WrongType, "serial is to be bytes, not str"),
+    (lambda: Script().serial(b""), BadInput, "serial of 0 bytes: 1 to 256 are allowed"),
+    (lambda: Script().text("x" * 256), BadInput, "text with its line end of 257 bytes: 1 to 256 are allowed"),
+    (lambda: Script().frame(bytes(128)), BadInput, "frame of 128 bytes: 1 to 127 are allowed"),
+    # Calls.
+    (lambda: TimerSet(0, -1), BadCall, "timer-set: interval is -1; 0 to 4,294,967,295 is allowed"),
+    (lambda: TimerSet(256, 0), BadCall, "timer-set: timer is 256; 0 to 255 is allowed"),
+    (lambda: TimerSet("0", 0), WrongType, "timer-set: timer is to be an int, not str"),
+    (lambda: TimerSet(True, 0), WrongType, "timer-set: timer is to be an int, not bool"),
+    (lambda: TimerSet(0), TypeError, "missing 1 required positional argument: 'interval'"),
+    (lambda: Print("hi"), WrongType, "print: data is to be bytes, not str"),
+    (lambda: Print(bytes(65)), BadCall, "print: data has 65 bytes; at most 64 are allowed"),
+    (lambda: Post(4, 140, "hi"), WrongType, "post: payload is to be None, an int or bytes, not str"),
+    (lambda: Post(4, 140, bytes(128)), BadCall, "post: payload has 128 bytes; at most 127 are allowed"),
+    (lambda: Post(4, 140, 2**32), BadCall, "post: payload is 4294967296; 0 to 4,294,967,295 is allowed"),
+    (lambda: Call(), WrongType, "Call is no call itself"),
+    (lambda: Call.parse(5), WrongType, "the words of a call are to be a str, not int"),
+    (lambda: Call.parse("print 0"), BadCall, "'print 0': 0 is no hex of at most 64 bytes"),
+    (lambda: Call.parse("kill 4 5"), BadCall, "'kill 4 5': more words than the call takes: 5"),
+    # Transcripts and scenarios.
+    (lambda: Transcript(5), WrongType, "a transcript is to be a str or bytes, not int"),
+    (lambda: list(Transcript("> tick 1\n4 nowhere 5 -> wait\n")), BadTranscript, "line 2 is no line of a transcript: 4 nowhere 5 -> wait"),
+    (lambda: toarmuts.read_scenarios("tock 5\n"), BadScenario, "line 1: unknown word tock"),
+    # A mote in hand.
+    (lambda: Mote("blink"), WrongType, "applications is to be a list: ['blink']"),
+    (lambda: Mote([], mmem=2), BadSizes, "mmem is 2; 4 to 65,536 is allowed"),
+    (lambda: Mote().tick(-1), BadInput, "tick -1: 0 to 4,294,967,295 is allowed"),
+    (lambda: Mote().frame(b""), BadInput, "frame of 0 bytes: 1 to 127 are allowed"),
+    (lambda: Mote().feed("tick 01"), BadInput, "'tick 01' is no line of a script"),
+    (lambda: Mote().answer(Wait()), toarmuts.MoteError, "no turn awaits a call"),
+    (lambda: Mote().answer("wait"), WrongType, "answer takes a Call, not str"),
+]
+
+
+@pytest.mark.parametrize("make, fault, reason", WRONG, ids=[reason[:60] for _, _, reason in WRONG])
+def test_wrong_arguments_are_told(make, fault, reason):
+    with pytest.raises(fault, match=re.escape(reason)):
+        make()
+
+
+def test_faults_are_of_this_package_and_of_pythons_kinds():
+    for kind, base in ((BadSizes, ValueError), (NoApplication, ValueError), (BadCall, ValueError), (WrongType, TypeError)):
+        assert issubclass(kind, toarmuts.ToarmutsError) and issubclass(kind, base)
+
+
+def test_which_application_and_call():
+    with pytest.raises(NoApplication) as caught:
+        toarmuts.run(["hello", "calls wait, wait, kill"])
+    assert (caught.value.number, caught.value.process, caught.value.call) == (2, 5, 3)
+
+
+def test_all_sizes_are_told():
+    with pytest.raises(BadSizes) as caught:
+        toarmuts.run([], mmem=6, heap=6, header=6)
+    assert len(caught.value.faults) == 3
+
+
+def test_sizes_are_refused_exactly_where_the_library_refuses():
+    """For all small sizes, and quotas of several applications."""
+    from toarmuts.library import BAD_SIZES, library
+
+    for mmem in range(0, 30):
+        for quota in (None, 0, 3, 4, 8):
+            for applications in (0, 1, 2):
+                options = Options(mmem=mmem, quota=quota)
+                status, _, _ = library().run(options.configuration(), b"hello\n" * applications, b"")
+                assert (status == BAD_SIZES) == bool(options.faults(applications)), (mmem, quota, applications)
+    for heap in (0, 16, 19, 20, 21, 24, 65535, 65536, 65540):
+        for header in (0, 8, 12, 16, 20):
+            options = Options(heap=heap, header=header)
+            status, _, _ = library().run(options.configuration(), b"", b"")
+            assert (status == BAD_SIZES) == bool(options.faults()), (heap, header)
+
+
+def test_calls_cannot_be_changed():
+    with pytest.raises(AttributeError):
+        TimerSet(0, 1).timer = 5

@@ -1,0 +1,166 @@
+"""Entries beside the text that they are made of, by a plain reader that knows nothing of the table."""
+import gc
+import pickle
+import random
+
+import pytest
+from common import ROOT, random_application, random_script
+
+import toarmuts
+from toarmuts import (Answer, Call, Callback, Ending, Event, EventCode, Input, InputKind, Note, NoteKind, Origin, Refusal, ReplyKind,
+                      Stats, TimerSet, Transcript, Turn, Wait)
+from toarmuts.scenario import read_file
+
+from toarmuts.rows import make_plain
+
+
+def hexes(data):
+    return data.hex() or "-"
+
+
+def line_of(entry):
+    """The line that an entry tells, made of what it tells alone."""
+    if isinstance(entry, Turn):
+        return f"{entry.process} {entry.origin.name.lower()} {entry.stimulus} -> {entry.call}"
+    if isinstance(entry, Input):
+        return f"> {entry.kind.value} {entry.ticks if entry.kind is InputKind.TICK else hexes(entry.data)}"
+    if isinstance(entry, Note):
+        return f"note {entry.kind.value} {hexes(entry.data) if entry.kind is NoteKind.SENT else entry.refusal.value}"
+    assert isinstance(entry, Ending)
+    return f"bad line {entry.bad_line}" if entry.bad_line is not None else entry.text
+
+
+def check_entries(transcript, text):
+    """Each entry beside its line: its text, clock and number, and the answer to each call."""
+    lines = text.split("\n")[:-1]
+    assert len(transcript) == len(lines)
+    clock, last, answers = 0, {}, {}
+    for number, (entry, line) in enumerate(zip(transcript, lines), 1):
+        words = line.split(" ")
+        clock += int(words[2]) if words[:2] == [">", "tick"] else 0
+        assert (entry.text, line_of(entry), entry.line, entry.clock) == (line, line, number, clock)
+        if isinstance(entry, Turn):
+            if words[1] == "answer":
+                answers[last[words[0]]] = line[line.index("answer ") + 7:line.index(" -> ")]
+            last[words[0]] = number
+    for entry in transcript.turns():
+        wanted = answers.get(entry.line)
+        assert (entry.answer is None) == (wanted is None) and (wanted is None or str(entry.answer) == wanted)
+        assert (entry.refusal is not None) == (wanted is not None and wanted.startswith("refused"))
+
+
+def random_run(seed):
+    chance = random.Random(f"entries/{seed}")
+    applications = [random_application(chance) for _ in range(chance.randrange(5))]
+    sizes = {"mmem": chance.choice([32, 128, 4096]), "heap": chance.choice([20, 100, 4096]), "header": chance.choice([8, 16])}
+    return toarmuts.run(applications, random_script(chance, 20), **sizes)
+
+
+@pytest.mark.parametrize("seeds", [range(first, first + 100) for first in range(0, 1000, 100)], ids=str)
+def test_random_runs_entry_by_entry(seeds):
+    for seed in seeds:
+        run = random_run(seed)
+        check_entries(run.entries, run.text)
+
+
+def test_worked_runs_entry_by_entry():
+    for path in sorted((ROOT / "crates/scenario/data").glob("*.runs")):
+        for scenario in read_file(path):
+            if scenario.transcript and not scenario.quiet:
+                check_entries(Transcript(scenario.transcript), scenario.transcript)
+
+
+def test_rows_made_in_python_are_the_same():
+    for seed in range(50):
+        run = random_run(seed)
+        table = run.entries._source.table
+        plain = make_plain((PlainEntry,) * 7, run.entries._source, table, 0, len(run.entries))
+        names = [name for name in type(plain[0]).__mro__[1].__slots__ if name not in ("_source", "index")] if plain else []
+        for row, entry in zip(plain, run.entries):
+            assert [getattr(row, name) for name in names] == [getattr(entry, name) for name in names]
+
+
+from toarmuts.rows import PlainRow  # noqa: E402
+
+
+class PlainEntry(PlainRow):
+    """A row made in Python."""
+
+    __slots__ = ()
+
+
+def test_what_turns_tell():
+    text = ("4 synch 129 - -> timer-set 0 10\n4 answer done -> wait\n> tick 10\n4 event 136 0 -> mmem-alloc 0 4096\n"
+            "4 answer refused 12 -> heap-stats\n4 answer stats 1 2 3 4 5 -> clock\n4 answer wide 18446744073709551615 -> is-running 4\n"
+            "4 answer flag true -> packet-read 0 3\n4 answer bytes 686900 -> wait\n4 callback 3 -> wait\n4 poll 130 - -> post 5 140 x\n"
+            "4 answer num 7 -> wait\n5 event 140 x6f6e -> wait\n")
+    turns = Transcript(text).turns()
+    assert turns[0].stimulus == Event(EventCode.INIT) and turns[0].origin is Origin.SYNCH and turns[0].call == TimerSet(0, 10)
+    assert turns[0].answer == Answer(ReplyKind.DONE) and turns[1].answer is None and turns[1].call == Wait()
+    assert turns[2].stimulus == Event(EventCode.TIMER, 0) and turns[2].refusal is Refusal.NO_ROOM
+    assert turns[3].answer == Answer(ReplyKind.STATS, Stats(1, 2, 3, 4, 5)) and turns[4].answer.value == 2**64 - 1
+    assert turns[5].answer.value is True and turns[6].answer.value == b"hi\0"
+    assert turns[8].stimulus == Callback(3) and turns[9].call.payload == b"" and turns[10].stimulus.value == 7
+    assert turns[11].stimulus == Event(140, b"on") and [turn.line for turn in Transcript(text).turns(5)] == [13]
+
+
+def test_a_quiet_transcript_tells_no_clocks_and_answers():
+    run = toarmuts.run(["blink"], "tick 10\ntick 10\n", quiet=True)
+    assert run.text == "4 event 136 0 -> print 6f6e0a\n4 event 136 0 -> print 6f66660a\n"
+    assert [entry.clock for entry in run.entries] == [None, None] and run.entries.turns()[0].answer is None
+    assert run.printed() == b"on\noff\n" and run.entries.refused() == []
+
+
+def test_sequences():
+    entries = toarmuts.run(["blink"], "tick 10\n").entries
+    assert len(entries) == 6 and entries[-1].text == "4 answer done -> wait" and [entry.line for entry in entries[1:3]] == [2, 3]
+    assert entries[2] == Transcript(str(entries))[2] and entries[2] != entries[3] and len({*entries, *entries}) == 6
+    with pytest.raises(IndexError):
+        entries[6]
+    match entries[0]:
+        case Turn(process, Event(code=EventCode.INIT), TimerSet(timer, interval)):
+            assert (process, timer, interval) == (4, 0, 10)
+        case _:
+            raise AssertionError("no match")
+
+
+def test_printed_and_sent():
+    run = toarmuts.run(["relay", "hello"], "frame 0102\nframe 03\n")
+    assert run.sent() == [b"\1\2", b"\3"] and run.printed(5) == b"hi\n" and run.printed(4) == b""
+
+
+def test_entries_outlive_their_transcript():
+    kept = [turn for seed in range(20) for turn in random_run(seed).entries.turns()[:2]]
+    gc.collect()
+    assert all(turn.text and (turn.answer is None or str(turn.answer)) for turn in kept)
+
+
+def test_lines_of_no_form_are_told():
+    for line in ("4", "4 event", "4 event 140 -", "4 event 140 - ->", "4 event 140 - -> frob", "4 event 256 - -> wait", "20 poll 130 - -> wait",
+                 "x poll 130 - -> wait", "4 answer maybe -> wait", "> tock 1", "> tick x", "note", "note lost x", "note kept 1", "halt 1", "bad",
+                 "bad news", "too short", "4 answer refused 256 -> wait", "4 poll 130 -  -> waits"):
+        with pytest.raises(toarmuts.BadTranscript, match="line 1 is no line of a transcript"):
+            list(Transcript(line + "\n"))
+
+
+def test_words():
+    entry = toarmuts.run([["timer-stop 9"]]).entries
+    assert entry[0].explain() == "process 4: it starts (INIT); it calls timer-stop (timer 9)"
+    assert "refused with 7: no process, timer, handle" in entry[1].explain()
+
+
+def test_calls_can_be_pickled_and_are_equal_by_words():
+    for words in ("post 4 140 x6869", "print -", "memb-write 0 1 2 ff", "wait"):
+        call = Call.parse(words)
+        assert str(call) == words and pickle.loads(pickle.dumps(call)) == call and hash(call) == hash(eval(repr(call), vars(toarmuts)))
+
+
+def test_each_calls_words_read_back():
+    chance = random.Random(5)
+    from common import random_call
+
+    for _ in range(2000):
+        call = random_call(chance)
+        assert Call.parse(str(call)) == call
+
+
