@@ -1,0 +1,72 @@
+/*
+ * Lists through the first pointer of the caller's structs: list.h of Contiki-NG, in plain C. It is tested, and not proved. For
+ * the native target, x86-64 and aarch64.
+ *
+ * To be kept by the caller: the first bytes of an item are a pointer that nothing but these calls writes while the item is in a
+ * list, an item is in one list at most and stays where it is, and one thread uses a list.
+ */
+#ifndef LIST_H_
+#define LIST_H_
+
+#include "toarmuts/common.h"
+
+TOARMUTS_BEGIN
+
+typedef void **list_t;
+typedef void *const *const_list_t;
+
+#define LIST_CONCAT2(one, other) one##other
+#define LIST_CONCAT(one, other) LIST_CONCAT2(one, other)
+
+/* Declares a list with no items. */
+#define LIST(name)                               \
+  static void *LIST_CONCAT(name, _list) = NULL;  \
+  static list_t name = &LIST_CONCAT(name, _list)
+
+/* Declares a list inside a struct, which LIST_STRUCT_INIT makes ready. */
+#define LIST_STRUCT(name)          \
+  void *LIST_CONCAT(name, _list);  \
+  list_t name
+
+#define LIST_STRUCT_INIT(struct_ptr, name)                           \
+  do {                                                               \
+    (struct_ptr)->name = &((struct_ptr)->LIST_CONCAT(name, _list));  \
+    list_init((struct_ptr)->name);                                   \
+  } while(0)
+
+/* Takes all items out. */
+void list_init(list_t list);
+
+/* The first item, and the last one; NULL where there is none. */
+void *list_head(const_list_t list);
+void *list_tail(const_list_t list);
+
+/* Takes the first item out, or the last one, and answers it; NULL where there is none. */
+void *list_pop(list_t list);
+void *list_chop(list_t list);
+
+/* Makes an item the first one, or the last one. Where the list had it, it is taken out first. */
+void list_push(list_t list, void *item);
+void list_add(list_t list, void *item);
+
+/* Takes an item out, where the list has it. */
+void list_remove(list_t list, const void *item);
+
+/* How many items there are. */
+int list_length(const_list_t list);
+
+/* Makes a list begin with the items of another one. Both then share them. */
+void list_copy(list_t dest, const_list_t src);
+
+/* Puts an item behind another one, or first where that is NULL. Where the list had it, it is taken out first. */
+void list_insert(list_t list, void *previtem, void *newitem);
+
+/* The item behind this one; NULL where there is none, or the item is NULL. */
+void *list_item_next(const void *item);
+
+/* Whether the list has an item. */
+bool list_contains(const_list_t list, const void *item);
+
+TOARMUTS_END
+
+#endif

@@ -1,0 +1,51 @@
+/*
+ * Pools of blocks of one size: memb.h of Contiki-NG, over proved calls. For the native target, x86-64 and aarch64: there is no
+ * build for 32-bit processors, so none for Cortex-M.
+ *
+ * To be kept by the caller: nothing but these calls writes to a pool's flags, no two threads use one pool at once, and no signal
+ * handler uses one that a thread uses. Any pointer may be given, NULL too. Each call needs less than 1 KB of stack.
+ */
+#ifndef MEMB_H_
+#define MEMB_H_
+
+#include "toarmuts/common.h"
+
+TOARMUTS_BEGIN
+
+/* A pool: num blocks of size bytes each, and a flag of each that tells whether it is used. */
+struct memb {
+  unsigned short size;
+  unsigned short num;
+  bool *used;
+  void *mem;
+};
+
+/*
+ * Declares a pool of num blocks, each of which holds one structure. None is used. Both sizes are 1 to 65,535, which the compiler
+ * checks.
+ */
+#define MEMB(name, structure, num)                                                                            \
+  TOARMUTS_ASSERT(sizeof(structure) >= 1 && sizeof(structure) <= 65535, "MEMB: a block has 1 to 65,535 bytes"); \
+  TOARMUTS_ASSERT((num) >= 1 && (num) <= 65535, "MEMB: a pool has 1 to 65,535 blocks");                         \
+  static bool name##_memb_used[num];                                                                          \
+  static structure name##_memb_mem[num];                                                                      \
+  static struct memb name = {sizeof(structure), num, name##_memb_used, name##_memb_mem}
+
+/* Makes all blocks unused, and sets their bytes to 0. */
+void memb_init(struct memb *m);
+
+/* Takes the unused block of lowest number, its bytes all 0. NULL where every block is used. */
+void *memb_alloc(struct memb *m);
+
+/* Gives a block back: 0; -1, and nothing changes, where the pointer is not the first byte of a used block. */
+int memb_free(struct memb *m, void *ptr);
+
+/* Whether a pointer lies in the pool's memory: 1 or 0. */
+int memb_inmemb(struct memb *m, void *ptr);
+
+/* How many blocks are unused. */
+size_t memb_numfree(struct memb *m);
+
+TOARMUTS_END
+
+#endif

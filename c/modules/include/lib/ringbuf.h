@@ -1,0 +1,43 @@
+/*
+ * A queue of bytes in a ring: ringbuf.h of Contiki-NG, over proved calls. For the native target, x86-64 and aarch64: there is no
+ * build for 32-bit processors, so none for Cortex-M.
+ *
+ * One thread or signal handler may put, and one other may get, at the same time. The calls are proved one after the other; that
+ * two at once come out as one after the other is up to the order of reads and writes of put_ptr and get_ptr, which is tested.
+ * To be kept by the caller: data is good for size bytes, and nothing but these calls writes to a ring.
+ */
+#ifndef RINGBUF_H_
+#define RINGBUF_H_
+
+#include "toarmuts/common.h"
+
+TOARMUTS_BEGIN
+
+struct ringbuf {
+  uint8_t *data;
+  uint8_t mask; /* the size, less 1 */
+  uint8_t put_ptr;
+  uint8_t get_ptr;
+};
+
+/*
+ * Makes a ring of size bytes at data, in which no byte waits. It holds one byte less. Contiki-NG wants a power of 2 for a size;
+ * here any from 1 to 255 will do. A ring of no bytes, or at NULL, is full and empty.
+ */
+void ringbuf_init(struct ringbuf *r, uint8_t *data, uint8_t size);
+
+/* Puts a byte behind those that wait: 1; 0, and nothing changes, where the ring is full. */
+int ringbuf_put(struct ringbuf *r, uint8_t c);
+
+/* Takes the oldest byte; -1 where none waits. */
+int ringbuf_get(struct ringbuf *r);
+
+/* The size of the ring. */
+int ringbuf_size(struct ringbuf *r);
+
+/* How many bytes wait. */
+int ringbuf_elements(struct ringbuf *r);
+
+TOARMUTS_END
+
+#endif

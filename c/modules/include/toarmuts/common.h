@@ -1,0 +1,49 @@
+/*
+ * What the headers of the memory modules share. They are for the native target: x86-64 and aarch64. The proved calls are built
+ * for no 32-bit processor, so not for Cortex-M.
+ */
+#ifndef TOARMUTS_COMMON_H
+#define TOARMUTS_COMMON_H
+
+#include <stdbool.h>
+#include <stddef.h>
+#include <stdint.h>
+
+#if !(defined(__x86_64__) || defined(__aarch64__)) || UINTPTR_MAX != 0xffffffffffffffff
+#error "toarmuts_modules: built for x86-64 and aarch64 alone, with pointers of 64 bits"
+#endif
+
+/* A condition that the compiler checks, in C99, C11 and C++. */
+#if defined(__cplusplus)
+#define TOARMUTS_ASSERT(condition, text) static_assert(condition, text)
+#else
+#define TOARMUTS_ASSERT(condition, text) __extension__ _Static_assert(condition, text)
+#endif
+
+/* Blocks begin at multiples of this, the alignment of max_align_t on both targets, so that any object may lie in one. */
+#define TOARMUTS_ALIGNMENT 16
+
+/* The least multiple of the alignment not below n. */
+#define TOARMUTS_ALIGNED(n) (((n) + (TOARMUTS_ALIGNMENT - 1)) / TOARMUTS_ALIGNMENT * TOARMUTS_ALIGNMENT)
+
+/*
+ * Bytes aligned as max_align_t is. They are a char array in a union, so that a compiler takes them for memory of any type: an
+ * object of any type may be kept there.
+ */
+#define TOARMUTS_BYTES(name, size)                   \
+  union {                                            \
+    unsigned char bytes[size];                       \
+    long double aligned_as_long_double;              \
+    long long aligned_as_long_long;                  \
+    void *aligned_as_pointer;                        \
+  } name
+
+#ifdef __cplusplus
+#define TOARMUTS_BEGIN extern "C" {
+#define TOARMUTS_END }
+#else
+#define TOARMUTS_BEGIN
+#define TOARMUTS_END
+#endif
+
+#endif

@@ -1,0 +1,209 @@
+/*
+ * heapmem.h over the proved calls on rows: sizes are rounded up so that blocks are aligned, places made pointers, and zones kept
+ * within their sizes here, in C.
+ */
+#include "lib/heapmem.h"
+#include "toarmuts/memory.h"
+
+#include <string.h>
+
+/* How many rows have a block: those from the first on. */
+static size_t used;
+static size_t max_footprint;
+
+/* What a block of so many bytes takes; 0 where no size_t tells it. */
+static size_t
+rounded(size_t size)
+{
+  return size == 0 ? TOARMUTS_ALIGNMENT : TOARMUTS_ALIGNED(size);
+}
+
+static uint8_t *
+zone_at(size_t place)
+{
+  return &toarmuts_heap_memory.zone_of[place / TOARMUTS_ALIGNMENT];
+}
+
+/* What the blocks of a zone take: each its size. */
+static size_t
+taken_by(heapmem_zone_t zone)
+{
+  size_t sum = 0;
+  for(size_t i = 0; i < used; i++) {
+    const struct toarmuts_heap_row *row = &toarmuts_heap_memory.rows[i];
+    if(row->place < toarmuts_heap_memory.size && *zone_at(row->place) == zone) {
+      sum += row->size;
+    }
+  }
+  return sum;
+}
+
+/* How many bytes a zone has left beside a block of so many; none where there is no such zone. */
+static size_t
+left_in(heapmem_zone_t zone, size_t beside)
+{
+  if(zone >= toarmuts_heap_memory.zone_num || toarmuts_heap_memory.zones[zone].name == NULL) {
+    return 0;
+  }
+  size_t taken = taken_by(zone) - beside;
+  size_t size = toarmuts_heap_memory.zones[zone].size;
+  return taken < size ? size - taken : 0;
+}
+
+/* The place that a pointer names; the heap's size where it points elsewhere. */
+static size_t
+place_of(const void *ptr)
+{
+  uintptr_t start = (uintptr_t)toarmuts_heap_memory.bytes, at = (uintptr_t)ptr;
+  return at >= start && at - start < toarmuts_heap_memory.size ? at - start : toarmuts_heap_memory.size;
+}
+
+/* The size of the block that begins at a place of the heap; 0 where none does. */
+static size_t
+size_at(size_t place)
+{
+  for(size_t i = 0; place < toarmuts_heap_memory.size && i < used; i++) {
+    if(toarmuts_heap_memory.rows[i].place == place) {
+      return toarmuts_heap_memory.rows[i].size;
+    }
+  }
+  return 0;
+}
+
+static void
+note_footprint(void)
+{
+  struct toarmuts_heap_stats stats;
+  if(toarmuts_heapmem_stats(toarmuts_heap_memory.rows, used, toarmuts_heap_memory.size, &stats) == TOARMUTS_HEAP_DONE &&
+     stats.footprint > max_footprint) {
+    max_footprint = stats.footprint;
+  }
+}
+
+heapmem_zone_t
+heapmem_zone_register(const char *name, size_t zone_size)
+{
+  if(name == NULL || zone_size > left_in(HEAPMEM_ZONE_GENERAL, 0)) {
+    return HEAPMEM_ZONE_INVALID;
+  }
+  for(size_t i = 0; i < toarmuts_heap_memory.zone_num; i++) {
+    struct toarmuts_heap_zone *zone = &toarmuts_heap_memory.zones[i];
+    if(zone->name == NULL) {
+      zone->name = name;
+      zone->size = zone_size;
+      toarmuts_heap_memory.zones[HEAPMEM_ZONE_GENERAL].size -= zone_size;
+      return (heapmem_zone_t)i;
+    }
+    if(strcmp(zone->name, name) == 0) {
+      return HEAPMEM_ZONE_INVALID;
+    }
+  }
+  return HEAPMEM_ZONE_INVALID;
+}
+
+void *
+heapmem_zone_alloc(heapmem_zone_t zone, size_t size)
+{
+  size_t wanted = rounded(size), place;
+  if(wanted < size || wanted > left_in(zone, 0) || used == toarmuts_heap_memory.num) {
+    return NULL;
+  }
+  if(toarmuts_heapmem_alloc(toarmuts_heap_memory.rows, used + 1, toarmuts_heap_memory.bytes, toarmuts_heap_memory.size, wanted,
+                            &place) != TOARMUTS_HEAP_DONE) {
+    return NULL;
+  }
+  used++;
+  *zone_at(place) = zone;
+  note_footprint();
+  return toarmuts_heap_memory.bytes + place;
+}
+
+void *
+heapmem_alloc(size_t size)
+{
+  return heapmem_zone_alloc(HEAPMEM_ZONE_GENERAL, size);
+}
+
+/* A new block's bytes are 0 anyway. */
+void *
+heapmem_zone_calloc(heapmem_zone_t zone, size_t nmemb, size_t size)
+{
+  if(size != 0 && nmemb > SIZE_MAX / size) {
+    return NULL;
+  }
+  return heapmem_zone_alloc(zone, nmemb * size);
+}
+
+void *
+heapmem_calloc(size_t nmemb, size_t size)
+{
+  return heapmem_zone_calloc(HEAPMEM_ZONE_GENERAL, nmemb, size);
+}
+
+void *
+heapmem_realloc(void *ptr, size_t size)
+{
+  if(ptr == NULL) {
+    return heapmem_alloc(size);
+  }
+  if(size == 0) {
+    heapmem_free(ptr);
+    return NULL;
+  }
+  size_t wanted = rounded(size), place = place_of(ptr), old = size_at(place);
+  if(wanted < size || old == 0) {
+    return NULL;
+  }
+  heapmem_zone_t zone = *zone_at(place);
+  if(wanted > left_in(zone, old) ||
+     toarmuts_heapmem_realloc(toarmuts_heap_memory.rows, used, toarmuts_heap_memory.bytes, toarmuts_heap_memory.size, &place,
+                              wanted) != TOARMUTS_HEAP_DONE) {
+    return NULL;
+  }
+  *zone_at(place) = zone;
+  note_footprint();
+  return toarmuts_heap_memory.bytes + place;
+}
+
+bool
+heapmem_free(void *ptr)
+{
+  if(toarmuts_heapmem_free(toarmuts_heap_memory.rows, used, toarmuts_heap_memory.size, place_of(ptr)) != TOARMUTS_HEAP_DONE) {
+    return false;
+  }
+  used--;
+  return true;
+}
+
+void
+heapmem_stats(heapmem_stats_t *stats)
+{
+  struct toarmuts_heap_stats told;
+  if(stats == NULL) {
+    return;
+  }
+  memset(stats, 0, sizeof *stats);
+  if(toarmuts_heapmem_stats(toarmuts_heap_memory.rows, used, toarmuts_heap_memory.size, &told) == TOARMUTS_HEAP_DONE) {
+    stats->allocated = told.allocated;
+    stats->available = told.available;
+    stats->footprint = told.footprint;
+    stats->chunks = told.chunks;
+  }
+  stats->max_footprint = max_footprint;
+}
+
+size_t
+heapmem_alignment(void)
+{
+  return TOARMUTS_ALIGNMENT;
+}
+
+bool
+toarmuts_heap_row_at(size_t number, struct toarmuts_heap_row *row)
+{
+  if(number >= used) {
+    return false;
+  }
+  *row = toarmuts_heap_memory.rows[number];
+  return true;
+}
