@@ -2,6 +2,7 @@ pub mod Carrying
 pub mod Costs
 pub mod Silent
 pub mod Still
+pub mod Determined
 pub mod Reaching
 pub mod Fitness
 pub mod FrameBlocks

@@ -29,10 +29,7 @@ impl Kernel {
         ensures machine { self.new.machine ≡ fed input self.old.machine }
         ensures inputs { self.new.inputs ≡ self.old.inputs + 1 }
     {
-        self.fields.work = 0;
-        self.fields.take_in(&input);
-        self.fields.inputs += 1;
-        self.fields.pending.input = Some(input);
+        self.fields.hand_in(input);
     }
 
     /// Works until an entry is made or nothing is left to be done. It takes one turn at most, of one application.

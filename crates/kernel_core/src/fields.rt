@@ -2,7 +2,7 @@
 
 ghost use Rattle.std.specs.Prelude.{◌≡◌, ◌<◌, ◌≤◌, ◌+◌, ◌-◌, ◌*◌, ◌^◌, ◌∷◌, ℕ, true, false, not, Some, List, [], ◌++◌, length, slice_get, IfSome, eqb};
 ghost use Rattle.std.specs.List.{IsDistinct};
-ghost use Rattle.mote_types.specs.Applications.{says_of};
+ghost use Rattle.mote_types.specs.declared.call.Call.{Call as ToldCall};
 ghost use Rattle.mote_types.specs.declared.event.Pid.{Pid as Process};
 ghost use Rattle.mote_types.specs.declared.event.Stimulus.{Stimulus as ToldStimulus};
 ghost use Rattle.node_memory.specs.Placed.{last_owner};
@@ -15,15 +15,12 @@ ghost use Rattle.process_core.specs.Scheduler.{IsWellFormed};
 ghost use Rattle.kernel_core.specs.Code.Draws.{HasQueueableEvents, IsQueueableJob, drawn_in_all, draws_of_job};
 ghost use Rattle.kernel_core.specs.Code.Cost.{IsPaid, costs, present};
 ghost use Rattle.kernel_core.specs.Code.View.{ComesToJob};
-ghost use Rattle.kernel_core.specs.Run.{Answers, silent, is_at_rest, heard, within_limit, turn_taken, with_more_work};
-ghost use Rattle.kernel_core.specs.Code.Steps.{entry_of};
+ghost use Rattle.kernel_core.specs.Calls.{after_call};
+ghost use Rattle.kernel_core.specs.Run.{Answers, silent, is_at_rest, within_limit, turn_taken, with_more_work};
 
 use crate::pending_entries::PendingEntries;
-use crate::turn::Turn;
 use device_core::packet_queue::PacketQueue;
 use device_core::serial_line::SerialLine;
-use mote_types::app::App;
-use mote_types::ask::ask;
 use mote_types::entry::Entry;
 use mote_types::event::{Origin, Pid, Stimulus};
 use node_memory::NodeMemory;
@@ -54,45 +51,24 @@ pub struct KernelFields {
 }
 
 impl KernelFields {
-    /// Whether the application takes a turn, in which it is told the stimulus that lies in the place. Else the run is
-    /// halted, and the entry of that is put into `other`.
-    pub fn take_turn(
+    /// Whether a turn of the application begins. Else the run is halted, and the entry of that is put into `other`.
+    pub fn begin_turn(
         &mut self,
-        apps: &mut [Box<dyn App>],
         pid: Pid,
         origin: Origin,
-        turn: &mut Turn,
+        stimulus: &Stimulus,
         other: &mut Entry,
     ) -> bool
-        requires least { 4 ≤ pid.0 }
-        requires few { self.old.applications ≤ 16 }
-        requires present { pid.0 < 4 + length apps.old }
-        requires boxes { length apps.old ≡ self.old.applications }
         requires running { self.old.halted ≡ false }
         requires nothing_shown { self.old.pending ≡ no_pending_entries }
-        requires turn { self.old.scheduler.turn ≡ Some pid }
-        requires applications { self.old.applications ≡ self.old.scheduler.state.applications }
         requires work { self.old.work ≤ 10000 }
-        requires last { pid.0 ≤ 19 }
-        requires clock { self.old.clock ≤ 2 ^ 62 }
-        requires inputs { self.old.inputs ≤ 2 ^ 40 }
-        requires events { HasQueueableEvents self.old }
-        requires draws { drawn_in_all self.old ≤ 1 + 8 * (10000 * self.old.inputs + self.old.work) }
-        requires distinct { IsDistinct eqb (numbers self.old.scheduler.state.processes) }
-        requires frames { HoldsFrames self.old.memory.contents self.old.packets.frames }
-        requires owners { 3 + self.old.applications ≤ last_owner self.old.memory }
-        ensures taken { result ≡ true → within_limit (machine_of self.old) (turn_taken pid.0 origin turn.old.stimulus (says_of says apps.old pid.0 (turn.old.stimulus ∷ [])) (machine_of self.old)) ≡ (machine_of self.new, Some (entry_of turn.new)) }
-        ensures halts { result ≡ false → within_limit (machine_of self.old) (turn_taken pid.0 origin turn.old.stimulus (says_of says apps.old pid.0 (turn.old.stimulus ∷ [])) (machine_of self.old)) ≡ (machine_of self.new, Some other.new) }
-        ensures left { entries_left_in self.new < entries_left_in self.old }
-        ensures halted { self.new.halted ≡ not result }
-        ensures clock { self.new.clock ≡ self.old.clock }
-        ensures order { IsInOrder self.new }
-        ensures kept { (self.new.inputs ≡ self.old.inputs) × (self.new.scheduler.state.applications ≡ self.old.scheduler.state.applications) }
-        ensures law { result ≡ true → (p : ℕ) (next : ToldStimulus) (later : List ToldStimulus) →
-            says_of says apps.new p (next ∷ later) ≡ says_of says apps.old p (heard p (entry_of turn.new ∷ []) ++ (next ∷ later)) }
-        ensures others { result ≡ true → (p : ℕ) → 4 ≤ p → heard p (entry_of turn.new ∷ []) ≡ [] → slice_get apps.new (p - 4) ≡ slice_get apps.old (p - 4) }
-        ensures unasked { result ≡ false → (apps.new ≡ apps.old) × (other.new ≡ Entry.Halt) }
-        ensures unmade { result ≡ true → other.new ≡ other.old }
+        ensures begins { result ≡ true → (call : ToldCall) →
+            within_limit (machine_of self.old) (turn_taken pid.0 origin stimulus.now call (machine_of self.old))
+            ≡ (after_call call pid.0 (machine_of self.new), Some (Entry.Turn pid origin stimulus.now call)) }
+        ensures halts { result ≡ false → (call : ToldCall) →
+            within_limit (machine_of self.old) (turn_taken pid.0 origin stimulus.now call (machine_of self.old)) ≡ (machine_of self.new, Some other.new) }
+        ensures more { result ≡ true → (self.new ≡ record self.old { work = self.old.work + 1 }) × (self.old.work < 10000) × (other.new ≡ other.old) }
+        ensures halted { result ≡ false → (self.new ≡ record self.old { halted = true }) × (other.new ≡ Entry.Halt) }
     {
         if self.work == WORK_LIMIT {
             self.halted = true;
@@ -100,10 +76,6 @@ impl KernelFields {
             return false;
         }
         self.work += 1;
-        turn.pid = pid;
-        turn.origin = origin;
-        ask(apps, pid, &turn.stimulus, &mut turn.call);
-        self.carry_out(pid, &turn.call);
         true
     }
 

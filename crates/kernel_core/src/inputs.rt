@@ -2,8 +2,9 @@
 
 ghost use Rattle.std.specs.Prelude.{◌≡◌, ◌<◌, ◌≤◌, ◌+◌, ◌^◌, true, length, None, Some, IfErr, IfOk};
 ghost use Rattle.mmem_core.specs.ManagedStore.{free};
-ghost use Rattle.kernel_core.specs.Inputs.{effect, frame_arrived, frame_held, frame_refusal, has_bytes, ticks_of};
-ghost use Rattle.kernel_core.specs.Code.View.{machine_of, no_pending_entries, HoldsFrames, IsTakenIn};
+ghost use Rattle.kernel_core.specs.Inputs.{effect, fed, frame_arrived, frame_held, frame_refusal, has_bytes, ticks_of};
+ghost use Rattle.kernel_core.specs.Code.View.{machine_of, no_pending_entries, HoldsFrames, IsInOrder, IsTakenIn};
+ghost use Rattle.kernel_core.specs.Run.{is_at_rest};
 ghost use Rattle.device_core.specs.PacketQueue.{free_slot};
 ghost use Rattle.node_memory.specs.Placed.{last_owner};
 
@@ -99,5 +100,22 @@ impl KernelFields {
             }
             Input::Frame(bytes) => self.receive_frame(bytes.as_slice()),
         }
+    }
+
+    /// An input is handed in at rest. Its entry comes first.
+    pub fn hand_in(&mut self, input: Input)
+        requires order { IsInOrder self.old }
+        requires rest { is_at_rest (machine_of self.old) ≡ true }
+        requires clock { self.old.clock + ticks_of input ≤ 2 ^ 62 }
+        requires bytes { has_bytes input ≡ true }
+        requires few { self.old.inputs < 2 ^ 40 }
+        ensures machine { machine_of self.new ≡ fed input (machine_of self.old) }
+        ensures inputs { self.new.inputs ≡ self.old.inputs + 1 }
+        ensures order { IsInOrder self.new }
+    {
+        self.work = 0;
+        self.take_in(&input);
+        self.inputs += 1;
+        self.pending.input = Some(input);
     }
 }

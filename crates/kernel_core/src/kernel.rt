@@ -20,6 +20,7 @@ use crate::turn::Turn;
 use device_core::packet_queue::PacketQueue;
 use device_core::serial_line::SerialLine;
 use mote_types::app::App;
+use mote_types::ask::ask;
 use mote_types::entry::{Entry, Input};
 use mote_types::event::MOST_APPLICATIONS;
 use mote_types::fault::BootFault;
@@ -161,16 +162,11 @@ impl Kernel {
         ensures progress { TakesEntry (stepped result turn.new other.new) self.old self.new }
         ensures unmade { result ≢ StepOutcome.Other → other.new ≡ other.old }
     {
-        if self.fields.halted {
-            return StepOutcome::Halted;
+        let outcome = self.fields.next(turn, other);
+        if let StepOutcome::Turn = outcome {
+            ask(apps, turn.pid, &turn.stimulus, &mut turn.call);
+            self.fields.answer_turn(turn.pid, &turn.call);
         }
-        if !self.fields.pending.is_empty() {
-            self.fields.pending.take_first(other);
-            return StepOutcome::Other;
-        }
-        if self.fields.pass_idle_round() {
-            return StepOutcome::Rest;
-        }
-        self.fields.work_on(apps, turn, other)
+        outcome
     }
 }

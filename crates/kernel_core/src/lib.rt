@@ -1,12 +1,14 @@
 //! The kernel: one machine of processes, events and a clock, worked off step by step.
 #![tactic(auto)]
 
+pub mod awaiting_kernel;
 mod by_value;
 mod call_kind;
 mod calls;
 pub mod config;
 mod event_calls;
 mod fields;
+mod halves;
 mod idle_round;
 mod inputs;
 pub mod kernel;

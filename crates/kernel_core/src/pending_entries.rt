@@ -1,10 +1,11 @@
 //! The entries that are made before anything else is done.
 
-ghost use Rattle.std.specs.Prelude.{◌≡◌, ◌∷◌, false};
+ghost use Rattle.std.specs.Prelude.{◌≡◌, ◌∷◌, ℕ, [], false};
 ghost use Rattle.mote_types.specs.Entries.{is_halt};
 ghost use Rattle.process_core.specs.Agenda.{Item};
 ghost use Rattle.process_core.specs.Idle.{is_empty};
 ghost use Rattle.kernel_core.specs.Code.View.{no_pending_entries, pending_items};
+ghost use Rattle.kernel_core.specs.Run.{heard};
 
 use mote_types::entry::{Entry, Input, Note};
 
@@ -38,6 +39,7 @@ impl PendingEntries {
         requires some { is_empty (pending_items self.old) ≡ false }
         ensures first { pending_items self.old ≡ Item.Show made.new ∷ pending_items self.new }
         ensures kind { is_halt made.new ≡ false }
+        ensures untold { (p : ℕ) → heard p (made.new ∷ []) ≡ [] }
     {
         // A take copies the whole place, also where nothing is there.
         if self.input.is_some() {

@@ -1,44 +1,40 @@
-//! Work until an entry is made or nothing is left to be done.
+//! Work until an application is to take a turn, another entry is made, or nothing is left to be done.
 
-ghost use Rattle.std.specs.Prelude.{◌≡◌, ◌≢◌, ◌≤◌, ◌-◌, ◌∷◌, ◌++◌, ℕ, [], false, List, length, slice_get};
+ghost use Rattle.std.specs.Prelude.{◌≡◌, ◌≢◌, ◌≤◌, ◌+◌, ℕ, [], false};
 ghost use Rattle.std.specs.List.{list_any};
-ghost use Rattle.mote_types.specs.Applications.{says_of};
 ghost use Rattle.mote_types.specs.Entries.{is_halt};
-ghost use Rattle.mote_types.specs.declared.event.Stimulus.{Stimulus as ToldStimulus};
-ghost use Rattle.kernel_core.specs.Code.View.{machine_of, mote_of, no_pending_entries, IsInOrder};
+ghost use Rattle.kernel_core.specs.Code.OpenTurns.{AwaitsCall, IsMidTurn};
+ghost use Rattle.kernel_core.specs.Code.View.{entries_left_in, machine_of, mote_of, no_pending_entries, IsInOrder};
 ghost use Rattle.kernel_core.specs.Mote.{TakesEntry};
-ghost use Rattle.kernel_core.specs.Run.{heard};
+ghost use Rattle.kernel_core.specs.Run.{Answers, heard};
 ghost use Rattle.kernel_core.specs.Code.Steps.{GoesOn, made as made_by, stepped};
 
 use crate::fields::KernelFields;
 use crate::step::StepOutcome;
 use crate::turn::Turn;
-use mote_types::app::App;
 use mote_types::entry::Entry;
 use process_core::next_job::NextJob;
 
 impl KernelFields {
-    /// Does one job after the other, until one makes an entry, which is put into one of the places, or there is rest.
-    pub fn work_on(
-        &mut self,
-        apps: &mut [Box<dyn App>],
-        turn: &mut Turn,
-        other: &mut Entry,
-    ) -> StepOutcome
-        requires boxes { length apps.old ≡ self.old.scheduler.state.applications }
+    /// Does one job after the other, until a turn begins, which is put into `turn` but for its call, until another entry is
+    /// made, which is put into `other`, or until there is rest.
+    pub fn work_on(&mut self, turn: &mut Turn, other: &mut Entry) -> StepOutcome
         requires order { IsInOrder self.old }
         requires running { self.old.halted ≡ false }
         requires nothing_shown { self.old.pending ≡ no_pending_entries }
-        ensures machine { GoesOn (λ p stimulus. says_of says apps.old p (stimulus ∷ [])) (machine_of self.old) (stepped result turn.new other.new) (machine_of self.new) }
-        ensures law { (p : ℕ) (next : ToldStimulus) (later : List ToldStimulus) →
-            says_of says apps.new p (next ∷ later) ≡ says_of says apps.old p (heard p (made_by (stepped result turn.new other.new)) ++ (next ∷ later)) }
-        ensures others { (p : ℕ) → 4 ≤ p → heard p (made_by (stepped result turn.new other.new)) ≡ [] → slice_get apps.new (p - 4) ≡ slice_get apps.old (p - 4) }
+        ensures awaits { result ≡ StepOutcome.Turn → (answers : Answers) →
+            AwaitsCall answers (machine_of self.old) turn.new.pid turn.new.origin turn.new.stimulus (machine_of self.new) }
+        ensures open { result ≡ StepOutcome.Turn → IsMidTurn turn.new.pid self.new }
+        ensures room { result ≡ StepOutcome.Turn → entries_left_in self.new + 2 ≤ entries_left_in self.old }
+        ensures goes { result ≢ StepOutcome.Turn → (answers : Answers) →
+            GoesOn answers (machine_of self.old) (stepped result turn.new other.new) (machine_of self.new) }
+        ensures untold { result ≢ StepOutcome.Turn → (p : ℕ) → heard p (made_by (stepped result turn.new other.new)) ≡ [] }
+        ensures order { result ≢ StepOutcome.Turn → IsInOrder self.new }
         ensures halted { self.new.halted ≡ list_any is_halt (made_by (stepped result turn.new other.new)) }
         ensures clock { self.new.clock ≡ self.old.clock }
         ensures applications { self.new.scheduler.state.applications ≡ self.old.scheduler.state.applications }
         ensures inputs { self.new.inputs ≡ self.old.inputs }
         ensures progress { TakesEntry (stepped result turn.new other.new) (mote_of self.old) (mote_of self.new) }
-        ensures order { IsInOrder self.new }
         ensures unmade { result ≢ StepOutcome.Other → other.new ≡ other.old }
     {
         // The place mostly has the last turn's call still. Whatever it has, no entry comes of this.
@@ -46,7 +42,9 @@ impl KernelFields {
         'job: loop {
             match self.next_job(&mut turn.stimulus) {
                 NextJob::Give { pid, origin } => {
-                    if self.take_turn(apps, pid, origin, turn, other) {
+                    turn.pid = pid;
+                    turn.origin = origin;
+                    if self.begin_turn(pid, origin, &turn.stimulus, other) {
                         return StepOutcome::Turn;
                     }
                     return StepOutcome::Other;

@@ -2,7 +2,7 @@
 use Rattle.std.proofs.Common.{arith, ◌≡◌, ◌+◌, ℕ, zero, suc, Bool, true, false, List, [], ◌∷◌, ◌++◌, refl, ap, sym, ◌∙◌, append_assoc, option_to_list}
 use Rattle.mote_run.proofs.Common.{nat_tests, filter_map-append, Applications, Stimulus, Entry, Input, Step, Machine, Answers, Running, Runs, ComesToRest, after_step, after_steps, answers_after, gone_on, heard, one_step, stimulus_of, with_input, GoesOn, Silently, made, IsTold}
 use Rattle.std.proofs.Math.Path.{fun_ext}
-use Rattle.mote_run.proofs.Determined.{steps_plus}
+use Rattle.kernel_core.proofs.Determined.{steps_plus}
 
 -- a row of steps that make no entry
 silent_steps : (says : Applications) (n : ℕ) (a b : Machine) → Silently (answers_after says []) n a b →

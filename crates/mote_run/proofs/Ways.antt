@@ -5,7 +5,7 @@ use Rattle.std.proofs.lemmas.List.Folds.{list_any-append}
 use Rattle.std.proofs.lemmas.Grind.{flat_map-append}
 use Rattle.mote_types.specs.declared.call.Call.{Call}
 use Rattle.mote_types.specs.declared.refusal.Refusal.{Refusal}
-use Rattle.mote_run.proofs.Determined.{run_from, still_rest}
+use Rattle.kernel_core.proofs.Determined.{run_from, still_rest}
 use Rattle.mote_run.proofs.Steps.{made_steps, runs_behind}
 use Rattle.mote_run.proofs.Writing.{nothing_more}
 

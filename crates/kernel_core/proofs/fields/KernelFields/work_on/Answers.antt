@@ -4,16 +4,18 @@ use Rattle.kernel_core.proofs.Costs.{costs-cons}
 use Rattle.kernel_core.proofs.Common.{present, is_cancelled, KernelFields, Item, Origin, Stimulus}
 use Rattle.kernel_core.proofs.fields.KernelFields.work_on.Goals as goal
 
-pub returns-then-take_turn-clause-machine : goal.returns-then-take_turn-clause-machine
-returns-then-take_turn-clause-machine g c =
-    job_makes (then_job (c.job.invariant.so_far _) (c.in-Give.ensures.reached _)) (rw c.job.invariant.found.apps at c.take_turn.ensures.taken (search rules))
+pub returns-then-begin_turn-clause-awaits : goal.returns-then-begin_turn-clause-awaits
+returns-then-begin_turn-clause-awaits c =
+    λ is answers. job_makes (then_job (c.job.invariant.so_far answers) (c.in-Give.ensures.reached answers)) (c.begin_turn.ensures.begins (search rules) _)
 
-pub returns-in-Give-clause-machine : goal.returns-in-Give-clause-machine
-returns-in-Give-clause-machine g c =
-    job_makes (then_job (c.job.invariant.so_far _) (c.in-Give.ensures.reached _)) (rw c.job.invariant.found.apps at c.take_turn.ensures.halts (search rules))
+pub returns-in-Give-clause-goes : goal.returns-in-Give-clause-goes
+returns-in-Give-clause-goes c =
+    λ is answers.
+    job_makes (then_job (c.job.invariant.so_far answers) (c.in-Give.ensures.reached answers))
+    (c.begin_turn.ensures.halts (search rules) (answers c.in-Give.pid.0 c.next_job.new.told))
 
 pub job-preserved-in-Serve : goal.job-preserved-in-Serve
-job-preserved-in-Serve g c = record {
+job-preserved-in-Serve c = record {
   found = search rules;
   so_far = λ answers. job_silently (then_job (c.job.invariant.so_far answers) (c.in-Serve.ensures.reached answers)) (c.serve_told.ensures.machine answers _);
   present =
@@ -27,7 +29,7 @@ either true if_true if_false = if_true refl
 either false if_true if_false = if_false refl
 
 pub job-preserved-in-Callback : goal.job-preserved-in-Callback
-job-preserved-in-Callback g c =
+job-preserved-in-Callback c =
     either (is_cancelled c.next_job.new.self.timers.armings c.in-Callback.pid.0 c.in-Callback.number c.in-Callback.arming)
     (λ cancelled. rw (c.expire.ensures.cancelled cancelled) record {
       found = search rules;
@@ -40,19 +42,19 @@ job-preserved-in-Callback g c =
       present = search rules;
     })
 
-pub returns-in-Rest-clause-machine : goal.returns-in-Rest-clause-machine
-returns-in-Rest-clause-machine g c =
-    record {
+pub returns-in-Rest-clause-goes : goal.returns-in-Rest-clause-goes
+returns-in-Rest-clause-goes c =
+    λ is answers. record {
       before = job_silently (then_job (c.job.invariant.so_far _) (c.in-Rest.ensures.reached _)) refl;
       at_rest = search rules;
     }
 
-pub returns-then-not-begin_round-clause-machine : goal.returns-then-not-begin_round-clause-machine
-returns-then-not-begin_round-clause-machine g c =
-    job_makes (then_job (c.job.invariant.so_far _) (c.in-Round.ensures.reached _)) (c.begin_round.ensures.halts (search rules))
+pub returns-then-not-begin_round-clause-goes : goal.returns-then-not-begin_round-clause-goes
+returns-then-not-begin_round-clause-goes c =
+    λ is answers. job_makes (then_job (c.job.invariant.so_far _) (c.in-Round.ensures.reached _)) (c.begin_round.ensures.halts (search rules))
 
 pub job-preserved : goal.job-preserved
-job-preserved g c = record {
+job-preserved c = record {
   found = search rules;
   so_far = λ answers. job_silently (then_job (c.job.invariant.so_far answers) (c.in-Round.ensures.reached answers)) (c.begin_round.ensures.begins (search rules));
   present =
@@ -63,7 +65,7 @@ job-preserved g c = record {
 }
 
 pub job-smaller-in-Callback : goal.job-smaller-in-Callback
-job-smaller-in-Callback g c =
+job-smaller-in-Callback c =
     let bound = present c.args.self.now.scheduler.state in
     let paid = c.in-Callback.ensures.paid bound c.job.invariant.present in
     let cons = costs-cons bound (Item.Give c.in-Callback.pid.0 Origin.Callback (Stimulus.Callback c.in-Callback.number)) c.next_job.new.self.scheduler.state.agenda in

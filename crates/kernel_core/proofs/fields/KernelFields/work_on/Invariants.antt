@@ -3,7 +3,7 @@ use Rattle.kernel_core.proofs.Common.{machine_of, no_pending_entries, entries_le
 use Rattle.kernel_core.proofs.fields.KernelFields.work_on.Given as goal
 
 abbrev pub invariant-job : goal.invariant-job
-invariant-job g l = record {
+invariant-job l = record {
   found : record {
     order : IsInOrder l.self;
     running : l.self.halted ≡ false;
@@ -11,7 +11,6 @@ invariant-job g l = record {
     inputs : l.self.inputs ≡ l.fn.self.inputs;
     applications : l.self.scheduler.state.applications ≡ l.fn.self.scheduler.state.applications;
     clock : l.self.clock ≡ l.fn.self.clock;
-    apps : l.apps ≡ l.fn.apps;
     other : l.other ≡ l.fn.other;
     left : entries_left_in l.self ≤ entries_left_in l.fn.self;
   };
@@ -20,6 +19,6 @@ invariant-job g l = record {
 }
 
 abbrev pub decreases-job : goal.decreases-job
-decreases-job g l =
+decreases-job l =
     let bound = present l.fn.self.scheduler.state in
     (work_limit - l.self.work) * (round_cost bound + 1) + costs bound l.self.scheduler.state.agenda

@@ -1,14 +1,19 @@
-use Rattle.kernel_core.proofs.Reaching.{entry_is_shown}
+use Rattle.std.proofs.Common.{rules, refl}
 use Rattle.kernel_core.proofs.kernel.Kernel.step_to.Goals as goal
 
-pub returns-then-not-is_empty-clause-machine : goal.returns-then-not-is_empty-clause-machine
-returns-then-not-is_empty-clause-machine g c =
-    rw (← c.self.view_is) (entry_is_shown c.self.inside.fields c.take_first.new.self c.if-self.false c.take_first.ensures.first)
+pub returns-in-Turn-clause-machine : goal.returns-in-Turn-clause-machine
+returns-in-Turn-clause-machine g c =
+    rw (← c.self.view_is, c.in-Turn.is, c.answer_turn.ensures.machine, c.ask.ensures.answer) (c.next-outcome.ensures.awaits c.in-Turn.is _)
 
-pub returns-then-pass_idle_round-clause-machine : goal.returns-then-pass_idle_round-clause-machine
-returns-then-pass_idle_round-clause-machine g c =
-    rw (← c.self.view_is) (c.pass_idle_round.ensures.passed c.if-pass_idle_round.true _)
-
-pub returns-clause-machine : goal.returns-clause-machine
-returns-clause-machine g c =
-    rw (← c.self.view_is, ← c.pass_idle_round.ensures.else_nothing c.if-pass_idle_round.false) c.work_on.ensures.machine
+pub returns-in_default : goal.returns-in_default
+returns-in_default g c = record {
+  machine = rw (← c.self.view_is) (c.next-outcome.ensures.goes c.in_default.not-Turn _);
+  law = λ p next later. rw (c.next-outcome.ensures.untold c.in_default.not-Turn p) refl;
+  others = λ p application unheard. refl;
+  halted = search rules;
+  clock = search rules;
+  applications = search rules;
+  inputs = search rules;
+  progress = search rules;
+  unmade = search rules;
+}

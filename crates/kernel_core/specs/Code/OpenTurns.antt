@@ -1,0 +1,46 @@
+-- A kernel in the midst of a turn: an application was told a stimulus, and its call is awaited.
+use Rattle.std.specs.Prelude.{◌≡◌, ◌≤◌, ◌<◌, ◌+◌, ◌*◌, ◌^◌, false, Option, None, Some}
+use Rattle.mote_types.specs.declared.entry.Entry.{Entry}
+use Rattle.mote_types.specs.declared.event.Stimulus.{Stimulus}
+use Rattle.mote_types.specs.declared.event.Origin.{Origin}
+use Rattle.mote_types.specs.declared.event.Pid.{Pid}
+use Rattle.node_memory.specs.Placed.{last_owner}
+use Rattle.kernel_core.specs.declared.fields.KernelFields.{KernelFields}
+use Rattle.kernel_core.specs.Machine.{Machine}
+use Rattle.kernel_core.specs.Calls.{after_call}
+use Rattle.kernel_core.specs.Mote.{Mote}
+use Rattle.kernel_core.specs.Run.{Answers, work_limit}
+use Rattle.kernel_core.specs.Code.Draws.{drawn_in_all}
+use Rattle.kernel_core.specs.Code.Steps.{MakesEntry}
+use Rattle.kernel_core.specs.Code.View.{IsAtTurn, IsInOrder, mote_of}
+
+-- from old the machine comes to a turn, whatever is answered in it: once the answer is carried out on new, the turn is made
+abbrev pub AwaitsCall : Answers → Machine → Pid → Origin → Stimulus → Machine → Type 0
+AwaitsCall answers old pid origin stimulus new =
+    MakesEntry answers old (Entry.Turn pid origin stimulus (answers pid.0 stimulus)) (after_call (answers pid.0 stimulus) pid.0 new)
+
+-- the turn is the application's, and all else is in order
+pub record IsMidTurn (pid : Pid) (k : KernelFields) : Type 0 where
+  pub at_turn : IsAtTurn pid k
+  pub application : pid.0 < 4 + k.scheduler.state.applications
+  pub running : k.halted ≡ false
+  pub work : k.work ≤ work_limit
+  pub few : k.applications ≤ 16
+  pub inputs : k.inputs ≤ 2 ^ 40
+  pub owners : 3 + k.applications ≤ last_owner k.memory
+  -- the call draws four numbers at most
+  pub draws : drawn_in_all k + 4 ≤ 1 + 8 * (10000 * k.inputs + k.work)
+
+-- what contracts see of a kernel that awaits the call of each turn
+pub record AwaitingMote : Type 0 where
+  pub mote : Mote
+  -- the application whose call is awaited
+  pub turn : Option Pid
+
+abbrev pub awaiting_mote_of : Option Pid → KernelFields → AwaitingMote
+awaiting_mote_of turn k = record { mote = mote_of k; turn = turn }
+
+-- the fields are in order, in a turn or between two
+abbrev pub StandsWell : Option Pid → KernelFields → Type 0
+StandsWell None k = IsInOrder k
+StandsWell (Some pid) k = IsMidTurn pid k

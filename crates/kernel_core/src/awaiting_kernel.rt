@@ -1,0 +1,159 @@
+//! A kernel whose turns are answered from outside: its caller asks what comes next, and hands in the call of each turn.
+
+ghost use Rattle.std.specs.Prelude.{◌≡◌, ◌≢◌, ◌<◌, ◌≤◌, ◌+◌, ◌^◌, ◌&&◌, ◌||◌, ◌↔◌, ℕ, [], true, false, None, Some, is_none, IfOk, IsErrOf};
+ghost use Rattle.std.specs.List.{list_any};
+ghost use Rattle.mote_types.specs.Entries.{is_halt};
+ghost use Rattle.process_core.specs.Processes.{IsApplication};
+ghost use Rattle.kernel_core.specs.Calls.{after_call};
+ghost use Rattle.kernel_core.specs.Code.OpenTurns.{AwaitsCall};
+ghost use Rattle.kernel_core.specs.Code.Steps.{GoesOn, made as made_by, stepped};
+ghost use Rattle.kernel_core.specs.Inputs.{fed, has_bytes, ticks_of};
+ghost use Rattle.kernel_core.specs.Machine.{is_bootable, booted};
+ghost use Rattle.kernel_core.specs.Mote.{TakesEntry};
+ghost use Rattle.kernel_core.specs.Run.{Answers, heard, is_at_rest};
+
+use crate::config::Config;
+use crate::fields::KernelFields;
+use crate::kernel::Kernel;
+use crate::step::StepOutcome;
+use crate::turn::Turn;
+use mote_types::call::Call;
+use mote_types::entry::{Entry, Input};
+use mote_types::event::Pid;
+use mote_types::fault::BootFault;
+use std::alloc::Global;
+use std::marker::Model;
+
+/// A mote's kernel, and the application whose call it awaits, if it awaits one.
+#[derive(Drop)]
+pub struct AwaitingKernel {
+    fields: KernelFields,
+    turn: Option<Pid>,
+}
+
+impl Model for AwaitingKernel {
+    ghost use Rattle.kernel_core.specs.Code.OpenTurns.{AwaitingMote, awaiting_mote_of, StandsWell};
+
+    ghost Value = { AwaitingMote };
+
+    ghost view = { λ k. awaiting_mote_of k.turn k.fields };
+
+    ghost invariant = { λ k. StandsWell k.turn k.fields };
+}
+
+impl AwaitingKernel {
+    /// A kernel at boot, before its applications are started. All memory that the mote will use is taken here.
+    ///
+    /// # Errors
+    ///
+    /// As `Kernel::boot`.
+    pub fn boot(alloc: Global, config: Config) -> Result<AwaitingKernel, BootFault>
+        ensures booted { IfOk result (λ kernel. (kernel.mote.machine ≡ booted config) × (kernel.mote.inputs ≡ 0) × (kernel.turn ≡ None)) }
+        ensures bad_sizes { IsErrOf result BootFault.BadSizes ↔ (is_bootable config ≡ false) }
+    {
+        match Kernel::boot(alloc, config) {
+            Ok(kernel) => {
+                let Kernel { fields } = kernel;
+                Ok(AwaitingKernel { fields, turn: None })
+            }
+            Err(fault) => Err(fault),
+        }
+    }
+
+    /// The first half of a step, as `Kernel::step_to` makes it: works until an application is to take a turn, which is put
+    /// into `turn` but for its call, until another entry is made, which is put into `other`, or until there is rest.
+    #[inline]
+    pub fn next(&mut self, turn: &mut Turn, other: &mut Entry) -> StepOutcome
+        requires closed { self.old.turn ≡ None }
+        ensures opens { result ≡ StepOutcome.Turn → self.new.turn ≡ Some turn.new.pid }
+        ensures awaits { result ≡ StepOutcome.Turn → (answers : Answers) →
+            AwaitsCall answers self.old.mote.machine turn.new.pid turn.new.origin turn.new.stimulus self.new.mote.machine }
+        ensures application { result ≡ StepOutcome.Turn → IsApplication self.old.mote.machine.scheduler.applications turn.new.pid.0 }
+        ensures room { result ≡ StepOutcome.Turn → self.new.mote.entries_left + 2 ≤ self.old.mote.entries_left }
+        ensures closed { result ≢ StepOutcome.Turn → self.new.turn ≡ None }
+        ensures goes { result ≢ StepOutcome.Turn → (answers : Answers) →
+            GoesOn answers self.old.mote.machine (stepped result turn.new other.new) self.new.mote.machine }
+        ensures untold { result ≢ StepOutcome.Turn → (p : ℕ) → heard p (made_by (stepped result turn.new other.new)) ≡ [] }
+        ensures halted { self.new.mote.machine.is_halted ≡ (self.old.mote.machine.is_halted || list_any is_halt (made_by (stepped result turn.new other.new))) }
+        ensures clock { self.new.mote.machine.clock ≡ self.old.mote.machine.clock }
+        ensures applications { self.new.mote.machine.scheduler.applications ≡ self.old.mote.machine.scheduler.applications }
+        ensures inputs { self.new.mote.inputs ≡ self.old.mote.inputs }
+        ensures progress { TakesEntry (stepped result turn.new other.new) self.old.mote self.new.mote }
+        ensures unmade { result ≢ StepOutcome.Other → other.new ≡ other.old }
+    {
+        let outcome = self.fields.next(turn, other);
+        if let StepOutcome::Turn = outcome {
+            self.turn = Some(turn.pid);
+        }
+        outcome
+    }
+
+    /// The second half: carries out the call of the application whose turn it is.
+    #[inline]
+    pub fn answer(&mut self, pid: Pid, call: &Call)
+        requires open { self.old.turn ≡ Some pid }
+        ensures machine { self.new.mote.machine ≡ after_call call.now pid.0 self.old.mote.machine }
+        ensures closed { self.new.turn ≡ None }
+        ensures running { self.new.mote.machine.is_halted ≡ false }
+        ensures clock { self.new.mote.machine.clock ≡ self.old.mote.machine.clock }
+        ensures applications { self.new.mote.machine.scheduler.applications ≡ self.old.mote.machine.scheduler.applications }
+        ensures inputs { self.new.mote.inputs ≡ self.old.mote.inputs }
+        ensures left { self.new.mote.entries_left ≤ self.old.mote.entries_left + 1 }
+    {
+        self.fields.answer_turn(pid, call);
+        self.turn = None;
+    }
+
+    /// Hands an input to a mote at rest. What follows is done by `next`, and the input's entry is made first.
+    ///
+    /// A frame has at least one byte.
+    pub fn feed(&mut self, input: Input)
+        requires closed { self.old.turn ≡ None }
+        requires rest { is_at_rest self.old.mote.machine ≡ true }
+        requires clock { self.old.mote.machine.clock + ticks_of input ≤ 2 ^ 62 }
+        requires bytes { has_bytes input ≡ true }
+        requires few { self.old.mote.inputs < 2 ^ 40 }
+        ensures machine { self.new.mote.machine ≡ fed input self.old.mote.machine }
+        ensures inputs { self.new.mote.inputs ≡ self.old.mote.inputs + 1 }
+        ensures closed { self.new.turn ≡ None }
+    {
+        self.fields.hand_in(input);
+    }
+
+    /// The application whose call is awaited.
+    #[inline]
+    pub fn turn(&self) -> Option<Pid>
+        ensures { result ≡ self.now.turn }
+    {
+        self.turn
+    }
+
+    /// The ticks since boot.
+    pub fn clock(&self) -> u64
+        ensures value { result ≡ self.now.mote.machine.clock }
+        ensures most { result ≤ 2 ^ 62 }
+    {
+        self.fields.clock
+    }
+
+    /// How many inputs were handed in.
+    pub fn inputs(&self) -> u64
+        ensures { result ≡ self.now.mote.inputs }
+    {
+        self.fields.inputs
+    }
+
+    /// Whether the run was halted, since the work of one input reached its bound.
+    pub fn halted(&self) -> bool
+        ensures { result ≡ self.now.mote.machine.is_halted }
+    {
+        self.fields.halted
+    }
+
+    /// Whether no call is awaited and the mote rests.
+    pub fn at_rest(&self) -> bool
+        ensures { result ≡ (is_none self.now.turn && is_at_rest self.now.mote.machine) }
+    {
+        !self.fields.halted && self.fields.pending.is_empty() && self.fields.scheduler.at_rest()
+    }
+}

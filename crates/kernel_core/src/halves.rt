@@ -1,0 +1,69 @@
+//! The two halves of a turn. The kernel works until an application is to take one; then its call is carried out, wherever that
+//! comes from.
+
+ghost use Rattle.std.specs.Prelude.{◌≡◌, ◌≢◌, ◌≤◌, ◌+◌, ◌||◌, ℕ, [], false};
+ghost use Rattle.std.specs.List.{list_any};
+ghost use Rattle.mote_types.specs.Entries.{is_halt};
+ghost use Rattle.kernel_core.specs.Calls.{after_call};
+ghost use Rattle.kernel_core.specs.Code.OpenTurns.{AwaitsCall, IsMidTurn};
+ghost use Rattle.kernel_core.specs.Code.View.{entries_left_in, machine_of, mote_of, IsInOrder};
+ghost use Rattle.kernel_core.specs.Mote.{TakesEntry};
+ghost use Rattle.kernel_core.specs.Run.{Answers, heard};
+ghost use Rattle.kernel_core.specs.Code.Steps.{GoesOn, made as made_by, stepped};
+
+use crate::fields::KernelFields;
+use crate::step::StepOutcome;
+use crate::turn::Turn;
+use mote_types::call::Call;
+use mote_types::entry::Entry;
+use mote_types::event::Pid;
+
+impl KernelFields {
+    /// Works until a turn begins, which is put into `turn` but for its call, until another entry is made, which is put into
+    /// `other`, or until there is rest.
+    #[inline]
+    pub fn next(&mut self, turn: &mut Turn, other: &mut Entry) -> StepOutcome
+        requires order { IsInOrder self.old }
+        ensures awaits { result ≡ StepOutcome.Turn → (answers : Answers) →
+            AwaitsCall answers (machine_of self.old) turn.new.pid turn.new.origin turn.new.stimulus (machine_of self.new) }
+        ensures open { result ≡ StepOutcome.Turn → IsMidTurn turn.new.pid self.new }
+        ensures room { result ≡ StepOutcome.Turn → entries_left_in self.new + 2 ≤ entries_left_in self.old }
+        ensures goes { result ≢ StepOutcome.Turn → (answers : Answers) →
+            GoesOn answers (machine_of self.old) (stepped result turn.new other.new) (machine_of self.new) }
+        ensures untold { result ≢ StepOutcome.Turn → (p : ℕ) → heard p (made_by (stepped result turn.new other.new)) ≡ [] }
+        ensures order { result ≢ StepOutcome.Turn → IsInOrder self.new }
+        ensures halted { self.new.halted ≡ (self.old.halted || list_any is_halt (made_by (stepped result turn.new other.new))) }
+        ensures clock { self.new.clock ≡ self.old.clock }
+        ensures applications { self.new.scheduler.state.applications ≡ self.old.scheduler.state.applications }
+        ensures inputs { self.new.inputs ≡ self.old.inputs }
+        ensures progress { TakesEntry (stepped result turn.new other.new) (mote_of self.old) (mote_of self.new) }
+        ensures unmade { result ≢ StepOutcome.Other → other.new ≡ other.old }
+    {
+        if self.halted {
+            return StepOutcome::Halted;
+        }
+        if !self.pending.is_empty() {
+            self.pending.take_first(other);
+            return StepOutcome::Other;
+        }
+        if self.pass_idle_round() {
+            return StepOutcome::Rest;
+        }
+        self.work_on(turn, other)
+    }
+
+    /// The call of the application that takes the turn is carried out, which ends the turn.
+    #[inline]
+    pub fn answer_turn(&mut self, pid: Pid, call: &Call)
+        requires open { IsMidTurn pid self.old }
+        ensures machine { machine_of self.new ≡ after_call call.now pid.0 (machine_of self.old) }
+        ensures order { IsInOrder self.new }
+        ensures running { self.new.halted ≡ false }
+        ensures clock { self.new.clock ≡ self.old.clock }
+        ensures applications { self.new.scheduler.state.applications ≡ self.old.scheduler.state.applications }
+        ensures inputs { self.new.inputs ≡ self.old.inputs }
+        ensures left { entries_left_in self.new ≤ entries_left_in self.old + 1 }
+    {
+        self.carry_out(pid, call);
+    }
+}

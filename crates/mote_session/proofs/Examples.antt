@@ -1,0 +1,129 @@
+-- Worked examples: what is refused and why, which calls are replayed, what is the last entry, and who doesn't answer so.
+use Rattle.std.proofs.Common.{◌≡◌, ◌+◌, ◌^◌, ◌-◌, ℕ, true, false, List, [], ◌∷◌, refl, Option, Some, None}
+use Rattle.mote_types.specs.Applications.{Applications}
+use Rattle.mote_types.specs.declared.call.Call.{Call}
+use Rattle.mote_types.specs.declared.entry.Entry.{Entry}
+use Rattle.mote_types.specs.declared.entry.Input.{Input}
+use Rattle.mote_types.specs.declared.event.Origin.{Origin}
+use Rattle.mote_types.specs.declared.event.Stimulus.{Stimulus}
+use Rattle.mote_types.specs.declared.reply.Reply.{Reply}
+use Rattle.kernel_core.specs.declared.config.Config.{Config}
+use Rattle.kernel_core.specs.Machine.{booted}
+use Rattle.mote_session.specs.Answered.{AnswersAs, call_at, calls_of, replayed}
+use Rattle.mote_session.specs.History.{last_entry}
+use Rattle.mote_session.specs.Refusals.{input_refusal, line_refusal}
+use Rattle.mote_session.specs.SessionView.{AwaitedCall, SessionView, is_settled, rests}
+use Rattle.mote_session.specs.declared.refusal.SessionRefusal.{SessionRefusal}
+
+-- a session at boot, of so many applications
+abbrev at_first : ℕ → SessionView
+at_first applications =
+    record {
+      machine = booted (record { mmem = 4; heap = 20; apps = applications; quota = None; header = 16 });
+      inputs = 0;
+      entries_left = 0;
+      turn = None;
+      last = None;
+    }
+
+abbrev told_callback : AwaitedCall
+told_callback = record { process = record { 0 = 4 }; origin = Origin.Callback; stimulus = Stimulus.Callback 1 }
+
+abbrev asked : SessionView
+asked = record (at_first 0) { turn = Some told_callback }
+
+abbrev halted : SessionView
+halted = record (at_first 1) { machine = record (at_first 1).machine { is_halted = true } }
+
+-- with no application there is rest at boot; else INIT is still to be told
+none_rests : rests (at_first 0) ≡ true
+none_rests = refl
+
+one_works : rests (at_first 1) ≡ false
+one_works = refl
+
+no_rest_in_a_turn : rests asked ≡ false
+no_rest_in_a_turn = refl
+
+-- after Halt nothing more happens, and it is no rest
+halted_is_settled : is_settled halted ≡ true
+halted_is_settled = refl
+
+halted_has_no_rest : rests halted ≡ false
+halted_has_no_rest = refl
+
+taken_at_rest : input_refusal (Input.Tick 5) (at_first 0) ≡ None
+taken_at_rest = refl
+
+refused_amid_work : input_refusal (Input.Tick 5) (at_first 1) ≡ Some SessionRefusal.NotAtRest
+refused_amid_work = refl
+
+refused_in_a_turn : input_refusal (Input.Tick 5) asked ≡ Some SessionRefusal.AwaitsCall
+refused_in_a_turn = refl
+
+refused_after_halt : input_refusal (Input.Tick 5) halted ≡ Some SessionRefusal.Halted
+refused_after_halt = refl
+
+no_serial_bytes : input_refusal (Input.Serial (record { items = [] })) (at_first 0) ≡ Some SessionRefusal.NoInput
+no_serial_bytes = refl
+
+no_frame_bytes : input_refusal (Input.Frame (record { items = [] })) (at_first 0) ≡ Some SessionRefusal.NoInput
+no_frame_bytes = refl
+
+-- what comes first counts
+refused_for_the_turn : input_refusal (Input.Frame (record { items = [] })) asked ≡ Some SessionRefusal.AwaitsCall
+refused_for_the_turn = refl
+
+-- the clock may come to 2^62, and not beyond
+abbrev late : SessionView
+late = record (at_first 0) { machine = record (at_first 0).machine { clock = 2 ^ 62 - 5 } }
+
+to_the_end : input_refusal (Input.Tick 5) late ≡ None
+to_the_end = refl
+
+beyond_the_end : input_refusal (Input.Tick 6) late ≡ Some SessionRefusal.TooManyInputs
+beyond_the_end = refl
+
+last_one : input_refusal (Input.Tick 0) (record (at_first 0) { inputs = 2 ^ 40 - 1 }) ≡ None
+last_one = refl
+
+one_too_many : input_refusal (Input.Tick 0) (record (at_first 0) { inputs = 2 ^ 40 }) ≡ Some SessionRefusal.TooManyInputs
+one_too_many = refl
+
+-- a line of no form, a comment, and the order of the two refusals
+no_form : line_refusal None (at_first 0) ≡ Some SessionRefusal.BadLine
+no_form = refl
+
+comment : line_refusal (Some None) (at_first 0) ≡ None
+comment = refl
+
+comment_amid_work : line_refusal (Some None) (at_first 1) ≡ Some SessionRefusal.NotAtRest
+comment_amid_work = refl
+
+-- Two turns of process 4, with one of process 5 between them.
+
+abbrev turn : ℕ → Call → Entry
+turn p call = Entry.Turn (record { 0 = p }) Origin.Answer (Stimulus.Answer Reply.Done) call
+
+abbrev three : List Entry
+three = turn 4 Call.Clock ∷ turn 5 Call.Exit ∷ turn 4 Call.AllocEvent ∷ []
+
+calls_of_four : calls_of 4 three ≡ Call.Clock ∷ Call.AllocEvent ∷ []
+calls_of_four = refl
+
+second_call : replayed three 4 (Stimulus.Callback 0 ∷ Stimulus.Callback 0 ∷ []) ≡ Call.AllocEvent
+second_call = refl
+
+then_waits : call_at 2 (calls_of 4 three) ≡ Call.Wait
+then_waits = refl
+
+last_of_three : last_entry three ≡ Some (turn 4 Call.AllocEvent)
+last_of_three = refl
+
+-- who always waits doesn't answer so
+abbrev always_waits : Applications
+always_waits p stimuli = Call.Wait
+
+waits_instead : AnswersAs always_waits three → ⊥
+waits_instead answers =
+    cc (answers [] (turn 5 Call.Exit ∷ turn 4 Call.AllocEvent ∷ []) (record { 0 = 4 }) Origin.Answer (Stimulus.Answer Reply.Done) Call.Clock refl)

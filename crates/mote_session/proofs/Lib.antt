@@ -1,0 +1,5 @@
+pub mod Answering
+mod Examples
+pub mod Histories
+pub mod Leading
+pub mod Promise

@@ -1,0 +1,9 @@
+-- What a reader has to believe.
+pub mod Answered
+pub mod History
+pub mod Refusals
+pub mod SessionRuns
+pub mod SessionView
+pub mod Steps
+-- What the code keeps.
+pub mod Code

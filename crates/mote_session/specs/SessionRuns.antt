@@ -1,0 +1,56 @@
+-- What a session promises: its entries are those of the machine's run.
+use Rattle.std.specs.Prelude.{◌≡◌, ℕ, true, false, List, [], ◌∷◌, ◌++◌, length, Option, None, Some}
+use Rattle.mote_types.specs.declared.entry.Entry.{Entry}
+use Rattle.mote_types.specs.declared.entry.Input.{Input}
+use Rattle.mote_types.specs.Applications.{Applications}
+use Rattle.kernel_core.specs.declared.config.Config.{Config}
+use Rattle.kernel_core.specs.Code.OpenTurns.{AwaitsCall}
+use Rattle.kernel_core.specs.Machine.{Machine, is_bootable}
+use Rattle.kernel_core.specs.Run.{Answers, ComesToRest, Running, Runs, after_steps, at_start, with_input}
+use Rattle.run_laws.specs.RunLaws.{BlocksAreOwn, EventsArriveInOrder, ProcessesAreIsolated, TimersAreKept}
+use Rattle.mote_session.specs.Answered.{AnswersAs, replayed}
+use Rattle.mote_session.specs.History.{History, last_entry}
+use Rattle.mote_session.specs.SessionView.{AwaitedCall, SessionView, is_settled}
+
+-- from old on each of these inputs is handed in at rest, and so many steps behind the last one lead to new
+abbrev pub Leads : Applications → Running → List Input → Running → Type 0
+Leads says old [] new = (n : ℕ) × (after_steps says n old ≡ new)
+Leads says old (input ∷ inputs) new =
+    (rested : Running) × ComesToRest says old rested × (rested.machine.is_halted ≡ false) × Leads says (with_input input rested) inputs new
+
+-- with any applications that answer so, the machine comes from boot to here by these inputs, and makes these entries
+abbrev pub HasComeTo : History → Machine → Type 0
+HasComeTo history machine =
+    (says : Applications) → AnswersAs says history.entries →
+    Leads says (at_start history.config) history.inputs (record { machine = machine; entries = history.entries })
+
+-- It has come here; or to where it goes on to this turn, whatever is answered in it
+abbrev pub StandsAt : History → Option AwaitedCall → Machine → Type 0
+StandsAt history None machine = HasComeTo history machine
+StandsAt history (Some turn) machine =
+    (before : Machine) × HasComeTo history before × ((answers : Answers) → AwaitsCall answers before turn.process turn.origin turn.stimulus machine)
+
+-- this is what a session was handed and made
+pub record IsHistoryOf (history : History) (session : SessionView) : Type 0 where
+  pub bootable : is_bootable history.config ≡ true
+  pub stands : StandsAt history session.turn session.machine
+  pub inputs : session.inputs ≡ length history.inputs
+  pub last : session.turn ≡ None → session.last ≡ last_entry history.entries
+
+-- The machine's run of these applications on the inputs that were handed in: the entries are the front part of its own, all of
+-- them at rest and after Halt; and the laws hold of them
+pub record RunSoFar (says : Applications) (history : History) (session : SessionView) : Type 0 where
+  pub last : Running
+  pub runs : Runs says (at_start history.config) history.inputs last
+  pub later : List Entry
+  pub front : last.entries ≡ history.entries ++ later
+  pub whole : is_settled session ≡ true → (later ≡ []) × (last.machine ≡ session.machine)
+  pub memory : BlocksAreOwn last.entries
+  pub events : EventsArriveInOrder history.config.apps last.entries
+  pub timers : TimersAreKept history.config.apps last.entries
+  pub isolation : ProcessesAreIsolated history.config.quota history.config.apps last.entries
+
+-- it is so for any applications that answer as was answered, and there are such applications
+pub record SessionPromise (history : History) (session : SessionView) : Type 0 where
+  pub run : (says : Applications) → AnswersAs says history.entries → RunSoFar says history session
+  pub answered : AnswersAs (replayed history.entries) history.entries

@@ -1,0 +1,37 @@
+//! Laws of what a session was handed and made. The functions do nothing; their contracts are the laws.
+
+ghost use Rattle.std.specs.Prelude.{◌≡◌, None, true};
+ghost use Rattle.mote_types.specs.declared.call.Call.{Call};
+ghost use Rattle.mote_types.specs.declared.entry.Input.{Input};
+ghost use Rattle.mote_session.specs.History.{History, with_answer, with_input};
+ghost use Rattle.mote_session.specs.SessionRuns.{IsHistoryOf, SessionPromise};
+ghost use Rattle.mote_session.specs.SessionView.{SessionView, rests};
+ghost use Rattle.mote_session.specs.Steps.{Advances, HasSameInputs, IsAnswered, IsFed, with_made};
+ghost use Rattle.mote_session.specs.declared.session.Next.{Next};
+
+use run_laws::events::events_arrive_in_order;
+use run_laws::isolation::processes_are_isolated;
+use run_laws::memory::blocks_are_own;
+use run_laws::rest::run_exists;
+use run_laws::timers::timers_are_kept;
+
+/// Whoever keeps the history of a session can go on with it at each call.
+pub fn histories_go_on()
+    ensures next { (history : History) (step : Next) (old new : SessionView) → IsHistoryOf history old → old.turn ≡ None →
+        Advances step old new → HasSameInputs old new → IsHistoryOf (with_made step new.last history) new }
+    ensures answer { (history : History) (call : Call) (old new : SessionView) → IsHistoryOf history old →
+        IsAnswered call old new → HasSameInputs old new → IsHistoryOf (with_answer old.turn call history) new }
+    ensures input { (history : History) (input : Input) (old new : SessionView) → IsHistoryOf history old → rests old ≡ true →
+        IsFed input old new → IsHistoryOf (with_input input history) new }
+{}
+
+/// The history of a session is that of a run of the machine.
+pub fn histories_keep_promise()
+    ensures { (history : History) (session : SessionView) → IsHistoryOf history session → SessionPromise history session }
+{
+    blocks_are_own();
+    events_arrive_in_order();
+    timers_are_kept();
+    processes_are_isolated();
+    run_exists();
+}

@@ -1,0 +1,32 @@
+//! Why a session refuses what it is asked or handed.
+
+use thiserror::Error;
+
+/// Why a call of a session was refused. Nothing was changed by it.
+#[derive(Clone, Copy, Debug, PartialEq, Eq, Drop, Error)]
+pub enum SessionRefusal {
+    /// A turn awaits its call, which has to be handed in first.
+    #[error("a turn awaits its call")]
+    AwaitsCall,
+    /// No turn awaits a call.
+    #[error("no turn awaits a call")]
+    NoTurn,
+    /// The mote was halted: nothing follows.
+    #[error("the mote was halted")]
+    Halted,
+    /// Work is left to be done before an input can be handed in.
+    #[error("the mote does not rest")]
+    NotAtRest,
+    /// A line of a script has no form.
+    #[error("a line of no form")]
+    BadLine,
+    /// Serial bytes or a frame of no bytes.
+    #[error("an input of no bytes")]
+    NoInput,
+    /// 2^40 inputs were handed in, or the clock would go beyond 2^62.
+    #[error("too many inputs")]
+    TooManyInputs,
+    /// No entry was made yet, or the last turn still awaits its call.
+    #[error("no entry was made")]
+    NoLine,
+}

@@ -1,0 +1,390 @@
+//! A mote asked step by step.
+
+ghost use Rattle.std.specs.Prelude.{◌≡◌, ◌≢◌, ◌≤◌, ◌+◌, ◌++◌, ◌↔◌, None, Some, false, true, length, IfErr, IfOk, IfSome, IfNone, IsErrOf, IsSomeAnd};
+ghost use Rattle.mote_types.specs.declared.entry.Entry.{Entry as MadeEntry};
+ghost use Rattle.mote_text.specs.EntryText.{entry_line, entry_line_limit};
+ghost use Rattle.mote_text.specs.Script.{read_line};
+ghost use Rattle.kernel_core.specs.Calls.{after_call};
+ghost use Rattle.kernel_core.specs.Inputs.{ticks_of};
+ghost use Rattle.kernel_core.specs.Machine.{booted, is_bootable};
+ghost use Rattle.kernel_core.specs.declared.turn.Turn.{Turn as Taken};
+ghost use Rattle.mote_session.specs.Code.Places.{AreInPlace, session_view};
+ghost use Rattle.mote_session.specs.History.{History, at_boot, with_answer, with_input, with_said};
+ghost use Rattle.mote_session.specs.Refusals.{input_refusal, is_input, line_refusal, unfit, unrest};
+ghost use Rattle.mote_session.specs.SessionRuns.{IsHistoryOf, SessionPromise};
+ghost use Rattle.mote_session.specs.SessionView.{rests};
+ghost use Rattle.mote_session.specs.Steps.{Advances, HasSameInputs, IsAnswered, IsFed, TakesLine, with_made};
+
+use crate::last_entry::LastEntry;
+use crate::laws::{histories_go_on, histories_keep_promise};
+use crate::refusal::SessionRefusal;
+use kernel_core::awaiting_kernel::AwaitingKernel;
+use kernel_core::config::Config;
+use kernel_core::step::StepOutcome;
+use kernel_core::turn::Turn;
+use mote_text::line::OutputBuffer;
+use mote_text::script::{BadLine, read_input};
+use mote_text::transcript::{push_entry, push_turn_line};
+use mote_types::call::Call;
+use mote_types::entry::{Entry, Input};
+use mote_types::event::{Origin, Pid, Stimulus};
+use mote_types::fault::BootFault;
+use std::alloc::Global;
+use std::marker::Model;
+
+/// How many inputs can be handed in.
+const MOST_INPUTS: u64 = 1 << 40;
+
+/// How far the clock can go, in ticks.
+const MOST_TICKS: u64 = 1 << 62;
+
+/// What `next` came to.
+#[derive(Clone, Copy, Debug, PartialEq, Eq, Drop)]
+pub enum Next {
+    /// An application is to take a turn: `Session::turn` tells it, and its call is awaited.
+    Turn,
+    /// Another entry was made: of an input, a note, or that the mote was halted.
+    Entry,
+    /// Nothing is left to be done without an input.
+    Rest,
+    /// The mote was halted before: nothing follows.
+    Halted,
+}
+
+/// A turn that awaits its call.
+#[derive(Clone, Copy, Drop)]
+pub struct OpenTurn<'a> {
+    /// The application: 4 to 19.
+    pub process: Pid,
+    /// Where the stimulus comes from.
+    pub origin: Origin,
+    /// What the application is told.
+    pub stimulus: &'a Stimulus,
+}
+
+/// Whether it is a tick, or has bytes.
+fn has_bytes(input: &Input) -> bool
+    ensures { result ≡ is_input input.now }
+{
+    match input {
+        Input::Tick(_) => true,
+        Input::Serial(bytes) => !bytes.as_slice().is_empty(),
+        Input::Frame(bytes) => !bytes.as_slice().is_empty(),
+    }
+}
+
+/// By how many ticks an input lets the clock go on.
+fn ticks(input: &Input) -> u64
+    ensures value { result ≡ ticks_of input.now }
+{
+    match input {
+        Input::Tick(ticks) => *ticks as u64,
+        _ => 0,
+    }
+}
+
+/// Works until there is something to tell, where no turn awaits its call. A turn is put into the place, and another entry into
+/// the other.
+fn work_in(
+    kernel: &mut AwaitingKernel,
+    turn: &mut Turn,
+    other: &mut Entry,
+    last: &mut LastEntry,
+) -> Next
+    requires { kernel.old.turn ≡ None }
+    ensures advances { (taken : Taken) →
+        Advances result (session_view kernel.old turn.old taken other.old last.old) (session_view kernel.new turn.new taken other.new last.new) }
+    ensures clock { kernel.new.mote.machine.clock ≡ kernel.old.mote.machine.clock }
+    ensures inputs { kernel.new.mote.inputs ≡ kernel.old.mote.inputs }
+    ensures places { AreInPlace kernel.new.turn turn.new last.new }
+{
+    match kernel.next(turn, other) {
+        StepOutcome::Turn => {
+            *last = LastEntry::Missing;
+            Next::Turn
+        }
+        StepOutcome::Other => {
+            *last = LastEntry::Other;
+            Next::Entry
+        }
+        StepOutcome::Rest => Next::Rest,
+        StepOutcome::Halted => Next::Halted,
+    }
+}
+
+/// Puts the call into the place of the turn that awaits it, and carries it out.
+fn answer_in(kernel: &mut AwaitingKernel, turn: &mut Turn, pid: Pid, call: Call)
+    requires { kernel.old.turn ≡ Some pid }
+    ensures turn { turn.new ≡ record turn.old { call = call } }
+    ensures machine { kernel.new.mote.machine ≡ after_call call pid.0 kernel.old.mote.machine }
+    ensures closed { kernel.new.turn ≡ None }
+    ensures clock { kernel.new.mote.machine.clock ≡ kernel.old.mote.machine.clock }
+    ensures inputs { kernel.new.mote.inputs ≡ kernel.old.mote.inputs }
+    ensures left { kernel.new.mote.entries_left ≤ kernel.old.mote.entries_left + 1 }
+{
+    turn.call = call;
+    kernel.answer(pid, &turn.call);
+}
+
+/// A mote in the hands of a caller that answers for its applications.
+#[derive(Drop)]
+pub struct Session {
+    kernel: AwaitingKernel,
+    /// Turns are put into these two places by turns: while the kernel works in one, the last turn stays in the other.
+    even: Turn,
+    odd: Turn,
+    works_in_odd: bool,
+    other: Entry,
+    last: LastEntry,
+}
+
+impl Model for Session {
+    ghost use Rattle.mote_session.specs.SessionView.{SessionView};
+    ghost use Rattle.std.specs.Prelude.{not};
+    ghost use Rattle.mote_session.specs.Code.Places.{AreInPlace, session_view, turn_in};
+
+    ghost Value = { SessionView };
+
+    ghost view = { λ s. session_view s.kernel (turn_in s.works_in_odd s.odd s.even) (turn_in (not s.works_in_odd) s.odd s.even) s.other s.last };
+
+    ghost invariant = { λ s. AreInPlace s.kernel.turn (turn_in s.works_in_odd s.odd s.even) s.last };
+}
+
+impl Session {
+    /// A session at boot, before its applications are started: `config.apps` of them, processes 4, 5, ... All memory that it
+    /// will use is taken here.
+    ///
+    /// # Errors
+    ///
+    /// `BadSizes` exactly where no mote boots with this configuration; else `Memory` where memory is refused.
+    pub fn boot(alloc: Global, config: Config) -> Result<Session, BootFault>
+        ensures booted { IfOk result (λ session. (session.machine ≡ booted config) × (session.inputs ≡ 0) × (session.turn ≡ None) × (session.last ≡ None)) }
+        ensures history { IfOk result (λ session. IsHistoryOf (at_boot config) session) }
+        ensures bad_sizes { IsErrOf result BootFault.BadSizes ↔ (is_bootable config ≡ false) }
+    {
+        match AwaitingKernel::boot(alloc, config) {
+            Ok(kernel) => Ok(Session {
+                kernel,
+                even: Turn::none_yet(),
+                odd: Turn::none_yet(),
+                works_in_odd: false,
+                other: Entry::Halt,
+                last: LastEntry::Missing,
+            }),
+            Err(fault) => Err(fault),
+        }
+    }
+
+    /// Works until an application is to take a turn, until another entry is made, or until there is rest.
+    ///
+    /// # Errors
+    ///
+    /// `AwaitsCall` exactly where a turn awaits its call.
+    pub fn next(&mut self) -> Result<Next, SessionRefusal>
+        ensures advances { IfOk result (λ step. (self.old.turn ≡ None) × Advances step self.old self.new × HasSameInputs self.old self.new) }
+        ensures history { IfOk result (λ step. (history : History) → IsHistoryOf history self.old →
+            IsHistoryOf (with_made step self.new.last history) self.new × SessionPromise (with_made step self.new.last history) self.new) }
+        ensures refused { IfErr result (λ refusal. (refusal ≡ SessionRefusal.AwaitsCall) × (self.old.turn ≢ None) × (self.new ≡ self.old)) }
+    {
+        histories_go_on();
+        histories_keep_promise();
+        if self.kernel.turn().is_some() {
+            return Err(SessionRefusal::AwaitsCall);
+        }
+        Ok(self.advance())
+    }
+
+    /// Works as `next`, where no turn awaits its call.
+    fn advance(&mut self) -> Next
+        requires { self.old.turn ≡ None }
+        ensures advances { Advances result self.old self.new }
+        ensures inputs { HasSameInputs self.old self.new }
+    {
+        if self.works_in_odd {
+            work_in(
+                &mut self.kernel,
+                &mut self.odd,
+                &mut self.other,
+                &mut self.last,
+            )
+        } else {
+            work_in(
+                &mut self.kernel,
+                &mut self.even,
+                &mut self.other,
+                &mut self.last,
+            )
+        }
+    }
+
+    /// Hands in the call of the application whose turn it is: the call is carried out, and the turn is an entry.
+    ///
+    /// # Errors
+    ///
+    /// `NoTurn` exactly where no turn awaits a call.
+    pub fn answer(&mut self, call: Call) -> Result<(), SessionRefusal>
+        ensures answered { IfOk result (λ _. IsAnswered call self.old self.new × HasSameInputs self.old self.new) }
+        ensures history { IfOk result (λ _. (history : History) → IsHistoryOf history self.old →
+            IsHistoryOf (with_answer self.old.turn call history) self.new × SessionPromise (with_answer self.old.turn call history) self.new) }
+        ensures refused { IfErr result (λ refusal. (refusal ≡ SessionRefusal.NoTurn) × (self.old.turn ≡ None) × (self.new ≡ self.old)) }
+    {
+        histories_go_on();
+        histories_keep_promise();
+        let Some(pid) = self.kernel.turn() else {
+            return Err(SessionRefusal::NoTurn);
+        };
+        self.end_turn(pid, call);
+        Ok(())
+    }
+
+    /// Carries out the call of the application whose turn it is.
+    fn end_turn(&mut self, pid: Pid, call: Call)
+        requires { IsSomeAnd self.old.turn (λ turn. turn.process ≡ pid) }
+        ensures answered { IsAnswered call self.old self.new }
+        ensures inputs { HasSameInputs self.old self.new }
+    {
+        if self.works_in_odd {
+            answer_in(&mut self.kernel, &mut self.odd, pid, call);
+        } else {
+            answer_in(&mut self.kernel, &mut self.even, pid, call);
+        }
+        self.works_in_odd = !self.works_in_odd;
+        self.last = LastEntry::Turn;
+    }
+
+    /// Hands in what a line of a script says, without its end. An empty line or a comment hands in nothing.
+    ///
+    /// # Errors
+    ///
+    /// `AwaitsCall`, `Halted` or `NotAtRest` where the mote doesn't rest; `BadLine` where the line has no form; then as
+    /// `feed_input`.
+    pub fn feed(&mut self, line: &[u8]) -> Result<(), SessionRefusal>
+        ensures accepted { IfOk result (λ _. (line_refusal (read_line line.now) self.old ≡ None) × TakesLine (read_line line.now) self.old self.new) }
+        ensures history { IfOk result (λ _. (history : History) → IsHistoryOf history self.old → IsHistoryOf (with_said (read_line line.now) history) self.new) }
+        ensures refused { IfErr result (λ refusal. (line_refusal (read_line line.now) self.old ≡ Some refusal) × (self.new ≡ self.old)) }
+    {
+        histories_go_on();
+        self.test_rest()?;
+        let mut input = Input::Tick(0);
+        match read_input(line, &mut input) {
+            Ok(true) => self.hand_in(input),
+            Ok(false) => Ok(()),
+            Err(BadLine) => Err(SessionRefusal::BadLine),
+        }
+    }
+
+    /// Hands in an input. Its entry is made by `next`.
+    ///
+    /// # Errors
+    ///
+    /// `AwaitsCall`, `Halted` or `NotAtRest` where the mote doesn't rest; `NoInput` where it is serial bytes or a frame of no
+    /// bytes; `TooManyInputs` where 2^40 inputs were handed in, or the clock would go beyond 2^62.
+    pub fn feed_input(&mut self, input: Input) -> Result<(), SessionRefusal>
+        ensures accepted { IfOk result (λ _. (input_refusal input self.old ≡ None) × IsFed input self.old self.new) }
+        ensures history { IfOk result (λ _. (history : History) → IsHistoryOf history self.old → IsHistoryOf (with_input input history) self.new) }
+        ensures refused { IfErr result (λ refusal. (input_refusal input self.old ≡ Some refusal) × (self.new ≡ self.old)) }
+    {
+        histories_go_on();
+        self.test_rest()?;
+        self.hand_in(input)
+    }
+
+    /// Refuses where the mote doesn't rest.
+    fn test_rest(&self) -> Result<(), SessionRefusal>
+        ensures accepted { IfOk result (λ _. (unrest self.now ≡ None) × (rests self.now ≡ true)) }
+        ensures refused { IfErr result (λ refusal. unrest self.now ≡ Some refusal) }
+    {
+        if self.kernel.turn().is_some() {
+            return Err(SessionRefusal::AwaitsCall);
+        }
+        if self.kernel.halted() {
+            return Err(SessionRefusal::Halted);
+        }
+        if !self.kernel.at_rest() {
+            return Err(SessionRefusal::NotAtRest);
+        }
+        Ok(())
+    }
+
+    /// Hands in an input at rest.
+    fn hand_in(&mut self, input: Input) -> Result<(), SessionRefusal>
+        requires { rests self.old ≡ true }
+        ensures accepted { IfOk result (λ _. (unfit input self.old ≡ None) × IsFed input self.old self.new) }
+        ensures refused { IfErr result (λ refusal. (unfit input self.old ≡ Some refusal) × (self.new ≡ self.old)) }
+    {
+        if !has_bytes(&input) {
+            return Err(SessionRefusal::NoInput);
+        }
+        if self.kernel.inputs() >= MOST_INPUTS || ticks(&input) > MOST_TICKS - self.kernel.clock() {
+            return Err(SessionRefusal::TooManyInputs);
+        }
+        self.kernel.feed(input);
+        Ok(())
+    }
+
+    /// The turn that awaits its call, if one does.
+    pub fn turn(&self) -> Option<OpenTurn<'_>>
+        ensures some { IfSome result (λ turn. self.now.turn ≡ Some (record { process = turn.process; origin = turn.origin; stimulus = turn.stimulus.now })) }
+        ensures none { IfNone result (self.now.turn ≡ None) }
+    {
+        let turn = if self.works_in_odd {
+            &self.odd
+        } else {
+            &self.even
+        };
+        match self.kernel.turn() {
+            Some(process) => Some(OpenTurn {
+                process,
+                origin: turn.origin,
+                stimulus: &turn.stimulus,
+            }),
+            None => None,
+        }
+    }
+
+    /// The ticks since boot.
+    pub fn clock(&self) -> u64
+        ensures { result ≡ self.now.machine.clock }
+    {
+        self.kernel.clock()
+    }
+
+    /// Whether an input can be handed in: no turn awaits its call, nothing is left to be done, and the mote wasn't halted.
+    pub fn at_rest(&self) -> bool
+        ensures { result ≡ rests self.now }
+    {
+        self.kernel.at_rest()
+    }
+
+    /// Whether the mote was halted, since the work of one input reached its bound.
+    pub fn halted(&self) -> bool
+        ensures { result ≡ self.now.machine.is_halted }
+    {
+        self.kernel.halted()
+    }
+
+    /// Appends the transcript's line of the last entry, with its end: at most 640 bytes.
+    ///
+    /// # Errors
+    ///
+    /// `NoLine` exactly where no entry was made, or the last turn awaits its call.
+    pub fn push_line(&self, line: &mut OutputBuffer) -> Result<(), SessionRefusal>
+        requires { length line.old.items + entry_line_limit ≤ 4096 }
+        ensures pushed { IfOk result (λ _. IsSomeAnd self.now.last (λ entry. line.new.items ≡ line.old.items ++ entry_line entry)) }
+        ensures refused { IfErr result (λ refusal. (refusal ≡ SessionRefusal.NoLine) × (self.now.last ≡ None) × (line.new ≡ line.old)) }
+    {
+        match self.last {
+            LastEntry::Missing => return Err(SessionRefusal::NoLine),
+            LastEntry::Turn => {
+                let turn = if self.works_in_odd {
+                    &self.even
+                } else {
+                    &self.odd
+                };
+                push_turn_line(turn.pid, turn.origin, &turn.stimulus, &turn.call, line)
+            }
+            LastEntry::Other => push_entry(&self.other, line),
+        }
+        Ok(())
+    }
+}
