@@ -1,0 +1,4 @@
+pub mod Calls
+pub mod Inputs
+pub mod TurnParts
+pub mod Turns
