@@ -1,10 +1,16 @@
 -- Worked examples: names of applications, the configuration that is named, and what the program may come to on words.
-use Rattle.std.proofs.Common.{◌≡◌, ◌≢◌, ◌⊎◌, ◌<◌, ◌∙◌, ℕ, List, true, false, [], ◌∷◌, codes, refl, sym, subst, ap, arith, inl, inr, Some, None, Result, Ok, Err, find, length}
+use Rattle.std.proofs.Common.{◌≡◌, ◌⊎◌, ◌∙◌, ℕ, List, true, false, [], ◌∷◌, codes, refl, subst, ap, arith, inl, inr, Some, None, Ok, Err, find, length}
 use denote.Ref.{Bor}
 use Rattle.kernel_core.specs.Machine.{is_bootable}
 use Rattle.mote.proofs.Common.{named, named_in, config_of, applications_of, is_unknown, End, Failure, IsOutcome, Refuses}
-use Rattle.mote.specs.CommandLine.{HasBadSizes, IsRunFailure, IsStatusFor, NamesMote}
+use Rattle.mote.specs.CommandLine.{IsRunFailure, IsStatusFor, NamesMote}
 use Rattle.mote_words.specs.CommandLine.{AsksForText, NamesApplications}
+use Rattle.mote.proofs.Common.{HasRunNamed, bundled_says, says_of}
+use Rattle.mote_apps.specs.declared.bundled.Bundled.{Bundled}
+use Rattle.mote_run.specs.RunText.{Exchange}
+use Rattle.mote_run.specs.Trace.{RunPromise}
+use Rattle.mote_run.specs.declared.run.RunFault.{RunFault}
+use Rattle.mote_words.specs.declared.words.Named.{Named}
 use Rattle.mote_shell.specs.Statuses.{status_of_outcome}
 use Rattle.mote_words.specs.declared.refusal.ParserText.{ParserText}
 
@@ -70,6 +76,17 @@ module _ (words : List (List ℕ)) where
 
   halt_of_a_mote : (status : ℕ) → IsStatusFor words (λ outcome. outcome ≡ Ok End.Halted) status → NamesMote words
   halt_of_a_mote status is = subst (IsOutcome words) is.is_done is.is_allowed
+
+-- words that name a mote have a run that keeps the promise of `run`
+module _ (words : List (List ℕ)) (exchange : Exchange) (names : NamesMote words) where
+  abbrev asked : Named Bundled
+  asked = named_in named words
+
+  keeps_the_promise : (end : End) → HasRunNamed words (Ok end) exchange → RunPromise (config_of asked) (says_of bundled_says asked.applications.items) asked.quiet (Ok end) exchange
+  keeps_the_promise end has = has.promise names
+
+  keeps_it_where_reading_failed : HasRunNamed words (Err Failure.Read) exchange → RunPromise (config_of asked) (says_of bundled_says asked.applications.items) asked.quiet (Err RunFault.Read) exchange
+  keeps_it_where_reading_failed has = has.promise names
 
 -- a run that was begun fails for devices and for memory, and for nothing else
 no_run_with_bad_sizes : IsRunFailure Failure.BadSizes → ⊥

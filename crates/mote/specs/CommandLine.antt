@@ -1,11 +1,13 @@
 -- Which mote the words of the command line name, and what the program may come to on them.
 use Rattle.std.specs.Prelude.{◌≡◌, ◌⊎◌, ⊤, ℕ, Bool, true, false, List, length, Result, Ok, Err}
-use Rattle.mote_types.specs.Applications.{says_of}
+use Rattle.mote_types.specs.Applications.{Applications, says_of}
 use Rattle.mote_apps.specs.Bundled.{bundled_says, named}
 use Rattle.kernel_core.specs.declared.config.Config.{Config}
 use Rattle.kernel_core.specs.Machine.{is_bootable}
 use Rattle.mote_text.specs.declared.script.End.{End}
 use Rattle.mote_run.specs.RunText.{Exchange, HasRunTo}
+use Rattle.mote_run.specs.Trace.{RunPromise}
+use Rattle.mote_run.specs.declared.run.RunFault.{RunFault}
 use Rattle.mote_apps.specs.declared.bundled.Bundled.{Bundled}
 use Rattle.mote_words.specs.CommandLine.{AsksForText, NamesApplications, named_in}
 use Rattle.mote_words.specs.CommandLine as of_words
@@ -60,9 +62,23 @@ IsRunFailure Failure.Write = ⊤
 IsRunFailure Failure.OutOfMemory = ⊤
 IsRunFailure _ = ⊥
 
--- what was read and written is what a run of the named applications comes to, at the named sizes, and quiet as they are
-abbrev pub HasRunNamed : Named Bundled → Result End Failure → Exchange → Type 0
-HasRunNamed asked = HasRunTo (config_of asked) (says_of bundled_says asked.applications.items) asked.quiet Failure.Read
+-- this holds of the answer of `run`, where a mote was run
+abbrev pub OfRun : Result End Failure → (Result End RunFault → Type 0) → Type 0
+OfRun (Ok end) P = P (Ok end)
+OfRun (Err Failure.Read) P = P (Err RunFault.Read)
+OfRun (Err Failure.Write) P = P (Err RunFault.Write)
+OfRun (Err failure) P = ⊤
+
+-- what was read and written is what a run comes to that is answered so, and where a mote was run, it keeps the promise of `run`
+pub record HasRunAs (config : Config) (says : Applications) (quiet : Bool) (outcome : Result End Failure) (exchange : Exchange) : Type 0 where
+  pub ran : HasRunTo config says quiet Failure.Read outcome exchange
+  pub promise : OfRun outcome (λ answer. RunPromise config says quiet answer exchange)
+
+-- so it is of the named applications, at the named sizes, and quiet as the words are; the promise holds of words that name a mote
+pub record HasRunNamed (words : List (List ℕ)) (outcome : Result End Failure) (exchange : Exchange) : Type 0 where
+  pub ran : HasRunTo (config_of (named_in named words)) (says_of bundled_says (named_in named words).applications.items) (named_in named words).quiet Failure.Read outcome exchange
+  pub promise : NamesMote words → OfRun outcome (λ answer.
+      RunPromise (config_of (named_in named words)) (says_of bundled_says (named_in named words).applications.items) (named_in named words).quiet answer exchange)
 
 -- the status of an outcome that the words allow, with which this was done
 pub record IsStatusFor (words : List (List ℕ)) (IsDone : Result End Failure → Type 0) (status : ℕ) : Type 0 where

@@ -2,8 +2,6 @@
 #![tactic(auto)]
 
 ghost use Rattle.std.specs.Prelude.{◌≡◌, ◌<◌, ◌-◌, ◌^◌, false, map, string_bytes, IfOk, IfErr};
-ghost use Rattle.mote_apps.specs.Bundled.{named};
-ghost use Rattle.mote_words.specs.CommandLine.{named_in};
 ghost use Rattle.mote_shell.specs.declared.failure.Failure.{Failure as Refused};
 ghost use Rattle.mote_run.specs.RunText.{Exchanged};
 ghost use Rattle.mote.specs.CommandLine.{HasRunNamed, IsStatusFor};
@@ -50,7 +48,7 @@ fn run_to_status<R: AllocGlobal + Print + Eprint, S: ByteSource, K: ByteSink>(
     requires countable_writes { K.failure_count sink.old < 2 ^ 64 - 1 }
     ensures status { IfOk result (IsStatusFor (map string_bytes words.now) (λ outcome. S.is_named → K.is_named →
         Exchanged (S.taken source.old) (S.taken source.new) (S.is_ended source.new) (K.given sink.old) (K.given sink.new)
-        (HasRunNamed (named_in named (map string_bytes words.now)) outcome))) }
+        (HasRunNamed (map string_bytes words.now) outcome))) }
     ensures failure { IfErr result (λ failure. failure ≡ Refused.OutOfMemory) }
 {
     let texts = texts_of(rt.alloc(), words)?;

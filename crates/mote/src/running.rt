@@ -2,12 +2,12 @@
 
 ghost use Rattle.std.specs.Prelude.{◌≡◌, ◌<◌, ◌-◌, ◌^◌, ◌↔◌, false, length, IfErr, IsErrOf};
 ghost use Rattle.mote_types.specs.Applications.{says_of};
-ghost use Rattle.mote_apps.specs.Bundled.{bundled_says, named};
+ghost use Rattle.mote_apps.specs.Bundled.{bundled_says};
 ghost use Rattle.kernel_core.specs.declared.config.Config.{Config};
 ghost use Rattle.kernel_core.specs.Machine.{booted};
-ghost use Rattle.mote_run.specs.RunText.{Exchanged, HasRunTo, WasBooted};
-ghost use Rattle.mote_words.specs.CommandLine.{named_in, texts};
-ghost use Rattle.mote.specs.CommandLine.{HasRunNamed, IsOutcome, IsRunFailure};
+ghost use Rattle.mote_run.specs.RunText.{Exchanged, WasBooted};
+ghost use Rattle.mote_words.specs.CommandLine.{texts};
+ghost use Rattle.mote.specs.CommandLine.{HasRunAs, HasRunNamed, IsOutcome, IsRunFailure};
 ghost use Rattle.mote_shell.specs.declared.failure.Failure.{Failure as Refused};
 
 use crate::prepare::{Prepared, prepare};
@@ -19,7 +19,8 @@ use mote_types::device::{ByteSink, ByteSource};
 use std::alloc::Global;
 
 /// Boxes the applications, each as it is and in their order, and runs them from a source to a sink. What is written is the
-/// text of the run that the machine makes with what these applications say, and the answer is how it ends.
+/// text of the run that the machine makes with what these applications say, and the answer is how it ends. All holds that `run`
+/// promises: the laws of memory, events, timers and isolation among it.
 ///
 /// # Errors
 ///
@@ -37,7 +38,7 @@ pub fn run_prepared<'a, S: ByteSource, K: ByteSink>(
     requires countable_writes { K.failure_count sink.old < 2 ^ 64 - 1 }
     ensures ran { S.is_named → K.is_named → (config : Config) → prepared.kernel.machine ≡ booted config →
         Exchanged (S.taken source.old) (S.taken source.new) (S.is_ended source.new) (K.given sink.old) (K.given sink.new)
-        (HasRunTo config (says_of bundled_says prepared.applications.items) prepared.quiet Refused.Read result) }
+        (HasRunAs config (says_of bundled_says prepared.applications.items) prepared.quiet result) }
     ensures failure { IfErr result IsRunFailure }
     ensures read_fault { IsErrOf result Refused.Read ↔ (S.failure_count source.old < S.failure_count source.new) }
     ensures write_fault { IsErrOf result Refused.Write ↔ (K.failure_count sink.old < K.failure_count sink.new) }
@@ -60,7 +61,7 @@ pub fn run_prepared<'a, S: ByteSource, K: ByteSink>(
 }
 
 /// Runs the mote that the words name from a source to a sink: it has the sizes and the applications that they name, and its
-/// transcript is quiet where they ask for that. The first word is the program's name.
+/// transcript is quiet where they ask for that. All holds that `run` promises of it. The first word is the program's name.
 ///
 /// # Errors
 ///
@@ -77,7 +78,7 @@ pub fn run_words<'a, S: ByteSource, K: ByteSink>(
     ensures outcome { IsOutcome (texts words.now) result }
     ensures run { S.is_named → K.is_named →
         Exchanged (S.taken source.old) (S.taken source.new) (S.is_ended source.new) (K.given sink.old) (K.given sink.new)
-        (HasRunNamed (named_in named (texts words.now)) result) }
+        (HasRunNamed (texts words.now) result) }
     ensures read_fault { IsErrOf result Refused.Read ↔ (S.failure_count source.old < S.failure_count source.new) }
     ensures write_fault { IsErrOf result Refused.Write ↔ (K.failure_count sink.old < K.failure_count sink.new) }
 {

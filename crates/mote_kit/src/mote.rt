@@ -4,7 +4,8 @@ ghost use Rattle.std.specs.Prelude.{◌≡◌, ◌≢◌, ◌<◌, ◌-◌, ◌^
 ghost use Rattle.mote_types.specs.Applications.{says_of};
 ghost use Rattle.kernel_core.specs.Machine.{is_bootable};
 ghost use Rattle.mote_run.specs.RunText.{Exchanged, HasRunTo, IsRunText};
-ghost use Rattle.mote_kit.specs.Runs.{config_of};
+ghost use Rattle.mote_run.specs.Trace.{RunPromise};
+ghost use Rattle.mote_kit.specs.Runs.{OfRun, config_of};
 
 use crate::fault::MoteFault;
 use crate::script::Script;
@@ -30,7 +31,8 @@ pub const DEFAULT_SIZES: Sizes = Sizes {
 
 /// Boots a mote of these sizes for the applications in the boxes, and runs it from a source to a sink. What is written is
 /// the text of the run that the machine makes with the script's inputs and the applications (where `quiet`, the lines of a
-/// quiet transcript alone), and that is how it ends.
+/// quiet transcript alone), and that is how it ends. Where it was run, all holds that `run` promises (`promise`): the laws of
+/// memory, events, timers and isolation among it.
 ///
 /// # Errors
 ///
@@ -51,6 +53,9 @@ pub fn run_boxes<S: ByteSource, K: ByteSink>(
     ensures ran { S.is_named → K.is_named →
         Exchanged (S.taken source.old) (S.taken source.new) (S.is_ended source.new) (K.given sink.old) (K.given sink.new)
         (HasRunTo (config_of sizes (length boxes.old)) (says_of says boxes.old) quiet MoteFault.Read result) }
+    ensures promise { S.is_named → K.is_named → OfRun result (λ answer.
+        Exchanged (S.taken source.old) (S.taken source.new) (S.is_ended source.new) (K.given sink.old) (K.given sink.new)
+        (RunPromise (config_of sizes (length boxes.old)) (says_of says boxes.old) quiet answer)) }
     ensures bad_sizes { IsErrOf result MoteFault.BadSizes ↔ (is_bootable (config_of sizes (length boxes.old)) ≡ false) }
     ensures read_fault { IsErrOf result MoteFault.Read ↔ (S.failure_count source.old < S.failure_count source.new) }
     ensures write_fault { IsErrOf result MoteFault.Write ↔ (K.failure_count sink.old < K.failure_count sink.new) }

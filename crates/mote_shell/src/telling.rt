@@ -1,7 +1,8 @@
 //! What a program tells of its outcome, and the status that it exits with.
 
-ghost use Rattle.std.specs.Prelude.{◌≡◌};
-ghost use Rattle.mote_shell.specs.Statuses.{IsShown, IsStatusOf, status_of_outcome};
+ghost use Rattle.std.specs.Prelude.{◌≡◌, IfErr, IfOk};
+ghost use Rattle.std.specs.Process.{exit_status};
+ghost use Rattle.mote_shell.specs.Statuses.{IsShown, IsStatusOf, status_of_failure, status_of_outcome};
 
 use crate::failure::{Failure, status_of};
 use mote_text::script::End;
@@ -72,7 +73,10 @@ pub fn exit_code<R: Eprint>(
     rt: &R,
     program: Program,
     outcome: Result<u8, Failure<'static>>,
-) -> ExitCode {
+) -> ExitCode
+    ensures status { IfOk outcome.entry (λ status. exit_status result ≡ status) }
+    ensures failure { IfErr outcome.entry (λ failure. exit_status result ≡ status_of_failure failure) }
+{
     match outcome {
         Ok(status) => ExitCode::from(status),
         Err(failure) => ExitCode::from(tell(rt, program, Err(failure))),

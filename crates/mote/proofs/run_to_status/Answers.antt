@@ -1,5 +1,5 @@
 use Rattle.std.proofs.Common.{◌≡◌, ◌∙◌, List, ℕ, ap, map, inr, string_bytes, subst}
-use Rattle.mote.proofs.Common.{named, named_in, texts, HasRunNamed, IsOutcome, Exchanged}
+use Rattle.mote.proofs.Common.{texts, HasRunNamed, IsOutcome, Exchanged}
 use Rattle.mote.proofs.Named.{not_shown, of_shown}
 use Rattle.mote.proofs.run_to_status.Goals as goal
 
@@ -18,7 +18,7 @@ returns-clause-status g c =
       outcome = c.finish.ensures.shown;
       is_allowed = of_shown (IsOutcome words) _ _ allowed (λ text asked refused. inr (_, refused.0, refused.1)) c.finish.ensures.is_shown;
       is_done = λ source_named sink_named.
-          let ran = subst (λ (w : List (List ℕ)). Exchanged taken_old taken is_ended given_old given (HasRunNamed (named_in named w) c.run_words-outcome.result)) same (done.run source_named sink_named) in
-          of_shown (λ outcome. Exchanged taken_old taken is_ended given_old given (HasRunNamed (named_in named words) outcome)) _ _ ran (λ text asked run. not_shown run) c.finish.ensures.is_shown;
+          let ran = subst (λ (w : List (List ℕ)). Exchanged taken_old taken is_ended given_old given (HasRunNamed w c.run_words-outcome.result)) same (done.run source_named sink_named) in
+          of_shown (λ outcome. Exchanged taken_old taken is_ended given_old given (HasRunNamed words outcome)) _ _ ran (λ text asked run. not_shown words text (subst (IsOutcome words) asked allowed) run) c.finish.ensures.is_shown;
       is_status = c.finish.ensures.is_status;
     }

@@ -1,7 +1,8 @@
-use Rattle.std.proofs.Common.{rules, refl, inl, ◌≡◌, ◌∷◌, [], ◌++◌, ◌∙◌, ap, sym, subst, length, Result, Ok, Err, IsErrOf, IsErrAnd}
-use Rattle.mote.proofs.Common.{append-nil, append_assoc, Says, bundled_says, End, Exchanged, HasRunTo, ended, fault_handed_on, nothing_ran, Failure}
+use Rattle.std.proofs.Common.{rules, refl, inl, ◌≡◌, ◌∷◌, [], ◌++◌, ◌∙◌, ap, sym, length, Ok, Err}
+use Rattle.mote.proofs.Common.{append_assoc, Says, bundled_says, Exchanged, Failure}
+use Rattle.mote.specs.CommandLine.{HasRunAs}
 use denote.Param.Object.{read_made}
-use Rattle.mote.proofs.Named.{said_the_same}
+use Rattle.mote.proofs.Named.{ended_as, no_memory, reading_failed, said_the_same, writing_failed}
 use Rattle.mote_run.proofs.Boxed.{all_yielded, as_many_more, one_more, same_applications}
 use Rattle.mote.proofs.running.run_prepared.OwnLists.{own-1}
 use Rattle.mote.proofs.running.run_prepared.Goals as goal
@@ -19,16 +20,12 @@ loop-application-preserved g c =
       one_more _ bundled_says _ _ boxed _ application c.in_ok-push.ensures.items told before.2,
     )
 
--- want of memory is no failed read
-memory_is_other : (r : Result End Failure) → IsErrAnd r (λ failure. failure ≡ Failure.OutOfMemory) → IsErrOf r Failure.Read → ⊥
-memory_is_other r is_memory is_read = absurd (let e : Failure.Read ≡ Failure.OutOfMemory = subst (λ v. IsErrAnd v (λ failure. failure ≡ Failure.OutOfMemory)) is_read is_memory in cc)
-
 pub returns-in_err-new-clause-ran : goal.returns-in_err-new-clause-ran
-returns-in_err-new-clause-ran g c = λ _ _ _ _. nothing_ran c.from_residual.result c.from_residual.ensures.0 (memory_is_other _ c.from_residual.ensures.1)
+returns-in_err-new-clause-ran g c = λ _ _ _ _. no_memory c.from_residual.result c.from_residual.ensures.0 c.from_residual.ensures.1
 
 pub returns-in_err-push-clause-ran : goal.returns-in_err-push-clause-ran
 returns-in_err-push-clause-ran g c =
-    λ _ _ _ _. nothing_ran c.from_residual-in_err-push.result c.from_residual-in_err-push.ensures.0 (memory_is_other _ c.from_residual-in_err-push.ensures.1)
+    λ _ _ _ _. no_memory c.from_residual-in_err-push.result c.from_residual-in_err-push.ensures.0 c.from_residual-in_err-push.ensures.1
 
 pub run-requires-clause-booted : goal.run-requires-clause-booted
 run-requires-clause-booted g c =
@@ -43,24 +40,24 @@ returns-in-Ok-clause-ran g c =
     let all = all_yielded c.loop-application.yielded _ _ c.in-None.ensures.steps.0 c.loop-application.invariant.1 in
     said_the_same
     (λ config says. Exchanged (g.S.ByteSource.taken c.args.source.now) (g.S.ByteSource.taken c.run.new.source) (g.S.ByteSource.is_ended c.run.new.source) (g.K.ByteSink.given c.args.sink.now) (g.K.ByteSink.given c.run.new.sink)
-    (HasRunTo config says c.args.prepared.quiet Failure.Read (Ok c.in-Ok.end)))
+    (HasRunAs config says c.args.prepared.quiet (Ok c.in-Ok.end)))
     _ _ (same_applications _ bundled_says _ _ _ _ c.as_mut_slice.ensures.value c.loop-application.invariant.2 all)
-    (λ s k config boots. ended (c.in-Ok.ensures.promise s k config boots))
+    (λ s k config boots. ended_as (c.in-Ok.ensures.promise s k config boots))
 
 pub returns-in-Err-Read-clause-ran : goal.returns-in-Err-Read-clause-ran
 returns-in-Err-Read-clause-ran g c =
     let all = all_yielded c.loop-application.yielded _ _ c.in-None.ensures.steps.0 c.loop-application.invariant.1 in
     said_the_same
     (λ config says. Exchanged (g.S.ByteSource.taken c.args.source.now) (g.S.ByteSource.taken c.run.new.source) (g.S.ByteSource.is_ended c.run.new.source) (g.K.ByteSink.given c.args.sink.now) (g.K.ByteSink.given c.run.new.sink)
-    (HasRunTo config says c.args.prepared.quiet Failure.Read (Err Failure.Read)))
+    (HasRunAs config says c.args.prepared.quiet (Err Failure.Read)))
     _ _ (same_applications _ bundled_says _ _ _ _ c.as_mut_slice.ensures.value c.loop-application.invariant.2 all)
-    (λ s k config boots. let ran = c.in-Err-Read.ensures.promise s k config boots in fault_handed_on (Err Failure.Read) refl (λ is. search rules) ran)
+    (λ s k config boots. reading_failed (c.in-Err-Read.ensures.promise s k config boots) (search rules))
 
 pub returns-clause-ran : goal.returns-clause-ran
 returns-clause-ran g c =
     let all = all_yielded c.loop-application.yielded _ _ c.in-None.ensures.steps.0 c.loop-application.invariant.1 in
     said_the_same
     (λ config says. Exchanged (g.S.ByteSource.taken c.args.source.now) (g.S.ByteSource.taken c.run.new.source) (g.S.ByteSource.is_ended c.run.new.source) (g.K.ByteSink.given c.args.sink.now) (g.K.ByteSink.given c.run.new.sink)
-    (HasRunTo config says c.args.prepared.quiet Failure.Read (Err Failure.Write)))
+    (HasRunAs config says c.args.prepared.quiet (Err Failure.Write)))
     _ _ (same_applications _ bundled_says _ _ _ _ c.as_mut_slice.ensures.value c.loop-application.invariant.2 all)
-    (λ s k config boots. fault_handed_on (Err Failure.Write) refl (λ is. absurd (cc)) (c.in-Err-Write.ensures.promise s k config boots))
+    (λ s k config boots. writing_failed (c.in-Err-Write.ensures.promise s k config boots) (search rules))

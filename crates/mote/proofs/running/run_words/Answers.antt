@@ -1,11 +1,12 @@
-use Rattle.std.proofs.Common.{subst, Bool, refl, Err}
-use Rattle.mote.proofs.Common.{says_of, bundled_says, named, Exchanged, HasRunTo, Failure, named_in, texts, config_of}
+use Rattle.std.proofs.Common.{subst, Bool}
+use Rattle.mote.proofs.Common.{says_of, bundled_says, named, Exchanged, named_in, texts, config_of}
+use Rattle.mote.specs.CommandLine.{HasRunAs}
 use Rattle.mote.proofs.Named.{ran_nothing}
 use Rattle.mote.proofs.running.run_words.Goals as goal
 
 pub returns-in-Err-clause-run : goal.returns-in-Err-clause-run
 returns-in-Err-clause-run g c = λ source_named sink_named.
-    ran_nothing (texts c.args.words.now) c.in-Err.failure (Err c.in-Err.failure) c.in-Err.ensures.refused (refl, refl)
+    ran_nothing (texts c.args.words.now) c.in-Err.failure c.in-Err.ensures.refused
 
 pub returns-in-Ok-clause-run : goal.returns-in-Ok-clause-run
 returns-in-Ok-clause-run g c = λ source_named sink_named.
@@ -17,7 +18,14 @@ returns-in-Ok-clause-run g c = λ source_named sink_named.
     let given_old = g.K.ByteSink.given c.args.sink.now in
     let given = g.K.ByteSink.given c.run_prepared.new.sink in
     let as_applied =
-    subst (λ applications. Exchanged taken_old taken is_ended given_old given (HasRunTo (config_of asked) (says_of bundled_says applications.items) c.in-Ok.prepared.quiet Failure.Read c.run_prepared.result))
+    subst (λ applications. Exchanged taken_old taken is_ended given_old given (HasRunAs (config_of asked) (says_of bundled_says applications.items) c.in-Ok.prepared.quiet c.run_prepared.result))
     ready.applications (c.run_prepared.ensures.ran source_named sink_named (config_of asked) ready.booted) in
-    subst (λ (quiet : Bool). Exchanged taken_old taken is_ended given_old given (HasRunTo (config_of asked) (says_of bundled_says asked.applications.items) quiet Failure.Read c.run_prepared.result))
-    ready.quiet as_applied
+    let x = subst (λ (quiet : Bool). Exchanged taken_old taken is_ended given_old given (HasRunAs (config_of asked) (says_of bundled_says asked.applications.items) quiet c.run_prepared.result))
+    ready.quiet as_applied in
+    record {
+      read = x.read;
+      written = x.written;
+      taken = x.taken;
+      given = x.given;
+      holds = record { ran = x.holds.ran; promise = λ names. x.holds.promise };
+    }

@@ -1,5 +1,5 @@
-use Rattle.std.proofs.Common.{rules, ◌≡◌, ◌∙◌, ap, refl, subst, false, true, Bool, length}
-use Rattle.std.specs.Prelude.{Result, Ok, Err, IsErrOf}
+use Rattle.std.proofs.Common.{rules, ◌≡◌, ◌∙◌, ap, refl, sym, subst, false, true, Bool, length}
+use Rattle.std.specs.Prelude.{Result, Ok, Err, IsErr, IsErrOf}
 use Rattle.std.specs.Result.{IsErrAnd}
 use Rattle.mote_types.specs.declared.fault.BootFault.{BootFault}
 use Rattle.mote_text.specs.declared.script.End.{End}
@@ -8,7 +8,7 @@ use Rattle.mote_kit.specs.declared.fault.MoteFault.{MoteFault}
 use Rattle.mote_kit.specs.Faults.{fault_at_boot, fault_in_run}
 use Rattle.kernel_core.specs.declared.config.Config.{Config}
 use Rattle.kernel_core.specs.Machine.{booted, is_bootable}
-use Rattle.mote_kit.specs.Runs.{config_of}
+use Rattle.mote_kit.specs.Runs.{OfRun, config_of}
 use Rattle.mote_run.proofs.HandedOn.{ended, fault_handed_on, nothing_ran}
 use Rattle.mote_kit.proofs.mote.run_boxes.Goals as goal
 
@@ -57,5 +57,36 @@ pub returns-in_err-end-clause-ran : goal.returns-in_err-end-clause-ran
 returns-in_err-end-clause-ran g c =
     let same : c.in-Ok.apps ≡ length c.args.boxes.now = search rules in
     λ source_named sink_named. fault_handed_on c.from_residual-in_err-end.result c.from_residual-in_err-end.ensures.0 (read_alike c.in_err-end.field-0.0 _ c.from_residual-in_err-end.ensures.1)
+    (c.in_err-end.ensures.promise source_named sink_named (config_of c.args.sizes (length c.args.boxes.now))
+    (c.in_ok-kernel.ensures.booted.0 ∙ ap (λ apps. booted (config_of c.args.sizes apps)) same))
+
+-- of a run that was handed on
+of_run : (P : Result End RunFault → Type 0) (fault : RunFault) (r : Result End MoteFault) → IsErr r → IsErrAnd r (λ found. found ≡ fault_in_run fault) → P (Err fault) → OfRun r P
+of_run P fault (Ok end) is_err is_fault held = absurd (cc)
+of_run P RunFault.Read (Err found) is_err is_fault held = subst (λ v. OfRun (Err v) P) (sym is_fault) held
+of_run P RunFault.Write (Err found) is_err is_fault held = subst (λ v. OfRun (Err v) P) (sym is_fault) held
+
+-- where no mote was booted, none was run
+of_none : (P : Result End RunFault → Type 0) (fault : BootFault) (r : Result End MoteFault) → IsErr r → IsErrAnd r (λ found. found ≡ fault_at_boot fault) → OfRun r P
+of_none P fault (Ok end) is_err is_fault = absurd (cc)
+of_none P BootFault.BadSizes (Err found) is_err is_fault = subst (λ v. OfRun (Err v) P) (sym is_fault) tt
+of_none P BootFault.Memory (Err found) is_err is_fault = subst (λ v. OfRun (Err v) P) (sym is_fault) tt
+
+pub returns-in_default-clause-promise : goal.returns-in_default-clause-promise
+returns-in_default-clause-promise g c = λ _ _. tt
+
+pub returns-in_err-kernel-clause-promise : goal.returns-in_err-kernel-clause-promise
+returns-in_err-kernel-clause-promise g c = λ _ _. of_none _ c.in_err-kernel.field-0.0 c.from_residual.result c.from_residual.ensures.0 c.from_residual.ensures.1
+
+pub returns-clause-promise : goal.returns-clause-promise
+returns-clause-promise g c =
+    let same : c.in-Ok.apps ≡ length c.args.boxes.now = search rules in
+    λ source_named sink_named. c.in_ok-end.ensures.promise source_named sink_named (config_of c.args.sizes (length c.args.boxes.now))
+    (c.in_ok-kernel.ensures.booted.0 ∙ ap (λ apps. booted (config_of c.args.sizes apps)) same)
+
+pub returns-in_err-end-clause-promise : goal.returns-in_err-end-clause-promise
+returns-in_err-end-clause-promise g c =
+    let same : c.in-Ok.apps ≡ length c.args.boxes.now = search rules in
+    λ source_named sink_named. of_run _ c.in_err-end.field-0.0 c.from_residual-in_err-end.result c.from_residual-in_err-end.ensures.0 c.from_residual-in_err-end.ensures.1
     (c.in_err-end.ensures.promise source_named sink_named (config_of c.args.sizes (length c.args.boxes.now))
     (c.in_ok-kernel.ensures.booted.0 ∙ ap (λ apps. booted (config_of c.args.sizes apps)) same))
