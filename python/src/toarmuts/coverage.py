@@ -24,7 +24,8 @@ class Cell(NamedTuple):
     how: str
 
 
-OWN = "own"
+OWN, LOW = "own", "low"
+FIRST_KERNEL_EVENT = 128
 _LOST = (1, 12, 18)
 _WORDS = {rule.kind: rule.name for rule in RULES.calls.values()}
 _EVENTS = {code: rule.name for code, rule in RULES.events.items()}
@@ -42,7 +43,8 @@ def cells() -> tuple[Cell, ...]:
     """All that can be reached, in the order of the table."""
     made = [Cell(name, reply) for name in RULES.calls for reply in _replies(name)]
     made += [Cell(f"from {origin}", rule.name) for rule in RULES.events.values() for origin in rule.origins]
-    made += [Cell("from event", OWN), Cell("from synch", OWN), Cell("from callback", "expired")]
+    made += [Cell(f"from {origin}", codes) for origin in ("event", "synch") for codes in (LOW, OWN)]
+    made += [Cell("from callback", "expired")]
     made += [Cell("input", kind) for kind in ("tick", "serial", "frame")]
     made += [Cell("note", "sent"), *(Cell("lost", RULES.refusals[number].name) for number in _LOST)]
     return tuple(made + [Cell("end", "halted"), Cell("end", "bad line"), Cell("end", "too long")])
@@ -60,7 +62,7 @@ def _answer_cell(asked: int, reply: int, refusal: int) -> Cell:
 def _told_cell(origin: int, event: int) -> Cell:
     if origin == Origin.CALLBACK:
         return Cell("from callback", "expired")
-    return Cell(f"from {Origin(origin).name.lower()}", _EVENTS.get(event, OWN))
+    return Cell(f"from {Origin(origin).name.lower()}", _EVENTS.get(event, LOW if event < FIRST_KERNEL_EVENT else OWN))
 
 
 def _other_cell(kind: int, detail: int, refusal: int) -> Cell:

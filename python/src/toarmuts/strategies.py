@@ -106,12 +106,17 @@ def frame_line(data: bytes) -> str:
     return f"frame {data.hex()}"
 
 
+def frames(max_size: int = 127) -> SearchStrategy[bytes]:
+    """The bytes of a frame: some random ones, or so many zeros, so that long frames are as likely as short ones."""
+    return st.one_of(st.integers(1, max_size).map(bytes), st.binary(min_size=1, max_size=max_size))
+
+
 def inputs(*, kinds: Iterable[str] = ("tick", "serial", "text", "frame"), max_ticks: int = 40, max_frame: int = 127,
            texts: Sequence[str] | None = None) -> SearchStrategy[str]:
     """A line of a script. ``texts``: the lines that come in on the serial line."""
     line = st.text("abcdefgh 0123", max_size=12) if texts is None else st.sampled_from(texts)
     known = {"tick": st.integers(0, max_ticks).map(tick_line), "serial": st.binary(min_size=1, max_size=130).map(serial_line),
-             "text": line.map(text_line), "frame": st.binary(min_size=1, max_size=max_frame).map(frame_line)}
+             "text": line.map(text_line), "frame": frames(max_frame).map(frame_line)}
     return st.one_of([known[kind] for kind in kinds])
 
 
@@ -190,7 +195,7 @@ class MoteMachine(RuleBasedStateMachine):
         self._look(self.mote.text(self.texts[place % len(self.texts)]))
 
     @precondition(_goes_on)
-    @rule(data=st.binary(min_size=1, max_size=127))
+    @rule(data=frames())
     def frame(self, data: bytes) -> None:
         """A frame comes in."""
         self._look(self.mote.frame(data))

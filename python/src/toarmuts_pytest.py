@@ -4,7 +4,7 @@
     pytest --toarmuts-pages FOLDER ..        writes a page in HTML of each run that comes out otherwise
     pytest --toarmuts-coverage ..            tells at the end which calls, refusals and events were reached
 
-Only pytest itself is loaded until such a file is met.
+It stands apart from the package, so that pytest loads that only where such a file is met.
 """
 from __future__ import annotations
 
@@ -15,9 +15,9 @@ from typing import TYPE_CHECKING, Any, Iterator, Optional, Union
 import pytest
 
 if TYPE_CHECKING:
-    from .coverage import Coverage
-    from .runs import Run
-    from .scenario import Scenario
+    from toarmuts.coverage import Coverage
+    from toarmuts.runs import Run
+    from toarmuts.scenario import Scenario
 
 SUFFIXES = (".scenario", ".runs")
 _COVERAGE = "--toarmuts-coverage"
@@ -52,8 +52,8 @@ class ScenarioFile(pytest.File):
 
     def collect(self) -> Iterator[pytest.Item]:
         """Its runs."""
-        from .errors import BadScenario
-        from .scenario import read_scenarios
+        from toarmuts.errors import BadScenario
+        from toarmuts.scenario import read_scenarios
 
         try:
             scenarios = read_scenarios(self.path.read_text(encoding="utf-8"))
@@ -83,7 +83,7 @@ class ScenarioItem(pytest.Item):
 
     def repr_failure(self, excinfo: "pytest.ExceptionInfo[BaseException]", style: Any = None) -> Any:
         """The difference, and where the page is."""
-        from .errors import ToarmutsError
+        from toarmuts.errors import ToarmutsError
 
         fault = excinfo.value
         if isinstance(fault, ComesOutOtherwise):
@@ -114,7 +114,7 @@ def _coverage_of(config: pytest.Config) -> "Coverage | None":
     if not config.getoption(_COVERAGE):
         return None
     if _KEY not in config.stash:
-        from .coverage import Coverage
+        from toarmuts.coverage import Coverage
 
         config.stash[_KEY] = Coverage()
     return config.stash[_KEY]

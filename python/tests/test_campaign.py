@@ -1,0 +1,106 @@
+"""Campaigns: the same files and figures by 1, 2 and 4 processes and by Dask, failures that come out as told, wrong words."""
+import os
+import re
+import subprocess
+import sys
+
+import pytest
+from common import ROOT
+
+import toarmuts
+from toarmuts.coverage import Cell, Coverage, cells, coverage_of
+from toarmuts.scenario import read_file
+from toarmuts.shrinking import make_case, shrink
+
+TARGET = ROOT / "examples/python/target.py"
+SCENARIO = ROOT / "crates/scenario/out/scenario"
+
+
+def campaign(folder, *words):
+    """Carries a campaign out; status, standard output without the folder, and the files."""
+    command = [sys.executable, "-m", "toarmuts.campaign", *map(str, words), "--found", str(folder)]
+    done = subprocess.run(command, capture_output=True, text=True, check=False, cwd=ROOT / "examples/python")
+    assert done.returncode in (0, 1), done.stderr
+    files = {path.name: path.read_text() for path in sorted(folder.glob("*"))} if folder.exists() else {}
+    return done.returncode, done.stdout.replace(str(folder), ""), files
+
+
+@pytest.mark.parametrize("name", ["Lists", "Supervised"])
+def test_processes_change_nothing(tmp_path, name):
+    words = ("target.py:" + name, "--seeds", "0:6", "--count", "30", "--coverage")
+    found = [campaign(tmp_path / str(jobs), *words, "--jobs", jobs) for jobs in (1, 2, 4)]
+    assert found[0] == found[1] == found[2]
+    status, told, files = found[0]
+    assert status == 1 and len(files) == 1 and "6 seeds, 180 runs" in told and f"of {len(cells())} cells were reached" in told
+    path = next((tmp_path / "1").glob("*.scenario"))
+    assert [scenario.carry_out().fault for scenario in read_file(path)] == [None]
+    if SCENARIO.exists():
+        done = subprocess.run([SCENARIO, path.name], cwd=path.parent, capture_output=True, text=True, check=False)
+        assert (done.returncode, done.stdout) == (0, f"{path.name}: 1 of 1 runs as told\n")
+
+
+def test_a_seed_alone_is_the_same(tmp_path):
+    _, _, all_files = campaign(tmp_path / "all", "target.py:Lists", "--seeds", "0:6", "--count", "30", "--jobs", "1")
+    (text,) = all_files.values()
+    number = int(re.search(r"seed (\d+)", text)[1])
+    _, _, files = campaign(tmp_path / "one", "target.py:Lists", "--seeds", f"{number}:{number + 1}", "--count", "30", "--jobs", "1")
+    assert files == all_files
+
+
+def test_nothing_is_found_where_nothing_is_wrong(tmp_path):
+    status, told, files = campaign(tmp_path / "none", "target.py:Repaired", "--seeds", "0:2", "--count", "30", "--jobs", "1")
+    assert status == 0 and files == {} and "0 faults" in told
+
+
+def test_dask_changes_nothing(tmp_path):
+    pytest.importorskip("distributed")
+    words = ("target.py:Lists", "--seeds", "0:6", "--count", "30", "--jobs", "2")
+    assert campaign(tmp_path / "dask", *words, "--dask", "local") == campaign(tmp_path / "here", *words)
+
+
+def test_an_application_that_raises_is_a_fault(tmp_path):
+    (tmp_path / "raising.py").write_text(
+        "from toarmuts.campaign import make_case\n\n\ndef raises():\n    yield\n\n\nclass Target:\n    def draw(self, chance):\n"
+        "        return make_case([raises], ['tick 1'] * chance.randrange(3))\n\n    def check(self, run):\n        return None\n")
+    status, told, files = campaign(tmp_path / "found", tmp_path / "raising.py:Target", "--seeds", "0:2", "--count", "3", "--jobs", "1")
+    assert status == 1 and "process 4 fails: it answered None, and no call" in told and list(files) == ["process-4-fails-it-answered-None-and-no-call.txt"]
+
+
+@pytest.mark.parametrize("words, reason", [
+    (["nothing"], "nothing names no target: module:name or file.py:name is wanted"),
+    (["no_such_module:name"], "no_such_module:name names no target: No module named 'no_such_module'"),
+    (["missing.py:name"], "missing.py:name names no target: no such file: missing.py"),
+    ([f"{TARGET}:nobody"], "has no attribute 'nobody'"),
+    ([f"{TARGET}:WORDS"], "is no target: it has no draw(chance) and check(run)"),
+    ([f"{TARGET}:Lists", "--seeds", "5:5"], "5:5 is no range of seeds; 0:100 is one, of 100 seeds"),
+    ([f"{TARGET}:Lists", "--jobs", "0"], "0 is no number from 1 on"),
+    ([f"{TARGET}:Lists", "--count", "-1"], "-1"),
+])
+def test_wrong_words(tmp_path, words, reason):
+    done = subprocess.run([sys.executable, "-m", "toarmuts.campaign", *words], capture_output=True, text=True, check=False, cwd=tmp_path)
+    assert done.returncode == 2 and reason in done.stderr and not os.listdir(tmp_path)
+
+
+def test_what_fails_is_made_small():
+    case = make_case([["clock"] * 5 + ["memb-alloc 0", "list-add 0 0", "memb-free 0 0"], "hello"], ["tick 1"] * 20)
+    small, tries = shrink(case, lambda smaller: b"refused 14" in smaller.run().transcript)
+    assert small.applications == (("memb-alloc 0", "list-add 0 0", "memb-free 0 0"),) and small.script == () and tries < 100
+
+
+def test_coverage_of_worked_runs():
+    """All but what tests/cells names as out of reach."""
+    runs = [scenario.run() for path in sorted((ROOT / "crates/scenario/data").glob("*.runs")) for scenario in read_file(path)
+            if scenario.end != "bad sizes"]
+    runs += [scenario.run() for path in sorted((ROOT / "examples").glob("*.scenario")) for scenario in read_file(path)]
+    coverage = coverage_of(runs)
+    assert coverage.missing() == [Cell("timer-reset", "range"), Cell("end", "too long")] and coverage.unexpected() == []
+    assert coverage.table().endswith(f"{len(cells()) - 2} of {len(cells())} cells were reached")
+
+
+def test_coverages_add_up():
+    runs = [toarmuts.run(["blink", "relay"], "tick 10\nframe 01\n"), toarmuts.run([["timer-stop 9", "mmem-alloc 0 5000"]])]
+    several = Coverage()
+    for run in runs:
+        several.update(Coverage().add(run))
+    assert several == coverage_of(runs) and several[Cell("mmem-alloc", "no-room")] == 1 and several[Cell("note", "sent")] == 1
+    assert Coverage().add(toarmuts.run(["hello"], quiet=True)) == {}

@@ -1,0 +1,296 @@
+"""A mote in hand, and applications in Python."""
+import random
+import threading
+
+import pytest
+from common import NAMES, random_application, random_call, random_script
+
+import toarmuts
+from toarmuts import (ApplicationError, Event, EventCode, Exit, Kill, MmemAlloc, Mote, MoteError, Print, Script, Start, Table, TimerReset,
+                      TimerSet, Transcript, Wait)
+from toarmuts.bundled import BUNDLED
+
+
+def texts(entries):
+    return [str(entry) for entry in entries]
+
+
+def test_each_input_gives_the_entries_that_follow():
+    with Mote(["blink", "echo"]) as mote:
+        assert texts(mote.booted) == ["4 synch 129 - -> timer-set 0 10", "4 answer done -> wait", "5 synch 129 - -> wait"]
+        assert texts(mote.tick(9)) == ["> tick 9"] and mote.clock == 9
+        turned = mote.tick()
+        assert texts(turned) == ["> tick 1", "4 event 136 0 -> print 6f6e0a", "4 answer done -> timer-reset 0", "4 answer done -> wait"]
+        assert [entry.clock for entry in turned] == [10] * 4 and [entry.line for entry in turned] == [5, 6, 7, 8]
+        assert turned.turns()[0].answer.ok and turned.printed() == b"on\n"
+        assert mote.text("hi").printed(5) == b"hi" and mote.serial(b"a").printed() == b"" and mote.serial(b"b\n").printed() == b"ab"
+        assert texts(mote.frame(b"\1")) == ["> frame 01"] and texts(mote.at(10)) == [] and texts(mote.at(12)) == ["> tick 2"]
+        assert texts(mote.feed("# nothing")) == [] and texts(mote.feed("tick 1")) == ["> tick 1"]
+        whole = mote.transcript
+    assert mote.entries == Transcript(whole)
+    assert whole == toarmuts.run(["blink", "echo"], mote.so_far().script).transcript
+
+
+def test_inputs_are_refused_and_change_nothing():
+    mote = Mote(["blink"])
+    before = mote.transcript
+    for wrong in (lambda: mote.tick(2**32), lambda: mote.serial(b""), lambda: mote.frame(bytes(128)), lambda: mote.feed("tick 01"),
+                  lambda: mote.at(-1), lambda: mote.tick("1"), lambda: mote.run("frob\n")):
+        with pytest.raises(toarmuts.ToarmutsError):
+            wrong()
+    assert mote.transcript == before and mote.clock == 0
+    assert mote.tick(10).printed() == b"on\n"
+
+
+def test_a_script_is_carried_out():
+    mote = Mote(["blink"])
+    assert mote.run(Script().tick(10).tick(10)).printed() == b"on\noff\n"
+    with pytest.raises(toarmuts.BadInput, match="'frob' is no line of a script|b'frob' is no line of a script"):
+        mote.run("tick 1\nfrob\ntick 1\n")
+    assert mote.clock == 21
+
+
+def test_a_closed_mote():
+    mote = Mote(["blink"])
+    mote.close()
+    mote.close()
+    for use in (lambda: mote.tick(1), lambda: mote.clock, lambda: mote.answer(Wait())):
+        with pytest.raises(MoteError, match="the mote is closed"):
+            use()
+    assert mote.closed and len(mote.entries) == 2 and "closed" in repr(mote)
+
+
+def test_a_halted_mote():
+    mote = Mote(["clock-watcher"])
+    assert mote.halted and mote.entries[-1].text == "halt" and len(mote.entries) == 10_001
+    with pytest.raises(MoteError, match="the mote was halted"):
+        mote.tick(1)
+    assert mote.so_far().ended == "halted"
+
+
+def fails_on(words):
+    """An application that raises where it is told these words for the first time."""
+    def application():
+        stimulus = yield Wait()
+        failed = False
+        while True:
+            if str(stimulus) == words and not failed:
+                failed = True
+                raise KeyError("no such thing")
+            stimulus = yield Print(b"told") if isinstance(stimulus, Event) else Wait()
+    return application
+
+
+class Fails:
+    """Raises, answers no call, and then prints, at each line that comes in."""
+
+    def __init__(self):
+        self.told = 0
+
+    def turn(self, stimulus):
+        if not (isinstance(stimulus, Event) and stimulus.code == EventCode.SERIAL_LINE):
+            return Wait()
+        self.told += 1
+        if self.told == 1:
+            raise KeyError("no such thing")
+        return None if self.told == 2 else Print(b"third")
+
+
+def test_an_application_that_raises_leaves_the_mote_as_it_was():
+    mote = Mote(["hello", Fails])
+    with pytest.raises(ApplicationError, match=r"process 5, told Event\(code=138, payload=b'on'\): KeyError: 'no such thing'") as caught:
+        mote.text("on")
+    fault = caught.value
+    assert (fault.process, fault.stimulus) == (5, Event(138, b"on")) and isinstance(fault.__cause__, KeyError)
+    assert fault.transcript.endswith("> serial 6f6e0a\n") and mote.transcript.decode() == fault.transcript
+    assert mote.awaiting == (5, Event(138, b"on"))
+    with pytest.raises(MoteError, match="a turn awaits its call"):
+        mote.tick(1)
+    with pytest.raises(ApplicationError, match="it answered None, and no call"):
+        mote.resume()
+    assert mote.transcript.decode() == fault.transcript and mote.awaiting == (5, Event(138, b"on"))
+    assert texts(mote.resume())[0] == "5 event 138 x6f6e -> print 7468697264" and mote.awaiting is None
+    assert mote.tick(1)[0].text == "> tick 1" and mote.application(5).told == 3
+
+
+def test_a_call_can_be_handed_in_by_hand():
+    mote = Mote([Fails])
+    with pytest.raises(ApplicationError):
+        mote.text("on")
+    entries = mote.answer(Print(b"by hand"))
+    assert texts(entries) == [f"4 event 138 x6f6e -> print {b'by hand'.hex()}", "4 answer done -> wait"]
+    assert mote.entries.turns()[-2].answer.ok
+    with pytest.raises(MoteError, match="no turn awaits a call"):
+        mote.answer(Wait())
+
+
+def test_a_run_ends_where_an_application_raises():
+    with pytest.raises(ApplicationError, match="process 4, told Callback|process 4, told Event") as caught:
+        toarmuts.run([fails_on("136 0"), [TimerSet(0, 1)]], "tick 1\ntick 1\n") and toarmuts.run([fails_on("138 x61")], "serial 610a\n")
+    assert caught.value.process == 4
+
+
+class Answers:
+    """Answers something that is no call."""
+
+    def __init__(self, answer):
+        self.answer = answer
+
+    def turn(self, stimulus):
+        return self.answer
+
+
+@pytest.mark.parametrize("answer, reason", [
+    (None, "it answered None, and no call"),
+    ("wait", "it answered the text 'wait', and no call: Call.parse makes one"),
+    (Wait, "it answered the class Wait, and no call: Wait(..) is meant"),
+    (5, "it answered 5, and no call"),
+    ((turns for turns in ()), "it answered a generator, and no call: a turn that yields is none"),
+])
+def test_what_is_no_call_is_told(answer, reason):
+    with pytest.raises(ApplicationError) as caught:
+        toarmuts.run([Answers(answer)])
+    assert reason in str(caught.value) and caught.value.stimulus == Event(EventCode.INIT)
+
+
+def test_an_application_cannot_use_its_mote():
+    made = {}
+
+    class Meddles:
+        def turn(self, stimulus):
+            if "mote" in made:
+                made["mote"].tick(1)
+            return Wait()
+
+    made["mote"] = Mote([Meddles])
+    with pytest.raises(ApplicationError, match="the mote is at work"):
+        made["mote"].text("on")
+
+
+def test_a_generator_begins_anew_at_each_start():
+    def counts():
+        for number in range(2):
+            yield Print(b"%d" % number)
+            yield Wait()
+
+    # It is told EXIT when it is killed, and prints 1 then.
+    run = toarmuts.run([counts, [Kill(4), Start(4)]])
+    assert run.printed() == b"010"
+    assert toarmuts.run([counts], "tick 1\n").entries.turns()[-1].call == Wait()
+
+
+def test_a_generator_that_returns_exits():
+    def once():
+        yield Print(b"once")
+
+    run = toarmuts.run([once])
+    assert [turn.call for turn in run.entries.turns()] == [Print(b"once"), Exit()]
+
+
+def test_answers_and_stimuli_are_sent():
+    told = []
+
+    def listens():
+        told.append((yield MmemAlloc(0, 4097)))
+        told.append((yield MmemAlloc(0, 8)))
+        told.append((yield Wait()))
+
+    toarmuts.run([listens], "serial 6869\nserial 0a\n")
+    assert [str(told[0]), str(told[1])] == ["refused 12", "done"] and told[2] == Event(EventCode.SERIAL_LINE, b"hi")
+
+
+def test_tables_and_objects_are_applications():
+    table = {EventCode.INIT: [TimerSet(0, 5)], EventCode.TIMER: [Print(b"x"), TimerReset(0)]}
+    assert toarmuts.run([Table(table)], "tick 5\ntick 5\n").printed() == b"xx"
+    echo = BUNDLED["echo"]()
+    assert toarmuts.run([echo, "hello"], "serial 610a\n").printed() == b"hi\na"
+
+
+def test_a_run_of_python_applications_is_written_as_lists():
+    run = toarmuts.run([BUNDLED["blink"], "hello"], "tick 10\ntick 25\n")
+    again = toarmuts.read_scenarios(run.scenario())[0]
+    assert again.carry_out().fault is None and "calls timer-set 0 10" in run.scenario()
+    with pytest.raises(toarmuts.BadScenario, match="process 4 made [0-9]+ calls; a list in a file has at most 128"):
+        toarmuts.run([BUNDLED["blink"]], "tick 10\n" * 100).scenario()
+
+
+def both(applications, script, **sizes):
+    """The run by the library, and the one that goes step by step with the same applications in Python."""
+    in_python = [BUNDLED[name] if isinstance(name, str) else name for name in applications]
+    # Lists are carried out step by step beside an application in Python.
+    return (toarmuts.run([*applications, "hello"], script, **sizes), toarmuts.run([*in_python, BUNDLED["hello"]], script, **sizes))
+
+
+def assert_same(by_library, step_by_step):
+    assert step_by_step.difference(by_library) is None
+    assert (by_library.status, by_library.line) == (step_by_step.status, step_by_step.line)
+
+
+@pytest.mark.parametrize("name", [*NAMES, "clock-watcher"])
+def test_applications_in_python_are_those_in_rattle(name):
+    """Equal transcripts on random scripts, alone and beside others."""
+    for seed in range(60):
+        chance = random.Random(f"{name}/{seed}")
+        others = [random_application(chance) for _ in range(chance.randrange(3))]
+        sizes = {"mmem": chance.choice([64, 128, 4096]), "heap": chance.choice([100, 4096])}
+        assert_same(*both([name, *others], random_script(chance, 20), **sizes, quiet=seed % 10 == 0))
+
+
+def test_random_lists_step_by_step_are_those_by_the_library():
+    for seed in range(300):
+        chance = random.Random(f"lists/{seed}")
+        lists = [[random_call(chance) for _ in range(chance.randrange(60))] for _ in range(chance.randrange(1, 5))]
+        quota = chance.choice([None, None, 8, 16])
+        assert_same(*both(lists, random_script(chance, 20, spoilt=0.05), mmem=chance.choice([128, 512]), heap=200, quota=quota))
+
+
+def test_ends_step_by_step_are_those_by_the_library():
+    comments = "#" * 1023 + "\n"
+    for script in ("frob", "tick 1\nfrob\ntick 1\n", "tick 1", "\n\ntick 01\n", "#" * 1024, "#" * 1025, "tick 1\r\n",
+                   comments * 16_384 + "tick 5\n", comments * 16_383 + "#" * 1020 + "\n" + "tick 5\n", comments * 16_384, b"\xff\n"):
+        assert_same(*both([], script))
+
+
+def test_motes_on_several_threads():
+    """Each thread has motes of its own; runs by the library go on meanwhile."""
+    wanted = toarmuts.run(["blink", "echo"], "tick 10\nserial 610a\n" * 20).transcript
+    faults = []
+
+    def work():
+        try:
+            for _ in range(20):
+                mote = Mote(["blink", "echo"])
+                for _ in range(20):
+                    mote.tick(10)
+                    mote.text("a")
+                assert mote.transcript == wanted
+                assert toarmuts.run(["blink", "echo"], "tick 10\nserial 610a\n" * 20).transcript == wanted
+        except Exception as fault:
+            faults.append(fault)
+
+    threads = [threading.Thread(target=work) for _ in range(8)]
+    for thread in threads:
+        thread.start()
+    for thread in threads:
+        thread.join()
+    assert faults == []
+
+
+def test_runs_on_several_threads_have_rooms_of_their_own():
+    scripts = ["tick 10\n" * count for count in (1, 50, 5000)]
+    wanted = {script: toarmuts.run(["blink"], script).transcript for script in scripts}
+    faults = []
+
+    def work(script):
+        for _ in range(10):
+            if toarmuts.run(["blink"], script).transcript != wanted[script]:
+                faults.append(script[:20])
+
+    threads = [threading.Thread(target=work, args=(script,)) for script in scripts * 3]
+    for thread in threads:
+        thread.start()
+    for thread in threads:
+        thread.join()
+    assert faults == []
+
+

@@ -1,0 +1,52 @@
+"""pytest carries out scenarios."""
+import subprocess
+import sys
+
+import pytest
+from common import ROOT
+
+FAILING = "== one\napp hello\n4 synch 129 - -> print 68690a\n4 answer done -> exit\n\n== two\ntick 1\n\n== three\ntick 1\n> tick 1\nends halted\n"
+
+
+def run_pytest(folder, *words):
+    command = [sys.executable, "-m", "pytest", "-p", "no:cacheprovider", *map(str, words)]
+    return subprocess.run(command, cwd=folder, capture_output=True, text=True, check=False)
+
+
+def test_the_difference_is_told(tmp_path):
+    (tmp_path / "a.scenario").write_text(FAILING)
+    done = run_pytest(tmp_path, "a.scenario")
+    assert done.returncode == 1 and "2 failed, 1 skipped" in done.stdout
+    for words in ("line 2 of the transcript differs, at clock 0", "wanted:   4 answer done -> exit", "found:    4 answer done -> wait",
+                  "process 4: its call was answered done; it calls exit", "ended with: finished, and not: halted", "a.scenario: one"):
+        assert words in done.stdout, words
+    assert "Traceback" not in done.stdout
+
+
+def test_a_file_of_no_form_is_told(tmp_path):
+    (tmp_path / "bad.runs").write_text("== one\ntock 5\n")
+    done = run_pytest(tmp_path)
+    assert done.returncode == 2 and "bad.runs: line 2: unknown word tock" in done.stdout
+
+
+def test_pages_of_failing_runs(tmp_path):
+    (tmp_path / "a.scenario").write_text(FAILING)
+    done = run_pytest(tmp_path, "--toarmuts-pages", tmp_path / "pages")
+    pages = sorted(path.name for path in (tmp_path / "pages").glob("*"))
+    assert pages == ["a-one.html", "a-three.html"] and f"the run: {tmp_path}/pages/a-one.html" in done.stdout
+    assert "it starts (INIT)" in (tmp_path / "pages/a-one.html").read_text()
+
+
+def test_all_scenarios_of_the_repository():
+    done = run_pytest(ROOT, "-q", "--toarmuts-coverage", "examples", "crates/scenario/data")
+    assert done.returncode == 0 and "cells were reached" in done.stdout, done.stdout[-2000:]
+
+
+def test_it_is_quiet_where_nothing_is_asked(tmp_path):
+    (tmp_path / "test_nothing.py").write_text("def test():\n    import sys\n    assert 'toarmuts' not in sys.modules\n")
+    assert run_pytest(tmp_path).returncode == 0
+
+
+@pytest.mark.parametrize("option", ["--toarmuts-pages", "--toarmuts-coverage"])
+def test_options_are_told(option):
+    assert option in run_pytest(ROOT, "--help").stdout

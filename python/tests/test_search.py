@@ -1,0 +1,127 @@
+"""Searches find the faults of the applications in examples/python from each of five seeds, and nothing where these are repaired."""
+import sys
+
+import pytest
+from common import ROOT
+from hypothesis import HealthCheck, given, seed, settings
+from hypothesis import strategies as st
+from hypothesis.stateful import run_state_machine_as_test
+
+import toarmuts
+from toarmuts import BadSizes, read_scenarios, strategies
+from toarmuts.coverage import Coverage
+from toarmuts.strategies import MoteMachine
+
+sys.path.insert(0, str(ROOT / "examples/python"))
+import forwarder  # noqa: E402  they are examples, and no package
+import journal  # noqa: E402
+import watchdog  # noqa: E402
+
+SEEDS = range(5)
+
+
+def search(number, check, examples=150, **drawn):
+    """Looks for an example that fails, from a seed. The last one that Hypothesis tries is the smallest."""
+    @seed(number)
+    @settings(max_examples=examples, deadline=None, database=None, print_blob=False, suppress_health_check=list(HealthCheck))
+    @given(**drawn)
+    def searched(**words):
+        check(**words)
+
+    searched()
+
+
+class Seeker:
+    """Searches for a fault of an application, and keeps the last run in which it was found."""
+
+    def __init__(self, application, fault_of, **drawn):
+        self.application, self.fault_of, self.drawn = application, fault_of, drawn
+        self.found = None
+
+    def check(self, script, mmem=4096, supervisor=None):
+        others = [] if supervisor is None else [supervisor]
+        run = toarmuts.run([self.application, *others], script, mmem=mmem)
+        if self.fault_of(run) is not None:
+            self.found = run
+        assert self.fault_of(run) is None
+
+    def search(self, number):
+        search(number, self.check, **self.drawn)
+
+
+FRAMES = {"script": strategies.scripts(kinds=("tick", "frame"), max_size=6), "mmem": st.integers(8, 64).map(strategies.by_four)}
+TICKS = {"script": strategies.scripts(kinds=("tick", "text"), max_ticks=12)}
+SUPERVISED = {"script": strategies.scripts(kinds=("tick", "text"), max_size=4),
+              "supervisor": strategies.call_lists(("kill", "start", "poll", "wait", "timer-set"), max_size=8)}
+FAULTY = [(forwarder.forwarder, forwarder.repaired_forwarder, forwarder.fault_of, FRAMES),
+          (watchdog.watchdog, watchdog.repaired_watchdog, watchdog.fault_of, TICKS),
+          (journal.Journal, journal.RepairedJournal, journal.fault_of, SUPERVISED)]
+IDS = ["forwarder", "watchdog", "journal"]
+
+
+@pytest.mark.parametrize("number", SEEDS)
+@pytest.mark.parametrize("faulty, repaired, fault_of, drawn", FAULTY, ids=IDS)
+def test_the_fault_is_found_and_made_small(faulty, repaired, fault_of, drawn, number):
+    seeker = Seeker(faulty, fault_of, **drawn)
+    with pytest.raises(AssertionError):
+        seeker.search(number)
+    assert len(seeker.found.entries.inputs()) <= 3
+    again = read_scenarios(seeker.found.scenario())[0]
+    assert again.carry_out().fault is None
+
+
+@pytest.mark.parametrize("number", SEEDS)
+@pytest.mark.parametrize("faulty, repaired, fault_of, drawn", FAULTY, ids=IDS)
+def test_nothing_is_found_once_it_is_repaired(faulty, repaired, fault_of, drawn, number):
+    Seeker(repaired, fault_of, **drawn).search(number)
+
+
+class Forwards(MoteMachine):
+    """The forwarder, with little memory: whatever comes in, it holds no frame at rest."""
+
+    sizes = {"mmem": 64}
+    scenarios: list = []
+
+    def look(self, entries):
+        assert forwarder.fault_of(self.mote.so_far()) is None
+
+
+class Faulty(Forwards):
+    applications = [forwarder.forwarder]
+    on_failure = Forwards.scenarios.append
+
+
+class Repaired(Forwards):
+    applications = [forwarder.repaired_forwarder]
+
+
+def test_a_state_machine_finds_it_too():
+    usual = settings(max_examples=30, stateful_step_count=10, deadline=None, database=None, suppress_health_check=list(HealthCheck))
+    with pytest.raises(AssertionError):
+        run_state_machine_as_test(Faulty, settings=usual)
+    smallest = read_scenarios(Forwards.scenarios[-1])[0]
+    assert smallest.carry_out().fault is None and smallest.script.count("\n") <= 2
+    run_state_machine_as_test(Repaired, settings=usual)
+
+
+def test_what_is_drawn_is_carried_out():
+    """Lists of calls and tables with bad names, scripts, sizes: each run comes out, and each line reads back."""
+    def check(lists, table, script, options):
+        coverage = Coverage()
+        try:
+            run = toarmuts.run([*lists, table], script, options=options)
+        except BadSizes:
+            assert options.faults(len(lists) + 1)
+            return
+        assert "".join(f"{entry}\n" for entry in run.entries) == run.text
+        coverage.add(run)
+        assert not coverage.unexpected()
+
+    calls = strategies.call_lists(wild=True, applications=3, max_size=16)
+    search(1, check, 200, lists=st.lists(calls, max_size=3), table=strategies.tables(wild=True, applications=3), script=strategies.scripts(),
+           options=strategies.options())
+
+
+def test_names_and_no_lambdas_are_mapped():
+    """A lambda's source is looked up at each draw by the Hypothesis of Debian."""
+    assert "lambda" not in (ROOT / "python/src/toarmuts/strategies.py").read_text().replace("source of a lambda", "")
