@@ -1,5 +1,6 @@
 -- Well-formed markup: each element is closed, and every text is escaped.
-use Rattle.std.specs.Prelude.{◌≡◌, ℕ, List, [], ◌∷◌, ◌++◌, flat_map, codes, if◌then◌else◌, ◌==◌, nat_lt}
+use Rattle.std.specs.Prelude.{◌≡◌, ℕ, Bool, false, List, [], ◌∷◌, ◌++◌, flat_map, bytes_eq, codes, if◌then◌else◌, ◌==◌, nat_lt}
+use Rattle.std.specs.List.{list_any}
 use Rattle.picture_markup.specs.declared.names.Tag.{Tag}
 use Rattle.picture_markup.specs.declared.names.Attribute.{Attribute}
 use Rattle.picture_markup.specs.Names.{tag_name, attribute_name}
@@ -22,10 +23,19 @@ escaped text = flat_map escaped_byte text
 abbrev pub attribute_text : Attribute → List ℕ → List ℕ
 attribute_text attribute value = codes " " ++ attribute_name attribute ++ codes "=\"" ++ escaped value ++ codes "\""
 
--- some attributes, one behind the other
-pub data AreAttributes : List ℕ → Type 0 where
-  none : AreAttributes []
-  one_more : {text : List ℕ} → AreAttributes text → (attribute : Attribute) (value : List ℕ) → AreAttributes (text ++ attribute_text attribute value)
+-- it has the name of one of these
+abbrev pub is_named : Attribute → List Attribute → Bool
+is_named attribute others = list_any (λ other. bytes_eq (attribute_name other) (attribute_name attribute)) others
+
+-- the text of these attributes, one behind the other, with these values: no two have the same name
+pub data HaveText : List Attribute → List ℕ → Type 0 where
+  none : HaveText [] []
+  one_more : {before : List Attribute} {text : List ℕ} → HaveText before text → (attribute : Attribute) (value : List ℕ) → is_named attribute before ≡ false
+      → HaveText (before ++ attribute ∷ []) (text ++ attribute_text attribute value)
+
+-- the text of some attributes, no two of the same name
+abbrev pub AreAttributes : List ℕ → Type 0
+AreAttributes text = (attributes : List Attribute) × HaveText attributes text
 
 -- an element of that tag with these attributes, and what stands inside
 abbrev pub element_text : Tag → List ℕ → List ℕ → List ℕ

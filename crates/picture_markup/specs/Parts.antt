@@ -1,11 +1,13 @@
 -- An element by its parts.
-use Rattle.std.specs.Prelude.{ℕ, List, ◌++◌}
+use Rattle.std.specs.Prelude.{ℕ, List, [], ◌∷◌, ◌++◌, if◌then◌else◌}
 use Rattle.picture_markup.specs.declared.names.Tag.{Tag}
 use Rattle.picture_markup.specs.declared.names.Attribute.{Attribute}
-use Rattle.picture_markup.specs.Markup.{attribute_text, element_text, escaped}
+use Rattle.picture_markup.specs.Markup.{attribute_text, element_text, escaped, is_named}
 
 pub record Parts : Type 0 where
   pub tag : Tag
+  -- its attributes, in order
+  pub named : List Attribute
   -- the text of its attributes
   pub attributes : List ℕ
   -- the text of what stands inside
@@ -14,8 +16,11 @@ pub record Parts : Type 0 where
 abbrev pub text_of : Parts → List ℕ
 text_of element = element_text element.tag element.attributes element.inside
 
+-- with one more attribute; an element that has it already stays as it is
 abbrev pub with_attribute : Attribute → List ℕ → Parts → Parts
-with_attribute attribute value element = record element { attributes = element.attributes ++ attribute_text attribute value }
+with_attribute attribute value element =
+    if is_named attribute element.named then element
+    else record element { named = element.named ++ attribute ∷ []; attributes = element.attributes ++ attribute_text attribute value }
 
 -- with a text behind what stands inside
 abbrev pub with_text : List ℕ → Parts → Parts

@@ -1,7 +1,8 @@
 //! Markup that is well formed by the way it is made: an element is closed when it is put in, and every text is escaped.
 
 ghost use Rattle.std.specs.Prelude.{◌≡◌, ℕ, List, [], ◌++◌, decimal, IfOk};
-ghost use Rattle.picture_markup.specs.Markup.{AreAttributes, IsContent, IsDocument, escaped, escaped_byte, attribute_text, element_text};
+ghost use Rattle.picture_markup.specs.Markup.{AreAttributes, HaveText, IsContent, IsDocument, escaped, escaped_byte, attribute_text, element_text};
+ghost use Rattle.picture_markup.specs.Markup as markup;
 ghost use Rattle.picture_markup.specs.Parts.{Parts, text_of, with_attribute, with_text, with_element};
 
 use crate::names::{Attribute, Tag};
@@ -32,6 +33,13 @@ fn push_escaped(out: &mut Vec<u8>, text: &[u8]) -> Result<(), AllocError>
         push_escaped_byte(out, *byte)?;
     }
     Ok(())
+}
+
+/// Whether one of these attributes has the name of that one.
+fn is_named(named: &[Attribute], attribute: Attribute) -> bool
+    ensures { result ≡ markup.is_named attribute named.now }
+{
+    named.iter().any(|other| other.name() == attribute.name())
 }
 
 /// Appends an attribute.
@@ -131,6 +139,8 @@ impl Content {
 #[derive(Drop)]
 pub struct Element {
     tag: Tag,
+    named: Vec<Attribute>,
+    /// Their text.
     attributes: Vec<u8>,
     inside: Content,
 }
@@ -138,35 +148,42 @@ pub struct Element {
 impl Model for Element {
     ghost Value = { Parts };
 
-    ghost view = { λ element. record { tag = element.tag; attributes = element.attributes.items; inside = element.inside } };
+    ghost view = { λ element. record { tag = element.tag; named = element.named.items; attributes = element.attributes.items; inside = element.inside } };
 
-    ghost invariant = { λ element. AreAttributes element.attributes.items };
+    ghost invariant = { λ element. HaveText element.named.items element.attributes.items };
 }
 
 impl Element {
     /// An element without attributes, and with nothing inside.
     pub fn new(alloc: Global, tag: Tag) -> Self
-        ensures { result ≡ record { tag = tag; attributes = []; inside = [] } }
+        ensures { result ≡ record { tag = tag; named = []; attributes = []; inside = [] } }
     {
         Element {
             tag,
+            named: Vec::new(alloc),
             attributes: Vec::new(alloc),
             inside: Content::new(alloc),
         }
     }
 
-    /// The element with one more attribute.
+    /// The element with one more attribute. One that has it already stays as it is: no element has an attribute twice.
     pub fn with(self, attribute: Attribute, value: &str) -> Result<Self, AllocError>
         ensures { IfOk result (λ element. element ≡ with_attribute attribute value.now self) }
     {
+        if is_named(self.named.as_slice(), attribute) {
+            return Ok(self);
+        }
         let Element {
             tag,
+            mut named,
             mut attributes,
             inside,
         } = self;
+        named.push(attribute)?;
         push_attribute(&mut attributes, attribute, value.as_bytes())?;
         Ok(Element {
             tag,
+            named,
             attributes,
             inside,
         })

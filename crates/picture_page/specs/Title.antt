@@ -6,4 +6,4 @@ use Rattle.picture_markup.specs.Parts.{Parts}
 
 -- an element `title` with that text inside
 abbrev pub title_element : List ℕ → Parts
-title_element title = record { tag = Tag.Title; attributes = []; inside = escaped title }
+title_element title = record { tag = Tag.Title; named = []; attributes = []; inside = escaped title }

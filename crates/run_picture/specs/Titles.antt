@@ -3,7 +3,7 @@ use Rattle.std.specs.Prelude.{◌≡◌, ℕ, ◌+◌, ◌-◌, ◌^◌, ◌≤�
 use Rattle.std.specs.Bool.{OnTrue}
 use denote.Ref.{Bor}
 use Rattle.picture_markup.specs.declared.names.Tag.{Tag}
-use Rattle.picture_markup.specs.Markup.{AreAttributes, IsContent}
+use Rattle.picture_markup.specs.Markup.{AreAttributes, IsContent, element_text}
 use Rattle.picture_markup.specs.Parts.{Parts, text_of}
 use Rattle.picture_page.specs.Title.{title_element}
 use Rattle.run_rows.specs.declared.row.Row.{Row}
@@ -50,7 +50,7 @@ pub record IsDrawn (behind grounds over picture : List ℕ) : Type 0 where
   pub are_attributes : AreAttributes attributes
   pub is_behind : IsContent behind
   pub is_over : IsContent over
-  pub whole : picture ≡ text_of (record { tag = Tag.Svg; attributes = attributes; inside = behind ++ grounds ++ over })
+  pub whole : picture ≡ element_text Tag.Svg attributes (behind ++ grounds ++ over)
 
 -- the picture has a ground for each of the rows, in order
 pub record ShowsRows (lines : List (List ℕ)) (rows : List Row) (picture : List ℕ) : Type 0 where

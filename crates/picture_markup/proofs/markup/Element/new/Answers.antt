@@ -1,7 +1,5 @@
-use Rattle.std.proofs.Common.{sym, subst}
-use Rattle.picture_markup.specs.Markup.{AreAttributes}
-use Rattle.picture_markup.specs.Markup.AreAttributes.{none}
+use Rattle.picture_markup.specs.Markup.HaveText.{none}
 use Rattle.picture_markup.proofs.markup.Element.new.Goals as goal
 
 pub invariant_of-result : goal.invariant_of-result
-invariant_of-result c = subst AreAttributes (sym c.new.ensures.items) none
+invariant_of-result c = rw (c.new.ensures.items, c.new-2.ensures.items) none
