@@ -54,3 +54,7 @@ pub record RunSoFar (says : Applications) (history : History) (session : Session
 pub record SessionPromise (history : History) (session : SessionView) : Type 0 where
   pub run : (says : Applications) → AnswersAs says history.entries → RunSoFar says history session
   pub answered : AnswersAs (replayed history.entries) history.entries
+
+-- this is its history, and the promise is kept
+abbrev pub KeepsPromise : History → SessionView → Type 0
+KeepsPromise history session = IsHistoryOf history session × SessionPromise history session
