@@ -1,5 +1,5 @@
 -- Applications that answer as some entries say.
-use Rattle.std.proofs.Common.{◌≡◌, ◌+◌, ◌-◌, ℕ, Bool, true, false, List, [], ◌∷◌, ◌++◌, length, filter_map, refl, ap, sym, ◌∙◌, append_assoc, arith, ◌==◌, cond}
+use Rattle.std.proofs.Common.{◌≡◌, ◌-◌, ℕ, List, [], ◌∷◌, ◌++◌, length, refl, ap, ◌∙◌, append_assoc, arith}
 use Rattle.std.proofs.lemmas.Bool.Decides.{nat_tests}
 use Rattle.std.proofs.lemmas.List.{length-append}
 use Rattle.std.proofs.lemmas.List.Elements.{filter_map-append}
@@ -9,7 +9,7 @@ use Rattle.mote_types.specs.declared.entry.Entry.{Entry}
 use Rattle.mote_types.specs.declared.event.Origin.{Origin}
 use Rattle.mote_types.specs.declared.event.Pid.{Pid}
 use Rattle.mote_types.specs.declared.event.Stimulus.{Stimulus}
-use Rattle.kernel_core.specs.Run.{heard, stimulus_of}
+use Rattle.kernel_core.specs.Run.{heard}
 use Rattle.mote_session.specs.Answered.{AnswersAs, call_at, call_of, calls_of, replayed}
 
 -- who answers so up to an entry answers so before it

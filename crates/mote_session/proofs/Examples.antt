@@ -1,5 +1,5 @@
 -- Worked examples: what is refused and why, which calls are replayed, what is the last entry, and who doesn't answer so.
-use Rattle.std.proofs.Common.{◌≡◌, ◌+◌, ◌^◌, ◌-◌, ℕ, true, false, List, [], ◌∷◌, refl, Option, Some, None}
+use Rattle.std.proofs.Common.{◌≡◌, ◌^◌, ◌-◌, ℕ, true, false, List, [], ◌∷◌, refl, Some, None}
 use Rattle.mote_types.specs.Applications.{Applications}
 use Rattle.mote_types.specs.declared.call.Call.{Call}
 use Rattle.mote_types.specs.declared.entry.Entry.{Entry}
@@ -7,7 +7,6 @@ use Rattle.mote_types.specs.declared.entry.Input.{Input}
 use Rattle.mote_types.specs.declared.event.Origin.{Origin}
 use Rattle.mote_types.specs.declared.event.Stimulus.{Stimulus}
 use Rattle.mote_types.specs.declared.reply.Reply.{Reply}
-use Rattle.kernel_core.specs.declared.config.Config.{Config}
 use Rattle.kernel_core.specs.Machine.{booted}
 use Rattle.mote_session.specs.Answered.{AnswersAs, call_at, calls_of, replayed}
 use Rattle.mote_session.specs.History.{last_entry}

@@ -1,5 +1,5 @@
 -- The history of a session goes on with each of its calls.
-use Rattle.std.proofs.Common.{◌≡◌, ◌+◌, ℕ, Bool, true, false, List, [], ◌∷◌, ◌++◌, length, refl, ap, sym, subst, ◌∙◌, arith, Option, Some, None, is_none, not, ◌&&◌, ◌||◌}
+use Rattle.std.proofs.Common.{◌≡◌, ◌+◌, Bool, true, false, List, [], ◌∷◌, ◌++◌, refl, ap, sym, subst, ◌∙◌, arith, Option, Some, None, is_none, not, ◌&&◌, ◌||◌}
 use Rattle.std.proofs.lemmas.Bool.Decides.{nat_tests}
 use Rattle.std.proofs.lemmas.List.{length-append}
 use Rattle.mote_types.specs.Applications.{Applications}
@@ -9,9 +9,8 @@ use Rattle.mote_types.specs.declared.entry.Input.{Input}
 use Rattle.process_core.specs.Idle.{is_idle}
 use Rattle.kernel_core.specs.Calls.{after_call}
 use Rattle.kernel_core.specs.Code.Steps.{MakesEntry}
-use Rattle.kernel_core.specs.Inputs.{fed}
 use Rattle.kernel_core.specs.Machine.{Machine}
-use Rattle.kernel_core.specs.Run.{answers_after, at_start, is_at_rest, is_still}
+use Rattle.kernel_core.specs.Run.{answers_after, at_start}
 use Rattle.mote_session.specs.Answered.{AnswersAs}
 use Rattle.mote_session.specs.History.{History, last_entry, with_answer, with_entry, with_input}
 use Rattle.mote_session.specs.SessionRuns.{HasComeTo, IsHistoryOf, StandsAt}

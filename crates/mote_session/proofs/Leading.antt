@@ -5,7 +5,7 @@ use Rattle.mote_types.specs.declared.entry.Entry.{Entry}
 use Rattle.mote_types.specs.declared.entry.Input.{Input}
 use Rattle.kernel_core.specs.Code.Steps.{GoesToRest, MakesEntry, Silently}
 use Rattle.kernel_core.specs.Machine.{Machine}
-use Rattle.kernel_core.specs.Run.{ComesToRest, Running, Runs, after_step, after_steps, answers_after, gone_on, is_still, one_step, with_input}
+use Rattle.kernel_core.specs.Run.{ComesToRest, Running, Runs, after_step, after_steps, answers_after, is_still, one_step, with_input}
 use Rattle.kernel_core.proofs.Determined.{rest_from, rest_one, steps_plus, still_rest}
 use Rattle.mote_session.specs.SessionRuns.{Leads}
 

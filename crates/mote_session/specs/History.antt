@@ -1,10 +1,10 @@
 -- What a session was handed and what it made, from its boot on.
-use Rattle.std.specs.Prelude.{List, [], ◌∷◌, ◌++◌, option_to_list, Option, None, Some}
+use Rattle.std.specs.Prelude.{List, [], ◌∷◌, ◌++◌, Option, None, Some}
 use Rattle.mote_types.specs.declared.call.Call.{Call}
 use Rattle.mote_types.specs.declared.entry.Entry.{Entry}
 use Rattle.mote_types.specs.declared.entry.Input.{Input}
 use Rattle.kernel_core.specs.declared.config.Config.{Config}
-use Rattle.mote_session.specs.SessionView.{AwaitedCall, SessionView}
+use Rattle.mote_session.specs.SessionView.{AwaitedCall}
 
 pub record History : Type 0 where
   pub config : Config

@@ -1,5 +1,5 @@
 -- What a session refuses, and why. What comes first counts.
-use Rattle.std.specs.Prelude.{ℕ, ◌+◌, ◌^◌, Bool, true, not, ◌||◌, List, length, Option, None, Some, is_some, if◌then◌else◌, nat_le, nat_lt}
+use Rattle.std.specs.Prelude.{◌+◌, ◌^◌, Bool, true, not, ◌||◌, length, Option, None, Some, is_some, if◌then◌else◌, nat_le, nat_lt}
 use Rattle.std.specs.Option.{option_or}
 use Rattle.mote_types.specs.declared.entry.Input.{Input}
 use Rattle.kernel_core.specs.Inputs.{ticks_of}

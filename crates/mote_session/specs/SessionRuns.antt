@@ -3,7 +3,6 @@ use Rattle.std.specs.Prelude.{◌≡◌, ℕ, true, false, List, [], ◌∷◌, 
 use Rattle.mote_types.specs.declared.entry.Entry.{Entry}
 use Rattle.mote_types.specs.declared.entry.Input.{Input}
 use Rattle.mote_types.specs.Applications.{Applications}
-use Rattle.kernel_core.specs.declared.config.Config.{Config}
 use Rattle.kernel_core.specs.Code.OpenTurns.{AwaitsCall}
 use Rattle.kernel_core.specs.Machine.{Machine, is_bootable}
 use Rattle.kernel_core.specs.Run.{Answers, ComesToRest, Running, Runs, after_steps, at_start, with_input}
@@ -54,3 +53,7 @@ pub record RunSoFar (says : Applications) (history : History) (session : Session
 pub record SessionPromise (history : History) (session : SessionView) : Type 0 where
   pub run : (says : Applications) → AnswersAs says history.entries → RunSoFar says history session
   pub answered : AnswersAs (replayed history.entries) history.entries
+
+-- this is its history, and the promise is kept
+abbrev pub KeepsPromise : History → SessionView → Type 0
+KeepsPromise history session = IsHistoryOf history session × SessionPromise history session

@@ -1,5 +1,5 @@
 -- What contracts see of a session.
-use Rattle.std.specs.Prelude.{ℕ, Bool, ◌&&◌, ◌||◌, Option, is_none}
+use Rattle.std.specs.Prelude.{ℕ, Bool, ◌&&◌, Option, is_none}
 use Rattle.mote_types.specs.declared.entry.Entry.{Entry}
 use Rattle.mote_types.specs.declared.event.Origin.{Origin}
 use Rattle.mote_types.specs.declared.event.Pid.{Pid}

@@ -11,7 +11,7 @@ ghost use Rattle.kernel_core.specs.declared.turn.Turn.{Turn as Taken};
 ghost use Rattle.mote_session.specs.Code.Places.{AreInPlace, session_view};
 ghost use Rattle.mote_session.specs.History.{History, at_boot, with_answer, with_input, with_said};
 ghost use Rattle.mote_session.specs.Refusals.{input_refusal, is_input, line_refusal, unfit, unrest};
-ghost use Rattle.mote_session.specs.SessionRuns.{IsHistoryOf, SessionPromise};
+ghost use Rattle.mote_session.specs.SessionRuns.{IsHistoryOf, KeepsPromise};
 ghost use Rattle.mote_session.specs.SessionView.{rests};
 ghost use Rattle.mote_session.specs.Steps.{Advances, HasSameInputs, IsAnswered, IsFed, TakesLine, with_made};
 
@@ -159,9 +159,10 @@ impl Session {
     /// `BadSizes` exactly where no mote boots with this configuration; else `Memory` where memory is refused.
     pub fn boot(alloc: Global, config: Config) -> Result<Session, BootFault>
         ensures booted { IfOk result (λ session. (session.machine ≡ booted config) × (session.inputs ≡ 0) × (session.turn ≡ None) × (session.last ≡ None)) }
-        ensures history { IfOk result (λ session. IsHistoryOf (at_boot config) session) }
+        ensures history { IfOk result (λ session. KeepsPromise (at_boot config) session) }
         ensures bad_sizes { IsErrOf result BootFault.BadSizes ↔ (is_bootable config ≡ false) }
     {
+        histories_keep_promise();
         match AwaitingKernel::boot(alloc, config) {
             Ok(kernel) => Ok(Session {
                 kernel,
@@ -183,7 +184,7 @@ impl Session {
     pub fn next(&mut self) -> Result<Next, SessionRefusal>
         ensures advances { IfOk result (λ step. (self.old.turn ≡ None) × Advances step self.old self.new × HasSameInputs self.old self.new) }
         ensures history { IfOk result (λ step. (history : History) → IsHistoryOf history self.old →
-            IsHistoryOf (with_made step self.new.last history) self.new × SessionPromise (with_made step self.new.last history) self.new) }
+            KeepsPromise (with_made step self.new.last history) self.new) }
         ensures refused { IfErr result (λ refusal. (refusal ≡ SessionRefusal.AwaitsCall) × (self.old.turn ≢ None) × (self.new ≡ self.old)) }
     {
         histories_go_on();
@@ -225,7 +226,7 @@ impl Session {
     pub fn answer(&mut self, call: Call) -> Result<(), SessionRefusal>
         ensures answered { IfOk result (λ _. IsAnswered call self.old self.new × HasSameInputs self.old self.new) }
         ensures history { IfOk result (λ _. (history : History) → IsHistoryOf history self.old →
-            IsHistoryOf (with_answer self.old.turn call history) self.new × SessionPromise (with_answer self.old.turn call history) self.new) }
+            KeepsPromise (with_answer self.old.turn call history) self.new) }
         ensures refused { IfErr result (λ refusal. (refusal ≡ SessionRefusal.NoTurn) × (self.old.turn ≡ None) × (self.new ≡ self.old)) }
     {
         histories_go_on();
@@ -260,10 +261,11 @@ impl Session {
     /// `feed_input`.
     pub fn feed(&mut self, line: &[u8]) -> Result<(), SessionRefusal>
         ensures accepted { IfOk result (λ _. (line_refusal (read_line line.now) self.old ≡ None) × TakesLine (read_line line.now) self.old self.new) }
-        ensures history { IfOk result (λ _. (history : History) → IsHistoryOf history self.old → IsHistoryOf (with_said (read_line line.now) history) self.new) }
+        ensures history { IfOk result (λ _. (history : History) → IsHistoryOf history self.old → KeepsPromise (with_said (read_line line.now) history) self.new) }
         ensures refused { IfErr result (λ refusal. (line_refusal (read_line line.now) self.old ≡ Some refusal) × (self.new ≡ self.old)) }
     {
         histories_go_on();
+        histories_keep_promise();
         self.test_rest()?;
         let mut input = Input::Tick(0);
         match read_input(line, &mut input) {
@@ -281,10 +283,11 @@ impl Session {
     /// bytes; `TooManyInputs` where 2^40 inputs were handed in, or the clock would go beyond 2^62.
     pub fn feed_input(&mut self, input: Input) -> Result<(), SessionRefusal>
         ensures accepted { IfOk result (λ _. (input_refusal input self.old ≡ None) × IsFed input self.old self.new) }
-        ensures history { IfOk result (λ _. (history : History) → IsHistoryOf history self.old → IsHistoryOf (with_input input history) self.new) }
+        ensures history { IfOk result (λ _. (history : History) → IsHistoryOf history self.old → KeepsPromise (with_input input history) self.new) }
         ensures refused { IfErr result (λ refusal. (input_refusal input self.old ≡ Some refusal) × (self.new ≡ self.old)) }
     {
         histories_go_on();
+        histories_keep_promise();
         self.test_rest()?;
         self.hand_in(input)
     }

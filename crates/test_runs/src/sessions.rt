@@ -33,6 +33,19 @@ fn note_line<R: Abort>(rt: &R, session: &Session, text: &mut OutputBuffer) {
     assert_eq!(rt; pushed, Ok(()), "no line");
 }
 
+/// Looks at the line of the last entry.
+fn check_line<R: Abort>(rt: &R, session: &Session, line: &str) {
+    let mut text = OutputBuffer::new();
+    assert_eq!(rt; session.push_line(&mut text), Ok(()), "no line");
+    assert!(rt; text.as_slice() == line.as_bytes(), "not {line:?}");
+}
+
+/// Looks whether there is no line.
+fn check_no_line<R: Abort>(rt: &R, session: &Session) {
+    let mut text = OutputBuffer::new();
+    assert_eq!(rt; session.push_line(&mut text), Err(SessionRefusal::NoLine));
+}
+
 /// Goes on to rest, where one application answers for all, and puts the lines behind the text.
 fn settle<R: Abort>(rt: &R, session: &mut Session, app: &mut Blink, text: &mut OutputBuffer) {
     for _ in 0..100 {
@@ -74,22 +87,17 @@ fn a_session_makes_the_lines_of_the_sample(rt: HostRuntime) {
 #[test]
 fn what_comes_out_of_turn_is_refused(rt: HostRuntime) {
     let mut session = booted(&rt, 1);
-    let mut text = OutputBuffer::new();
-    assert_eq!(rt; session.push_line(&mut text), Err(SessionRefusal::NoLine));
+    check_no_line(&rt, &session);
     assert_eq!(rt; session.answer(Call::Wait), Err(SessionRefusal::NoTurn));
     assert_eq!(rt; session.feed(b"tick 1"), Err(SessionRefusal::NotAtRest));
     assert_eq!(rt; session.next(), Ok(Next::Turn));
     assert_eq!(rt; session.next(), Err(SessionRefusal::AwaitsCall));
     assert_eq!(rt; session.feed(b"no line"), Err(SessionRefusal::AwaitsCall));
-    assert_eq!(rt; session.push_line(&mut text), Err(SessionRefusal::NoLine));
+    check_no_line(&rt, &session);
     assert_eq!(rt; session.answer(Call::Wait), Ok(()));
     assert_eq!(rt; session.answer(Call::Wait), Err(SessionRefusal::NoTurn));
     assert_eq!(rt; session.next(), Ok(Next::Rest));
-    assert_eq!(rt; session.push_line(&mut text), Ok(()));
-    assert!(rt;
-        text.as_slice() == "4 synch 129 - -> wait\n".as_bytes(),
-        "the last entry's line"
-    );
+    check_line(&rt, &session, "4 synch 129 - -> wait\n");
     assert_eq!(rt; session.feed(b"no line"), Err(SessionRefusal::BadLine));
     assert_eq!(rt;
         session.feed_input(Input::Frame(ArrayVec::new())),
@@ -107,12 +115,7 @@ fn a_session_that_is_halted_takes_nothing(rt: HostRuntime) {
         assert_eq!(rt; session.answer(Call::Clock), Ok(()));
     }
     assert_eq!(rt; session.next(), Ok(Next::Entry));
-    let mut text = OutputBuffer::new();
-    assert_eq!(rt; session.push_line(&mut text), Ok(()));
-    assert!(rt;
-        text.as_slice() == "halt\n".as_bytes(),
-        "the line of the halt"
-    );
+    check_line(&rt, &session, "halt\n");
     assert!(rt; session.halted(), "it was halted");
     assert_eq!(rt; session.next(), Ok(Next::Halted));
     assert_eq!(rt; session.feed(b"tick 1"), Err(SessionRefusal::Halted));

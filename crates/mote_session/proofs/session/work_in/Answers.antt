@@ -1,4 +1,4 @@
-use Rattle.std.proofs.Common.{refl, ap, rules}
+use Rattle.std.proofs.Common.{refl, ap}
 use Rattle.mote_types.specs.declared.call.Call.{Call}
 use Rattle.mote_session.specs.Code.Places.{entry_in}
 use Rattle.mote_session.proofs.session.work_in.Goals as goal

@@ -1,5 +1,3 @@
-use Rattle.mote_session.specs.History.{History, with_answer}
-use Rattle.mote_session.specs.SessionRuns.{IsHistoryOf}
 use Rattle.mote_session.proofs.session.Session.answer.Goals as goal
 
 pub returns-clause-history : goal.returns-clause-history
