@@ -1,31 +1,66 @@
--- Examples: which calls texts make, and which they don't.
-use Rattle.std.proofs.Common.{◌≡◌, ℕ, [], ◌∷◌, inl, inr, refl, ap, codes, get_or, arith}
+-- Examples: which calls texts make, and which they don't; what has which name; what is no number.
+use Rattle.std.proofs.Common.{◌≡◌, ◌∙◌, ℕ, List, [], ◌∷◌, ◌++◌, inl, inr, refl, sym, ap, subst, drop, codes, get_or, Some, arith}
 use Rattle.std.proofs.lemmas.List.Elements.{All-cons, All-nil}
 use Rattle.std.specs.Fmt.{digits}
+use Rattle.std.specs.List.{join_by}
 use Rattle.hex.specs.Hex.{encode_with}
+use Rattle.mote_apps.specs.declared.bundled.Bundled.{Bundled}
+use Rattle.mote_apps.specs.declared.steps.Steps.{Steps}
+use Rattle.mote_text.proofs.Ticks.{read_decimal}
+use Rattle.mote_text.specs.EntryText.{spaced}
+use Rattle.mote_text.specs.Script.{read_number}
 use Rattle.mote_types.specs.declared.call.Call.{Call}
-use Rattle.call_lists.specs.Calls.{AreMade, IsCall, IsListOf}
+use Rattle.mote_types.specs.declared.event.Payload.{Payload}
+use denote.Ref.{Bor}
+use Rattle.call_lists.specs.Applications.{IsNamed}
+use Rattle.call_lists.specs.Calls.{AreMade, AreOfParts, AreWaits, IsCall, IsListOf, hex_lowered}
+use Rattle.call_lists.specs.Faults.{IsNoNumber, LiesOutside}
+use Rattle.call_lists.specs.declared.applications.Application.{Application}
+use Rattle.call_lists.specs.declared.fault.CallFault.{CallFault}
 
 kill : IsCall (codes "kill 4") (Call.Kill 4)
-unfolding digits
-kill = refl
+unfolding digits spaced
+kill = (codes " 4", refl, refl)
 
 -- hex digits are of either case
 print : IsCall (codes "print 4A4b") (Call.Print (record { items = 74 ∷ 75 ∷ [] }))
-unfolding encode_with
-print = refl
+unfolding encode_with spaced
+print = (codes " 4A4b", refl, refl)
 
 another_number : IsCall (codes "kill 5") (Call.Kill 4) → ⊥
-unfolding digits
-another_number is = let digits_differ : ◌≡◌ {A = ℕ} 53 52 = ap (λ text. get_or text 5 0) is in absurd (omega arith)
+unfolding digits spaced
+another_number is =
+    let rest : codes " 5" ≡ is.0 = ap (drop 4) is.1 in
+    let digits_differ : ◌≡◌ {A = ℕ} 53 52 = ap (λ text. get_or text 1 0) (ap hex_lowered rest ∙ is.2) in
+    absurd (omega arith)
 
 another_call : IsCall (codes "poll 4") (Call.Kill 4) → ⊥
 unfolding digits
-another_call is = let letters_differ : ◌≡◌ {A = ℕ} 112 107 = ap (λ text. get_or text 0 0) is in absurd (omega arith)
+another_call is = let letters_differ : ◌≡◌ {A = ℕ} 112 107 = ap (λ text. get_or text 0 0) is.1 in absurd (omega arith)
+
+-- a name has no letter in upper case
+upper_case : IsCall (codes "KILL 4") (Call.Kill 4) → ⊥
+upper_case is = let letters_differ : ◌≡◌ {A = ℕ} 75 107 = ap (λ text. get_or text 0 0) is.1 in absurd (omega arith)
+
+-- and the x in front of a line's digits is none either
+upper_x : IsCall (codes "broadcast 140 X41") (Call.Broadcast 140 (Payload.Line (record { items = 65 ∷ [] }))) → ⊥
+unfolding digits encode_with spaced
+upper_x is =
+    let rest : codes " 140 X41" ≡ is.0 = ap (drop 9) is.1 in
+    let letters_differ : ◌≡◌ {A = ℕ} 88 120 = ap (λ text. get_or text 5 0) (ap hex_lowered rest ∙ is.2) in
+    absurd (omega arith)
+
+clock : IsCall (codes "clock") Call.Clock
+unfolding spaced
+clock = ([], refl, refl)
+
+exit : IsCall (codes "exit") Call.Exit
+unfolding spaced
+exit = ([], refl, refl)
 
 twice : AreMade (codes "2 clock") (Call.Clock ∷ Call.Clock ∷ [])
 unfolding digits
-twice = inr (codes "clock", refl, (refl, (refl, tt)))
+twice = inr (codes "clock", omega arith, refl, (clock, (clock, tt)))
 
 -- two calls of one part, then one, and then nothing but Wait
 list : IsListOf (codes "2 clock, exit") (Call.Clock ∷ Call.Clock ∷ Call.Exit ∷ Call.Wait ∷ [])
@@ -36,7 +71,67 @@ list =
       made = Call.Clock ∷ Call.Clock ∷ Call.Exit ∷ [];
       waits = Call.Wait ∷ [];
       is_text = refl;
-      are_of_parts = (Call.Clock ∷ Call.Clock ∷ [], Call.Exit ∷ [], refl, twice, (Call.Exit ∷ [], [], refl, inl (refl, (refl, tt)), refl));
+      are_of_parts = (Call.Clock ∷ Call.Clock ∷ [], Call.Exit ∷ [], refl, twice, (Call.Exit ∷ [], [], refl, inl (refl, (exit, tt)), refl));
       are_calls = refl;
       are_waits = All-cons (λ call. call ≡ Call.Wait) Call.Wait [] refl (All-nil (λ call. call ≡ Call.Wait));
     }
+
+-- no call is made 0 times
+not_at_all : AreMade (codes "0 clock") [] → ⊥
+not_at_all (inl once) = let none : ◌≡◌ {A = ℕ} 0 1 = once.0 in absurd (omega arith)
+not_at_all (inr numbered) = absurd (omega (arith, numbered.1))
+
+-- a list with no parts has no text, and only waits
+no_parts : (text : List ℕ) (calls : List Call) (list : IsListOf text calls) → list.parts ≡ [] → text ≡ []
+no_parts text calls list none = list.is_text ∙ ap (λ parts. join_by (λ part. part) (codes ", ") parts) none
+
+only_waits : (text : List ℕ) (calls : List Call) (list : IsListOf text calls) → list.parts ≡ [] → AreWaits calls
+only_waits text calls list none =
+    let nothing : list.made ≡ [] = subst (λ parts. AreOfParts parts list.made) none list.are_of_parts in
+    subst AreWaits (sym (list.are_calls ∙ ap (λ made. made ++ list.waits) nothing)) list.are_waits
+
+hello : IsNamed (codes "hello") (Application.Named (Bundled.Hello (record {})))
+hello = refl
+
+watcher : IsNamed (codes "clock-watcher") Application.ClockWatcher
+watcher = refl
+
+another_application : IsNamed (codes "echo") (Application.Named (Bundled.Hello (record {}))) → ⊥
+another_application is = cc is
+
+another_name : IsNamed (codes "hello") Application.ClockWatcher → ⊥
+another_name is = let letters_differ : ◌≡◌ {A = ℕ} 104 99 = ap (λ text. get_or text 0 0) is in absurd (omega arith)
+
+-- no list of calls has a name
+no_list : (name : List ℕ) (calls : Steps 128) → IsNamed name (Application.Listed calls) → ⊥
+no_list name calls is = is
+
+read_256 : read_number (codes "256") ≡ Some 256
+unfolding digits
+read_256 = read_decimal 256 (omega arith)
+
+read_255 : read_number (codes "255") ≡ Some 255
+unfolding digits
+read_255 = read_decimal 255 (omega arith)
+
+too_large : (told : Bor (List ℕ)) → told.now ≡ codes "256" → IsNoNumber (codes "256") 0 255 (CallFault.NoNumber told 0 255)
+too_large told is = (is, refl, refl, subst (LiesOutside 0 255) (sym read_256) (inr (omega arith)))
+
+no_digits : (told : Bor (List ℕ)) → told.now ≡ codes "-" → IsNoNumber (codes "-") 0 255 (CallFault.NoNumber told 0 255)
+no_digits told is = (is, refl, refl, tt)
+
+outside : LiesOutside 0 255 (Some 255) → ⊥
+outside (inl below) = absurd (omega (arith, below))
+outside (inr above) = absurd (omega (arith, above))
+
+is_number : (told : Bor (List ℕ)) → IsNoNumber (codes "255") 0 255 (CallFault.NoNumber told 0 255) → ⊥
+is_number told is = outside (subst (LiesOutside 0 255) read_255 is.3)
+
+another_word : (told : Bor (List ℕ)) → told.now ≡ codes "7" → IsNoNumber (codes "-") 0 255 (CallFault.NoNumber told 0 255) → ⊥
+another_word told seven is = let letters_differ : ◌≡◌ {A = ℕ} 55 45 = ap (λ text. get_or text 0 0) (sym seven ∙ is.0) in absurd (omega arith)
+
+another_bound : (told : Bor (List ℕ)) → IsNoNumber (codes "-") 0 255 (CallFault.NoNumber told 1 255) → ⊥
+another_bound told is = let bounds_differ : ◌≡◌ {A = ℕ} 1 0 = is.1 in absurd (omega arith)
+
+another_fault : (word : List ℕ) → IsNoNumber word 0 255 CallFault.TooManyCalls → ⊥
+another_fault word is = is

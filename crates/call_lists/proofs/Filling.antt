@@ -65,7 +65,7 @@ part_put part words count place end old new counted copies =
     made : IsCounted part count words → AreMade part copies.made
     made (inl once) = inl (copies.is_count ∙ once.0, subst (λ text. AreCalls text copies.made) once.1 copies.are_calls)
     made (inr numbered) =
-        inr (words, subst (λ n. part ≡ decimal n ++ codes " " ++ words) (sym copies.is_count) numbered, copies.are_calls)
+        inr (words, subst (λ n. 0 < n) (sym copies.is_count) numbered.0, subst (λ n. part ≡ decimal n ++ codes " " ++ words) (sym copies.is_count) numbered.1, copies.are_calls)
 
 parts_more : (parts : List (List ℕ)) (calls : List Call) (part : List ℕ) (made : List Call) → AreOfParts parts calls → AreMade part made
     → AreOfParts (parts ++ part ∷ []) (calls ++ made)

@@ -1,4 +1,5 @@
 mod Examples
 pub mod Filling
+pub mod Lowered
 pub mod Parting
 pub mod Taken

@@ -1,24 +1,32 @@
 -- Which calls a text makes.
-use Rattle.std.specs.Prelude.{◌≡◌, ◌⊎◌, ⊤, ℕ, List, [], ◌∷◌, ◌++◌, length, map, codes, decimal}
-use Rattle.std.specs.Char.{to_ascii_lowercase}
+use Rattle.std.specs.Prelude.{◌≡◌, ◌<◌, ◌⊎◌, ⊤, ℕ, ◌+◌, ◌&&◌, nat_le, if◌then◌else◌, List, [], ◌∷◌, ◌++◌, length, map, codes, decimal}
 use Rattle.std.specs.List.{All, join_by}
-use Rattle.mote_text.specs.EntryText.{call_words}
+use Rattle.mote_text.specs.EntryText.{Word, call_words, spaced}
 use Rattle.mote_types.specs.declared.call.Call.{Call}
 
--- the text in lower case is the words of this call, as a transcript shows them
+-- the digits A to F in lower case, and all else as it is
+abbrev pub hex_lowered : List ℕ → List ℕ
+hex_lowered text = map (λ c. if nat_le 65 c && nat_le c 70 then c + 32 else c) text
+
+-- the text is the first of these words, and behind it the others, with hex digits of either case
+abbrev pub HasWords : List ℕ → List Word → Type 0
+HasWords text [] = ⊥
+HasWords text (name ∷ arguments) = (rest : List ℕ) × (text ≡ name ++ rest) × (hex_lowered rest ≡ spaced arguments)
+
+-- the text has the words of this call, as a transcript shows them
 abbrev pub IsCall : List ℕ → Call → Type 0
-IsCall text call = map to_ascii_lowercase text ≡ join_by (λ word. word) (codes " ") (call_words call)
+IsCall text call = HasWords text (call_words call)
 
 -- so it is of each of these
 abbrev pub AreCalls : List ℕ → List Call → Type 0
 AreCalls text [] = ⊤
 AreCalls text (call ∷ calls) = IsCall text call × AreCalls text calls
 
--- the text is a call that is made once, or a call with a number in front that is made so often
+-- the text is a call that is made once, or a call with a number in front, from 1 on, that is made so often
 abbrev pub AreMade : List ℕ → List Call → Type 0
 AreMade text calls =
     ((length calls ≡ 1) × AreCalls text calls)
-    ⊎ ((rest : List ℕ) × (text ≡ decimal (length calls) ++ codes " " ++ rest) × AreCalls rest calls)
+    ⊎ ((rest : List ℕ) × (0 < length calls) × (text ≡ decimal (length calls) ++ codes " " ++ rest) × AreCalls rest calls)
 
 -- the calls are those of the parts, in their order
 abbrev pub AreOfParts : List (List ℕ) → List Call → Type 0

@@ -5,7 +5,8 @@ ghost use Rattle.hex.specs.Hex.{decode_of};
 ghost use Rattle.mote_text.specs.EntryText.{hex, payload_word};
 ghost use Rattle.mote_text.specs.Script.{read_number};
 ghost use Rattle.call_lists.specs.Faults.{IsNoNumber};
-ghost use Rattle.call_lists.specs.Code.Words.{AreTaken, behind, lowered};
+ghost use Rattle.call_lists.specs.Calls.{hex_lowered};
+ghost use Rattle.call_lists.specs.Code.Words.{AreTaken, behind};
 
 use crate::fault::CallFault;
 use arrayvec::ArrayVec;
@@ -62,7 +63,7 @@ impl<'a> Words<'a> {
 
     /// The next word; an empty one where it is lacking.
     fn next(&mut self) -> &'a str
-        ensures { AreTaken self.old (lowered result.now ∷ []) self.new }
+        ensures { AreTaken self.old (hex_lowered result.now ∷ []) self.new }
     {
         let Some(rest) = self.rest else {
             self.note(CallFault::TooFewWords(self.name));
@@ -74,7 +75,7 @@ impl<'a> Words<'a> {
     }
 
     /// The next word's number, from 0 to 255.
-    #[tactic(auto, using(mote_text::proofs::Lowered::lowered_number))]
+    #[tactic(auto, using(crate::proofs::Lowered::lowered_number))]
     pub(crate) fn small(&mut self) -> u8
         ensures { AreTaken self.old (decimal result ∷ []) self.new }
     {
@@ -89,7 +90,7 @@ impl<'a> Words<'a> {
     }
 
     /// The next word's number.
-    #[tactic(auto, using(mote_text::proofs::Lowered::lowered_number))]
+    #[tactic(auto, using(crate::proofs::Lowered::lowered_number))]
     pub(crate) fn number(&mut self) -> u32
         ensures { AreTaken self.old (decimal result ∷ []) self.new }
     {
@@ -104,7 +105,7 @@ impl<'a> Words<'a> {
     }
 
     /// The bytes that the next word has in hex, a dash where there are none.
-    #[tactic(auto, using(mote_text::proofs::Lowered::lowered_hex))]
+    #[tactic(auto, using(crate::proofs::Lowered::lowered_hex))]
     pub(crate) fn chunk(&mut self) -> Chunk
         ensures { AreTaken self.old (hex result.items ∷ []) self.new }
     {
@@ -174,9 +175,9 @@ pub fn number_of(word: &str, least: u32, most: u32) -> Result<u32, CallFault<'_>
 /// # Errors
 ///
 /// `NoHex` or `NoNumber` where it is of no form.
-#[tactic(auto, using(mote_text::proofs::Lowered::lowered_number, mote_text::proofs::Lowered::lowered_hex))]
+#[tactic(auto, using(crate::proofs::Lowered::lowered_number, crate::proofs::Lowered::lowered_hex))]
 fn payload_of(word: &str) -> Result<Payload, CallFault<'_>>
-    ensures { IfOk result (λ payload. lowered word.now ≡ payload_word payload) }
+    ensures { IfOk result (λ payload. hex_lowered word.now ≡ payload_word payload) }
 {
     if word == "-" {
         return Ok(Payload::Empty);

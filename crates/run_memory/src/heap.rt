@@ -1,9 +1,9 @@
 //! A heap in which calls are carried out as the mote carries them out, by the same code.
 
-ghost use Rattle.std.specs.Prelude.{◌≡◌, Some, IfSome, IfOk};
+ghost use Rattle.std.specs.Prelude.{◌≡◌, ◌⊎◌, ◌≤◌, Some, None, IsSome, IfSome, IfOk};
 ghost use Rattle.std.specs.Bool.{OnTrue, OnFalse};
 ghost use Rattle.mote_types.specs.BlockNames.{IsName};
-ghost use Rattle.heap_core.specs.HeapStore.{IsHeapSize, IsHeaderLength, empty_heap, allocated, reallocated, freed, live_place, stats_of};
+ghost use Rattle.heap_core.specs.HeapStore.{IsHeapSize, IsHeaderLength, empty_heap, allocated, reallocated, freed, length_of, live_place, place, stats_of};
 
 use arena_core::Arena;
 use heap_core::{Heap, Key, Place};
@@ -50,7 +50,9 @@ impl LiveHeap {
     pub fn alloc(&mut self, key: Key, n: u32) -> bool
         requires { IsName key.0.0 key.1 }
         ensures made { OnTrue result (allocated key.0.0 key.1 n self.old ≡ Some self.new) }
+        ensures may { OnTrue result ((1 ≤ n) × (length_of key.0.0 key.1 self.old ≡ None)) }
         ensures refused { OnFalse result (self.new ≡ self.old) }
+        ensures reason { OnFalse result ((n ≡ 0) ⊎ IsSome (length_of key.0.0 key.1 self.old) ⊎ (place n self.old ≡ None)) }
     {
         if n == 0 || self.heap.len_of(&self.arena, key).is_some() {
             return false;
@@ -65,7 +67,9 @@ impl LiveHeap {
     pub fn realloc(&mut self, key: Key, n: u32) -> bool
         requires { IsName key.0.0 key.1 }
         ensures made { OnTrue result (reallocated key.0.0 key.1 n self.old ≡ Some self.new) }
+        ensures may { OnTrue result ((1 ≤ n) × IsSome (length_of key.0.0 key.1 self.old)) }
         ensures refused { OnFalse result (self.new ≡ self.old) }
+        ensures reason { OnFalse result ((n ≡ 0) ⊎ (length_of key.0.0 key.1 self.old ≡ None) ⊎ (reallocated key.0.0 key.1 n self.old ≡ None)) }
     {
         if n == 0 || self.heap.len_of(&self.arena, key).is_none() {
             return false;
@@ -80,7 +84,9 @@ impl LiveHeap {
     pub fn free(&mut self, key: Key) -> bool
         requires { IsName key.0.0 key.1 }
         ensures freed { OnTrue result (self.new ≡ freed key.0.0 key.1 self.old) }
+        ensures live { OnTrue result (IsSome (length_of key.0.0 key.1 self.old)) }
         ensures refused { OnFalse result (self.new ≡ self.old) }
+        ensures reason { OnFalse result (length_of key.0.0 key.1 self.old ≡ None) }
     {
         if self.heap.len_of(&self.arena, key).is_none() {
             return false;

@@ -1,13 +1,13 @@
 -- A list of calls that fills from its front.
-use Rattle.std.specs.Prelude.{◌≡◌, ◌≤◌, ◌+◌, ◌⊎◌, ℕ, List, [], ◌++◌, length, take, drop, codes, decimal, Option, Some, None}
+use Rattle.std.specs.Prelude.{◌≡◌, ◌≤◌, ◌<◌, ◌+◌, ◌⊎◌, ℕ, List, [], ◌++◌, length, take, drop, codes, decimal, Option, Some, None}
 use Rattle.std.specs.List.{join_by}
 use Rattle.mote_types.specs.declared.call.Call.{Call}
 use denote.Ref.{Bor}
 use Rattle.call_lists.specs.Calls.{AreMade, AreOfParts}
 
--- a text without the number in front of it, and that number, or the text itself, and 1
+-- a text without the number in front of it, and that number, which isn't 0, or the text itself, and 1
 abbrev pub IsCounted : List ℕ → ℕ → List ℕ → Type 0
-IsCounted text count rest = ((count ≡ 1) × (rest ≡ text)) ⊎ (text ≡ decimal count ++ codes " " ++ rest)
+IsCounted text count rest = ((count ≡ 1) × (rest ≡ text)) ⊎ ((0 < count) × (text ≡ decimal count ++ codes " " ++ rest))
 
 -- what stands behind a part, with the comma in front
 abbrev pub behind_comma : Option (Bor (List ℕ)) → List ℕ
