@@ -41,6 +41,9 @@ struct activation {
 /* The innermost activation, or NULL. */
 extern struct activation *activation;
 
+/* How many rounds have begun that gave an event or a callback to somebody here. */
+extern uint64_t rounds_begun;
+
 void open_mote(const struct toarmuts_configuration *configuration);
 void run_to_rest(void);
 uint32_t feed_line(const char *line, size_t length);
@@ -83,8 +86,8 @@ void flush_console(void);
 /* transcript.c */
 extern uint64_t lines_shown;
 void begin_transcript(bool is_quiet, bool is_text);
-void show_turn(const struct toarmuts_mote *mote, const struct toarmuts_call *call);
-void show_entry(const struct toarmuts_mote *mote);
+void show_turn(struct toarmuts_mote *mote, const struct toarmuts_call *call);
+void show_entry(struct toarmuts_mote *mote);
 void show_text(const char *text);
 void flush_transcript(void);
 
