@@ -34,21 +34,21 @@ module _ {history : History} {old : SessionView} (is : IsHistoryOf history old) 
   come : HasComeTo history old.machine
   come = subst (λ (t : Option AwaitedCall). StandsAt history t old.machine) closed is.stands
 
-  -- the entry of no turn
-  module _ {new : SessionView} (same : HasSameInputs old new) (ends : new.turn ≡ None) where
-    stands_at_end : {later : History} → HasComeTo later new.machine → StandsAt later new.turn new.machine
-    stands_at_end {later} come = subst (λ (t : Option AwaitedCall). StandsAt later t new.machine) (sym ends) come
+stands_at_end : (history : History) (new : SessionView) → new.turn ≡ None → HasComeTo history new.machine → StandsAt history new.turn new.machine
+stands_at_end history new closed comes = subst (λ (t : Option AwaitedCall). StandsAt history t new.machine) (sym closed) comes
 
-    behind_entry : (entry : Entry) → new.last ≡ Some entry → ((says : Applications) → MakesEntry (answers_after says history.entries) old.machine entry new.machine) →
-        IsHistoryOf (with_entry entry history) new
-    behind_entry entry last makes = record {
-      bootable = is.bootable;
-      stands = stands_at_end (λ says answers.
-          leads_on says (at_start history.config) (running_at history.entries old.machine) (running_at (history.entries ++ entry ∷ []) new.machine) history.inputs
-          (come says (answers_before says history.entries entry answers)) (makes_behind says history.entries old.machine new.machine entry (makes says)));
-      inputs = same.0 ∙ is.inputs;
-      last = λ none. last ∙ sym (last_is history.entries entry);
-    }
+-- behind an entry that is no turn
+behind_entry : (history : History) (old new : SessionView) (entry : Entry) → IsHistoryOf history old → old.turn ≡ None → HasSameInputs old new →
+    new.turn ≡ None → new.last ≡ Some entry → ((says : Applications) → MakesEntry (answers_after says history.entries) old.machine entry new.machine) →
+    IsHistoryOf (with_entry entry history) new
+behind_entry history old new entry is closed same ends last makes = record {
+  bootable = is.bootable;
+  stands = stands_at_end (with_entry entry history) new ends (λ says answers.
+      leads_on says (at_start history.config) (running_at history.entries old.machine) (running_at (history.entries ++ entry ∷ []) new.machine) history.inputs
+      (come is closed says (answers_before says history.entries entry answers)) (makes_behind says history.entries old.machine new.machine entry (makes says)));
+  inputs = same.0 ∙ is.inputs;
+  last = λ none. last ∙ sym (last_is history.entries entry);
+}
 
 pub next_goes_on : (history : History) (step : Next) (old new : SessionView) → IsHistoryOf history old → old.turn ≡ None →
     Advances step old new → HasSameInputs old new → IsHistoryOf (with_made step new.last history) new
@@ -60,10 +60,10 @@ next_goes_on history Next.Turn old new is closed opens same = record {
 }
 next_goes_on history Next.Entry old new is closed makes same =
     subst (λ (v : Option Entry). IsHistoryOf (with_made Next.Entry v history) new) (sym makes.last)
-    (behind_entry is closed same makes.closed makes.entry makes.last (λ says. makes.made (answers_after says history.entries)))
+    (behind_entry history old new makes.entry is closed same makes.closed makes.last (λ says. makes.made (answers_after says history.entries)))
 next_goes_on history Next.Rest old new is closed rested same = record {
   bootable = is.bootable;
-  stands = stands_at_end is closed same rested.closed (λ says answers.
+  stands = stands_at_end history new rested.closed (λ says answers.
       leads_on says (at_start history.config) (running_at history.entries old.machine) (running_at history.entries new.machine) history.inputs
       (come is closed says answers) (rests_behind says history.entries old.machine new.machine (rested.goes (answers_after says history.entries))));
   inputs = same.0 ∙ is.inputs;
@@ -71,7 +71,7 @@ next_goes_on history Next.Rest old new is closed rested same = record {
 }
 next_goes_on history Next.Halted old new is closed halted same = record {
   bootable = is.bootable;
-  stands = stands_at_end is closed same halted.closed (subst (HasComeTo history) (sym halted.machine) (come is closed));
+  stands = stands_at_end history new halted.closed (subst (HasComeTo history) (sym halted.machine) (come is closed));
   inputs = same.0 ∙ is.inputs;
   last = λ none. halted.last ∙ is.last closed;
 }

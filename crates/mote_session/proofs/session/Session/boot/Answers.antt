@@ -9,7 +9,7 @@ either_way false f = f refl
 
 pub returns-in-Ok-clause-history : goal.returns-in-Ok-clause-history
 returns-in-Ok-clause-history c = record {
-  bootable = either_way _ (λ bad. absurd (c.in-Ok.ensures.bad_sizes.1 bad));
+  bootable = either_way _ (λ bad. absurd (cc (c.in-Ok.ensures.bad_sizes.1 bad)));
   stands = rw (c.in-Ok.ensures.booted.2) (rw (c.in-Ok.ensures.booted.0) (λ says answers. (0, refl)));
   inputs = c.in-Ok.ensures.booted.1;
   last = λ none. refl;

@@ -1,0 +1,119 @@
+//! A mote asked step by step: what a session tells, takes and refuses.
+
+use arrayvec::ArrayVec;
+use mote_apps::blink::Blink;
+use mote_session::Config;
+use mote_session::refusal::SessionRefusal;
+use mote_session::session::{Next, Session};
+use mote_text::line::{MOST_OF_LINE, OutputBuffer};
+use mote_types::app::App;
+use mote_types::call::Call;
+use mote_types::entry::Input;
+use std::process::Abort;
+
+/// A session of so many applications, with 4,096 bytes of managed memory and of heap.
+fn booted<R: Abort + AllocGlobal>(rt: &R, applications: u8) -> Session {
+    let config = Config {
+        mmem: 4_096,
+        heap: 4_096,
+        apps: applications,
+        quota: None,
+        header: 16,
+    };
+    Session::boot(rt.alloc(), config).expect(rt, "there is memory")
+}
+
+/// Puts the line of the last entry behind the text.
+fn note_line<R: Abort>(rt: &R, session: &Session, text: &mut OutputBuffer) {
+    assert!(rt;
+        text.remaining_capacity() >= MOST_OF_LINE,
+        "the text is long"
+    );
+    let pushed = session.push_line(text);
+    assert_eq!(rt; pushed, Ok(()), "no line");
+}
+
+/// Goes on to rest, where one application answers for all, and puts the lines behind the text.
+fn settle<R: Abort>(rt: &R, session: &mut Session, app: &mut Blink, text: &mut OutputBuffer) {
+    for _ in 0..100 {
+        match session.next() {
+            Ok(Next::Turn) => {
+                let Some(open) = session.turn() else {
+                    return;
+                };
+                let call = app.turn(open.stimulus);
+                let answered = session.answer(call);
+                assert_eq!(rt; answered, Ok(()), "the call was awaited");
+                note_line(rt, session, text);
+            }
+            Ok(Next::Entry) => note_line(rt, session, text),
+            _ => return,
+        }
+    }
+}
+
+#[test]
+fn a_session_makes_the_lines_of_the_sample(rt: HostRuntime) {
+    let mut session = booted(&rt, 1);
+    let mut app = Blink::new();
+    let mut text = OutputBuffer::new();
+    settle(&rt, &mut session, &mut app, &mut text);
+    for line in ["# a comment", "tick 9", "", "tick 1", "tick 25"] {
+        assert_eq!(rt; session.feed(line.as_bytes()), Ok(()), "{line}");
+        settle(&rt, &mut session, &mut app, &mut text);
+    }
+    let lines = "4 synch 129 - -> timer-set 0 10\n4 answer done -> wait\n\
+        > tick 9\n> tick 1\n4 event 136 0 -> print 6f6e0a\n4 answer done -> timer-reset 0\n4 answer done -> wait\n\
+        > tick 25\n4 event 136 0 -> print 6f66660a\n4 answer done -> timer-reset 0\n4 answer done -> wait\n\
+        4 event 136 0 -> print 6f6e0a\n4 answer done -> timer-reset 0\n4 answer done -> wait\n";
+    assert!(rt; text.as_slice() == lines.as_bytes(), "other lines");
+    assert_eq!(rt; session.clock(), 35);
+    assert!(rt; session.at_rest(), "it rests");
+}
+
+#[test]
+fn what_comes_out_of_turn_is_refused(rt: HostRuntime) {
+    let mut session = booted(&rt, 1);
+    let mut text = OutputBuffer::new();
+    assert_eq!(rt; session.push_line(&mut text), Err(SessionRefusal::NoLine));
+    assert_eq!(rt; session.answer(Call::Wait), Err(SessionRefusal::NoTurn));
+    assert_eq!(rt; session.feed(b"tick 1"), Err(SessionRefusal::NotAtRest));
+    assert_eq!(rt; session.next(), Ok(Next::Turn));
+    assert_eq!(rt; session.next(), Err(SessionRefusal::AwaitsCall));
+    assert_eq!(rt; session.feed(b"no line"), Err(SessionRefusal::AwaitsCall));
+    assert_eq!(rt; session.push_line(&mut text), Err(SessionRefusal::NoLine));
+    assert_eq!(rt; session.answer(Call::Wait), Ok(()));
+    assert_eq!(rt; session.answer(Call::Wait), Err(SessionRefusal::NoTurn));
+    assert_eq!(rt; session.next(), Ok(Next::Rest));
+    assert_eq!(rt; session.push_line(&mut text), Ok(()));
+    assert!(rt;
+        text.as_slice() == "4 synch 129 - -> wait\n".as_bytes(),
+        "the last entry's line"
+    );
+    assert_eq!(rt; session.feed(b"no line"), Err(SessionRefusal::BadLine));
+    assert_eq!(rt;
+        session.feed_input(Input::Frame(ArrayVec::new())),
+        Err(SessionRefusal::NoInput)
+    );
+    assert_eq!(rt; session.feed(b"tick 1"), Ok(()));
+    assert_eq!(rt; session.feed(b"tick 1"), Err(SessionRefusal::NotAtRest));
+}
+
+#[test]
+fn a_session_that_is_halted_takes_nothing(rt: HostRuntime) {
+    let mut session = booted(&rt, 1);
+    for _ in 0..10_000 {
+        assert_eq!(rt; session.next(), Ok(Next::Turn));
+        assert_eq!(rt; session.answer(Call::Clock), Ok(()));
+    }
+    assert_eq!(rt; session.next(), Ok(Next::Entry));
+    let mut text = OutputBuffer::new();
+    assert_eq!(rt; session.push_line(&mut text), Ok(()));
+    assert!(rt;
+        text.as_slice() == "halt\n".as_bytes(),
+        "the line of the halt"
+    );
+    assert!(rt; session.halted(), "it was halted");
+    assert_eq!(rt; session.next(), Ok(Next::Halted));
+    assert_eq!(rt; session.feed(b"tick 1"), Err(SessionRefusal::Halted));
+}
