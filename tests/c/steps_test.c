@@ -219,11 +219,14 @@ answers(struct known *known)
   return status == due;
 }
 
-/* What is due where something is handed in, which in itself would be answered so. */
-static uint32_t
-due_at_rest(const struct known *known, uint32_t status)
+/* Whether what is handed in is answered as is due, where by itself it has this status. A mote may rest before next says so. */
+static bool
+is_due(const struct known *known, uint32_t status, uint32_t by_itself)
 {
-  return !known->is_open ? TOARMUTS_CLOSED : known->awaits ? TOARMUTS_AWAITS_CALL : known->is_halted ? TOARMUTS_HALTED : !known->rests ? TOARMUTS_NOT_AT_REST : status;
+  if(!known->is_open || known->awaits || known->is_halted) {
+    return status == (!known->is_open ? TOARMUTS_CLOSED : known->awaits ? TOARMUTS_AWAITS_CALL : TOARMUTS_HALTED);
+  }
+  return status == by_itself || (!known->rests && status == TOARMUTS_NOT_AT_REST);
 }
 
 static bool
@@ -233,10 +236,11 @@ takes_line(struct known *known)
     const char *line;
     uint32_t status;
   } lines[] = {{"tick 3", 0}, {"tick 4294967295", 0}, {"serial 610a", 0}, {"frame 0102", 0}, {"", 0}, {"# tick", 0}, {"tick", 2}, {"serial ", 2}, {"frame 0", 2}};
-  uint32_t which = next_random(sizeof lines / sizeof lines[0]), due = due_at_rest(known, lines[which].status);
+  uint32_t which = next_random(sizeof lines / sizeof lines[0]);
   uint32_t status = feed(&known->mote, lines[which].line);
+  bool holds = is_due(known, status, lines[which].status);
   known->rests = known->rests && (status != TOARMUTS_DONE || which == 4 || which == 5);
-  return status == due;
+  return holds;
 }
 
 static bool
@@ -245,13 +249,13 @@ takes_input(struct known *known)
   uint32_t kind = next_random(4);
   size_t length = next_random(2) == 0 ? next_random(3) : next_random(300);
   bool is_one = kind == TOARMUTS_TICK || (kind == TOARMUTS_SERIAL && length >= 1 && length <= 256) || (kind == TOARMUTS_FRAME && length >= 1 && length <= 127);
-  uint32_t due = due_at_rest(known, is_one ? TOARMUTS_DONE : TOARMUTS_NO_INPUT);
   uint8_t *bytes = malloc(length + 1);
   memset(bytes, (int)next_random(256), length + 1);
   uint32_t status = toarmuts_feed_input(&known->mote, kind, next_random(9), bytes, length);
   free(bytes);
+  bool holds = is_due(known, status, is_one ? TOARMUTS_DONE : TOARMUTS_NO_INPUT);
   known->rests = known->rests && status != TOARMUTS_DONE;
-  return status == due;
+  return holds;
 }
 
 static bool

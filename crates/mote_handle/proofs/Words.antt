@@ -21,8 +21,8 @@ use Rattle.std_alloc.specs.Box.Ownership.{box_owns}
 use Rattle.mote_handle.specs.Owned.{mote_owns}
 use Rattle.mote_handle.specs.contracts.mote.Mote as mote
 use Rattle.mote_handle.specs.declared.mote.Mote.{Mote}
-use Rattle.mote_session.specs.contracts.session.Session as held
-use Rattle.mote_session.specs.SessionView.{SessionView as Held}
+use Rattle.mote_handle.specs.contracts.open_mote.OpenMote as held
+use Rattle.mote_handle.specs.declared.open_mote.OpenMote.{OpenMote as Held}
 
 -- the pointer, and whether it is open
 abbrev pub mote_val : Ptr → Bool → Val
@@ -35,7 +35,7 @@ mote_good (block_ptr b o) is_open = (tt, (tt, (tt, tt)))
 
 module _ {M : Type 1} {𝓤 : Ura M} {𝓛 : Logic 𝓤} {K : Type 0} {Γ : List (Item 𝓤)} {G : Goal 𝓤 𝓛.H} where
   pub made : K → (p : Ptr) (is_open : Bool) (value : Option Held)
-      → Step K 𝓛 (‵ (mote.the_row.own_val (record { held = p; is_open = is_open; session = value }) (mote_val p is_open ∷ [])) ∷ Γ) G
+      → Step K 𝓛 (‵ (mote.the_row.own_val (record { held = p; is_open = is_open; open_mote = value }) (mote_val p is_open ∷ [])) ∷ Γ) G
       (‵ (mote_owns is_open p value) ∷ Γ) G
   made t p is_open value = step (λ rest.
       let v : Val = mote_val p is_open in
@@ -46,7 +46,7 @@ module _ {M : Type 1} {𝓤 : Ura M} {𝓛 : Logic 𝓤} {K : Type 0} {Γ : List
       (ptr_val p ∷ [], (vbool is_open ∷ [], tt)) $ fjoin t $ rest)
 
   pub seen : K → (m : Mote) (vs : List Val)
-      → (vs ≡ mote_val m.held m.is_open ∷ [] → Seq K 𝓛 (‵ (mote_owns m.is_open m.held m.session) ∷ Γ) G)
+      → (vs ≡ mote_val m.held m.is_open ∷ [] → Seq K 𝓛 (‵ (mote_owns m.is_open m.held m.open_mote) ∷ Γ) G)
       → Seq K 𝓛 (‵ (mote.the_row.own_val m vs) ∷ Γ) G
   seen t m vs goes_on =
       fsplit t $ fpick t (λ vss. fsplit t $ feq_l t (λ is_both. fsplit t $ feq_l t (λ is_pointer. fsplit t $ feq_l t (λ is_flag. drop t $

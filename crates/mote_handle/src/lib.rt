@@ -4,5 +4,7 @@
 #![tactic(auto)]
 
 mod mote;
+mod open_mote;
 
 pub use mote::Mote;
+pub use open_mote::OpenMote;

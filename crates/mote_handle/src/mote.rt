@@ -2,34 +2,34 @@
 
 ghost use Rattle.std.specs.Prelude.{◌≡◌, Option, None, Some};
 ghost use Rattle.std.specs.Option.{MatchOption};
-ghost use Rattle.mote_session.specs.SessionView.{SessionView};
+ghost use Rattle.mote_handle.specs.declared.open_mote.OpenMote.{OpenMote as Held};
 ghost use Rattle.mote_handle.specs.Owned.{mote_owns};
 
-use mote_session::session::Session;
+use crate::open_mote::OpenMote;
 use std::alloc::Global;
 use std::marker::Model;
 use std::mem;
 use std::ptr;
 use unboxed::Unboxed;
 
-/// A session on the heap, or none: then it is closed, as it is with all bytes 0.
+/// What an open mote has, on the heap; or nothing: then it is closed, as it is with all bytes 0.
 ///
-/// It has no `Drop`: whoever lets it go without taking the session out is refused, so that no memory is forgotten.
+/// It has no `Drop`: whoever lets it go without taking out what it holds is refused, so that no memory is forgotten.
 #[repr(C)]
 pub struct Mote {
     held: *mut u8,
     is_open: bool,
-    pub ghost session: { Option SessionView },
+    pub ghost open_mote: { Option Held },
 }
 
 impl Model for Mote {
-    ghost also_owns = { λ mote. mote_owns mote.is_open mote.held mote.session };
+    ghost also_owns = { λ mote. mote_owns mote.is_open mote.held mote.open_mote };
 }
 
 impl Mote {
     /// A closed one.
     fn closed() -> Mote
-        ensures { result.session ≡ None }
+        ensures { result.open_mote ≡ None }
     {
         Mote {
             held: ptr::null_mut(),
@@ -37,9 +37,9 @@ impl Mote {
         }
     }
 
-    /// One with this session.
-    fn of(parts: Unboxed<Session, Global>) -> Mote
-        ensures { result.session ≡ Some parts.value }
+    /// An open one.
+    fn of(parts: Unboxed<OpenMote, Global>) -> Mote
+        ensures { result.open_mote ≡ Some parts.value }
     {
         let Unboxed {
             pointer,
@@ -51,14 +51,14 @@ impl Mote {
         }
     }
 
-    /// Its session, if it is open.
-    fn into_parts(self, allocator: Global) -> Option<Unboxed<Session, Global>>
-        ensures { MatchOption result (self.session ≡ None) (λ parts. self.session ≡ Some parts.value) }
+    /// What it holds, if it is open.
+    fn into_parts(self, allocator: Global) -> Option<Unboxed<OpenMote, Global>>
+        ensures { MatchOption result (self.open_mote ≡ None) (λ parts. self.open_mote ≡ Some parts.value) }
     {
         let Mote { held, is_open } = self;
         if is_open {
             Some(Unboxed {
-                pointer: held as *mut Session,
+                pointer: held as *mut OpenMote,
                 allocator,
             })
         } else {
@@ -66,10 +66,10 @@ impl Mote {
         }
     }
 
-    /// Takes the session out, if it is open, and closes it.
-    pub fn take(&mut self, alloc: Global) -> Option<Box<Session>>
-        ensures session { MatchOption result (self.old.session ≡ None) (λ taken. self.old.session ≡ Some taken.value) }
-        ensures closed { self.new.session ≡ None }
+    /// Takes out what it holds, if it is open, and closes it.
+    pub fn take(&mut self, alloc: Global) -> Option<Box<OpenMote>>
+        ensures taken { MatchOption result (self.old.open_mote ≡ None) (λ taken. self.old.open_mote ≡ Some taken.value) }
+        ensures closed { self.new.open_mote ≡ None }
     {
         let before = mem::replace(self, Mote::closed());
         match before.into_parts(alloc) {
@@ -78,11 +78,11 @@ impl Mote {
         }
     }
 
-    /// Opens it with this session. The one that it had before is dropped.
-    pub fn put(&mut self, alloc: Global, session: Box<Session>)
-        ensures { self.new.session ≡ Some session.value }
+    /// Opens it. What it held before is dropped.
+    pub fn put(&mut self, alloc: Global, open_mote: Box<OpenMote>)
+        ensures { self.new.open_mote ≡ Some open_mote.value }
     {
-        let before = mem::replace(self, Mote::of(Unboxed::of(session)));
+        let before = mem::replace(self, Mote::of(Unboxed::of(open_mote)));
         if let Some(parts) = before.into_parts(alloc) {
             drop(parts.into_box());
         }

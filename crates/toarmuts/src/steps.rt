@@ -6,6 +6,7 @@
 ghost use Rattle.std.specs.Prelude.{◌≡◌, ◌≢◌, ◌≤◌, ◌<◌, ◌+◌, ◌-◌, ◌↔◌, false, None, Some, length, take, drop, is_some, true, nat_lt, if◌then◌else◌, IsSomeAnd, IfOk, IsErrOf};
 ghost use Rattle.kernel_core.specs.Machine.{is_bootable};
 ghost use Rattle.mote_text.specs.EntryText.{entry_line};
+ghost use Rattle.mote_handle.specs.Sessions.{session_in};
 ghost use Rattle.plain_turns.specs.Inputs.{input_said};
 ghost use Rattle.toarmuts.specs.Steps.{Goes, GoesNext, IsLastLine, IsOpened, TakesCall, TakesInput, TakesScriptLine, TellsTurn, answer_status, config_in, feed_status, input_status, line_status, next_status, open_status, step_number};
 
@@ -14,25 +15,26 @@ use crate::status::{
     BAD_SIZES, CLOSED, DONE, IS_OPEN, NO_CALL, NO_ROOM, NO_TURN, OUT_OF_MEMORY, refusal_status,
     status_of,
 };
-use mote_handle::Mote;
+use mote_handle::{Mote, OpenMote};
 use mote_session::session::{Next, Session};
 use mote_session::{BootFault, Config};
 use mote_text::line::OutputBuffer;
 use plain_turns::{PlainCall, PlainTurn, input_of};
 use std::alloc::Global;
 
-/// A session on the heap.
+/// A mote at boot.
 ///
 /// # Errors
 ///
 /// `BadSizes` exactly where no mote boots so, else `Memory`.
-fn boot(alloc: Global, config: Config) -> Result<Box<Session>, BootFault>
-    ensures opened { IfOk result (λ session. IsOpened config session.value) }
+fn boot(alloc: Global, config: Config) -> Result<Box<OpenMote>, BootFault>
+    ensures opened { IfOk result (λ mote. IsOpened config mote.value.session) }
     ensures bad_sizes { IsErrOf result BootFault.BadSizes ↔ (is_bootable config ≡ false) }
 {
     let session = Session::boot(alloc, config)?;
-    match Box::new(alloc, session) {
-        Ok(boxed) => Ok(boxed),
+    let line = OutputBuffer::new();
+    match Box::new(alloc, OpenMote { session, line }) {
+        Ok(open_mote) => Ok(open_mote),
         Err(_) => Err(BootFault::Memory),
     }
 }
@@ -45,14 +47,14 @@ pub extern "C" fn toarmuts_open(
     applications: u32,
     mote: &mut Mote,
 ) -> u32
-    ensures opened { result ≡ 0 → (mote.old.session ≡ None) × IsSomeAnd mote.new.session (IsOpened (config_in configuration.now applications)) }
-    ensures unchanged { result ≢ 0 → mote.new.session ≡ mote.old.session }
-    ensures is_open { (result ≡ 23) ↔ (is_some mote.old.session ≡ true) }
-    ensures bad_sizes { mote.old.session ≡ None → (result ≡ 19) ↔ (is_bootable (config_in configuration.now applications) ≡ false) }
+    ensures opened { result ≡ 0 → ((session_in mote.old) ≡ None) × IsSomeAnd (session_in mote.new) (IsOpened (config_in configuration.now applications)) }
+    ensures unchanged { result ≢ 0 → (session_in mote.new) ≡ (session_in mote.old) }
+    ensures is_open { (result ≡ 23) ↔ (is_some (session_in mote.old) ≡ true) }
+    ensures bad_sizes { (session_in mote.old) ≡ None → (result ≡ 19) ↔ (is_bootable (config_in configuration.now applications) ≡ false) }
     ensures else_memory { result ≢ 0 → result ≢ 19 → result ≢ 23 → result ≡ 21 }
 {
-    if let Some(session) = mote.take(alloc) {
-        mote.put(alloc, session);
+    if let Some(open_mote) = mote.take(alloc) {
+        mote.put(alloc, open_mote);
         return IS_OPEN;
     }
     let Ok(apps) = u8::try_from(applications) else {
@@ -67,8 +69,8 @@ pub extern "C" fn toarmuts_open(
         header: sizes.header,
     };
     match boot(alloc, config) {
-        Ok(session) => {
-            mote.put(alloc, session);
+        Ok(open_mote) => {
+            mote.put(alloc, open_mote);
             DONE
         }
         Err(BootFault::BadSizes) => BAD_SIZES,
@@ -79,15 +81,15 @@ pub extern "C" fn toarmuts_open(
 /// Hands in what a line of a script says, without its end.
 #[unsafe(no_mangle)]
 pub extern "C" fn toarmuts_feed(alloc: Global, mote: &mut Mote, line: &[u8]) -> u32
-    ensures status { result ≡ feed_status line.now mote.old.session }
-    ensures fed { result ≡ 0 → Goes (TakesScriptLine line.now) mote.old.session mote.new.session }
-    ensures unchanged { result ≢ 0 → mote.new.session ≡ mote.old.session }
+    ensures status { result ≡ feed_status line.now (session_in mote.old) }
+    ensures fed { result ≡ 0 → Goes (TakesScriptLine line.now) (session_in mote.old) (session_in mote.new) }
+    ensures unchanged { result ≢ 0 → (session_in mote.new) ≡ (session_in mote.old) }
 {
-    let Some(mut session) = mote.take(alloc) else {
+    let Some(mut open_mote) = mote.take(alloc) else {
         return CLOSED;
     };
-    let outcome = session.feed(line);
-    mote.put(alloc, session);
+    let outcome = open_mote.session.feed(line);
+    mote.put(alloc, open_mote);
     status_of(outcome)
 }
 
@@ -100,15 +102,15 @@ pub extern "C" fn toarmuts_feed_input(
     ticks: u32,
     bytes: &[u8],
 ) -> u32
-    ensures status { result ≡ input_status (input_said kind ticks bytes.now) mote.old.session }
-    ensures fed { result ≡ 0 → Goes (TakesInput (input_said kind ticks bytes.now)) mote.old.session mote.new.session }
-    ensures unchanged { result ≢ 0 → mote.new.session ≡ mote.old.session }
+    ensures status { result ≡ input_status (input_said kind ticks bytes.now) (session_in mote.old) }
+    ensures fed { result ≡ 0 → Goes (TakesInput (input_said kind ticks bytes.now)) (session_in mote.old) (session_in mote.new) }
+    ensures unchanged { result ≢ 0 → (session_in mote.new) ≡ (session_in mote.old) }
 {
-    let Some(mut session) = mote.take(alloc) else {
+    let Some(mut open_mote) = mote.take(alloc) else {
         return CLOSED;
     };
-    let outcome = session.feed_input(input_of(kind, ticks, bytes));
-    mote.put(alloc, session);
+    let outcome = open_mote.session.feed_input(input_of(kind, ticks, bytes));
+    mote.put(alloc, open_mote);
     status_of(outcome)
 }
 
@@ -141,41 +143,41 @@ pub extern "C" fn toarmuts_next(
     step: &mut u32,
     turn: &mut PlainTurn,
 ) -> u32
-    ensures status { result ≡ next_status mote.old.session }
-    ensures goes { result ≡ 0 → Goes (GoesNext step.new turn.old turn.new) mote.old.session mote.new.session }
-    ensures unchanged { result ≢ 0 → (mote.new.session ≡ mote.old.session) × (step.new ≡ step.old) × (turn.new ≡ turn.old) }
+    ensures status { result ≡ next_status (session_in mote.old) }
+    ensures goes { result ≡ 0 → Goes (GoesNext step.new turn.old turn.new) (session_in mote.old) (session_in mote.new) }
+    ensures unchanged { result ≢ 0 → ((session_in mote.new) ≡ (session_in mote.old)) × (step.new ≡ step.old) × (turn.new ≡ turn.old) }
 {
-    let Some(mut session) = mote.take(alloc) else {
+    let Some(mut open_mote) = mote.take(alloc) else {
         return CLOSED;
     };
-    let status = match session.next() {
+    let status = match open_mote.session.next() {
         Ok(next) => {
             *step = step_number(next);
-            tell_turn(&session, turn);
+            tell_turn(&open_mote.session, turn);
             DONE
         }
         Err(refusal) => refusal_status(refusal),
     };
-    mote.put(alloc, session);
+    mote.put(alloc, open_mote);
     status
 }
 
 /// Hands in the call of the application whose turn it is.
 #[unsafe(no_mangle)]
 pub extern "C" fn toarmuts_answer(alloc: Global, mote: &mut Mote, call: &PlainCall) -> u32
-    ensures status { result ≡ answer_status call.now mote.old.session }
-    ensures taken { result ≡ 0 → Goes (TakesCall call.now) mote.old.session mote.new.session }
-    ensures unchanged { result ≢ 0 → mote.new.session ≡ mote.old.session }
+    ensures status { result ≡ answer_status call.now (session_in mote.old) }
+    ensures taken { result ≡ 0 → Goes (TakesCall call.now) (session_in mote.old) (session_in mote.new) }
+    ensures unchanged { result ≢ 0 → (session_in mote.new) ≡ (session_in mote.old) }
 {
-    let Some(mut session) = mote.take(alloc) else {
+    let Some(mut open_mote) = mote.take(alloc) else {
         return CLOSED;
     };
     let status = match call.call() {
-        Some(call) => status_of(session.answer(call)),
-        None if session.turn().is_none() => NO_TURN,
+        Some(call) => status_of(open_mote.session.answer(call)),
+        None if open_mote.session.turn().is_none() => NO_TURN,
         None => NO_CALL,
     };
-    mote.put(alloc, session);
+    mote.put(alloc, open_mote);
     status
 }
 
@@ -207,47 +209,48 @@ pub extern "C" fn toarmuts_line(
     line: &mut [u8],
     length: &mut usize,
 ) -> u32
-    ensures status { result ≡ line_status (length line.old) mote.old.session }
-    ensures line { result ≡ 0 → IsSomeAnd mote.old.session (IsLastLine (take length.new line.new)) }
+    ensures status { result ≡ line_status (length line.old) (session_in mote.old) }
+    ensures line { result ≡ 0 → IsSomeAnd (session_in mote.old) (IsLastLine (take length.new line.new)) }
     ensures fits { result ≡ 0 → length.new ≤ length line.new }
     ensures behind { result ≡ 0 → drop length.new line.new ≡ drop length.new line.old }
-    ensures length { result ≡ 20 → IsSomeAnd mote.old.session (λ session. IsSomeAnd session.last (λ entry. length.new + 1 ≡ length (entry_line entry))) }
+    ensures length { result ≡ 20 → IsSomeAnd (session_in mote.old) (λ session. IsSomeAnd session.last (λ entry. length.new + 1 ≡ length (entry_line entry))) }
     ensures no_line { result ≢ 0 → line.new ≡ line.old }
-    ensures unchanged { mote.new.session ≡ mote.old.session }
+    ensures no_length { result ≢ 0 → result ≢ 20 → length.new ≡ length.old }
+    ensures unchanged { (session_in mote.new) ≡ (session_in mote.old) }
 {
-    let Some(session) = mote.take(alloc) else {
+    let Some(mut open_mote) = mote.take(alloc) else {
         return CLOSED;
     };
-    let mut text = OutputBuffer::new();
-    let status = match session.push_line(&mut text) {
-        Ok(()) => put_line(text.as_slice(), line, length),
+    open_mote.line.clear();
+    let status = match open_mote.session.push_line(&mut open_mote.line) {
+        Ok(()) => put_line(open_mote.line.as_slice(), line, length),
         Err(refusal) => refusal_status(refusal),
     };
-    mote.put(alloc, session);
+    mote.put(alloc, open_mote);
     status
 }
 
 /// Tells the ticks since boot.
 #[unsafe(no_mangle)]
 pub extern "C" fn toarmuts_clock(alloc: Global, mote: &mut Mote, clock: &mut u64) -> u32
-    ensures status { result ≡ open_status mote.old.session }
-    ensures clock { result ≡ 0 → IsSomeAnd mote.old.session (λ session. clock.new ≡ session.machine.clock) }
+    ensures status { result ≡ open_status (session_in mote.old) }
+    ensures clock { result ≡ 0 → IsSomeAnd (session_in mote.old) (λ session. clock.new ≡ session.machine.clock) }
     ensures no_clock { result ≢ 0 → clock.new ≡ clock.old }
-    ensures unchanged { mote.new.session ≡ mote.old.session }
+    ensures unchanged { (session_in mote.new) ≡ (session_in mote.old) }
 {
-    let Some(session) = mote.take(alloc) else {
+    let Some(open_mote) = mote.take(alloc) else {
         return CLOSED;
     };
-    *clock = session.clock();
-    mote.put(alloc, session);
+    *clock = open_mote.session.clock();
+    mote.put(alloc, open_mote);
     DONE
 }
 
 /// Gives the mote's memory back.
 #[unsafe(no_mangle)]
 pub extern "C" fn toarmuts_close(alloc: Global, mote: &mut Mote) -> u32
-    ensures status { result ≡ open_status mote.old.session }
-    ensures closed { mote.new.session ≡ None }
+    ensures status { result ≡ open_status (session_in mote.old) }
+    ensures closed { (session_in mote.new) ≡ None }
 {
     match mote.take(alloc) {
         Some(_) => DONE,

@@ -34,8 +34,8 @@ use Rattle.std_alloc.proofs.ResultValues.{and_tt}
 use Rattle.std_heap.specs.contracts.Global as global
 use Rattle.std_heap.proofs.Global.TheLaws as global_laws
 use Rattle.std_heap.specs.contracts.GlobalAllocator.TheImpl.{ghosts}
-use Rattle.mote_session.specs.contracts.session.Session as held
-use Rattle.mote_session.specs.SessionView.{SessionView as Held}
+use Rattle.mote_handle.specs.contracts.open_mote.OpenMote as held
+use Rattle.mote_handle.specs.declared.open_mote.OpenMote.{OpenMote as Held}
 use Rattle.unboxed.proofs.Parts.{Parts, parts_val, parts_good, put, taken}
 use Rattle.mote_handle.specs.contracts.mote.Mote.{the_row as Handle}
 use Rattle.mote_handle.proofs.Words.{mote_val, made, seen, by_state}
@@ -60,4 +60,4 @@ closed_spec 𝓤 𝓛 𝓜 𝓡 wired =
     nothing ! $ made ! null_ptr false None $
     use0 𝓛 (raw (fact 𝓤 nothing_held)) (fact_i 𝓤 nothing_held (emp 𝓤) refl) $ nothing ! $
     returns ! (look_at ! 0 refl) $ free_all ! refl $ keep ! (3 ∷ 0 ∷ 2 ∷ 1 ∷ []) $
-    by ! (leaves 𝓛 En hs c z (mote_val null_ptr false) (record { held = null_ptr; is_open = false; session = None }) tt tt)))
+    by ! (leaves 𝓛 En hs c z (mote_val null_ptr false) (record { held = null_ptr; is_open = false; open_mote = None }) tt tt)))

@@ -34,8 +34,8 @@ use Rattle.std_alloc.proofs.ResultValues.{and_tt}
 use Rattle.std_heap.specs.contracts.Global as global
 use Rattle.std_heap.proofs.Global.TheLaws as global_laws
 use Rattle.std_heap.specs.contracts.GlobalAllocator.TheImpl.{ghosts}
-use Rattle.mote_session.specs.contracts.session.Session as held
-use Rattle.mote_session.specs.SessionView.{SessionView as Held}
+use Rattle.mote_handle.specs.contracts.open_mote.OpenMote as held
+use Rattle.mote_handle.specs.declared.open_mote.OpenMote.{OpenMote as Held}
 use Rattle.unboxed.proofs.Parts.{Parts, parts_val, parts_good, put, taken}
 use Rattle.mote_handle.specs.contracts.mote.Mote.{the_row as Handle}
 use Rattle.mote_handle.proofs.Words.{mote_val, made, seen, by_state}
@@ -64,11 +64,11 @@ into_parts_spec 𝓤 𝓛 𝓜 𝓡 wired =
     qed 𝓛 (entry ∷ ‵ ftrue ∷ []) ∵ split ! $ move ! (1 ∷ []) $ fsplit ! $ seen ! self z.0.4.0 (λ is_val.
     move ! (1 ∷ []) $ fsplit ! $ handle_tells heap ! a z.0.4.1.0 (λ h is_handle good.
     -- [the allocator's handle; nothing; what the handle owns; the lifetimes; what is required]
-    move ! (2 ∷ []) $ by_state ! self.is_open self.held self.session
+    move ! (2 ∷ []) $ by_state ! self.is_open self.held self.open_mote
     (λ is_closed is_none.
     let told = subst (λ (y : Bool). z.0.4.0 ≡ mote_val self.held y ∷ []) is_closed is_val in
     let typed = mote_good self.held false in let none_good : Good (layout Out) (live 0 vnil) = (tt, (record { fits = lit< tt }, tt)) in
-    let Told : Type 0 = self.session ≡ None in
+    let Told : Type 0 = self.open_mote ≡ None in
     keep ! (2 ∷ []) $ regoal ! Run (λ i. told i ++ (is_handle i ++ [])) refl $
     enter ! 𝓣.C 𝓣.Λ fn (mote_val self.held false ∷ h ∷ []) Post $ alloc_all ! (λ l. pass_all ! refl (typed, (good, tt)) $
     let Ev = env fn.locals l in
@@ -89,7 +89,7 @@ into_parts_spec 𝓤 𝓛 𝓜 𝓡 wired =
     let told = subst (λ (y : Bool). z.0.4.0 ≡ mote_val (block_ptr b o) y ∷ []) is_open at_block in
     let parts : Val = parts_val b o h in let typed = parts_good R Z LZ ghosts b o h good in
     let some_good : Good (layout Out) (live 1 (vcons parts vnil)) = (and_tt _ typed.0, (record { fits = lit< tt }, (typed.1, tt))) in
-    let d : Taken.Denot = record { pointer = block_ptr b o; allocator = a; value = x } in let Told : Type 0 = self.session ≡ Some x in
+    let d : Taken.Denot = record { pointer = block_ptr b o; allocator = a; value = x } in let Told : Type 0 = self.open_mote ≡ Some x in
     keep ! (0 ∷ 1 ∷ 3 ∷ []) $ regoal ! Run (λ i. told i ++ (is_handle i ++ [])) refl $
     enter ! 𝓣.C 𝓣.Λ fn (mote_val (block_ptr b o) true ∷ h ∷ []) Post $
     alloc_all ! (λ l. pass_all ! refl (mote_good (block_ptr b o) true, (good, tt)) $
