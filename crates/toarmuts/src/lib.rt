@@ -9,6 +9,8 @@ mod configuration;
 mod lines;
 mod refusal;
 mod running;
+mod status;
+pub mod steps;
 
 use crate::answer::{put_refusal, put_run};
 use crate::running::run_lines;

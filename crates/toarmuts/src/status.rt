@@ -1,0 +1,56 @@
+//! The statuses of the calls by which a mote is asked step by step.
+
+ghost use Rattle.std.specs.Prelude.{◌≡◌};
+ghost use Rattle.toarmuts.specs.Steps.{refusal_status, status_of};
+
+use mote_session::refusal::SessionRefusal;
+
+/// It was done.
+pub const DONE: u32 = 0;
+
+/// No mote boots with these sizes and so many applications.
+pub const BAD_SIZES: u32 = 19;
+
+/// The line is longer than the room.
+pub const NO_ROOM: u32 = 20;
+
+/// Memory was refused.
+pub const OUT_OF_MEMORY: u32 = 21;
+
+/// The mote is closed.
+pub const CLOSED: u32 = 22;
+
+/// The mote is open already.
+pub const IS_OPEN: u32 = 23;
+
+/// No turn awaits a call.
+pub const NO_TURN: u32 = 25;
+
+/// There is no such call.
+pub const NO_CALL: u32 = 27;
+
+/// The status that tells a refusal.
+pub fn refusal_status(refusal: SessionRefusal) -> u32
+    ensures { result ≡ refusal_status refusal }
+{
+    match refusal {
+        SessionRefusal::BadLine => 2,
+        SessionRefusal::Halted => 3,
+        SessionRefusal::AwaitsCall => 24,
+        SessionRefusal::NoTurn => NO_TURN,
+        SessionRefusal::NotAtRest => 26,
+        SessionRefusal::NoInput => 28,
+        SessionRefusal::TooManyInputs => 29,
+        SessionRefusal::NoLine => 30,
+    }
+}
+
+/// The status that tells how it went.
+pub fn status_of(outcome: Result<(), SessionRefusal>) -> u32
+    ensures { result ≡ status_of outcome }
+{
+    match outcome {
+        Ok(()) => DONE,
+        Err(refusal) => refusal_status(refusal),
+    }
+}

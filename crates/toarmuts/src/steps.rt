@@ -1,0 +1,259 @@
+//! The calls by which C asks a mote step by step.
+//!
+//! Each takes the session out of the mote, works, and puts it back. What C hands in can be anything: a mote that is closed, a
+//! call where none is awaited, numbers out of range have their statuses, and then nothing is changed.
+
+ghost use Rattle.std.specs.Prelude.{◌≡◌, ◌≢◌, ◌≤◌, ◌<◌, ◌+◌, ◌-◌, ◌↔◌, false, None, Some, length, take, drop, is_some, true, nat_lt, if◌then◌else◌, IsSomeAnd, IfOk, IsErrOf};
+ghost use Rattle.kernel_core.specs.Machine.{is_bootable};
+ghost use Rattle.mote_text.specs.EntryText.{entry_line};
+ghost use Rattle.mote_handle.specs.Sessions.{session_in};
+ghost use Rattle.plain_turns.specs.Inputs.{input_said};
+ghost use Rattle.toarmuts.specs.Steps.{Goes, GoesNext, IsLastLine, IsOpened, TakesCall, TakesInput, TakesScriptLine, TellsTurn, answer_status, config_in, feed_status, input_status, line_status, next_status, open_status, step_number};
+
+use crate::configuration::Configuration;
+use crate::status::{
+    BAD_SIZES, CLOSED, DONE, IS_OPEN, NO_CALL, NO_ROOM, NO_TURN, OUT_OF_MEMORY, refusal_status,
+    status_of,
+};
+use mote_handle::{Mote, OpenMote};
+use mote_session::session::{Next, Session};
+use mote_session::{BootFault, Config};
+use mote_text::line::OutputBuffer;
+use plain_turns::{PlainCall, PlainTurn, input_of};
+use std::alloc::Global;
+
+/// A mote at boot.
+///
+/// # Errors
+///
+/// `BadSizes` exactly where no mote boots so, else `Memory`.
+fn boot(alloc: Global, config: Config) -> Result<Box<OpenMote>, BootFault>
+    ensures opened { IfOk result (λ mote. IsOpened config mote.value.session) }
+    ensures bad_sizes { IsErrOf result BootFault.BadSizes ↔ (is_bootable config ≡ false) }
+{
+    let session = Session::boot(alloc, config)?;
+    let line = OutputBuffer::new();
+    match Box::new(alloc, OpenMote { session, line }) {
+        Ok(open_mote) => Ok(open_mote),
+        Err(_) => Err(BootFault::Memory),
+    }
+}
+
+/// Opens a mote with so many applications, processes 4, 5, .. All memory that it will use is taken here.
+#[unsafe(no_mangle)]
+pub extern "C" fn toarmuts_open(
+    alloc: Global,
+    configuration: &Configuration,
+    applications: u32,
+    mote: &mut Mote,
+) -> u32
+    ensures opened { result ≡ 0 → ((session_in mote.old) ≡ None) × IsSomeAnd (session_in mote.new) (IsOpened (config_in configuration.now applications)) }
+    ensures unchanged { result ≢ 0 → (session_in mote.new) ≡ (session_in mote.old) }
+    ensures is_open { (result ≡ 23) ↔ (is_some (session_in mote.old) ≡ true) }
+    ensures bad_sizes { (session_in mote.old) ≡ None → (result ≡ 19) ↔ (is_bootable (config_in configuration.now applications) ≡ false) }
+    ensures else_memory { result ≢ 0 → result ≢ 19 → result ≢ 23 → result ≡ 21 }
+{
+    if let Some(open_mote) = mote.take(alloc) {
+        mote.put(alloc, open_mote);
+        return IS_OPEN;
+    }
+    let Ok(apps) = u8::try_from(applications) else {
+        return BAD_SIZES;
+    };
+    let sizes = configuration.sizes();
+    let config = Config {
+        mmem: sizes.mmem,
+        heap: sizes.heap,
+        apps,
+        quota: sizes.quota,
+        header: sizes.header,
+    };
+    match boot(alloc, config) {
+        Ok(open_mote) => {
+            mote.put(alloc, open_mote);
+            DONE
+        }
+        Err(BootFault::BadSizes) => BAD_SIZES,
+        Err(BootFault::Memory) => OUT_OF_MEMORY,
+    }
+}
+
+/// Hands in what a line of a script says, without its end.
+#[unsafe(no_mangle)]
+pub extern "C" fn toarmuts_feed(alloc: Global, mote: &mut Mote, line: &[u8]) -> u32
+    ensures status { result ≡ feed_status line.now (session_in mote.old) }
+    ensures fed { result ≡ 0 → Goes (TakesScriptLine line.now) (session_in mote.old) (session_in mote.new) }
+    ensures unchanged { result ≢ 0 → (session_in mote.new) ≡ (session_in mote.old) }
+{
+    let Some(mut open_mote) = mote.take(alloc) else {
+        return CLOSED;
+    };
+    let outcome = open_mote.session.feed(line);
+    mote.put(alloc, open_mote);
+    status_of(outcome)
+}
+
+/// Hands in an input of this kind: 0 so many ticks, 1 bytes on the serial line, 2 a frame of bytes.
+#[unsafe(no_mangle)]
+pub extern "C" fn toarmuts_feed_input(
+    alloc: Global,
+    mote: &mut Mote,
+    kind: u32,
+    ticks: u32,
+    bytes: &[u8],
+) -> u32
+    ensures status { result ≡ input_status (input_said kind ticks bytes.now) (session_in mote.old) }
+    ensures fed { result ≡ 0 → Goes (TakesInput (input_said kind ticks bytes.now)) (session_in mote.old) (session_in mote.new) }
+    ensures unchanged { result ≢ 0 → (session_in mote.new) ≡ (session_in mote.old) }
+{
+    let Some(mut open_mote) = mote.take(alloc) else {
+        return CLOSED;
+    };
+    let outcome = open_mote.session.feed_input(input_of(kind, ticks, bytes));
+    mote.put(alloc, open_mote);
+    status_of(outcome)
+}
+
+/// The number that tells what `next` came to.
+fn step_number(next: Next) -> u32
+    ensures { result ≡ step_number next }
+{
+    match next {
+        Next::Turn => 0,
+        Next::Entry => 1,
+        Next::Rest => 2,
+        Next::Halted => 3,
+    }
+}
+
+/// Tells the turn that awaits its call, if one does.
+fn tell_turn(session: &Session, turn: &mut PlainTurn)
+    ensures { TellsTurn session.now.turn turn.old turn.new }
+{
+    if let Some(open) = session.turn() {
+        turn.tell(open.process, open.origin, open.stimulus);
+    }
+}
+
+/// Works to the next turn, entry or rest; `step` says which, and a turn is told.
+#[unsafe(no_mangle)]
+pub extern "C" fn toarmuts_next(
+    alloc: Global,
+    mote: &mut Mote,
+    step: &mut u32,
+    turn: &mut PlainTurn,
+) -> u32
+    ensures status { result ≡ next_status (session_in mote.old) }
+    ensures goes { result ≡ 0 → Goes (GoesNext step.new turn.old turn.new) (session_in mote.old) (session_in mote.new) }
+    ensures unchanged { result ≢ 0 → ((session_in mote.new) ≡ (session_in mote.old)) × (step.new ≡ step.old) × (turn.new ≡ turn.old) }
+{
+    let Some(mut open_mote) = mote.take(alloc) else {
+        return CLOSED;
+    };
+    let status = match open_mote.session.next() {
+        Ok(next) => {
+            *step = step_number(next);
+            tell_turn(&open_mote.session, turn);
+            DONE
+        }
+        Err(refusal) => refusal_status(refusal),
+    };
+    mote.put(alloc, open_mote);
+    status
+}
+
+/// Hands in the call of the application whose turn it is.
+#[unsafe(no_mangle)]
+pub extern "C" fn toarmuts_answer(alloc: Global, mote: &mut Mote, call: &PlainCall) -> u32
+    ensures status { result ≡ answer_status call.now (session_in mote.old) }
+    ensures taken { result ≡ 0 → Goes (TakesCall call.now) (session_in mote.old) (session_in mote.new) }
+    ensures unchanged { result ≢ 0 → (session_in mote.new) ≡ (session_in mote.old) }
+{
+    let Some(mut open_mote) = mote.take(alloc) else {
+        return CLOSED;
+    };
+    let status = match call.call() {
+        Some(call) => status_of(open_mote.session.answer(call)),
+        None if open_mote.session.turn().is_none() => NO_TURN,
+        None => NO_CALL,
+    };
+    mote.put(alloc, open_mote);
+    status
+}
+
+/// Puts a line, all but its end, to the front of the room where it fits there, and tells how long it is.
+fn put_line(text: &[u8], line: &mut [u8], length: &mut usize) -> u32
+    requires { 0 < length text.now }
+    ensures length { length.new + 1 ≡ length text.now }
+    ensures status { result ≡ (if nat_lt (length line.old + 1) (length text.now) then 20 else 0) }
+    ensures fits { result ≡ 0 → length.new ≤ length line.new }
+    ensures front { result ≡ 0 → take length.new line.new ≡ take length.new text.now }
+    ensures behind { result ≡ 0 → drop length.new line.new ≡ drop length.new line.old }
+    ensures unchanged { result ≢ 0 → line.new ≡ line.old }
+{
+    let size = text.len() - 1;
+    *length = size;
+    if size > line.len() {
+        return NO_ROOM;
+    }
+    line[..size].copy_from_slice(&text[..size]);
+    DONE
+}
+
+/// Puts the transcript's line of the last entry, without its end, to the front of the room, and tells how long it is, also where
+/// it is longer than the room.
+#[unsafe(no_mangle)]
+pub extern "C" fn toarmuts_line(
+    alloc: Global,
+    mote: &mut Mote,
+    line: &mut [u8],
+    length: &mut usize,
+) -> u32
+    ensures status { result ≡ line_status (length line.old) (session_in mote.old) }
+    ensures line { result ≡ 0 → IsSomeAnd (session_in mote.old) (IsLastLine (take length.new line.new)) }
+    ensures fits { result ≡ 0 → length.new ≤ length line.new }
+    ensures behind { result ≡ 0 → drop length.new line.new ≡ drop length.new line.old }
+    ensures length { result ≡ 20 → IsSomeAnd (session_in mote.old) (λ session. IsSomeAnd session.last (λ entry. length.new + 1 ≡ length (entry_line entry))) }
+    ensures no_line { result ≢ 0 → line.new ≡ line.old }
+    ensures no_length { result ≢ 0 → result ≢ 20 → length.new ≡ length.old }
+    ensures unchanged { (session_in mote.new) ≡ (session_in mote.old) }
+{
+    let Some(mut open_mote) = mote.take(alloc) else {
+        return CLOSED;
+    };
+    open_mote.line.clear();
+    let status = match open_mote.session.push_line(&mut open_mote.line) {
+        Ok(()) => put_line(open_mote.line.as_slice(), line, length),
+        Err(refusal) => refusal_status(refusal),
+    };
+    mote.put(alloc, open_mote);
+    status
+}
+
+/// Tells the ticks since boot.
+#[unsafe(no_mangle)]
+pub extern "C" fn toarmuts_clock(alloc: Global, mote: &mut Mote, clock: &mut u64) -> u32
+    ensures status { result ≡ open_status (session_in mote.old) }
+    ensures clock { result ≡ 0 → IsSomeAnd (session_in mote.old) (λ session. clock.new ≡ session.machine.clock) }
+    ensures no_clock { result ≢ 0 → clock.new ≡ clock.old }
+    ensures unchanged { (session_in mote.new) ≡ (session_in mote.old) }
+{
+    let Some(open_mote) = mote.take(alloc) else {
+        return CLOSED;
+    };
+    *clock = open_mote.session.clock();
+    mote.put(alloc, open_mote);
+    DONE
+}
+
+/// Gives the mote's memory back.
+#[unsafe(no_mangle)]
+pub extern "C" fn toarmuts_close(alloc: Global, mote: &mut Mote) -> u32
+    ensures status { result ≡ open_status (session_in mote.old) }
+    ensures closed { (session_in mote.new) ≡ None }
+{
+    match mote.take(alloc) {
+        Some(_) => DONE,
+        None => CLOSED,
+    }
+}

@@ -1,0 +1,107 @@
+/* The memory of motes that are asked step by step, from calls of this program's own: each call that takes memory is refused once,
+ * none takes any once a mote is open, and all of it is given back. */
+#include "steps.h"
+
+/* What the library asks for memory with, as toarmuts_memory.c has it. */
+struct tried {
+  bool ok;
+  void *p;
+};
+
+struct tried rattle_alloc(size_t size, size_t align);
+struct tried rattle_realloc(void *p, size_t kept, size_t size, size_t align);
+void rattle_dealloc(void *p);
+
+/* How many calls for memory came, how many of them are granted, and how many blocks are out. */
+static long asked, granted, out;
+
+static struct tried
+answer(void *p)
+{
+  static char nowhere;
+  struct tried tried = {p != NULL, p != NULL ? p : &nowhere};
+  return tried;
+}
+
+struct tried
+rattle_alloc(size_t size, size_t align)
+{
+  if(asked++ >= granted) {
+    return answer(NULL);
+  }
+  out++;
+  return answer(malloc(size != 0 ? size : align));
+}
+
+struct tried
+rattle_realloc(void *p, size_t kept, size_t size, size_t align)
+{
+  (void)kept;
+  return asked++ < granted ? answer(realloc(p, size != 0 ? size : align)) : answer(NULL);
+}
+
+void
+rattle_dealloc(void *p)
+{
+  out--;
+  free(p);
+}
+
+static int passed, failed;
+
+static void
+check(const char *name, bool holds)
+{
+  if(holds) {
+    passed++;
+  } else {
+    failed++;
+    printf("%s\n", name);
+  }
+}
+
+/* Many random turns on an open mote, whose inputs are ticks, lines and frames. */
+static void
+take_turns(struct toarmuts_mote *mote, long count)
+{
+  static const char *const inputs[] = {"tick 3", "serial 61620a", "frame 010203"};
+  struct toarmuts_turn turn;
+  uint8_t line[640];
+  size_t length;
+  uint32_t step;
+  while(count-- > 0 && toarmuts_next(mote, &step, &turn) == TOARMUTS_DONE && step != TOARMUTS_HALT) {
+    if(step == TOARMUTS_TURN) {
+      struct toarmuts_call call = random_call();
+      toarmuts_answer(mote, &call);
+    } else if(step == TOARMUTS_REST) {
+      const char *input = inputs[next_random(3)];
+      toarmuts_feed(mote, (const uint8_t *)input, strlen(input));
+    }
+    toarmuts_line(mote, line, sizeof line, &length);
+  }
+}
+
+int
+main(void)
+{
+  struct toarmuts_configuration sizes = TOARMUTS_DEFAULTS;
+  struct toarmuts_mote mote = {NULL, false};
+  uint32_t status = TOARMUTS_OUT_OF_MEMORY;
+  bool given_back = true, still_closed = true;
+  for(granted = 0; status == TOARMUTS_OUT_OF_MEMORY && granted < 1000; granted++) {
+    asked = 0;
+    status = toarmuts_open(&sizes, 6, &mote);
+    given_back = given_back && (status == TOARMUTS_DONE || out == 0);
+    still_closed = still_closed && (status == TOARMUTS_DONE || (!mote.is_open && toarmuts_close(&mote) == TOARMUTS_CLOSED));
+  }
+  check("some memory is needed", granted > 2);
+  check("a refused open gives all back", given_back);
+  check("a refused open leaves the mote closed", still_closed);
+  check("open where nothing is refused", status == TOARMUTS_DONE && out > 0);
+  asked = granted = 0;
+  take_turns(&mote, 100000);
+  check("no memory is taken once it is open", asked == 0);
+  check("close gives all back", toarmuts_close(&mote) == TOARMUTS_DONE && out == 0);
+  printf("%d passed, %d failed\n", passed, failed);
+  return failed != 0;
+}
