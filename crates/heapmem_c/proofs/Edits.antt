@@ -1,16 +1,15 @@
 -- What rows stand for, before and after one of them comes, goes or changes.
-use Rattle.std.proofs.Common.{◌≡◌, ◌≢◌, ℕ, zero, suc, ◌+◌, ◌-◌, ◌≤◌, ◌<◌, ◌⊎◌, inl, inr, Bool, true, false, not, List, [], ◌∷◌, ◌++◌, length, map, filter, take, drop, set, slice_set, slice_range, Option, Some, None, if◌then◌else◌, refl, sym, ap, ◌∙◌, subst, arith}
+use Rattle.std.proofs.Common.{◌≡◌, ◌≢◌, ℕ, zero, suc, ◌+◌, ◌-◌, ◌≤◌, ◌<◌, ◌⊎◌, inl, inr, Bool, true, false, not, List, [], ◌∷◌, ◌++◌, length, map, filter, take, drop, set, slice_set, Some, None, if◌then◌else◌, refl, sym, ap, ◌∙◌, subst, arith}
 use Rattle.std.specs.Prelude.{find, nat_lt}
 use Rattle.std.specs.List.{copy_within}
-use Rattle.std.proofs.lemmas.Bool.{cases_lt, lt-ltb, le-ltb, eq-eqb, ne_eqb}
+use Rattle.std.proofs.lemmas.Bool.{lt-ltb, le-ltb, eq-eqb, ne_eqb}
 use Rattle.std.proofs.lemmas.List.{take-take, take_at, take_all, drop_all, take_more, drop-take, length-take-le, length-append, append_assoc, append-nil, set_at, length-drop}
 use Rattle.arena_core.specs.Written.{written}
-use Rattle.arena_core.proofs.Ranges.{range-written_apart, length-written}
-use Rattle.mote_types.specs.Bytes.{zeros, range_of}
-use Rattle.heap_core.specs.HeapStore.{Block, HeapStore, placed, has_name}
+use Rattle.arena_core.proofs.Ranges.{range-written_apart}
+use Rattle.heap_core.specs.HeapStore.{Block, placed, has_name}
 use Rattle.heapmem_c.specs.declared.row.Row.{Row}
-use Rattle.heapmem_c.specs.Heaps.{block_told, heap_of, LieFrom, IsTable, front}
-use Rattle.heapmem_c.specs.Code.Rows.{row_of, with_row, without_row, IsFree, BeginsAt, BeginBelow}
+use Rattle.heapmem_c.specs.Heaps.{block_told, LieFrom, front}
+use Rattle.heapmem_c.specs.Code.Rows.{row_of, with_row, without_row, IsFree, BeginBelow}
 use Rattle.heapmem_c.proofs.Tables.{lie_le}
 
 -- a new row, by its number

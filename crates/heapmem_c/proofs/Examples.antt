@@ -1,8 +1,8 @@
 -- Rows and what they stand for, rows that are no table, places, and outcomes.
-use Rattle.std.proofs.Common.{◌≡◌, ℕ, ◌≤◌, List, [], ◌∷◌, length, refl, arith}
+use Rattle.std.proofs.Common.{◌≡◌, ℕ, [], ◌∷◌, refl, arith}
 use Rattle.std.specs.Prelude.{Some, None}
 use Rattle.mote_types.specs.Bytes.{zeros}
-use Rattle.heap_core.specs.HeapStore.{HeapStore, place, gaps, top_gap, new_place, place_of, find_block}
+use Rattle.heap_core.specs.HeapStore.{HeapStore, place, new_place}
 use Rattle.heapmem_c.specs.declared.row.Row.{Row}
 use Rattle.heapmem_c.specs.declared.outcome.Outcome.{Outcome}
 use Rattle.heapmem_c.specs.Heaps.{heap_of, IsTable, front, with_new, with_resized}

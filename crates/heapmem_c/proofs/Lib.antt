@@ -5,3 +5,4 @@ pub mod Puts
 pub mod Resizes
 pub mod Sums
 pub mod Moves
+pub mod Examples

@@ -1,14 +1,12 @@
 -- The heap with a new block, and without one.
-use Rattle.std.proofs.Common.{◌≡◌, ℕ, ◌+◌, ◌-◌, ◌≤◌, ◌<◌, List, [], ◌∷◌, length, map, filter, not, replicate, Some, refl, sym, ap, ◌∙◌, subst, arith}
-use Rattle.std.proofs.lemmas.List.{length-replicate}
+use Rattle.std.proofs.Common.{◌≡◌, ℕ, ◌≤◌, ◌<◌, List, length, map, refl, sym, ap, ◌∙◌, subst, arith}
 use Rattle.arena_core.specs.Written.{written}
 use Rattle.arena_core.proofs.Ranges.{range-written, length-written}
-use Rattle.mote_types.specs.Bytes.{zeros, range_of}
-use Rattle.heap_core.specs.HeapStore.{Block, HeapStore, placed, has_name, without_block, block_at}
+use Rattle.mote_types.specs.Bytes.{range_of}
+use Rattle.heap_core.specs.HeapStore.{Block, HeapStore, placed, without_block}
 use Rattle.heapmem_c.specs.declared.row.Row.{Row}
-use Rattle.heapmem_c.specs.declared.row.Spot.{Spot}
-use Rattle.heapmem_c.specs.Heaps.{block_told, heap_of, LieFrom, IsTable, front, with_new}
-use Rattle.heapmem_c.specs.Code.Rows.{place_told, row_of, with_row, without_row, IsFree}
+use Rattle.heapmem_c.specs.Heaps.{block_told, heap_of, IsTable}
+use Rattle.heapmem_c.specs.Code.Rows.{row_of, with_row, without_row, IsFree}
 use Rattle.heapmem_c.proofs.Edits.{told_with, told_without, free_inside, kept, table_with}
 
 pub same_heap : (n m : ℕ) (xs ys : List Block) → n ≡ m → xs ≡ ys

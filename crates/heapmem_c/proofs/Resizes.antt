@@ -1,17 +1,16 @@
 -- What a block becomes that is resized, where it is or elsewhere.
-use Rattle.std.proofs.Common.{◌≡◌, ◌≢◌, ℕ, zero, suc, ◌+◌, ◌-◌, ◌≤◌, ◌<◌, ◌⊎◌, inl, inr, Bool, true, false, List, [], ◌∷◌, ◌++◌, length, map, filter, not, fold, take, drop, set, slice_set, slice_range, Option, Some, None, if◌then◌else◌, refl, sym, ap, ◌∙◌, subst, arith}
+use Rattle.std.proofs.Common.{◌≡◌, ◌≢◌, ℕ, zero, suc, ◌+◌, ◌-◌, ◌≤◌, ◌<◌, ◌⊎◌, inl, inr, Bool, true, false, List, [], ◌∷◌, ◌++◌, length, map, fold, take, drop, slice_set, Option, Some, None, if◌then◌else◌, refl, sym, ap, ◌∙◌, subst, arith}
 use Rattle.std.specs.Prelude.{find, nat_lt, nat_le, ◌==◌}
 use Rattle.std.specs.Option.{option_map_or}
 use Rattle.std.proofs.Common.{length-append}
-use Rattle.std.proofs.lemmas.Bool.{cases_lt, cases_eq, lt-ltb, le-ltb, eq-eqb, ne_eqb, le-leb, lt-leb}
+use Rattle.std.proofs.lemmas.Bool.{cases_lt, lt-ltb, le-ltb, eq-eqb, ne_eqb, le-leb, lt-leb}
 use Rattle.std.proofs.lemmas.List.{append_assoc, take_at, drop_at, drop-drop, length-take-le, length-replicate}
 use Rattle.arena_core.specs.Written.{written}
-use Rattle.arena_core.proofs.Ranges.{length-written, length-range, written-same}
+use Rattle.arena_core.proofs.Ranges.{length-written}
 use Rattle.arena_core.proofs.Rows.{written_is}
 use Rattle.mote_types.specs.Bytes.{zeros, range_of, resized}
 use Rattle.heap_core.specs.declared.chunk.Gap.{Gap}
-use Rattle.heap_core.specs.declared.chunk.Place.{Place}
-use Rattle.heap_core.specs.HeapStore.{Block, HeapStore, placed, has_name, without_block, block_at, end_of, footprint, top_gap, gaps, gaps_from, gap_between, gap_at, room_taken, least_room, room_in_place, place_of}
+use Rattle.heap_core.specs.HeapStore.{HeapStore, placed, end_of, footprint, top_gap, gaps, gaps_from, gap_between, gap_at, room_taken, least_room, room_in_place, place_of}
 use Rattle.heapmem_c.specs.declared.row.Row.{Row}
 use Rattle.heapmem_c.specs.Heaps.{block_told, heap_of, LieFrom, IsTable, with_resized}
 use Rattle.heapmem_c.specs.Code.Rows.{row_of, with_row, without_row, next_place, IsFree}

@@ -1,12 +1,11 @@
 -- What the blocks take and leave.
-use Rattle.std.proofs.Common.{◌≡◌, ℕ, ◌+◌, ◌-◌, ◌≤◌, ◌<◌, inl, inr, List, [], ◌∷◌, length, map, sum_by, fold, if◌then◌else◌, refl, sym, ap, ◌∙◌, subst, arith}
+use Rattle.std.proofs.Common.{◌≡◌, ℕ, ◌+◌, ◌-◌, ◌≤◌, inl, inr, List, [], ◌∷◌, length, map, sum_by, fold, if◌then◌else◌, refl, sym, ap, ◌∙◌, subst, arith}
 use Rattle.std.proofs.lemmas.Bool.{cases_lt, lt-ltb, le-ltb}
 use Rattle.std.proofs.lemmas.List.Sums.{sum_by-cons}
 use Rattle.heap_core.specs.declared.chunk.Gap.{Gap}
-use Rattle.heap_core.specs.HeapStore.{Block, footprint, gaps, gaps_from, end_of}
+use Rattle.heap_core.specs.HeapStore.{Block, footprint, gaps_from, end_of}
 use Rattle.heapmem_c.specs.declared.row.Row.{Row}
 use Rattle.heapmem_c.specs.Heaps.{block_told, heap_of, LieFrom, IsTable}
-use Rattle.heapmem_c.proofs.Tables.{lie_le}
 
 module _ (bytes : List ℕ) where
   abbrev pub gap_total : ℕ → List Row → ℕ

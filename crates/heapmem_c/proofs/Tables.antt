@@ -1,5 +1,5 @@
 -- What rows that are a table keep, and what is free between them.
-use Rattle.std.proofs.Common.{Bool, true, false, if◌then◌else◌, ◌≡◌, ℕ, ◌+◌, ◌-◌, ◌≤◌, ◌<◌, ◌⊎◌, inl, inr, List, [], ◌∷◌, arith}
+use Rattle.std.proofs.Common.{Bool, true, false, if◌then◌else◌, ℕ, ◌+◌, ◌-◌, ◌≤◌, inl, inr, List, [], ◌∷◌, arith}
 use Rattle.std.specs.Prelude.{nat_lt}
 use Rattle.heap_core.specs.HeapStore.{least_room, room_taken}
 use Rattle.heapmem_c.specs.declared.row.Row.{Row}

@@ -3,12 +3,11 @@ use Rattle.std.proofs.Common.{◌≡◌, ℕ, ◌+◌, ◌-◌, ◌≤◌, ◌<�
 use Rattle.std.specs.Option.{option_map}
 use Rattle.std.proofs.lemmas.Bool.{lt-ltb, le-ltb}
 use Rattle.heap_core.specs.declared.chunk.Gap.{Gap}
-use Rattle.heap_core.specs.HeapStore.{Block, better, best_gap, gaps, gaps_from, end_of, footprint}
+use Rattle.heap_core.specs.HeapStore.{better, best_gap, gaps, gaps_from, end_of, footprint}
 use Rattle.heapmem_c.specs.declared.row.Row.{Row}
 use Rattle.heapmem_c.specs.declared.row.Hole.{Hole}
 use Rattle.heapmem_c.specs.Heaps.{block_told, heap_of, LieFrom, IsTable}
 use Rattle.heapmem_c.specs.Code.Rows.{gap_of, IsFree}
-use Rattle.heapmem_c.proofs.Tables.{lie_le}
 
 -- these rows are left, from this place on, and this is the best gap so far
 pub record IsMidway (rows : List Row) (capacity need : ℕ) (best : Option Hole) (from : ℕ) (left : List Row) : Type 0 where

@@ -1,6 +1,6 @@
 -- What the calls answer: numbers for outcomes, as toarmuts/calls.h has them, and when each outcome comes.
 use Rattle.std.specs.Prelude.{◌≡◌, ℕ, ◌≤◌, List, length, IsSome, IsNone, IsSomeAnd, Option, Some, None, if◌then◌else◌, ◌==◌}
-use Rattle.heap_core.specs.HeapStore.{Block, find_block, place, place_of, new_place}
+use Rattle.heap_core.specs.HeapStore.{find_block, place, place_of, new_place}
 use Rattle.heapmem_c.specs.declared.row.Row.{Row}
 use Rattle.heapmem_c.specs.declared.outcome.Outcome.{Outcome}
 use Rattle.heapmem_c.specs.Heaps.{heap_of, IsTable, front}

@@ -32,11 +32,14 @@ fn put(rows: &mut [Row], bytes: &mut [u8], spot: Spot, size: usize)
     ensures table { IsTable rows.new (length bytes.new) }
 {
     clear(bytes, spot.at, size);
-    insert(rows, Row {
-        place: spot.at,
-        room: spot.room,
-        size,
-    });
+    insert(
+        rows,
+        Row {
+            place: spot.at,
+            room: spot.room,
+            size,
+        },
+    );
 }
 
 /// Gives a block of zeros, and tells its place.
@@ -134,11 +137,14 @@ fn relocate(rows: &mut [Row], bytes: &mut [u8], number: usize, spot: Spot, n: us
 {
     carry(bytes, rows[number], spot.at, n);
     remove(rows, number);
-    insert(rows, Row {
-        place: spot.at,
-        room: spot.room,
-        size: n,
-    });
+    insert(
+        rows,
+        Row {
+            place: spot.at,
+            room: spot.room,
+            size: n,
+        },
+    );
 }
 
 /// Resizes the block that begins at a place, and tells where it is then.

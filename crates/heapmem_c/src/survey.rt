@@ -69,7 +69,14 @@ fn look_over(rows: &[Row], capacity: usize, need: u128) -> Survey
     let mut end = 0;
     for row in rows {
         if end < row.place {
-            best = better(need, best, Hole { at: end, len: row.place - end });
+            best = better(
+                need,
+                best,
+                Hole {
+                    at: end,
+                    len: row.place - end,
+                },
+            );
         }
         end = row.place + row.room;
     }

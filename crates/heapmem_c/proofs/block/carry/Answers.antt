@@ -1,7 +1,7 @@
-use Rattle.std.proofs.Common.{◌≡◌, ℕ, ◌+◌, ◌-◌, ◌≤◌, List, length, slice_range, sym, ap, ◌∙◌, arith}
+use Rattle.std.proofs.Common.{◌≡◌, ℕ, ◌+◌, ◌-◌, ◌≤◌, List, length, slice_range, ap, ◌∙◌, arith}
 use Rattle.std.proofs.lemmas.List.{length-replicate}
 use Rattle.arena_core.specs.Written.{written}
-use Rattle.arena_core.proofs.Ranges.{length-range, length-written}
+use Rattle.arena_core.proofs.Ranges.{length-range}
 use Rattle.mote_types.specs.Bytes.{zeros, resized}
 use Rattle.heap_core.proofs.Resized.{resized_copy}
 use Rattle.heapmem_c.proofs.Resizes.{written_behind}

@@ -1,9 +1,7 @@
-use Rattle.std.proofs.Common.{◌≡◌, ℕ, List, length, sym, ap, ◌∙◌, subst, arith}
-use Rattle.std.specs.Prelude.{IsNone, IsSome}
+use Rattle.std.proofs.Common.{List, length, sym, ap, ◌∙◌, subst, arith}
 use Rattle.heap_core.specs.HeapStore.{without_block}
 use Rattle.heapmem_c.specs.declared.row.Row.{Row}
 use Rattle.heapmem_c.specs.Heaps.{heap_of, IsTable}
-use Rattle.heapmem_c.specs.Code.Rows.{without_row}
 use Rattle.heapmem_c.proofs.Edits.{no_block, block_found, lie_without}
 use Rattle.heapmem_c.proofs.Puts.{gone_is}
 use Rattle.heapmem_c.proofs.block.free.Goals as goal

@@ -1,8 +1,8 @@
-use Rattle.std.proofs.Common.{◌≡◌, ℕ, List, length, sym, ap, ◌∙◌, subst, arith}
+use Rattle.std.proofs.Common.{length, arith}
 use Rattle.std.proofs.lemmas.List.{length-replicate}
 use Rattle.mote_types.specs.Bytes.{zeros}
 use Rattle.heapmem_c.specs.declared.row.Row.{Row}
-use Rattle.heapmem_c.specs.Heaps.{heap_of, IsTable, front}
+use Rattle.heapmem_c.specs.Heaps.{front}
 use Rattle.heapmem_c.proofs.Edits.{free_inside}
 use Rattle.heapmem_c.proofs.Puts.{put_is, put_table}
 use Rattle.heapmem_c.proofs.block.put.Goals as goal

@@ -1,8 +1,6 @@
-use Rattle.std.proofs.Common.{◌≡◌, ℕ, ◌+◌, ◌≤◌, List, length, refl, sym, ap, ◌∙◌, subst, arith}
-use Rattle.mote_types.specs.Bytes.{range_of, resized}
-use Rattle.heapmem_c.specs.declared.row.Row.{Row}
-use Rattle.heapmem_c.specs.Heaps.{heap_of, IsTable}
-use Rattle.heapmem_c.specs.Code.Rows.{row_of, with_row}
+use Rattle.std.proofs.Common.{length, arith}
+use Rattle.mote_types.specs.Bytes.{range_of}
+use Rattle.heapmem_c.specs.Code.Rows.{row_of}
 use Rattle.heapmem_c.proofs.Edits.{free_inside}
 use Rattle.heapmem_c.proofs.Resizes.{free_without, moved_is, moved_table, length-resized, row_holds}
 use Rattle.heapmem_c.proofs.block.relocate.Goals as goal

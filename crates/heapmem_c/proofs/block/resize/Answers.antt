@@ -1,8 +1,6 @@
-use Rattle.std.proofs.Common.{◌≡◌, ℕ, ◌+◌, ◌≤◌, List, length, slice_set, refl, sym, ap, ◌∙◌, subst, arith}
-use Rattle.arena_core.specs.Written.{written}
-use Rattle.mote_types.specs.Bytes.{range_of, resized}
+use Rattle.std.proofs.Common.{length, refl, arith}
+use Rattle.mote_types.specs.Bytes.{range_of}
 use Rattle.heapmem_c.specs.declared.row.Row.{Row}
-use Rattle.heapmem_c.specs.Heaps.{heap_of, IsTable}
 use Rattle.heapmem_c.specs.Code.Rows.{row_of}
 use Rattle.heapmem_c.proofs.Resizes.{set_is, own_free, moved_is, moved_table, length-resized, row_holds, next_inside}
 use Rattle.heapmem_c.proofs.block.resize.Goals as goal

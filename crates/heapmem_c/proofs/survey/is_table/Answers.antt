@@ -1,4 +1,4 @@
-use Rattle.std.proofs.Common.{◌≡◌, ◌+◌, ◌≤◌, drop, slice_index_or, sym, ◌∙◌, subst, arith}
+use Rattle.std.proofs.Common.{◌+◌, drop, slice_index_or, sym, ◌∙◌, subst, arith}
 use Rattle.std.proofs.lemmas.Bool.{false≢true}
 use Rattle.std.proofs.lemmas.List.{drop_more}
 use Rattle.heapmem_c.specs.declared.row.Row.{Row}
@@ -10,8 +10,7 @@ pub returns-then-not-lies_between : goal.returns-then-not-lies_between
 returns-then-not-lies_between c =
     let rows = c.args.rows.now in let i = c.loop-row.row-index in
     let d : Row = record { place = 0; room = 0; size = 0 } in
-    let row = slice_index_or rows i d in
-    (
+    let row = slice_index_or rows i d in (
       λ e. absurd (false≢true e),
       λ sound.
           let lie = subst (λ left. LieFrom c.loop-row.from left c.args.capacity) (drop_more rows i d (omega (arith, c.loop-row-test.true, c.loop-row.auto.row-index-end))) (c.loop-row.invariant.1.1 sound) in

@@ -1,8 +1,8 @@
-use Rattle.std.proofs.Common.{◌≡◌, ◌+◌, ◌≤◌, length, drop, slice_index_or, sym, ◌∙◌, subst, arith}
-use Rattle.std.proofs.lemmas.List.{drop_more, drop_all}
+use Rattle.std.proofs.Common.{◌+◌, drop, slice_index_or, subst, arith}
+use Rattle.std.proofs.lemmas.List.{drop_more}
 use Rattle.heapmem_c.specs.declared.row.Row.{Row}
 use Rattle.heapmem_c.proofs.Tables.{lie_le}
-use Rattle.heapmem_c.proofs.Sums.{IsCounted, counted_first, counted_more, free_all}
+use Rattle.heapmem_c.proofs.Sums.{IsCounted, counted_first, counted_more}
 use Rattle.heapmem_c.proofs.survey.left_over.Goals as goal
 
 pub loop-row-init : goal.loop-row-init

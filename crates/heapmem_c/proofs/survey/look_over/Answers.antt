@@ -1,9 +1,9 @@
-use Rattle.std.proofs.Common.{◌≡◌, ◌+◌, ◌≤◌, length, drop, slice_index_or, sym, ◌∙◌, subst, arith, Option}
-use Rattle.std.proofs.lemmas.List.{drop_more, drop_all}
+use Rattle.std.proofs.Common.{◌+◌, drop, slice_index_or, sym, subst, arith, Option}
+use Rattle.std.proofs.lemmas.List.{drop_more}
 use Rattle.heapmem_c.specs.declared.row.Row.{Row}
 use Rattle.heapmem_c.specs.declared.row.Hole.{Hole}
 use Rattle.heapmem_c.proofs.Tables.{lie_le}
-use Rattle.heapmem_c.proofs.Walks.{IsMidway, midway_first, midway_none, midway_gap, best_all, end_all, top_free}
+use Rattle.heapmem_c.proofs.Walks.{IsMidway, midway_first, midway_none, midway_gap}
 use Rattle.heapmem_c.proofs.survey.look_over.Goals as goal
 use Rattle.heapmem_c.proofs.survey.look_over.Goals.{then-end-row, else-end-row}
 

@@ -1,4 +1,4 @@
-use Rattle.std.proofs.Common.{◌≡◌, ℕ, ◌-◌, ◌+◌, ◌≤◌, ◌<◌, length, Some, sym, ap, ◌∙◌, subst, arith}
+use Rattle.std.proofs.Common.{ℕ, ◌-◌, Some, sym, ap, ◌∙◌, subst, arith}
 use Rattle.heap_core.specs.HeapStore.{room_taken, least_room}
 use Rattle.heapmem_c.specs.Heaps.{IsTable}
 use Rattle.heapmem_c.specs.Code.Rows.{row_of, next_place}
@@ -14,8 +14,7 @@ returns-then-least-row-clause-fits c =
     let row = row_of c.args.rows.now c.args.number in
     let taken = taken_between c.least_room-least.result row.room (omega (arith, c.if-least-row.true)) in
     let enough = least_enough c.args.n in
-    let ends = row_ends 0 c.args.rows.now c.args.capacity c.args.number c.requires.table c.requires.there in
-    (
+    let ends = row_ends 0 c.args.rows.now c.args.capacity c.args.number c.requires.table c.requires.there in (
       omega (arith, taken, enough, c.least_room-least.ensures, c.room_taken.ensures),
       omega (arith, taken, enough, c.least_room-least.ensures, c.room_taken.ensures),
       omega (arith, taken, ends, c.room_taken.ensures),
@@ -44,9 +43,9 @@ returns-else-number-rows-clause-room c bytes size =
     let rows = c.args.rows.now in let i = c.args.number in let row = row_of rows i in
     let same = ap (next_place i rows) size in
     ap (λ (n : ℕ). Some n) (
-      c.room_taken-else-number-rows.ensures
-      ∙ ap (λ k. room_taken k (c.next_place.result - row.place)) c.least_room-least.ensures
-      ∙ ap (λ k. room_taken (least_room 0 c.args.n) (k - row.place)) (c.next_place.ensures ∙ sym same)
+    c.room_taken-else-number-rows.ensures
+    ∙ ap (λ k. room_taken k (c.next_place.result - row.place)) c.least_room-least.ensures
+    ∙ ap (λ k. room_taken (least_room 0 c.args.n) (k - row.place)) (c.next_place.ensures ∙ sym same)
     )
     ∙ sym (room_next rows bytes i c.args.n (subst (IsTable rows) (sym size) c.requires.table) c.requires.there
     (omega (arith, c.requires.there, c.if-number-rows.false))
