@@ -1,5 +1,5 @@
-//! Pools of blocks for C (`memb.h` of Contiki-NG), over a flag of each block that the pool's owner keeps: `memb.h` in `include/`
-//! declares these calls and makes pointers of the numbers.
+//! Pools of blocks for C (`memb.h` of Contiki-NG), over a flag of each block that the pool's owner keeps: `toarmuts/calls.h` in
+//! `c/modules/include` declares these calls, and `lib/memb.h` there makes pointers of the numbers.
 //!
 //! A pool's blocks are numbered from 0 on, one for each flag, and a flag is true exactly where its block is used. Each contract
 //! speaks of the pool that these flags are, whatever the bytes of its blocks. No call asks anything of flags or numbers.

@@ -10,8 +10,7 @@ use Rattle.mmem_core.proofs.PlaceLemmas.{place_in-set_same, place_in-set_other, 
 use Rattle.mmem_core.proofs.StoreLemmas.{block_in, get_or-blocks, no_place, sum_same, blocks-added, unused-added}
 use Rattle.mmem_c.specs.declared.block.Block.{Block}
 use Rattle.mmem_c.specs.Stored.{place_told, places_told, stored, IsTable, process_of, handle_of, unused_store}
-use Rattle.mmem_c.specs.Answers.{is_live, answer_to}
-use Rattle.mmem_c.specs.declared.status.TheConstants.{ALLOCATED, NO_HANDLE, IN_USE, NO_BYTES, NO_ROOM}
+use Rattle.mmem_c.specs.Answers.{Answer, is_live, answer_to}
 use Rattle.mmem_c.specs.Code.Rows.{row_of}
 use Rattle.mmem_c.proofs.Rows.{table_lies, table_of, number_is, told_some, live_is, unused_is}
 
@@ -226,12 +225,12 @@ pub no_block : (table : List Block) (buffer : List ℕ) (i : ℕ) → (row_of ta
 no_block table buffer i none = block_is table buffer i ∙ ap (block_in buffer) (unused_is table i none)
 
 -- what a call for a block is answered
-choice : Bool → Bool → Bool → Bool → ℕ
+choice : Bool → Bool → Bool → Bool → Answer
 choice beyond live empty room =
-    if beyond then NO_HANDLE
-    else (if live then IN_USE
-    else (if empty then NO_BYTES
-    else (if room then ALLOCATED else NO_ROOM)))
+    if beyond then Answer.NoHandle
+    else (if live then Answer.InUse
+    else (if empty then Answer.NoBytes
+    else (if room then Answer.Allocated else Answer.NoRoom)))
 
 module _ (table : List Block) (buffer : List ℕ) (i size : ℕ) (below : i < length table) where
   abbrev store : ManagedStore
@@ -247,29 +246,29 @@ module _ (table : List Block) (buffer : List ℕ) (i size : ℕ) (below : i < le
       ∙ unused-added store i size (omega (arith, length-map (places_told table) (block_in buffer), length-map table place_told))
       (get_or-blocks buffer (places_told table) i ∙ ap (block_in buffer) (unused_is table i none))
 
-  pub answer_in_use : 0 < (row_of table i).size → IN_USE ≡ answer_to i size store
+  pub answer_in_use : 0 < (row_of table i).size → Answer.InUse ≡ answer_to i size store
   unfolding choice
   answer_in_use some = let live = live_some table buffer i some in sym (ap (λ b. choice b (is_live i store) (size == 0) (fits (process_of i) size store)) within ∙ ap (λ b. choice false b (size == 0) (fits (process_of i) size store)) live)
 
   module _ (none : (row_of table i).size ≡ 0) where
-    after_use : (answer : ℕ) → answer ≡ choice false false (size == 0) (fits (process_of i) size store) → answer ≡ answer_to i size store
+    after_use : (answer : Answer) → answer ≡ choice false false (size == 0) (fits (process_of i) size store) → answer ≡ answer_to i size store
     unfolding choice
     after_use answer e = e ∙ sym (ap (λ b. choice b (is_live i store) (size == 0) (fits (process_of i) size store)) within ∙ ap (λ b. choice false b (size == 0) (fits (process_of i) size store)) (live_none table buffer i none))
 
-    pub answer_no_bytes : size ≡ 0 → NO_BYTES ≡ answer_to i size store
+    pub answer_no_bytes : size ≡ 0 → Answer.NoBytes ≡ answer_to i size store
     unfolding choice
-    answer_no_bytes e = after_use NO_BYTES (sym (ap (λ b. choice false false b (fits (process_of i) size store)) (eq-eqb size 0 e)))
+    answer_no_bytes e = after_use Answer.NoBytes (sym (ap (λ b. choice false false b (fits (process_of i) size store)) (eq-eqb size 0 e)))
 
     module _ (some : size ≢ 0) (sound : IsTable table (length buffer)) where
       free_is : free (process_of i) store ≡ length buffer - sum_by room_of (places_told table)
       free_is = unused_left table buffer sound
 
-      pub answer_no_room : length buffer - sum_by room_of (places_told table) < up4 size → NO_ROOM ≡ answer_to i size store
+      pub answer_no_room : length buffer - sum_by room_of (places_told table) < up4 size → Answer.NoRoom ≡ answer_to i size store
       unfolding choice
-      answer_no_room less = after_use NO_ROOM
+      answer_no_room less = after_use Answer.NoRoom
           (sym (ap (λ b. choice false false b (fits (process_of i) size store)) (ne_eqb size 0 some) ∙ ap (choice false false false) (lt-leb (up4 size) (free (process_of i) store) (omega (arith, free_is)))))
 
-      pub answer_allocated : up4 size ≤ length buffer - sum_by room_of (places_told table) → ALLOCATED ≡ answer_to i size store
+      pub answer_allocated : up4 size ≤ length buffer - sum_by room_of (places_told table) → Answer.Allocated ≡ answer_to i size store
       unfolding choice
-      answer_allocated le = after_use ALLOCATED
+      answer_allocated le = after_use Answer.Allocated
           (sym (ap (λ b. choice false false b (fits (process_of i) size store)) (ne_eqb size 0 some) ∙ ap (choice false false false) (le-leb (up4 size) (free (process_of i) store) (omega (arith, free_is)))))

@@ -1,5 +1,5 @@
-//! Managed memory for C (`mmem.h` of Contiki), over a table and a buffer that its owner keeps: `mmem.h` in `include/` declares
-//! these calls and makes pointers of the places.
+//! Managed memory for C (`mmem.h` of Contiki), over a table and a buffer that its owner keeps: `toarmuts/calls.h` in
+//! `c/modules/include` declares these calls, and `toarmuts/managed.h` and `lib/mmem.h` there make pointers of the places.
 //!
 //! A table has a row for each handle: where its block lies in the buffer, and how many bytes it has. Each contract speaks of the
 //! store of these handles, by mmem_core's definitions. No call asks anything of rows, numbers or lengths: where the blocks of a
@@ -17,7 +17,7 @@ ghost use Rattle.mote_types.specs.Rounding.{up4};
 ghost use Rattle.mmem_core.specs.ManagedStore.{unused, block_of, length_of, allocated, freed};
 ghost use Rattle.mmem_core.specs.Places.{place_in, last_end};
 ghost use Rattle.mmem_c.specs.Stored.{places_told, stored, IsTable, process_of, handle_of, unused_store};
-ghost use Rattle.mmem_c.specs.Answers.{is_live, answer_to};
+ghost use Rattle.mmem_c.specs.Answers.{Answer, number_of_answer, is_live, answer_to};
 
 use crate::block::fits;
 use crate::slide::{make_room, put_last};
@@ -46,17 +46,17 @@ pub extern "C" fn toarmuts_mmem_alloc(
     handle: usize,
     size: usize,
 ) -> u8
-    ensures table { result ≢ NO_TABLE → IsTable blocks.old (length buffer.old) }
-    ensures no_table { IsTable blocks.old (length buffer.old) → result ≢ NO_TABLE }
-    ensures answer { result ≢ NO_TABLE → result ≡ answer_to handle size (stored blocks.old buffer.old) }
-    ensures block { result ≡ ALLOCATED → stored blocks.new buffer.new ≡ allocated (process_of handle) (handle_of handle) size (stored blocks.old buffer.old) }
-    ensures sound { result ≡ ALLOCATED → IsTable blocks.new (length buffer.new) }
-    ensures still { result ≡ ALLOCATED → last_end (places_told blocks.old) + up4 size ≤ length buffer.old →
+    ensures table { result ≢ number_of_answer Answer.NoTable → IsTable blocks.old (length buffer.old) }
+    ensures no_table { IsTable blocks.old (length buffer.old) → result ≢ number_of_answer Answer.NoTable }
+    ensures answer { result ≢ number_of_answer Answer.NoTable → result ≡ number_of_answer (answer_to handle size (stored blocks.old buffer.old)) }
+    ensures block { result ≡ number_of_answer Answer.Allocated → stored blocks.new buffer.new ≡ allocated (process_of handle) (handle_of handle) size (stored blocks.old buffer.old) }
+    ensures sound { result ≡ number_of_answer Answer.Allocated → IsTable blocks.new (length buffer.new) }
+    ensures still { result ≡ number_of_answer Answer.Allocated → last_end (places_told blocks.old) + up4 size ≤ length buffer.old →
         blocks.new ≡ slice_set blocks.old handle (record { place = last_end (places_told blocks.old); size = size }) }
-    ensures together { result ≡ ALLOCATED → length buffer.old < last_end (places_told blocks.old) + up4 size →
+    ensures together { result ≡ number_of_answer Answer.Allocated → length buffer.old < last_end (places_told blocks.old) + up4 size →
         last_end (places_told blocks.new) + unused (stored blocks.new buffer.new) ≤ length buffer.new }
-    ensures behind { result ≡ ALLOCATED → IsSomeAnd (place_in (places_told blocks.new) handle) (λ place. last_end (places_told blocks.new) ≡ place.at + up4 size) }
-    ensures unchanged { result ≢ ALLOCATED → (blocks.new ≡ blocks.old) × (buffer.new ≡ buffer.old) }
+    ensures behind { result ≡ number_of_answer Answer.Allocated → IsSomeAnd (place_in (places_told blocks.new) handle) (λ place. last_end (places_told blocks.new) ≡ place.at + up4 size) }
+    ensures unchanged { result ≢ number_of_answer Answer.Allocated → (blocks.new ≡ blocks.old) × (buffer.new ≡ buffer.old) }
 {
     if !lie_apart(blocks, buffer.len()) {
         return NO_TABLE;

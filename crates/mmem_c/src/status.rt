@@ -1,4 +1,4 @@
-//! How a call for a block went. `mmem.h` has the same numbers.
+//! How a call for a block went. `toarmuts/managed.h` has the same numbers.
 
 /// The handle has a block.
 pub const ALLOCATED: u8 = 0;

@@ -1,25 +1,26 @@
 use Rattle.std.proofs.Common.{ap, ◌∙◌, arith}
 use Rattle.mote_types.specs.Rounding.{up4}
 use Rattle.mmem_core.specs.ManagedStore.{unused, allocated}
+use Rattle.mmem_c.specs.Answers.{number_of_answer}
 use Rattle.mmem_c.specs.Stored.{process_of, handle_of}
 use Rattle.mmem_c.proofs.Stores.{unused_left, unused_after, none_told, too_many, still_unused, answer_in_use, answer_no_bytes, answer_no_room, answer_allocated}
 use Rattle.mmem_c.proofs.toarmuts_mmem_alloc.Goals as goal
 
 pub returns-then-has_block-clause-answer : goal.returns-then-has_block-clause-answer
 returns-then-has_block-clause-answer c sound =
-    answer_in_use c.args.blocks.now c.args.buffer.now c.args.handle c.args.size c.if-handle-blocks.false (c.has_block.ensures.0 c.if-has_block.true)
+    ap number_of_answer (answer_in_use c.args.blocks.now c.args.buffer.now c.args.handle c.args.size c.if-handle-blocks.false (c.has_block.ensures.0 c.if-has_block.true))
 
 pub returns-then-size-eq0-clause-answer : goal.returns-then-size-eq0-clause-answer
 returns-then-size-eq0-clause-answer c sound =
     let table = c.args.blocks.now in let i = c.args.handle in
-    answer_no_bytes table c.args.buffer.now i c.args.size c.if-handle-blocks.false (none_told table i c.has_block.result c.if-has_block.false c.has_block.ensures) c.if-size-eq0.true
+    ap number_of_answer (answer_no_bytes table c.args.buffer.now i c.args.size c.if-handle-blocks.false (none_told table i c.has_block.result c.if-has_block.false c.has_block.ensures) c.if-size-eq0.true)
 
 pub returns-then-not-fits-clause-answer : goal.returns-then-not-fits-clause-answer
 returns-then-not-fits-clause-answer c sound =
     let table = c.args.blocks.now in let i = c.args.handle in
     let apart = c.lie_apart.ensures.0 c.if-not-lie_apart.false in
-    answer_no_room table c.args.buffer.now i c.args.size c.if-handle-blocks.false (none_told table i c.has_block.result c.if-has_block.false c.has_block.ensures) c.if-size-eq0.false apart
-    (omega (arith, too_many (up4 c.args.size) c.left_over.result c.fits.result c.if-not-fits.true c.fits.ensures, c.left_over.ensures))
+    ap number_of_answer (answer_no_room table c.args.buffer.now i c.args.size c.if-handle-blocks.false (none_told table i c.has_block.result c.if-has_block.false c.has_block.ensures) c.if-size-eq0.false apart
+    (omega (arith, too_many (up4 c.args.size) c.left_over.result c.fits.result c.if-not-fits.true c.fits.ensures, c.left_over.ensures)))
 
 pub put_last-requires-clause-unused : goal.put_last-requires-clause-unused
 put_last-requires-clause-unused c =
@@ -31,8 +32,8 @@ pub returns-clause-answer : goal.returns-clause-answer
 returns-clause-answer c sound =
     let table = c.args.blocks.now in let i = c.args.handle in
     let apart = c.lie_apart.ensures.0 c.if-not-lie_apart.false in
-    answer_allocated table c.args.buffer.now i c.args.size c.if-handle-blocks.false (none_told table i c.has_block.result c.if-has_block.false c.has_block.ensures) c.if-size-eq0.false apart
-    (omega (arith, c.fits.ensures.0 c.if-not-fits.false, c.left_over.ensures))
+    ap number_of_answer (answer_allocated table c.args.buffer.now i c.args.size c.if-handle-blocks.false (none_told table i c.has_block.result c.if-has_block.false c.has_block.ensures) c.if-size-eq0.false apart
+    (omega (arith, c.fits.ensures.0 c.if-not-fits.false, c.left_over.ensures)))
 
 pub returns-clause-together : goal.returns-clause-together
 returns-clause-together c done over =

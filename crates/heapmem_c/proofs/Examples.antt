@@ -1,0 +1,99 @@
+-- Rows and what they stand for, rows that are no table, places, and outcomes.
+use Rattle.std.proofs.Common.{◌≡◌, ℕ, [], ◌∷◌, refl, arith}
+use Rattle.std.specs.Prelude.{Some, None}
+use Rattle.mote_types.specs.Bytes.{zeros}
+use Rattle.heap_core.specs.HeapStore.{HeapStore, place, new_place}
+use Rattle.heapmem_c.specs.declared.row.Row.{Row}
+use Rattle.heapmem_c.specs.declared.outcome.Outcome.{Outcome}
+use Rattle.heapmem_c.specs.Heaps.{heap_of, IsTable, front, with_new, with_resized}
+use Rattle.heapmem_c.specs.Answers.{outcome_numbered, AllocTold, FreeTold}
+
+abbrev row : ℕ → ℕ → ℕ → Row
+row place room size = record { place = place; room = room; size = size }
+
+-- of 10 bytes the first two and those from 4 to 6
+abbrev small : HeapStore
+small = heap_of (row 0 2 1 ∷ row 4 3 3 ∷ []) (1 ∷ 2 ∷ 3 ∷ 4 ∷ 5 ∷ 6 ∷ 7 ∷ 8 ∷ 9 ∷ 10 ∷ [])
+
+is_heap : small
+    ≡ record {
+      size = 10;
+      header = 0;
+      blocks = record { name = 0; at = 0; room = 2; bytes = 1 ∷ [] } ∷ record { name = 4; at = 4; room = 3; bytes = 5 ∷ 6 ∷ 7 ∷ [] } ∷ [];
+    }
+is_heap = refl
+
+is_table : IsTable (row 0 2 1 ∷ row 4 3 3 ∷ []) 10
+is_table = (omega arith, omega arith, omega arith, (omega arith, omega arith, omega arith, omega arith))
+
+no_blocks : IsTable [] 0
+no_blocks = omega arith
+
+sharing_a_byte : IsTable (row 0 5 1 ∷ row 4 3 3 ∷ []) 10 → ⊥
+sharing_a_byte lie = omega (arith, lie.3.0)
+
+higher_one_first : IsTable (row 4 3 3 ∷ row 0 2 1 ∷ []) 10 → ⊥
+higher_one_first lie = omega (arith, lie.3.0)
+
+past_the_end : IsTable (row 0 2 1 ∷ row 4 3 3 ∷ []) 6 → ⊥
+past_the_end lie = omega (arith, lie.3.3)
+
+more_bytes_than_room : IsTable (row 0 2 3 ∷ []) 10 → ⊥
+more_bytes_than_room lie = omega (arith, lie.2)
+
+no_room_at_all : IsTable (row 0 0 0 ∷ []) 10 → ⊥
+no_room_at_all lie = omega (arith, lie.1)
+
+all_but_the_last : front (row 0 2 1 ∷ row 4 3 3 ∷ []) ≡ row 0 2 1 ∷ []
+all_but_the_last = refl
+
+-- 160 bytes: gaps of 48 and 32 bytes, and 16 above the last block
+abbrev heap : HeapStore
+heap = heap_of (row 48 16 16 ∷ row 96 48 48 ∷ []) (zeros 160)
+
+shortest_that_is_long_enough : place 20 heap ≡ Some (record { at = 64; room = 32 })
+shortest_that_is_long_enough = refl
+
+-- 48 less 36 is a rest that goes along
+with_its_rest : place 33 heap ≡ Some (record { at = 0; room = 48 })
+with_its_rest = refl
+
+-- 32 less 12 stays a gap
+without_its_rest : place 10 heap ≡ Some (record { at = 64; room = 12 })
+without_its_rest = refl
+
+nowhere : place 49 heap ≡ None
+nowhere = refl
+
+grown_into_the_top : new_place (record { at = 96; room = 48 }) 60 heap ≡ Some (record { at = 96; room = 60 })
+grown_into_the_top = refl
+
+grown_into_a_gap : new_place (record { at = 48; room = 16 }) 20 heap ≡ Some (record { at = 48; room = 20 })
+grown_into_a_gap = refl
+
+moved_nowhere : new_place (record { at = 48; room = 16 }) 49 heap ≡ None
+moved_nowhere = refl
+
+new_block : with_new (record { at = 0; room = 4 }) 2 (heap_of (row 8 2 2 ∷ []) (1 ∷ 1 ∷ 1 ∷ 1 ∷ 1 ∷ 1 ∷ 1 ∷ 1 ∷ 1 ∷ 1 ∷ [])) ≡ heap_of (row 0 4 2 ∷ row 8 2 2 ∷ []) (0 ∷ 0 ∷ 1 ∷ 1 ∷ 1 ∷ 1 ∷ 1 ∷ 1 ∷ 1 ∷ 1 ∷ [])
+new_block = refl
+
+-- a block of one byte that is moved to 4 and has three then
+resized_block : with_resized (record { at = 4; room = 4 }) 3 (record { name = 0; at = 0; room = 2; bytes = 7 ∷ [] }) (heap_of (row 0 2 1 ∷ []) (7 ∷ 8 ∷ 9 ∷ 9 ∷ 9 ∷ 9 ∷ 9 ∷ 9 ∷ []))
+    ≡ heap_of (row 4 4 3 ∷ []) (7 ∷ 8 ∷ 9 ∷ 9 ∷ 7 ∷ 0 ∷ 0 ∷ 9 ∷ [])
+resized_block = refl
+
+numbers : outcome_numbered 3 ≡ Some Outcome.NoRoom
+numbers = refl
+
+no_such_number : outcome_numbered 5 ≡ None
+no_such_number = refl
+
+-- of several reasons one alone is told
+no_row_is_told_first : AllocTold Outcome.NoTable 1 [] (zeros 4) → ⊥
+no_row_is_told_first told = omega (arith, told.0)
+
+refused_where_there_is_room : AllocTold Outcome.NoRoom 4 (row 0 0 0 ∷ []) (zeros 16) → ⊥
+refused_where_there_is_room told = absurd (let none = told.2 in cc)
+
+freed_where_no_block_begins : FreeTold Outcome.Done 1 (row 0 2 1 ∷ []) (zeros 4) → ⊥
+freed_where_no_block_begins told = absurd (let some = told.1 in cc)

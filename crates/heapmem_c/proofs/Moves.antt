@@ -1,0 +1,28 @@
+-- Where a resized block is, by what the code found.
+use Rattle.std.proofs.Common.{◌≡◌, ℕ, ◌<◌, List, length, Option, Some, None, sym, ap, ◌∙◌, subst, IsSomeAnd}
+use Rattle.std.specs.Option.{option_map, option_or}
+use Rattle.heap_core.specs.declared.chunk.Place.{Place}
+use Rattle.heap_core.specs.HeapStore.{Block, HeapStore, find_block, place, place_of, new_place, room_in_place}
+use Rattle.heapmem_c.specs.declared.row.Row.{Row}
+use Rattle.heapmem_c.specs.Heaps.{block_told, heap_of, IsTable}
+use Rattle.heapmem_c.specs.Code.Rows.{row_of}
+use Rattle.heapmem_c.proofs.Edits.{block_found}
+
+pub some_and : {X : Type 0} (o : Option X) (x : X) (P : X → Type 0) → o ≡ Some x → P x → IsSomeAnd o P
+some_and o x P e p = subst (λ q. IsSomeAnd q P) (sym e) p
+
+-- the block that begins there
+pub found_at : (rows : List Row) (bytes : List ℕ) (i at : ℕ) → IsTable rows (length bytes) → i < length rows → (row_of rows i).place ≡ at
+    → find_block at (heap_of rows bytes) ≡ Some (block_told bytes (row_of rows i))
+found_at rows bytes i at lie below there =
+    ap (λ a. find_block a (heap_of rows bytes)) (sym there) ∙ block_found bytes 0 rows (length bytes) i lie below
+
+module _ (block : Block) (n : ℕ) (heap : HeapStore) where
+  abbrev at_room : ℕ → Place
+  at_room room = record { at = block.at; room = room }
+
+  pub new_in_place : (room : ℕ) → Some room ≡ room_in_place (place_of block) n heap → new_place (place_of block) n heap ≡ Some (at_room room)
+  new_in_place room e = ap (λ (o : Option ℕ). option_or (option_map at_room o) (place n heap)) (sym e)
+
+  pub new_elsewhere : (found : Option Place) → None ≡ room_in_place (place_of block) n heap → found ≡ place n heap → new_place (place_of block) n heap ≡ found
+  new_elsewhere found e f = ap (λ (o : Option ℕ). option_or (option_map at_room o) (place n heap)) (sym e) ∙ sym f

@@ -1,0 +1,28 @@
+-- What rows that are a table keep, and what is free between them.
+use Rattle.std.proofs.Common.{Bool, true, false, if◌then◌else◌, ℕ, ◌+◌, ◌-◌, ◌≤◌, inl, inr, List, [], ◌∷◌, arith}
+use Rattle.std.specs.Prelude.{nat_lt}
+use Rattle.heap_core.specs.HeapStore.{least_room, room_taken}
+use Rattle.heapmem_c.specs.declared.row.Row.{Row}
+use Rattle.heapmem_c.specs.Heaps.{LieFrom}
+use Rattle.heapmem_c.specs.Code.Rows.{IsFree}
+
+pub lie_le : (from : ℕ) (rows : List Row) (capacity : ℕ) → LieFrom from rows capacity → from ≤ capacity
+lie_le from [] capacity lie = lie
+lie_le from (row ∷ rows) capacity lie = omega (arith, lie.0, lie_le (row.place + row.room) rows capacity lie.3)
+
+-- fewer bytes from the same place on are free too
+pub free_shorter : (from : ℕ) (rows : List Row) (capacity at len fewer : ℕ) → fewer ≤ len → IsFree from rows capacity at len → IsFree from rows capacity at fewer
+free_shorter from [] capacity at len fewer le free = (free.0, omega (arith, free.1, le))
+free_shorter from (row ∷ rows) capacity at len fewer le (inl here) = inl (here.0, omega (arith, here.1, le))
+free_shorter from (row ∷ rows) capacity at len fewer le (inr later) = inr (free_shorter (row.place + row.room) rows capacity at len fewer le later)
+
+-- what a block takes of a gap is enough, and no more than the gap
+one_of : (b : Bool) (least most : ℕ) → least ≤ most → (least ≤ (if b then least else most)) × ((if b then least else most) ≤ most)
+one_of true least most le = (omega arith, le)
+one_of false least most le = (le, omega arith)
+
+pub taken_between : (least most : ℕ) → least ≤ most → (least ≤ room_taken least most) × (room_taken least most ≤ most)
+taken_between least most le = one_of (nat_lt 16 (most - least)) least most le
+
+pub least_enough : (n : ℕ) → (n ≤ least_room 0 n) × (8 ≤ least_room 0 n)
+least_enough n = (omega arith, omega arith)

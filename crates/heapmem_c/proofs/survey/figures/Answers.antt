@@ -1,0 +1,6 @@
+use Rattle.heapmem_c.proofs.Sums.{taken_is}
+use Rattle.heapmem_c.proofs.survey.figures.Goals as goal
+
+pub returns-clause-allocated : goal.returns-clause-allocated
+returns-clause-allocated c bytes size =
+    taken_is c.args.rows.now bytes c.args.capacity c.left_over-available.result c.requires size (c.left_over-available.ensures.gaps bytes size)

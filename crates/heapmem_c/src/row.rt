@@ -1,0 +1,66 @@
+//! The rows of a heap, and numbers of bytes.
+
+ghost use Rattle.std.specs.Prelude.{◌≡◌, ◌+◌, ◌^◌, ◌≤◌, ◌<◌};
+ghost use Rattle.heap_core.specs.HeapStore.{least_room, room_taken};
+
+/// A row of the table: one block.
+#[repr(C)]
+#[derive(Clone, Copy, Drop)]
+pub struct Row {
+    /// Where the block begins: so many bytes from the heap's start.
+    pub place: usize,
+    /// How many bytes are kept for it.
+    pub room: usize,
+    /// How many bytes it has.
+    pub size: usize,
+}
+
+/// The figures of a heap.
+#[repr(C)]
+#[derive(Clone, Copy, Drop)]
+pub struct Stats {
+    /// How many bytes are kept for the blocks.
+    pub allocated: usize,
+    /// How many bytes lie between them and behind the last one.
+    pub available: usize,
+    /// Where the last block ends; 0 where there is none.
+    pub footprint: usize,
+    /// How many blocks there are.
+    pub chunks: usize,
+}
+
+/// Bytes between blocks.
+#[derive(Clone, Copy, Drop)]
+pub struct Hole {
+    pub at: usize,
+    pub len: usize,
+}
+
+/// Where a block goes, and how many bytes are kept for it.
+#[derive(Clone, Copy, Drop)]
+pub struct Spot {
+    pub at: usize,
+    pub room: usize,
+}
+
+/// The longest rest of a gap that a block takes along.
+const LONGEST_REST: usize = 16;
+
+/// The room that a block of `n` bytes needs.
+pub fn least_room(n: usize) -> u128
+    ensures { result ≡ least_room 0 n }
+{
+    ((n as u128 + 3) / 4 * 4).max(8)
+}
+
+/// The room that a block takes of that much: what is left over stays a gap only where it is longer than the longest rest.
+pub fn room_taken(least: usize, available: usize) -> usize
+    requires { least ≤ available }
+    ensures { result ≡ room_taken least available }
+{
+    if available - least > LONGEST_REST {
+        least
+    } else {
+        available
+    }
+}

@@ -1,0 +1,173 @@
+//! What rows leave free: whether they are a table, which gap a block takes, and where the last one ends.
+
+ghost use Rattle.std.specs.Prelude.{◌≡◌, ℕ, List, ◌+◌, ◌≤◌, ◌<◌, ◌↔◌, ◌⊎◌, IsTrue, length, sum_by, IfSome, Some};
+ghost use Rattle.std.specs.Option.{option_map};
+ghost use Rattle.heap_core.specs.HeapStore.{best_gap, better, gaps, footprint, place, place_of, room_in_place, stats_of, top_gap};
+ghost use Rattle.heapmem_c.specs.Heaps.{block_told, heap_of, IsTable};
+ghost use Rattle.heapmem_c.specs.Code.Rows.{gap_of, place_told, row_of, next_place, IsFree};
+
+use crate::row::{Hole, Row, Spot, Stats, least_room, room_taken};
+
+/// Whether a row tells of a block that lies between two places, and has room for its size.
+fn lies_between(row: Row, from: usize, capacity: usize) -> bool
+    ensures { IsTrue result ↔ ((from ≤ row.place) × (1 ≤ row.room) × (row.size ≤ row.room) × (row.place + row.room ≤ capacity)) }
+{
+    from <= row.place
+        && row.room != 0
+        && row.size <= row.room
+        && row.place <= capacity
+        && row.room <= capacity - row.place
+}
+
+/// Whether the rows tell of blocks that lie in so many bytes, apart from each other and in their order.
+pub fn is_table(rows: &[Row], capacity: usize) -> bool
+    ensures { IsTrue result ↔ IsTable rows.now capacity }
+{
+    let mut from = 0;
+    for row in rows {
+        if !lies_between(*row, from, capacity) {
+            return false;
+        }
+        from = row.place + row.room;
+    }
+    true
+}
+
+/// The better one for so many bytes of a gap found before, if there is one, and this one.
+fn better(need: u128, best: Option<Hole>, hole: Hole) -> Option<Hole>
+    ensures better { option_map gap_of result ≡ better need (option_map gap_of best) (gap_of hole) }
+    ensures chosen { (result ≡ best) ⊎ ((result ≡ Some hole) × (need ≤ hole.len)) }
+{
+    if need > hole.len as u128 {
+        return best;
+    }
+    match best {
+        Some(other) if other.len <= hole.len => Some(other),
+        _ => Some(hole),
+    }
+}
+
+/// What a walk over the rows finds.
+#[derive(Clone, Copy, Drop)]
+pub struct Survey {
+    /// The shortest gap below the last block that is long enough, the lowest on a tie.
+    pub best: Option<Hole>,
+    /// Where the last block ends.
+    pub end: usize,
+}
+
+/// The best gap for so many bytes, and where the last block ends.
+fn look_over(rows: &[Row], capacity: usize, need: u128) -> Survey
+    requires { IsTable rows.now capacity }
+    ensures best { (bytes : List ℕ) → option_map gap_of result.best ≡ best_gap need (gaps (heap_of rows.now bytes)) }
+    ensures end { (bytes : List ℕ) → result.end ≡ footprint (heap_of rows.now bytes) }
+    ensures inside { result.end ≤ capacity }
+    ensures free { IfSome result.best (λ hole. (need ≤ hole.len) × IsFree 0 rows.now capacity hole.at hole.len) }
+    ensures top { (len : ℕ) → result.end + len ≤ capacity → IsFree 0 rows.now capacity result.end len }
+{
+    let mut best = None;
+    let mut end = 0;
+    for row in rows {
+        if end < row.place {
+            best = better(
+                need,
+                best,
+                Hole {
+                    at: end,
+                    len: row.place - end,
+                },
+            );
+        }
+        end = row.place + row.room;
+    }
+    Survey { best, end }
+}
+
+/// Where a block of `n` bytes goes.
+pub fn find_place(rows: &[Row], capacity: usize, n: usize) -> Option<Spot>
+    requires { IsTable rows.now capacity }
+    ensures place { (bytes : List ℕ) → length bytes ≡ capacity → option_map place_told result ≡ place n (heap_of rows.now bytes) }
+    ensures free { IfSome result (λ spot. (1 ≤ spot.room) × (n ≤ spot.room) × IsFree 0 rows.now capacity spot.at spot.room) }
+{
+    let room = least_room(n);
+    let survey = look_over(rows, capacity, room);
+    match survey.best {
+        Some(hole) => Some(Spot {
+            at: hole.at,
+            room: room_taken(room as usize, hole.len),
+        }),
+        None if room <= (capacity - survey.end) as u128 => Some(Spot {
+            at: survey.end,
+            room: room as usize,
+        }),
+        None => None,
+    }
+}
+
+/// Where the block behind that of this number begins; the end of so many bytes, where it is the last one.
+fn next_place(rows: &[Row], number: usize, capacity: usize) -> usize
+    requires { number < length rows.now }
+    ensures { result ≡ next_place number rows.now capacity }
+{
+    if number + 1 < rows.len() {
+        rows[number + 1].place
+    } else {
+        capacity
+    }
+}
+
+/// The room that the block of this number has once it is resized to `n` bytes where it is. `None` where it can't be.
+pub fn room_in_place(rows: &[Row], capacity: usize, number: usize, n: usize) -> Option<usize>
+    requires table { IsTable rows.now capacity }
+    requires there { number < length rows.now }
+    ensures room { (bytes : List ℕ) → length bytes ≡ capacity →
+        result ≡ room_in_place (place_of (block_told bytes (row_of rows.now number))) n (heap_of rows.now bytes) }
+    ensures fits { IfSome result (λ room. (1 ≤ room) × (n ≤ room) × ((row_of rows.now number).place + room ≤ next_place number rows.now capacity)) }
+{
+    let row = rows[number];
+    let least = least_room(n);
+    let most = next_place(rows, number, capacity) - row.place;
+    if least <= row.room as u128 {
+        return Some(room_taken(least as usize, row.room));
+    }
+    if least > most as u128 {
+        return None;
+    }
+    if number + 1 == rows.len() {
+        Some(least as usize)
+    } else {
+        Some(room_taken(least as usize, most))
+    }
+}
+
+/// How many bytes lie between the blocks, and behind the last one.
+fn left_over(rows: &[Row], capacity: usize) -> usize
+    requires { IsTable rows.now capacity }
+    ensures gaps { (bytes : List ℕ) → length bytes ≡ capacity → result ≡ (stats_of (heap_of rows.now bytes)).available }
+    ensures inside { result ≤ capacity }
+{
+    let mut free = 0;
+    let mut end = 0;
+    for row in rows {
+        free += row.place - end;
+        end = row.place + row.room;
+    }
+    free + (capacity - end)
+}
+
+/// The figures of a heap.
+pub fn figures(rows: &[Row], capacity: usize) -> Stats
+    requires { IsTable rows.now capacity }
+    ensures allocated { (bytes : List ℕ) → length bytes ≡ capacity → result.allocated ≡ (stats_of (heap_of rows.now bytes)).allocated }
+    ensures available { (bytes : List ℕ) → length bytes ≡ capacity → result.available ≡ (stats_of (heap_of rows.now bytes)).available }
+    ensures footprint { (bytes : List ℕ) → result.footprint ≡ (stats_of (heap_of rows.now bytes)).footprint }
+    ensures chunks { (bytes : List ℕ) → result.chunks ≡ (stats_of (heap_of rows.now bytes)).chunks }
+{
+    let available = left_over(rows, capacity);
+    Stats {
+        allocated: capacity - available,
+        available,
+        footprint: look_over(rows, capacity, 0).end,
+        chunks: rows.len(),
+    }
+}
