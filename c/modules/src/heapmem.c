@@ -70,20 +70,13 @@ size_at(size_t place)
   return 0;
 }
 
-/* The figures; false where the rows are none. */
-static bool
-told(struct toarmuts_heap_stats *stats)
-{
-  return toarmuts_heapmem_stats(toarmuts_heap_memory.rows, used, toarmuts_heap_memory.bytes, toarmuts_heap_memory.size, stats) ==
-         TOARMUTS_HEAP_DONE;
-}
-
+/* After a call that made or resized a block: the rows are in the order of their places, so the last one has the footprint. */
 static void
 note_footprint(void)
 {
-  struct toarmuts_heap_stats stats;
-  if(told(&stats) && stats.footprint > max_footprint) {
-    max_footprint = stats.footprint;
+  const struct toarmuts_heap_row *last = &toarmuts_heap_memory.rows[used - 1];
+  if(last->place + last->room > max_footprint) {
+    max_footprint = last->place + last->room;
   }
 }
 
@@ -191,7 +184,8 @@ heapmem_stats(heapmem_stats_t *stats)
     return;
   }
   memset(stats, 0, sizeof *stats);
-  if(told(&figures)) {
+  if(toarmuts_heapmem_stats(toarmuts_heap_memory.rows, used, toarmuts_heap_memory.bytes, toarmuts_heap_memory.size, &figures) ==
+     TOARMUTS_HEAP_DONE) {
     stats->allocated = figures.allocated;
     stats->available = figures.available;
     stats->footprint = figures.footprint;

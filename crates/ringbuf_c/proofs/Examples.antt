@@ -1,5 +1,5 @@
 -- Rings and the queues that they stand for, and rings that are none.
-use Rattle.std.proofs.Common.{◌≡◌, ℕ, ◌<◌, List, [], ◌∷◌, length, replicate, refl, arith}
+use Rattle.std.proofs.Common.{◌≡◌, ℕ, List, [], ◌∷◌, replicate, refl, arith}
 use Rattle.ringbuf_c.specs.Queues.{IsRing, queued, room}
 
 abbrev four : List ℕ
