@@ -1,0 +1,10 @@
+/* Contiki-NG's collective header for networking: here NullNet alone. */
+#ifndef CONTIKI_NET_H
+#define CONTIKI_NET_H
+
+#include "contiki.h"
+#include "net/linkaddr.h"
+#include "net/netstack.h"
+#include "net/nullnet/nullnet.h"
+
+#endif

@@ -1,0 +1,35 @@
+/*
+ * Heap memory: blocks of any size. The mote says whether there is room, in one heap for all processes; a process has 16 blocks
+ * at once. Their bytes are the program's.
+ */
+#ifndef HEAPMEM_H_
+#define HEAPMEM_H_
+
+#include <stdbool.h>
+#include <stddef.h>
+
+typedef struct heapmem_stats {
+  size_t allocated;
+  size_t overhead;
+  size_t available;
+  size_t footprint;
+  size_t chunks;
+} heapmem_stats_t;
+
+/* A block of so many bytes, all 0; NULL where there is no room, or none were asked for. */
+void *heapmem_alloc(size_t size);
+
+/* The same for num items of this size. */
+void *heapmem_calloc(size_t num, size_t size);
+
+/* Gives a block another size: its first bytes stay. NULL where there is no room: then it is as it was. Without a block it takes one,
+ * and with size 0 it frees. */
+void *heapmem_realloc(void *ptr, size_t size);
+
+/* Gives a block back; false where there is none at that place. */
+bool heapmem_free(void *ptr);
+
+/* Tells of the whole heap. */
+void heapmem_stats(heapmem_stats_t *stats);
+
+#endif

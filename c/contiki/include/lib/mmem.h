@@ -1,0 +1,25 @@
+/*
+ * Managed memory of the original Contiki: blocks that slide together, so that no room is lost to holes. The mote says whether
+ * there is room; a process has 16 blocks at once. Their bytes are the program's.
+ */
+#ifndef MMEM_H_
+#define MMEM_H_
+
+struct mmem {
+  struct mmem *next;
+  unsigned int size;
+  void *ptr;
+};
+
+/* Where a block's bytes are, until a block is freed that was taken before it. */
+#define MMEM_PTR(m) ((m)->ptr)
+
+/* Takes a block of so many bytes, all 0: not 0; 0 where there is no room. */
+int mmem_alloc(struct mmem *m, unsigned int size);
+
+void mmem_free(struct mmem *m);
+
+/* There is nothing to be done: memory is ready from the start. */
+void mmem_init(void);
+
+#endif

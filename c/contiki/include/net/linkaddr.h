@@ -1,0 +1,26 @@
+/* Link-layer addresses. The mote's frames carry none: they are the program's own affair. */
+#ifndef LINKADDR_H_
+#define LINKADDR_H_
+
+#include <stdbool.h>
+#include <stdint.h>
+
+#define LINKADDR_SIZE 8
+
+typedef union {
+  unsigned char u8[LINKADDR_SIZE];
+  uint16_t u16;
+} linkaddr_t;
+
+/* The mote's own, 0001.0001.0001.0001, and the one that all are meant by. */
+extern linkaddr_t linkaddr_node_addr;
+extern const linkaddr_t linkaddr_null;
+
+void linkaddr_copy(linkaddr_t *dest, const linkaddr_t *from);
+
+/* Whether both are the same. */
+bool linkaddr_cmp(const linkaddr_t *addr1, const linkaddr_t *addr2);
+
+void linkaddr_set_node_addr(linkaddr_t *addr);
+
+#endif

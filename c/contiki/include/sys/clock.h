@@ -1,0 +1,26 @@
+/* The clock, which goes on with the script's ticks alone: within an activation it stands still. */
+#ifndef CLOCK_H_
+#define CLOCK_H_
+
+#include "contiki-conf.h"
+#include "sys/cc.h"
+
+#define CLOCK_SECOND ((clock_time_t)CLOCK_CONF_SECOND)
+
+/* Whether a is before b. */
+#define CLOCK_LT(a, b) ((long)((clock_time_t)(a) - (clock_time_t)(b)) < 0)
+
+/* Ticks since the mote was booted. */
+clock_time_t clock_time(void);
+
+/* Whole seconds since then. */
+unsigned long clock_seconds(void);
+
+CC_REFUSED("the clock runs already: leave this call out") void clock_init(void);
+CC_REFUSED("the mote's clock is the script's") void clock_set_seconds(unsigned long seconds);
+CC_REFUSED("the clock stands still within an activation, so nothing can be waited for there: use an etimer")
+void clock_wait(clock_time_t t);
+CC_REFUSED("the mote has no clock of microseconds: use an etimer") void clock_delay_usec(uint16_t dt);
+CC_REFUSED("the mote has no clock of microseconds: use an etimer") void clock_delay(unsigned int delay);
+
+#endif

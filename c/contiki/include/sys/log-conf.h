@@ -1,0 +1,53 @@
+/* The levels of log.h, which a program's project-conf.h may set otherwise. */
+#ifndef LOG_CONF_H_
+#define LOG_CONF_H_
+
+#include "contiki-conf.h"
+
+#define LOG_LEVEL_NONE 0
+#define LOG_LEVEL_ERR 1
+#define LOG_LEVEL_WARN 2
+#define LOG_LEVEL_INFO 3
+#define LOG_LEVEL_DBG 4
+
+#ifdef LOG_CONF_LEVEL_MAIN
+#define LOG_LEVEL_MAIN LOG_CONF_LEVEL_MAIN
+#else
+#define LOG_LEVEL_MAIN LOG_LEVEL_INFO
+#endif
+
+#ifndef LOG_LEVEL_APP
+#ifdef LOG_CONF_LEVEL_APP
+#define LOG_LEVEL_APP LOG_CONF_LEVEL_APP
+#else
+#define LOG_LEVEL_APP LOG_LEVEL_INFO
+#endif
+#endif
+
+/* Whether a line begins with its level and module. */
+#ifdef LOG_CONF_WITH_MODULE_PREFIX
+#define LOG_WITH_MODULE_PREFIX LOG_CONF_WITH_MODULE_PREFIX
+#else
+#define LOG_WITH_MODULE_PREFIX 1
+#endif
+
+/* Whether it tells file and line, too. */
+#ifdef LOG_CONF_WITH_LOC
+#define LOG_WITH_LOC LOG_CONF_WITH_LOC
+#else
+#define LOG_WITH_LOC 0
+#endif
+
+#ifdef LOG_CONF_OUTPUT
+#define LOG_OUTPUT(...) LOG_CONF_OUTPUT(__VA_ARGS__)
+#else
+#define LOG_OUTPUT(...) printf(__VA_ARGS__)
+#endif
+
+#ifdef LOG_CONF_OUTPUT_PREFIX
+#define LOG_OUTPUT_PREFIX(level, levelstr, module) LOG_CONF_OUTPUT_PREFIX(level, levelstr, module)
+#else
+#define LOG_OUTPUT_PREFIX(level, levelstr, module) LOG_OUTPUT("[%-4s: %-10s] ", levelstr, module)
+#endif
+
+#endif

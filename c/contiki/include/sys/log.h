@@ -1,0 +1,82 @@
+/*
+ * Logging. A source defines LOG_MODULE, a text, and LOG_LEVEL; what is of that level or below is printed. A macro whose name
+ * ends with _ goes on with a line.
+ */
+#ifndef LOG_H_
+#define LOG_H_
+
+#include <stdio.h>
+
+#include "net/linkaddr.h"
+#include "sys/log-conf.h"
+
+#define LOG(newline, level, levelstr, ...)              \
+  do {                                                  \
+    if((level) <= (LOG_LEVEL)) {                        \
+      if(newline) {                                     \
+        if(LOG_WITH_MODULE_PREFIX) {                    \
+          LOG_OUTPUT_PREFIX(level, levelstr, LOG_MODULE); \
+        }                                               \
+        if(LOG_WITH_LOC) {                              \
+          LOG_OUTPUT("[%s: %d] ", __FILE__, __LINE__);  \
+        }                                               \
+      }                                                 \
+      LOG_OUTPUT(__VA_ARGS__);                          \
+    }                                                   \
+  } while(0)
+
+#define LOG_LLADDR(level, lladdr)     \
+  do {                                \
+    if((level) <= (LOG_LEVEL)) {      \
+      log_lladdr(lladdr);             \
+    }                                 \
+  } while(0)
+
+#define LOG_BYTES(level, data, length) \
+  do {                                 \
+    if((level) <= (LOG_LEVEL)) {       \
+      log_bytes(data, length);         \
+    }                                  \
+  } while(0)
+
+#define LOG_PRINT(...) LOG(1, 0, "PRI", __VA_ARGS__)
+#define LOG_ERR(...) LOG(1, LOG_LEVEL_ERR, "ERR", __VA_ARGS__)
+#define LOG_WARN(...) LOG(1, LOG_LEVEL_WARN, "WARN", __VA_ARGS__)
+#define LOG_INFO(...) LOG(1, LOG_LEVEL_INFO, "INFO", __VA_ARGS__)
+#define LOG_DBG(...) LOG(1, LOG_LEVEL_DBG, "DBG", __VA_ARGS__)
+
+#define LOG_PRINT_(...) LOG(0, 0, "PRI", __VA_ARGS__)
+#define LOG_ERR_(...) LOG(0, LOG_LEVEL_ERR, "ERR", __VA_ARGS__)
+#define LOG_WARN_(...) LOG(0, LOG_LEVEL_WARN, "WARN", __VA_ARGS__)
+#define LOG_INFO_(...) LOG(0, LOG_LEVEL_INFO, "INFO", __VA_ARGS__)
+#define LOG_DBG_(...) LOG(0, LOG_LEVEL_DBG, "DBG", __VA_ARGS__)
+
+#define LOG_PRINT_LLADDR(...) LOG_LLADDR(0, __VA_ARGS__)
+#define LOG_ERR_LLADDR(...) LOG_LLADDR(LOG_LEVEL_ERR, __VA_ARGS__)
+#define LOG_WARN_LLADDR(...) LOG_LLADDR(LOG_LEVEL_WARN, __VA_ARGS__)
+#define LOG_INFO_LLADDR(...) LOG_LLADDR(LOG_LEVEL_INFO, __VA_ARGS__)
+#define LOG_DBG_LLADDR(...) LOG_LLADDR(LOG_LEVEL_DBG, __VA_ARGS__)
+
+#define LOG_PRINT_BYTES(data, length) LOG_BYTES(0, data, length)
+#define LOG_ERR_BYTES(data, length) LOG_BYTES(LOG_LEVEL_ERR, data, length)
+#define LOG_WARN_BYTES(data, length) LOG_BYTES(LOG_LEVEL_WARN, data, length)
+#define LOG_INFO_BYTES(data, length) LOG_BYTES(LOG_LEVEL_INFO, data, length)
+#define LOG_DBG_BYTES(data, length) LOG_BYTES(LOG_LEVEL_DBG, data, length)
+
+#define LOG_ERR_ENABLED (LOG_LEVEL_ERR <= (LOG_LEVEL))
+#define LOG_WARN_ENABLED (LOG_LEVEL_WARN <= (LOG_LEVEL))
+#define LOG_INFO_ENABLED (LOG_LEVEL_INFO <= (LOG_LEVEL))
+#define LOG_DBG_ENABLED (LOG_LEVEL_DBG <= (LOG_LEVEL))
+
+/* For tools that follow a run: nothing here. */
+#define LOG_ANNOTATE(...) \
+  do {                    \
+  } while(0)
+
+/* Prints an address as 0102.0304.0506.0708. */
+void log_lladdr(const linkaddr_t *lladdr);
+
+/* Prints bytes as two hex digits each. */
+void log_bytes(const void *data, size_t length);
+
+#endif

@@ -1,0 +1,172 @@
+/*
+ * The mote, asked step by step. A process that is told something is called; each call that it makes is handed to the mote, which
+ * goes on to the next turn. The turn of this very process with its answer is the call's result. Any other turn until then is an
+ * activation within, of a process that is given something at once, and that one is called from here: plain recursion, as in
+ * Contiki-NG itself. It is right since activations nest, which is a law of the mote.
+ */
+#include "driver.h"
+
+struct activation *activation;
+static struct toarmuts_mote mote;
+
+/* A call that one process makes in the name of another. */
+static const struct toarmuts_call *errand;
+static struct toarmuts_turn errand_answer;
+
+/* Boots the mote with the program's processes as its applications. */
+void
+open_mote(const struct toarmuts_configuration *configuration)
+{
+  switch(toarmuts_open(configuration, process_count, &mote)) {
+  case 0:
+    return;
+  case TOARMUTS_OUT_OF_MEMORY:
+    give_up(STATUS_NO_MEMORY, "out of memory");
+  default:
+    give_up(STATUS_BAD_WORDS, "bad sizes");
+  }
+}
+
+/* Works on to the next turn; other entries are shown. False at rest. A mote that halts ends the program. */
+static bool
+next_turn(struct toarmuts_turn *turn)
+{
+  uint32_t step;
+  while(toarmuts_next(&mote, &step, turn) == 0) {
+    switch(step) {
+    case TOARMUTS_TURN:
+      return true;
+    case TOARMUTS_ENTRY:
+      show_entry(&mote);
+      break;
+    case TOARMUTS_REST:
+      return false;
+    default:
+      finish(STATUS_HALTED);
+    }
+  }
+  stop("the mote gives no turn");
+}
+
+/* Hands in the call of the process whose turn it is, and shows the turn. */
+static void
+hand_in(const struct toarmuts_call *call)
+{
+  uint32_t status = toarmuts_answer(&mote, call);
+  if(status != 0) {
+    stop("the mote takes no call of kind %u: status %u", call->kind, status);
+  }
+  show_turn(&mote, call);
+}
+
+/* A process that another one sends makes that one's call, in its own name. */
+static void
+run_errand(void)
+{
+  const struct toarmuts_call *call = errand;
+  errand = NULL;
+  if(call != NULL) {
+    errand_answer = *mote_call(call);
+  }
+}
+
+/* An activation, from what a process is told to its wait or its exit. */
+static void
+run_activation(const struct toarmuts_turn *turn)
+{
+  struct process *caller = process_current;
+  struct activation present = {.process = process_of(turn->process), .turn = *turn, .line = lines_shown + 1, .outer = activation};
+  bool ends;
+  activation = &present;
+  process_current = present.process;
+  if(turn->stimulus == TOARMUTS_EVENT && turn->event == ERRAND_EVENT) {
+    run_errand();
+    ends = false;
+  } else {
+    ends = activate(&present);
+  }
+  flush_console();
+  hand_in(&(struct toarmuts_call){.kind = ends || present.is_ending ? TOARMUTS_CALL_EXIT : TOARMUTS_CALL_WAIT});
+  if(ends || present.is_ending) {
+    forget_timers(present.process);
+    forget_receiver(present.process);
+  }
+  activation = present.outer;
+  process_current = caller;
+}
+
+const struct toarmuts_turn *
+mote_call(const struct toarmuts_call *call)
+{
+  static struct toarmuts_turn answer;
+  if(activation == NULL) {
+    stop("a call of the mote is made outside of any process");
+  }
+  flush_console();
+  hand_in(call);
+  while(next_turn(&answer)) {
+    if(answer.stimulus == TOARMUTS_ANSWER) {
+      return &answer;
+    }
+    run_activation(&answer);
+  }
+  stop("the mote rests where an answer is due");
+}
+
+const struct toarmuts_turn *
+mote_told(void)
+{
+  return &activation->turn;
+}
+
+unsigned
+refusal_of(const struct toarmuts_turn *answer)
+{
+  return answer->reply == TOARMUTS_REPLY_REFUSED ? (unsigned)answer->number : 0;
+}
+
+/*
+ * Timers and blocks have names of their process's own. Where another process is active, it gives the owner an event at once, and
+ * that one makes the call.
+ */
+const struct toarmuts_turn *
+ask_for(struct process *owner, const struct toarmuts_call *call)
+{
+  if(activation == NULL || owner == activation->process) {
+    return mote_call(call);
+  }
+  errand = call;
+  MOTE_ASK(TOARMUTS_CALL_POST_SYNCH, owner->number, ERRAND_EVENT);
+  if(errand != NULL) {
+    errand = NULL;
+    stop("%s has a timer or a block that is to change, and can't do so: it isn't running, or stands in an activation of its own",
+         owner->name);
+  }
+  return &errand_answer;
+}
+
+/* Carries out all turns up to the mote's rest. */
+void
+run_to_rest(void)
+{
+  struct toarmuts_turn turn;
+  while(next_turn(&turn)) {
+    run_activation(&turn);
+  }
+}
+
+/* Hands in a line of the script. */
+uint32_t
+feed_line(const char *line, size_t length)
+{
+  return toarmuts_feed(&mote, (const uint8_t *)line, length);
+}
+
+/* The clock, without a call of the program: for the driver's own accounts. */
+clock_time_t
+clock_now(void)
+{
+  uint64_t clock = 0;
+  toarmuts_clock(&mote, &clock);
+  return clock;
+}

@@ -1,0 +1,50 @@
+/*
+ * What a program prints: whatever it writes on standard output, by whatever function of C. It is gathered, and becomes a `print`
+ * where a line ends, where 64 bytes are there, and before the process makes another call or waits.
+ */
+#define _GNU_SOURCE
+#include "driver.h"
+
+#include <errno.h>
+
+static char gathered[CHUNK];
+static uint32_t gathered_length;
+
+/* `print` */
+void
+flush_console(void)
+{
+  struct toarmuts_call call = {.kind = TOARMUTS_CALL_PRINT, .length = gathered_length};
+  if(gathered_length > 0) {
+    memcpy(call.bytes, gathered, gathered_length);
+    gathered_length = 0;
+    mote_call(&call);
+  }
+}
+
+/* Takes what a function of stdio writes. */
+static ssize_t
+gather(void *cookie, const char *text, size_t length)
+{
+  (void)cookie;
+  for(size_t i = 0; i < length; i++) {
+    gathered[gathered_length++] = text[i];
+    if(text[i] == '\n' || gathered_length == CHUNK) {
+      flush_console();
+    }
+  }
+  return (ssize_t)length;
+}
+
+/* From now on standard output is the mote's console; the GNU C library lets a program set it. */
+void
+open_console(void)
+{
+  cookie_io_functions_t functions = {.write = gather};
+  FILE *console = fopencookie(NULL, "w", functions);
+  if(console == NULL) {
+    give_up(STATUS_NO_MEMORY, "out of memory");
+  }
+  setvbuf(console, NULL, _IONBF, 0);
+  stdout = console;
+}

@@ -1,0 +1,97 @@
+/* What the parts of the driver share. */
+#ifndef DRIVER_H_
+#define DRIVER_H_
+
+#include "contiki.h"
+#include "mote.h"
+
+enum {
+  FIRST_PROCESS = 4,
+  MOST_PROCESSES = 16,
+  CHUNK = 64,           /* the bytes of one print, write or read */
+  LINE_BYTES = 127,     /* those of a line from the serial line, and of a frame */
+  PACKET_EVENT = 139,   /* the mote's event of a frame */
+  ERRAND_EVENT = 255    /* the driver's own: a process makes a call for another one */
+};
+
+/* The exit statuses that mote has, and one of its own. */
+enum {
+  STATUS_FINISHED = 0,
+  STATUS_STOPPED = 1,
+  STATUS_BAD_LINE = 2,
+  STATUS_HALTED = 3,
+  STATUS_TOO_LONG = 4,
+  STATUS_READ_FAILED = 5,
+  STATUS_WRITE_FAILED = 6,
+  STATUS_BAD_WORDS = 64,
+  STATUS_NO_MEMORY = 70
+};
+
+/* activations.c: the mote, and whose turn it is. */
+
+/* An activation of a process: from what it is told to its next wait. Those that it is called from stand around it. */
+struct activation {
+  struct process *process;
+  struct toarmuts_turn turn;
+  uint64_t line; /* of the transcript, where it began */
+  bool is_ending; /* the process exits at its end */
+  struct activation *outer;
+};
+
+/* The innermost activation, or NULL. */
+extern struct activation *activation;
+
+void open_mote(const struct toarmuts_configuration *configuration);
+void run_to_rest(void);
+uint32_t feed_line(const char *line, size_t length);
+clock_time_t clock_now(void);
+
+/* 0, or why the call was refused. */
+unsigned refusal_of(const struct toarmuts_turn *answer);
+
+/* Makes a call of numbers alone in the name of a process. */
+const struct toarmuts_turn *ask_for(struct process *owner, const struct toarmuts_call *call);
+#define ASK_FOR(owner, call_kind, ...) \
+  ask_for(owner, &(struct toarmuts_call){.kind = (call_kind), .numbers = {__VA_ARGS__}})
+
+/* processes.c: who is who. */
+extern struct process *processes[MOST_PROCESSES];
+extern unsigned process_count;
+void number_processes(void);
+struct process *process_of(uint64_t number);
+unsigned index_of(const struct process *p);
+bool activate(struct activation *present);
+
+/* timers.c */
+struct etimer *etimer_told(struct process *p, unsigned slot);
+void ctimer_told(struct process *p, unsigned slot);
+void forget_timers(struct process *p);
+
+/* memory.c */
+unsigned free_handle(void);
+
+/* nullnet.c */
+void forget_receiver(const struct process *p);
+void receive_again(void);
+bool takes_frames(void);
+void take_frame(size_t length);
+
+/* console.c */
+void open_console(void);
+void flush_console(void);
+
+/* transcript.c */
+extern uint64_t lines_shown;
+void begin_transcript(bool is_quiet, bool is_text);
+void show_turn(const struct toarmuts_mote *mote, const struct toarmuts_call *call);
+void show_entry(const struct toarmuts_mote *mote);
+void show_text(const char *text);
+void flush_transcript(void);
+
+/* faults.c */
+void watch_for_faults(void);
+CC_NORETURN void finish(int status);
+CC_NORETURN CC_FORMAT(1, 2) void stop(const char *format, ...);
+CC_NORETURN CC_FORMAT(2, 3) void give_up(int status, const char *format, ...);
+
+#endif

@@ -1,0 +1,217 @@
+/*
+ * How a run ends that doesn't end well. What is told on standard error names the process, what it was told, and the line of the
+ * transcript where it was told that.
+ */
+#define _XOPEN_SOURCE 700
+#include "driver.h"
+
+#include <signal.h>
+#include <stdarg.h>
+#include <stdlib.h>
+#include <unistd.h>
+
+enum { REPORT_ROOM = 512, STACK_ROOM = 1 << 16, PATIENCE = 10 };
+
+/* Whether the sanitizers are in the program: they tell of crashes themselves, and call back before they end it. */
+extern void __sanitizer_set_death_callback(void (*callback)(void)) __attribute__((weak));
+
+/* A text that is put together without the C library's help, so that a handler of signals may do it. */
+struct report {
+  char text[REPORT_ROOM];
+  size_t length;
+};
+
+static void
+add_text(struct report *report, const char *text)
+{
+  while(*text != '\0' && report->length < REPORT_ROOM) {
+    report->text[report->length++] = *text++;
+  }
+}
+
+static void
+add_number(struct report *report, uint64_t number)
+{
+  char digits[21] = "";
+  size_t at = sizeof digits - 1;
+  do {
+    digits[--at] = (char)('0' + number % 10);
+    number /= 10;
+  } while(number > 0);
+  add_text(report, digits + at);
+}
+
+/* What the active process was told. */
+static void
+add_stimulus(struct report *report, const struct toarmuts_turn *turn)
+{
+  add_text(report, turn->stimulus == TOARMUTS_CALLBACK ? "callback " : "event ");
+  add_number(report, turn->stimulus == TOARMUTS_CALLBACK ? turn->number : turn->event);
+}
+
+/* Which process is active, in which event, and where. */
+static void
+add_place(struct report *report)
+{
+  add_text(report, "contiki: ");
+  if(activation == NULL) {
+    return;
+  }
+  add_text(report, "process ");
+  add_number(report, activation->process->number);
+  add_text(report, " (");
+  add_text(report, activation->process->name != NULL ? activation->process->name : "");
+  add_text(report, "), told ");
+  add_stimulus(report, &activation->turn);
+  add_text(report, " in line ");
+  add_number(report, activation->line);
+  add_text(report, " of the transcript, ");
+  add_number(report, lines_shown + 1 - activation->line);
+  add_text(report, " calls before: ");
+}
+
+static void
+write_report(const struct report *report)
+{
+  ssize_t written = write(STDERR_FILENO, report->text, report->length);
+  (void)written;
+}
+
+/* Says what happened where, behind all of the transcript. */
+static void
+tell(const char *what)
+{
+  struct report report = {.length = 0};
+  add_place(&report);
+  add_text(&report, what);
+  add_text(&report, "\n");
+  flush_transcript();
+  write_report(&report);
+}
+
+static bool is_over;
+
+/* Ends the program with the transcript as far as it has come. */
+void
+finish(int status)
+{
+  is_over = true;
+  flush_transcript();
+  if(status == STATUS_HALTED) {
+    static const char why[] = "contiki: the mote halted: one input made 10,000 turns and rounds, and may make no more\n";
+    fputs(why, stderr);
+  }
+  exit(status);
+}
+
+/* Ends it because the program went beyond a limit. */
+void
+stop(const char *format, ...)
+{
+  char what[REPORT_ROOM];
+  va_list arguments;
+  va_start(arguments, format);
+  vsnprintf(what, sizeof what, format, arguments);
+  va_end(arguments);
+  tell(what);
+  is_over = true;
+  exit(STATUS_STOPPED);
+}
+
+/* Ends it for a reason that no process has to do with. */
+void
+give_up(int status, const char *format, ...)
+{
+  va_list arguments;
+  is_over = true;
+  va_start(arguments, format);
+  fputs("contiki: ", stderr);
+  vfprintf(stderr, format, arguments);
+  fputs("\n", stderr);
+  va_end(arguments);
+  exit(status);
+}
+
+/* A crash: it is told, and then takes its course. */
+static void
+handle_crash(int number)
+{
+  switch(number) {
+  case SIGSEGV:
+    tell("a crash: memory that isn't there (SIGSEGV)");
+    break;
+  case SIGBUS:
+    tell("a crash: memory that isn't there (SIGBUS)");
+    break;
+  case SIGFPE:
+    tell("a crash: a number is divided by 0 (SIGFPE)");
+    break;
+  case SIGILL:
+    tell("a crash: an instruction that there isn't (SIGILL)");
+    break;
+  default:
+    tell("the program was aborted (SIGABRT)");
+    break;
+  }
+  raise(number);
+}
+
+/* A process that makes no call for ten seconds and more is told of once. */
+static void
+handle_alarm(int number)
+{
+  static uint64_t last = UINT64_MAX;
+  (void)number;
+  if(activation != NULL && last == lines_shown) {
+    tell("it has made no call for 10 seconds; it may be in a loop without end");
+    last = UINT64_MAX;
+    return;
+  }
+  last = lines_shown;
+  alarm(PATIENCE);
+}
+
+static void
+handle_death(void)
+{
+  if(!is_over) {
+    tell("the sanitizer's report above is of this process");
+  }
+}
+
+static void
+handle_exit(void)
+{
+  if(!is_over) {
+    tell("the program called exit");
+    _exit(STATUS_STOPPED);
+  }
+}
+
+static void
+handle(int number, void (*handler)(int))
+{
+  struct sigaction action = {.sa_handler = handler, .sa_flags = SA_ONSTACK};
+  action.sa_flags |= number == SIGALRM ? SA_RESTART : (int)SA_RESETHAND;
+  sigaction(number, &action, NULL);
+}
+
+void
+watch_for_faults(void)
+{
+  static char stack[STACK_ROOM];
+  stack_t place = {.ss_sp = stack, .ss_size = sizeof stack};
+  atexit(handle_exit);
+  handle(SIGALRM, handle_alarm);
+  alarm(PATIENCE);
+  handle(SIGABRT, handle_crash);
+  if(__sanitizer_set_death_callback != NULL) {
+    __sanitizer_set_death_callback(handle_death);
+    return;
+  }
+  sigaltstack(&place, NULL);
+  handle(SIGSEGV, handle_crash);
+  handle(SIGBUS, handle_crash);
+  handle(SIGFPE, handle_crash);
+  handle(SIGILL, handle_crash);
+}

@@ -1,0 +1,149 @@
+/* Runs a program's processes on a mote over a script, and writes the transcript: the words of mote, without its applications. */
+#include "driver.h"
+
+#include <stdlib.h>
+
+enum { LINE_LIMIT = 1024, SCRIPT_LIMIT = 16777216 };
+
+struct words {
+  struct toarmuts_configuration configuration;
+  bool is_text;       /* only what is printed */
+  bool asks_for_names; /* nothing is run */
+  const char *script; /* the script's name, or NULL for standard input */
+};
+
+/* Words. */
+
+static uint32_t
+read_number(const char *option, const char *text)
+{
+  char *end;
+  unsigned long number = text == NULL || *text < '0' || *text > '9' ? 0 : strtoul(text, &end, 10);
+  if(text == NULL || *text < '0' || *text > '9' || *end != '\0' || number > UINT32_MAX) {
+    give_up(STATUS_BAD_WORDS, "%s takes a number", option);
+  }
+  return (uint32_t)number;
+}
+
+/* Reads an option that takes a number; false where it is none. */
+static bool
+read_size(struct toarmuts_configuration *configuration, const char *option, const char *value)
+{
+  uint32_t *size = strcmp(option, "--mmem") == 0     ? &configuration->mmem
+                   : strcmp(option, "--heap") == 0   ? &configuration->heap
+                   : strcmp(option, "--header") == 0 ? &configuration->header
+                   : strcmp(option, "--quota") == 0  ? &configuration->quota
+                                                     : NULL;
+  if(size == NULL) {
+    return false;
+  }
+  *size = read_number(option, value);
+  if(size == &configuration->quota) {
+    configuration->has_quota = 1;
+  }
+  return true;
+}
+
+static struct words
+read_words(char **word)
+{
+  struct words words = {.configuration = TOARMUTS_DEFAULTS};
+  for(; *word != NULL; word++) {
+    if(strcmp(*word, "--quiet") == 0) {
+      words.configuration.quiet = 1;
+    } else if(strcmp(*word, "--text") == 0) {
+      words.is_text = true;
+    } else if(strcmp(*word, "--names") == 0) {
+      words.asks_for_names = true;
+    } else if(read_size(&words.configuration, word[0], word[1])) {
+      word++;
+    } else if(**word != '-' && words.script == NULL) {
+      words.script = *word;
+    } else {
+      give_up(STATUS_BAD_WORDS, "what is %s?", *word);
+    }
+  }
+  return words;
+}
+
+/* The script. */
+
+enum reading { READ_LINE, READ_END, READ_TOO_MUCH };
+
+/* Reads the next line, without its end. Of one that is too long it reads a byte too many, which the mote refuses. */
+static enum reading
+read_line(FILE *script, char *line, size_t *length)
+{
+  static size_t taken;
+  int c;
+  *length = 0;
+  while(*length <= LINE_LIMIT && (c = getc(script)) != '\n') {
+    if(c == EOF) {
+      if(ferror(script)) {
+        flush_transcript();
+        give_up(STATUS_READ_FAILED, "read failed");
+      }
+      return *length > 0 ? READ_LINE : READ_END;
+    }
+    if(taken++ == SCRIPT_LIMIT) {
+      return READ_TOO_MUCH;
+    }
+    line[(*length)++] = (char)c;
+  }
+  if(*length <= LINE_LIMIT && taken++ == SCRIPT_LIMIT) {
+    return READ_TOO_MUCH;
+  }
+  return READ_LINE;
+}
+
+/* Hands in one line after another, with all that follows of it. */
+static void
+run_script(FILE *script)
+{
+  char line[LINE_LIMIT + 1];
+  size_t length;
+  enum reading reading;
+  run_to_rest();
+  for(uint64_t number = 1; (reading = read_line(script, line, &length)) == READ_LINE; number++) {
+    switch(feed_line(line, length)) {
+    case 0:
+      run_to_rest();
+      break;
+    case TOARMUTS_BAD_LINE: {
+      char text[40];
+      snprintf(text, sizeof text, "bad line %" PRIu64 "\n", number);
+      show_text(text);
+      finish(STATUS_BAD_LINE);
+    }
+    default:
+      stop("the mote takes no more inputs");
+    }
+  }
+  if(reading == READ_TOO_MUCH) {
+    show_text("too long\n");
+    finish(STATUS_TOO_LONG);
+  }
+}
+
+int
+main(int count, char **word)
+{
+  struct words words = read_words(word + (count > 0));
+  FILE *script = stdin;
+  number_processes();
+  if(words.asks_for_names) {
+    for(unsigned i = 0; i < process_count; i++) {
+      puts(processes[i]->name);
+    }
+    return STATUS_FINISHED;
+  }
+  if(words.script != NULL && (script = fopen(words.script, "rb")) == NULL) {
+    give_up(STATUS_READ_FAILED, "%s: no such file", words.script);
+  }
+  begin_transcript(words.configuration.quiet != 0, words.is_text);
+  watch_for_faults();
+  open_mote(&words.configuration);
+  open_console();
+  run_script(script);
+  finish(STATUS_FINISHED);
+}

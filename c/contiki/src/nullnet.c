@@ -1,0 +1,150 @@
+/* Frames: nullnet.h, netstack.h and linkaddr.h. */
+#include "driver.h"
+#include "net/netstack.h"
+#include "net/nullnet/nullnet.h"
+
+#include <stdlib.h>
+
+linkaddr_t linkaddr_node_addr = {{0, 1, 0, 1, 0, 1, 0, 1}};
+const linkaddr_t linkaddr_null = {{0}};
+
+void
+linkaddr_copy(linkaddr_t *dest, const linkaddr_t *from)
+{
+  *dest = *from;
+}
+
+bool
+linkaddr_cmp(const linkaddr_t *addr1, const linkaddr_t *addr2)
+{
+  return memcmp(addr1, addr2, sizeof *addr1) == 0;
+}
+
+void
+linkaddr_set_node_addr(linkaddr_t *addr)
+{
+  linkaddr_node_addr = *addr;
+}
+
+uint8_t *nullnet_buf;
+uint16_t nullnet_len;
+
+static nullnet_input_callback input_callback;
+
+/* The process whose activations frames come in, or NULL, and whether there was one. */
+static const struct process *receiver;
+static bool had_receiver;
+
+/* `packet-open`, unless another process is the receiver. */
+static void
+open_packets(void)
+{
+  if(receiver == NULL && refusal_of(MOTE_ASK(TOARMUTS_CALL_PACKET_OPEN, 0)) == 0) {
+    receiver = activation->process;
+    had_receiver = true;
+  }
+}
+
+void
+nullnet_set_input_callback(nullnet_input_callback callback)
+{
+  input_callback = callback;
+  if(callback != NULL) {
+    open_packets();
+  }
+}
+
+void
+forget_receiver(const struct process *p)
+{
+  if(p == receiver) {
+    receiver = NULL;
+  }
+}
+
+/* The callback outlives the process that set it: the next one that is told something receives the frames. */
+void
+receive_again(void)
+{
+  const struct toarmuts_turn *turn = &activation->turn;
+  if(had_receiver && receiver == NULL && turn->event != PROCESS_EVENT_EXIT && turn->event != PROCESS_EVENT_EXITED) {
+    open_packets();
+  }
+}
+
+/* Whether frames are for a callback, not for the process's thread. */
+bool
+takes_frames(void)
+{
+  return had_receiver;
+}
+
+/* Reads the front frame; false where there is none of this length. */
+static bool
+read_frame(uint8_t *bytes, size_t length)
+{
+  for(size_t at = 0; at < length; at += CHUNK) {
+    size_t size = MIN(length - at, CHUNK);
+    const struct toarmuts_turn *answer = MOTE_ASK(TOARMUTS_CALL_PACKET_READ, (uint32_t)at, (uint32_t)size);
+    if(refusal_of(answer) != 0) {
+      return false;
+    }
+    memcpy(bytes + at, answer->bytes, size);
+  }
+  return true;
+}
+
+/* `packet-read`, `packet-done`: the frame is read and given back, and then the callback is called. */
+void
+take_frame(size_t length)
+{
+  uint8_t *bytes = malloc(length + 1);
+  if(bytes == NULL) {
+    give_up(STATUS_NO_MEMORY, "out of memory");
+  }
+  if(read_frame(bytes, length)) {
+    MOTE_ASK(TOARMUTS_CALL_PACKET_DONE, 0);
+    if(input_callback != NULL) {
+      input_callback(bytes, (uint16_t)length, &linkaddr_null, &linkaddr_null);
+    }
+  }
+  free(bytes);
+}
+
+/* `mmem-write` of the whole frame. */
+static void
+write_frame(unsigned handle, const uint8_t *bytes, size_t length)
+{
+  for(size_t at = 0; at < length; at += CHUNK) {
+    struct toarmuts_call call = {.kind = TOARMUTS_CALL_MMEM_WRITE, .numbers = {handle, (uint32_t)at}};
+    call.length = (uint32_t)MIN(length - at, CHUNK);
+    memcpy(call.bytes, bytes + at, call.length);
+    mote_call(&call);
+  }
+}
+
+/* `mmem-alloc`, `mmem-write`, `packet-send`, `mmem-free`: the mote sends what lies in a managed block. */
+static uint8_t
+output(const linkaddr_t *localdest)
+{
+  unsigned handle = free_handle();
+  (void)localdest;
+  if(nullnet_buf == NULL || nullnet_len == 0 || nullnet_len > LINE_BYTES) {
+    stop("a frame of %u bytes is to be sent: the mote's have 1 to 127", nullnet_buf == NULL ? 0u : nullnet_len);
+  }
+  if(refusal_of(MOTE_ASK(TOARMUTS_CALL_MMEM_ALLOC, handle, nullnet_len)) != 0) {
+    return 0;
+  }
+  write_frame(handle, nullnet_buf, nullnet_len);
+  MOTE_ASK(TOARMUTS_CALL_PACKET_SEND, handle);
+  MOTE_ASK(TOARMUTS_CALL_MMEM_FREE, handle);
+  return 1;
+}
+
+/* The network is there from the start, and frames come in by events of the mote. */
+static void
+do_nothing(void)
+{
+}
+
+const struct network_driver nullnet_driver = {"nullnet", do_nothing, do_nothing, output};

@@ -1,0 +1,345 @@
+/* Processes and events: process.h and autostart.h. */
+#include "driver.h"
+
+#include <stdlib.h>
+
+extern const struct process_entry __start_process_entries[] __attribute__((weak));
+extern const struct process_entry __stop_process_entries[] __attribute__((weak));
+extern struct process *const autostart_processes[] __attribute__((weak));
+
+struct process *process_current;
+struct process *processes[MOST_PROCESSES];
+unsigned process_count;
+
+/* How many of the first processes aren't started with the program, and which of these the mote has booted. */
+static unsigned not_started;
+static bool has_booted[MOST_PROCESSES];
+
+/* What process_start hands to the INIT event that follows at once. */
+static process_data_t start_data;
+
+/* Who is who. */
+
+static bool
+is_autostarted(const struct process *p)
+{
+  for(struct process *const *started = autostart_processes; *started != NULL; started++) {
+    if(*started == p) {
+      return true;
+    }
+  }
+  return false;
+}
+
+static void
+add_process(struct process *p)
+{
+  if(p->number != 0) {
+    return;
+  }
+  if(process_count == MOST_PROCESSES) {
+    give_up(STATUS_BAD_WORDS, "more than 16 processes: a mote has no more");
+  }
+  p->number = FIRST_PROCESS + process_count;
+  processes[process_count++] = p;
+}
+
+static int
+compare_entries(const void *a, const void *b)
+{
+  const struct process_entry *left = a, *right = b;
+  int by_file = strcmp(left->file, right->file);
+  return by_file != 0 ? by_file : (left->line > right->line) - (left->line < right->line);
+}
+
+/*
+ * Numbers the processes. The mote starts all its applications, so one that isn't to be started with the program exits in its
+ * first turn; these come first, as nobody else is there yet to hear of it, by file and line. Then come the others, in the order
+ * in which they are started.
+ */
+void
+number_processes(void)
+{
+  size_t count = (size_t)(__stop_process_entries - __start_process_entries);
+  struct process_entry *entries = calloc(count + 1, sizeof *entries);
+  if(entries == NULL) {
+    give_up(STATUS_NO_MEMORY, "out of memory");
+  }
+  if(autostart_processes == NULL) {
+    give_up(STATUS_BAD_WORDS, "no AUTOSTART_PROCESSES: no process is to be started");
+  }
+  if(count > 0) {
+    memcpy(entries, __start_process_entries, count * sizeof *entries);
+  }
+  qsort(entries, count, sizeof *entries, compare_entries);
+  for(size_t i = 0; i < count; i++) {
+    if(!is_autostarted(entries[i].process)) {
+      add_process(entries[i].process);
+    }
+  }
+  not_started = process_count;
+  for(struct process *const *started = autostart_processes; *started != NULL; started++) {
+    add_process(*started);
+  }
+  free(entries);
+}
+
+/* The process of this number, or NULL. */
+struct process *
+process_of(uint64_t number)
+{
+  return number >= FIRST_PROCESS && number < FIRST_PROCESS + process_count ? processes[number - FIRST_PROCESS] : NULL;
+}
+
+/* Its place among the processes. */
+unsigned
+index_of(const struct process *p)
+{
+  if(p == NULL || process_of(p->number) != p) {
+    stop("a process that no PROCESS made");
+  }
+  return p->number - FIRST_PROCESS;
+}
+
+/*
+ * Data of events. The mote carries a number. Small numbers stand for themselves, as no object lies there; each pointer has a
+ * number from 65,536 on, for good, so that an event carries exactly the pointer.
+ */
+
+enum { FIRST_POINTER = 65536 };
+
+static void **pointers;
+static uint32_t pointer_count, pointer_room;
+/* Numbers of pointers, less FIRST_POINTER and plus 1, at places that their hashes tell; twice as many places as pointers. */
+static uint32_t *places;
+
+static uint32_t
+place_of(const void *pointer)
+{
+  uint32_t mask = 2 * pointer_room - 1;
+  uint32_t place = (uint32_t)(((uint64_t)(uintptr_t)pointer * 0x9e3779b97f4a7c15u) >> 32) & mask;
+  while(places[place] != 0 && pointers[places[place] - 1] != pointer) {
+    place = (place + 1) & mask;
+  }
+  return place;
+}
+
+static void
+make_room_for_pointers(void)
+{
+  pointer_room = pointer_room == 0 ? 64 : 2 * pointer_room;
+  pointers = realloc(pointers, pointer_room * sizeof *pointers);
+  free(places);
+  places = calloc(2 * (size_t)pointer_room, sizeof *places);
+  if(pointers == NULL || places == NULL) {
+    give_up(STATUS_NO_MEMORY, "out of memory");
+  }
+  for(uint32_t i = 0; i < pointer_count; i++) {
+    places[place_of(pointers[i])] = i + 1;
+  }
+}
+
+static uint32_t
+number_of(process_data_t data)
+{
+  uint32_t place;
+  if((uintptr_t)data < FIRST_POINTER) {
+    return (uint32_t)(uintptr_t)data;
+  }
+  if(pointer_count == pointer_room) {
+    make_room_for_pointers();
+  }
+  place = place_of(data);
+  if(places[place] == 0) {
+    pointers[pointer_count++] = data;
+    places[place] = pointer_count;
+  }
+  return FIRST_POINTER + places[place] - 1;
+}
+
+static process_data_t
+data_of(uint64_t number)
+{
+  if(number < FIRST_POINTER) {
+    return (process_data_t)(uintptr_t)number;
+  }
+  return number - FIRST_POINTER < pointer_count ? pointers[number - FIRST_POINTER] : NULL;
+}
+
+/* An activation: what the process is told, as Contiki-NG has it. */
+
+/* The line that was told last, until the next one is. */
+static process_data_t
+line_of(const struct toarmuts_turn *turn)
+{
+  static char line[LINE_BYTES + 1];
+  memcpy(line, turn->bytes, turn->length);
+  line[turn->length] = '\0';
+  return line;
+}
+
+static process_data_t
+data_of_event(const struct toarmuts_turn *turn, struct process *p)
+{
+  if(turn->payload == TOARMUTS_LINE) {
+    return line_of(turn);
+  }
+  switch(turn->event) {
+  case PROCESS_EVENT_TIMER:
+    return etimer_told(p, (unsigned)turn->number);
+  case PROCESS_EVENT_EXITED:
+    return process_of(turn->number);
+  default:
+    return turn->payload == TOARMUTS_EMPTY ? NULL : data_of(turn->number);
+  }
+}
+
+/* Calls the process's thread, or its callback; true where it has ended. */
+bool
+activate(struct activation *present)
+{
+  const struct toarmuts_turn *turn = &present->turn;
+  struct process *p = present->process;
+  process_data_t data;
+  char state;
+  if(turn->stimulus == TOARMUTS_CALLBACK) {
+    ctimer_told(p, (unsigned)turn->number);
+    return false;
+  }
+  if(turn->event == PROCESS_EVENT_INIT) {
+    unsigned index = index_of(p);
+    if(index < not_started && !has_booted[index]) {
+      has_booted[index] = true;
+      return true;
+    }
+    PT_INIT(&p->pt);
+    data = start_data;
+    start_data = NULL;
+  } else {
+    data = data_of_event(turn, p);
+  }
+  receive_again();
+  if(turn->event == PACKET_EVENT && takes_frames()) {
+    take_frame((size_t)turn->number);
+    return false;
+  }
+  state = p->thread(&p->pt, (process_event_t)turn->event, data);
+  return state == PT_EXITED || state == PT_ENDED;
+}
+
+/* process.h */
+
+/* The payload of a post. */
+static void
+put_data(struct toarmuts_call *call, process_data_t data)
+{
+  call->payload = data == NULL ? TOARMUTS_EMPTY : TOARMUTS_NUMBER;
+  call->number = number_of(data);
+}
+
+/* Ends the program where the kernel alone may give this event. */
+static void
+refuse_event(const struct toarmuts_turn *answer, process_event_t ev)
+{
+  if(refusal_of(answer) == 5) {
+    stop("event %u is the kernel's own, and can't be posted", ev);
+  }
+}
+
+static void
+check_event(process_event_t ev)
+{
+  if(ev == ERRAND_EVENT) {
+    stop("event 255 is the driver's own, and can't be posted");
+  }
+}
+
+/* `post` or `broadcast`. */
+int
+process_post(struct process *p, process_event_t ev, process_data_t data)
+{
+  struct toarmuts_call call = {.kind = TOARMUTS_CALL_BROADCAST, .numbers = {ev}};
+  const struct toarmuts_turn *answer;
+  check_event(ev);
+  if(p != PROCESS_BROADCAST) {
+    call.kind = TOARMUTS_CALL_POST;
+    call.numbers[0] = FIRST_PROCESS + index_of(p);
+    call.numbers[1] = ev;
+  }
+  put_data(&call, data);
+  answer = mote_call(&call);
+  refuse_event(answer, ev);
+  return refusal_of(answer) == 0 ? PROCESS_ERR_OK : PROCESS_ERR_FULL;
+}
+
+/* `post-synch`: the receiver's activation lies within. */
+void
+process_post_synch(struct process *p, process_event_t ev, process_data_t data)
+{
+  struct toarmuts_call call = {.kind = TOARMUTS_CALL_POST_SYNCH, .numbers = {FIRST_PROCESS + index_of(p), ev}};
+  check_event(ev);
+  put_data(&call, data);
+  refuse_event(mote_call(&call), ev);
+}
+
+/* `poll`. One that isn't running isn't polled. */
+void
+process_poll(struct process *p)
+{
+  if(p != NULL) {
+    MOTE_ASK(TOARMUTS_CALL_POLL, FIRST_PROCESS + index_of(p));
+  }
+}
+
+/* `start`. Nothing happens where it is running. Its INIT event comes at once, so the data waits here for it. */
+void
+process_start(struct process *p, process_data_t data)
+{
+  unsigned number = FIRST_PROCESS + index_of(p);
+  start_data = data;
+  MOTE_ASK(TOARMUTS_CALL_START, number);
+  start_data = NULL;
+}
+
+/* `kill`, or for the active process `exit` at its next wait. */
+void
+process_exit(struct process *p)
+{
+  const struct toarmuts_turn *answer;
+  unsigned number = FIRST_PROCESS + index_of(p);
+  if(activation != NULL && activation->process == p) {
+    activation->is_ending = true;
+    return;
+  }
+  answer = MOTE_ASK(TOARMUTS_CALL_KILL, number);
+  if(refusal_of(answer) == 4) {
+    stop("process_exit of %s, which stands in an activation of its own", p->name);
+  }
+  if(refusal_of(answer) == 0) {
+    forget_timers(p);
+    forget_receiver(p);
+  }
+}
+
+/* `is-running`. One that ends itself doesn't run any more. */
+int
+process_is_running(struct process *p)
+{
+  for(const struct activation *open = activation; open != NULL; open = open->outer) {
+    if(open->process == p && open->is_ending) {
+      return 0;
+    }
+  }
+  return MOTE_ASK(TOARMUTS_CALL_IS_RUNNING, FIRST_PROCESS + index_of(p))->number != 0;
+}
+
+/* `alloc-event`. */
+process_event_t
+process_alloc_event(void)
+{
+  const struct toarmuts_turn *answer = MOTE_ASK(TOARMUTS_CALL_ALLOC_EVENT, 0);
+  if(refusal_of(answer) != 0 || answer->number == ERRAND_EVENT) {
+    stop("more than 115 event numbers are drawn: the mote has 140 to 254 for programs");
+  }
+  return (process_event_t)answer->number;
+}

@@ -1,0 +1,553 @@
+/*
+ * Clock and timers: clock.h, timer.h, stimer.h, etimer.h and ctimer.h.
+ *
+ * A struct etimer has one of its process's eight event timers in the mote, and keeps it as long as no other timer needs it. The
+ * mote says when it runs out. The struct keeps start and interval as Contiki-NG's does; where the mote's timer has the same two
+ * numbers, a reset and a restart are the mote's own, and else the timer is set for what is left. Callback timers go the same way.
+ */
+#include "driver.h"
+
+enum { EVENT_TIMERS = 8, CALLBACK_TIMERS = 4 };
+
+/* What the driver knows of a timer in the mote. */
+struct cell {
+  const void *timer;     /* the struct etimer or ctimer that has it, or NULL */
+  clock_time_t start;    /* as the mote has it */
+  clock_time_t interval; /* as the mote has it */
+  clock_time_t set_at;   /* the clock when it was armed last */
+  bool is_armed;         /* and neither stopped nor told since */
+  unsigned waiting;      /* events that wait in the queue, of times before it was armed last */
+};
+
+static struct cell event_cells[MOST_PROCESSES][EVENT_TIMERS];
+static struct cell callback_cells[MOST_PROCESSES][CALLBACK_TIMERS];
+
+/* The clock: the call `clock`, so that a program that waits for it without end is halted. */
+
+clock_time_t
+clock_time(void)
+{
+  return MOTE_ASK(TOARMUTS_CALL_CLOCK, 0)->number;
+}
+
+unsigned long
+clock_seconds(void)
+{
+  return clock_time() / CLOCK_SECOND;
+}
+
+/* timer.h: the clock alone. */
+
+void
+timer_set(struct timer *t, clock_time_t interval)
+{
+  t->interval = interval;
+  t->start = clock_time();
+}
+
+void
+timer_reset(struct timer *t)
+{
+  if(timer_expired(t)) {
+    t->start += t->interval;
+  }
+}
+
+void
+timer_restart(struct timer *t)
+{
+  t->start = clock_time();
+}
+
+bool
+timer_expired(struct timer *t)
+{
+  return clock_time() - t->start >= t->interval;
+}
+
+clock_time_t
+timer_remaining(struct timer *t)
+{
+  return t->start + t->interval - clock_time();
+}
+
+/* stimer.h: the clock in seconds. */
+
+void
+stimer_set(struct stimer *t, unsigned long interval)
+{
+  t->interval = interval;
+  t->start = clock_seconds();
+}
+
+void
+stimer_reset(struct stimer *t)
+{
+  if(stimer_expired(t)) {
+    t->start += t->interval;
+  }
+}
+
+void
+stimer_restart(struct stimer *t)
+{
+  t->start = clock_seconds();
+}
+
+bool
+stimer_expired(struct stimer *t)
+{
+  return stimer_elapsed(t) >= t->interval;
+}
+
+unsigned long
+stimer_remaining(struct stimer *t)
+{
+  return t->start + t->interval - clock_seconds();
+}
+
+unsigned long
+stimer_elapsed(struct stimer *t)
+{
+  return clock_seconds() - t->start;
+}
+
+/* Cells: which of the mote's timers a timer has. */
+
+/* What the mote does to a timer of this end, by the clock. */
+static bool
+is_due(clock_time_t end)
+{
+  return end <= clock_now();
+}
+
+/* The ticks that are left to an end, which may be over. */
+static clock_time_t
+left_to(clock_time_t end)
+{
+  clock_time_t now = clock_now();
+  return end > now ? end - now : 0;
+}
+
+static uint32_t
+checked_interval(clock_time_t interval)
+{
+  if(interval > UINT32_MAX) {
+    stop("a timer of %lu ticks: the mote's have at most 4294967295", interval);
+  }
+  return (uint32_t)interval;
+}
+
+/* The place of a timer among a process's cells, or their number. */
+static unsigned
+slot_of(const void *timer, const struct cell *cells, unsigned count)
+{
+  unsigned slot = 0;
+  while(slot < count && cells[slot].timer != timer) {
+    slot++;
+  }
+  return slot;
+}
+
+static bool
+is_free(const struct cell *cell)
+{
+  return !cell->is_armed && cell->waiting == 0;
+}
+
+/* The timer's own place, else one that no timer had, else one whose timer isn't set. */
+static unsigned
+take_slot(const void *timer, struct cell *cells, unsigned count, const char *what)
+{
+  unsigned slot = slot_of(timer, cells, count);
+  if(slot == count) {
+    slot = slot_of(NULL, cells, count);
+  }
+  for(unsigned i = 0; slot == count && i < count; i++) {
+    if(is_free(&cells[i])) {
+      slot = i;
+    }
+  }
+  if(slot == count) {
+    stop("more than %u %s timers of one process are set: the mote has no more", count, what);
+  }
+  cells[slot].timer = timer;
+  return slot;
+}
+
+/* Notes that the mote's timer begins anew. */
+static void
+note_armed(struct cell *cell, clock_time_t start, clock_time_t interval)
+{
+  cell->start = start;
+  cell->interval = interval;
+  cell->set_at = clock_now();
+  cell->is_armed = true;
+}
+
+/* etimer.h */
+
+/* Where an armed timer may have run out already, the mote is asked: then its event waits in the queue. */
+static void
+settle(struct process *owner, unsigned slot)
+{
+  struct cell *cell = &event_cells[index_of(owner)][slot];
+  if(cell->is_armed && is_due(cell->start + cell->interval) &&
+     ASK_FOR(owner, TOARMUTS_CALL_TIMER_EXPIRED, slot)->number != 0) {
+    cell->is_armed = false;
+    cell->waiting++;
+  }
+}
+
+/* Where the timer is armed for a process, the mote's timer is stopped. Its event, if one waits, comes all the same. */
+static void
+disarm(const struct etimer *et, struct process *owner)
+{
+  struct cell *cells = event_cells[index_of(owner)];
+  unsigned slot = slot_of(et, cells, EVENT_TIMERS);
+  if(slot == EVENT_TIMERS) {
+    return;
+  }
+  settle(owner, slot);
+  if(cells[slot].is_armed) {
+    ASK_FOR(owner, TOARMUTS_CALL_TIMER_STOP, slot);
+    cells[slot].is_armed = false;
+  }
+}
+
+/* Takes a timer for the current process, and from any other; answers its place. */
+static unsigned
+take_timer(struct etimer *et)
+{
+  struct process *owner = process_current;
+  unsigned slot;
+  if(et->p != PROCESS_NONE && et->p != owner && process_of(et->p->number) == et->p) {
+    disarm(et, et->p);
+  }
+  slot = take_slot(et, event_cells[index_of(owner)], EVENT_TIMERS, "event");
+  settle(owner, slot);
+  return slot;
+}
+
+/* `timer-set`, to the timer's end. */
+static void
+arm_to_end(struct etimer *et, unsigned slot)
+{
+  uint32_t interval = checked_interval(left_to(etimer_expiration_time(et)));
+  ASK_FOR(process_current, TOARMUTS_CALL_TIMER_SET, slot, interval);
+  note_armed(&event_cells[index_of(process_current)][slot], clock_now(), interval);
+  et->p = process_current;
+}
+
+/* `timer-set` */
+void
+etimer_set(struct etimer *et, clock_time_t interval)
+{
+  unsigned slot = take_timer(et);
+  et->timer.interval = interval;
+  et->timer.start = clock_now();
+  arm_to_end(et, slot);
+}
+
+/* `timer-reset`, where the mote's timer has the same start and interval, else `timer-set`. */
+void
+etimer_reset(struct etimer *et)
+{
+  unsigned slot = take_timer(et);
+  struct cell *cell = &event_cells[index_of(process_current)][slot];
+  bool is_same = cell->start == et->timer.start && cell->interval == et->timer.interval;
+  if(!is_due(etimer_expiration_time(et))) {
+    /* It hasn't run out: it goes on, or is set again if it was stopped. */
+    if(cell->is_armed) {
+      et->p = process_current;
+    } else {
+      arm_to_end(et, slot);
+    }
+    return;
+  }
+  et->timer.start += et->timer.interval;
+  if(is_same) {
+    ASK_FOR(process_current, TOARMUTS_CALL_TIMER_RESET, slot);
+    note_armed(cell, et->timer.start, et->timer.interval);
+    et->p = process_current;
+  } else {
+    arm_to_end(et, slot);
+  }
+}
+
+/* `timer-set` */
+void
+etimer_reset_with_new_interval(struct etimer *et, clock_time_t interval)
+{
+  unsigned slot = take_timer(et);
+  if(is_due(etimer_expiration_time(et))) {
+    et->timer.start += et->timer.interval;
+  }
+  et->timer.interval = interval;
+  arm_to_end(et, slot);
+}
+
+/* `timer-restart`, where the mote's timer has the same interval, else `timer-set`. */
+void
+etimer_restart(struct etimer *et)
+{
+  unsigned slot = take_timer(et);
+  struct cell *cell = &event_cells[index_of(process_current)][slot];
+  et->timer.start = clock_now();
+  if(cell->interval == et->timer.interval) {
+    ASK_FOR(process_current, TOARMUTS_CALL_TIMER_RESTART, slot);
+    note_armed(cell, et->timer.start, et->timer.interval);
+    et->p = process_current;
+  } else {
+    arm_to_end(et, slot);
+  }
+}
+
+/* `timer-set`, if it is set; it keeps its place on the mote's list. */
+void
+etimer_adjust(struct etimer *et, int td)
+{
+  struct process *caller = process_current;
+  unsigned slot;
+  et->timer.start += (clock_time_t)(long)td;
+  if(et->p == PROCESS_NONE) {
+    return;
+  }
+  slot = slot_of(et, event_cells[index_of(et->p)], EVENT_TIMERS);
+  if(slot < EVENT_TIMERS) {
+    settle(et->p, slot);
+    if(event_cells[index_of(et->p)][slot].is_armed) {
+      process_current = et->p;
+      arm_to_end(et, slot);
+      process_current = caller;
+    }
+  }
+}
+
+/* `timer-stop`, if it is set. */
+void
+etimer_stop(struct etimer *et)
+{
+  if(et->p != PROCESS_NONE) {
+    disarm(et, et->p);
+  }
+  et->p = PROCESS_NONE;
+}
+
+/*
+ * By the flag that the struct has, as Contiki-NG does. It is taken away when the event is told; before that the mote is asked with
+ * `timer-expired`, if the timer may have run out. Of a timer whose process has ended it is as it was.
+ */
+bool
+etimer_expired(struct etimer *et)
+{
+  unsigned slot;
+  if(et->p == PROCESS_NONE) {
+    return true;
+  }
+  slot = slot_of(et, event_cells[index_of(et->p)], EVENT_TIMERS);
+  if(slot == EVENT_TIMERS || !event_cells[index_of(et->p)][slot].is_armed) {
+    return slot < EVENT_TIMERS && event_cells[index_of(et->p)][slot].waiting > 0;
+  }
+  return is_due(etimer_expiration_time(et)) && ASK_FOR(et->p, TOARMUTS_CALL_TIMER_EXPIRED, slot)->number != 0;
+}
+
+clock_time_t
+etimer_expiration_time(struct etimer *et)
+{
+  return et->timer.start + et->timer.interval;
+}
+
+clock_time_t
+etimer_start_time(struct etimer *et)
+{
+  return et->timer.start;
+}
+
+/* An event timer's event is told: of the timer as it was armed last, or of an earlier time. */
+struct etimer *
+etimer_told(struct process *p, unsigned slot)
+{
+  struct cell *cell = &event_cells[index_of(p)][slot];
+  struct etimer *et = (struct etimer *)(uintptr_t)cell->timer;
+  if(cell->waiting > 0) {
+    cell->waiting--;
+  } else if(cell->is_armed && is_due(cell->start + cell->interval)) {
+    cell->is_armed = false;
+    if(et != NULL) {
+      et->p = PROCESS_NONE;
+    }
+  }
+  return et;
+}
+
+/* ctimer.h */
+
+/* `callback-stop`, where the timer is set for a process. */
+static void
+disarm_callback(const struct ctimer *c, struct process *owner)
+{
+  struct cell *cells = callback_cells[index_of(owner)];
+  unsigned slot = slot_of(c, cells, CALLBACK_TIMERS);
+  if(slot < CALLBACK_TIMERS && cells[slot].is_armed) {
+    ASK_FOR(owner, TOARMUTS_CALL_CALLBACK_STOP, slot);
+    cells[slot].is_armed = false;
+  }
+}
+
+/* `callback-set`, to the timer's end. */
+static void
+arm_callback(struct ctimer *c)
+{
+  uint32_t interval = checked_interval(left_to(etimer_expiration_time(&c->etimer)));
+  unsigned slot = take_slot(c, callback_cells[index_of(c->p)], CALLBACK_TIMERS, "callback");
+  ASK_FOR(c->p, TOARMUTS_CALL_CALLBACK_SET, slot, interval);
+  note_armed(&callback_cells[index_of(c->p)][slot], clock_now(), interval);
+  c->etimer.p = c->p;
+}
+
+/* `callback-set` */
+void
+ctimer_set_with_process(struct ctimer *c, clock_time_t t, void (*f)(void *), void *ptr, struct process *p)
+{
+  if(c->etimer.p != PROCESS_NONE && c->etimer.p != p && process_of(c->etimer.p->number) == c->etimer.p) {
+    disarm_callback(c, c->etimer.p);
+  }
+  c->p = p;
+  c->f = f;
+  c->ptr = ptr;
+  c->etimer.timer.interval = t;
+  c->etimer.timer.start = clock_now();
+  arm_callback(c);
+}
+
+void
+ctimer_set(struct ctimer *c, clock_time_t t, void (*f)(void *), void *ptr)
+{
+  ctimer_set_with_process(c, t, f, ptr, process_current);
+}
+
+/* `callback-set` for the interval that follows the last one, if that is over. */
+void
+ctimer_reset(struct ctimer *c)
+{
+  if(is_due(etimer_expiration_time(&c->etimer))) {
+    c->etimer.timer.start += c->etimer.timer.interval;
+  } else if(c->etimer.p != PROCESS_NONE) {
+    return;
+  }
+  arm_callback(c);
+}
+
+/* `callback-set` */
+void
+ctimer_restart(struct ctimer *c)
+{
+  c->etimer.timer.start = clock_now();
+  arm_callback(c);
+}
+
+/* `callback-stop`, if it is set. */
+void
+ctimer_stop(struct ctimer *c)
+{
+  if(c->etimer.p != PROCESS_NONE) {
+    disarm_callback(c, c->etimer.p);
+  }
+  c->etimer.p = PROCESS_NONE;
+}
+
+/*
+ * The mote has no call that asks this. A timer that was set at an earlier clock and whose end has come has run out: its callback
+ * waits. One that was set at the present clock has not.
+ */
+bool
+ctimer_expired(struct ctimer *c)
+{
+  const struct cell *cells;
+  unsigned slot;
+  if(c->etimer.p == PROCESS_NONE) {
+    return true;
+  }
+  cells = callback_cells[index_of(c->etimer.p)];
+  slot = slot_of(c, cells, CALLBACK_TIMERS);
+  return slot < CALLBACK_TIMERS && cells[slot].is_armed && is_due(cells[slot].start + cells[slot].interval) &&
+         cells[slot].set_at < clock_now();
+}
+
+/* A callback timer has run out. The mote tells only of one that was neither set nor stopped since. */
+void
+ctimer_told(struct process *p, unsigned slot)
+{
+  struct cell *cell = &callback_cells[index_of(p)][slot];
+  struct ctimer *c = (struct ctimer *)(uintptr_t)cell->timer;
+  cell->is_armed = false;
+  if(c == NULL) {
+    p->thread(&p->pt, PROCESS_EVENT_NONE, (process_data_t)(uintptr_t)slot);
+    return;
+  }
+  c->etimer.p = PROCESS_NONE;
+  if(c->f != NULL) {
+    c->f(c->ptr);
+  }
+}
+
+/* All timers. */
+
+/* Whether it runs out later, and hasn't been told. */
+static bool
+is_pending(const struct cell *cell)
+{
+  return cell->is_armed && (!is_due(cell->start + cell->interval) || cell->set_at == clock_now());
+}
+
+/* The least end of the pending timers among these, if it is below another one. */
+static clock_time_t
+least_end(const struct cell *cells, unsigned count, clock_time_t least)
+{
+  for(unsigned i = 0; i < count; i++) {
+    if(is_pending(&cells[i]) && cells[i].start + cells[i].interval < least) {
+      least = cells[i].start + cells[i].interval;
+    }
+  }
+  return least;
+}
+
+static const clock_time_t NEVER = (clock_time_t)-1;
+
+static clock_time_t
+next_end(void)
+{
+  clock_time_t least = NEVER;
+  for(unsigned i = 0; i < process_count; i++) {
+    least = least_end(event_cells[i], EVENT_TIMERS, least);
+    least = least_end(callback_cells[i], CALLBACK_TIMERS, least);
+  }
+  return least;
+}
+
+bool
+etimer_pending(void)
+{
+  return next_end() != NEVER;
+}
+
+clock_time_t
+etimer_next_expiration_time(void)
+{
+  clock_time_t end = next_end();
+  return end == NEVER ? 0 : end;
+}
+
+/* A process has ended: the mote has stopped its timers. Their structs stay as they are. */
+void
+forget_timers(struct process *p)
+{
+  unsigned index = index_of(p);
+  for(unsigned slot = 0; slot < EVENT_TIMERS; slot++) {
+    event_cells[index][slot].is_armed = false;
+  }
+  for(unsigned slot = 0; slot < CALLBACK_TIMERS; slot++) {
+    callback_cells[index][slot].is_armed = false;
+  }
+}
