@@ -65,9 +65,7 @@ run_errand(void)
 {
   const struct toarmuts_call *call = errand;
   errand = NULL;
-  if(call != NULL) {
-    errand_answer = *mote_call(call);
-  }
+  errand_answer = *mote_call(call);
 }
 
 /* An activation, from what a process is told to its wait or its exit. */
@@ -79,7 +77,7 @@ run_activation(const struct toarmuts_turn *turn)
   bool ends;
   activation = &present;
   process_current = present.process;
-  if(turn->stimulus == TOARMUTS_EVENT && turn->event == ERRAND_EVENT) {
+  if(errand != NULL && turn->event == ERRAND_EVENT) {
     run_errand();
     ends = false;
   } else {

@@ -4,8 +4,17 @@
 
 #include "sys/process.h"
 
-#define AUTOSTART_PROCESSES(...) struct process *const autostart_processes[] = {__VA_ARGS__, NULL}
-
 extern struct process *const autostart_processes[];
+
+/* 0 in a program whose sources each say what is to be started, and that has a list of its own. */
+#ifndef AUTOSTART_ENABLE
+#define AUTOSTART_ENABLE 1
+#endif
+
+#if AUTOSTART_ENABLE
+#define AUTOSTART_PROCESSES(...) struct process *const autostart_processes[] = {__VA_ARGS__, NULL}
+#else
+#define AUTOSTART_PROCESSES(...) extern struct process *const autostart_processes[]
+#endif
 
 #endif
