@@ -41,12 +41,21 @@ add_number(struct report *report, uint64_t number)
   add_text(report, digits + at);
 }
 
+/* What an event from 129 on is called. */
+static const char *const event_names[] = {
+  "INIT", "POLL", "EXIT", "SERVICE_REMOVED", "CONTINUE", "MSG", "EXITED", "TIMER", "COM", "LINE", "PACKET",
+};
+
 /* What the active process was told. */
 static void
 add_stimulus(struct report *report, const struct toarmuts_turn *turn)
 {
-  add_text(report, turn->stimulus == TOARMUTS_CALLBACK ? "callback " : "event ");
+  uint32_t place = turn->event - PROCESS_EVENT_INIT;
+  bool is_named = turn->stimulus == TOARMUTS_EVENT && place < sizeof event_names / sizeof event_names[0];
+  add_text(report, turn->stimulus == TOARMUTS_CALLBACK ? "callback" : is_named ? event_names[place] : "event");
+  add_text(report, is_named ? " (" : " ");
   add_number(report, turn->stimulus == TOARMUTS_CALLBACK ? turn->number : turn->event);
+  add_text(report, is_named ? ")" : "");
 }
 
 /* Which process is active, in which event, and where. */
