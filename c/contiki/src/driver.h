@@ -72,7 +72,7 @@ unsigned free_handle(void);
 
 /* nullnet.c */
 void forget_receiver(const struct process *p);
-void receive_again(void);
+bool receive_again(void);
 bool takes_frames(void);
 void take_frame(size_t length);
 

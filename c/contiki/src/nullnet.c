@@ -31,9 +31,9 @@ uint16_t nullnet_len;
 
 static nullnet_input_callback input_callback;
 
-/* The process whose activations frames come in, or NULL, and whether there was one. */
+/* The process whose activations frames come in, or NULL; whether there was one; whether another one is to follow it. */
 static const struct process *receiver;
-static bool had_receiver;
+static bool had_receiver, is_followed;
 
 /* `packet-open`, unless another process is the receiver. */
 static void
@@ -42,6 +42,7 @@ open_packets(void)
   if(receiver == NULL && refusal_of(MOTE_ASK(TOARMUTS_CALL_PACKET_OPEN, 0)) == 0) {
     receiver = activation->process;
     had_receiver = true;
+    is_followed = false;
   }
 }
 
@@ -62,14 +63,26 @@ forget_receiver(const struct process *p)
   }
 }
 
-/* The callback outlives the process that set it: the next one that is told something receives the frames. */
-void
+/*
+ * The callback outlives the process that set it. Where the others are told that this one has ended, the mote still has it as the
+ * receiver: so the first of them gives itself an event, and becomes the receiver then. True where a process was told that event.
+ */
+bool
 receive_again(void)
 {
   const struct toarmuts_turn *turn = &activation->turn;
-  if(had_receiver && receiver == NULL && turn->event != PROCESS_EVENT_EXIT && turn->event != PROCESS_EVENT_EXITED) {
-    open_packets();
+  if(!had_receiver || turn->event == PROCESS_EVENT_EXIT) {
+    return false;
   }
+  if(turn->event != PROCESS_EVENT_EXITED) {
+    open_packets();
+    return turn->event == ERRAND_EVENT;
+  }
+  forget_receiver(process_of(turn->number));
+  if(receiver == NULL && !is_followed) {
+    is_followed = refusal_of(MOTE_ASK(TOARMUTS_CALL_POST, activation->process->number, ERRAND_EVENT)) == 0;
+  }
+  return false;
 }
 
 /* Whether frames are for a callback, not for the process's thread. */

@@ -218,7 +218,9 @@ activate(struct activation *present)
   } else {
     data = data_of_event(turn, p);
   }
-  receive_again();
+  if(receive_again()) {
+    return false;
+  }
   if(turn->event == PACKET_EVENT && takes_frames()) {
     take_frame((size_t)turn->number);
     return false;
@@ -342,4 +344,22 @@ process_alloc_event(void)
     stop("more than 115 event numbers are drawn: the mote has 140 to 254 for programs");
   }
   return (process_event_t)answer->number;
+}
+
+/* autostart.h */
+
+void
+autostart_start(struct process *const started[])
+{
+  for(; *started != NULL; started++) {
+    process_start(*started, NULL);
+  }
+}
+
+void
+autostart_exit(struct process *const ended[])
+{
+  for(; *ended != NULL; ended++) {
+    process_exit(*ended);
+  }
 }

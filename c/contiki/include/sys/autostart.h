@@ -17,4 +17,8 @@ extern struct process *const autostart_processes[];
 #define AUTOSTART_PROCESSES(...) extern struct process *const autostart_processes[]
 #endif
 
+/* Starts the processes of a list, or ends them. The program's own list is started without this. */
+void autostart_start(struct process *const processes[]);
+void autostart_exit(struct process *const processes[]);
+
 #endif

@@ -1,0 +1,29 @@
+/* The watchdog: a process that makes no call for ten seconds is told of on standard error, whatever is done here. */
+#ifndef WATCHDOG_H_
+#define WATCHDOG_H_
+
+#include "sys/cc.h"
+
+static inline void
+watchdog_init(void)
+{
+}
+
+static inline void
+watchdog_start(void)
+{
+}
+
+static inline void
+watchdog_periodic(void)
+{
+}
+
+static inline void
+watchdog_stop(void)
+{
+}
+
+CC_REFUSED("the mote can't be booted again within a run") void watchdog_reboot(void);
+
+#endif

@@ -1,0 +1,23 @@
+/* One of two sources: it starts the other one's process, and calls a function that knows nothing of Contiki-NG. */
+#include "contiki.h"
+#include "sys/log.h"
+
+#define LOG_MODULE "Parts"
+#define LOG_LEVEL LOG_LEVEL_MAIN
+
+PROCESS_NAME(second);
+PROCESS(first, "First");
+AUTOSTART_PROCESSES(&first, &second);
+
+void say(const char *text);
+
+PROCESS_THREAD(first, ev, data)
+{
+  PROCESS_BEGIN();
+
+  LOG_DBG("a second has %lu ticks\n", CLOCK_SECOND);
+  say("by a plain function");
+  process_post(&second, PROCESS_EVENT_MSG, (void *)7);
+
+  PROCESS_END();
+}
