@@ -64,7 +64,7 @@ bool activate(struct activation *present);
 
 /* timers.c */
 struct etimer *etimer_told(struct process *p, unsigned slot);
-void ctimer_told(struct process *p, unsigned slot);
+bool ctimer_told(struct process *p, unsigned slot);
 void forget_timers(struct process *p);
 
 /* memory.c */

@@ -201,10 +201,8 @@ activate(struct activation *present)
   const struct toarmuts_turn *turn = &present->turn;
   struct process *p = present->process;
   process_data_t data;
-  char state;
   if(turn->stimulus == TOARMUTS_CALLBACK) {
-    ctimer_told(p, (unsigned)turn->number);
-    return false;
+    return ctimer_told(p, (unsigned)turn->number);
   }
   if(turn->event == PROCESS_EVENT_INIT) {
     unsigned index = index_of(p);
@@ -225,8 +223,7 @@ activate(struct activation *present)
     take_frame((size_t)turn->number);
     return false;
   }
-  state = p->thread(&p->pt, (process_event_t)turn->event, data);
-  return state == PT_EXITED || state == PT_ENDED;
+  return !PT_SCHEDULE(p->thread(&p->pt, (process_event_t)turn->event, data));
 }
 
 /* process.h */

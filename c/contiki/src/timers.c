@@ -475,21 +475,24 @@ ctimer_expired(struct ctimer *c)
          cells[slot].set_at < clock_now();
 }
 
-/* A callback timer has run out. The mote tells only of one that was neither set nor stopped since. */
-void
+/*
+ * A callback timer has run out. The mote tells only of one that was neither set nor stopped since. One that mote.h set is told to
+ * the thread; true where that has ended.
+ */
+bool
 ctimer_told(struct process *p, unsigned slot)
 {
   struct cell *cell = &callback_cells[index_of(p)][slot];
   struct ctimer *c = (struct ctimer *)(uintptr_t)cell->timer;
   cell->is_armed = false;
   if(c == NULL) {
-    p->thread(&p->pt, PROCESS_EVENT_NONE, (process_data_t)(uintptr_t)slot);
-    return;
+    return !PT_SCHEDULE(p->thread(&p->pt, PROCESS_EVENT_NONE, (process_data_t)(uintptr_t)slot));
   }
   c->etimer.p = PROCESS_NONE;
   if(c->f != NULL) {
     c->f(c->ptr);
   }
+  return false;
 }
 
 /* All timers. */
