@@ -7,6 +7,7 @@
 #include "driver.h"
 
 struct activation *activation;
+uint64_t rounds_begun;
 static struct toarmuts_mote mote;
 
 /* A call that one process makes in the name of another. */
@@ -75,6 +76,9 @@ run_activation(const struct toarmuts_turn *turn)
   struct process *caller = process_current;
   struct activation present = {.process = process_of(turn->process), .turn = *turn, .line = lines_shown + 1, .outer = activation};
   bool ends;
+  if(turn->origin == TOARMUTS_FROM_EVENT || turn->origin == TOARMUTS_FROM_CALLBACK) {
+    rounds_begun++;
+  }
   activation = &present;
   process_current = present.process;
   if(errand != NULL && turn->event == ERRAND_EVENT) {

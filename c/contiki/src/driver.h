@@ -41,6 +41,9 @@ struct activation {
 /* The innermost activation, or NULL. */
 extern struct activation *activation;
 
+/* How many rounds have begun that gave an event or a callback to somebody here. */
+extern uint64_t rounds_begun;
+
 void open_mote(const struct toarmuts_configuration *configuration);
 void run_to_rest(void);
 uint32_t feed_line(const char *line, size_t length);

@@ -216,6 +216,11 @@ activate(struct activation *present)
   } else {
     data = data_of_event(turn, p);
   }
+  if(turn->event == PROCESS_EVENT_EXIT) {
+    /* Others were told before that it ends, the kernel's processes among them. */
+    forget_timers(p);
+    forget_receiver(p);
+  }
   if(receive_again()) {
     return false;
   }
@@ -313,10 +318,6 @@ process_exit(struct process *p)
   answer = MOTE_ASK(TOARMUTS_CALL_KILL, number);
   if(refusal_of(answer) == 4) {
     stop("process_exit of %s, which stands in an activation of its own", p->name);
-  }
-  if(refusal_of(answer) == 0) {
-    forget_timers(p);
-    forget_receiver(p);
   }
 }
 

@@ -14,7 +14,7 @@ struct cell {
   const void *timer;     /* the struct etimer or ctimer that has it, or NULL */
   clock_time_t start;    /* as the mote has it */
   clock_time_t interval; /* as the mote has it */
-  clock_time_t set_at;   /* the clock when it was armed last */
+  uint64_t set_in;       /* the round in which it was armed last */
   bool is_armed;         /* and neither stopped nor told since */
   unsigned waiting;      /* events that wait in the queue, of times before it was armed last */
 };
@@ -114,19 +114,35 @@ stimer_elapsed(struct stimer *t)
 
 /* Cells: which of the mote's timers a timer has. */
 
-/* What the mote does to a timer of this end, by the clock. */
-static bool
-is_due(clock_time_t end)
+/* The ticks that an interval has left, as Contiki-NG counts them: 0 where it is over, also where it began before the clock did. */
+static clock_time_t
+left_of(clock_time_t start, clock_time_t interval)
 {
-  return end <= clock_now();
+  clock_time_t elapsed = clock_now() - start;
+  return elapsed < interval ? interval - elapsed : 0;
 }
 
-/* The ticks that are left to an end, which may be over. */
-static clock_time_t
-left_to(clock_time_t end)
+static bool
+is_over(const struct etimer *et)
 {
-  clock_time_t now = clock_now();
-  return end > now ? end - now : 0;
+  return left_of(et->timer.start, et->timer.interval) == 0;
+}
+
+/* Whether the mote's timer is due. */
+static bool
+is_due(const struct cell *cell)
+{
+  return left_of(cell->start, cell->interval) == 0;
+}
+
+/*
+ * Whether an armed timer has run out, as far as the driver can tell: a round that begins takes those that are due from the list, as
+ * many as the event queue has room for.
+ */
+static bool
+has_run_out(const struct cell *cell)
+{
+  return is_due(cell) && cell->set_in < rounds_begun;
 }
 
 static uint32_t
@@ -181,20 +197,30 @@ note_armed(struct cell *cell, clock_time_t start, clock_time_t interval)
 {
   cell->start = start;
   cell->interval = interval;
-  cell->set_at = clock_now();
+  cell->set_in = rounds_begun;
   cell->is_armed = true;
 }
 
 /* etimer.h */
+
+/* The timer of a cell has run out, was stopped, or its event was told: its flag goes. */
+static void
+note_expired(struct cell *cell)
+{
+  struct etimer *et = (struct etimer *)(uintptr_t)cell->timer;
+  cell->is_armed = false;
+  if(et != NULL) {
+    et->p = PROCESS_NONE;
+  }
+}
 
 /* Where an armed timer may have run out already, the mote is asked: then its event waits in the queue. */
 static void
 settle(struct process *owner, unsigned slot)
 {
   struct cell *cell = &event_cells[index_of(owner)][slot];
-  if(cell->is_armed && is_due(cell->start + cell->interval) &&
-     ASK_FOR(owner, TOARMUTS_CALL_TIMER_EXPIRED, slot)->number != 0) {
-    cell->is_armed = false;
+  if(cell->is_armed && is_due(cell) && ASK_FOR(owner, TOARMUTS_CALL_TIMER_EXPIRED, slot)->number != 0) {
+    note_expired(cell);
     cell->waiting++;
   }
 }
@@ -211,7 +237,7 @@ disarm(const struct etimer *et, struct process *owner)
   settle(owner, slot);
   if(cells[slot].is_armed) {
     ASK_FOR(owner, TOARMUTS_CALL_TIMER_STOP, slot);
-    cells[slot].is_armed = false;
+    note_expired(&cells[slot]);
   }
 }
 
@@ -233,7 +259,7 @@ take_timer(struct etimer *et)
 static void
 arm_to_end(struct etimer *et, unsigned slot)
 {
-  uint32_t interval = checked_interval(left_to(etimer_expiration_time(et)));
+  uint32_t interval = checked_interval(left_of(et->timer.start, et->timer.interval));
   ASK_FOR(process_current, TOARMUTS_CALL_TIMER_SET, slot, interval);
   note_armed(&event_cells[index_of(process_current)][slot], clock_now(), interval);
   et->p = process_current;
@@ -256,7 +282,7 @@ etimer_reset(struct etimer *et)
   unsigned slot = take_timer(et);
   struct cell *cell = &event_cells[index_of(process_current)][slot];
   bool is_same = cell->start == et->timer.start && cell->interval == et->timer.interval;
-  if(!is_due(etimer_expiration_time(et))) {
+  if(!is_over(et)) {
     /* It hasn't run out: it goes on, or is set again if it was stopped. */
     if(cell->is_armed) {
       et->p = process_current;
@@ -280,7 +306,7 @@ void
 etimer_reset_with_new_interval(struct etimer *et, clock_time_t interval)
 {
   unsigned slot = take_timer(et);
-  if(is_due(etimer_expiration_time(et))) {
+  if(is_over(et)) {
     et->timer.start += et->timer.interval;
   }
   et->timer.interval = interval;
@@ -346,10 +372,10 @@ etimer_expired(struct etimer *et)
     return true;
   }
   slot = slot_of(et, event_cells[index_of(et->p)], EVENT_TIMERS);
-  if(slot == EVENT_TIMERS || !event_cells[index_of(et->p)][slot].is_armed) {
-    return slot < EVENT_TIMERS && event_cells[index_of(et->p)][slot].waiting > 0;
+  if(slot < EVENT_TIMERS) {
+    settle(et->p, slot);
   }
-  return is_due(etimer_expiration_time(et)) && ASK_FOR(et->p, TOARMUTS_CALL_TIMER_EXPIRED, slot)->number != 0;
+  return et->p == PROCESS_NONE;
 }
 
 clock_time_t
@@ -369,16 +395,12 @@ struct etimer *
 etimer_told(struct process *p, unsigned slot)
 {
   struct cell *cell = &event_cells[index_of(p)][slot];
-  struct etimer *et = (struct etimer *)(uintptr_t)cell->timer;
   if(cell->waiting > 0) {
     cell->waiting--;
-  } else if(cell->is_armed && is_due(cell->start + cell->interval)) {
-    cell->is_armed = false;
-    if(et != NULL) {
-      et->p = PROCESS_NONE;
-    }
+  } else if(cell->is_armed && is_due(cell)) {
+    note_expired(cell);
   }
-  return et;
+  return (struct etimer *)(uintptr_t)cell->timer;
 }
 
 /* ctimer.h */
@@ -399,7 +421,7 @@ disarm_callback(const struct ctimer *c, struct process *owner)
 static void
 arm_callback(struct ctimer *c)
 {
-  uint32_t interval = checked_interval(left_to(etimer_expiration_time(&c->etimer)));
+  uint32_t interval = checked_interval(left_of(c->etimer.timer.start, c->etimer.timer.interval));
   unsigned slot = take_slot(c, callback_cells[index_of(c->p)], CALLBACK_TIMERS, "callback");
   ASK_FOR(c->p, TOARMUTS_CALL_CALLBACK_SET, slot, interval);
   note_armed(&callback_cells[index_of(c->p)][slot], clock_now(), interval);
@@ -431,7 +453,7 @@ ctimer_set(struct ctimer *c, clock_time_t t, void (*f)(void *), void *ptr)
 void
 ctimer_reset(struct ctimer *c)
 {
-  if(is_due(etimer_expiration_time(&c->etimer))) {
+  if(is_over(&c->etimer)) {
     c->etimer.timer.start += c->etimer.timer.interval;
   } else if(c->etimer.p != PROCESS_NONE) {
     return;
@@ -457,10 +479,7 @@ ctimer_stop(struct ctimer *c)
   c->etimer.p = PROCESS_NONE;
 }
 
-/*
- * The mote has no call that asks this. A timer that was set at an earlier clock and whose end has come has run out: its callback
- * waits. One that was set at the present clock has not.
- */
+/* The mote has no call that asks this, so the driver's own account tells. */
 bool
 ctimer_expired(struct ctimer *c)
 {
@@ -471,8 +490,7 @@ ctimer_expired(struct ctimer *c)
   }
   cells = callback_cells[index_of(c->etimer.p)];
   slot = slot_of(c, cells, CALLBACK_TIMERS);
-  return slot < CALLBACK_TIMERS && cells[slot].is_armed && is_due(cells[slot].start + cells[slot].interval) &&
-         cells[slot].set_at < clock_now();
+  return slot < CALLBACK_TIMERS && cells[slot].is_armed && has_run_out(&cells[slot]);
 }
 
 /*
@@ -501,7 +519,7 @@ ctimer_told(struct process *p, unsigned slot)
 static bool
 is_pending(const struct cell *cell)
 {
-  return cell->is_armed && (!is_due(cell->start + cell->interval) || cell->set_at == clock_now());
+  return cell->is_armed && !has_run_out(cell);
 }
 
 /* The least end of the pending timers among these, if it is below another one. */
@@ -542,13 +560,17 @@ etimer_next_expiration_time(void)
   return end == NEVER ? 0 : end;
 }
 
-/* A process has ended: the mote has stopped its timers. Their structs stay as they are. */
+/* A process has ended: the mote has stopped its timers. The flags of those that hadn't run out stay, as in Contiki-NG. */
 void
 forget_timers(struct process *p)
 {
   unsigned index = index_of(p);
   for(unsigned slot = 0; slot < EVENT_TIMERS; slot++) {
-    event_cells[index][slot].is_armed = false;
+    struct cell *cell = &event_cells[index][slot];
+    if(cell->is_armed && has_run_out(cell)) {
+      note_expired(cell);
+    }
+    cell->is_armed = false;
   }
   for(unsigned slot = 0; slot < CALLBACK_TIMERS; slot++) {
     callback_cells[index][slot].is_armed = false;
