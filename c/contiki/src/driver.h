@@ -86,8 +86,8 @@ void flush_console(void);
 /* transcript.c */
 extern uint64_t lines_shown;
 void begin_transcript(bool is_quiet, bool is_text);
-void show_turn(const struct toarmuts_mote *mote, const struct toarmuts_call *call);
-void show_entry(const struct toarmuts_mote *mote);
+void show_turn(struct toarmuts_mote *mote, const struct toarmuts_call *call);
+void show_entry(struct toarmuts_mote *mote);
 void show_text(const char *text);
 void flush_transcript(void);
 

@@ -49,7 +49,7 @@ put_bytes(const void *bytes, size_t length)
 
 /* The line of the entry that was made last. */
 static void
-put_line(const struct toarmuts_mote *mote)
+put_line(struct toarmuts_mote *mote)
 {
   uint8_t line[LINE_ROOM];
   size_t length;
@@ -63,7 +63,7 @@ put_line(const struct toarmuts_mote *mote)
 
 /* A turn, with the call that answered it. */
 void
-show_turn(const struct toarmuts_mote *mote, const struct toarmuts_call *call)
+show_turn(struct toarmuts_mote *mote, const struct toarmuts_call *call)
 {
   bool prints = call->kind == TOARMUTS_CALL_PRINT;
   lines_shown++;
@@ -78,7 +78,7 @@ show_turn(const struct toarmuts_mote *mote, const struct toarmuts_call *call)
 
 /* Whether an entry that is no turn stands in a quiet transcript. */
 static bool
-is_kept(const struct toarmuts_mote *mote)
+is_kept(struct toarmuts_mote *mote)
 {
   char line[LINE_ROOM];
   size_t length;
@@ -88,7 +88,7 @@ is_kept(const struct toarmuts_mote *mote)
 
 /* An input, a note or the halt. */
 void
-show_entry(const struct toarmuts_mote *mote)
+show_entry(struct toarmuts_mote *mote)
 {
   lines_shown++;
   if(!shows_text && (!shows_prints_alone || is_kept(mote))) {
