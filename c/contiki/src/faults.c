@@ -100,11 +100,19 @@ tell(const char *what)
 
 static bool is_over;
 
+/* From here on nothing is told any more. */
+static void
+end_run(void)
+{
+  is_over = true;
+  close_console();
+}
+
 /* Ends the program with the transcript as far as it has come. */
 void
 finish(int status)
 {
-  is_over = true;
+  end_run();
   flush_transcript();
   if(status == STATUS_HALTED) {
     static const char why[] = "contiki: the mote halted: one input made 10,000 turns and rounds, and may make no more\n";
@@ -123,7 +131,7 @@ stop(const char *format, ...)
   vsnprintf(what, sizeof what, format, arguments);
   va_end(arguments);
   tell(what);
-  is_over = true;
+  end_run();
   exit(STATUS_STOPPED);
 }
 
@@ -132,7 +140,7 @@ void
 give_up(int status, const char *format, ...)
 {
   va_list arguments;
-  is_over = true;
+  end_run();
   va_start(arguments, format);
   fputs("contiki: ", stderr);
   vfprintf(stderr, format, arguments);
