@@ -86,16 +86,23 @@ write_report(const struct report *report)
   (void)written;
 }
 
-/* Says what happened where, behind all of the transcript. */
+/* Says what happens where. */
 static void
-tell(const char *what)
+tell_now(const char *what)
 {
   struct report report = {.length = 0};
   add_place(&report);
   add_text(&report, what);
   add_text(&report, "\n");
-  flush_transcript();
   write_report(&report);
+}
+
+/* The same behind all of the transcript, whose writing isn't interrupted by this. */
+static void
+tell(const char *what)
+{
+  flush_transcript();
+  tell_now(what);
 }
 
 static bool is_over;
@@ -180,8 +187,7 @@ handle_alarm(int number)
   static uint64_t last = UINT64_MAX;
   (void)number;
   if(activation != NULL && last == lines_shown) {
-    tell("it has made no call for 10 seconds; it may be in a loop without end");
-    last = UINT64_MAX;
+    tell_now("it has made no call for 10 seconds; it may be in a loop without end");
     return;
   }
   last = lines_shown;
