@@ -38,7 +38,7 @@ struct advance { ...; };
 uint32_t toarmuts_open(const struct toarmuts_configuration *configuration, uint32_t applications, struct toarmuts_mote *mote);
 uint32_t toarmuts_feed(struct toarmuts_mote *mote, const uint8_t *line, size_t length);
 uint32_t toarmuts_feed_input(struct toarmuts_mote *mote, uint32_t kind, uint32_t ticks, const uint8_t *bytes, size_t length);
-uint32_t toarmuts_clock(const struct toarmuts_mote *mote, uint64_t *clock);
+uint32_t toarmuts_clock(struct toarmuts_mote *mote, uint64_t *clock);
 uint32_t toarmuts_close(struct toarmuts_mote *mote);
 void advance_mote(struct toarmuts_mote *mote, const struct toarmuts_call *call, struct advance *advance);
 """
@@ -66,7 +66,7 @@ def check_library() -> None:
     """Ends with the reason where there is no library that can be used."""
     if not LIBRARY.exists():
         raise NotBuilt(f"toarmuts: there is no {LIBRARY}: `{PROVE}` in {ROOT} proves and builds it")
-    lacking = missing_calls() if "pystep" not in str(CRATE) else []
+    lacking = missing_calls()
     if lacking:
         raise NotBuilt(f"toarmuts: {LIBRARY} lacks {lacking[0]}, it is older than its header: `{PROVE}` in {ROOT} makes it anew")
     if is_stale() and "TOARMUTS_STALE" not in os.environ:

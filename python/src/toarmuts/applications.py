@@ -36,7 +36,7 @@ class Application(Protocol):
         """The call for this stimulus."""
 
 
-Turns = Generator[Call, Any, object]
+Turns = Generator[Call, Any, None]
 """What a generator function answers: it yields calls, and is sent what the process is told next."""
 
 ApplicationLike = Union[str, Sequence[Union[Call, str]], Application, Callable[[], Union[Application, Turns]]]
