@@ -31,6 +31,7 @@ struct toarmuts_answer { uint32_t status; uint64_t line; size_t length; };
 void toarmuts_run(const struct toarmuts_configuration *configuration, const uint8_t *applications, size_t applications_length,
                   const uint8_t *script, size_t script_length, uint8_t *transcript, size_t room, struct toarmuts_answer *answer);
 struct transcript_row { ...; };
+size_t transcript_lines(const uint8_t *text, size_t length);
 size_t transcript_table(const uint8_t *text, size_t length, struct transcript_row *rows);
 struct toarmuts_mote { ...; };
 struct toarmuts_call { ...; };

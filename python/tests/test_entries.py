@@ -74,8 +74,8 @@ def test_rows_made_in_python_are_the_same():
     for seed in range(50):
         run = random_run(seed)
         table = run.entries._source.table
-        plain = make_plain((PlainEntry,) * 7, run.entries._source, table, 0, len(run.entries))
-        names = [name for name in type(plain[0]).__mro__[1].__slots__ if name not in ("_source", "index")] if plain else []
+        plain = make_plain((PlainEntry,) * 7, run.entries._source, run.entries._source.data, table, 0, len(run.entries))
+        names = [name for name in type(plain[0]).__mro__[1].__slots__ if name not in ("_source", "_data", "index")] if plain else []
         for row, entry in zip(plain, run.entries):
             assert [getattr(row, name) for name in names] == [getattr(entry, name) for name in names]
 

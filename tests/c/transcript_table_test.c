@@ -65,13 +65,13 @@ try_text(const uint8_t *bytes, size_t length)
 {
   uint8_t *text = malloc(length != 0 ? length : 1);
   size_t lines = lines_of(bytes, length);
-  struct transcript_row *rows = malloc((lines + 1) * sizeof *rows);
+  struct transcript_row *rows = malloc((lines != 0 ? lines : 1) * sizeof *rows);
 
   if(text == NULL || rows == NULL) {
     abort();
   }
   memcpy(text, bytes, length);
-  check(transcript_table(text, length, rows) == lines && are_rows(rows, lines, length), "a text's rows");
+  check(transcript_lines(text, length) == lines && transcript_table(text, length, rows) == lines && are_rows(rows, lines, length), "a text's rows");
   free(rows);
   free(text);
 }
