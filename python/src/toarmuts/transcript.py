@@ -6,7 +6,7 @@ of a row of that table when it is asked for, and what an entry tells is read whe
 from __future__ import annotations
 
 import enum
-from typing import Iterator, Sequence, Union, overload
+from typing import Any, Iterator, Sequence, Union, overload
 
 from .call import Call
 from .calls import Print
@@ -56,6 +56,9 @@ class Source:
         self.lines_before, self.clock_before = lines_before, clock_before
         self._table: bytearray | None = None
 
+    def __reduce__(self) -> tuple[Any, ...]:
+        return Source, (self.data, self.quiet, self.lines_before, self.clock_before)
+
     @property
     def table(self) -> bytearray:
         """``struct transcript_row`` for each line."""
@@ -102,6 +105,9 @@ class Entry(Row):
     def __hash__(self) -> int:
         return hash((self.line, self._words(0)))
 
+    def __reduce__(self) -> tuple[Any, ...]:
+        return _entry_of, (self._source, self.index)
+
     def explain(self) -> str:
         """What it tells, in words."""
         from .words import explain
@@ -146,7 +152,7 @@ class Turn(Entry):
         source = self._source
         if not self._answer or source.quiet:
             return None
-        found = make(_CLASSES, source, source.data, source.table, self._answer - 1, 1)[0]
+        found = _entry_of(source, self._answer - 1)
         return found if isinstance(found, Turn) else None
 
     @property
@@ -232,6 +238,12 @@ class Ending(Entry):
 _CLASSES: tuple[type[Entry], ...] = (Turn, Input, Note, Ending, Ending, Ending, Ending)
 
 
+def _entry_of(source: Source, index: int) -> Entry:
+    """An entry of a source."""
+    made: Entry = make(_CLASSES, source, source.data, source.table, index, 1)[0]
+    return made
+
+
 class Transcript(Sequence[Entry]):
     """The entries of a transcript, made when they are asked for.
 
@@ -289,6 +301,9 @@ class Transcript(Sequence[Entry]):
     def __hash__(self) -> int:
         return hash(self.data)
 
+    def __reduce__(self) -> tuple[Any, ...]:
+        return _transcript_of, (self._source,)
+
     def __str__(self) -> str:
         return self.data.decode("ascii", "replace")
 
@@ -318,3 +333,8 @@ class Transcript(Sequence[Entry]):
     def sent(self) -> list[bytes]:
         """The frames that were sent."""
         return [note.data for note in self.notes() if note.kind is NoteKind.SENT]
+
+
+def _transcript_of(source: Source) -> Transcript:
+    """The transcript of a source."""
+    return Transcript(source.data, quiet=source.quiet, lines_before=source.lines_before, clock_before=source.clock_before)
