@@ -31,6 +31,7 @@ struct toarmuts_answer { uint32_t status; uint64_t line; size_t length; };
 void toarmuts_run(const struct toarmuts_configuration *configuration, const uint8_t *applications, size_t applications_length,
                   const uint8_t *script, size_t script_length, uint8_t *transcript, size_t room, struct toarmuts_answer *answer);
 struct transcript_row { ...; };
+size_t transcript_lines(const uint8_t *text, size_t length);
 size_t transcript_table(const uint8_t *text, size_t length, struct transcript_row *rows);
 struct toarmuts_mote { ...; };
 struct toarmuts_call { ...; };
@@ -38,7 +39,7 @@ struct advance { ...; };
 uint32_t toarmuts_open(const struct toarmuts_configuration *configuration, uint32_t applications, struct toarmuts_mote *mote);
 uint32_t toarmuts_feed(struct toarmuts_mote *mote, const uint8_t *line, size_t length);
 uint32_t toarmuts_feed_input(struct toarmuts_mote *mote, uint32_t kind, uint32_t ticks, const uint8_t *bytes, size_t length);
-uint32_t toarmuts_clock(const struct toarmuts_mote *mote, uint64_t *clock);
+uint32_t toarmuts_clock(struct toarmuts_mote *mote, uint64_t *clock);
 uint32_t toarmuts_close(struct toarmuts_mote *mote);
 void advance_mote(struct toarmuts_mote *mote, const struct toarmuts_call *call, struct advance *advance);
 """
@@ -66,7 +67,7 @@ def check_library() -> None:
     """Ends with the reason where there is no library that can be used."""
     if not LIBRARY.exists():
         raise NotBuilt(f"toarmuts: there is no {LIBRARY}: `{PROVE}` in {ROOT} proves and builds it")
-    lacking = missing_calls() if "pystep" not in str(CRATE) else []
+    lacking = missing_calls()
     if lacking:
         raise NotBuilt(f"toarmuts: {LIBRARY} lacks {lacking[0]}, it is older than its header: `{PROVE}` in {ROOT} makes it anew")
     if is_stale() and "TOARMUTS_STALE" not in os.environ:

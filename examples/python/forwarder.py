@@ -10,26 +10,27 @@ def forwarder(repaired: bool = False) -> Turns:
     """Sends each frame that it receives. The fault: a frame for which there is no block isn't given back."""
     yield PacketOpen()
     while True:
-        stimulus = yield Wait()
-        if not isinstance(stimulus, Event) or stimulus.code != EventCode.PACKET:
-            continue
-        length = stimulus.payload
-        answer = yield MmemAlloc(0, length)
-        if answer.refused:
-            if repaired:
-                yield PacketDone()
-            continue
-        for at in range(0, length, CHUNK):
-            answer = yield PacketRead(at, min(CHUNK, length - at))
-            yield MmemWrite(0, at, answer.value)
-        yield PacketSend(0)
-        yield MmemFree(0)
-        yield PacketDone()
+        match (yield Wait()):
+            case Event(code=EventCode.PACKET, payload=int(length)):
+                answer = yield MmemAlloc(0, length)
+                if answer.ok:
+                    yield from send(length)
+                if answer.ok or repaired:
+                    yield PacketDone()
+
+
+def send(length: int) -> Turns:
+    """Copies the front frame to block 0, sends that, and frees it."""
+    for at in range(0, length, CHUNK):
+        answer = yield PacketRead(at, min(CHUNK, length - at))
+        yield MmemWrite(0, at, answer.value)
+    yield PacketSend(0)
+    yield MmemFree(0)
 
 
 def repaired_forwarder() -> Turns:
     """The same without the fault."""
-    return (yield from forwarder(repaired=True))
+    yield from forwarder(repaired=True)
 
 
 def fault_of(run: Run) -> str | None:

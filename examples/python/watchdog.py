@@ -29,7 +29,7 @@ def watchdog(repaired: bool = False) -> Turns:
 
 def repaired_watchdog() -> Turns:
     """The same without the fault."""
-    return (yield from watchdog(repaired=True))
+    yield from watchdog(repaired=True)
 
 
 def fault_of(run: Run) -> str | None:

@@ -5,14 +5,19 @@
  * entries are made of it in Python. Where this module isn't built, toarmuts/rows.py does the same.
  */
 #define Py_LIMITED_API 0x030a0000
+#define PY_SSIZE_T_CLEAN
 #include <Python.h>
 #include <structmember.h>
 
 #include "transcript_table.h"
 
+/* How many different words are kept. */
+#define MOST_KEPT 65536
+
 struct row {
   PyObject_HEAD
   PyObject *source;
+  PyObject *data;
   Py_ssize_t index;
   struct transcript_row numbers;
 };
@@ -47,13 +52,61 @@ row_dealloc(PyObject *self)
   freefunc tp_free = (freefunc)PyType_GetSlot(type, Py_tp_free);
 
   Py_XDECREF(((struct row *)self)->source);
+  Py_XDECREF(((struct row *)self)->data);
   tp_free(self);
   Py_DECREF(type);
 }
 
+/* row._kept(known, first, behind, read): what the words between two places of its line tell, read once for equal words. */
+static PyObject *
+row_kept(PyObject *self, PyObject *const *arguments, Py_ssize_t count)
+{
+  const struct row *row = (const struct row *)self;
+  PyObject *known, *key, *made;
+  Py_ssize_t first, behind;
+  const char *line;
+
+  if(count != 4 || !PyDict_Check(arguments[0])) {
+    PyErr_SetString(PyExc_TypeError, "a dict, two places and a function are wanted");
+    return NULL;
+  }
+  known = arguments[0];
+  first = PyLong_AsSsize_t(arguments[1]);
+  behind = PyLong_AsSsize_t(arguments[2]);
+  if(PyErr_Occurred()) {
+    return NULL;
+  }
+  if(first < 0 || behind < first || behind > (Py_ssize_t)row->numbers.length || row->data == NULL) {
+    PyErr_SetString(PyExc_ValueError, "the words lie outside the line");
+    return NULL;
+  }
+  line = PyBytes_AsString(row->data) + row->numbers.begin;
+  key = PyBytes_FromStringAndSize(line + first, behind - first);
+  if(key == NULL) {
+    return NULL;
+  }
+  made = PyDict_GetItemWithError(known, key);
+  Py_XINCREF(made);
+  if(made == NULL && !PyErr_Occurred()) {
+    made = PyObject_CallFunction(arguments[3], "s#", line + first, behind - first);
+    if(made != NULL && PyDict_Size(known) < MOST_KEPT && PyDict_SetItem(known, key, made) < 0) {
+      Py_DECREF(made);
+      made = NULL;
+    }
+  }
+  Py_DECREF(key);
+  return made;
+}
+
+static PyMethodDef row_methods[] = {
+  {"_kept", (PyCFunction)(void (*)(void))row_kept, METH_FASTCALL, "What words of its line tell, read once for equal words."},
+  {NULL, NULL, 0, NULL}
+};
+
 static PyType_Slot row_slots[] = {
   {Py_tp_doc, (void *)"A row of a transcript's table."},
   {Py_tp_members, row_members},
+  {Py_tp_methods, row_methods},
   {Py_tp_dealloc, (void *)row_dealloc},
   {0, NULL}
 };
@@ -62,7 +115,7 @@ static PyType_Spec row_spec = {"toarmuts._entries.Row", sizeof(struct row), 0, P
 
 /* An object of the class for its kind. */
 static PyObject *
-make_row(PyObject *types, PyObject *source, const struct transcript_row *numbers, Py_ssize_t index)
+make_row(PyObject *types, PyObject *source, PyObject *data, const struct transcript_row *numbers, Py_ssize_t index)
 {
   PyTypeObject *type = (PyTypeObject *)PyTuple_GetItem(types, numbers->kind);
   allocfunc alloc;
@@ -77,22 +130,24 @@ make_row(PyObject *types, PyObject *source, const struct transcript_row *numbers
     return NULL;
   }
   Py_INCREF(source);
+  Py_INCREF(data);
   row->source = source;
+  row->data = data;
   row->index = index;
   row->numbers = *numbers;
   return (PyObject *)row;
 }
 
-/* make(types, source, table, first, count): a list of so many rows of a table, of the class that types has for their kinds. */
+/* make(types, source, data, table, first, count): a list of so many rows of a table, of the class that types has for their kinds. */
 static PyObject *
 make(PyObject *module, PyObject *arguments)
 {
-  PyObject *types, *source, *table, *list;
+  PyObject *types, *source, *data, *table, *list;
   Py_ssize_t first, count, size, i;
   const struct transcript_row *rows;
 
   (void)module;
-  if(!PyArg_ParseTuple(arguments, "O!OO!nn", &PyTuple_Type, &types, &source, &PyByteArray_Type, &table, &first, &count)) {
+  if(!PyArg_ParseTuple(arguments, "O!OSO!nn", &PyTuple_Type, &types, &source, &data, &PyByteArray_Type, &table, &first, &count)) {
     return NULL;
   }
   rows = (const struct transcript_row *)(const void *)PyByteArray_AsString(table);
@@ -103,7 +158,7 @@ make(PyObject *module, PyObject *arguments)
   }
   list = PyList_New(count);
   for(i = 0; list != NULL && i < count; i++) {
-    PyObject *row = make_row(types, source, &rows[first + i], first + i);
+    PyObject *row = make_row(types, source, data, &rows[first + i], first + i);
 
     if(row == NULL) {
       Py_DECREF(list);

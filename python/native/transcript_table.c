@@ -261,6 +261,18 @@ join(struct transcript_row *rows, size_t count, struct walk *walk)
 }
 
 size_t
+transcript_lines(const uint8_t *text, size_t length)
+{
+  size_t count = 0;
+  size_t i;
+
+  for(i = 0; i < length; i++) {
+    count += text[i] == '\n';
+  }
+  return count + (length != 0 && text[length - 1] != '\n');
+}
+
+size_t
 transcript_table(const uint8_t *text, size_t length, struct transcript_row *rows)
 {
   struct walk walk = {0};

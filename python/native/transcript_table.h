@@ -48,9 +48,12 @@ struct call_word {
 extern const struct call_word call_words[];
 extern const size_t call_words_count;
 
+/* How many lines a text has; the last one needs no line end. */
+size_t transcript_lines(const uint8_t *text, size_t length);
+
 /*
- * Fills in a row for each line of a text, and answers how many there are. There is to be room for a row for each line end and
- * one more. A line of no form has that kind.
+ * Fills in a row for each line of a text, and answers how many there are. There is to be room for
+ * so many as it has lines. A line of no form has that kind.
  */
 size_t transcript_table(const uint8_t *text, size_t length, struct transcript_row *rows);
 

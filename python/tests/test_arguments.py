@@ -1,9 +1,13 @@
 """What is wrong with arguments is told: the exception, and which size, application, call or input it is."""
+import random
 import re
 
 import pytest
+from common import random_call, random_line
 
 import toarmuts
+from toarmuts.applications import read_applications
+from toarmuts.script import has_form
 from toarmuts import (BadCall, BadInput, BadScenario, BadSizes, BadTranscript, Call, Mote, NoApplication, Options, Post, Print, Script,
                       TimerSet, TooManyApplications, Transcript, Wait, WrongType)
 
@@ -117,7 +121,7 @@ def test_which_application_and_call():
 def test_all_sizes_are_told():
     with pytest.raises(BadSizes) as caught:
         toarmuts.run([], mmem=6, heap=6, header=6)
-    assert len(caught.value.faults) == 3
+    assert len(caught.value.faults) == 3 and caught.value.sizes == ("mmem", "heap", "header")
 
 
 def test_sizes_are_refused_exactly_where_the_library_refuses():
@@ -135,6 +139,46 @@ def test_sizes_are_refused_exactly_where_the_library_refuses():
             options = Options(heap=heap, header=header)
             status, _, _ = library().run(options.configuration(), b"", b"")
             assert (status == BAD_SIZES) == bool(options.faults()), (heap, header)
+
+
+def spoilt(chance, text):
+    """A text with a character or two changed, left out or put in."""
+    for _ in range(chance.randrange(3)):
+        place = chance.randrange(len(text) + 1)
+        text = text[:place] + chance.choice(["", "0", "9", " ", ",", ", ", "x", "-", "F", "g", "1234567890"]) + text[place + chance.randrange(2):]
+    return text
+
+
+def test_lists_are_refused_exactly_where_the_library_refuses():
+    """Lists of random calls as text, with characters spoilt."""
+    from toarmuts.library import NO_APPLICATION, library
+
+    usual, refused = Options().configuration(), 0
+    for seed in range(3000):
+        chance = random.Random(seed)
+        line = "calls " + spoilt(chance, ", ".join(str(random_call(chance)) for _ in range(chance.randrange(1, 4))))
+        status, _, _ = library().run(usual, (line + "\n").encode(), b"")
+        try:
+            read_applications([line])
+        except NoApplication:
+            refused += 1
+            assert status == NO_APPLICATION, line
+        else:
+            assert status != NO_APPLICATION, line
+    assert 500 < refused < 2500
+
+
+def test_lines_have_no_form_exactly_where_the_library_finds_none():
+    """Lines of scripts, with characters spoilt, and the longest ones."""
+    from toarmuts.library import library
+
+    usual, none = Options().configuration(), 0
+    lines = [spoilt(random.Random(seed), random_line(random.Random(seed), spoilt=1)) for seed in range(3000)]
+    for line in [*lines, "#" * 1024, "#" * 1025, "#\u00e9", "tick 4294967295", "tick 4294967296", "serial 0A", " ", "\r", "tick 1\r"]:
+        status, _, _ = library().run(usual, b"", line.encode() + b"\n")
+        assert (status == 2) == (not has_form(line)), line
+        none += status == 2
+    assert none > 300
 
 
 def test_calls_cannot_be_changed():

@@ -1,4 +1,5 @@
 """Entries beside the text that they are made of, by a plain reader that knows nothing of the table."""
+import copy
 import gc
 import pickle
 import random
@@ -11,7 +12,8 @@ from toarmuts import (Answer, Call, Callback, Ending, Event, EventCode, Input, I
                       Stats, TimerSet, Transcript, Turn, Wait)
 from toarmuts.scenario import read_file
 
-from toarmuts.rows import make_plain
+from toarmuts.bundled import Blink as BLINK
+from toarmuts.rows import PlainRow, make_plain
 
 
 def hexes(data):
@@ -74,13 +76,10 @@ def test_rows_made_in_python_are_the_same():
     for seed in range(50):
         run = random_run(seed)
         table = run.entries._source.table
-        plain = make_plain((PlainEntry,) * 7, run.entries._source, table, 0, len(run.entries))
-        names = [name for name in type(plain[0]).__mro__[1].__slots__ if name not in ("_source", "index")] if plain else []
+        plain = make_plain((PlainEntry,) * 7, run.entries._source, run.entries._source.data, table, 0, len(run.entries))
+        names = [name for name in type(plain[0]).__mro__[1].__slots__ if name not in ("_source", "_data", "index")] if plain else []
         for row, entry in zip(plain, run.entries):
             assert [getattr(row, name) for name in names] == [getattr(entry, name) for name in names]
-
-
-from toarmuts.rows import PlainRow  # noqa: E402
 
 
 class PlainEntry(PlainRow):
@@ -133,6 +132,15 @@ def test_entries_outlive_their_transcript():
     kept = [turn for seed in range(20) for turn in random_run(seed).entries.turns()[:2]]
     gc.collect()
     assert all(turn.text and (turn.answer is None or str(turn.answer)) for turn in kept)
+
+
+def test_runs_and_entries_can_be_sent_to_other_processes():
+    run = toarmuts.run(["blink", [Wait()], BLINK], "tick 10\n")
+    list(run.entries)
+    again = pickle.loads(pickle.dumps(run))
+    assert again.transcript == run.transcript and again.entries == run.entries and again.applications == run.applications
+    turn = pickle.loads(pickle.dumps(run.entries[3]))
+    assert turn == run.entries[3] and turn.answer == run.entries[3].answer and copy.deepcopy(run.entries)[3] == turn
 
 
 def test_lines_of_no_form_are_told():

@@ -8,7 +8,7 @@ from hypothesis import strategies as st
 from hypothesis.stateful import run_state_machine_as_test
 
 import toarmuts
-from toarmuts import BadSizes, read_scenarios, strategies
+from toarmuts import BadSizes, Options, read_scenarios, strategies
 from toarmuts.coverage import Coverage
 from toarmuts.strategies import MoteMachine
 
@@ -79,7 +79,7 @@ def test_nothing_is_found_once_it_is_repaired(faulty, repaired, fault_of, drawn,
 class Forwards(MoteMachine):
     """The forwarder, with little memory: whatever comes in, it holds no frame at rest."""
 
-    sizes = {"mmem": 64}
+    options = Options(mmem=64)
     scenarios: list = []
 
     def look(self, entries):

@@ -29,6 +29,8 @@ from .script import Script
 from .transcript import Ending, Entry, Input, InputKind, Note, NoteKind, Transcript, Turn
 from .values import Answer, Callback, End, Event, Payload, Stats, Status, Stimulus
 
+__version__ = "0.1.0"
+
 __all__ = [
     "Answer", "Application", "ApplicationError", "ApplicationLike", "BadCall", "BadInput", "BadScenario", "BadSizes", "BadTranscript",
     "Call", "CallList", "Callback", "Difference", "End", "Ending", "Entry", "Event", "EventCode", "Input", "InputKind",

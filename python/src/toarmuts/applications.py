@@ -36,7 +36,7 @@ class Application(Protocol):
         """The call for this stimulus."""
 
 
-Turns = Generator[Call, Any, object]
+Turns = Generator[Call, Any, None]
 """What a generator function answers: it yields calls, and is sent what the process is told next."""
 
 ApplicationLike = Union[str, Sequence[Union[Call, str]], Application, Callable[[], Union[Application, Turns]]]
@@ -141,16 +141,21 @@ def _read(number: int, application: object) -> Named:
     if inspect.isgeneratorfunction(_unwrapped(application)):
         assert callable(application)
         function = application
-        return Named(number, None, lambda: GeneratorApplication(function), _name_of(application))
+        return Named(number, None, functools.partial(GeneratorApplication, function), _name_of(application))
     if isinstance(application, type) and not hasattr(application, "turn"):
         raise WrongType(f"application {number} is the class {application.__name__}, which has no turn(stimulus)")
     if not isinstance(application, type) and callable(getattr(application, "turn", None)):
         made: Application = application  # type: ignore[assignment]  # it has turn
-        return Named(number, None, lambda: made, type(application).__name__)
+        return Named(number, None, functools.partial(_itself, made), type(application).__name__)
     if callable(application):
         return Named(number, None, functools.partial(_make, number, application), _name_of(application))
     raise WrongType(f"application {number} is to be a name, a list of calls, a class with turn(stimulus) or a generator function, "
                     f"not {type(application).__name__}")
+
+
+def _itself(application: Application) -> Application:
+    """An application that was made by the caller."""
+    return application
 
 
 def _unwrapped(application: object) -> object:
@@ -188,11 +193,11 @@ def _read_line(number: int, line: str) -> Named:
             calls = read_calls(line[6:])
         except BadCall as fault:
             raise NoApplication(number, line, str(fault), fault.place) from None
-        return Named(number, line, lambda: CallList(calls), "calls")
+        return Named(number, line, functools.partial(CallList, calls), "calls")
     if line not in RULES.applications:
         names = ", ".join(RULES.applications)
         raise NoApplication(number, line, f"no application {line!r}; there are {names}, and 'calls ..'" if line else "its name is empty")
-    return Named(number, line, lambda: bundled(line), line)
+    return Named(number, line, functools.partial(bundled, line), line)
 
 
 def _read_list(number: int, calls: Sequence[object]) -> Named:
@@ -201,7 +206,7 @@ def _read_list(number: int, calls: Sequence[object]) -> Named:
         raise NoApplication(number, f"{len(calls)} calls", f"{len(calls)} calls; a list has at most {MOST_CALLS}")
     made = [_read_call(number, place, call) for place, call in enumerate(calls, 1)]
     line = "calls " + ", ".join(map(str, made)) if made else "calls"
-    return Named(number, line, lambda: CallList(made), "calls")
+    return Named(number, line, functools.partial(CallList, made), "calls")
 
 
 def _read_call(number: int, place: int, call: object) -> Call:

@@ -63,10 +63,12 @@ class CffiLibrary:
         room.shrink()
         return answer.status, answer.line, transcript
 
-    def table(self, text: bytes, rows: bytearray) -> int:
+    def table(self, text: bytes) -> bytearray:
         """The rows of a transcript's table."""
-        count: int = lib.transcript_table(text, len(text), ffi.from_buffer("struct transcript_row *", rows))
-        return count
+        rows = bytearray(ROW_SIZE * lib.transcript_lines(text, len(text)))
+        if rows:
+            lib.transcript_table(text, len(text), ffi.from_buffer("struct transcript_row *", rows))
+        return rows
 
     def open(self, configuration: Configuration, applications: int) -> tuple[int, Held]:
         """Opens a mote."""

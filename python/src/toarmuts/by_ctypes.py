@@ -8,9 +8,9 @@ import weakref
 from typing import Any
 
 from .errors import LibraryError
-from .library import ADVANCE_SIZE, FIRST_ROOM, MAKE, MOST_ROOM_KEPT, NO_ROOM, Configuration, Held
+from .library import ADVANCE_SIZE, FIRST_ROOM, MAKE, MOST_ROOM_KEPT, NO_ROOM, ROW_SIZE, Configuration, Held
 
-NEEDED = ("toarmuts_run", "transcript_table", "toarmuts_open", "toarmuts_feed", "toarmuts_feed_input", "toarmuts_clock",
+NEEDED = ("toarmuts_run", "transcript_table", "transcript_lines", "toarmuts_open", "toarmuts_feed", "toarmuts_feed_input", "toarmuts_clock",
           "toarmuts_close", "advance_mote")
 
 
@@ -65,6 +65,7 @@ class CtypesLibrary:
         calls, size, pointer, u32 = self._calls, ctypes.c_size_t, ctypes.c_void_p, ctypes.c_uint32
         calls.toarmuts_run.argtypes = [pointer, ctypes.c_char_p, size, ctypes.c_char_p, size, pointer, size, pointer]
         calls.toarmuts_run.restype = None
+        calls.transcript_lines.argtypes, calls.transcript_lines.restype = [ctypes.c_char_p, size], size
         calls.transcript_table.argtypes, calls.transcript_table.restype = [ctypes.c_char_p, size, pointer], size
         calls.toarmuts_open.argtypes = [pointer, u32, pointer]
         calls.toarmuts_feed.argtypes = [pointer, ctypes.c_char_p, size]
@@ -89,11 +90,13 @@ class CtypesLibrary:
         room.shrink()
         return answer.status, answer.line, transcript
 
-    def table(self, text: bytes, rows: bytearray) -> int:
+    def table(self, text: bytes) -> bytearray:
         """The rows of a transcript's table."""
-        place = (ctypes.c_char * len(rows)).from_buffer(rows)
-        count: int = self._calls.transcript_table(text, len(text), ctypes.addressof(place))
-        return count
+        rows = bytearray(ROW_SIZE * self._calls.transcript_lines(text, len(text)))
+        if rows:
+            place = (ctypes.c_char * len(rows)).from_buffer(rows)
+            self._calls.transcript_table(text, len(text), ctypes.addressof(place))
+        return rows
 
     def open(self, configuration: Configuration, applications: int) -> tuple[int, Held]:
         """Opens a mote."""

@@ -1,7 +1,7 @@
 """Which rules of the mote a set of runs reached: each call by each answer that it may have, each event by its origin.
 
 >>> coverage = Coverage()
->>> coverage.add(Transcript("4 synch 129 - -> timer-stop 9\\n4 answer refused 7 -> wait\\n"))
+>>> _ = coverage.add(Transcript("4 synch 129 - -> timer-stop 9\\n4 answer refused 7 -> wait\\n"))
 >>> coverage[Cell("timer-stop", "bad-name")], coverage[Cell("from synch", "init")]
 (1, 1)
 """

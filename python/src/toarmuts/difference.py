@@ -2,7 +2,7 @@
 from __future__ import annotations
 
 from dataclasses import dataclass
-from typing import Union
+from typing import Protocol, Union
 
 from .errors import ToarmutsError
 from .transcript import Transcript
@@ -48,16 +48,26 @@ def _in_words(text: str | None) -> list[str]:
         return ["          (no line of a transcript)"]
 
 
-def _lines(transcript: Union[str, bytes, Transcript]) -> list[str]:
-    if isinstance(transcript, Transcript):
-        transcript = transcript.data
+class HasTranscript(Protocol):
+    """A run, for one."""
+
+    @property
+    def transcript(self) -> bytes:
+        """Its transcript."""
+
+
+TranscriptLike = Union[str, bytes, Transcript, HasTranscript]
+
+
+def _lines(told: TranscriptLike) -> list[str]:
+    transcript = told if isinstance(told, (str, bytes)) else told.data if isinstance(told, Transcript) else told.transcript
     text = transcript.decode("utf-8", "replace") if isinstance(transcript, bytes) else transcript
     lines = text.split("\n")
     return lines if lines[-1] else lines[:-1]
 
 
-def first_difference(wanted: Union[str, bytes, Transcript], found: Union[str, bytes, Transcript]) -> Difference | None:
-    """The first line in which two transcripts differ, or None where they are the same."""
+def first_difference(wanted: TranscriptLike, found: TranscriptLike) -> Difference | None:
+    """The first line in which two transcripts differ, or None where they are the same. Text, bytes, transcripts or runs are taken."""
     ours, theirs = _lines(wanted), _lines(found)
     if ours == theirs:
         return None

@@ -36,11 +36,12 @@ class BadInput(ToarmutsError, ValueError):
 
 
 class BadSizes(ToarmutsError, ValueError):
-    """No mote boots with these sizes. ``faults`` tells of each what is wrong with it."""
+    """No mote boots with these sizes: ``sizes`` has their names, and ``faults`` tells of each what is wrong with it."""
 
     def __init__(self, faults: Sequence[str]) -> None:
         super().__init__("; ".join(faults))
         self.faults = tuple(faults)
+        self.sizes = tuple(fault.split(" ")[0] for fault in faults)
 
 
 class NoApplication(ToarmutsError, ValueError):

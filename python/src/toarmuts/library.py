@@ -58,8 +58,8 @@ class Library(Protocol):
     def run(self, configuration: Configuration, applications: bytes, script: bytes) -> tuple[int, int, bytes]:
         """Status, line and transcript of ``toarmuts_run``."""
 
-    def table(self, text: bytes, rows: bytearray) -> int:
-        """Fills in the rows of a transcript's table, and answers how many there are."""
+    def table(self, text: bytes) -> bytearray:
+        """The rows of a transcript's table."""
 
     def open(self, configuration: Configuration, applications: int) -> tuple[int, Held]:
         """Opens a mote that goes step by step."""

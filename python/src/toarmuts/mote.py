@@ -8,7 +8,7 @@ from .applications import Application, ApplicationLike, read_applications
 from .call import Call
 from .errors import BadInput, MoteError, WrongType
 from .library import CLOSED
-from .options import Options
+from .options import Options, one_of
 from .rules import FIRST_PROCESS
 from .runs import Run
 from .script import (MOST_FRAME, MOST_SERIAL, MOST_TICKS, ScriptLike, check_data, check_ticks, has_form, line_bytes, script_bytes,
@@ -38,8 +38,8 @@ class Mote:
     """
 
     def __init__(self, applications: Iterable[ApplicationLike] = (), *, mmem: int = 4096, heap: int = 4096, header: int = 16,
-                 quota: int | None = None) -> None:
-        self.options = Options(mmem=mmem, heap=heap, header=header, quota=quota)
+                 quota: int | None = None, options: Options | None = None) -> None:
+        self.options = one_of(Options(mmem=mmem, heap=heap, header=header, quota=quota), options)
         self._named = read_applications(applications)
         self._lock = threading.Lock()
         self._stepper = Stepper(self._named, self.options)

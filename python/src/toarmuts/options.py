@@ -72,3 +72,13 @@ class Options:
                 made += [f"--{field.name}"] if field.name == "quiet" else [f"--{field.name}", str(value)]
         return made
 
+
+def one_of(single: Options, whole: object) -> Options:
+    """Options that were given one by one, or whole."""
+    if whole is None:
+        return single
+    if not isinstance(whole, Options):
+        raise WrongType(f"options is to be an Options, not {type(whole).__name__}")
+    if single != Options():
+        raise WrongType("options and single sizes are given: one or the other")
+    return whole

@@ -7,10 +7,10 @@ from functools import cached_property
 
 from .applications import ApplicationLike, Named, read_applications
 from .calls import PacketSend, Print
-from .difference import Difference, first_difference
-from .errors import NoApplication, OutOfMemory, RunEnded, ToarmutsError, TooManyApplications, WrongType
+from .difference import Difference, TranscriptLike, first_difference
+from .errors import NoApplication, OutOfMemory, RunEnded, ToarmutsError, TooManyApplications
 from .library import BAD_SIZES, NO_APPLICATION, TOO_MANY_APPLICATIONS, library
-from .options import Options
+from .options import Options, one_of
 from .rules import RULES
 from .script import ScriptLike, script_bytes, script_lines
 from .stepper import BAD_LINE, HALTED, Stepper, refuse
@@ -88,9 +88,9 @@ class Run:
         """The frames that were sent."""
         return self.entries.sent()
 
-    def difference(self, wanted: "str | bytes | Transcript | Run") -> Difference | None:
-        """The first line in which the transcript differs from another one, or None."""
-        return first_difference(wanted.entries if isinstance(wanted, Run) else wanted, self.entries)
+    def difference(self, wanted: TranscriptLike) -> Difference | None:
+        """The first line in which the transcript differs from another one, or from that of another run; or None."""
+        return first_difference(wanted, self.transcript)
 
     def scenario(self, *, name: str | None = None, comment: str = "", transcript: bool = True) -> str:
         """The text of a scenario file that tells this run (docs/scenarios.md). Applications in Python become the calls that they made."""
@@ -141,13 +141,7 @@ def run(applications: Iterable[ApplicationLike] = (), script: ScriptLike = "", *
     Traceback (most recent call last):
     toarmuts.errors.BadSizes: mmem is 5, which is no multiple of 4
     """
-    given = Options(mmem, heap, header, quota, quiet)
-    if options is not None:
-        if not isinstance(options, Options):
-            raise WrongType(f"options is to be an Options, not {type(options).__name__}")
-        if given != Options():
-            raise WrongType("options and single sizes are given: one or the other")
-        given = options
+    given = one_of(Options(mmem, heap, header, quota, quiet), options)
     named = read_applications(applications)
     data = script_bytes(script)
     if all(application.line is not None for application in named):

@@ -158,14 +158,14 @@ class MoteMachine(RuleBasedStateMachine):
     """
 
     applications: ClassVar[Sequence[ApplicationLike]] = ()
-    sizes: ClassVar[dict[str, int]] = {}
+    options: ClassVar[Options] = Options()
     texts: ClassVar[Sequence[str]] = ("on", "off", "a", "")
     on_failure: ClassVar[Callable[[str], None] | None] = None
     """Is told the scenario of a run in which :meth:`look` fails."""
 
     def __init__(self) -> None:
         super().__init__()
-        self.mote = Mote(self.applications, **self.sizes)
+        self.mote = Mote(self.applications, options=self.options)
         self._look(self.mote.booted)
 
     def look(self, entries: Transcript) -> None:

@@ -6,7 +6,7 @@ of a row of that table when it is asked for, and what an entry tells is read whe
 from __future__ import annotations
 
 import enum
-from typing import Callable, Iterator, Sequence, TypeVar, Union, overload
+from typing import Any, Iterator, Sequence, Union, overload
 
 from .call import Call
 from .calls import Print
@@ -19,8 +19,6 @@ from .values import Answer, Callback, Event, Stimulus, read_answer, read_event
 TURN, INPUT, NOTE, HALT, BAD_LINE, TOO_LONG, NO_FORM = range(7)
 # Where a row's kind stands in struct transcript_row.
 KIND_PLACE = 44
-
-Made = TypeVar("Made")
 
 
 class InputKind(enum.Enum):
@@ -41,19 +39,7 @@ class NoteKind(enum.Enum):
 _ORIGINS = tuple(Origin)
 _INPUTS = tuple(InputKind)
 _NOTES = tuple(NoteKind)
-_MOST_KEPT = 1 << 16
-
-
-def _kept(known: dict[bytes, Made], words: bytes, read: Callable[[str], Made]) -> Made:
-    """What words tell, read once."""
-    made = known.get(words)
-    if made is None:
-        made = read(words.decode("ascii", "replace"))
-        if len(known) < _MOST_KEPT:
-            known[words] = made
-    return made
-
-
+_CALLBACK, _ANSWER = int(Origin.CALLBACK), int(Origin.ANSWER)
 _calls: dict[bytes, Call] = {}
 _answers: dict[bytes, Answer] = {}
 _events: dict[bytes, Event] = {}
@@ -70,13 +56,14 @@ class Source:
         self.lines_before, self.clock_before = lines_before, clock_before
         self._table: bytearray | None = None
 
+    def __reduce__(self) -> tuple[Any, ...]:
+        return Source, (self.data, self.quiet, self.lines_before, self.clock_before)
+
     @property
     def table(self) -> bytearray:
         """``struct transcript_row`` for each line."""
         if self._table is None:
-            table = bytearray(ROW_SIZE * (self.data.count(b"\n") + 1))
-            count = library().table(self.data, table)
-            self._table = table[:count * ROW_SIZE] if count * ROW_SIZE != len(table) else table
+            self._table = library().table(self.data)
         return self._table
 
 
@@ -118,6 +105,9 @@ class Entry(Row):
     def __hash__(self) -> int:
         return hash((self.line, self._words(0)))
 
+    def __reduce__(self) -> tuple[Any, ...]:
+        return _entry_of, (self._source, self.index)
+
     def explain(self) -> str:
         """What it tells, in words."""
         from .words import explain
@@ -145,15 +135,16 @@ class Turn(Entry):
     def stimulus(self) -> Stimulus:
         """What it was told: an Event, a Callback, or the Answer to its call before."""
         origin = self._detail
-        words = self._words(self._told, self._call - 4)
-        if origin == Origin.ANSWER:
-            return _kept(_answers, words, read_answer)
-        return Callback(self._event) if origin == Origin.CALLBACK else _kept(_events, words, read_event)
+        if origin == _ANSWER:
+            return self._kept(_answers, self._told, self._call - 4, read_answer)
+        if origin == _CALLBACK:
+            return Callback(self._event)
+        return self._kept(_events, self._told, self._call - 4, read_event)
 
     @property
     def call(self) -> Call:
         """The call that it made."""
-        return _kept(_calls, self._words(self._call), Call.parse)
+        return self._kept(_calls, self._call, self._length, Call.parse)
 
     @property
     def answered_in(self) -> "Turn | None":
@@ -161,7 +152,7 @@ class Turn(Entry):
         source = self._source
         if not self._answer or source.quiet:
             return None
-        found = make(_CLASSES, source, source.table, self._answer - 1, 1)[0]
+        found = _entry_of(source, self._answer - 1)
         return found if isinstance(found, Turn) else None
 
     @property
@@ -247,6 +238,12 @@ class Ending(Entry):
 _CLASSES: tuple[type[Entry], ...] = (Turn, Input, Note, Ending, Ending, Ending, Ending)
 
 
+def _entry_of(source: Source, index: int) -> Entry:
+    """An entry of a source."""
+    made: Entry = make(_CLASSES, source, source.data, source.table, index, 1)[0]
+    return made
+
+
 class Transcript(Sequence[Entry]):
     """The entries of a transcript, made when they are asked for.
 
@@ -276,7 +273,7 @@ class Transcript(Sequence[Entry]):
     def _all(self) -> list[Entry]:
         if self._entries is None:
             table = self._source.table
-            made: list[Entry] = make(_CLASSES, self._source, table, 0, len(table) // ROW_SIZE)
+            made: list[Entry] = make(_CLASSES, self._source, self._source.data, table, 0, len(table) // ROW_SIZE)
             bad = table[KIND_PLACE::ROW_SIZE].find(NO_FORM)
             if bad >= 0:
                 raise BadTranscript(f"line {made[bad].line} is no line of a transcript: {made[bad].text[:100]}")
@@ -303,6 +300,9 @@ class Transcript(Sequence[Entry]):
 
     def __hash__(self) -> int:
         return hash(self.data)
+
+    def __reduce__(self) -> tuple[Any, ...]:
+        return _transcript_of, (self._source,)
 
     def __str__(self) -> str:
         return self.data.decode("ascii", "replace")
@@ -333,3 +333,8 @@ class Transcript(Sequence[Entry]):
     def sent(self) -> list[bytes]:
         """The frames that were sent."""
         return [note.data for note in self.notes() if note.kind is NoteKind.SENT]
+
+
+def _transcript_of(source: Source) -> Transcript:
+    """The transcript of a source."""
+    return Transcript(source.data, quiet=source.quiet, lines_before=source.lines_before, clock_before=source.clock_before)

@@ -1,0 +1,101 @@
+"""What the package costs: the figures of docs/python.md. Each is the best of many, so that other work on the machine counts little.
+
+    environment/bin/python python/bench.py
+"""
+from __future__ import annotations
+
+import pathlib
+import subprocess
+import sys
+import tempfile
+import time
+from typing import Any, Callable
+
+from hypothesis import HealthCheck, given, settings
+
+import toarmuts
+from toarmuts import Mote, Options, Script, Transcript, Turn, strategies
+from toarmuts.bundled import Blink
+from toarmuts.coverage import Coverage
+from toarmuts.library import library
+
+TARGET = pathlib.Path(__file__).resolve().parent.parent / "examples/python/target.py"
+
+
+def best(work: Callable[[], Any], tries: int = 500) -> float:
+    """The shortest time, in microseconds."""
+    shortest = float("inf")
+    for _ in range(tries):
+        began = time.perf_counter()
+        work()
+        shortest = min(shortest, time.perf_counter() - began)
+    return shortest * 1e6
+
+
+def tell(what: str, microseconds: float, count: int = 0, unit: str = "") -> None:
+    """A line of the table."""
+    rate = f", {count / microseconds * 1e6:,.0f} {unit} a second" if count else ""
+    print(f"| {what} | {microseconds:,.0f} us{rate} |", flush=True)
+
+
+def bench_runs() -> None:
+    """Whole runs, and their entries."""
+    script = Script()
+    for _ in range(40):
+        script = script.tick(10).text("abc").frame(b"hello")
+    names, data = ["blink", "echo", "relay"], str(script).encode()
+    run = toarmuts.run(names, data)
+    lines, count = "".join(f"{name}\n" for name in names).encode(), len(run.entries)
+    usual = Options().configuration()
+
+    def read() -> None:
+        for entry in Transcript(run.transcript):
+            if isinstance(entry, Turn):
+                _ = entry.process, entry.clock, entry.stimulus, entry.call
+
+    tell("`run([\"hello\"])`, 2 lines", best(lambda: toarmuts.run(["hello"])))
+    tell("`run` of a list of 3 calls and 1 input, 5 lines", best(lambda: toarmuts.run([["timer-set 0 5", "wait", "print 6869"]], b"tick 5\n")))
+    tell(f"3 applications, 120 inputs, {count} lines: the library's call", best(lambda: library().run(usual, lines, data)), count, "lines")
+    tell("the same by `run`", best(lambda: toarmuts.run(names, data)), count, "lines")
+    tell("its entries made", best(lambda: list(Transcript(run.transcript))), count, "entries")
+    tell("its entries made, and of each turn process, clock, stimulus and call read", best(read), count, "entries")
+    tell("its coverage", best(lambda: Coverage().add(Transcript(run.transcript)), 100))
+
+
+def bench_motes() -> None:
+    """A mote in hand, with an application in Python."""
+    script = b"tick 10\n" * 1000
+    calls = len(toarmuts.run([Blink], script).entries.turns())
+    tell("an application in Python, 1,000 ticks: all its calls", best(lambda: toarmuts.run([Blink], script), 10), calls, "calls")
+    mote = Mote([Blink])
+    tell("`mote.tick(10)`, 4 entries", best(lambda: mote.tick(10)))
+
+
+def bench_search(examples: int = 300) -> None:
+    """Hypothesis: scripts drawn and run."""
+    began = time.process_time()
+
+    @settings(max_examples=examples, database=None, deadline=None, suppress_health_check=list(HealthCheck))
+    @given(script=strategies.scripts())
+    def searched(script: Script) -> None:
+        toarmuts.run(["blink", "echo", "relay"], script)
+
+    searched()
+    tell("a script drawn by Hypothesis and run (processor time)", (time.process_time() - began) / examples * 1e6, 1, "examples")
+
+
+def bench_campaigns() -> None:
+    """Runs a second, by processes and by Dask."""
+    for name, seeds, words in (("Lists", 64, ["1"]), ("Lists", 64, ["2"]), ("Lists", 64, ["4"]), ("Lists", 64, ["4", "--dask", "local"]),
+                               ("Supervised", 64, ["1"]), ("Supervised", 64, ["4"])):
+        with tempfile.TemporaryDirectory() as folder:
+            command = [sys.executable, "-m", "toarmuts.campaign", f"{TARGET}:{name}", "--seeds", f"0:{seeds}", "--found", folder, "--jobs", *words]
+            told = subprocess.run(command, capture_output=True, text=True, check=False).stderr.strip().splitlines()[-1]
+        print(f"| campaign `{name}`, {seeds * 100:,} runs, --jobs {' '.join(words)} | {told} |", flush=True)
+
+
+if __name__ == "__main__":
+    bench_runs()
+    bench_motes()
+    bench_search()
+    bench_campaigns()
