@@ -1,2 +1,3 @@
+mod LineEnds
 mod ReadLines
 pub mod Common
