@@ -1,3 +1,4 @@
 mod Examples
+mod LineEnds
 mod ReadLines
 pub mod Common

@@ -1,5 +1,5 @@
 -- What the calls say of which a mote is asked step by step. A mote in hand is closed, or has a session.
-use Rattle.std.specs.Prelude.{◌≡◌, ◌+◌, ℕ, Bool, true, false, not, List, [], ◌∷◌, ◌++◌, length, take, drop, Option, Some, None, Result, Ok, Err, is_some, is_none, IsSomeAnd, if◌then◌else◌, nat_lt, nat_le}
+use Rattle.std.specs.Prelude.{◌≡◌, ◌+◌, ℕ, Bool, true, false, not, List, [], ◌∷◌, ◌++◌, length, take, drop, Option, Some, None, is_some, is_none, IsSomeAnd, if◌then◌else◌, nat_lt, nat_le}
 use Rattle.mote_types.specs.declared.call.Call.{Call}
 use Rattle.mote_types.specs.declared.entry.Entry.{Entry}
 use Rattle.mote_types.specs.declared.entry.Input.{Input}
@@ -44,10 +44,6 @@ abbrev pub status_if : Option SessionRefusal → ℕ
 status_if None = 0
 status_if (Some refusal) = refusal_status refusal
 
-abbrev pub status_of : Result (Unit {0}) SessionRefusal → ℕ
-status_of (Ok done) = 0
-status_of (Err refusal) = refusal_status refusal
-
 -- 22 where the mote is closed
 abbrev pub status_in : Held → (SessionView → ℕ) → ℕ
 status_in None status = 22
@@ -60,12 +56,18 @@ abbrev pub input_status : Input → Held → ℕ
 input_status input held = status_in held (λ session. status_if (input_refusal input session))
 
 -- 24 where a turn awaits its call
+abbrev pub next_status_of : SessionView → ℕ
+next_status_of session = if is_some session.turn then 24 else 0
+
 abbrev pub next_status : Held → ℕ
-next_status held = status_in held (λ session. if is_some session.turn then 24 else 0)
+next_status held = status_in held next_status_of
 
 -- 25 where no turn awaits a call, 27 where there is no such call
+abbrev pub answer_status_of : PlainCall → SessionView → ℕ
+answer_status_of call session = if is_none session.turn then 25 else if is_none (call_said call) then 27 else 0
+
 abbrev pub answer_status : PlainCall → Held → ℕ
-answer_status call held = status_in held (λ session. if is_none session.turn then 25 else if is_none (call_said call) then 27 else 0)
+answer_status call held = status_in held (answer_status_of call)
 
 -- 30 where there is no entry, 20 where its line is longer than the room
 abbrev pub line_status_of : ℕ → Option Entry → ℕ

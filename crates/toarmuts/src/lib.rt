@@ -6,6 +6,7 @@ ghost use Rattle.toarmuts.specs.Answers.{IsRefusalOf, IsRunOf, IsTooLongFor};
 
 mod answer;
 mod configuration;
+mod in_session;
 mod lines;
 mod refusal;
 mod running;

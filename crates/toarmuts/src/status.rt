@@ -1,7 +1,7 @@
 //! The statuses of the calls by which a mote is asked step by step.
 
-ghost use Rattle.std.specs.Prelude.{◌≡◌};
-ghost use Rattle.toarmuts.specs.Steps.{refusal_status, status_of};
+ghost use Rattle.std.specs.Prelude.{◌≡◌, ◌≢◌, ◌≤◌};
+ghost use Rattle.toarmuts.specs.Steps.{refusal_status};
 
 use mote_session::refusal::SessionRefusal;
 
@@ -31,7 +31,9 @@ pub const NO_CALL: u32 = 27;
 
 /// The status that tells a refusal.
 pub fn refusal_status(refusal: SessionRefusal) -> u32
-    ensures { result ≡ refusal_status refusal }
+    ensures status { result ≡ refusal_status refusal }
+    ensures not_done { 2 ≤ result }
+    ensures room { result ≢ 20 }
 {
     match refusal {
         SessionRefusal::BadLine => 2,
@@ -42,15 +44,5 @@ pub fn refusal_status(refusal: SessionRefusal) -> u32
         SessionRefusal::NoInput => 28,
         SessionRefusal::TooManyInputs => 29,
         SessionRefusal::NoLine => 30,
-    }
-}
-
-/// The status that tells how it went.
-pub fn status_of(outcome: Result<(), SessionRefusal>) -> u32
-    ensures { result ≡ status_of outcome }
-{
-    match outcome {
-        Ok(()) => DONE,
-        Err(refusal) => refusal_status(refusal),
     }
 }

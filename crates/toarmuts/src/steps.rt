@@ -3,20 +3,18 @@
 //! Each takes the session out of the mote, works, and puts it back. What C hands in can be anything: a mote that is closed, a
 //! call where none is awaited, numbers out of range have their statuses, and then nothing is changed.
 
-ghost use Rattle.std.specs.Prelude.{◌≡◌, ◌≢◌, ◌≤◌, ◌<◌, ◌+◌, ◌-◌, ◌↔◌, false, None, Some, length, take, drop, is_some, true, nat_lt, if◌then◌else◌, IsSomeAnd, IfOk, IsErrOf};
+ghost use Rattle.std.specs.Prelude.{◌≡◌, ◌≢◌, ◌≤◌, ◌+◌, ◌↔◌, false, true, None, length, take, drop, is_some, IsSomeAnd, IfOk, IsErrOf};
 ghost use Rattle.kernel_core.specs.Machine.{is_bootable};
-ghost use Rattle.mote_text.specs.EntryText.{entry_line};
 ghost use Rattle.mote_handle.specs.Sessions.{session_in};
+ghost use Rattle.mote_text.specs.EntryText.{entry_line};
 ghost use Rattle.plain_turns.specs.Inputs.{input_said};
-ghost use Rattle.toarmuts.specs.Steps.{Goes, GoesNext, IsLastLine, IsOpened, TakesCall, TakesInput, TakesScriptLine, TellsTurn, answer_status, config_in, feed_status, input_status, line_status, next_status, open_status, step_number};
+ghost use Rattle.toarmuts.specs.Steps.{Goes, GoesNext, IsLastLine, IsOpened, TakesCall, TakesInput, TakesScriptLine, answer_status, config_in, feed_status, input_status, line_status, next_status, open_status};
 
 use crate::configuration::Configuration;
-use crate::status::{
-    BAD_SIZES, CLOSED, DONE, IS_OPEN, NO_CALL, NO_ROOM, NO_TURN, OUT_OF_MEMORY, refusal_status,
-    status_of,
-};
+use crate::in_session::{feed_input, feed_line, go_on, put_last_line, take_call};
+use crate::status::{BAD_SIZES, CLOSED, DONE, IS_OPEN, OUT_OF_MEMORY};
 use mote_handle::{Mote, OpenMote};
-use mote_session::session::{Next, Session};
+use mote_session::session::Session;
 use mote_session::{BootFault, Config};
 use mote_text::line::OutputBuffer;
 use plain_turns::{PlainCall, PlainTurn, input_of};
@@ -88,9 +86,9 @@ pub extern "C" fn toarmuts_feed(alloc: Global, mote: &mut Mote, line: &[u8]) -> 
     let Some(mut open_mote) = mote.take(alloc) else {
         return CLOSED;
     };
-    let outcome = open_mote.session.feed(line);
+    let status = feed_line(&mut open_mote.session, line);
     mote.put(alloc, open_mote);
-    status_of(outcome)
+    status
 }
 
 /// Hands in an input of this kind: 0 so many ticks, 1 bytes on the serial line, 2 a frame of bytes.
@@ -109,30 +107,9 @@ pub extern "C" fn toarmuts_feed_input(
     let Some(mut open_mote) = mote.take(alloc) else {
         return CLOSED;
     };
-    let outcome = open_mote.session.feed_input(input_of(kind, ticks, bytes));
+    let status = feed_input(&mut open_mote.session, input_of(kind, ticks, bytes));
     mote.put(alloc, open_mote);
-    status_of(outcome)
-}
-
-/// The number that tells what `next` came to.
-fn step_number(next: Next) -> u32
-    ensures { result ≡ step_number next }
-{
-    match next {
-        Next::Turn => 0,
-        Next::Entry => 1,
-        Next::Rest => 2,
-        Next::Halted => 3,
-    }
-}
-
-/// Tells the turn that awaits its call, if one does.
-fn tell_turn(session: &Session, turn: &mut PlainTurn)
-    ensures { TellsTurn session.now.turn turn.old turn.new }
-{
-    if let Some(open) = session.turn() {
-        turn.tell(open.process, open.origin, open.stimulus);
-    }
+    status
 }
 
 /// Works to the next turn, entry or rest; `step` says which, and a turn is told.
@@ -150,14 +127,7 @@ pub extern "C" fn toarmuts_next(
     let Some(mut open_mote) = mote.take(alloc) else {
         return CLOSED;
     };
-    let status = match open_mote.session.next() {
-        Ok(next) => {
-            *step = step_number(next);
-            tell_turn(&open_mote.session, turn);
-            DONE
-        }
-        Err(refusal) => refusal_status(refusal),
-    };
+    let status = go_on(&mut open_mote.session, step, turn);
     mote.put(alloc, open_mote);
     status
 }
@@ -172,32 +142,9 @@ pub extern "C" fn toarmuts_answer(alloc: Global, mote: &mut Mote, call: &PlainCa
     let Some(mut open_mote) = mote.take(alloc) else {
         return CLOSED;
     };
-    let status = match call.call() {
-        Some(call) => status_of(open_mote.session.answer(call)),
-        None if open_mote.session.turn().is_none() => NO_TURN,
-        None => NO_CALL,
-    };
+    let status = take_call(&mut open_mote.session, call);
     mote.put(alloc, open_mote);
     status
-}
-
-/// Puts a line, all but its end, to the front of the room where it fits there, and tells how long it is.
-fn put_line(text: &[u8], line: &mut [u8], length: &mut usize) -> u32
-    requires { 0 < length text.now }
-    ensures length { length.new + 1 ≡ length text.now }
-    ensures status { result ≡ (if nat_lt (length line.old + 1) (length text.now) then 20 else 0) }
-    ensures fits { result ≡ 0 → length.new ≤ length line.new }
-    ensures front { result ≡ 0 → take length.new line.new ≡ take length.new text.now }
-    ensures behind { result ≡ 0 → drop length.new line.new ≡ drop length.new line.old }
-    ensures unchanged { result ≢ 0 → line.new ≡ line.old }
-{
-    let size = text.len() - 1;
-    *length = size;
-    if size > line.len() {
-        return NO_ROOM;
-    }
-    line[..size].copy_from_slice(&text[..size]);
-    DONE
 }
 
 /// Puts the transcript's line of the last entry, without its end, to the front of the room, and tells how long it is, also where
@@ -221,11 +168,7 @@ pub extern "C" fn toarmuts_line(
     let Some(mut open_mote) = mote.take(alloc) else {
         return CLOSED;
     };
-    open_mote.line.clear();
-    let status = match open_mote.session.push_line(&mut open_mote.line) {
-        Ok(()) => put_line(open_mote.line.as_slice(), line, length),
-        Err(refusal) => refusal_status(refusal),
-    };
+    let status = put_last_line(&mut open_mote, line, length);
     mote.put(alloc, open_mote);
     status
 }
