@@ -13,7 +13,8 @@ use Rattle.kernel_core.specs.Run.{heard}
 use Rattle.mote_session.specs.Answered.{AnswersAs, call_at, call_of, calls_of, replayed}
 
 -- who answers so up to an entry answers so before it
-pub answers_before : (says : Applications) (entries : List Entry) (entry : Entry) → AnswersAs says (entries ++ entry ∷ []) → AnswersAs says entries
+pub answers_before : (says : Applications) (entries : List Entry) (entry : Entry) →
+    AnswersAs says (entries ++ entry ∷ []) → AnswersAs says entries
 answers_before says entries entry answers = λ before later pid origin stimulus call same.
     answers before (later ++ entry ∷ []) pid origin stimulus call
     (ap (λ v. v ++ entry ∷ []) same ∙ append_assoc before (Entry.Turn pid origin stimulus call ∷ later) (entry ∷ []))
@@ -28,7 +29,8 @@ calls_heard : (p : ℕ) (entries : List Entry) → length (heard p entries) ≡ 
 calls_heard p [] = refl
 calls_heard p (entry ∷ entries) = one entry (calls_heard p entries)
   where
-    one : (entry : Entry) → length (heard p entries) ≡ length (calls_of p entries) → length (heard p (entry ∷ entries)) ≡ length (calls_of p (entry ∷ entries))
+    one : (entry : Entry) → length (heard p entries) ≡ length (calls_of p entries) →
+        length (heard p (entry ∷ entries)) ≡ length (calls_of p (entry ∷ entries))
     one entry same = grind (arith, nat_tests, same)
 
 call_behind : (calls : List Call) (call : Call) (later : List Call) → call_at (length calls) (calls ++ call ∷ later) ≡ call

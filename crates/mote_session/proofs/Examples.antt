@@ -125,4 +125,5 @@ always_waits p stimuli = Call.Wait
 
 waits_instead : AnswersAs always_waits three → ⊥
 waits_instead answers =
-    cc (answers [] (turn 5 Call.Exit ∷ turn 4 Call.AllocEvent ∷ []) (record { 0 = 4 }) Origin.Answer (Stimulus.Answer Reply.Done) Call.Clock refl)
+    let later : List Entry = turn 5 Call.Exit ∷ turn 4 Call.AllocEvent ∷ [] in
+    cc (answers [] later (record { 0 = 4 }) Origin.Answer (Stimulus.Answer Reply.Done) Call.Clock refl)

@@ -10,7 +10,7 @@ use Rattle.process_core.specs.Idle.{is_idle}
 use Rattle.kernel_core.specs.Calls.{after_call}
 use Rattle.kernel_core.specs.Code.Steps.{MakesEntry}
 use Rattle.kernel_core.specs.Machine.{Machine}
-use Rattle.kernel_core.specs.Run.{answers_after, at_start}
+use Rattle.kernel_core.specs.Run.{Running, answers_after, at_start}
 use Rattle.mote_session.specs.Answered.{AnswersAs}
 use Rattle.mote_session.specs.History.{History, last_entry, with_answer, with_entry, with_input}
 use Rattle.mote_session.specs.SessionRuns.{HasComeTo, IsHistoryOf, StandsAt}
@@ -28,23 +28,30 @@ last_is (first ∷ next ∷ entries) entry = last_is (next ∷ entries) entry
 none_is_not : {A X : Type 0} (v : Option A) (a : A) → v ≡ Some a → v ≡ None → X
 none_is_not v a some none = absurd (cc)
 
+-- a run that has come so far
+abbrev so_far : History → Machine → Running
+so_far history machine = running_at history.entries machine
+
 -- between two turns
 module _ {history : History} {old : SessionView} (is : IsHistoryOf history old) (closed : old.turn ≡ None) where
   come : HasComeTo history old.machine
   come = subst (λ (t : Option AwaitedCall). StandsAt history t old.machine) closed is.stands
 
-stands_at_end : (history : History) (new : SessionView) → new.turn ≡ None → HasComeTo history new.machine → StandsAt history new.turn new.machine
+stands_at_end : (history : History) (new : SessionView) → new.turn ≡ None → HasComeTo history new.machine →
+    StandsAt history new.turn new.machine
 stands_at_end history new closed comes = subst (λ (t : Option AwaitedCall). StandsAt history t new.machine) (sym closed) comes
 
 -- behind an entry that is no turn
-behind_entry : (history : History) (old new : SessionView) (entry : Entry) → IsHistoryOf history old → old.turn ≡ None → HasSameInputs old new →
-    new.turn ≡ None → new.last ≡ Some entry → ((says : Applications) → MakesEntry (answers_after says history.entries) old.machine entry new.machine) →
+behind_entry : (history : History) (old new : SessionView) (entry : Entry) → IsHistoryOf history old → old.turn ≡ None →
+    HasSameInputs old new → new.turn ≡ None → new.last ≡ Some entry →
+    ((says : Applications) → MakesEntry (answers_after says history.entries) old.machine entry new.machine) →
     IsHistoryOf (with_entry entry history) new
 behind_entry history old new entry is closed same ends last makes = record {
   bootable = is.bootable;
   stands = stands_at_end (with_entry entry history) new ends (λ says answers.
-      leads_on says (at_start history.config) (running_at history.entries old.machine) (running_at (history.entries ++ entry ∷ []) new.machine) history.inputs
-      (come is closed says (answers_before says history.entries entry answers)) (makes_behind says history.entries old.machine new.machine entry (makes says)));
+      leads_on says (at_start history.config) (so_far history old.machine) (so_far (with_entry entry history) new.machine) history.inputs
+      (come is closed says (answers_before says history.entries entry answers))
+      (makes_behind says history.entries old.machine new.machine entry (makes says)));
   inputs = same.0 ∙ is.inputs;
   last = λ none. last ∙ sym (last_is history.entries entry);
 }
@@ -53,18 +60,21 @@ pub next_goes_on : (history : History) (step : Next) (old new : SessionView) →
     Advances step old new → HasSameInputs old new → IsHistoryOf (with_made step new.last history) new
 next_goes_on history Next.Turn old new is closed opens same = record {
   bootable = is.bootable;
-  stands = subst (λ (t : Option AwaitedCall). StandsAt history t new.machine) (sym opens.opened) (old.machine, come is closed, opens.awaits);
+  stands = subst (λ (t : Option AwaitedCall). StandsAt history t new.machine) (sym opens.opened)
+      (old.machine, come is closed, opens.awaits);
   inputs = same.0 ∙ is.inputs;
   last = λ none. none_is_not new.turn opens.turn opens.opened none;
 }
 next_goes_on history Next.Entry old new is closed makes same =
     subst (λ (v : Option Entry). IsHistoryOf (with_made Next.Entry v history) new) (sym makes.last)
-    (behind_entry history old new makes.entry is closed same makes.closed makes.last (λ says. makes.made (answers_after says history.entries)))
+    (behind_entry history old new makes.entry is closed same makes.closed makes.last
+    (λ says. makes.made (answers_after says history.entries)))
 next_goes_on history Next.Rest old new is closed rested same = record {
   bootable = is.bootable;
   stands = stands_at_end history new rested.closed (λ says answers.
-      leads_on says (at_start history.config) (running_at history.entries old.machine) (running_at history.entries new.machine) history.inputs
-      (come is closed says answers) (rests_behind says history.entries old.machine new.machine (rested.goes (answers_after says history.entries))));
+      leads_on says (at_start history.config) (so_far history old.machine) (so_far history new.machine) history.inputs
+      (come is closed says answers)
+      (rests_behind says history.entries old.machine new.machine (rested.goes (answers_after says history.entries))));
   inputs = same.0 ∙ is.inputs;
   last = λ none. rested.last ∙ is.last closed;
 }
@@ -95,8 +105,8 @@ module _ {history : History} {old new : SessionView} {call : Call} (is : IsHisto
   turn_is_last : HasSameInputs old new → IsHistoryOf (with_entry turn_made history) new
   turn_is_last same = record {
     bootable = is.bootable;
-    stands = subst (λ (t : Option AwaitedCall). StandsAt (with_entry turn_made history) t new.machine) (sym answered.closed) (λ says answers.
-        leads_on says (at_start history.config) (running_at history.entries stood.0) (running_at (history.entries ++ turn_made ∷ []) new.machine) history.inputs
+    stands = stands_at_end (with_entry turn_made history) new answered.closed (λ says answers.
+        leads_on says (at_start history.config) (so_far history stood.0) (so_far (with_entry turn_made history) new.machine) history.inputs
         (stood.1 says (answers_before says history.entries turn_made answers))
         (makes_behind says history.entries stood.0 new.machine turn_made (takes_turn says answers)));
     inputs = same.0 ∙ is.inputs;
@@ -117,9 +127,10 @@ pub input_goes_on : (history : History) (input : Input) (old new : SessionView) 
 input_goes_on history input old new is at_rest is_fed =
     let rest = rest_is old.turn old.machine.is_halted (is_idle old.machine.scheduler) at_rest in record {
       bootable = is.bootable;
-      stands = subst (λ (t : Option AwaitedCall). StandsAt (with_input input history) t new.machine) (sym is_fed.closed)
+      stands = stands_at_end (with_input input history) new is_fed.closed
           (subst (HasComeTo (with_input input history)) (sym is_fed.machine) (λ says answers.
-          leads_fed says (at_start history.config) (running_at history.entries old.machine) history.inputs input rest.2 rest.1 (come is rest.0 says answers)));
+          leads_fed says (at_start history.config) (so_far history old.machine) history.inputs input rest.2 rest.1
+          (come is rest.0 says answers)));
       inputs = is_fed.inputs ∙ (ap (λ n. n + 1) is.inputs ∙ sym (length-append history.inputs (input ∷ [])));
       last = λ none. is_fed.last ∙ is.last rest.0;
     }

@@ -4,7 +4,8 @@ use Rattle.mote_session.specs.History.{History}
 use Rattle.mote_session.specs.SessionRuns.{IsHistoryOf, KeepsPromise, SessionPromise}
 use Rattle.mote_session.specs.SessionView.{SessionView}
 
-pub keeps : {history : History} {session : SessionView} → ((history : History) (session : SessionView) → IsHistoryOf history session → SessionPromise history session) →
+pub keeps : {history : History} {session : SessionView} →
+    ((history : History) (session : SessionView) → IsHistoryOf history session → SessionPromise history session) →
     IsHistoryOf history session → KeepsPromise history session
 keeps {history} {session} law is = (is, law history session is)
 

@@ -23,23 +23,30 @@ silent_from says entries zero a b same = ap (running_at entries) same
 silent_from says entries (suc n) a b (next, first, rest) = rw (first, append-nil entries) (silent_from says entries n next b rest)
 
 -- an entry is made behind these
-pub makes_behind : (says : Applications) (entries : List Entry) (a b : Machine) (entry : Entry) → MakesEntry (answers_after says entries) a entry b →
+pub makes_behind : (says : Applications) (entries : List Entry) (a b : Machine) (entry : Entry) →
+    MakesEntry (answers_after says entries) a entry b →
     Goes says (running_at entries a) (running_at (entries ++ entry ∷ []) b)
 makes_behind says entries a b entry makes =
     let n = makes.before.count in
     let first = silent_from says entries n a makes.last makes.before.steps in
     record { count = n + 1; steps = steps_plus says n 1 (running_at entries a) ∙ rw (first, makes.makes) refl }
 
-pub rests_behind : (says : Applications) (entries : List Entry) (a b : Machine) → GoesToRest (answers_after says entries) a b → Goes says (running_at entries a) (running_at entries b)
-rests_behind says entries a b goes = record { count = goes.before.count; steps = silent_from says entries goes.before.count a b goes.before.steps }
+pub rests_behind : (says : Applications) (entries : List Entry) (a b : Machine) → GoesToRest (answers_after says entries) a b →
+    Goes says (running_at entries a) (running_at entries b)
+rests_behind says entries a b goes =
+    record { count = goes.before.count; steps = silent_from says entries goes.before.count a b goes.before.steps }
 
 -- the way goes on by some steps
-pub leads_on : (says : Applications) (old r w : Running) (inputs : List Input) → Leads says old inputs r → Goes says r w → Leads says old inputs w
-leads_on says old r w [] (n, e) goes = (n + goes.count, steps_plus says n goes.count old ∙ (ap (after_steps says goes.count) e ∙ goes.steps))
-leads_on says old r w (input ∷ inputs) (rested, rests, running, on) goes = (rested, rests, running, leads_on says (with_input input rested) r w inputs on goes)
+pub leads_on : (says : Applications) (old r w : Running) (inputs : List Input) → Leads says old inputs r → Goes says r w →
+    Leads says old inputs w
+leads_on says old r w [] (n, e) goes =
+    (n + goes.count, steps_plus says n goes.count old ∙ (ap (after_steps says goes.count) e ∙ goes.steps))
+leads_on says old r w (input ∷ inputs) (rested, rests, running, on) goes =
+    (rested, rests, running, leads_on says (with_input input rested) r w inputs on goes)
 
 -- and by an input
-pub leads_fed : (says : Applications) (old r : Running) (inputs : List Input) (input : Input) → is_still r.machine ≡ true → r.machine.is_halted ≡ false →
+pub leads_fed : (says : Applications) (old r : Running) (inputs : List Input) (input : Input) →
+    is_still r.machine ≡ true → r.machine.is_halted ≡ false →
     Leads says old inputs r → Leads says old (inputs ++ input ∷ []) (with_input input r)
 leads_fed says old r [] input still running (n, e) = (r, (n, e, still), running, (0, refl))
 leads_fed says old r (first ∷ inputs) input still running (rested, rests, up, on) =
@@ -67,7 +74,8 @@ run_begins says old r w (input ∷ inputs) (rested, rests, up, on) (other, comes
     run_begins says (with_input input rested) r w inputs on (rw same at (go (rw same up)))
 
 -- where nothing more happens, that run has come here
-pub run_ends : (says : Applications) (old r w : Running) (inputs : List Input) → is_still r.machine ≡ true → Leads says old inputs r → Runs says old inputs w → w ≡ r
+pub run_ends : (says : Applications) (old r w : Running) (inputs : List Input) → is_still r.machine ≡ true →
+    Leads says old inputs r → Runs says old inputs w → w ≡ r
 run_ends says old r w [] still (n, e) rests = still_rest says r w still (rest_from says old r w n e rests)
 run_ends says old r w (input ∷ inputs) still (rested, rests, up, on) (other, comes, stop, go) =
     let same : other ≡ rested = rest_one says old other rested comes rests in

@@ -18,7 +18,8 @@ use Rattle.mote_session.proofs.Leading.{run_begins, run_ends, running_at}
 -- the laws of the machine's runs from this configuration
 pub record Laws (config : Config) : Type 0 where
   pub exists : (says : Applications) (inputs : List Input) → (after : Running) × Runs says (at_start config) inputs after
-  pub memory : (says : Applications) (inputs : List Input) (after : Running) → Runs says (at_start config) inputs after → BlocksAreOwn after.entries
+  pub memory : (says : Applications) (inputs : List Input) (after : Running) → Runs says (at_start config) inputs after →
+      BlocksAreOwn after.entries
   pub events : (says : Applications) (inputs : List Input) (after : Running) → Runs says (at_start config) inputs after →
       EventsArriveInOrder config.apps after.entries
   pub timers : (says : Applications) (inputs : List Input) (after : Running) → Runs says (at_start config) inputs after →
@@ -32,7 +33,8 @@ record Standing (history : History) (turn : Option AwaitedCall) (machine : Machi
   come : HasComeTo history at
   settled : (is_none turn && is_still machine) ≡ true → (at ≡ machine) × (is_still machine ≡ true)
 
-standing : (history : History) (turn : Option AwaitedCall) (machine : Machine) → StandsAt history turn machine → Standing history turn machine
+standing : (history : History) (turn : Option AwaitedCall) (machine : Machine) → StandsAt history turn machine →
+    Standing history turn machine
 standing history None machine come = record { at = machine; come = come; settled = λ settled. (refl, settled) }
 standing history (Some turn) machine (before, come, awaits) = record { at = before; come = come; settled = λ settled. absurd (cc) }
 
@@ -46,20 +48,26 @@ module _ {history : History} {session : SessionView} (is : IsHistoryOf history s
   abbrev stand : Standing history session.turn session.machine
   stand = standing history session.turn session.machine is.stands
 
-  module _ (says : Applications) (answers : AnswersAs says history.entries) (last : Running) (runs : Runs says (at_start history.config) history.inputs last)
+  -- the run, as far as it has come
+  abbrev here : Running
+  here = running_at history.entries stand.at
+
+  module _ (says : Applications) (answers : AnswersAs says history.entries) (last : Running)
+      (runs : Runs says (at_start history.config) history.inputs last)
       (later : List Entry) (front : last.entries ≡ history.entries ++ later) where
     whole : is_settled session ≡ true → (later ≡ []) × (last.machine ≡ session.machine)
     whole settled =
-        let here = stand.settled settled in
-        let still : is_still stand.at ≡ true = rw here.0 here.1 in
-        let same : last ≡ running_at history.entries stand.at =
-        run_ends says (at_start history.config) (running_at history.entries stand.at) last history.inputs still (stand.come says answers) runs in
-        (nothing_later history.entries later (sym front ∙ ap (λ (r : Running). r.entries) same), ap (λ (r : Running). r.machine) same ∙ here.0)
+        let settles = stand.settled settled in
+        let still : is_still stand.at ≡ true = rw settles.0 settles.1 in
+        let same : last ≡ here =
+        run_ends says (at_start history.config) here last history.inputs still (stand.come says answers) runs in
+        let none = nothing_later history.entries later (sym front ∙ ap (λ (r : Running). r.entries) same) in
+        (none, ap (λ (r : Running). r.machine) same ∙ settles.0)
 
   run_so_far : (says : Applications) → AnswersAs says history.entries → RunSoFar says history session
   run_so_far says answers =
       let run = laws.exists says history.inputs in
-      let front = run_begins says (at_start history.config) (running_at history.entries stand.at) run.0 history.inputs (stand.come says answers) run.1 in
+      let front = run_begins says (at_start history.config) here run.0 history.inputs (stand.come says answers) run.1 in
       record {
         last = run.0;
         runs = run.1;

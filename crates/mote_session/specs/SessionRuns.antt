@@ -27,7 +27,9 @@ HasComeTo history machine =
 abbrev pub StandsAt : History → Option AwaitedCall → Machine → Type 0
 StandsAt history None machine = HasComeTo history machine
 StandsAt history (Some turn) machine =
-    (before : Machine) × HasComeTo history before × ((answers : Answers) → AwaitsCall answers before turn.process turn.origin turn.stimulus machine)
+    (before : Machine)
+    × HasComeTo history before
+    × ((answers : Answers) → AwaitsCall answers before turn.process turn.origin turn.stimulus machine)
 
 -- this is what a session was handed and made
 pub record IsHistoryOf (history : History) (session : SessionView) : Type 0 where

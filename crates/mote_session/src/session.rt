@@ -93,7 +93,8 @@ fn work_in(
 ) -> Next
     requires { kernel.old.turn ≡ None }
     ensures advances { (taken : Taken) →
-        Advances result (session_view kernel.old turn.old taken other.old last.old) (session_view kernel.new turn.new taken other.new last.new) }
+        Advances result (session_view kernel.old turn.old taken other.old last.old)
+        (session_view kernel.new turn.new taken other.new last.new) }
     ensures clock { kernel.new.mote.machine.clock ≡ kernel.old.mote.machine.clock }
     ensures inputs { kernel.new.mote.inputs ≡ kernel.old.mote.inputs }
     ensures places { AreInPlace kernel.new.turn turn.new last.new }
@@ -145,7 +146,8 @@ impl Model for Session {
 
     ghost Value = { SessionView };
 
-    ghost view = { λ s. session_view s.kernel (turn_in s.works_in_odd s.odd s.even) (turn_in (not s.works_in_odd) s.odd s.even) s.other s.last };
+    ghost view = { λ s. session_view s.kernel (turn_in s.works_in_odd s.odd s.even)
+        (turn_in (not s.works_in_odd) s.odd s.even) s.other s.last };
 
     ghost invariant = { λ s. AreInPlace s.kernel.turn (turn_in s.works_in_odd s.odd s.even) s.last };
 }
@@ -158,7 +160,8 @@ impl Session {
     ///
     /// `BadSizes` exactly where no mote boots with this configuration; else `Memory` where memory is refused.
     pub fn boot(alloc: Global, config: Config) -> Result<Session, BootFault>
-        ensures booted { IfOk result (λ session. (session.machine ≡ booted config) × (session.inputs ≡ 0) × (session.turn ≡ None) × (session.last ≡ None)) }
+        ensures booted { IfOk result (λ session. (session.machine ≡ booted config) × (session.inputs ≡ 0)
+            × (session.turn ≡ None) × (session.last ≡ None)) }
         ensures history { IfOk result (λ session. KeepsPromise (at_boot config) session) }
         ensures bad_sizes { IsErrOf result BootFault.BadSizes ↔ (is_bootable config ≡ false) }
     {
@@ -182,7 +185,8 @@ impl Session {
     ///
     /// `AwaitsCall` exactly where a turn awaits its call.
     pub fn next(&mut self) -> Result<Next, SessionRefusal>
-        ensures advances { IfOk result (λ step. (self.old.turn ≡ None) × Advances step self.old self.new × HasSameInputs self.old self.new) }
+        ensures advances { IfOk result (λ step. (self.old.turn ≡ None)
+            × Advances step self.old self.new × HasSameInputs self.old self.new) }
         ensures history { IfOk result (λ step. (history : History) → IsHistoryOf history self.old →
             KeepsPromise (with_made step self.new.last history) self.new) }
         ensures refused { IfErr result (λ refusal. (refusal ≡ SessionRefusal.AwaitsCall) × (self.old.turn ≢ None) × (self.new ≡ self.old)) }
@@ -260,8 +264,10 @@ impl Session {
     /// `AwaitsCall`, `Halted` or `NotAtRest` where the mote doesn't rest; `BadLine` where the line has no form; then as
     /// `feed_input`.
     pub fn feed(&mut self, line: &[u8]) -> Result<(), SessionRefusal>
-        ensures accepted { IfOk result (λ _. (line_refusal (read_line line.now) self.old ≡ None) × TakesLine (read_line line.now) self.old self.new) }
-        ensures history { IfOk result (λ _. (history : History) → IsHistoryOf history self.old → KeepsPromise (with_said (read_line line.now) history) self.new) }
+        ensures accepted { IfOk result (λ _. (line_refusal (read_line line.now) self.old ≡ None)
+            × TakesLine (read_line line.now) self.old self.new) }
+        ensures history { IfOk result (λ _. (history : History) → IsHistoryOf history self.old →
+            KeepsPromise (with_said (read_line line.now) history) self.new) }
         ensures refused { IfErr result (λ refusal. (line_refusal (read_line line.now) self.old ≡ Some refusal) × (self.new ≡ self.old)) }
     {
         histories_go_on();
@@ -283,7 +289,8 @@ impl Session {
     /// bytes; `TooManyInputs` where 2^40 inputs were handed in, or the clock would go beyond 2^62.
     pub fn feed_input(&mut self, input: Input) -> Result<(), SessionRefusal>
         ensures accepted { IfOk result (λ _. (input_refusal input self.old ≡ None) × IsFed input self.old self.new) }
-        ensures history { IfOk result (λ _. (history : History) → IsHistoryOf history self.old → KeepsPromise (with_input input history) self.new) }
+        ensures history { IfOk result (λ _. (history : History) → IsHistoryOf history self.old →
+            KeepsPromise (with_input input history) self.new) }
         ensures refused { IfErr result (λ refusal. (input_refusal input self.old ≡ Some refusal) × (self.new ≡ self.old)) }
     {
         histories_go_on();
@@ -327,7 +334,8 @@ impl Session {
 
     /// The turn that awaits its call, if one does.
     pub fn turn(&self) -> Option<OpenTurn<'_>>
-        ensures some { IfSome result (λ turn. self.now.turn ≡ Some (record { process = turn.process; origin = turn.origin; stimulus = turn.stimulus.now })) }
+        ensures some { IfSome result (λ turn.
+            self.now.turn ≡ Some (record { process = turn.process; origin = turn.origin; stimulus = turn.stimulus.now })) }
         ensures none { IfNone result (self.now.turn ≡ None) }
     {
         let turn = if self.works_in_odd {

@@ -5,4 +5,5 @@ pub returns-clause-history : goal.returns-clause-history
 returns-clause-history c =
     if_ok c.hand_in.result (λ _ accepted history is.
     keeps c.histories_keep_promise.ensures
-    (c.histories_go_on.ensures.input history c.args.input _ _ is c.in_ok-test_rest.ensures.accepted.1 accepted.1)) c.hand_in.ensures.accepted
+    (c.histories_go_on.ensures.input history c.args.input _ _ is c.in_ok-test_rest.ensures.accepted.1 accepted.1))
+    c.hand_in.ensures.accepted
