@@ -309,8 +309,10 @@ check_calls(long count)
 
 enum { MOST_LISTED = 40, MOST_LINES = 30, MOST_TEXT = 1 << 20 };
 
-/* Applications that are lists of calls, and a script. */
+/* Applications that are lists of calls, and a script. Now and then the first application asks for the clock at every turn, which
+ * halts the mote. */
 struct scenario {
+  bool watches_clock;
   uint32_t applications, lines;
   uint32_t counts[6];
   struct toarmuts_call calls[6][MOST_LISTED];
@@ -321,6 +323,7 @@ static void
 make_scenario(struct scenario *scenario)
 {
   scenario->applications = next_random(7);
+  scenario->watches_clock = scenario->applications > 0 && next_random(100) == 0;
   for(uint32_t i = 0; i < scenario->applications; i++) {
     scenario->counts[i] = next_random(MOST_LISTED + 1);
     for(uint32_t k = 0; k < scenario->counts[i]; k++) {
@@ -351,8 +354,9 @@ static char *
 put_applications(char *text, const struct scenario *scenario)
 {
   for(uint32_t i = 0; i < scenario->applications; i++) {
-    text += sprintf(text, "calls");
-    for(uint32_t k = 0; k < scenario->counts[i]; k++) {
+    bool watches = i == 0 && scenario->watches_clock;
+    text += sprintf(text, watches ? "clock-watcher" : "calls");
+    for(uint32_t k = 0; !watches && k < scenario->counts[i]; k++) {
       text += sprintf(text, k == 0 ? " " : ", ");
       text = put_call(text, &scenario->calls[i][k]);
     }
@@ -370,20 +374,29 @@ put_script(char *text, const struct scenario *scenario)
   return text;
 }
 
+/* The call that an application makes at its turn of this number. */
+static const struct toarmuts_call *
+call_of(const struct scenario *scenario, uint32_t application, uint32_t turn)
+{
+  static const struct toarmuts_call wait = {TOARMUTS_CALL_WAIT, {0}, 0, 0, 0, {0}}, clock = {TOARMUTS_CALL_CLOCK, {0}, 0, 0, 0, {0}};
+  if(application == 0 && scenario->watches_clock) {
+    return &clock;
+  }
+  return turn < scenario->counts[application] ? &scenario->calls[application][turn] : &wait;
+}
+
 /* Goes on to rest or a halt, each application going through its list, and appends the lines of all entries. */
 static char *
 put_entries(char *text, struct toarmuts_mote *mote, const struct scenario *scenario, uint32_t *places, bool *holds)
 {
-  static const struct toarmuts_call wait = {TOARMUTS_CALL_WAIT, {0}, 0, 0, 0, {0}};
   struct toarmuts_turn turn;
   uint32_t step;
   size_t length;
   memset(&turn, 0, sizeof turn);
   while(toarmuts_next(mote, &step, &turn) == TOARMUTS_DONE && step < TOARMUTS_REST) {
     if(step == TOARMUTS_TURN) {
-      uint32_t which = turn.process - 4, place = places[which]++;
-      const struct toarmuts_call *call = place < scenario->counts[which] ? &scenario->calls[which][place] : &wait;
-      *holds = *holds && toarmuts_answer(mote, call) == TOARMUTS_DONE;
+      uint32_t application = turn.process - 4;
+      *holds = *holds && toarmuts_answer(mote, call_of(scenario, application, places[application]++)) == TOARMUTS_DONE;
     }
     *holds = *holds && toarmuts_line(mote, (uint8_t *)text, 640, &length) == TOARMUTS_DONE;
     text += length;
@@ -392,7 +405,28 @@ put_entries(char *text, struct toarmuts_mote *mote, const struct scenario *scena
   return text;
 }
 
-/* The same run step by step; a line that has no form ends it. */
+/* Hands in what a line says, as a line or as an input. */
+static uint32_t
+hand_in(struct toarmuts_mote *mote, const char *line)
+{
+  const char *digits = strchr(line, ' ');
+  uint8_t bytes[256];
+  size_t length = 0;
+  unsigned number = 0;
+  if(next_random(2) == 0 || digits == NULL || line[0] == '#' || strcmp(line, "tick 01") == 0) {
+    return feed(mote, line);
+  }
+  if(line[0] == 't') {
+    sscanf(digits, "%u", &number);
+    return toarmuts_feed_input(mote, TOARMUTS_TICK, number, bytes, 0);
+  }
+  for(digits++; sscanf(digits, "%2x", &number) == 1; digits += 2) {
+    bytes[length++] = (uint8_t)number;
+  }
+  return toarmuts_feed_input(mote, line[0] == 's' ? TOARMUTS_SERIAL : TOARMUTS_FRAME, 0, bytes, length);
+}
+
+/* The same run step by step; a line that has no form ends it, and so does a halt. */
 static char *
 put_run(char *text, const struct scenario *scenario, bool *holds)
 {
@@ -401,12 +435,7 @@ put_run(char *text, const struct scenario *scenario, bool *holds)
   *holds = *holds && status == TOARMUTS_DONE;
   text = put_entries(text, &mote, scenario, places, holds);
   for(uint32_t i = 0; i < scenario->lines && status == TOARMUTS_DONE; i++) {
-    uint32_t ticks;
-    if(next_random(2) == 0 && sscanf(scenario->script[i], "tick %u", &ticks) == 1 && scenario->script[i][5] != '0') {
-      status = toarmuts_feed_input(&mote, TOARMUTS_TICK, ticks, (const uint8_t *)"", 0);
-    } else {
-      status = feed(&mote, scenario->script[i]);
-    }
+    status = hand_in(&mote, scenario->script[i]);
     if(status == TOARMUTS_BAD_LINE) {
       text += sprintf(text, "bad line %u\n", (unsigned)i + 1);
     }
@@ -424,7 +453,7 @@ make_runs(void *count)
   char *applications = malloc(MOST_TEXT), *script = malloc(MOST_TEXT), *by_steps = malloc(4 * MOST_TEXT);
   uint8_t *by_run = malloc(4 * MOST_TEXT);
   bool holds = true;
-  random_state = 1 + (uint32_t)*(long *)count % 2;
+  random_state = (uint32_t)(*(long *)count + 1) * 2654435761u;
   for(long i = 0; holds && i < *(long *)count; i++) {
     struct toarmuts_answer answer;
     make_scenario(scenario);

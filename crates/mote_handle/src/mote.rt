@@ -8,8 +8,7 @@ ghost use Rattle.mote_handle.specs.Owned.{mote_owns};
 use crate::open_mote::OpenMote;
 use std::alloc::Global;
 use std::marker::Model;
-use std::mem;
-use std::ptr;
+use std::{mem, ptr};
 use unboxed::Unboxed;
 
 /// What an open mote has, on the heap; or nothing: then it is closed, as it is with all bytes 0.

@@ -84,7 +84,11 @@ impl PlainCall {
         match self.kind {
             kind::POST => Some(Call::Post(self.byte(0)?, self.byte(1)?, self.carried()?)),
             kind::BROADCAST => Some(Call::Broadcast(self.byte(0)?, self.carried()?)),
-            kind::POST_SYNCH => Some(Call::PostSynch(self.byte(0)?, self.byte(1)?, self.carried()?)),
+            kind::POST_SYNCH => Some(Call::PostSynch(
+                self.byte(0)?,
+                self.byte(1)?,
+                self.carried()?,
+            )),
             kind::POLL => Some(Call::Poll(self.byte(0)?)),
             kind::START => Some(Call::Start(self.byte(0)?)),
             kind::KILL => Some(Call::Kill(self.byte(0)?)),
@@ -155,8 +159,18 @@ impl PlainCall {
         match self.kind {
             kind::MEMB_ALLOC => Some(Call::MembAlloc(self.byte(0)?)),
             kind::MEMB_FREE => Some(Call::MembFree(self.byte(0)?, self.byte(1)?)),
-            kind::MEMB_WRITE => Some(Call::MembWrite(self.byte(0)?, self.byte(1)?, self.size(2), self.chunk()?)),
-            kind::MEMB_READ => Some(Call::MembRead(self.byte(0)?, self.byte(1)?, self.size(2), self.byte(3)?)),
+            kind::MEMB_WRITE => Some(Call::MembWrite(
+                self.byte(0)?,
+                self.byte(1)?,
+                self.size(2),
+                self.chunk()?,
+            )),
+            kind::MEMB_READ => Some(Call::MembRead(
+                self.byte(0)?,
+                self.byte(1)?,
+                self.size(2),
+                self.byte(3)?,
+            )),
             kind::MEMB_NUM_FREE => Some(Call::MembNumFree(self.byte(0)?)),
             _ => None,
         }
@@ -170,7 +184,11 @@ impl PlainCall {
         match self.kind {
             kind::LIST_ADD => Some(Call::ListAdd(self.byte(0)?, self.byte(1)?)),
             kind::LIST_PUSH => Some(Call::ListPush(self.byte(0)?, self.byte(1)?)),
-            kind::LIST_INSERT => Some(Call::ListInsert(self.byte(0)?, self.byte(1)?, self.byte(2)?)),
+            kind::LIST_INSERT => Some(Call::ListInsert(
+                self.byte(0)?,
+                self.byte(1)?,
+                self.byte(2)?,
+            )),
             kind::LIST_POP => Some(Call::ListPop(self.byte(0)?)),
             kind::LIST_CHOP => Some(Call::ListChop(self.byte(0)?)),
             kind::LIST_REMOVE => Some(Call::ListRemove(self.byte(0)?, self.byte(1)?)),

@@ -8,7 +8,9 @@ use mote_types::entry::Input;
 
 /// The kinds of inputs.
 const TICK: u32 = 0;
+
 const SERIAL: u32 = 1;
+
 const FRAME: u32 = 2;
 
 /// These bytes; none of them, where the vector has no room for all.

@@ -1,6 +1,6 @@
 //! What the calls do in the session of an open mote, and by which status they tell how it went.
 
-ghost use Rattle.std.specs.Prelude.{◌≡◌, ◌≢◌, ◌≤◌, ◌<◌, ◌+◌, length, take, drop, nat_lt, if◌then◌else◌, IsSomeAnd};
+ghost use Rattle.std.specs.Prelude.{◌≡◌, ◌≢◌, ◌≤◌, ◌<◌, ◌+◌, length as size_of, take, drop, nat_lt, if◌then◌else◌, IsSomeAnd};
 ghost use Rattle.mote_session.specs.Refusals.{input_refusal, line_refusal};
 ghost use Rattle.mote_text.specs.EntryText.{entry_line};
 ghost use Rattle.mote_text.specs.Script.{read_line};
@@ -93,10 +93,10 @@ pub fn take_call(session: &mut Session, plain: &PlainCall) -> u32
 
 /// Puts a line, all but its end, to the front of the room where it fits there, and tells how long it is.
 fn put_line(text: &[u8], line: &mut [u8], length: &mut usize) -> u32
-    requires { 0 < length text.now }
-    ensures length { length.new + 1 ≡ length text.now }
-    ensures status { result ≡ (if nat_lt (length line.old + 1) (length text.now) then 20 else 0) }
-    ensures fits { result ≡ 0 → length.new ≤ length line.new }
+    requires { 0 < size_of text.now }
+    ensures length { length.new + 1 ≡ size_of text.now }
+    ensures status { result ≡ (if nat_lt (size_of line.old + 1) (size_of text.now) then 20 else 0) }
+    ensures fits { result ≡ 0 → length.new ≤ size_of line.new }
     ensures front { result ≡ 0 → take length.new line.new ≡ take length.new text.now }
     ensures behind { result ≡ 0 → drop length.new line.new ≡ drop length.new line.old }
     ensures unchanged { result ≢ 0 → line.new ≡ line.old }
@@ -113,11 +113,11 @@ fn put_line(text: &[u8], line: &mut [u8], length: &mut usize) -> u32
 /// Puts the line of the last entry, without its end, to the front of the room.
 pub fn put_last_line(open_mote: &mut OpenMote, line: &mut [u8], length: &mut usize) -> u32
     ensures session { open_mote.new.session ≡ open_mote.old.session }
-    ensures status { result ≡ line_status_of (length line.old) open_mote.old.session.last }
+    ensures status { result ≡ line_status_of (size_of line.old) open_mote.old.session.last }
     ensures line { result ≡ 0 → IsLastLine (take length.new line.new) open_mote.old.session }
-    ensures fits { result ≡ 0 → length.new ≤ length line.new }
+    ensures fits { result ≡ 0 → length.new ≤ size_of line.new }
     ensures behind { result ≡ 0 → drop length.new line.new ≡ drop length.new line.old }
-    ensures length { result ≡ 20 → IsSomeAnd open_mote.old.session.last (λ entry. length.new + 1 ≡ length (entry_line entry)) }
+    ensures length { result ≡ 20 → IsSomeAnd open_mote.old.session.last (λ entry. length.new + 1 ≡ size_of (entry_line entry)) }
     ensures no_line { result ≢ 0 → line.new ≡ line.old }
     ensures no_length { result ≢ 0 → result ≢ 20 → length.new ≡ length.old }
 {

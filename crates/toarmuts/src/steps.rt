@@ -3,7 +3,7 @@
 //! Each takes the session out of the mote, works, and puts it back. What C hands in can be anything: a mote that is closed, a
 //! call where none is awaited, numbers out of range have their statuses, and then nothing is changed.
 
-ghost use Rattle.std.specs.Prelude.{◌≡◌, ◌≢◌, ◌≤◌, ◌+◌, ◌↔◌, false, true, None, length, take, drop, is_some, IsSomeAnd, IfOk, IsErrOf};
+ghost use Rattle.std.specs.Prelude.{◌≡◌, ◌≢◌, ◌≤◌, ◌+◌, ◌↔◌, false, true, None, length as size_of, take, drop, is_some, IsSomeAnd, IfOk, IsErrOf};
 ghost use Rattle.kernel_core.specs.Machine.{is_bootable};
 ghost use Rattle.mote_handle.specs.Sessions.{session_in};
 ghost use Rattle.mote_text.specs.EntryText.{entry_line};
@@ -156,11 +156,11 @@ pub extern "C" fn toarmuts_line(
     line: &mut [u8],
     length: &mut usize,
 ) -> u32
-    ensures status { result ≡ line_status (length line.old) (session_in mote.old) }
+    ensures status { result ≡ line_status (size_of line.old) (session_in mote.old) }
     ensures line { result ≡ 0 → IsSomeAnd (session_in mote.old) (IsLastLine (take length.new line.new)) }
-    ensures fits { result ≡ 0 → length.new ≤ length line.new }
+    ensures fits { result ≡ 0 → length.new ≤ size_of line.new }
     ensures behind { result ≡ 0 → drop length.new line.new ≡ drop length.new line.old }
-    ensures length { result ≡ 20 → IsSomeAnd (session_in mote.old) (λ session. IsSomeAnd session.last (λ entry. length.new + 1 ≡ length (entry_line entry))) }
+    ensures length { result ≡ 20 → IsSomeAnd (session_in mote.old) (λ session. IsSomeAnd session.last (λ entry. length.new + 1 ≡ size_of (entry_line entry))) }
     ensures no_line { result ≢ 0 → line.new ≡ line.old }
     ensures no_length { result ≢ 0 → result ≢ 20 → length.new ≡ length.old }
     ensures unchanged { (session_in mote.new) ≡ (session_in mote.old) }
