@@ -90,6 +90,7 @@ run_activation(const struct toarmuts_turn *turn)
   flush_console();
   hand_in(&(struct toarmuts_call){.kind = ends || present.is_ending ? TOARMUTS_CALL_EXIT : TOARMUTS_CALL_WAIT});
   if(ends || present.is_ending) {
+    note_ended(present.process);
     forget_timers(present.process);
     forget_receiver(present.process);
   }

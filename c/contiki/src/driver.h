@@ -63,6 +63,7 @@ extern unsigned process_count;
 void number_processes(void);
 struct process *process_of(uint64_t number);
 unsigned index_of(const struct process *p);
+void note_ended(const struct process *p);
 bool activate(struct activation *present);
 
 /* timers.c */
