@@ -28,6 +28,13 @@ open_mote(const struct toarmuts_configuration *configuration)
   }
 }
 
+/* Gives its memory back, in whatever state it is. */
+void
+close_mote(void)
+{
+  toarmuts_close(&mote);
+}
+
 /* Works on to the next turn; other entries are shown. False at rest. A mote that halts ends the program. */
 static bool
 next_turn(struct toarmuts_turn *turn)
