@@ -28,6 +28,13 @@ open_mote(const struct toarmuts_configuration *configuration)
   }
 }
 
+/* Gives its memory back, in whatever state it is. */
+void
+close_mote(void)
+{
+  toarmuts_close(&mote);
+}
+
 /* Works on to the next turn; other entries are shown. False at rest. A mote that halts ends the program. */
 static bool
 next_turn(struct toarmuts_turn *turn)
@@ -90,6 +97,7 @@ run_activation(const struct toarmuts_turn *turn)
   flush_console();
   hand_in(&(struct toarmuts_call){.kind = ends || present.is_ending ? TOARMUTS_CALL_EXIT : TOARMUTS_CALL_WAIT});
   if(ends || present.is_ending) {
+    note_ended(present.process);
     forget_timers(present.process);
     forget_receiver(present.process);
   }

@@ -45,6 +45,7 @@ extern struct activation *activation;
 extern uint64_t rounds_begun;
 
 void open_mote(const struct toarmuts_configuration *configuration);
+void close_mote(void);
 void run_to_rest(void);
 uint32_t feed_line(const char *line, size_t length);
 clock_time_t clock_now(void);
@@ -63,6 +64,7 @@ extern unsigned process_count;
 void number_processes(void);
 struct process *process_of(uint64_t number);
 unsigned index_of(const struct process *p);
+void note_ended(const struct process *p);
 bool activate(struct activation *present);
 
 /* timers.c */

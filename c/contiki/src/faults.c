@@ -113,6 +113,7 @@ end_run(void)
 {
   is_over = true;
   close_console();
+  close_mote();
 }
 
 /* Ends the program with the transcript as far as it has come. */

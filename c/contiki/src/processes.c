@@ -18,6 +18,14 @@ static bool has_booted[MOST_PROCESSES];
 /* What process_start hands to the INIT event that follows at once. */
 static process_data_t start_data;
 
+/* The processes that run, the one that was started last first. */
+static struct process *running[MOST_PROCESSES];
+static unsigned running_count;
+
+/* Which processes have ended themselves by process_exit, and the one that the others are being told of. */
+static bool has_left[MOST_PROCESSES];
+static struct process *leaving;
+
 /* Who is who. */
 
 static bool
@@ -166,6 +174,41 @@ data_of(uint64_t number)
   return number - FIRST_POINTER < pointer_count ? pointers[number - FIRST_POINTER] : NULL;
 }
 
+/* Who runs. */
+
+void
+note_ended(const struct process *p)
+{
+  unsigned kept = 0;
+  for(unsigned i = 0; i < running_count; i++) {
+    if(running[i] != p) {
+      running[kept++] = running[i];
+    }
+  }
+  running_count = kept;
+}
+
+static void
+note_started(struct process *p)
+{
+  note_ended(p);
+  memmove(running + 1, running, running_count * sizeof running[0]);
+  running[0] = p;
+  running_count++;
+  has_left[index_of(p)] = false;
+}
+
+/* Whether it stands in an activation. */
+static bool
+is_active(const struct process *p)
+{
+  const struct activation *open = activation;
+  while(open != NULL && open->process != p) {
+    open = open->outer;
+  }
+  return open != NULL;
+}
+
 /* An activation: what the process is told, as Contiki-NG has it. */
 
 /* The line that was told last, until the next one is. */
@@ -194,6 +237,35 @@ data_of_event(const struct toarmuts_turn *turn, struct process *p)
   }
 }
 
+/* INIT. True where the mote starts a process that isn't to be started with the program. */
+static bool
+ends_at_boot(struct process *p)
+{
+  unsigned index = index_of(p);
+  bool ends = index < not_started && !has_booted[index];
+  has_booted[index] = true;
+  if(!ends) {
+    note_started(p);
+    PT_INIT(&p->pt);
+  }
+  return ends;
+}
+
+/* EXIT. The others were told before, the kernel's processes among them. */
+static void
+note_killed(struct process *p)
+{
+  note_ended(p);
+  forget_timers(p);
+  forget_receiver(p);
+}
+
+static bool
+call_thread(struct process *p, process_event_t ev, process_data_t data)
+{
+  return !PT_SCHEDULE(p->thread(&p->pt, ev, data));
+}
+
 /* Calls the process's thread, or its callback; true where it has ended. */
 bool
 activate(struct activation *present)
@@ -204,31 +276,29 @@ activate(struct activation *present)
   if(turn->stimulus == TOARMUTS_CALLBACK) {
     return ctimer_told(p, (unsigned)turn->number);
   }
+  if(turn->event == ERRAND_EVENT && leaving != NULL) {
+    return call_thread(p, PROCESS_EVENT_EXITED, leaving);
+  }
   if(turn->event == PROCESS_EVENT_INIT) {
-    unsigned index = index_of(p);
-    if(index < not_started && !has_booted[index]) {
-      has_booted[index] = true;
-      return true;
-    }
-    PT_INIT(&p->pt);
     data = start_data;
     start_data = NULL;
+    if(ends_at_boot(p)) {
+      return true;
+    }
   } else {
     data = data_of_event(turn, p);
   }
   if(turn->event == PROCESS_EVENT_EXIT) {
-    /* Others were told before that it ends, the kernel's processes among them. */
-    forget_timers(p);
-    forget_receiver(p);
+    note_killed(p);
   }
-  if(receive_again()) {
+  if(receive_again() || (turn->event == PROCESS_EVENT_EXITED && has_left[index_of(data)])) {
     return false;
   }
   if(turn->event == PACKET_EVENT && takes_frames()) {
     take_frame((size_t)turn->number);
     return false;
   }
-  return !PT_SCHEDULE(p->thread(&p->pt, (process_event_t)turn->event, data));
+  return call_thread(p, (process_event_t)turn->event, data);
 }
 
 /* process.h */
@@ -305,18 +375,38 @@ process_start(struct process *p, process_data_t data)
   start_data = NULL;
 }
 
+/*
+ * A process ends itself: the others are told at once, by an event of the driver's, and what the mote tells them when it exits at its
+ * next wait isn't told again.
+ */
+static void
+leave(struct process *p)
+{
+  struct process *others[MOST_PROCESSES], *outer = leaving;
+  unsigned count = running_count;
+  if(activation->is_ending || activation->turn.event == PROCESS_EVENT_EXIT) {
+    return;
+  }
+  activation->is_ending = true;
+  has_left[index_of(p)] = true;
+  memcpy(others, running, sizeof others);
+  leaving = p;
+  for(unsigned i = 0; i < count; i++) {
+    if(!is_active(others[i])) {
+      MOTE_ASK(TOARMUTS_CALL_POST_SYNCH, others[i]->number, ERRAND_EVENT);
+    }
+  }
+  leaving = outer;
+}
+
 /* `kill`, or for the active process `exit` at its next wait. */
 void
 process_exit(struct process *p)
 {
-  const struct toarmuts_turn *answer;
   unsigned number = FIRST_PROCESS + index_of(p);
   if(activation != NULL && activation->process == p) {
-    activation->is_ending = true;
-    return;
-  }
-  answer = MOTE_ASK(TOARMUTS_CALL_KILL, number);
-  if(refusal_of(answer) == 4) {
+    leave(p);
+  } else if(refusal_of(MOTE_ASK(TOARMUTS_CALL_KILL, number)) == 4) {
     stop("process_exit of %s, which stands in an activation of its own", p->name);
   }
 }

@@ -247,8 +247,10 @@ PROCESS_THREAD(helper, ev, data)
   PROCESS_BEGIN();
 
   while(1) {
-    PROCESS_WAIT_EVENT_UNTIL(ev == PROCESS_EVENT_MSG || ev == PROCESS_EVENT_TIMER);
-    if(ev == PROCESS_EVENT_TIMER) {
+    PROCESS_WAIT_EVENT_UNTIL(ev == PROCESS_EVENT_MSG || ev == PROCESS_EVENT_TIMER || ev == PROCESS_EVENT_EXITED);
+    if(ev == PROCESS_EVENT_EXITED) {
+      printf("helper: %s has ended\n", ((struct process *)data)->name);
+    } else if(ev == PROCESS_EVENT_TIMER) {
       printf("helper: timer %d\n", data == &other);
     } else {
       printf("helper: %s\n", (char *)data);

@@ -116,7 +116,7 @@ int process_post(struct process *p, process_event_t ev, process_data_t data);
 /* Gives a process an event at once. */
 void process_post_synch(struct process *p, process_event_t ev, process_data_t data);
 
-/* Ends a process. One that ends itself goes on to its next wait, and the others are told then. */
+/* Ends a process: the others are told at once. One that ends itself goes on to its next wait. */
 void process_exit(struct process *p);
 
 /* Has a process called with PROCESS_EVENT_POLL. */
