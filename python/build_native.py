@@ -57,8 +57,9 @@ def missing_calls() -> list[str]:
 
 
 def is_stale() -> bool:
-    """Whether ./prove made the library, and of other sources than are there now."""
-    if not (CRATE / "out" / "proved").exists():
+    """Whether ./prove made the library, and of other sources than are there now. What `rt lib` made since is newer than the mark."""
+    mark = CRATE / "out" / "proved"
+    if not mark.exists() or LIBRARY.stat().st_mtime > mark.stat().st_mtime:
         return False
     return subprocess.run([str(ROOT / "prove"), "--is-current", "toarmuts"], check=False, capture_output=True).returncode == 1
 
