@@ -1,11 +1,22 @@
 """The build backend: setuptools, from where it is installed. Nothing is fetched, so `pip install ./python` needs no network.
 
-pip builds in an environment that sees no installed package. What a build takes (setuptools, wheel, cffi) is looked for in the
-environment that is installed into, and then beside the Python that it was made of.
+pip builds in an environment that sees no installed package. What a build takes (setuptools, cffi) is looked for in the environment that
+is installed into, then beside the Python that it was made of, and then among Debian's packages. Where setuptools has no way to
+make a wheel, since the package of that name is lacking, what it built is packed here.
 """
+import base64
+import hashlib
 import os
+import pathlib
+import runpy
 import site
 import sys
+import sysconfig
+import tempfile
+import zipfile
+
+DEBIAN = "/usr/lib/python3/dist-packages"
+TAG = f"cp310-abi3-{sysconfig.get_platform().replace('-', '_').replace('.', '_')}"
 
 
 def _folders():
@@ -14,6 +25,7 @@ def _folders():
     version = f"python{sys.version_info.major}.{sys.version_info.minor}"
     for folder in ("lib/python3/dist-packages", f"local/lib/{version}/dist-packages", f"lib/{version}/site-packages"):
         yield os.path.join(sys.base_prefix, folder)
+    yield DEBIAN
 
 
 def _see_installed():
@@ -25,9 +37,19 @@ def _see_installed():
 _see_installed()
 try:
     from setuptools import build_meta as _setuptools
-    from wheel import bdist_wheel as _wheel  # noqa: F401  setuptools takes it
-except ImportError as fault:
-    raise SystemExit(f"toarmuts: {fault.name} isn't installed: apt-get install python3-setuptools python3-wheel") from None
+except ImportError:
+    raise SystemExit("toarmuts: setuptools isn't installed: apt-get install python3-setuptools") from None
+
+
+def _has_wheel():
+    """Whether setuptools can make a wheel."""
+    for name in ("setuptools.command.bdist_wheel", "wheel.bdist_wheel"):
+        try:
+            __import__(name)
+        except ImportError:
+            continue
+        return True
+    return False
 
 
 def get_requires_for_build_wheel(config_settings=None):
@@ -36,8 +58,55 @@ def get_requires_for_build_wheel(config_settings=None):
 
 
 get_requires_for_build_editable = get_requires_for_build_sdist = get_requires_for_build_wheel
-build_wheel = _setuptools.build_wheel
 build_sdist = _setuptools.build_sdist
-build_editable = _setuptools.build_editable
-prepare_metadata_for_build_wheel = _setuptools.prepare_metadata_for_build_wheel
-prepare_metadata_for_build_editable = _setuptools.prepare_metadata_for_build_editable
+if _has_wheel():
+    prepare_metadata_for_build_wheel = _setuptools.prepare_metadata_for_build_wheel
+    build_editable = _setuptools.build_editable
+
+
+def build_wheel(wheel_directory, config_settings=None, metadata_directory=None):
+    """The wheel, by setuptools where it can."""
+    if _has_wheel():
+        return _setuptools.build_wheel(wheel_directory, config_settings, metadata_directory)
+    with tempfile.TemporaryDirectory() as folder:
+        sys.argv = ["setup.py", "--quiet", "build", "--build-lib", folder]
+        runpy.run_path("setup.py", run_name="__main__")
+        return _pack(pathlib.Path(folder), pathlib.Path(wheel_directory))
+
+
+def _project():
+    """What pyproject.toml says of the package."""
+    try:
+        import tomllib
+    except ImportError:
+        from setuptools.extern import tomli as tomllib
+    return tomllib.loads(pathlib.Path("pyproject.toml").read_text(encoding="utf-8"))["project"]
+
+
+def _metadata(project):
+    """The files that describe the package, beside the list of all."""
+    head = f"Metadata-Version: 2.1\nName: {project['name']}\nVersion: {project['version']}\nSummary: {project['description']}\n"
+    extras = "".join(f"Provides-Extra: {extra}\n" + "".join(f'Requires-Dist: {needed} ; extra == "{extra}"\n' for needed in several)
+                     for extra, several in project["optional-dependencies"].items())
+    groups = {"console_scripts": project["scripts"], **project["entry-points"]}
+    entries = "".join(f"[{group}]\n" + "".join(f"{name} = {place}\n" for name, place in several.items())
+                      for group, several in groups.items())
+    wheel = f"Wheel-Version: 1.0\nGenerator: toarmuts\nRoot-Is-Purelib: false\nTag: {TAG}\n"
+    return {"METADATA": f"{head}Requires-Python: {project['requires-python']}\n{extras}", "WHEEL": wheel, "entry_points.txt": entries}
+
+
+def _pack(folder, wheel_directory):
+    """A wheel of what stands in a folder."""
+    project = _project()
+    stem = f"{project['name']}-{project['version']}"
+    files = {str(path.relative_to(folder)): path.read_bytes() for path in sorted(folder.rglob("*")) if path.is_file()}
+    files |= {f"{stem}.dist-info/{name}": text.encode() for name, text in _metadata(project).items()}
+    record = f"{stem}.dist-info/RECORD"
+    rows = [f"{name},sha256={base64.urlsafe_b64encode(hashlib.sha256(data).digest()).rstrip(b'=').decode()},{len(data)}\n"
+            for name, data in files.items()]
+    name = f"{stem}-{TAG}.whl"
+    with zipfile.ZipFile(wheel_directory / name, "w", zipfile.ZIP_DEFLATED) as wheel:
+        for place, data in files.items():
+            wheel.writestr(place, data)
+        wheel.writestr(record, "".join(rows) + f"{record},,\n")
+    return name

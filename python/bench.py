@@ -54,7 +54,8 @@ def bench_runs() -> None:
                 _ = entry.process, entry.clock, entry.stimulus, entry.call
 
     tell("`run([\"hello\"])`, 2 lines", best(lambda: toarmuts.run(["hello"])))
-    tell("`run` of a list of 3 calls and 1 input, 5 lines", best(lambda: toarmuts.run([["timer-set 0 5", "wait", "print 6869"]], b"tick 5\n")))
+    calls = ["timer-set 0 5", "wait", "print 6869"]
+    tell("`run` of a list of 3 calls and 1 input, 5 lines", best(lambda: toarmuts.run([calls], b"tick 5\n")))
     tell(f"3 applications, 120 inputs, {count} lines: the library's call", best(lambda: library().run(usual, lines, data)), count, "lines")
     tell("the same by `run`", best(lambda: toarmuts.run(names, data)), count, "lines")
     tell("its entries made", best(lambda: list(Transcript(run.transcript))), count, "entries")
@@ -89,7 +90,8 @@ def bench_campaigns() -> None:
     for name, seeds, words in (("Lists", 64, ["1"]), ("Lists", 64, ["2"]), ("Lists", 64, ["4"]), ("Lists", 64, ["4", "--dask", "local"]),
                                ("Supervised", 64, ["1"]), ("Supervised", 64, ["4"])):
         with tempfile.TemporaryDirectory() as folder:
-            command = [sys.executable, "-m", "toarmuts.campaign", f"{TARGET}:{name}", "--seeds", f"0:{seeds}", "--found", folder, "--jobs", *words]
+            command = [sys.executable, "-m", "toarmuts.campaign", f"{TARGET}:{name}", "--seeds", f"0:{seeds}", "--found", folder]
+            command += ["--jobs", *words]
             told = subprocess.run(command, capture_output=True, text=True, check=False).stderr.strip().splitlines()[-1]
         print(f"| campaign `{name}`, {seeds * 100:,} runs, --jobs {' '.join(words)} | {told} |", flush=True)
 

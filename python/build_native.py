@@ -57,8 +57,9 @@ def missing_calls() -> list[str]:
 
 
 def is_stale() -> bool:
-    """Whether ./prove made the library, and of other sources than are there now."""
-    if not (CRATE / "out" / "proved").exists():
+    """Whether ./prove made the library, and of other sources than are there now. What `rt lib` made since is newer than the mark."""
+    mark = CRATE / "out" / "proved"
+    if not mark.exists() or LIBRARY.stat().st_mtime > mark.stat().st_mtime:
         return False
     return subprocess.run([str(ROOT / "prove"), "--is-current", "toarmuts"], check=False, capture_output=True).returncode == 1
 
@@ -71,7 +72,8 @@ def check_library() -> None:
     if lacking:
         raise NotBuilt(f"toarmuts: {LIBRARY} lacks {lacking[0]}, it is older than its header: `{PROVE}` in {ROOT} makes it anew")
     if is_stale() and "TOARMUTS_STALE" not in os.environ:
-        raise NotBuilt(f"toarmuts: {LIBRARY} is older than its sources: `{PROVE}` in {ROOT} makes it anew (TOARMUTS_STALE=1 takes it as it is)")
+        raise NotBuilt(f"toarmuts: {LIBRARY} is older than its sources: `{PROVE}` in {ROOT} makes it anew "
+                       "(TOARMUTS_STALE=1 takes it as it is)")
 
 
 def write_call_words(folder: pathlib.Path) -> str:
@@ -81,9 +83,14 @@ def write_call_words(folder: pathlib.Path) -> str:
     lines = ['#include "transcript_table.h"', "const struct call_word call_words[] = {"]
     lines += [f'  {{"{word}", {len(word)}, {kind}}},' for word, kind in rows]
     lines += ["};", "const size_t call_words_count = sizeof call_words / sizeof *call_words;", ""]
+    return write_source(folder, "call_words.c", "\n".join(lines))
+
+
+def write_source(folder: pathlib.Path, name: str, text: str) -> str:
+    """Writes a file in C, and answers it as the compiler is told of it: an object file goes where its source is."""
     folder.mkdir(parents=True, exist_ok=True)
-    place = folder / "call_words.c"
-    place.write_text("\n".join(lines), encoding="utf-8")
+    place = folder / name
+    place.write_text(text, encoding="utf-8")
     return os.path.relpath(place, HERE)
 
 
@@ -113,7 +120,7 @@ def backend() -> str:
 def build_arguments(folder: pathlib.Path) -> dict[str, Any]:
     """What is told to the compiler, for both ways."""
     return {
-        "sources": [*SOURCES, write_call_words(folder), os.path.relpath(CRATE / "include" / "toarmuts_memory.c", HERE)],
+        "sources": [*SOURCES, write_call_words(folder), write_source(folder, "memory.c", '#include "toarmuts_memory.c"\n')],
         "include_dirs": [str(HERE / "native"), str(CRATE / "include")],
         "depends": [str(LIBRARY), str(HEADER), str(HERE / "native/transcript_table.h"), str(HERE / "native/advance.h")],
         "extra_compile_args": ["-std=c11", "-O2"],

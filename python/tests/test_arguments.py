@@ -145,7 +145,8 @@ def spoilt(chance, text):
     """A text with a character or two changed, left out or put in."""
     for _ in range(chance.randrange(3)):
         place = chance.randrange(len(text) + 1)
-        text = text[:place] + chance.choice(["", "0", "9", " ", ",", ", ", "x", "-", "F", "g", "1234567890"]) + text[place + chance.randrange(2):]
+        new = chance.choice(["", "0", "9", " ", ",", ", ", "x", "-", "F", "g", "1234567890"])
+        text = text[:place] + new + text[place + chance.randrange(2):]
     return text
 
 

@@ -14,7 +14,8 @@ TOLD = "import toarmuts\ntry:\n    toarmuts.run(['hello'])\nexcept toarmuts.Libr
 
 def run_python(code, folder=ROOT / "python", **environment):
     """What a program prints, and the last line of what it tells where it fails."""
-    done = subprocess.run([sys.executable, "-c", code], cwd=folder, env={**os.environ, **environment}, capture_output=True, text=True, check=False)
+    done = subprocess.run([sys.executable, "-c", code], cwd=folder, env={**os.environ, **environment}, capture_output=True, text=True,
+                          check=False)
     return (done.stdout + done.stderr).strip()
 
 

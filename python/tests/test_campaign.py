@@ -63,7 +63,8 @@ def test_an_application_that_raises_is_a_fault(tmp_path):
         "from toarmuts.campaign import make_case\n\n\ndef raises():\n    yield\n\n\nclass Target:\n    def draw(self, chance):\n"
         "        return make_case([raises], ['tick 1'] * chance.randrange(3))\n\n    def check(self, run):\n        return None\n")
     status, told, files = campaign(tmp_path / "found", tmp_path / "raising.py:Target", "--seeds", "0:2", "--count", "3", "--jobs", "1")
-    assert status == 1 and "process 4 fails: it answered None, and no call" in told and list(files) == ["process-4-fails-it-answered-None-and-no-call.txt"]
+    assert status == 1 and "process 4 fails: it answered None, and no call" in told
+    assert list(files) == ["process-4-fails-it-answered-None-and-no-call.txt"]
 
 
 @pytest.mark.parametrize("words, reason", [

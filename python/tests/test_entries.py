@@ -144,8 +144,9 @@ def test_runs_and_entries_can_be_sent_to_other_processes():
 
 
 def test_lines_of_no_form_are_told():
-    for line in ("4", "4 event", "4 event 140 -", "4 event 140 - ->", "4 event 140 - -> frob", "4 event 256 - -> wait", "20 poll 130 - -> wait",
-                 "x poll 130 - -> wait", "4 answer maybe -> wait", "> tock 1", "> tick x", "note", "note lost x", "note kept 1", "halt 1", "bad",
+    for line in ("4", "4 event", "4 event 140 -", "4 event 140 - ->", "4 event 140 - -> frob", "4 event 256 - -> wait",
+                 "20 poll 130 - -> wait", "x poll 130 - -> wait", "4 answer maybe -> wait", "> tock 1", "> tick x", "note", "note lost x",
+                 "note kept 1", "halt 1", "bad",
                  "bad news", "too short", "4 answer refused 256 -> wait", "4 poll 130 -  -> waits"):
         with pytest.raises(toarmuts.BadTranscript, match="line 1 is no line of a transcript"):
             list(Transcript(line + "\n"))

@@ -229,7 +229,8 @@ def assert_same(by_library, step_by_step):
 @pytest.mark.parametrize("name", [*NAMES, "clock-watcher"])
 def test_applications_in_python_are_those_in_rattle(name):
     """Equal transcripts on random scripts, alone and beside others."""
-    for seed in range(60):
+    # The one that never waits halts each time, after 10,000 turns.
+    for seed in range(4 if name == "clock-watcher" else 60):
         chance = random.Random(f"{name}/{seed}")
         others = [random_application(chance) for _ in range(chance.randrange(3))]
         sizes = {"mmem": chance.choice([64, 128, 4096]), "heap": chance.choice([100, 4096])}

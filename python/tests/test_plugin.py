@@ -5,7 +5,8 @@ import sys
 import pytest
 from common import ROOT
 
-FAILING = "== one\napp hello\n4 synch 129 - -> print 68690a\n4 answer done -> exit\n\n== two\ntick 1\n\n== three\ntick 1\n> tick 1\nends halted\n"
+FAILING = ("== one\napp hello\n4 synch 129 - -> print 68690a\n4 answer done -> exit\n\n"
+           "== two\ntick 1\n\n== three\ntick 1\n> tick 1\nends halted\n")
 
 
 def run_pytest(folder, *words):

@@ -131,8 +131,10 @@ def test_limits_are_those_of_the_library():
     library = toarmuts.library.library()
     usual = toarmuts.Options().configuration()
     assert library.run(usual, b"hello\n" * 16, b"")[0] == 0 and library.run(usual, b"hello\n" * 17, b"")[0] == 18
-    for words, status in ((b"calls 128 wait", 0), (b"calls 129 wait", 17), (b"calls print " + b"00" * 64, 0), (b"calls print " + b"00" * 65, 17),
+    for words, status in ((b"calls 128 wait", 0), (b"calls 129 wait", 17),
+                          (b"calls print " + b"00" * 64, 0), (b"calls print " + b"00" * 65, 17),
                           (b"calls post 4 140 x" + b"00" * 127, 0), (b"calls post 4 140 x" + b"00" * 128, 17)):
         assert library.run(usual, words, b"")[0] == status, words[:20]
-    for line, status in ((b"serial " + b"00" * 256, 0), (b"serial " + b"00" * 257, 2), (b"frame " + b"00" * 127, 0), (b"frame " + b"00" * 128, 2)):
+    for line, status in ((b"serial " + b"00" * 256, 0), (b"serial " + b"00" * 257, 2),
+                         (b"frame " + b"00" * 127, 0), (b"frame " + b"00" * 128, 2)):
         assert library.run(usual, b"", line + b"\n")[0] == status

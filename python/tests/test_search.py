@@ -118,8 +118,8 @@ def test_what_is_drawn_is_carried_out():
         assert not coverage.unexpected()
 
     calls = strategies.call_lists(wild=True, applications=3, max_size=16)
-    search(1, check, 200, lists=st.lists(calls, max_size=3), table=strategies.tables(wild=True, applications=3), script=strategies.scripts(),
-           options=strategies.options())
+    tables = strategies.tables(wild=True, applications=3)
+    search(1, check, 200, lists=st.lists(calls, max_size=3), table=tables, script=strategies.scripts(), options=strategies.options())
 
 
 def test_names_and_no_lambdas_are_mapped():

@@ -71,7 +71,8 @@ try_text(const uint8_t *bytes, size_t length)
     abort();
   }
   memcpy(text, bytes, length);
-  check(transcript_lines(text, length) == lines && transcript_table(text, length, rows) == lines && are_rows(rows, lines, length), "a text's rows");
+  check(transcript_lines(text, length) == lines, "how many lines there are");
+  check(transcript_table(text, length, rows) == lines && are_rows(rows, lines, length), "a text's rows");
   free(rows);
   free(text);
 }

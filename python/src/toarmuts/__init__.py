@@ -16,6 +16,7 @@ from .applications import Application, ApplicationLike, CallList, Table, Turns
 from .call import Call
 from .calls import *  # noqa: F401,F403  a class for each call
 from .calls import __all__ as _calls
+from .coverage import Cell, Coverage, coverage_of
 from .difference import Difference, first_difference
 from .errors import (ApplicationError, BadCall, BadInput, BadScenario, BadSizes, BadTranscript, LibraryError, MoteError, NoApplication,
                      NoPicture, OutOfMemory, RunEnded, ToarmutsError, TooManyApplications, WrongType)
@@ -33,9 +34,9 @@ __version__ = "0.1.0"
 
 __all__ = [
     "Answer", "Application", "ApplicationError", "ApplicationLike", "BadCall", "BadInput", "BadScenario", "BadSizes", "BadTranscript",
-    "Call", "CallList", "Callback", "Difference", "End", "Ending", "Entry", "Event", "EventCode", "Input", "InputKind",
+    "Call", "CallList", "Callback", "Cell", "Coverage", "Difference", "End", "Ending", "Entry", "Event", "EventCode", "Input", "InputKind",
     "LibraryError", "Mote", "MoteError", "NoApplication", "NoPicture", "Note", "NoteKind", "Options", "Origin", "OutOfMemory", "Payload",
     "RULES", "Refusal", "ReplyKind", "Rules", "Run", "RunEnded", "Scenario", "Script", "Stats", "Status", "Stimulus", "Table",
-    "ToarmutsError", "TooManyApplications", "Transcript", "Turn", "Turns", "WrongType", "first_difference", "read_scenarios", "run",
+    "ToarmutsError", "TooManyApplications", "Transcript", "Turn", "Turns", "WrongType", "coverage_of", "first_difference", "read_scenarios", "run",
 ]
 __all__ += _calls

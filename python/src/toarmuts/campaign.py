@@ -285,7 +285,8 @@ def _report(units: list[Unit], asked: argparse.Namespace, seconds: float) -> int
     runs, lines = sum(unit.runs for unit in units), sum(unit.lines for unit in units)
     processor = sum(unit.processor_seconds for unit in units)
     print(f"{len(units)} seeds, {runs:,} runs, {lines:,} lines, {len(faults)} faults")
-    print(f"{seconds:.1f} s, {runs / seconds:,.0f} runs a second, {processor / runs * 1e6:,.0f} us of a processor for each", file=sys.stderr)
+    each = processor / runs * 1e6
+    print(f"{seconds:.1f} s, {runs / seconds:,.0f} runs a second, {each:,.0f} us of a processor for each", file=sys.stderr)
     return 1 if faults else 0
 
 

@@ -68,7 +68,8 @@ def calls(words: Iterable[str] = WORDS, *, applications: int = 1, wild: bool = F
     return st.one_of([_calls_of(word, applications, wild) for word in words])
 
 
-def call_lists(words: Iterable[str] = WORDS, *, applications: int = 1, wild: bool = False, max_size: int = 12) -> SearchStrategy[list[Call]]:
+def call_lists(words: Iterable[str] = WORDS, *, applications: int = 1, wild: bool = False,
+               max_size: int = 12) -> SearchStrategy[list[Call]]:
     """An application that makes a list of calls."""
     return st.lists(calls(words, applications=applications, wild=wild), max_size=max_size)
 
