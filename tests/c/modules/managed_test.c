@@ -62,6 +62,15 @@ check_worked_calls(void)
   check("five bytes in five", given(&five, 0, 5) && five.size == 16);
 }
 
+static void
+check_nothing(void)
+{
+  struct toarmuts_managed none = {0, 0, NULL, NULL};
+  toarmuts_managed_init(&none);
+  check("no memory", toarmuts_managed_alloc(&none, 0, 1) == TOARMUTS_MANAGED_NO_HANDLE && !toarmuts_managed_free(&none, 0) &&
+                       toarmuts_managed_pointer(&none, 0) == NULL && toarmuts_managed_available(&none) == 0);
+}
+
 /* What each handle stands for: so many bytes, none where the size is 0. */
 struct model {
   size_t size[HANDLES];
@@ -290,6 +299,7 @@ int
 main(void)
 {
   check_worked_calls();
+  check_nothing();
   check_random_calls();
   check_any_table();
   return told();

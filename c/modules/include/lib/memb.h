@@ -2,8 +2,9 @@
  * Pools of blocks of one size: memb.h of Contiki-NG, over proved calls. For the native target, x86-64 and aarch64: there is no
  * build for 32-bit processors, so none for Cortex-M.
  *
- * To be kept by the caller: nothing but these calls writes to a pool's flags, no two threads use one pool at once, and no signal
- * handler uses one that a thread uses. Any pointer may be given, NULL too. Each call needs less than 1 KB of stack.
+ * To be kept by the caller: a pool is one that MEMB declared, or NULL; or its flags and its memory are good for num of them, and
+ * overlap nothing else. No two threads use one pool at once, and no signal handler uses one that a thread uses. Any pointer to a
+ * block may be given, NULL too. Each call needs less than 1 KB of stack.
  */
 #ifndef MEMB_H_
 #define MEMB_H_

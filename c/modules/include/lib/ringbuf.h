@@ -4,7 +4,8 @@
  *
  * One thread or signal handler may put, and one other may get, at the same time. The calls are proved one after the other; that
  * two at once come out as one after the other is up to the order of reads and writes of put_ptr and get_ptr, which is tested.
- * To be kept by the caller: data is good for size bytes, and nothing but these calls writes to a ring.
+ * To be kept by the caller: data is good for size bytes, and overlaps nothing else; NULL is fine. A ring is no NULL. Nothing but
+ * these calls writes to a ring, but one of any content is answered. Each call needs less than 1 KB of stack.
  */
 #ifndef RINGBUF_H_
 #define RINGBUF_H_
