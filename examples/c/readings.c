@@ -1,22 +1,22 @@
-/* Keeps texts of different lengths in managed memory: one slides down so that a long one fits. */
-#include "mmem.h"
+/* Keeps texts of different lengths in managed memory, as mmem.h of Contiki has it: one slides down so that a long one fits. */
+#include "lib/mmem.h"
 
 #include <stdio.h>
 #include <string.h>
 
-enum { FIRST, SECOND, THIRD };
-MMEM(readings, 64, 3);
-
 int
 main(void)
 {
-  mmem_alloc(&readings, FIRST, 24);
-  mmem_alloc(&readings, SECOND, 16);
-  strcpy(MMEM_PTR(&readings, SECOND), "21 degrees");
-  mmem_free(&readings, FIRST);
-  if(!mmem_alloc(&readings, THIRD, 48)) {
+  struct mmem first, second, third;
+  mmem_init();
+  if(!mmem_alloc(&first, 2000) || !mmem_alloc(&second, 16)) {
     return 1;
   }
-  printf("%s, %zu bytes free\n", (char *)MMEM_PTR(&readings, SECOND), mmem_avail(&readings));
+  strcpy(MMEM_PTR(&second), "21 degrees");
+  mmem_free(&first);
+  if(!mmem_alloc(&third, 4080)) {
+    return 1;
+  }
+  printf("%s\n", (char *)MMEM_PTR(&second));
   return 0;
 }

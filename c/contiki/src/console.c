@@ -10,6 +10,9 @@
 static char gathered[CHUNK];
 static uint32_t gathered_length;
 
+/* The run is over: what the C library still wants to write at the program's end is nobody's. */
+static bool is_closed;
+
 /* `print` */
 void
 flush_console(void)
@@ -27,13 +30,19 @@ static ssize_t
 gather(void *cookie, const char *text, size_t length)
 {
   (void)cookie;
-  for(size_t i = 0; i < length; i++) {
+  for(size_t i = 0; i < length && !is_closed; i++) {
     gathered[gathered_length++] = text[i];
     if(text[i] == '\n' || gathered_length == CHUNK) {
       flush_console();
     }
   }
   return (ssize_t)length;
+}
+
+void
+close_console(void)
+{
+  is_closed = true;
 }
 
 /* From now on standard output is the mote's console; the GNU C library lets a program set it. */

@@ -82,6 +82,7 @@ void take_frame(size_t length);
 /* console.c */
 void open_console(void);
 void flush_console(void);
+void close_console(void);
 
 /* transcript.c */
 extern uint64_t lines_shown;

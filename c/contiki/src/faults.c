@@ -86,25 +86,40 @@ write_report(const struct report *report)
   (void)written;
 }
 
-/* Says what happened where, behind all of the transcript. */
+/* Says what happens where. */
 static void
-tell(const char *what)
+tell_now(const char *what)
 {
   struct report report = {.length = 0};
   add_place(&report);
   add_text(&report, what);
   add_text(&report, "\n");
-  flush_transcript();
   write_report(&report);
 }
 
+/* The same behind all of the transcript, whose writing isn't interrupted by this. */
+static void
+tell(const char *what)
+{
+  flush_transcript();
+  tell_now(what);
+}
+
 static bool is_over;
+
+/* From here on nothing is told any more. */
+static void
+end_run(void)
+{
+  is_over = true;
+  close_console();
+}
 
 /* Ends the program with the transcript as far as it has come. */
 void
 finish(int status)
 {
-  is_over = true;
+  end_run();
   flush_transcript();
   if(status == STATUS_HALTED) {
     static const char why[] = "contiki: the mote halted: one input made 10,000 turns and rounds, and may make no more\n";
@@ -123,7 +138,7 @@ stop(const char *format, ...)
   vsnprintf(what, sizeof what, format, arguments);
   va_end(arguments);
   tell(what);
-  is_over = true;
+  end_run();
   exit(STATUS_STOPPED);
 }
 
@@ -132,7 +147,7 @@ void
 give_up(int status, const char *format, ...)
 {
   va_list arguments;
-  is_over = true;
+  end_run();
   va_start(arguments, format);
   fputs("contiki: ", stderr);
   vfprintf(stderr, format, arguments);
@@ -172,8 +187,7 @@ handle_alarm(int number)
   static uint64_t last = UINT64_MAX;
   (void)number;
   if(activation != NULL && last == lines_shown) {
-    tell("it has made no call for 10 seconds; it may be in a loop without end");
-    last = UINT64_MAX;
+    tell_now("it has made no call for 10 seconds; it may be in a loop without end");
     return;
   }
   last = lines_shown;

@@ -1,4 +1,5 @@
 /* Runs a program's processes on a mote over a script, and writes the transcript: the words of mote, without its applications. */
+#define _XOPEN_SOURCE 700
 #include "driver.h"
 
 #include <stdlib.h>
@@ -77,7 +78,7 @@ read_line(FILE *script, char *line, size_t *length)
   static size_t taken;
   int c;
   *length = 0;
-  while(*length <= LINE_LIMIT && (c = getc(script)) != '\n') {
+  while(*length <= LINE_LIMIT && (c = getc_unlocked(script)) != '\n') {
     if(c == EOF) {
       if(ferror(script)) {
         flush_transcript();

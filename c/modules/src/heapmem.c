@@ -70,13 +70,13 @@ size_at(size_t place)
   return 0;
 }
 
+/* After a call that made or resized a block: the rows are in the order of their places, so the last one has the footprint. */
 static void
 note_footprint(void)
 {
-  struct toarmuts_heap_stats stats;
-  if(toarmuts_heapmem_stats(toarmuts_heap_memory.rows, used, toarmuts_heap_memory.size, &stats) == TOARMUTS_HEAP_DONE &&
-     stats.footprint > max_footprint) {
-    max_footprint = stats.footprint;
+  const struct toarmuts_heap_row *last = &toarmuts_heap_memory.rows[used - 1];
+  if(last->place + last->room > max_footprint) {
+    max_footprint = last->place + last->room;
   }
 }
 
@@ -168,7 +168,8 @@ heapmem_realloc(void *ptr, size_t size)
 bool
 heapmem_free(void *ptr)
 {
-  if(toarmuts_heapmem_free(toarmuts_heap_memory.rows, used, toarmuts_heap_memory.size, place_of(ptr)) != TOARMUTS_HEAP_DONE) {
+  if(toarmuts_heapmem_free(toarmuts_heap_memory.rows, used, toarmuts_heap_memory.bytes, toarmuts_heap_memory.size,
+                           place_of(ptr)) != TOARMUTS_HEAP_DONE) {
     return false;
   }
   used--;
@@ -178,16 +179,17 @@ heapmem_free(void *ptr)
 void
 heapmem_stats(heapmem_stats_t *stats)
 {
-  struct toarmuts_heap_stats told;
+  struct toarmuts_heap_stats figures;
   if(stats == NULL) {
     return;
   }
   memset(stats, 0, sizeof *stats);
-  if(toarmuts_heapmem_stats(toarmuts_heap_memory.rows, used, toarmuts_heap_memory.size, &told) == TOARMUTS_HEAP_DONE) {
-    stats->allocated = told.allocated;
-    stats->available = told.available;
-    stats->footprint = told.footprint;
-    stats->chunks = told.chunks;
+  if(toarmuts_heapmem_stats(toarmuts_heap_memory.rows, used, toarmuts_heap_memory.bytes, toarmuts_heap_memory.size, &figures) ==
+     TOARMUTS_HEAP_DONE) {
+    stats->allocated = figures.allocated;
+    stats->available = figures.available;
+    stats->footprint = figures.footprint;
+    stats->chunks = figures.chunks;
   }
   stats->max_footprint = max_footprint;
 }

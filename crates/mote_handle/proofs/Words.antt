@@ -16,9 +16,8 @@ use denote.RawPtr.{Ptr, null_ptr, block_ptr, ptr_val}
 use denote.Steps.{nothing}
 use denote.Struct.Struct.{within}
 use denote.Struct.Owning.{shape}
-use Rattle.libc.specs.Heap.{chunk}
 use Rattle.std_alloc.specs.Box.Ownership.{box_owns}
-use Rattle.mote_handle.specs.Owned.{mote_owns}
+use Rattle.mote_handle.specs.Owned.{chunk, mote_owns}
 use Rattle.mote_handle.specs.contracts.mote.Mote as mote
 use Rattle.mote_handle.specs.declared.mote.Mote.{Mote}
 use Rattle.mote_handle.specs.contracts.open_mote.OpenMote as held

@@ -12,10 +12,10 @@ use crate::device::write_all;
 use crate::reader::LineInput;
 use crate::run::RunFault;
 use kernel_core::turn::Turn;
-use mote_text::line::OutputBuffer;
+use mote_text::line::{MOST_OF_LINE, OutputBuffer};
 use mote_text::script::End;
 use mote_text::transcript::{
-    final_text, is_shown, is_turn_shown, push_entry, push_input_line, push_turn_line,
+    is_shown, is_turn_shown, push_entry, push_final_line, push_input_line, push_turn_line,
 };
 use mote_types::device::ByteSink;
 use mote_types::entry::{Entry, Input};
@@ -116,10 +116,8 @@ impl PendingText {
         ensures cut_off { OnErr result (K.is_named → (lost : List ℕ) × WritesOn (K.given sink.old) self.old.text.items (K.given sink.new) lost (final_line end)) }
         ensures failures { CountsFailure result (K.failure_count sink.old) (K.failure_count sink.new) }
     {
-        let mut line = OutputBuffer::new();
-        final_text(end, &mut line);
-        self.make_room(sink, line.as_slice().len())?;
-        self.text.push(line.as_slice());
+        self.make_room(sink, MOST_OF_LINE)?;
+        push_final_line(end, &mut self.text);
         self.flush(sink)
     }
 }

@@ -8,7 +8,7 @@ ghost use Rattle.mote_text.specs.declared.lines.Taken.{Taken as Stopped};
 ghost use Rattle.mote_run.specs.Code.Reading.{HasFrameLine, ReadPart};
 
 use mote_text::hex_digits::DigitValues;
-use mote_text::line::OutputBuffer;
+use mote_text::line::TextBuffer;
 use mote_text::lines::{Lines, Taken};
 use mote_text::script::{BadLine, read_input_by};
 use mote_text::transcript::said_text;
@@ -18,7 +18,7 @@ use mote_types::entry::Input;
 #[derive(Drop)]
 pub struct LineInput {
     pub input: Input,
-    pub frame_line: OutputBuffer,
+    pub frame_line: TextBuffer,
 }
 
 /// The lines of a script, the number of the present one, which begins at 1, and a place for the input of a line.
@@ -76,7 +76,7 @@ impl Reader {
             number: 1,
             place: LineInput {
                 input: Input::Tick(0),
-                frame_line: OutputBuffer::new(),
+                frame_line: TextBuffer::new(),
             },
             values: DigitValues::new(),
         }

@@ -1,11 +1,11 @@
 -- Tables of hex digits.
-use Rattle.std.proofs.Common.{◌≡◌, ◌+◌, ◌*◌, ◌/◌, ◌%◌, ◌<◌, ◌≤◌, ℕ, zero, suc, List, [], ◌∷◌, length, slice_index, Option, Some, None, unwrap_or, Result, Ok, Err, refl, sym, ap, subst, ◌∙◌, arith}
-use Rattle.std.specs.Prelude.{MatchResult}
+use Rattle.std.proofs.Common.{◌≡◌, ◌+◌, ◌*◌, ◌/◌, ◌%◌, ◌<◌, ◌≤◌, ℕ, zero, suc, List, [], ◌∷◌, length, slice_index, Option, Some, None, unwrap_or, Result, Ok, Err, Bool, true, ◌&&◌, ◌==◌, codes, get_or, set, replicate, inl, inr, add-one, refl, sym, ap, ◌∙◌, arith}
+use Rattle.hex.proofs.OnLiterals.{hex_on_literals}
 use Rattle.hex.specs.Hex.{decode_sized}
 use Rattle.hex.specs.declared.error.FromHexError.{FromHexError}
 use Rattle.hex.specs.declared.error.FromHexError.TheVariants.{InvalidHexCharacter}
-use Rattle.mote_text.specs.Code.HexDigits.{value_or_none}
-use Rattle.mote_text.proofs.Common.{decode_pairs, digit_or_error, encode_with, hex_digit_value, pair_value, value_at}
+use Rattle.mote_text.specs.Code.HexDigits.{ValuesOfDigits, value_or_none}
+use Rattle.mote_text.proofs.Common.{digit_or_error, encode_with, hex_digit_value, pair_value, value_at, and_parts, cases_lt, eqb-true}
 
 -- where the two digits of one of the bytes stand
 pub encode_with-at : (table bytes : List ℕ) (i : ℕ) → i < length bytes →
@@ -61,33 +61,51 @@ low_refused_by high low i (Err e) is none = (e, rw is refl)
 pub low_refused : (high low i l : ℕ) → l ≡ value_or_none low → 15 < l → (e : FromHexError) × (pair_value high low i ≡ Err e)
 low_refused high low i l is large = low_refused_by high low i (value_at high i) refl (unknown low l is large)
 
--- behind a 0, a digit reads as its value
-abbrev read_alone : ℕ → Option ℕ → Result (List ℕ) FromHexError
-read_alone digit (Some value) = Ok (value ∷ [])
-read_alone digit None = Err (InvalidHexCharacter digit 1)
+-- the table of values, filled digit by digit
 
-alone : (digit : ℕ) (o : Option ℕ) → hex_digit_value digit ≡ o → decode_sized (48 ∷ digit ∷ []) 1 ≡ read_alone digit o
-unfolding decode_pairs
-alone digit (Some value) is =
-    let second : value_at digit 1 ≡ Ok value = ap (digit_or_error digit 1) is in
-    let pair : pair_value 48 digit 0 ≡ Ok (0 * 16 + value) = rw second refl in
-    let sum : 0 * 16 + value ≡ value = omega arith in
-    rw (pair, sum) refl
-alone digit None is =
-    let second : value_at digit 1 ≡ Err (InvalidHexCharacter digit 1) = ap (digit_or_error digit 1) is in
-    let pair : pair_value 48 digit 0 ≡ Err (InvalidHexCharacter digit 1) = rw second refl in
-    rw pair refl
+-- the digits of either case, each behind a 0, and what they are worth
+abbrev pub digits_behind_zeros : List ℕ
+digits_behind_zeros = codes "000102030405060708090a0b0c0d0e0f0A0B0C0D0E0F"
 
-abbrev IsDecoded : Result (List ℕ) FromHexError → Result Unit FromHexError → List ℕ → Type 0
-IsDecoded decoded result out = MatchResult decoded (λ bytes. (result ≡ Ok tt) × (out ≡ bytes)) (λ e. result ≡ Err e)
+abbrev pub digits_worth : List ℕ
+digits_worth = 0 ∷ 1 ∷ 2 ∷ 3 ∷ 4 ∷ 5 ∷ 6 ∷ 7 ∷ 8 ∷ 9 ∷ 10 ∷ 11 ∷ 12 ∷ 13 ∷ 14 ∷ 15 ∷ 10 ∷ 11 ∷ 12 ∷ 13 ∷ 14 ∷ 15 ∷ []
 
--- what decoding a digit behind a 0 shows of its value
-value_by : (o : Option ℕ) (digit : ℕ) (result : Result Unit FromHexError) (out : List ℕ) → IsDecoded (read_alone digit o) result out →
-    MatchResult result (λ done. slice_index out 0 ≡ unwrap_or o 255) (λ e. 255 ≡ unwrap_or o 255)
-value_by (Some value) digit result out is = rw is.0 (ap (λ bytes. slice_index bytes 0) is.1)
-value_by None digit result out is = rw is refl
+pub digits_read : decode_sized digits_behind_zeros 22 ≡ Ok digits_worth
+unfolding hex_on_literals
+digits_read = refl
 
-pub value_shown : (digit : ℕ) (result : Result Unit FromHexError) (out : List ℕ) → IsDecoded (decode_sized (48 ∷ digit ∷ []) 1) result out →
-    MatchResult result (λ done. slice_index out 0 ≡ value_or_none digit) (λ e. 255 ≡ value_or_none digit)
-value_shown digit result out is =
-    value_by (hex_digit_value digit) digit result out (subst (λ r. IsDecoded r result out) (alone digit (hex_digit_value digit) refl) is)
+-- the table with the first n digits
+unfoldable pub filled : ℕ → List ℕ
+filled zero = replicate 256 255
+filled (suc n) = set (filled n) (get_or digits_behind_zeros (2 * n + 1) 0) (get_or digits_worth n 0)
+
+-- whether the first n places are right
+abbrev are_right : List ℕ → ℕ → Bool
+are_right values zero = true
+are_right values (suc n) = slice_index values n == value_or_none n && are_right values n
+
+right_at : (values : List ℕ) (n k : ℕ) → are_right values n ≡ true → k < n → slice_index values k ≡ value_or_none k
+right_at values zero k all below = absurd (omega arith)
+right_at values (suc n) k all below =
+    let parts = and_parts (slice_index values n == value_or_none n) (are_right values n) all in
+    elim (cases_lt k n) [
+      | inl earlier ↦ right_at values n k parts.1 earlier
+      | inr top ↦
+          let same : k ≡ n = omega arith in
+          rw same (eqb-true (slice_index values n) (value_or_none n) parts.0)
+    ]
+
+all_right : are_right (filled 22) 256 ≡ true
+unfolding filled
+all_right = refl
+
+pub filled_right : ValuesOfDigits (filled 22)
+filled_right digit below = right_at (filled 22) 256 digit all_right below
+
+pub filled_start : filled 0 ≡ replicate 256 255
+unfolding filled
+filled_start = refl
+
+pub filled_more : (n : ℕ) → filled (n + 1) ≡ set (filled n) (get_or digits_behind_zeros (2 * n + 1) 0) (get_or digits_worth n 0)
+unfolding filled
+filled_more n = rw add-one refl

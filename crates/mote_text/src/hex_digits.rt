@@ -3,7 +3,7 @@
 ghost use Rattle.std.specs.Prelude.{◌≡◌, ◌*◌, EachIndex, length, slice_index};
 ghost use Rattle.std.specs.Result.{result_ok};
 ghost use Rattle.hex.specs.Hex.{decode_sized, encode_lower};
-ghost use Rattle.mote_text.specs.Code.HexDigits.{PairsOfDigits, ValuesOfDigits, value_or_none};
+ghost use Rattle.mote_text.specs.Code.HexDigits.{PairsOfDigits, ValuesOfDigits};
 ghost use Rattle.mote_text.specs.Code.LineAnswers.{some_if};
 
 /// What stands in the table of values for a byte that is no digit.
@@ -50,6 +50,9 @@ impl DigitPairs {
     }
 }
 
+/// The digits of either case, each behind a 0: so the crate `hex` reads them as bytes, which are their values.
+const DIGITS: &[u8; 44] = b"000102030405060708090a0b0c0d0e0f0A0B0C0D0E0F";
+
 /// What each byte is worth as a hex digit of either case.
 #[derive(Drop)]
 pub struct DigitValues {
@@ -57,23 +60,13 @@ pub struct DigitValues {
     ghost right: { ValuesOfDigits values },
 }
 
-/// What this byte is worth as a digit.
-fn value_of(digit: u8) -> u8
-    ensures { result ≡ value_or_none digit }
-{
-    let mut byte = [0; 1];
-    match hex::decode_to_slice(&[b'0', digit][..], &mut byte) {
-        Ok(()) => byte[0],
-        Err(_) => NO_DIGIT,
-    }
-}
-
 impl DigitValues {
     pub fn new() -> Self {
+        let mut read = [0; 22];
+        let _ = hex::decode_to_slice(&DIGITS[..], &mut read);
         let mut values = [NO_DIGIT; 256];
-        // All digits lie from `0` to `f`.
-        'values: for digit in 48..103 {
-            values[digit] = value_of(digit as u8);
+        'digits: for i in 0..22 {
+            values[DIGITS[2 * i + 1] as usize] = read[i];
         }
         DigitValues { values }
     }

@@ -20,35 +20,33 @@ pub const MOST_OF_LINE: usize = 640;
 /// Room for one line of a transcript.
 pub type LineBuf = ArrayVec<u8, MOST_OF_LINE>;
 
-/// Lines of a transcript that are gathered, to be written at once.
+/// Text that is gathered.
 ///
 /// No `ArrayVec`: that writes blanks over all that it clears, and lends no place for digits before blanks stand there.
 #[derive(Drop)]
-pub struct OutputBuffer {
+pub struct TextBuffer {
     bytes: [u8; CAPACITY],
     len: usize,
-    digits: DigitPairs,
 }
 
-impl Model for OutputBuffer {
+impl Model for TextBuffer {
     ghost use Rattle.std.specs.Prelude.{◌≤◌, ℕ, take};
     ghost use Rattle.arrayvec.specs.ArrayVec.{ArrayVec as Items};
 
     ghost Value = { Items ℕ };
 
-    ghost view = { λ line. record { items = take line.len line.bytes } };
+    ghost view = { λ text. record { items = take text.len text.bytes } };
 
-    ghost invariant = { λ line. line.len ≤ 4096 };
+    ghost invariant = { λ text. text.len ≤ 4096 };
 }
 
-impl OutputBuffer {
+impl TextBuffer {
     pub fn new() -> Self
         ensures { result.items ≡ [] }
     {
-        OutputBuffer {
+        TextBuffer {
             bytes: [0; CAPACITY],
             len: 0,
-            digits: DigitPairs::new(),
         }
     }
 
@@ -88,7 +86,7 @@ impl OutputBuffer {
 
     /// Appends so many bytes of the front of a block. All of it is copied: what lies behind the end counts for nothing.
     #[inline(always)]
-    pub(crate) fn push_front(&mut self, block: &[u8; 16], len: usize)
+    fn push_front(&mut self, block: &[u8; 16], len: usize)
         requires few { len ≤ 16 }
         requires room { length self.old.items + 16 ≤ 4096 }
         ensures text { self.new.items ≡ self.old.items ++ take len block.now }
@@ -114,14 +112,94 @@ impl OutputBuffer {
 
     /// Appends two lower case hex digits for each byte.
     #[inline]
-    pub(crate) fn push_digits(&mut self, bytes: &[u8])
+    fn push_digits(&mut self, bytes: &[u8], digits: &DigitPairs)
         requires { length self.old.items + 2 * length bytes.now ≤ 4096 }
         ensures text { self.new.items ≡ self.old.items ++ encode_lower bytes.now }
         ensures length { length self.new.items ≡ length self.old.items + 2 * length bytes.now }
     {
         let end = self.len + 2 * bytes.len();
-        self.digits.write(bytes, &mut self.bytes[self.len..end]);
+        digits.write(bytes, &mut self.bytes[self.len..end]);
         self.len = end;
+    }
+}
+
+/// Lines of a transcript that are gathered, to be written at once, and the digits that they show bytes in.
+#[derive(Drop)]
+pub struct OutputBuffer {
+    text: TextBuffer,
+    digits: DigitPairs,
+}
+
+impl Model for OutputBuffer {
+    ghost use Rattle.std.specs.Prelude.{ℕ};
+    ghost use Rattle.arrayvec.specs.ArrayVec.{ArrayVec as Items};
+
+    ghost Value = { Items ℕ };
+
+    ghost view = { λ line. line.text };
+}
+
+impl OutputBuffer {
+    pub fn new() -> Self
+        ensures { result.items ≡ [] }
+    {
+        OutputBuffer {
+            text: TextBuffer::new(),
+            digits: DigitPairs::new(),
+        }
+    }
+
+    /// How many more bytes fit.
+    #[inline]
+    pub fn remaining_capacity(&self) -> usize
+        ensures { result + length self.now.items ≡ 4096 }
+    {
+        self.text.remaining_capacity()
+    }
+
+    #[inline]
+    pub fn as_slice(&self) -> &[u8]
+        ensures value { result.now ≡ self.now.items }
+        ensures fits { length result.now ≤ 4096 }
+    {
+        self.text.as_slice()
+    }
+
+    #[inline]
+    pub fn clear(&mut self)
+        ensures { self.new.items ≡ [] }
+    {
+        self.text.clear();
+    }
+
+    /// Appends these bytes.
+    #[inline(always)]
+    pub fn push(&mut self, bytes: &[u8])
+        requires { length self.old.items + length bytes.now ≤ 4096 }
+        ensures { self.new.items ≡ self.old.items ++ bytes.now }
+    {
+        self.text.push(bytes);
+    }
+
+    /// Appends so many bytes of the front of a block.
+    #[inline(always)]
+    pub(crate) fn push_front(&mut self, block: &[u8; 16], len: usize)
+        requires few { len ≤ 16 }
+        requires room { length self.old.items + 16 ≤ 4096 }
+        ensures text { self.new.items ≡ self.old.items ++ take len block.now }
+        ensures length { length self.new.items ≡ length self.old.items + len }
+    {
+        self.text.push_front(block, len);
+    }
+
+    /// Appends two lower case hex digits for each byte.
+    #[inline]
+    pub(crate) fn push_digits(&mut self, bytes: &[u8])
+        requires { length self.old.items + 2 * length bytes.now ≤ 4096 }
+        ensures text { self.new.items ≡ self.old.items ++ encode_lower bytes.now }
+        ensures length { length self.new.items ≡ length self.old.items + 2 * length bytes.now }
+    {
+        self.text.push_digits(bytes, &self.digits);
     }
 }
 

@@ -9,7 +9,7 @@ ghost use Rattle.mote_text.specs.Script.{read_line};
 ghost use Rattle.mote_text.specs.Transcript.{final_line, is_shown, prints_or_sends};
 
 use crate::calls::push_call;
-use crate::line::{OutputBuffer, push_decimal, push_number};
+use crate::line::{OutputBuffer, TextBuffer, push_decimal, push_number};
 use crate::script::End;
 use crate::words::{push_input, push_note, push_origin, push_stimulus};
 use mote_types::call::Call;
@@ -84,7 +84,7 @@ pub fn push_entry(entry: &Entry, line: &mut OutputBuffer)
 /// script's line in lower case.
 // Out of the way of ticks, which most lines are.
 #[inline(never)]
-pub fn said_text(script_line: &[u8], line: &mut OutputBuffer)
+pub fn said_text(script_line: &[u8], line: &mut TextBuffer)
     requires { length script_line.now ≤ 1024 }
     ensures { (input : Handed) → read_line script_line.now ≡ Some (Some input) → line.new.items ≡ entry_line (Made.Input input) }
 {
@@ -94,15 +94,15 @@ pub fn said_text(script_line: &[u8], line: &mut OutputBuffer)
     line.push(b"\n");
 }
 
-/// Puts the last line of a transcript, with its end, in place of what is in the buffer: nothing, where the run finished
-/// or halted.
+/// Appends the last line of a transcript, with its end: nothing, where the run finished or halted.
 ///
 /// Source: the transcript format is this project's profile.
 #[tactic(auto, unfolding(crate::specs::EntryText::line_of, crate::specs::EntryText::spaced))]
-pub fn final_text(end: End, line: &mut OutputBuffer)
-    ensures { line.new.items ≡ final_line end }
+pub fn push_final_line(end: End, line: &mut OutputBuffer)
+    requires { length line.old.items + entry_line_limit ≤ 4096 }
+    ensures text { line.new.items ≡ line.old.items ++ final_line end }
+    ensures length { length line.new.items ≤ length line.old.items + entry_line_limit }
 {
-    line.clear();
     match end {
         End::Finished | End::Halted => {}
         End::BadLine(number) => {
@@ -112,6 +112,17 @@ pub fn final_text(end: End, line: &mut OutputBuffer)
         }
         End::TooLong => line.push(b"too long\n"),
     }
+}
+
+/// Puts the last line of a transcript, with its end, in place of what is in the buffer: nothing, where the run finished
+/// or halted.
+///
+/// Source: the transcript format is this project's profile.
+pub fn final_text(end: End, line: &mut OutputBuffer)
+    ensures { line.new.items ≡ final_line end }
+{
+    line.clear();
+    push_final_line(end, line);
 }
 
 /// Whether a transcript shows a turn with this call. A quiet one shows those whose call is `Print` or `PacketSend`.

@@ -1,5 +1,6 @@
 -- Rows: each has some of a transcript's lines, one behind the other.
-use Rattle.std.specs.Prelude.{◌≡◌, ℕ, ◌+◌, ◌<◌, List, [], ◌∷◌}
+use Rattle.std.specs.Prelude.{◌≡◌, ⊤, ℕ, ◌+◌, ◌-◌, ◌<◌, ◌≤◌, List, [], ◌∷◌, map, slice_index_or}
+use denote.Ref.{Bor}
 use Rattle.run_rows.specs.declared.row.Row.{Row}
 use Rattle.run_rows.specs.declared.row.Show.{Show}
 
@@ -11,3 +12,18 @@ Cover first (row ∷ rows) end = (row.first ≡ first) × (0 < row.count) × Cov
 -- a row of one line, which is not folded
 abbrev pub IsPlain : Row → Type 0
 IsPlain row = (row.count ≡ 1) × (row.show ≡ Show.Lines)
+
+abbrev pub text_at : List (Bor (List ℕ)) → ℕ → List ℕ
+text_at lines place = slice_index_or (map (λ line. line.now) lines) place []
+
+-- each line from the first place to the end is the one that stands so many lines before it
+abbrev pub AreAgain : List (Bor (List ℕ)) → ℕ → ℕ → ℕ → Type 0
+AreAgain lines period first end = (place : ℕ) → first ≤ place → place < end → text_at lines place ≡ text_at lines (place - period)
+
+-- lines that are shown as being there again are there again
+abbrev pub AreAsShown : List (Bor (List ℕ)) → ℕ → ℕ → Show → Type 0
+AreAsShown lines first end (Show.Again period) = AreAgain lines period first end
+AreAsShown lines first end show = ⊤
+
+abbrev pub IsTrueRow : List (Bor (List ℕ)) → Row → Type 0
+IsTrueRow lines row = AreAsShown lines row.first (row.first + row.count) row.show

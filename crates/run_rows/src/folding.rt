@@ -1,8 +1,9 @@
 //! Which lines share a row.
 
-ghost use Rattle.std.specs.Prelude.{◌≡◌, ◌+◌, ◌-◌, ◌≤◌, ◌<◌, length, All, IfOk, IfSome};
+ghost use Rattle.std.specs.Prelude.{◌≡◌, ℕ, List, ◌+◌, ◌-◌, ◌≤◌, ◌<◌, length, take, All, IfOk, IfSome};
 ghost use Rattle.std.specs.Bool.{OnTrue};
-ghost use Rattle.run_rows.specs.Rows.{Cover, IsPlain};
+ghost use denote.Ref.{Bor};
+ghost use Rattle.run_rows.specs.Rows.{AreAgain, Cover, IsPlain, IsTrueRow};
 
 use crate::row::{Row, Show};
 use std::alloc::{AllocError, Global};
@@ -68,6 +69,7 @@ fn row_in_front(lines: &[&str], first: usize) -> Row
     ensures first { result.first ≡ first }
     ensures some { 0 < result.count }
     ensures there { result.count ≤ length lines.now }
+    ensures again { (all : List (Bor (List ℕ))) → IsTrueRow all result }
 {
     let ticks = ticks_in_front(lines);
     if ticks > 1 {
@@ -110,18 +112,28 @@ fn are_again(lines: &[&str], before: usize, at: usize) -> bool
     requires order { before ≤ at }
     requires there { at ≤ length lines.now }
     ensures there { OnTrue result (at + (at - before) ≤ length lines.now) }
+    ensures again { OnTrue result (AreAgain lines.now (at - before) at (at + (at - before))) }
 {
-    let block = &lines[before..at];
-    let rest = &lines[at..];
-    rest.len() >= block.len() && block.iter().zip(rest).all(|(line, other)| line == other)
+    let count = at - before;
+    if lines.len() - at < count {
+        return false;
+    }
+    for place in at..at + count {
+        if lines[place] != lines[place - count] {
+            return false;
+        }
+    }
+    true
 }
 
 /// Where the lines end that are the same as those from one place to another, some whole times.
+#[tactic(auto, using(crate::proofs::Again::more_again))]
 fn end_of_repeats(lines: &[&str], before: usize, at: usize) -> usize
     requires order { before < at }
     requires there { at ≤ length lines.now }
     ensures behind { at ≤ result }
     ensures there { result ≤ length lines.now }
+    ensures again { AreAgain lines.now (at - before) at result }
 {
     let count = at - before;
     let mut end = at;
@@ -133,11 +145,13 @@ fn end_of_repeats(lines: &[&str], before: usize, at: usize) -> usize
 
 /// The row of lines that are there again from a place on, at least twice more, as they stand right before it. The starts are those
 /// of the parts before it, of which the last ones may be repeated as one.
+#[tactic(auto, using(crate::proofs::Again::again_row))]
 fn repeats(lines: &[&str], starts: &[usize], at: usize) -> Option<Row>
     requires { at ≤ length lines.now }
     ensures first { IfSome result (λ row. row.first ≡ at) }
     ensures some { IfSome result (λ row. 0 < row.count) }
     ensures there { IfSome result (λ row. at + row.count ≤ length lines.now) }
+    ensures again { IfSome result (IsTrueRow lines.now) }
 {
     for start in starts.iter().rev().take(LONGEST_PERIOD) {
         let before = *start;
@@ -170,6 +184,7 @@ fn next_row(lines: &[&str], starts: &[usize], at: usize) -> Row
     ensures first { result.first ≡ at }
     ensures some { 0 < result.count }
     ensures there { at + result.count ≤ length lines.now }
+    ensures again { IsTrueRow lines.now result }
 {
     if begins_part(lines[at]) {
         if let Some(row) = repeats(lines, starts, at) {
@@ -188,7 +203,8 @@ pub(crate) fn folded_rows(
 ) -> Result<Vec<Row>, AllocError>
     requires order { first ≤ end }
     requires there { end ≤ length lines.now }
-    ensures { IfOk result (λ rows. Cover first rows.items end) }
+    ensures cover { IfOk result (λ rows. Cover first rows.items end) }
+    ensures again { IfOk result (λ rows. All (IsTrueRow (take end lines.now)) rows.items) }
 {
     let lines = &lines[..end];
     let mut rows = Vec::new(alloc);

@@ -1,8 +1,8 @@
 //! Which lines of a transcript are shown, and the rows that they stand in.
 
-ghost use Rattle.std.specs.Prelude.{◌≡◌, ◌-◌, ◌^◌, ◌≤◌, length, All, IfOk};
+ghost use Rattle.std.specs.Prelude.{◌≡◌, ◌-◌, ◌^◌, ◌≤◌, length, take, All, IfOk};
 ghost use Rattle.std.specs.Bool.{OnTrue};
-ghost use Rattle.run_rows.specs.Rows.{Cover, IsPlain};
+ghost use Rattle.run_rows.specs.Rows.{Cover, IsPlain, IsTrueRow};
 
 use crate::folding::{folded_rows, unfolded_rows};
 use crate::row::Row;
@@ -59,6 +59,7 @@ pub fn shown_of(lines: &[&str], from: u64, to: u64) -> Shown
 }
 
 /// The rows of lines: each line that is shown stands in exactly one of them, and they stand in order.
+#[tactic(auto, using(crate::proofs::Again::plain_rows))]
 pub fn rows_of(
     alloc: Global,
     lines: &[&str],
@@ -69,6 +70,7 @@ pub fn rows_of(
     requires there { shown.end ≤ length lines.now }
     ensures cover { IfOk result (λ rows. Cover shown.first rows.items shown.end) }
     ensures plain { OnTrue unfolded (IfOk result (λ rows. All IsPlain rows.items)) }
+    ensures again { IfOk result (λ rows. All (IsTrueRow (take shown.end lines.now)) rows.items) }
 {
     if unfolded {
         unfolded_rows(alloc, shown.first, shown.end)

@@ -1,4 +1,5 @@
 pub mod ArmingLemmas
+pub mod AtPlaces
 pub mod Cells
 pub mod Changes
 pub mod Flags

@@ -1,5 +1,5 @@
 -- The timer list along the links.
-use Rattle.timer_core.proofs.Words.{rules, ◌≡◌, ℕ, zero, suc, ◌<◌, ◌≤◌, Bool, true, false, List, [], ◌∷◌, length, refl, ◌∙◌, ap, arith, eqb, set, lit≤, Option, Some, None, find, map, replicate, ◌^◌, list_any, IsDistinct, AllByRecursion, or_parts, or_cases, ne_eqb, eqb-true, cases_eq, length-map, get_or-set_same, get_or-set_other, get_or-replicate, All-replicate, Timer, LinkedCell, place_of, IsNamed, is_timer, next_of, linked, listed_from, Names, AreApart, IsList, IsTable, zero_linked}
+use Rattle.timer_core.proofs.Words.{rules, ◌≡◌, ℕ, zero, suc, ◌<◌, ◌≤◌, Bool, true, false, List, [], ◌∷◌, length, refl, ◌∙◌, ap, arith, eqb, set, lit≤, Option, Some, None, find, map, replicate, ◌^◌, list_any, IsDistinct, AllByRecursion, or_parts, or_cases, ne_eqb, eqb-true, cases_eq, length-map, get_or-set_same, get_or-set_other, get_or-replicate, All-replicate, Timer, LinkedCell, place_of, IsNamed, is_timer, next_of, linked, listed_from, led_to, Names, AreApart, IsList, IsTable, zero_linked}
 use Rattle.std.proofs.lemmas.Map.Steps.{length-le_from_distinct_below}
 use Rattle.timer_core.proofs.NameLemmas.{place_below, places_differ}
 
@@ -97,8 +97,8 @@ pub next_of_other : (cells : List LinkedCell) (t u : Timer) (x : LinkedCell) →
     next_of (set cells (place_of t) x) u ≡ next_of cells u
 next_of_other cells t u x h k e = grind (arith, places_differ, get_or-set_other)
 
-pub next_of_same : (cells : List LinkedCell) (t : Timer) (x : LinkedCell) → place_of t < length cells → next_of (set cells (place_of t) x) t ≡ x.next
-next_of_same cells t x within = ap (λ (c : LinkedCell). c.next) (get_or-set_same cells (place_of t) x zero_linked within)
+pub next_of_same : (cells : List LinkedCell) (t : Timer) (x : LinkedCell) → place_of t < length cells → next_of (set cells (place_of t) x) t ≡ led_to x.next
+next_of_same cells t x within = ap (λ (c : LinkedCell). led_to c.next) (get_or-set_same cells (place_of t) x zero_linked within)
 
 -- a timer that is not named among these may get any link
 pub names_other : (cells : List LinkedCell) (t : Timer) (x : LinkedCell) (link : Option Timer) (list : List Timer) → IsNamed t →
@@ -107,12 +107,12 @@ names_other cells t x link [] h none names = names
 names_other cells t x link (u ∷ later) h none names = let rest = names_other cells t x (next_of cells u) later h in grind (arith, or_parts, next_of_other)
 
 -- a write that keeps the link keeps the list
-next_of_kept : (cells : List LinkedCell) (t u : Timer) (x : LinkedCell) → place_of t < length cells → x.next ≡ next_of cells t →
+next_of_kept : (cells : List LinkedCell) (t u : Timer) (x : LinkedCell) → place_of t < length cells → led_to x.next ≡ next_of cells t →
     next_of (set cells (place_of t) x) u ≡ next_of cells u
 next_of_kept cells t u x within e = grind (arith, cases_eq, next_of_same, get_or-set_other)
 
 names_kept : (cells : List LinkedCell) (t : Timer) (x : LinkedCell) (link : Option Timer) (list : List Timer) → place_of t < length cells →
-    x.next ≡ next_of cells t → Names cells link list → Names (set cells (place_of t) x) link list
+    led_to x.next ≡ next_of cells t → Names cells link list → Names (set cells (place_of t) x) link list
 names_kept cells t x link [] within e names = names
 names_kept cells t x link (u ∷ later) within e names = let rest = names_kept cells t x (next_of cells u) later within e names.1.1 in grind (arith, next_of_kept)
 
@@ -126,11 +126,11 @@ pub relinked : (cells : List LinkedCell) (link : Option Timer) (list : List Time
 relinked cells link list h apart few = grind (arith, is_list, listed_from_names)
 
 pub relinked_kept : (cells : List LinkedCell) (link : Option Timer) (t : Timer) (x : LinkedCell) → place_of t < length cells →
-    x.next ≡ next_of cells t → IsList cells link → Relinked (set cells (place_of t) x) link (listed_from cells link)
+    led_to x.next ≡ next_of cells t → IsList cells link → Relinked (set cells (place_of t) x) link (listed_from cells link)
 relinked_kept cells link t x within e l = search (rules, relinked, names_kept, length-listed)
 
 pub relinked_first : (cells : List LinkedCell) (link : Option Timer) (t : Timer) (x : LinkedCell) → IsNamed t → place_of t < length cells →
-    x.next ≡ link → list_any (is_timer t) (listed_from cells link) ≡ false → IsList cells link →
+    led_to x.next ≡ link → list_any (is_timer t) (listed_from cells link) ≡ false → IsList cells link →
     Relinked (set cells (place_of t) x) (Some t) (t ∷ listed_from cells link)
 relinked_first cells link t x h within e none l =
     let next : next_of (set cells (place_of t) x) t ≡ link = next_of_same cells t x within ∙ e in

@@ -1,5 +1,5 @@
 -- Names of timers and their places.
-use Rattle.timer_core.proofs.Words.{◌≡◌, ◌<◌, true, false, arith, false_from_ne_true, Timer, is_named, place_of, IsNamed, is_timer}
+use Rattle.timer_core.proofs.Words.{◌≡◌, ◌+◌, ◌-◌, ◌*◌, ◌/◌, ◌%◌, ◌<◌, ◌∙◌, ℕ, true, false, ap, sym, arith, false_from_ne_true, Timer, is_named, place_of, timer_at, IsNamed, is_timer}
 
 pub is_timer_itself : (t : Timer) → is_timer t t ≡ true
 is_timer_itself t = grind arith
@@ -23,3 +23,29 @@ places_differ t u h k e same = let here = same_place t u h k same in (cc)
 
 pub named_from_test : (t : Timer) → is_named t ≡ true → IsNamed t
 named_from_test t e = grind arith
+
+-- a place and its timer
+
+pub place_at : (k : ℕ) → IsNamed (timer_at k) → place_of (timer_at k) ≡ k
+place_at k named = grind arith
+
+pub at_below : (k : ℕ) → IsNamed (timer_at k) → k < 192
+at_below k named = grind arith
+
+pub timer_at_place : (t : Timer) → IsNamed t → timer_at (place_of t) ≡ t
+timer_at_place (Timer.Event p n) named =
+    let number : (12 * (p.0 - 4) + n) % 12 ≡ n = omega arith in
+    let owner : 4 + (12 * (p.0 - 4) + n) / 12 ≡ p.0 = omega arith in
+    grind arith
+timer_at_place (Timer.Callback p n) named =
+    let number : (12 * (p.0 - 4) + 8 + n) % 12 ≡ 8 + n = omega arith in
+    let owner : 4 + (12 * (p.0 - 4) + 8 + n) / 12 ≡ p.0 = omega arith in
+    grind arith
+
+-- whether it is the timer of that place
+pub here_at : (t : Timer) (k : ℕ) → IsNamed t → k ≡ place_of t → is_timer t (timer_at k) ≡ true
+here_at t k named at = ap (is_timer t) (ap timer_at at ∙ timer_at_place t named) ∙ is_timer_itself t
+
+pub other_at : (t : Timer) (k : ℕ) → IsNamed (timer_at k) → (k ≡ place_of t → ⊥) → is_timer t (timer_at k) ≡ false
+other_at t k named far =
+    false_from_ne_true (is_timer t (timer_at k)) (λ here. far (sym (place_at k named) ∙ ap place_of (sym (same_timer t (timer_at k) here))))

@@ -1,5 +1,5 @@
 -- A timer is taken from the list: the one before it gets its link.
-use Rattle.timer_core.proofs.Words.{◌≡◌, ◌<◌, ◌≤◌, Bool, true, false, not, List, [], ◌∷◌, ◌++◌, length, refl, sym, ◌∙◌, ap, arith, set, append_assoc, Option, Some, None, filter, list_any, or_parts, Timer, LinkedCell, place_of, IsNamed, is_timer, next_of, listed_from, Names, AreApart, IsList, Follows, IsHead}
+use Rattle.timer_core.proofs.Words.{◌≡◌, ◌<◌, ◌≤◌, Bool, true, false, not, List, [], ◌∷◌, ◌++◌, length, refl, sym, ◌∙◌, ap, arith, set, append_assoc, Option, Some, None, filter, list_any, or_parts, Timer, LinkedCell, place_of, IsNamed, is_timer, next_of, led_to, listed_from, Names, AreApart, IsList, Follows, IsHead}
 use Rattle.std.proofs.lemmas.List.Folds.{list_any-append}
 use Rattle.timer_core.proofs.NameLemmas.{same_timer, is_timer_itself, is_timer_flips}
 use Rattle.timer_core.proofs.LinkLemmas.{Passes, passes, Relinked, relinked, names_other, next_of_other, next_of_same, length-listed, listed_from_none}
@@ -94,13 +94,13 @@ apart_behind before [] rest apart = apart
 apart_behind before (u ∷ earlier) rest apart = apart_behind before earlier rest apart.1
 
 names_closed : (cells : List LinkedCell) (link : Option Timer) (timer before : Timer) (x : LinkedCell) (earlier rest : List Timer) → IsNamed before →
-    place_of before < length cells → x.next ≡ next_of cells timer → AreApart (earlier ++ before ∷ (timer ∷ rest)) →
+    place_of before < length cells → led_to x.next ≡ next_of cells timer → AreApart (earlier ++ before ∷ (timer ∷ rest)) →
     Names cells link (earlier ++ before ∷ (timer ∷ rest)) → Names (set cells (place_of before) x) link (earlier ++ before ∷ rest)
 names_closed cells link timer before x [] rest h within e apart names = grind (arith, or_parts, next_of_same, names_other)
 names_closed cells link timer before x (u ∷ earlier) rest h within e apart names = let later = names_closed cells (next_of cells u) timer before x earlier rest h within e apart.1 names.1.1 in grind (arith, none_behind, next_of_other, is_timer_flips)
 
 pub relinked_without : (cells : List LinkedCell) (link : Option Timer) (timer before : Timer) (x : LinkedCell) → IsNamed before →
-    place_of before < length cells → x.next ≡ next_of cells timer → Follows timer before (listed_from cells link) → IsList cells link →
+    place_of before < length cells → led_to x.next ≡ next_of cells timer → Follows timer before (listed_from cells link) → IsList cells link →
     Relinked (set cells (place_of before) x) link (others timer (listed_from cells link))
 relinked_without cells link timer before x h within e f l =
     let apart : AreApart (f.earlier ++ before ∷ (timer ∷ f.later)) = rw (← f.listed) l.apart in

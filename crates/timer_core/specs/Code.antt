@@ -4,5 +4,6 @@ pub mod Links
 pub mod Neighbours
 pub mod Numbered
 pub mod NumberedTimers
+pub mod Outlooks
 pub mod Places
 pub mod Watched

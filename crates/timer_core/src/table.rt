@@ -2,9 +2,10 @@
 
 ghost use Rattle.std.specs.Prelude.{◌≡◌, ◌≤◌, ◌^◌, true, None, IfSome};
 ghost use Rattle.timer_core.specs.Code.Neighbours.{Follows, IsHead};
-ghost use Rattle.timer_core.specs.Code.Watched.{NoneDueBefore};
+ghost use Rattle.timer_core.specs.Code.Outlooks.{IsOutlook};
+ghost use Rattle.timer_core.specs.Code.Places.{timer_at};
 ghost use Rattle.timer_core.specs.Names.{IsNamed};
-ghost use Rattle.timer_core.specs.Timers.{no_timers, cell_of, is_armed, armed_with, stop_timer, first_due, without_event_timers, without_callback_timers};
+ghost use Rattle.timer_core.specs.Timers.{no_timers, cell_of, is_armed, armed_with, stop_timer, without_event_timers, without_callback_timers};
 
 use crate::timer::{Cell, Timer};
 use mote_types::event::Pid;
@@ -13,12 +14,12 @@ use std::marker::Model;
 /// How many timers there are: 12 for each of 16 applications.
 const TIMERS: usize = 192;
 
-/// A cell, whether its timer is on the timer list, and there the timer that follows.
+/// A cell, whether its timer is on the timer list, and there the place of the timer that follows.
 #[derive(Clone, Copy, Drop)]
 pub(crate) struct LinkedCell {
     cell: Cell,
     is_armed: bool,
-    next: Option<Timer>,
+    next: Option<u8>,
 }
 
 /// As at boot.
@@ -31,11 +32,21 @@ const ZERO: LinkedCell = LinkedCell {
     next: None,
 };
 
-/// The cells of all timers, and the timer list: the first timer, each further one by the link of the one before.
+/// What a look at the timer list finds.
+#[derive(Clone, Copy, Drop)]
+pub(crate) enum Outlook {
+    /// The first timer whose deadline has come.
+    Due(Timer),
+    /// None is due, nor will be before this moment: the earliest deadline.
+    NoneBefore(u64),
+}
+
+/// The cells of all timers, and the timer list: the first timer, each further one by the link of the one before. Links are
+/// places, so that a walk along them reads no names.
 #[derive(Drop)]
 pub(crate) struct TimerTable {
     cells: [LinkedCell; TIMERS],
-    first: Option<Timer>,
+    first: Option<u8>,
 }
 
 impl Model for TimerTable {
@@ -85,34 +96,37 @@ impl TimerTable {
         ensures armed { self.new ≡ armed_with timer cell self.old }
         ensures given { cell_of timer self.new ≡ cell }
     {
+        let place = timer.place();
         if self.is_armed(timer) {
-            self.cells[timer.place()].cell = cell;
+            self.cells[place].cell = cell;
         } else {
-            self.cells[timer.place()] = LinkedCell {
+            self.cells[place] = LinkedCell {
                 cell,
                 is_armed: true,
                 next: self.first,
             };
-            self.first = Some(timer);
+            self.first = Some(place as u8);
         }
     }
 
-    /// The timer that stands before an armed one on the list, or `None` where that one is the head.
-    fn before(&self, timer: Timer) -> Option<Timer>
+    /// The place of the timer that stands before an armed one on the list, or `None` where that one is the head.
+    fn before(&self, timer: Timer) -> Option<u8>
+        requires named { IsNamed timer }
         requires armed { is_armed timer self.now ≡ true }
-        ensures follows { IfSome result (λ before. Follows timer before self.now.armed) }
-        ensures named { IfSome result IsNamed }
+        ensures follows { IfSome result (λ before. Follows timer (timer_at before) self.now.armed) }
+        ensures named { IfSome result (λ before. IsNamed (timer_at before)) }
         ensures head { result ≡ None → IsHead timer self.now.armed }
     {
         let Some(first) = self.first else {
             return None;
         };
-        if timer.is(first) {
+        let place = timer.place() as u8;
+        if first == place {
             return None;
         }
         let mut before = first;
-        while let Some(other) = self.cells[before.place()].next {
-            if timer.is(other) {
+        while let Some(other) = self.cells[before as usize].next {
+            if other == place {
                 return Some(before);
             }
             before = other;
@@ -132,38 +146,26 @@ impl TimerTable {
         let following = self.cells[timer.place()].next;
         self.cells[timer.place()].is_armed = false;
         match before {
-            Some(before) => self.cells[before.place()].next = following,
+            Some(before) => self.cells[before as usize].next = following,
             None => self.first = following,
         }
     }
 
-    /// The first on the list whose deadline has come.
-    pub(crate) fn first_due(&self, clock: u64) -> Option<Timer>
-        ensures first { result ≡ first_due clock self.now }
-        ensures named { IfSome result IsNamed }
-    {
-        let mut link = self.first;
-        while let Some(timer) = link {
-            let cell = self.cell(timer);
-            if cell.start + cell.interval as u64 <= clock {
-                return Some(timer);
-            }
-            link = self.cells[timer.place()].next;
-        }
-        None
-    }
-
-    /// The earliest deadline on the list. Where the list is empty, the latest number there is.
-    pub(crate) fn earliest_deadline(&self) -> u64
-        ensures { NoneDueBefore result self.now }
+    /// Looks for a due timer in one walk along the list.
+    pub(crate) fn look(&self, clock: u64) -> Outlook
+        ensures { IsOutlook clock self.now result }
     {
         let mut earliest = u64::MAX;
         let mut link = self.first;
-        while let Some(timer) = link {
-            earliest = earliest.min(self.cell(timer).deadline());
-            link = self.cells[timer.place()].next;
+        while let Some(place) = link {
+            let deadline = self.cells[place as usize].cell.deadline();
+            if deadline <= clock {
+                return Outlook::Due(Timer::at(place));
+            }
+            earliest = earliest.min(deadline);
+            link = self.cells[place as usize].next;
         }
-        earliest
+        Outlook::NoneBefore(earliest)
     }
 
     /// The event timers of `pid` are off the list.

@@ -1,8 +1,8 @@
 //! The names of the timers, and what is kept of each.
 
 ghost use Rattle.std.specs.Prelude.{◌≡◌, ◌<◌, ◌≤◌, ◌^◌};
-ghost use Rattle.timer_core.specs.Code.Places.{place_of};
-ghost use Rattle.timer_core.specs.Names.{IsNamed, is_timer};
+ghost use Rattle.timer_core.specs.Code.Places.{place_of, timer_at};
+ghost use Rattle.timer_core.specs.Names.{IsNamed};
 ghost use Rattle.timer_core.specs.Timers.{deadline};
 
 use mote_types::event::Pid;
@@ -36,14 +36,17 @@ impl Cell {
 }
 
 impl Timer {
-    /// Whether it is that timer.
-    pub(crate) fn is(self, other: Timer) -> bool
-        ensures { result ≡ is_timer self other }
+    /// The timer whose cell lies there in the table.
+    pub(crate) fn at(place: u8) -> Timer
+        requires { place < 192 }
+        ensures { result ≡ timer_at place }
     {
-        match (self, other) {
-            (Timer::Event(p, t), Timer::Event(q, u)) => p.0 == q.0 && t == u,
-            (Timer::Callback(p, c), Timer::Callback(q, d)) => p.0 == q.0 && c == d,
-            _ => false,
+        let pid = Pid(4 + place / 12);
+        let number = place % 12;
+        if number < 8 {
+            Timer::Event(pid, number)
+        } else {
+            Timer::Callback(pid, number - 8)
         }
     }
 

@@ -4,7 +4,7 @@ ghost use Rattle.std.specs.Prelude.{◌≡◌, ◌≤◌, ◌^◌, IfSome};
 ghost use Rattle.timer_core.specs.Names.{IsNamed};
 ghost use Rattle.timer_core.specs.Timers.{no_timers, cell_of, is_armed, armed_with, stop_timer, first_due, without_event_timers, without_callback_timers};
 
-use crate::table::TimerTable;
+use crate::table::{Outlook, TimerTable};
 use crate::timer::{Cell, Timer};
 use mote_types::event::Pid;
 use std::marker::Model;
@@ -12,7 +12,7 @@ use std::marker::Model;
 /// The timer table, and a moment before which nothing is due, so that no walk looks for it.
 ///
 /// A timer that is armed brings the moment forward. Where it has come and nothing is due, the timers that brought it forward
-/// were armed anew or left the list: the earliest deadline is looked for.
+/// were armed anew or left the list: the walk that finds nothing due has found the earliest deadline.
 #[derive(Drop)]
 pub(crate) struct WatchedTable {
     table: TimerTable,
@@ -102,11 +102,13 @@ impl WatchedTable {
         ensures named { IfSome result IsNamed }
         ensures kept { self.new ≡ self.old }
     {
-        let first = self.table.first_due(clock);
-        if first.is_none() {
-            self.due_from = self.table.earliest_deadline();
+        match self.table.look(clock) {
+            Outlook::Due(timer) => Some(timer),
+            Outlook::NoneBefore(moment) => {
+                self.due_from = moment;
+                None
+            }
         }
-        first
     }
 
     /// The first on the list whose deadline has come.

@@ -130,5 +130,7 @@ process_event_t process_alloc_event(void);
 CC_REFUSED("the mote runs the processes: leave this call out") void process_init(void);
 CC_REFUSED("the mote runs the processes: leave this call out") int process_run(void);
 CC_REFUSED("the mote does not tell how many events wait") int process_nevents(void);
+CC_REFUSED("the mote does not tell its list of processes") struct process *process_list_head(void);
+#define PROCESS_LIST() process_list_head()
 
 #endif

@@ -39,7 +39,8 @@ enum toarmuts_heap_status {
   TOARMUTS_HEAP_DONE = 0,     /* as it was asked for */
   TOARMUTS_HEAP_NO_TABLE = 1, /* the rows are none: somebody else wrote to them */
   TOARMUTS_HEAP_NO_BLOCK = 2, /* no block begins there */
-  TOARMUTS_HEAP_NO_ROOM = 3   /* there is no place for so many bytes */
+  TOARMUTS_HEAP_NO_ROOM = 3,  /* there is no place for so many bytes */
+  TOARMUTS_HEAP_NO_ROW = 4    /* there is no row for another block */
 };
 
 struct toarmuts_heap_stats {
@@ -52,8 +53,9 @@ struct toarmuts_heap_stats {
 /* The last of num rows is a spare one when toarmuts_heapmem_alloc is called, and after toarmuts_heapmem_free, where they are done. */
 uint8_t toarmuts_heapmem_alloc(struct toarmuts_heap_row *rows, size_t num, uint8_t *bytes, size_t size, size_t wanted, size_t *place);
 uint8_t toarmuts_heapmem_realloc(struct toarmuts_heap_row *rows, size_t num, uint8_t *bytes, size_t size, size_t *place, size_t wanted);
-uint8_t toarmuts_heapmem_free(struct toarmuts_heap_row *rows, size_t num, size_t size, size_t place);
-uint8_t toarmuts_heapmem_stats(const struct toarmuts_heap_row *rows, size_t num, size_t size, struct toarmuts_heap_stats *stats);
+uint8_t toarmuts_heapmem_free(struct toarmuts_heap_row *rows, size_t num, const uint8_t *bytes, size_t size, size_t place);
+uint8_t toarmuts_heapmem_stats(const struct toarmuts_heap_row *rows, size_t num, const uint8_t *bytes, size_t size,
+                               struct toarmuts_heap_stats *stats);
 
 bool toarmuts_ringbuf_put(uint8_t *data, size_t size, uint8_t *put, uint8_t get, uint8_t byte);
 bool toarmuts_ringbuf_get(const uint8_t *data, size_t size, uint8_t put, uint8_t *get, uint8_t *byte);

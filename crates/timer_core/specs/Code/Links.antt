@@ -1,19 +1,28 @@
 -- How the table's links make the timer list.
 use Rattle.std.specs.Prelude.{◌≡◌, ℕ, ◌≤◌, ◌^◌, zero, suc, Bool, false, List, [], ◌∷◌, length, All, Option, Some, None, slice_index_or}
 use Rattle.std.specs.List.{list_any}
+use Rattle.std.specs.Option.{option_map}
 use Rattle.timer_core.specs.declared.timer.Timer.{Timer}
 use Rattle.timer_core.specs.declared.table.LinkedCell.{LinkedCell}
 use Rattle.timer_core.specs.declared.table.TimerTable.TheInside.{Inside}
 use Rattle.timer_core.specs.Names.{IsNamed, all_timers, is_timer}
-use Rattle.timer_core.specs.Code.Places.{place_of}
+use Rattle.timer_core.specs.Code.Places.{place_of, timer_at}
 use Rattle.timer_core.specs.Timers.{NamedCell, Timers, zero_cell}
 
 abbrev pub zero_linked : LinkedCell
 zero_linked = record { cell = zero_cell; is_armed = false; next = None }
 
+-- the timer that a link leads to
+abbrev pub led_to : Option ℕ → Option Timer
+led_to link = option_map timer_at link
+
 -- the link in the timer's cell
+abbrev pub link_of : List LinkedCell → Timer → Option ℕ
+link_of cells timer = (slice_index_or cells (place_of timer) zero_linked).next
+
+-- the timer that follows
 abbrev pub next_of : List LinkedCell → Timer → Option Timer
-next_of cells timer = (slice_index_or cells (place_of timer) zero_linked).next
+next_of cells timer = led_to (link_of cells timer)
 
 -- the timers along the links, at most n of them
 abbrev pub linked : ℕ → List LinkedCell → Option Timer → List Timer
@@ -50,8 +59,8 @@ AreFlagged cells armed = (timer : Timer) → IsNamed timer → flag_of cells tim
 
 pub record IsTable (table : Inside) : Type 0 where
   pub places : length table.cells ≡ 192
-  pub listed : IsList table.cells table.first
-  pub flags : AreFlagged table.cells (listed_from table.cells table.first)
+  pub listed : IsList table.cells (led_to table.first)
+  pub flags : AreFlagged table.cells (listed_from table.cells (led_to table.first))
   pub starts : All (λ linked_cell. linked_cell.cell.start ≤ 2 ^ 63) table.cells
 
 -- the cells of the table, each under the name of its place
@@ -61,4 +70,4 @@ named_cells (timer ∷ names) [] = []
 named_cells (timer ∷ names) (linked_cell ∷ cells) = record { timer = timer; cell = linked_cell.cell } ∷ named_cells names cells
 
 abbrev pub timers_of : Inside → Timers
-timers_of table = record { cells = named_cells all_timers table.cells; armed = listed_from table.cells table.first }
+timers_of table = record { cells = named_cells all_timers table.cells; armed = listed_from table.cells (led_to table.first) }

@@ -1,6 +1,7 @@
 -- Where a timer's cell lies in the table.
-use Rattle.std.specs.Prelude.{ℕ, ◌+◌, ◌-◌, ◌*◌, Bool, true, ◌&&◌, ◌==◌, List, [], ◌∷◌, nat_le, nat_lt}
+use Rattle.std.specs.Prelude.{ℕ, ◌+◌, ◌-◌, ◌*◌, ◌/◌, ◌%◌, Bool, true, ◌&&◌, ◌==◌, List, [], ◌∷◌, if◌then◌else◌, nat_le, nat_lt}
 use Rattle.timer_core.specs.declared.timer.Timer.{Timer}
+use Rattle.timer_core.specs.Names.{callback_timer, event_timer}
 
 -- whether the timer's name is in range
 abbrev pub is_named : Timer → Bool
@@ -11,6 +12,12 @@ is_named (Timer.Callback p c) = nat_le 4 p.0 && nat_le p.0 19 && nat_lt c 4
 abbrev pub place_of : Timer → ℕ
 place_of (Timer.Event p t) = 12 * (p.0 - 4) + t
 place_of (Timer.Callback p c) = 12 * (p.0 - 4) + 8 + c
+
+-- the timer with this place
+abbrev pub timer_at : ℕ → Timer
+timer_at place =
+    let number = place % 12 in
+    if nat_lt number 8 then event_timer (4 + place / 12) number else callback_timer (4 + place / 12) (number - 8)
 
 -- whether these names are in range, and have the places n, n + 1, ..
 abbrev pub are_placed : ℕ → List Timer → Bool

@@ -10,5 +10,8 @@ numbered text count rest n parted reads = grind (arith, common_steps, parted, de
 
 pub returns-in_ok-number_of-in-Some : goal.returns-in_ok-number_of-in-Some
 returns-in_ok-number_of-in-Some c =
-    inr (omega (arith, c.in_ok-number_of-in-Some.ensures.bounds), numbered c.args.text.now c.parted.result.0.now c.in-Some.rest.now _
-    (c.parted.ensures ∙ ap (λ rest. c.parted.result.0.now ++ behind rest) c.in-Some.is) c.in_ok-number_of-in-Some.ensures.number)
+    inr (
+      omega (arith, c.in_ok-number_of-in-Some.ensures.bounds),
+      numbered c.args.text.now c.parted.result.0.now c.in-Some.rest.now _
+          (c.parted.ensures ∙ ap (λ rest. c.parted.result.0.now ++ behind rest) c.in-Some.is) c.in_ok-number_of-in-Some.ensures.number,
+    )

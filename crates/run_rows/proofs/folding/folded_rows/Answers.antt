@@ -1,6 +1,7 @@
 use Rattle.std.proofs.Common.{◌+◌, [], ◌∷◌, ◌++◌, arith}
 use Rattle.std.proofs.lemmas.Grind.{common_steps}
-use Rattle.run_rows.specs.Rows.{Cover}
+use Rattle.std.proofs.lemmas.List.Elements.{All-push}
+use Rattle.run_rows.specs.Rows.{Cover, IsTrueRow}
 use Rattle.run_rows.proofs.Covers.{Cover-append}
 use Rattle.run_rows.proofs.folding.folded_rows.Goals as goal
 
@@ -12,4 +13,5 @@ loop-at-preserved c =
     record {
       cover = rw c.in_ok-push-2.ensures.items covered;
       within = grind (arith, common_steps);
+      again = rw c.in_ok-push-2.ensures.items (All-push (IsTrueRow _) c.loop-at.rows.items row c.loop-at.invariant.again c.next_row-row.ensures.again);
     }

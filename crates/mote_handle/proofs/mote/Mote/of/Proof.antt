@@ -23,7 +23,6 @@ use denote.Signature.{types_at, type_at, plain}
 use denote.Steps.{nothing}
 use denote.Triple.Entry.{alive}
 use denote.Triple.Walked.{Stays, stay_dropped, walk_of}
-use Rattle.libc.specs.Heap.{chunk}
 use Rattle.core.proofs.alloc.Calls.{Al, Goes-blank, handle_tells}
 use Rattle.core.proofs.alloc.Shapes.{after}
 use Rattle.core.proofs.cell.Inside.{Good}
@@ -36,6 +35,7 @@ use Rattle.std_heap.proofs.Global.TheLaws as global_laws
 use Rattle.std_heap.specs.contracts.GlobalAllocator.TheImpl.{ghosts}
 use Rattle.mote_handle.specs.contracts.open_mote.OpenMote as held
 use Rattle.mote_handle.specs.declared.open_mote.OpenMote.{OpenMote as Held}
+use Rattle.mote_handle.specs.Owned.{chunk}
 use Rattle.unboxed.proofs.Parts.{Parts, parts_val, parts_good, put, taken}
 use Rattle.mote_handle.specs.contracts.mote.Mote.{the_row as Handle}
 use Rattle.mote_handle.proofs.Words.{mote_val, made, seen, by_state}

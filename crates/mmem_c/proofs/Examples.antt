@@ -1,0 +1,89 @@
+-- Tables and what they stand for, tables that are none, and answers.
+use Rattle.std.proofs.Common.{◌≡◌, ℕ, zero, suc, inl, inr, List, [], ◌∷◌, refl, arith}
+use Rattle.std.specs.Prelude.{Some, None}
+use Rattle.mmem_core.specs.ManagedStore.{ManagedStore}
+use Rattle.mmem_c.specs.declared.block.Block.{Block}
+use Rattle.mmem_c.specs.Stored.{place_told, stored, part_of, IsTable, process_of, handle_of, unused_store}
+use Rattle.mmem_c.specs.Answers.{Answer, number_of_answer, answer_to}
+use Rattle.mmem_c.specs.Code.Rows.{IsClear, AreSound}
+use Rattle.mmem_c.proofs.Rows.{table_from}
+
+abbrev row : ℕ → ℕ → Block
+row place size = record { place = place; size = size }
+
+-- handle 0 has 3 bytes from 4 on, handle 1 none, handle 2 two from 0 on
+abbrev table : List Block
+table = row 4 3 ∷ row 9 0 ∷ row 0 2 ∷ []
+
+abbrev store : ManagedStore
+store = stored table (1 ∷ 2 ∷ 3 ∷ 4 ∷ 5 ∷ 6 ∷ 7 ∷ 8 ∷ 9 ∷ 10 ∷ [])
+
+is_store : store ≡ record { capacity = 10; quota = None; blocks = Some (5 ∷ 6 ∷ 7 ∷ []) ∷ None ∷ Some (1 ∷ 2 ∷ []) ∷ [] }
+is_store = refl
+
+a_place_without_bytes : place_told (row 9 0) ≡ None
+a_place_without_bytes = refl
+
+three_bytes_take_four : (part_of (record { at = 4; len = 3 })).len ≡ 4
+three_bytes_take_four = refl
+
+no_blocks : stored (row 0 0 ∷ row 3 0 ∷ []) (7 ∷ 7 ∷ []) ≡ unused_store 2 2
+no_blocks = refl
+
+-- sixteen handles to a process, the first ones to process 3
+handle_twenty : process_of 20 ≡ 4
+handle_twenty = refl
+
+fourth_of_them : handle_of 20 ≡ 4
+fourth_of_them = refl
+
+clear_first : IsClear table 0 3
+clear_first zero l ne = absurd (ne refl)
+clear_first (suc zero) l ne = λ one other le. absurd (omega (arith, other))
+clear_first (suc (suc zero)) l ne = λ one other le. absurd (omega (arith, le))
+clear_first (suc (suc (suc j))) l ne = absurd (omega (arith, l))
+
+clear_last : IsClear table 2 3
+clear_last zero l ne = λ one other le. omega arith
+clear_last (suc zero) l ne = λ one other le. absurd (omega (arith, other))
+clear_last (suc (suc zero)) l ne = absurd (ne refl)
+clear_last (suc (suc (suc j))) l ne = absurd (omega (arith, l))
+
+sound : AreSound table 8 3
+sound zero l = (λ some. omega arith, clear_first)
+sound (suc zero) l = (λ some. absurd (omega (arith, some)), λ j l ne one other le. absurd (omega (arith, one)))
+sound (suc (suc zero)) l = (λ some. omega arith, clear_last)
+sound (suc (suc (suc i))) l = absurd (omega (arith, l))
+
+is_table : IsTable table 8
+is_table = table_from table 8 sound
+
+-- the last block ends behind the seventh byte
+past_the_end : IsTable table 7 → ⊥
+past_the_end sound = omega (arith, sound.inside 0 (record { at = 4; len = 3 }) refl)
+
+-- 5 bytes from 0 on take 8
+sharing_bytes : IsTable (row 0 5 ∷ row 6 2 ∷ []) 8 → ⊥
+sharing_bytes sound = elim (sound.apart 0 1 (record { at = 0; len = 5 }) (record { at = 6; len = 2 }) (λ e. absurd (omega (arith, e))) refl refl) [
+  | inl before ↦ omega (arith, before)
+  | inr behind ↦ omega (arith, behind)
+]
+
+-- 10 bytes, of which blocks take 4 and 4
+too_many : answer_to 1 3 store ≡ Answer.NoRoom
+too_many = refl
+
+no_bytes : answer_to 1 0 store ≡ Answer.NoBytes
+no_bytes = refl
+
+in_use : answer_to 0 0 store ≡ Answer.InUse
+in_use = refl
+
+no_such_handle : answer_to 3 0 store ≡ Answer.NoHandle
+no_such_handle = refl
+
+some_room : answer_to 1 4 (stored table (1 ∷ 2 ∷ 3 ∷ 4 ∷ 5 ∷ 6 ∷ 7 ∷ 8 ∷ 9 ∷ 10 ∷ 11 ∷ 12 ∷ [])) ≡ Answer.Allocated
+some_room = refl
+
+numbers : number_of_answer Answer.NoRoom ≡ 5
+numbers = refl

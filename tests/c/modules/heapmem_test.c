@@ -1,0 +1,295 @@
+/*
+ * Heap memory: worked calls, wrong arguments, zones, and a million random calls beside a plain model, which keeps of each 16 bytes
+ * whose they are and looks for places there. The heap has 1,024 bytes (HEAPMEM_CONF_ARENA_SIZE) and 3 zones.
+ */
+#include "lib/heapmem.h"
+#include "toarmuts/memory.h"
+
+#include "check.h"
+
+#include <string.h>
+
+enum { SIZE = 1024, UNITS = SIZE / 16, BLOCKS = 40, LONGEST = 200, NOBODY = -1 };
+
+static unsigned char *
+heap(void)
+{
+  return toarmuts_heap_memory.bytes;
+}
+
+static void
+check_worked_calls(void)
+{
+  heapmem_stats_t stats;
+  unsigned char *a = heapmem_alloc(40), *b = heapmem_alloc(17), *c = heapmem_alloc(100), *d = heapmem_alloc(1);
+  check("one behind the other", a == heap() && b == a + 48 && c == b + 32 && d == c + 112);
+  heapmem_stats(&stats);
+  check("figures", stats.allocated == 208 && stats.overhead == 0 && stats.available == SIZE - 208 && stats.footprint == 208 &&
+                     stats.max_footprint == 208 && stats.chunks == 4);
+  check("freed", heapmem_free(b) && heapmem_free(c));
+  check("one gap of both, the lowest place", heapmem_alloc(120) == b);
+  check("a rest of 16 goes along", heapmem_free(b) && heapmem_alloc(128) == b && heapmem_alloc(16) == d + 16);
+  memset(a, 7, 40);
+  unsigned char *moved = heapmem_realloc(a, 60);
+  check("it moves with its bytes, and zeros follow", moved == d + 32 && moved[39] == 7 && moved[48] == 0 && moved[59] == 0);
+  check("a small one where it was", heapmem_calloc(3, 10) == a);
+  check("grown where it is", heapmem_realloc(moved, 200) == moved && moved[39] == 7 && moved[199] == 0);
+  heapmem_free(a);
+  heapmem_free(b);
+  heapmem_free(d);
+  heapmem_free(d + 16);
+  heapmem_free(moved);
+  heapmem_stats(&stats);
+  check("empty again", stats.chunks == 0 && stats.footprint == 0 && stats.available == SIZE && stats.max_footprint >= 400);
+  check("alignment", heapmem_alignment() == 16);
+}
+
+static void
+check_wrong_arguments(void)
+{
+  struct toarmuts_heap_row row;
+  heapmem_stats_t stats;
+  int outside;
+  unsigned char *a = heapmem_alloc(40);
+  check("nothing to free", !heapmem_free(NULL) && !heapmem_free(&outside) && !heapmem_free(heap() + SIZE));
+  check("within a block", !heapmem_free(a + 1) && !heapmem_free(a + 16) && heapmem_realloc(a + 16, 5) == NULL);
+  check("too many bytes", heapmem_alloc(SIZE) == NULL && heapmem_alloc(SIZE_MAX) == NULL && heapmem_alloc(SIZE_MAX - 15) == NULL);
+  check("a product that is none", heapmem_calloc(SIZE_MAX / 2, 3) == NULL && heapmem_calloc(SIZE_MAX, SIZE_MAX) == NULL);
+  check("resized to too much", heapmem_realloc(a, SIZE_MAX) == NULL && heapmem_realloc(a, SIZE + 1) == NULL);
+  check("no figures", (heapmem_stats(NULL), true));
+  row = toarmuts_heap_memory.rows[0];
+  toarmuts_heap_memory.rows[0].room = SIZE + 1;
+  heapmem_stats(&stats);
+  check("spoilt rows", heapmem_alloc(1) == NULL && !heapmem_free(a) && heapmem_realloc(a, 1) == NULL && stats.chunks == 0);
+  toarmuts_heap_memory.rows[0].place = SIZE_MAX;
+  check("spoilt places", heapmem_alloc(1) == NULL && !heapmem_free(a) && heapmem_realloc(a, 1) == NULL);
+  toarmuts_heap_memory.rows[0] = row;
+  check("freed, and not twice", heapmem_free(a) && !heapmem_free(a));
+  a = heapmem_realloc(NULL, 5);
+  check("resized from nothing and to nothing", a == heap() && heapmem_realloc(a, 0) == NULL && !heapmem_free(a));
+  a = heapmem_alloc(0);
+  check("a block of no bytes", a == heap() && heapmem_free(a));
+}
+
+static void
+check_zones(void)
+{
+  heapmem_zone_t one = heapmem_zone_register("one", 64);
+  check("two zones beside the general one", one == 1 && heapmem_zone_register("two", 16) == 2);
+  check("a name twice, no name, too many", heapmem_zone_register("one", 16) == HEAPMEM_ZONE_INVALID &&
+                                             heapmem_zone_register(NULL, 16) == HEAPMEM_ZONE_INVALID &&
+                                             heapmem_zone_register("three", 16) == HEAPMEM_ZONE_INVALID);
+  unsigned char *a = heapmem_zone_alloc(one, 33);
+  check("no more than its bytes", a != NULL && heapmem_zone_alloc(one, 17) == NULL && heapmem_zone_calloc(one, 2, 9) == NULL);
+  check("nor when it grows", heapmem_realloc(a, 65) == NULL && heapmem_realloc(a, 64) == a && heapmem_zone_alloc(one, 1) == NULL);
+  check("the general zone has the rest", heapmem_alloc(SIZE - 80 + 1) == NULL);
+  check("no such zone", heapmem_zone_alloc(3, 1) == NULL && heapmem_zone_alloc(HEAPMEM_ZONE_INVALID, 1) == NULL);
+  check("given back", heapmem_free(a) && heapmem_zone_alloc(one, 64) == a && heapmem_free(a));
+}
+
+/* Whose each unit of 16 bytes is, and each block's pointer, size and bytes. */
+static int whose[UNITS];
+static struct {
+  unsigned char *pointer;
+  size_t size;
+  unsigned char bytes[LONGEST];
+} model[BLOCKS];
+
+static size_t
+units_of(size_t size)
+{
+  return size == 0 ? 1 : (size + 15) / 16;
+}
+
+static size_t
+run_from(size_t unit)
+{
+  size_t n = 0;
+  while(unit + n < UNITS && whose[unit + n] == NOBODY) {
+    n++;
+  }
+  return n;
+}
+
+static size_t
+footprint_in_model(void)
+{
+  size_t end = UNITS;
+  while(end > 0 && whose[end - 1] == NOBODY) {
+    end--;
+  }
+  return end;
+}
+
+/* A rest of one unit goes along. */
+static size_t
+taken(size_t wanted, size_t gap)
+{
+  return gap - wanted > 1 ? wanted : gap;
+}
+
+/* Where a block goes, and how many units it takes; UNITS where it goes nowhere. */
+static size_t
+place_in_model(size_t wanted, size_t *takes)
+{
+  size_t top = footprint_in_model(), best = UNITS;
+  for(size_t unit = 0; unit < top; unit++) {
+    size_t gap = unit == 0 || whose[unit - 1] != NOBODY ? run_from(unit) : 0;
+    if(gap >= wanted && (best == UNITS || gap < run_from(best))) {
+      best = unit;
+    }
+  }
+  if(best < UNITS) {
+    *takes = taken(wanted, run_from(best));
+    return best;
+  }
+  *takes = wanted;
+  return UNITS - top >= wanted ? top : UNITS;
+}
+
+static void
+give(size_t first, size_t units, int owner)
+{
+  for(size_t i = 0; i < units; i++) {
+    whose[first + i] = owner;
+  }
+}
+
+static void
+forget(int block)
+{
+  for(size_t i = 0; i < UNITS; i++) {
+    whose[i] = whose[i] == block ? NOBODY : whose[i];
+  }
+  model[block].pointer = NULL;
+}
+
+/* The block has the bytes of the model at its front; then both get random ones. */
+static bool
+refilled(int block, size_t kept)
+{
+  if(memcmp(model[block].pointer, model[block].bytes, kept) != 0) {
+    return false;
+  }
+  for(size_t k = 0; k < model[block].size; k++) {
+    model[block].pointer[k] = model[block].bytes[k] = (unsigned char)next_random();
+  }
+  return true;
+}
+
+static bool
+allocates_as_in_model(int block, size_t size)
+{
+  size_t units, place = place_in_model(units_of(size), &units);
+  unsigned char *pointer = next_random() % 2 == 0 ? heapmem_alloc(size) : heapmem_calloc(1, size);
+  if(place == UNITS) {
+    return pointer == NULL;
+  }
+  give(place, units, block);
+  model[block].pointer = pointer;
+  model[block].size = size;
+  memset(model[block].bytes, 0, size);
+  return pointer == heap() + 16 * place && refilled(block, size);
+}
+
+/* How many units the block has after it was resized where it is; 0 where it can't be. */
+static size_t
+units_in_place(size_t first, size_t room, size_t wanted)
+{
+  size_t end = first + room, gap = run_from(end);
+  if(wanted <= room) {
+    return taken(wanted, room);
+  }
+  if(wanted > room + gap) {
+    return 0;
+  }
+  return end + gap == UNITS ? wanted : taken(wanted, room + gap);
+}
+
+static bool
+resizes_as_in_model(int block, size_t size)
+{
+  size_t first = (size_t)(model[block].pointer - heap()) / 16, room = 0, old = model[block].size;
+  while(first + room < UNITS && whose[first + room] == block) {
+    room++;
+  }
+  size_t place = first, units = units_in_place(first, room, units_of(size));
+  if(units == 0) {
+    place = place_in_model(units_of(size), &units);
+  }
+  unsigned char *pointer = heapmem_realloc(model[block].pointer, size);
+  if(size == 0) {
+    forget(block);
+    return pointer == NULL;
+  }
+  if(place == UNITS) {
+    return pointer == NULL;
+  }
+  forget(block);
+  give(place, units, block);
+  model[block].pointer = pointer;
+  model[block].size = size;
+  return pointer == heap() + 16 * place && refilled(block, old < size ? old : size);
+}
+
+static bool
+has_the_bytes(void)
+{
+  heapmem_stats_t stats;
+  size_t taken_units = 0, chunks = 0;
+  for(int i = 0; i < BLOCKS; i++) {
+    if(model[i].pointer != NULL && memcmp(model[i].pointer, model[i].bytes, model[i].size) != 0) {
+      return false;
+    }
+    chunks += model[i].pointer != NULL;
+  }
+  for(size_t i = 0; i < UNITS; i++) {
+    taken_units += whose[i] != NOBODY;
+  }
+  heapmem_stats(&stats);
+  return stats.allocated == 16 * taken_units && stats.available == SIZE - stats.allocated &&
+         stats.footprint == 16 * footprint_in_model() && stats.chunks == chunks && stats.max_footprint >= stats.footprint;
+}
+
+static bool
+is_as_in_model(void)
+{
+  int block = (int)(next_random() % BLOCKS);
+  size_t size = next_random() % LONGEST;
+  unsigned char *pointer = model[block].pointer;
+  if(next_random() % 8 == 0) {
+    return !heapmem_free(heap() + 16 * (next_random() % UNITS) + 1 + next_random() % 15);
+  }
+  if(pointer == NULL) {
+    return allocates_as_in_model(block, size);
+  }
+  if(next_random() % 2 == 0) {
+    forget(block);
+    return heapmem_free(pointer) && !heapmem_free(pointer);
+  }
+  return resizes_as_in_model(block, size);
+}
+
+static void
+check_random_calls(void)
+{
+  bool holds = true;
+  give(0, UNITS, NOBODY);
+  for(int i = 0; i < RANDOM_CALLS && holds; i++) {
+    holds = is_as_in_model() && has_the_bytes();
+  }
+  check("random calls", holds);
+  for(int i = 0; i < BLOCKS; i++) {
+    heapmem_free(model[i].pointer);
+  }
+}
+
+int
+main(void)
+{
+  check_worked_calls();
+  check_wrong_arguments();
+  check_random_calls();
+  check_zones();
+  return told();
+}
