@@ -66,10 +66,8 @@ impl KernelFields {
             within_limit (machine_of self.old) (turn_taken pid.0 origin stimulus.now call (machine_of self.old))
             ≡ (after_call call pid.0 (machine_of self.new), Some (Entry.Turn pid origin stimulus.now call)) }
         ensures halts { result ≡ false → (call : ToldCall) →
-            within_limit (machine_of self.old) (turn_taken pid.0 origin stimulus.now call (machine_of self.old))
-            ≡ (machine_of self.new, Some other.new) }
-        ensures more { result ≡ true →
-            (self.new ≡ record self.old { work = self.old.work + 1 }) × (self.old.work < 10000) × (other.new ≡ other.old) }
+            within_limit (machine_of self.old) (turn_taken pid.0 origin stimulus.now call (machine_of self.old)) ≡ (machine_of self.new, Some other.new) }
+        ensures more { result ≡ true → (self.new ≡ record self.old { work = self.old.work + 1 }) × (self.old.work < 10000) × (other.new ≡ other.old) }
         ensures halted { result ≡ false → (self.new ≡ record self.old { halted = true }) × (other.new ≡ Entry.Halt) }
     {
         if self.work == WORK_LIMIT {

@@ -6,9 +6,7 @@ use Rattle.kernel_core.proofs.fields.KernelFields.work_on.Goals as goal
 
 pub returns-then-begin_turn-clause-awaits : goal.returns-then-begin_turn-clause-awaits
 returns-then-begin_turn-clause-awaits c =
-    λ is answers.
-    job_makes (then_job (c.job.invariant.so_far answers) (c.in-Give.ensures.reached answers))
-    (c.begin_turn.ensures.begins (search rules) _)
+    λ is answers. job_makes (then_job (c.job.invariant.so_far answers) (c.in-Give.ensures.reached answers)) (c.begin_turn.ensures.begins (search rules) _)
 
 pub returns-in-Give-clause-goes : goal.returns-in-Give-clause-goes
 returns-in-Give-clause-goes c =
@@ -53,8 +51,7 @@ returns-in-Rest-clause-goes c =
 
 pub returns-then-not-begin_round-clause-goes : goal.returns-then-not-begin_round-clause-goes
 returns-then-not-begin_round-clause-goes c =
-    λ is answers.
-    job_makes (then_job (c.job.invariant.so_far _) (c.in-Round.ensures.reached _)) (c.begin_round.ensures.halts (search rules))
+    λ is answers. job_makes (then_job (c.job.invariant.so_far _) (c.in-Round.ensures.reached _)) (c.begin_round.ensures.halts (search rules))
 
 pub job-preserved : goal.job-preserved
 job-preserved c = record {
