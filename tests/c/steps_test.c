@@ -70,21 +70,24 @@ check_order(void)
                   feed(&mote, "tick 1") == TOARMUTS_CLOSED && toarmuts_feed_input(&mote, TOARMUTS_TICK, 1, line, 0) == TOARMUTS_CLOSED &&
                   toarmuts_line(&mote, line, 8, &length) == TOARMUTS_CLOSED && length == 9 &&
                   toarmuts_clock(&mote, &clock) == TOARMUTS_CLOSED && clock == 9 && toarmuts_close(&mote) == TOARMUTS_CLOSED);
-  check("many applications", toarmuts_open(&defaults, 17, &mote) == TOARMUTS_BAD_SIZES && toarmuts_open(&defaults, 256, &mote) == TOARMUTS_BAD_SIZES);
+  check("many applications", toarmuts_open(&defaults, 17, &mote) == TOARMUTS_BAD_SIZES &&
+                             toarmuts_open(&defaults, 256, &mote) == TOARMUTS_BAD_SIZES);
   check("open", toarmuts_open(&defaults, 1, &mote) == TOARMUTS_DONE && toarmuts_open(&defaults, 1, &mote) == TOARMUTS_IS_OPEN);
   check("boot", toarmuts_answer(&mote, &wait) == TOARMUTS_NO_TURN && toarmuts_answer(&mote, &none) == TOARMUTS_NO_TURN &&
                 feed(&mote, "tick 1") == TOARMUTS_NOT_AT_REST && toarmuts_line(&mote, line, 8, &length) == TOARMUTS_NO_LINE);
   check("turn", toarmuts_next(&mote, &step, &turn) == TOARMUTS_DONE && step == TOARMUTS_TURN && turn.process == 4 &&
-                turn.origin == TOARMUTS_FROM_SYNCH && turn.stimulus == TOARMUTS_EVENT && turn.event == 129 && turn.payload == TOARMUTS_EMPTY);
+                turn.origin == TOARMUTS_FROM_SYNCH && turn.stimulus == TOARMUTS_EVENT && turn.event == 129 &&
+                turn.payload == TOARMUTS_EMPTY);
   check("awaits", toarmuts_next(&mote, &step, &turn) == TOARMUTS_AWAITS_CALL && feed(&mote, "tock") == TOARMUTS_AWAITS_CALL &&
                   toarmuts_answer(&mote, &none) == TOARMUTS_NO_CALL && toarmuts_line(&mote, line, 8, &length) == TOARMUTS_NO_LINE);
   check("answer", toarmuts_answer(&mote, &wait) == TOARMUTS_DONE && line_is(&mote, "4 synch 129 - -> wait") &&
                   toarmuts_answer(&mote, &wait) == TOARMUTS_NO_TURN);
   check("short room", toarmuts_line(&mote, line, 8, &length) == TOARMUTS_NO_ROOM && length == 21);
   check("rest", toarmuts_next(&mote, &step, &turn) == TOARMUTS_DONE && step == TOARMUTS_REST);
-  check("lines", feed(&mote, "tock") == TOARMUTS_BAD_LINE && feed(&mote, "tick 1\n") == TOARMUTS_BAD_LINE && feed(&mote, "") == TOARMUTS_DONE &&
-                 feed(&mote, "# none") == TOARMUTS_DONE);
-  check("inputs", toarmuts_feed_input(&mote, 3, 1, line, 1) == TOARMUTS_NO_INPUT && toarmuts_feed_input(&mote, TOARMUTS_FRAME, 0, line, 0) == TOARMUTS_NO_INPUT &&
+  check("lines", feed(&mote, "tock") == TOARMUTS_BAD_LINE && feed(&mote, "tick 1\n") == TOARMUTS_BAD_LINE &&
+                 feed(&mote, "") == TOARMUTS_DONE && feed(&mote, "# none") == TOARMUTS_DONE);
+  check("inputs", toarmuts_feed_input(&mote, 3, 1, line, 1) == TOARMUTS_NO_INPUT &&
+                  toarmuts_feed_input(&mote, TOARMUTS_FRAME, 0, line, 0) == TOARMUTS_NO_INPUT &&
                   toarmuts_feed_input(&mote, TOARMUTS_SERIAL, 0, line, 0) == TOARMUTS_NO_INPUT);
   check("tick", feed(&mote, "tick 5") == TOARMUTS_DONE && feed(&mote, "tick 5") == TOARMUTS_NOT_AT_REST &&
                 toarmuts_next(&mote, &step, &turn) == TOARMUTS_DONE && step == TOARMUTS_ENTRY && line_is(&mote, "> tick 5") &&
@@ -122,7 +125,8 @@ check_turns(void)
   static const struct toarmuts_call wait = {TOARMUTS_CALL_WAIT, {0}, 0, 0, 0, {0}};
   struct toarmuts_call calls[3] = {{TOARMUTS_CALL_KILL, {9}, 0, 0, 0, {0}}};
   struct toarmuts_turn turn = told_behind(calls, 1, "");
-  check("refused", turn.stimulus == TOARMUTS_ANSWER && turn.origin == TOARMUTS_FROM_ANSWER && turn.reply == TOARMUTS_REPLY_REFUSED && turn.number == 7);
+  check("refused", turn.stimulus == TOARMUTS_ANSWER && turn.origin == TOARMUTS_FROM_ANSWER && turn.reply == TOARMUTS_REPLY_REFUSED &&
+                   turn.number == 7);
   calls[0].kind = TOARMUTS_CALL_MMEM_AVAIL;
   turn = told_behind(calls, 1, "");
   check("num", turn.reply == TOARMUTS_REPLY_NUM && turn.number == 4096);
@@ -147,8 +151,8 @@ check_turns(void)
   turn = told_behind(calls, 2, "tick 2");
   check("callback", turn.stimulus == TOARMUTS_CALLBACK && turn.origin == TOARMUTS_FROM_CALLBACK && turn.number == 3);
   turn = told_behind(&wait, 1, "serial 68690a");
-  check("line", turn.stimulus == TOARMUTS_EVENT && turn.origin == TOARMUTS_FROM_EVENT && turn.event == 138 && turn.payload == TOARMUTS_LINE &&
-                turn.length == 2 && memcmp(turn.bytes, "hi", 2) == 0);
+  check("line", turn.stimulus == TOARMUTS_EVENT && turn.origin == TOARMUTS_FROM_EVENT && turn.event == 138 &&
+                turn.payload == TOARMUTS_LINE && turn.length == 2 && memcmp(turn.bytes, "hi", 2) == 0);
   calls[0] = (struct toarmuts_call){TOARMUTS_CALL_POST, {4, 140}, TOARMUTS_NUMBER, 77, 0, {0}};
   turn = told_behind(calls, 2, "");
   check("number", turn.event == 140 && turn.payload == TOARMUTS_NUMBER && turn.number == 77);
@@ -168,7 +172,8 @@ static struct toarmuts_call
 any_call(void)
 {
   struct toarmuts_call call = random_call();
-  uint32_t *words[] = {&call.kind, &call.numbers[0], &call.numbers[1], &call.numbers[2], &call.numbers[3], &call.payload, &call.number, &call.length};
+  uint32_t *words[] = {&call.kind,       &call.numbers[0], &call.numbers[1], &call.numbers[2],
+                       &call.numbers[3], &call.payload,    &call.number,     &call.length};
   if(next_random(4) == 0) {
     *words[next_random(8)] = next_random(2) == 0 ? next_random(300) : 0xffffff00 + next_random(256);
   }
@@ -178,7 +183,8 @@ any_call(void)
 static bool
 opens(struct known *known)
 {
-  struct toarmuts_configuration sizes = {next_random(64) * 4, next_random(64) * 4, 8 + next_random(2) * 8, next_random(2), next_random(8) * 4, 0};
+  struct toarmuts_configuration sizes = {next_random(64) * 4, next_random(64) * 4, 8 + next_random(2) * 8,
+                                         next_random(2),      next_random(8) * 4,  0};
   uint32_t applications = 1 + next_random(17);
   bool fits = sizes.mmem >= 4 && sizes.heap >= 20 && applications <= 16 &&
               (sizes.has_quota == 0 || (sizes.quota >= 4 && sizes.quota * (applications + 1) <= sizes.mmem));
@@ -205,7 +211,10 @@ goes_on(struct known *known)
   known->awaits = step == TOARMUTS_TURN;
   known->rests = step == TOARMUTS_REST;
   known->is_halted = known->is_halted || (step == TOARMUTS_ENTRY && line_is(&known->mote, "halt"));
-  return status == TOARMUTS_DONE && step <= TOARMUTS_HALT && known->is_halted == (step == TOARMUTS_HALT || (step == TOARMUTS_ENTRY && known->is_halted)) &&
+  if(known->is_halted ? step != TOARMUTS_HALT && step != TOARMUTS_ENTRY : step == TOARMUTS_HALT) {
+    return false;
+  }
+  return status == TOARMUTS_DONE && step <= TOARMUTS_HALT &&
          (step != TOARMUTS_TURN || (turn.process >= 4 && turn.process <= 19 && turn.length <= 127));
 }
 
@@ -235,7 +244,8 @@ takes_line(struct known *known)
   static const struct {
     const char *line;
     uint32_t status;
-  } lines[] = {{"tick 3", 0}, {"tick 4294967295", 0}, {"serial 610a", 0}, {"frame 0102", 0}, {"", 0}, {"# tick", 0}, {"tick", 2}, {"serial ", 2}, {"frame 0", 2}};
+  } lines[] = {{"tick 3", 0}, {"tick 4294967295", 0}, {"serial 610a", 0}, {"frame 0102", 0}, {"", 0},
+               {"# tick", 0}, {"tick", 2},            {"serial ", 2},     {"frame 0", 2}};
   uint32_t which = next_random(sizeof lines / sizeof lines[0]);
   uint32_t status = feed(&known->mote, lines[which].line);
   bool holds = is_due(known, status, lines[which].status);
@@ -248,7 +258,8 @@ takes_input(struct known *known)
 {
   uint32_t kind = next_random(4);
   size_t length = next_random(2) == 0 ? next_random(3) : next_random(300);
-  bool is_one = kind == TOARMUTS_TICK || (kind == TOARMUTS_SERIAL && length >= 1 && length <= 256) || (kind == TOARMUTS_FRAME && length >= 1 && length <= 127);
+  bool is_one = kind == TOARMUTS_TICK || (kind == TOARMUTS_SERIAL && length >= 1 && length <= 256) ||
+                (kind == TOARMUTS_FRAME && length >= 1 && length <= 127);
   uint8_t *bytes = malloc(length + 1);
   memset(bytes, (int)next_random(256), length + 1);
   uint32_t status = toarmuts_feed_input(&known->mote, kind, next_random(9), bytes, length);
@@ -266,9 +277,9 @@ tells(struct known *known)
   memset(line, 0xaa, room + 1);
   uint32_t status = toarmuts_line(&known->mote, line, room, &length);
   size_t written = status == TOARMUTS_DONE ? length : 0;
-  bool holds = known->is_open ? status == TOARMUTS_DONE || status == TOARMUTS_NO_LINE || (status == TOARMUTS_NO_ROOM && room < length && length < 640)
-                              : status == TOARMUTS_CLOSED;
-  holds = holds && written <= room && (!known->awaits || status == TOARMUTS_NO_LINE) && (status == TOARMUTS_DONE || status == TOARMUTS_NO_ROOM || length == 9999);
+  bool has_line = status == TOARMUTS_DONE || (status == TOARMUTS_NO_ROOM && room < length && length < 640);
+  bool holds = known->is_open ? has_line || status == TOARMUTS_NO_LINE : status == TOARMUTS_CLOSED;
+  holds = holds && written <= room && (!known->awaits || status == TOARMUTS_NO_LINE) && (has_line || length == 9999);
   for(size_t i = written; holds && i <= room; i++) {
     holds = line[i] == 0xaa;
   }
@@ -295,7 +306,8 @@ closes(struct known *known)
 static void
 check_calls(long count)
 {
-  static bool (*const calls[])(struct known *) = {opens, goes_on, goes_on, goes_on, answers, answers, answers, takes_line, takes_input, tells, closes};
+  static bool (*const calls[])(struct known *) = {opens,   goes_on,    goes_on,     goes_on, answers, answers,
+                                                  answers, takes_line, takes_input, tells,   closes};
   static struct known motes[3];
   bool holds = true;
   while(holds && count-- > 0) {
@@ -457,7 +469,8 @@ make_runs(void *count)
   for(long i = 0; holds && i < *(long *)count; i++) {
     struct toarmuts_answer answer;
     make_scenario(scenario);
-    size_t names = (size_t)(put_applications(applications, scenario) - applications), lines = (size_t)(put_script(script, scenario) - script);
+    size_t names = (size_t)(put_applications(applications, scenario) - applications);
+    size_t lines = (size_t)(put_script(script, scenario) - script);
     toarmuts_run(&defaults, (uint8_t *)applications, names, (uint8_t *)script, lines, by_run, 4 * MOST_TEXT, &answer);
     size_t length = (size_t)(put_run(by_steps, scenario, &holds) - by_steps);
     holds = holds && answer.status <= TOARMUTS_HALTED && length == answer.length && memcmp(by_steps, by_run, length) == 0;

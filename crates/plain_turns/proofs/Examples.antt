@@ -1,6 +1,6 @@
 -- What structs say, and how turns are told, in examples.
-use Rattle.std.proofs.Common.{◌≡◌, ℕ, List, [], ◌∷◌, refl, Option, Some, None, replicate, length, true}
-use Rattle.mote_types.specs.Codes.{number_event, plain_event}
+use Rattle.std.proofs.Common.{◌≡◌, ℕ, List, [], ◌∷◌, refl, Some, None, replicate, true}
+use Rattle.mote_types.specs.Codes.{number_event}
 use Rattle.mote_types.specs.declared.call.Call.{Call}
 use Rattle.mote_types.specs.declared.entry.Input.{Input}
 use Rattle.mote_types.specs.declared.event.Origin.{Origin}

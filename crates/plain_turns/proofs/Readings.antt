@@ -1,5 +1,5 @@
 -- What a struct of no kind says: nothing.
-use Rattle.std.proofs.Common.{◌≡◌, ◌<◌, ◌≤◌, ℕ, zero, suc, refl, sym, ap, arith, None}
+use Rattle.std.proofs.Common.{◌≡◌, ◌<◌, ◌≤◌, refl, sym, ap, arith, None}
 use Rattle.std.proofs.lemmas.List.{get_or_past}
 use Rattle.plain_turns.specs.Calls.{call_said, no_call, readings, Reading}
 use Rattle.plain_turns.specs.declared.call.PlainCall.{PlainCall}

@@ -1,4 +1,3 @@
-use Rattle.std.proofs.Common.{rules}
 use Rattle.toarmuts.proofs.LineEnds.{last_but_end, last_has_byte}
 use Rattle.toarmuts.proofs.in_session.put_last_line.Goals as goal
 

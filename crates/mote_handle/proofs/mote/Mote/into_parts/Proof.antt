@@ -1,17 +1,17 @@
 -- `into_parts` gives the pointer its type again, where there is one. Assumes `Logic`.
-use Rattle.std.proofs.Common.{◌≡◌, List, [], ◌∷◌, ◌++◌, refl, subst, lit<, Bool, Option, true, false, None, Some}
+use Rattle.std.proofs.Common.{◌≡◌, List, [], ◌∷◌, ◌++◌, refl, subst, lit<, Bool, true, false, None, Some}
 use mir.Syntax.{Fn, impl, tnil, dnil}
 use mir.Raw.{raw as bare}
-use mir.Val.{Val, vptr, vcons, vnil}
+use mir.Val.{Val, vcons, vnil}
 use base.Logic.{SProp, emp, never, fst∗}
 use base.Fml.{ftrue}
 use prog.Wp.{WpFn}
 use contract.Monad.{fact, fact_i}
 use contract.Running.{tables}
-use types.Kit.{‵, raw, ◌⊛◌, prop, at_ret, ◌$◌, ◌∵◌, !, qed, by, move, keep, drop, use0, use1, split, regoal, fsplit, fjoin}
+use types.Kit.{‵, raw, ◌⊛◌, prop, at_ret, ◌$◌, ◌∵◌, !, qed, by, move, keep, use0, use1, split, regoal, fsplit, fjoin}
 use types.Part.{whole, sub, agg}
 use types.Match.{live}
-use types.Run.{stop, fld, of_opd, lit, true_lit, false_lit, no_more, and_then, first, branches, exec, returns, enter}
+use types.Run.{stop, fld, of_opd, lit, no_more, and_then, first, branches, exec, returns, enter}
 use types.ByLocal.{alloc_all, pass_all, free_all, look_at, get, get_in, sets, sets_last, env}
 use types.Logic.{sem}
 use denote.Exit.{yes}
@@ -33,12 +33,11 @@ use Rattle.std_alloc.proofs.ResultValues.{and_tt}
 use Rattle.std_heap.specs.contracts.Global as global
 use Rattle.std_heap.proofs.Global.TheLaws as global_laws
 use Rattle.std_heap.specs.contracts.GlobalAllocator.TheImpl.{ghosts}
-use Rattle.mote_handle.specs.contracts.open_mote.OpenMote as held
-use Rattle.mote_handle.specs.declared.open_mote.OpenMote.{OpenMote as Held}
 use Rattle.mote_handle.specs.Owned.{chunk}
-use Rattle.unboxed.proofs.Parts.{Parts, parts_val, parts_good, put, taken}
+use Rattle.mote_handle.specs.contracts.open_mote.OpenMote as held
+use Rattle.unboxed.proofs.Parts.{Parts, parts_val, parts_good, put}
 use Rattle.mote_handle.specs.contracts.mote.Mote.{the_row as Handle}
-use Rattle.mote_handle.proofs.Words.{mote_val, made, seen, by_state}
+use Rattle.mote_handle.proofs.Words.{mote_val, seen, by_state}
 use Rattle.core.proofs.atomic.Steps.{Ptr-Good}
 use Rattle.mote_handle.proofs.Words.{mote_good}
 use Rattle.mote_handle.specs.contracts.mote.Mote.into_parts.{ended, clauses}

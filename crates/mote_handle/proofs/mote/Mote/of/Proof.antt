@@ -1,44 +1,31 @@
 -- `of` keeps the pointer without its type. Assumes `Logic`.
-use Rattle.std.proofs.Common.{◌≡◌, List, [], ◌∷◌, ◌++◌, refl, subst, lit<, Bool, Option, true, false, None, Some}
-use mir.Syntax.{Fn, impl, tnil, dnil}
-use mir.Raw.{raw as bare}
-use mir.Val.{Val, vptr, vcons, vnil}
-use base.Logic.{SProp, emp, never, fst∗}
+use Rattle.std.proofs.Common.{◌≡◌, List, [], ◌∷◌, ◌++◌, refl, true, Some}
+use mir.Syntax.{Fn}
+use mir.Val.{Val}
+use base.Logic.{SProp, emp}
 use base.Fml.{ftrue}
 use prog.Wp.{WpFn}
 use contract.Monad.{fact, fact_i}
 use contract.Running.{tables}
-use types.Kit.{‵, raw, ◌⊛◌, prop, at_ret, ◌$◌, ◌∵◌, !, qed, by, move, keep, drop, use0, use1, split, regoal, fsplit, fjoin}
+use types.Kit.{‵, raw, ◌⊛◌, prop, ◌$◌, ◌∵◌, !, qed, by, move, keep, use0, split, regoal, fsplit, fjoin}
 use types.Part.{whole, sub, agg}
-use types.Match.{live}
-use types.Run.{stop, fld, of_opd, lit, true_lit, false_lit, no_more, and_then, first, branches, exec, returns, enter}
-use types.ByLocal.{alloc_all, pass_all, free_all, look_at, get, get_in, sets, sets_last, env}
-use types.Logic.{sem}
+use types.Run.{stop, fld, of_opd, true_lit, no_more, and_then, returns, enter}
+use types.ByLocal.{alloc_all, pass_all, free_all, look_at, get, get_in, sets}
 use denote.Exit.{yes}
-use denote.Memory.{lone}
-use denote.Param.{layout}
-use denote.RattleType.{RattleType, owns}
-use denote.RawPtr.{Ptr, block_ptr, null_ptr, in_a_block}
-use denote.Signature.{types_at, type_at, plain}
+use denote.RattleType.{owns}
+use denote.RawPtr.{Ptr, block_ptr}
+use denote.Signature.{types_at, plain}
 use denote.Steps.{nothing}
 use denote.Triple.Entry.{alive}
 use denote.Triple.Walked.{Stays, stay_dropped, walk_of}
-use Rattle.core.proofs.alloc.Calls.{Al, Goes-blank, handle_tells}
-use Rattle.core.proofs.alloc.Shapes.{after}
-use Rattle.core.proofs.cell.Inside.{Good}
-use Rattle.core.proofs.option.Made.{Some-of, none_of}
+use Rattle.core.proofs.alloc.Calls.{Goes-blank}
 use Rattle.std.proofs.raw_atomic.Walks.{proved_at, leaves}
-use Rattle.std_alloc.specs.Box.Ownership.{box_owns}
-use Rattle.std_alloc.proofs.ResultValues.{and_tt}
 use Rattle.std_heap.specs.contracts.Global as global
 use Rattle.std_heap.proofs.Global.TheLaws as global_laws
 use Rattle.std_heap.specs.contracts.GlobalAllocator.TheImpl.{ghosts}
 use Rattle.mote_handle.specs.contracts.open_mote.OpenMote as held
-use Rattle.mote_handle.specs.declared.open_mote.OpenMote.{OpenMote as Held}
-use Rattle.mote_handle.specs.Owned.{chunk}
-use Rattle.unboxed.proofs.Parts.{Parts, parts_val, parts_good, put, taken}
-use Rattle.mote_handle.specs.contracts.mote.Mote.{the_row as Handle}
-use Rattle.mote_handle.proofs.Words.{mote_val, made, seen, by_state}
+use Rattle.unboxed.proofs.Parts.{Parts, parts_val, parts_good, taken}
+use Rattle.mote_handle.proofs.Words.{mote_val, made}
 use Rattle.mote_handle.specs.contracts.mote.Mote.of.{ended, clauses}
 use Rattle.mote_handle.specs.contracts.mote.Mote.of.Key.{name as #self}
 use Rattle.mote_handle.proofs.mote.Mote.of.Statement.{statement}

@@ -1,4 +1,4 @@
-use Rattle.std.proofs.Common.{rules, Some, None}
+use Rattle.std.proofs.Common.{rules}
 use Rattle.plain_turns.proofs.call.PlainCall.process_call.Goals as goal
 
 pub returns-in_err-byte-in-2 : goal.returns-in_err-byte-in-2
