@@ -22,7 +22,7 @@ def test_comes_out_as_told(scenario):
 
 def test_there_are_as_many_as_the_pages_say():
     runs = sum(len(read_file(path)) for path in FILES if path.suffix == ".runs")
-    assert f"all {runs} worked runs" in (ROOT / "README.md").read_text()
+    assert f"all {runs} worked runs" in (ROOT / "docs/tested.md").read_text()
 
 
 @pytest.mark.parametrize("scenario", RUNS)

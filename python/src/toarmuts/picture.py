@@ -39,7 +39,8 @@ def _words(run: "Run", first: int | None, last: int | None, unfolded: bool) -> l
     words += ["--from", str(first)] if first is not None else []
     words += ["--to", str(last)] if last is not None else []
     words += ["--unfolded"] if unfolded else []
-    return [*words, "--", *(named.told for named in run.named)]
+    names = [named.told for named in run.named]
+    return [*words, *(["--"] if any(name.startswith("-") for name in names) else []), *names]
 
 
 def draw(run: "Run", *, first: int | None = None, last: int | None = None, unfolded: bool = False) -> str:
