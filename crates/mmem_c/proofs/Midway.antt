@@ -8,16 +8,17 @@ use Rattle.mmem_c.specs.declared.block.Block.{Block}
 use Rattle.mmem_c.specs.Stored.{places_told, stored, IsTable}
 use Rattle.mmem_c.specs.Code.Rows.{row_of, IsNext}
 use Rattle.mmem_c.proofs.Rows.{table_lies, table_of, told_some, room_is, at_is, live_below, live_is}
-use Rattle.mmem_c.proofs.Sliding.{AreSliding, sliding_first, sliding_more, inside, left, last_is_end, end_le_total}
+use Rattle.mmem_c.proofs.Sliding.{AreSliding, sliding_first, sliding_more, lowered_down, inside, left, last_is_end, end_le_total}
 use Rattle.mmem_c.proofs.Stores.{same_store, told-set}
 
 pub record IsMidway (old now : List Block) (before after : List ℕ) (end : ℕ) : Type 0 where
   pub size : length after ≡ length before
   pub sliding : AreSliding (length before) (sum_by room_of (places_told old)) end (places_told now)
   pub store : stored now after ≡ stored old before
+  pub down : (j : ℕ) → at_of (place_in (places_told now) j) ≤ at_of (place_in (places_told old) j)
 
 pub midway_first : (table : List Block) (buffer : List ℕ) → IsTable table (length buffer) → IsMidway table table buffer buffer 0
-midway_first table buffer sound = record { size = refl; sliding = sliding_first (length buffer) (places_told table) (table_lies table (length buffer) sound); store = refl }
+midway_first table buffer sound = record { size = refl; sliding = sliding_first (length buffer) (places_told table) (table_lies table (length buffer) sound); store = refl; down = λ j. omega arith }
 
 module _ (old now : List Block) (before after : List ℕ) (end : ℕ) (midway : IsMidway old now before after end) where
   module _ (i : ℕ) (next : IsNext now end (length now) (Some i)) where
@@ -57,6 +58,8 @@ module _ (old now : List Block) (before after : List ℕ) (end : ℕ) (midway : 
               ∙ blocks-moved (places_told now) i place live after end fits next.2
               (left (length before) total end (places_told now) midway.sliding i place live next.2 lowest))
               ∙ midway.store;
+          down = λ j. let t = ap (λ places. at_of (place_in places j)) told in
+              omega (arith, lowered_down (length before) total end (places_told now) midway.sliding i place live next.2 lowest j, midway.down j);
         }
 
   -- all have slid down

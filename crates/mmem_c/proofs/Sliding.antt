@@ -143,6 +143,12 @@ module _ (size total end : ℕ) (xs : List (Option Place)) (sliding : AreSliding
         let all : to_slide end (place_in xs i) ≡ more = let a = at_i in let r = room_i in grind (arith, nat_tests) in
         omega (arith, sliding.together, sum_less (to_slide end) (to_slide (end + more)) xs i more lowered below (λ j. fewer_to_slide end more (place_in xs j)) (omega (arith, none, all)))
 
+    pub lowered_down : (j : ℕ) → at_of (place_in ys j) ≤ at_of (place_in xs j)
+    lowered_down j = elim (cases_eq j i) [
+      | inl e ↦ let a = ap at_of (here j e) in let b = ap (λ k. at_of (place_in xs k)) e in let c = at_i in omega (arith, behind)
+      | inr ne ↦ let a = ap at_of (there j ne) in omega arith
+    ]
+
     pub sliding_more : AreSliding size total (end + up4 place.len) ys
     sliding_more = record {
       apart = record { inside = moved_inside; apart = moved_apart; no_empty = moved_some };

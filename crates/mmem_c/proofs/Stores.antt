@@ -9,7 +9,7 @@ use Rattle.arena_core.proofs.Ranges.{length-written}
 use Rattle.mmem_core.proofs.PlaceLemmas.{place_in-set_same, place_in-set_other, len_le_room, end_le_last, last_end-added, LieApart-from, IsLaidOut-none}
 use Rattle.mmem_core.proofs.StoreLemmas.{block_in, get_or-blocks, no_place, sum_same, blocks-added, unused-added}
 use Rattle.mmem_c.specs.declared.block.Block.{Block}
-use Rattle.mmem_c.specs.Stored.{place_told, places_told, stored, IsTable, process_of, handle_of, unused_store}
+use Rattle.mmem_c.specs.Stored.{place_told, places_told, stored, IsTable, LieNoHigher, process_of, handle_of, unused_store}
 use Rattle.mmem_c.specs.Answers.{Answer, is_live, answer_to}
 use Rattle.mmem_c.specs.Code.Rows.{row_of}
 use Rattle.mmem_c.proofs.Rows.{table_lies, table_of, number_is, told_some, live_is, unused_is}
@@ -272,3 +272,15 @@ module _ (table : List Block) (buffer : List ℕ) (i size : ℕ) (below : i < le
       unfolding choice
       answer_allocated le = after_use Answer.Allocated
           (sym (ap (λ b. choice false false b (fits (process_of i) size store)) (ne_eqb size 0 some) ∙ ap (choice false false false) (le-leb (up4 size) (free (process_of i) store) (omega (arith, free_is)))))
+
+-- where blocks moved down, and one was given to a handle that had none, none lies higher
+pub no_higher : (old now : List Block) (i : ℕ) (row : Block) → (row_of old i).size ≡ 0
+    → ((j : ℕ) → at_of (place_in (places_told now) j) ≤ at_of (place_in (places_told old) j)) → LieNoHigher old (slice_set now i row)
+no_higher old now i row none down j before after e f = elim (cases_eq j i) [
+  | inl same ↦ absurd (let gone = unused_is old i none in cc)
+  | inr ne ↦
+      let told = ap (λ places. at_of (place_in places j)) (told-set now i row) in
+      let still = ap at_of (place_in-set_other (places_told now) i j (place_told row) ne) in
+      let a = ap at_of e in let b = ap at_of f in
+      omega (arith, down j)
+]

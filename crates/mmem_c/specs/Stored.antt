@@ -34,6 +34,10 @@ pub record IsTable (table : List Block) (capacity : ℕ) : Type 0 where
   pub apart : (i j : ℕ) (one other : Place) → i ≢ j → place_in (places_told table) i ≡ Some one → place_in (places_told table) j ≡ Some other
       → AreApart (part_of one) (part_of other)
 
+-- each block that a table has and had lies where it lay, or below
+abbrev pub LieNoHigher : List Block → List Block → Type 0
+LieNoHigher before after = (i : ℕ) (old new : Place) → place_in (places_told before) i ≡ Some old → place_in (places_told after) i ≡ Some new → new.at ≤ old.at
+
 -- a handle as a name of mmem_core's: sixteen of them to a process, the first ones to process 3
 abbrev pub process_of : ℕ → ℕ
 process_of handle = 3 + handle / 16

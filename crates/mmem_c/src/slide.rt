@@ -1,12 +1,12 @@
 //! How blocks slide together, and where a new one comes.
 
-ghost use Rattle.std.specs.Prelude.{◌≡◌, ◌+◌, ◌-◌, ◌≤◌, ◌<◌, length, sum_by, slice_range, slice_set, IsSomeAnd};
+ghost use Rattle.std.specs.Prelude.{◌≡◌, ℕ, ◌+◌, ◌-◌, ◌≤◌, ◌<◌, length, sum_by, slice_range, slice_set, IsSomeAnd};
 ghost use Rattle.mote_types.specs.Bytes.{zeros};
 ghost use Rattle.mote_types.specs.Rounding.{up4};
 ghost use Rattle.arena_core.specs.Written.{written};
 ghost use Rattle.mmem_core.specs.ManagedStore.{allocated};
 ghost use Rattle.mmem_core.specs.Places.{place_in, last_end};
-ghost use Rattle.mmem_core.specs.Code.Laid.{room_of};
+ghost use Rattle.mmem_core.specs.Code.Laid.{at_of, room_of};
 ghost use Rattle.mmem_c.specs.Stored.{places_told, stored, IsTable, process_of, handle_of};
 ghost use Rattle.mmem_c.specs.Code.Rows.{row_of, IsNext};
 
@@ -58,6 +58,7 @@ fn slide_together(blocks: &mut [Block], buffer: &mut [u8]) -> usize
     ensures end { result ≡ last_end (places_told blocks.new) }
     ensures inside { result ≤ length buffer.new }
     ensures together { result ≤ sum_by room_of (places_told blocks.old) }
+    ensures down { (i : ℕ) → at_of (place_in (places_told blocks.new) i) ≤ at_of (place_in (places_told blocks.old) i) }
 {
     let mut end = 0;
     while let Some(number) = next_from(blocks, end) {
@@ -81,6 +82,7 @@ pub fn make_room(blocks: &mut [Block], buffer: &mut [u8], size: usize) -> usize
     ensures store { stored blocks.new buffer.new ≡ stored blocks.old buffer.old }
     ensures end { result ≡ last_end (places_told blocks.new) }
     ensures room { result + up4 size ≤ length buffer.new }
+    ensures down { (i : ℕ) → at_of (place_in (places_told blocks.new) i) ≤ at_of (place_in (places_told blocks.old) i) }
     ensures still { last_end (places_told blocks.old) + up4 size ≤ length buffer.old → (blocks.new ≡ blocks.old) × (buffer.new ≡ buffer.old) }
     ensures together { length buffer.old < last_end (places_told blocks.old) + up4 size → result ≤ sum_by room_of (places_told blocks.old) }
 {

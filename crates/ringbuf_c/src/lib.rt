@@ -5,7 +5,7 @@
 //! answered as one that is full, to who puts, and as one that is empty, to who gets.
 #![tactic(auto)]
 
-ghost use Rattle.std.specs.Prelude.{◌≡◌, ◌+◌, ◌≤◌, ◌<◌, ◌↔◌, List, [], ◌∷◌, ◌++◌, length, true, false, IsTrue};
+ghost use Rattle.std.specs.Prelude.{◌≡◌, ◌+◌, ◌≤◌, ◌<◌, ◌↔◌, List, [], ◌∷◌, ◌++◌, length, slice_set, true, false, IsTrue};
 ghost use Rattle.ringbuf_c.specs.Queues.{IsRing, queued, room};
 
 /// Whether bytes and places are a ring.
@@ -38,6 +38,7 @@ pub extern "C" fn toarmuts_ringbuf_put(bytes: &mut [u8], put: &mut u8, get: u8, 
     ensures taken { result ≡ true → IsRing bytes.old put.old get × (length (queued bytes.old put.old get) < room bytes.old) }
     ensures ring { result ≡ true → IsRing bytes.new put.new get }
     ensures queue { result ≡ true → queued bytes.new put.new get ≡ queued bytes.old put.old get ++ (byte ∷ []) }
+    ensures others { result ≡ true → bytes.new ≡ slice_set bytes.old put.old byte }
     ensures unchanged { result ≡ false → (bytes.new ≡ bytes.old) × (put.new ≡ put.old) }
 {
     if !is_ring(bytes, *put, get) {

@@ -1,6 +1,6 @@
 /*
  * Lists through the first pointer of the caller's structs: list.h of Contiki-NG, in plain C. It is tested, and not proved. For
- * the native target, x86-64 and aarch64.
+ * the native target, x86-64 and aarch64. Applications that run on the mote have this header, too.
  *
  * To be kept by the caller: the first bytes of an item are a pointer that nothing but these calls writes while the item is in a
  * list, an item is in one list at most and stays where it is, and one thread uses a list.
@@ -8,7 +8,7 @@
 #ifndef LIST_H_
 #define LIST_H_
 
-#include "toarmuts/common.h"
+#include "../toarmuts/common.h"
 
 TOARMUTS_BEGIN
 

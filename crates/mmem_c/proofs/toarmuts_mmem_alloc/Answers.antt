@@ -1,9 +1,10 @@
-use Rattle.std.proofs.Common.{ap, ◌∙◌, arith}
+use Rattle.std.proofs.Common.{sym, subst, ap, ◌∙◌, arith}
 use Rattle.mote_types.specs.Rounding.{up4}
 use Rattle.mmem_core.specs.ManagedStore.{unused, allocated}
 use Rattle.mmem_c.specs.Answers.{number_of_answer}
-use Rattle.mmem_c.specs.Stored.{process_of, handle_of}
-use Rattle.mmem_c.proofs.Stores.{unused_left, unused_after, none_told, too_many, still_unused, answer_in_use, answer_no_bytes, answer_no_room, answer_allocated}
+use Rattle.mmem_c.specs.declared.block.Block.{Block}
+use Rattle.mmem_c.specs.Stored.{LieNoHigher, process_of, handle_of}
+use Rattle.mmem_c.proofs.Stores.{unused_left, unused_after, none_told, too_many, still_unused, answer_in_use, answer_no_bytes, answer_no_room, answer_allocated, no_higher}
 use Rattle.mmem_c.proofs.toarmuts_mmem_alloc.Goals as goal
 
 pub returns-then-has_block-clause-answer : goal.returns-then-has_block-clause-answer
@@ -43,3 +44,10 @@ returns-clause-together c done over =
     let taken = ap (allocated (process_of i) (handle_of i) c.args.size) c.make_room-place.ensures.store in
     let left = ap unused (c.put_last.ensures.store ∙ taken) ∙ unused_after table buffer i c.args.size c.if-handle-blocks.false none in
     omega (arith, left, unused_left table buffer apart, c.put_last.ensures.last, c.make_room-place.ensures.together over, c.fits.ensures.0 c.if-not-fits.false, c.left_over.ensures)
+
+pub returns-clause-down : goal.returns-clause-down
+returns-clause-down c done =
+    let table = c.args.blocks.now in let i = c.args.handle in
+    let none = none_told table i c.has_block.result c.if-has_block.false c.has_block.ensures in
+    let block : Block = record { place = c.make_room-place.result; size = c.args.size } in
+    subst (LieNoHigher table) (sym c.put_last.ensures.row) (no_higher table c.make_room-place.new.blocks i block none c.make_room-place.ensures.down)
