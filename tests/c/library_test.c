@@ -7,6 +7,9 @@
 #include <stdlib.h>
 #include <string.h>
 
+#define FOUR "hello\nhello\nhello\nhello\n"
+#define SIXTEEN FOUR FOUR FOUR FOUR
+
 static int passed, failed;
 
 static void
@@ -44,9 +47,37 @@ check_answers(void)
   answer = run(defaults, "hello\nnobody", "", transcript, sizeof transcript);
   check("no application", answer.status == TOARMUTS_NO_APPLICATION && answer.line == 2 && answer.length == 0);
   check("no text", run(defaults, "\xff", "", transcript, sizeof transcript).status == TOARMUTS_NOT_TEXT);
-  check("many", run(defaults, "hello\nhello\nhello\nhello\nhello\nhello\nhello\nhello\nhello\nhello\nhello\nhello\nhello\nhello\nhello\nhello\nhello",
-                    "", transcript, sizeof transcript).status == TOARMUTS_TOO_MANY_APPLICATIONS);
+  check("many", run(defaults, SIXTEEN "hello", "", transcript, sizeof transcript).status == TOARMUTS_TOO_MANY_APPLICATIONS);
   check("bad sizes", run(sizes, "hello", "", transcript, sizeof transcript).status == TOARMUTS_BAD_SIZES);
+}
+
+/* Of two reasons that hold at once the first in the table of docs/library.md is told. */
+static void
+check_two_reasons(void)
+{
+  static const struct toarmuts_configuration good = TOARMUTS_DEFAULTS, bad = {6, 4096, 16, 0, 0, 0};
+  static const struct {
+    const char *name, *applications;
+    bool is_bad;
+    uint32_t status;
+    uint64_t line;
+  } wanted[] = {
+    {"no text, and no application", "nobody\n\xff", false, TOARMUTS_NOT_TEXT, 0},
+    {"no text, and too many", SIXTEEN "hello\n\xff", false, TOARMUTS_NOT_TEXT, 0},
+    {"no text, and bad sizes", "\xff", true, TOARMUTS_NOT_TEXT, 0},
+    {"no application, and another", "hello\nnobody\ncalls nothing\n", false, TOARMUTS_NO_APPLICATION, 2},
+    {"no list of calls, and no application", "hello\nhello\ncalls kill 256\nnobody\n", false, TOARMUTS_NO_APPLICATION, 3},
+    {"no application, and too many", "hello\nnobody\n" SIXTEEN, false, TOARMUTS_NO_APPLICATION, 2},
+    {"no application, and bad sizes", "nobody\n", true, TOARMUTS_NO_APPLICATION, 1},
+    {"too many, the last of which is none", SIXTEEN "nobody\n", false, TOARMUTS_TOO_MANY_APPLICATIONS, 0},
+    {"too many, and bad sizes", SIXTEEN "hello\n", true, TOARMUTS_TOO_MANY_APPLICATIONS, 0},
+    {"bad sizes, and no room", "hello\n", true, TOARMUTS_BAD_SIZES, 0},
+  };
+  uint8_t transcript[1];
+  for(size_t i = 0; i < sizeof wanted / sizeof wanted[0]; i++) {
+    struct toarmuts_answer answer = run(wanted[i].is_bad ? bad : good, wanted[i].applications, "", transcript, 0);
+    check(wanted[i].name, answer.status == wanted[i].status && answer.line == wanted[i].line && answer.length == 0);
+  }
 }
 
 static uint32_t
@@ -107,6 +138,7 @@ main(int count, char **words)
   bool holds = true;
   long calls = count > 1 ? atol(words[1]) : 1000;
   check_answers();
+  check_two_reasons();
   while(holds && calls-- > 0) {
     holds = is_answered();
   }

@@ -1,22 +1,25 @@
 -- Examples: which calls texts make, and which they don't; what has which name; what is no number.
-use Rattle.std.proofs.Common.{◌≡◌, ◌∙◌, ℕ, List, [], ◌∷◌, ◌++◌, inl, inr, refl, sym, ap, subst, drop, codes, get_or, Some, arith}
-use Rattle.std.proofs.lemmas.List.Elements.{All-cons, All-nil}
+use Rattle.std.proofs.Common.{◌≡◌, ◌∙◌, ◌<◌, ◌≤◌, ℕ, zero, suc, false, List, [], ◌∷◌, ◌++◌, inl, inr, refl, sym, ap, subst, drop, codes, get_or, replicate, Some, arith}
+use Rattle.std.proofs.lemmas.List.Elements.{All-cons, All-nil, All-replicate}
+use Rattle.std.specs.Char.{is_ascii_digit}
 use Rattle.std.specs.Fmt.{digits}
 use Rattle.std.specs.List.{join_by}
 use Rattle.hex.specs.Hex.{encode_with}
 use Rattle.mote_apps.specs.declared.bundled.Bundled.{Bundled}
 use Rattle.mote_apps.specs.declared.steps.Steps.{Steps}
 use Rattle.mote_text.proofs.Ticks.{read_decimal}
-use Rattle.mote_text.specs.EntryText.{spaced}
+use Rattle.mote_text.specs.Code.EntryLines.{spaced}
 use Rattle.mote_text.specs.Script.{read_number}
 use Rattle.mote_types.specs.declared.call.Call.{Call}
 use Rattle.mote_types.specs.declared.event.Payload.{Payload}
 use denote.Ref.{Bor}
 use Rattle.call_lists.specs.Applications.{IsNamed}
 use Rattle.call_lists.specs.Calls.{AreMade, AreOfParts, AreWaits, IsCall, IsListOf, hex_lowered}
-use Rattle.call_lists.specs.Faults.{IsNoNumber, LiesOutside}
+use Rattle.call_lists.specs.Faults.{IsNoCall, IsNoList, IsNoName, IsNoNumber, LiesOutside}
+use Rattle.call_lists.specs.Ranges.{ArePossible, IsChunk, IsPayload, IsPossible}
 use Rattle.call_lists.specs.declared.applications.Application.{Application}
 use Rattle.call_lists.specs.declared.fault.CallFault.{CallFault}
+use Rattle.call_lists.proofs.Only.{call_letter}
 
 kill : IsCall (codes "kill 4") (Call.Kill 4)
 unfolding digits spaced
@@ -135,3 +138,80 @@ another_bound told is = let bounds_differ : ◌≡◌ {A = ℕ} 1 0 = is.1 in ab
 
 another_fault : (word : List ℕ) → IsNoNumber word 0 255 CallFault.TooManyCalls → ⊥
 another_fault word is = is
+
+-- ---- the calls that there are, and what is refused
+
+largest : IsPossible (Call.TimerSet 255 4294967295)
+largest = (omega arith, omega arith)
+
+no_byte : IsPossible (Call.Kill 256) → ⊥
+no_byte is = let over : 256 < 256 = is in absurd (omega arith)
+
+no_place : IsPossible (Call.PacketRead 4294967296 1) → ⊥
+no_place is = let over : 4294967296 < 4294967296 = is.0 in absurd (omega arith)
+
+no_length : IsPossible (Call.PacketRead 0 256) → ⊥
+no_length is = let over : 256 < 256 = is.1 in absurd (omega arith)
+
+bytes_of_255 : (n i : ℕ) → get_or (replicate n 255) i 0 < 256
+bytes_of_255 zero i = omega arith
+bytes_of_255 (suc n) zero = omega arith
+bytes_of_255 (suc n) (suc i) = bytes_of_255 n i
+
+longest : IsChunk (record { items = replicate 64 255 })
+longest = (omega arith, bytes_of_255 64)
+
+too_long : IsChunk (record { items = replicate 65 0 }) → ⊥
+too_long is = let over : 65 ≤ 64 = is.0 in absurd (omega arith)
+
+no_bytes : IsChunk (record { items = 256 ∷ [] }) → ⊥
+no_bytes is = let over : 256 < 256 = is.1 0 in absurd (omega arith)
+
+too_long_a_line : IsPayload (Payload.Line (record { items = replicate 128 0 })) → ⊥
+too_long_a_line is = let over : 128 ≤ 127 = is.0 in absurd (omega arith)
+
+too_large_a_value : IsPayload (Payload.Num 4294967296) → ⊥
+too_large_a_value is = let over : 4294967296 < 4294967296 = is in absurd (omega arith)
+
+-- a text that is no call's begins with a digit, say, or with nothing
+no_call : IsNoCall (codes "4 kill")
+no_call call possible is = absurd (both (call_letter (codes "4 kill") call possible is))
+  where
+    both : is_ascii_digit 52 ≡ false → ⊥
+    both letter = cc letter
+
+a_call : IsNoCall (codes "kill 4") → ⊥
+a_call none = none (Call.Kill 4) (omega arith) kill
+
+-- a list of one call, behind which 127 are to wait
+waits : (n : ℕ) → ArePossible (replicate n Call.Wait)
+waits zero = tt
+waits (suc n) = (tt, waits n)
+
+abbrev exits : List Call
+exits = Call.Exit ∷ replicate 127 Call.Wait
+
+a_list : IsNoList (codes "exit") → ⊥
+a_list none = none exits (tt, waits 127) refl listed
+  where
+    listed : IsListOf (codes "exit") exits
+    listed =
+        record {
+          parts = codes "exit" ∷ [];
+          made = Call.Exit ∷ [];
+          waits = replicate 127 Call.Wait;
+          is_text = refl;
+          are_of_parts = (Call.Exit ∷ [], [], refl, inl (refl, (exit, tt)), refl);
+          are_calls = refl;
+          are_waits = All-replicate (λ call. call ≡ Call.Wait) 127 Call.Wait refl;
+        }
+
+-- and a name is one of the mote's, or the watcher's
+no_name : IsNoName (codes "nobody")
+no_name = (refl, λ is. let letters_differ : ◌≡◌ {A = ℕ} 110 99 = ap (λ text. get_or text 0 0) is in absurd (omega arith))
+
+a_name : IsNoName (codes "hello") → ⊥
+a_name none = cc none.0
+
+the_watcher : IsNoName (codes "clock-watcher") → ⊥
+the_watcher none = none.1 refl

@@ -1,5 +1,9 @@
+pub mod Cuts
 mod Examples
 pub mod Filling
+pub mod Fitting
 pub mod Lowered
+pub mod Only
 pub mod Parting
+pub mod Possible
 pub mod Taken

@@ -1,7 +1,10 @@
--- Why words name no application, and why a word is no number.
-use Rattle.std.specs.Prelude.{◌≡◌, ◌≢◌, ◌<◌, ◌⊎◌, ⊤, ℕ, List, codes, Option, Some, None}
+-- Why words name no application, no call and no list of calls, and why a word is no number.
+use Rattle.std.specs.Prelude.{◌≡◌, ◌≢◌, ◌<◌, ◌⊎◌, ⊤, ℕ, List, length, codes, Option, Some, None}
 use Rattle.mote_apps.specs.Bundled.{named}
 use Rattle.mote_text.specs.Script.{read_number}
+use Rattle.mote_types.specs.declared.call.Call.{Call}
+use Rattle.call_lists.specs.Calls.{IsCall, IsListOf}
+use Rattle.call_lists.specs.Ranges.{ArePossible, IsPossible}
 use Rattle.call_lists.specs.declared.fault.CallFault.{CallFault}
 
 -- no application has this name
@@ -12,6 +15,14 @@ IsNoName name = (named name ≡ None) × (name ≢ codes "clock-watcher")
 abbrev pub TellsNoName : List ℕ → CallFault → Type 0
 TellsNoName name (CallFault.NoApplication told) = (told.now ≡ name) × IsNoName name
 TellsNoName name fault = ⊥
+
+-- no call that there is has these words
+abbrev pub IsNoCall : List ℕ → Type 0
+IsNoCall text = (call : Call) → IsPossible call → IsCall text call → ⊥
+
+-- no 128 calls that there are, among them those that only wait, are a list of this text
+abbrev pub IsNoList : List ℕ → Type 0
+IsNoList text = (calls : List Call) → ArePossible calls → length calls ≡ 128 → IsListOf text calls → ⊥
 
 abbrev pub LiesOutside : ℕ → ℕ → Option ℕ → Type 0
 LiesOutside least most None = ⊤

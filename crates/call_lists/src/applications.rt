@@ -1,10 +1,13 @@
 //! The applications of a run: those that have a name, and lists of calls.
 
-ghost use Rattle.std.specs.Prelude.{◌≡◌, ◌≤◌, ◌<◌, ◌++◌, length, IfErr, IfOk, IfSome, OnOk};
+ghost use Rattle.std.specs.Prelude.{◌≡◌, ◌≤◌, ◌<◌, ◌+◌, ◌++◌, ℕ, List, codes, length, slice_index, IfErr, IfOk, IfSome, IsSome, OnErr, OnOk};
+ghost use Rattle.std.specs.Char.{is_ascii_digit};
+ghost use Rattle.mote_types.specs.declared.call.Call.{Call as Asked};
 ghost use Rattle.call_lists.specs.Applications.{application_says, IsListed, IsNamed};
-ghost use Rattle.call_lists.specs.Calls.{AreWaits};
-ghost use Rattle.call_lists.specs.Faults.{TellsNoName};
-ghost use Rattle.call_lists.specs.Code.Lists.{ArePut, IsCounted, IsPartPut, behind_comma};
+ghost use Rattle.call_lists.specs.Calls.{AreCalls, AreMade, AreWaits};
+ghost use Rattle.call_lists.specs.Faults.{IsNoList, TellsNoName};
+ghost use Rattle.call_lists.specs.Ranges.{ArePossible};
+ghost use Rattle.call_lists.specs.Code.Lists.{ArePut, HasParts, IsCounted, IsPartPut, behind_comma};
 
 use crate::calls::call_of;
 use crate::fault::CallFault;
@@ -60,9 +63,10 @@ impl Application {
     ///
     /// # Errors
     ///
-    /// The first call that has no form, or `TooManyCalls`.
+    /// Exactly where no 128 calls are a list of this text: the first call that has no form, or `TooManyCalls`.
     pub fn listed(text: &str) -> Result<Self, CallFault<'_>>
-        ensures { IfOk result (IsListed text.now) }
+        ensures listed { IfOk result (IsListed text.now) }
+        ensures refused { OnErr result (IsNoList text.now) }
     {
         let mut calls = waits();
         if !text.is_empty() {
@@ -81,7 +85,9 @@ fn waits() -> [Call; 128]
 
 /// Puts the calls of a text that isn't empty to the front of the list.
 fn put_calls<'a>(calls: &mut [Call], text: &'a str) -> Result<(), CallFault<'a>>
-    ensures { OnOk result (ArePut text.now calls.old calls.new) }
+    requires { length calls.old ≤ 128 }
+    ensures put { OnOk result (ArePut text.now calls.old calls.new) }
+    ensures refused { OnErr result (HasParts text.now 0 (length calls.old) → ⊥) }
 {
     let mut place = 0;
     let mut left = Some(text);
@@ -97,6 +103,7 @@ fn put_calls<'a>(calls: &mut [Call], text: &'a str) -> Result<(), CallFault<'a>>
 fn cut_at_comma(text: &str) -> (&str, Option<&str>)
     ensures parts { text.now ≡ result.0.now ++ behind_comma result.1 }
     ensures fewer { IfSome result.1 (λ others. length others.now < length text.now) }
+    ensures first { (front rest : List ℕ) → text.now ≡ front ++ (codes ", " ++ rest) → (length result.0.now ≤ length front) × IsSome result.1 }
 {
     match text.split_once(", ") {
         Some((part, others)) => (part, Some(others)),
@@ -107,8 +114,11 @@ fn cut_at_comma(text: &str) -> (&str, Option<&str>)
 /// Puts the call of one part into the list, from a place on, as often as the number in front of it says. The answer is the
 /// place behind.
 fn put_part<'a>(calls: &mut [Call], place: usize, part: &'a str) -> Result<usize, CallFault<'a>>
-    requires { place ≤ length calls.old }
-    ensures { IfOk result (IsPartPut part.now place calls.old calls.new) }
+    requires place { place ≤ length calls.old }
+    requires few { length calls.old ≤ 128 }
+    ensures put { IfOk result (IsPartPut part.now place calls.old calls.new) }
+    ensures end { IfOk result (λ end. (made : List Asked) → ArePossible made → AreMade part.now made → length made ≤ 128 → end ≡ place + length made) }
+    ensures refused { IfErr result (λ _. (made : List Asked) → ArePossible made → AreMade part.now made → length calls.old < place + length made) }
 {
     let (count, words) = counted(part)?;
     let mut end = place;
@@ -124,13 +134,23 @@ fn put_part<'a>(calls: &mut [Call], place: usize, part: &'a str) -> Result<usize
 
 /// A text without the number in front of it, where it has one, and that number; else 1.
 fn counted(text: &str) -> Result<(u32, &str), CallFault<'_>>
-    ensures { IfOk result (λ counted. IsCounted text.now counted.0 counted.1.now) }
+    ensures counted { IfOk result (λ counted. IsCounted text.now counted.0 counted.1.now) }
+    ensures only { IfOk result (λ counted. (made : List Asked) → ArePossible made → AreMade text.now made → length made ≤ 128 →
+        (length made ≡ counted.0) × AreCalls counted.1.now made) }
+    ensures refused { IfErr result (λ _. (made : List Asked) → ArePossible made → AreMade text.now made → 128 < length made) }
 {
+    if !begins_with_digit(text) {
+        return Ok((1, text));
+    }
     let (count, rest) = parted(text);
     match rest {
-        Some(rest) if count.starts_with(|c: char| c.is_ascii_digit()) => {
-            Ok((number_of(count, 1, 128)?, rest))
-        }
-        _ => Ok((1, text)),
+        Some(rest) => Ok((number_of(count, 1, 128)?, rest)),
+        None => Ok((1, text)),
     }
+}
+
+fn begins_with_digit(text: &str) -> bool
+    ensures { result ≡ is_ascii_digit (slice_index text.now 0) }
+{
+    text.as_bytes().first().is_some_and(u8::is_ascii_digit)
 }

@@ -1,7 +1,9 @@
 //! From the words of a call to the call. They are those that a transcript shows.
 
-ghost use Rattle.std.specs.Prelude.{IfOk};
+ghost use Rattle.std.specs.Prelude.{◌≡◌, IfOk, OnErr};
 ghost use Rattle.call_lists.specs.Calls.{IsCall};
+ghost use Rattle.call_lists.specs.Faults.{IsNoCall};
+ghost use Rattle.call_lists.specs.Code.Readings.{block_words, device_words, left_by_call, left_in, pool_words, process_words};
 ghost use Rattle.call_lists.specs.Code.Words.{IsTaken};
 
 use crate::fault::CallFault;
@@ -9,9 +11,10 @@ use crate::words::Words;
 use mote_types::call::Call;
 
 /// A call on pools and lists.
-#[tactic(auto, unfolding(mote_text::specs::EntryText::spaced))]
+#[tactic(auto, unfolding(mote_text::specs::Code::EntryLines::spaced))]
 fn pool_call(words: &mut Words<'_>) -> Call
-    ensures { IsTaken words.old result words.new }
+    ensures taken { IsTaken words.old result words.new }
+    ensures left { left_in words.new ≡ left_by_call (pool_words words.old.name.now) (left_in words.old) }
 {
     match words.name() {
         "memb-alloc" => Call::MembAlloc(words.small()),
@@ -41,9 +44,10 @@ fn pool_call(words: &mut Words<'_>) -> Call
 }
 
 /// A call on managed memory, heap memory, pools and lists.
-#[tactic(auto, unfolding(mote_text::specs::EntryText::spaced))]
+#[tactic(auto, unfolding(mote_text::specs::Code::EntryLines::spaced))]
 fn block_call(words: &mut Words<'_>) -> Call
-    ensures { IsTaken words.old result words.new }
+    ensures taken { IsTaken words.old result words.new }
+    ensures left { left_in words.new ≡ left_by_call (block_words words.old.name.now) (left_in words.old) }
 {
     match words.name() {
         "mmem-alloc" => Call::MmemAlloc(words.small(), words.number()),
@@ -63,9 +67,10 @@ fn block_call(words: &mut Words<'_>) -> Call
 }
 
 /// A call on timers and packets, or on blocks.
-#[tactic(auto, unfolding(mote_text::specs::EntryText::spaced))]
+#[tactic(auto, unfolding(mote_text::specs::Code::EntryLines::spaced))]
 fn device_call(words: &mut Words<'_>) -> Call
-    ensures { IsTaken words.old result words.new }
+    ensures taken { IsTaken words.old result words.new }
+    ensures left { left_in words.new ≡ left_by_call (device_words words.old.name.now) (left_in words.old) }
 {
     match words.name() {
         "timer-set" => Call::TimerSet(words.small(), words.number()),
@@ -85,9 +90,10 @@ fn device_call(words: &mut Words<'_>) -> Call
 }
 
 /// A call on events and processes, or on devices.
-#[tactic(auto, unfolding(mote_text::specs::EntryText::spaced))]
+#[tactic(auto, unfolding(mote_text::specs::Code::EntryLines::spaced))]
 fn process_call(words: &mut Words<'_>) -> Call
-    ensures { IsTaken words.old result words.new }
+    ensures taken { IsTaken words.old result words.new }
+    ensures left { left_in words.new ≡ left_by_call (process_words words.old.name.now) (left_in words.old) }
 {
     match words.name() {
         "post" => Call::Post(words.small(), words.small(), words.payload()),
@@ -110,9 +116,10 @@ fn process_call(words: &mut Words<'_>) -> Call
 ///
 /// # Errors
 ///
-/// No call has this name, or one of its words is lacking, too much, or of no form.
+/// Exactly where no call has these words: no call has this name, or one of its words is lacking, too much, or of no form.
 pub fn call_of(text: &str) -> Result<Call, CallFault<'_>>
-    ensures { IfOk result (IsCall text.now) }
+    ensures taken { IfOk result (IsCall text.now) }
+    ensures refused { OnErr result (IsNoCall text.now) }
 {
     let mut words = Words::of(text);
     let call = process_call(&mut words);

@@ -1,11 +1,12 @@
 //! The words of a call: its numbers, and bytes in hex.
 
-ghost use Rattle.std.specs.Prelude.{◌≡◌, ◌≤◌, ◌++◌, [], ◌∷◌, decimal, None, IfErr, IfOk, IfSome, IsSome, OnOk};
+ghost use Rattle.std.specs.Prelude.{◌≡◌, ◌≢◌, ◌≤◌, ◌++◌, ℕ, Bool, false, if◌then◌else◌, List, [], ◌∷◌, decimal, is_ok, is_some, Option, Some, None, IfErr, IfNone, IfOk, IfSome, IsSome, OnErr, OnOk};
 ghost use Rattle.hex.specs.Hex.{decode_of};
 ghost use Rattle.mote_text.specs.EntryText.{hex, payload_word};
 ghost use Rattle.mote_text.specs.Script.{read_number};
 ghost use Rattle.call_lists.specs.Faults.{IsNoNumber};
 ghost use Rattle.call_lists.specs.Calls.{hex_lowered};
+ghost use Rattle.call_lists.specs.Code.Readings.{behind_first, first_word, is_chunk, is_hex, is_payload, is_small, is_wide, left_by, left_in};
 ghost use Rattle.call_lists.specs.Code.Words.{AreTaken, behind};
 
 use crate::fault::CallFault;
@@ -25,7 +26,9 @@ pub(crate) struct Words<'a> {
 
 /// A text's first word, and what stands behind it.
 pub(crate) fn parted(text: &str) -> (&str, Option<&str>)
-    ensures { text.now ≡ result.0.now ++ behind result.1 }
+    ensures text { text.now ≡ result.0.now ++ behind result.1 }
+    ensures word { result.0.now ≡ first_word text.now }
+    ensures left { behind result.1 ≡ behind_first text.now }
 {
     match text.split_once(' ') {
         Some((word, rest)) => (word, Some(rest)),
@@ -36,6 +39,8 @@ pub(crate) fn parted(text: &str) -> (&str, Option<&str>)
 impl<'a> Words<'a> {
     pub(crate) fn of(text: &'a str) -> Self
         ensures text { text.now ≡ result.name.now ++ behind result.rest }
+        ensures name { result.name.now ≡ first_word text.now }
+        ensures left { left_in result ≡ Some (behind_first text.now) }
         ensures faultless { result.fault ≡ None }
     {
         let (name, rest) = parted(text);
@@ -55,6 +60,7 @@ impl<'a> Words<'a> {
 
     pub(crate) fn note(&mut self, fault: CallFault<'a>)
         ensures fault { IsSome self.new.fault }
+        ensures left { left_in self.new ≡ None }
     {
         if self.fault.is_none() {
             self.fault = Some(fault);
@@ -63,7 +69,8 @@ impl<'a> Words<'a> {
 
     /// The next word; an empty one where it is lacking.
     fn next(&mut self) -> &'a str
-        ensures { AreTaken self.old (hex_lowered result.now ∷ []) self.new }
+        ensures taken { AreTaken self.old (hex_lowered result.now ∷ []) self.new }
+        ensures left { (is_word : List ℕ → Bool) → left_by is_word (left_in self.old) ≡ (if is_word result.now then left_in self.new else None) }
     {
         let Some(rest) = self.rest else {
             self.note(CallFault::TooFewWords(self.name));
@@ -77,7 +84,8 @@ impl<'a> Words<'a> {
     /// The next word's number, from 0 to 255.
     #[tactic(auto, using(crate::proofs::Lowered::lowered_number))]
     pub(crate) fn small(&mut self) -> u8
-        ensures { AreTaken self.old (decimal result ∷ []) self.new }
+        ensures taken { AreTaken self.old (decimal result ∷ []) self.new }
+        ensures left { left_in self.new ≡ left_by is_small (left_in self.old) }
     {
         let word = self.next();
         match number_of(word, 0, 255) {
@@ -92,7 +100,8 @@ impl<'a> Words<'a> {
     /// The next word's number.
     #[tactic(auto, using(crate::proofs::Lowered::lowered_number))]
     pub(crate) fn number(&mut self) -> u32
-        ensures { AreTaken self.old (decimal result ∷ []) self.new }
+        ensures taken { AreTaken self.old (decimal result ∷ []) self.new }
+        ensures left { left_in self.new ≡ left_by is_wide (left_in self.old) }
     {
         let word = self.next();
         match number_of(word, 0, u32::MAX) {
@@ -107,7 +116,8 @@ impl<'a> Words<'a> {
     /// The bytes that the next word has in hex, a dash where there are none.
     #[tactic(auto, using(crate::proofs::Lowered::lowered_hex))]
     pub(crate) fn chunk(&mut self) -> Chunk
-        ensures { AreTaken self.old (hex result.items ∷ []) self.new }
+        ensures taken { AreTaken self.old (hex result.items ∷ []) self.new }
+        ensures left { left_in self.new ≡ left_by is_chunk (left_in self.old) }
     {
         let word = self.next();
         if word == "-" {
@@ -124,7 +134,8 @@ impl<'a> Words<'a> {
 
     /// What an event carries: a dash, a number, or a line in hex behind an `x`.
     pub(crate) fn payload(&mut self) -> Payload
-        ensures { AreTaken self.old (payload_word result ∷ []) self.new }
+        ensures taken { AreTaken self.old (payload_word result ∷ []) self.new }
+        ensures left { left_in self.new ≡ left_by is_payload (left_in self.old) }
     {
         let word = self.next();
         match payload_of(word) {
@@ -142,7 +153,8 @@ impl<'a> Words<'a> {
     ///
     /// The first fault.
     pub(crate) fn finish(mut self) -> Result<(), CallFault<'a>>
-        ensures { OnOk result ((self.entry.fault ≡ None) × (self.entry.rest ≡ None)) }
+        ensures taken { OnOk result ((self.entry.fault ≡ None) × (self.entry.rest ≡ None)) }
+        ensures refused { OnErr result (left_in self.entry ≢ Some []) }
     {
         if let Some(rest) = self.rest {
             self.note(CallFault::TooManyWords(rest));
@@ -177,7 +189,8 @@ pub fn number_of(word: &str, least: u32, most: u32) -> Result<u32, CallFault<'_>
 /// `NoHex` or `NoNumber` where it is of no form.
 #[tactic(auto, using(crate::proofs::Lowered::lowered_number, crate::proofs::Lowered::lowered_hex))]
 fn payload_of(word: &str) -> Result<Payload, CallFault<'_>>
-    ensures { IfOk result (λ payload. hex_lowered word.now ≡ payload_word payload) }
+    ensures taken { IfOk result (λ payload. hex_lowered word.now ≡ payload_word payload) }
+    ensures form { is_payload word.now ≡ is_ok result }
 {
     if word == "-" {
         return Ok(Payload::Empty);
@@ -196,7 +209,8 @@ fn payload_of(word: &str) -> Result<Payload, CallFault<'_>>
 
 /// The bytes of these hex digits, of which there are at most `N`.
 fn bytes_of<const N: usize>(digits: &str) -> Option<ArrayVec<u8, N>>
-    ensures { IfSome result (λ bytes. decode_of digits.now ≡ Ok bytes.items) }
+    ensures bytes { IfSome result (λ bytes. decode_of digits.now ≡ Ok bytes.items) }
+    ensures form { is_hex N digits.now ≡ is_some result }
 {
     let mut room = [0; N];
     let length = digits.len() / 2;

@@ -1,7 +1,8 @@
 -- The names that most proofs here cite, passed on from one place. Declares nothing.
 pub use Rattle.device_core.specs.Code.Taking.{takes_all}
 unfoldable pub use Rattle.device_core.specs.PacketQueue.{free_slot}
-pub use Rattle.device_core.specs.PacketQueue.{IsWellFormed, PacketQueue, is_full, is_held, no_packets, receiver_number, with_frame}
+pub use Rattle.device_core.specs.PacketQueue.{PacketQueue, is_full, is_held, no_packets, with_frame}
+pub use Rattle.device_core.specs.Code.HeldFrames.{IsWellFormed, receiver_number}
 pub use Rattle.device_core.specs.SerialLine.{SerialLine, after_byte, after_bytes, after_line, is_line_end, line_of, next_line, with_bytes}
 pub use Rattle.device_core.specs.declared.frame.Frame.{Frame}
 pub use Rattle.std.proofs.lemmas.Bool.Decides.{eqb_tells, nat_tests}

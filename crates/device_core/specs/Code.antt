@@ -1,3 +1,4 @@
 -- The code's own invariants.
+pub mod HeldFrames
 pub mod PacketFields
 pub mod Taking

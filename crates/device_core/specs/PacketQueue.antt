@@ -1,8 +1,7 @@
 -- Packets: the frames that are held, in the order in which they came.
-use Rattle.std.specs.Prelude.{ℕ, ◌+◌, ◌-◌, ◌<◌, ◌≤◌, Bool, false, not, List, [], ◌∷◌, ◌++◌, length, drop, map, Option, Some, None, IfSome, if◌then◌else◌, ◌==◌, eqb, nat_lt, slice_get}
-use Rattle.std.specs.List.{list_any, find, IsDistinct, All}
+use Rattle.std.specs.Prelude.{ℕ, ◌+◌, ◌-◌, Bool, false, not, List, [], ◌∷◌, ◌++◌, length, drop, Option, Some, None, if◌then◌else◌, ◌==◌, nat_lt, slice_get}
+use Rattle.std.specs.List.{list_any, find}
 use Rattle.std.specs.Option.{option_map, option_map_or}
-use Rattle.mote_types.specs.declared.event.Pid.{Pid}
 use Rattle.device_core.specs.declared.frame.Frame.{Frame}
 
 pub record PacketQueue : Type 0 where
@@ -12,9 +11,6 @@ pub record PacketQueue : Type 0 where
   pub announced : ℕ
   -- the application that receives
   pub receiver : Option ℕ
-
-abbrev pub receiver_number : Pid → ℕ
-receiver_number pid = pid.0
 
 -- no frame has come yet, and no process has asked for them
 abbrev pub no_packets : PacketQueue
@@ -33,10 +29,6 @@ free_slot queue = find (λ slot. not (is_held queue slot)) (0 ∷ 1 ∷ 2 ∷ 3 
 
 abbrev pub with_frame : ℕ → ℕ → PacketQueue → PacketQueue
 with_frame slot len queue = record queue { frames = queue.frames ++ record { slot = slot; len = len } ∷ [] }
-
--- a frame has come: it is held under the free slot, if there is one
-abbrev pub arrived : ℕ → PacketQueue → PacketQueue
-arrived len queue = option_map_or (λ slot. with_frame slot len queue) (free_slot queue) queue
 
 -- the frame that came first
 abbrev pub front : PacketQueue → Option Frame
@@ -70,13 +62,3 @@ without_receiver queue = record queue { receiver = None; announced = 0 }
 -- p has ended
 abbrev pub forgotten : ℕ → PacketQueue → PacketQueue
 forgotten p queue = if is_receiver queue p then without_receiver queue else queue
-
--- what holds of every queue
-pub record IsWellFormed (queue : PacketQueue) : Type 0 where
-  pub few : length queue.frames ≤ 8
-  -- no two frames have the same slot
-  pub distinct : IsDistinct eqb (map (λ frame. frame.slot) queue.frames)
-  pub slots : All (λ frame. frame.slot < 8) queue.frames
-  pub told : queue.announced ≤ length queue.frames
-  -- the receiver is an application
-  pub receiver : IfSome queue.receiver (λ p. (4 ≤ p) × (p ≤ 19))

@@ -3,7 +3,9 @@
 ghost use Rattle.std.specs.Prelude.{◌≡◌, ◌<◌, ◌≤◌, ◌↔◌, true, false, length, Some, None, IsNone, IsSome, IfSome};
 ghost use Rattle.std.specs.Option.{option_map};
 ghost use Rattle.device_core.specs.PacketQueue as packets;
-ghost use Rattle.device_core.specs.PacketQueue.{no_packets, is_full, IsWellFormed};
+ghost use Rattle.device_core.specs.Code.HeldFrames as packets_heldframes;
+ghost use Rattle.device_core.specs.PacketQueue.{no_packets, is_full};
+ghost use Rattle.device_core.specs.Code.HeldFrames.{IsWellFormed};
 
 use crate::frame::Frame;
 use arrayvec::ArrayVec;
@@ -27,7 +29,7 @@ pub struct PacketQueue {
 impl Model for PacketQueue {
     ghost use Rattle.device_core.specs.PacketQueue.{PacketQueue as Packets};
     ghost use Rattle.device_core.specs.Code.PacketFields.{packets_of};
-    ghost use Rattle.device_core.specs.PacketQueue.{IsWellFormed};
+    ghost use Rattle.device_core.specs.Code.HeldFrames.{IsWellFormed};
 
     ghost Value = { Packets };
 
@@ -53,7 +55,7 @@ impl PacketQueue {
     pub fn arrive(&mut self, len: u8) -> Option<u8>
         ensures refused { IsNone result ↔ (is_full self.old ≡ true) }
         ensures slot { result ≡ packets.free_slot self.old }
-        ensures value { self.new ≡ packets.arrived len self.old }
+        ensures value { self.new ≡ packets_heldframes.arrived len self.old }
         ensures held { IfSome result (λ slot. self.new ≡ packets.with_frame slot len self.old) }
         ensures unused { IfSome result (λ slot. (slot < 8) × (packets.is_held self.old slot ≡ false)) }
     {
@@ -72,7 +74,7 @@ impl PacketQueue {
 
     /// The application that frames are for, if there is one.
     pub fn receiver(&self) -> Option<Pid>
-        ensures { option_map packets.receiver_number result ≡ self.now.receiver }
+        ensures { option_map packets_heldframes.receiver_number result ≡ self.now.receiver }
     {
         self.receiver
     }

@@ -16,7 +16,8 @@ pub use Rattle.arena_core.specs.Extents.{AreApart, Extent, LiesIn}
 pub use Rattle.arena_core.specs.Outside.{ChangesOnly}
 pub use Rattle.arena_core.specs.Written.{written}
 pub use Rattle.arena_core.specs.declared.span.Span.{Span}
-pub use Rattle.mote_types.specs.BlockNames.{IsName, number_of}
+pub use Rattle.mote_types.specs.BlockNames.{number_of}
+pub use Rattle.mote_types.specs.Conditions.{IsName}
 pub use Rattle.mote_types.specs.Bytes.{overwritten, resized, zeros}
 pub use Rattle.heap_core.specs.Chunks.{AreJoined, BeginsLive, FREED, IsWhole, Tell, blocks_in, chunks_from, is_a_name, is_named, least_len, link_in, number_in, owner_in, size_in, with_chunk, word_at}
 unfoldable pub use Rattle.heap_core.specs.Chunks.{chunk_at, shortest}
@@ -30,7 +31,9 @@ pub use Rattle.heap_core.specs.Code.PlacedBlocks.{at_place, block_in_chunk, byte
 unfoldable pub use Rattle.heap_core.specs.Code.ChunkRanges.{chunks_before, chunks_behind, chunks_between}
 pub use Rattle.heap_core.specs.FreeList.{AreFreed, FreedLinked, GapsLinked, LinkedTo, LiveIn, Meets, NoneAt, Stands, behind_link, free_chunks, gaps_among, unnamed, with_free}
 pub use Rattle.heap_core.specs.HeapBytes.{IsLaidOut, IsWithin, KeepsToSpan, heap_of, linked_of}
-pub use Rattle.heap_core.specs.HeapStore.{Block, HeapStore, IsHeaderLength, LieApart, LieInOrder, allocated, best_gap, better, block_of, end_of, find_block, footprint, freed, gap_at, gap_between, gaps, gaps_from, has_name, least_room, length_of, live_place, moved, new_place, place, place_in, place_of, placed, reallocated, resized_block, room_in_place, room_taken, shorter, stats_of, top_gap, top_place, with_block, with_bytes, without_block}
+pub use Rattle.heap_core.specs.HeapStore.{Block, HeapStore, allocated, best_gap, better, block_of, end_of, find_block, footprint, freed, gap_at, gap_between, gaps, gaps_from, has_name, least_room, moved, new_place, place, place_in, place_of, placed, reallocated, resized_block, room_in_place, room_taken, shorter, stats_of, top_gap, top_place, with_block, with_bytes, without_block}
+pub use Rattle.heap_core.specs.Conditions.{IsHeaderLength, length_of, live_place}
+pub use Rattle.heap_core.specs.Code.BlockOrder.{LieApart, LieInOrder}
 unfoldable pub use Rattle.heap_core.specs.HeapStore.{block_at}
 pub use Rattle.heap_core.specs.Layout.{HasChunks, store_of}
 unfoldable pub use Rattle.heap_core.specs.Layout.{chunks_of}

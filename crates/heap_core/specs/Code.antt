@@ -1,3 +1,4 @@
+pub mod BlockOrder
 pub mod ChunkRanges
 pub mod FreeBytes
 pub mod Holes

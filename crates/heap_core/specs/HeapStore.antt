@@ -1,5 +1,5 @@
 -- Heap memory as its users see it: blocks that have a place in the region, and the gaps between them.
-use Rattle.std.specs.Prelude.{◌≡◌, ℕ, ◌+◌, ◌-◌, ◌*◌, ◌%◌, ◌≤◌, ◌⊎◌, max, Bool, not, List, [], ◌∷◌, length, map, filter, find, fold, sum_by, Option, Some, None, if◌then◌else◌, ◌==◌, nat_lt, nat_le}
+use Rattle.std.specs.Prelude.{ℕ, ◌+◌, ◌-◌, ◌*◌, max, Bool, not, List, [], ◌∷◌, length, map, filter, find, fold, sum_by, Option, Some, None, if◌then◌else◌, ◌==◌, nat_lt, nat_le}
 use Rattle.std.specs.Option.{option_map, option_map_or, option_or}
 use Rattle.mote_types.specs.declared.reply.HeapStats.{HeapStats}
 use Rattle.mote_types.specs.Rounding.{up4}
@@ -36,10 +36,6 @@ find_block name heap = find (has_name name) heap.blocks
 -- the bytes of p's block, if it is live
 abbrev pub block_of : ℕ → ℕ → HeapStore → Option (List ℕ)
 block_of p h heap = option_map (λ (block : Block). block.bytes) (find_block (number_of p h) heap)
-
--- the length of p's block, as it was asked for
-abbrev pub length_of : ℕ → ℕ → HeapStore → Option ℕ
-length_of p h heap = option_map length (block_of p h heap)
 
 -- where the block's extent ends
 abbrev pub end_of : ℕ → Block → ℕ
@@ -133,10 +129,6 @@ gap_at at heap = option_map_or (λ (gap : Gap). gap.len) (find (λ (gap : Gap). 
 abbrev pub place_of : Block → Place
 place_of block = record { at = block.at; room = block.room }
 
--- where p's block lies, if it is live
-abbrev pub live_place : ℕ → ℕ → HeapStore → Option Place
-live_place p h heap = option_map place_of (find_block (number_of p h) heap)
-
 -- the room that the block at a place has once it is resized to n bytes where it is, if it can be: of its room, and of the gap
 -- that begins where it ends
 abbrev pub room_in_place : Place → ℕ → HeapStore → Option ℕ
@@ -185,21 +177,3 @@ stats_of heap =
       footprint = footprint heap;
       chunks = length heap.blocks;
     }
-
--- each of these blocks begins where the one before ends, or behind that, and its bytes fit its room; the last ends within size
-abbrev pub LieInOrder : ℕ → ℕ → List Block → ℕ → Type 0
-LieInOrder header from [] size = from ≤ size
-LieInOrder header from (block ∷ blocks) size =
-    (from ≤ block.at) × (length block.bytes ≤ block.room) × LieInOrder header (end_of header block) blocks size
-
--- the blocks lie in the region, and no two of them share a byte
-abbrev pub LieApart : HeapStore → Type 0
-LieApart heap = LieInOrder heap.header 0 heap.blocks heap.size
-
--- the lengths that a header may have
-abbrev pub IsHeaderLength : ℕ → Type 0
-IsHeaderLength header = (header ≡ 16) ⊎ (header ≡ 8)
-
--- the sizes that a heap region may have
-abbrev pub IsHeapSize : ℕ → Type 0
-IsHeapSize size = (20 ≤ size) × (size ≤ 65536) × (size % 4 ≡ 0)

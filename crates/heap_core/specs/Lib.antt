@@ -1,5 +1,6 @@
 -- what a reader must believe
 pub mod Chunks
+pub mod Conditions
 pub mod FreeList
 pub mod HeapBytes
 pub mod HeapStore

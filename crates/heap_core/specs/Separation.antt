@@ -1,7 +1,8 @@
 -- Where the live blocks lie in the arena.
 use Rattle.std.specs.Prelude.{◌≡◌, ◌≢◌, ℕ, ◌+◌, ◌≤◌, ◌⊎◌, List, length, Option, Some}
 use Rattle.std.specs.Option.{option_map}
-use Rattle.mote_types.specs.BlockNames.{IsName, number_of}
+use Rattle.mote_types.specs.BlockNames.{number_of}
+use Rattle.mote_types.specs.Conditions.{IsName}
 use Rattle.mote_types.specs.Bytes.{range_of}
 use Rattle.arena_core.specs.Extents.{Extent, LiesIn, AreApart}
 use Rattle.heap_core.specs.declared.heap.Heap.{Heap}

@@ -1,8 +1,10 @@
 //! The heap, and the calls on blocks.
 
 ghost use Rattle.std.specs.Prelude.{◌≡◌, ℕ, List, ◌+◌, ◌≤◌, ◌<◌, ◌↔◌, length, All, IsNone, IfNone, OnSome, IsSome, IsSomeAnd, Some, None};
-ghost use Rattle.mote_types.specs.BlockNames.{IsName};
-ghost use Rattle.heap_core.specs.HeapStore.{IsHeapSize, IsHeaderLength, empty_heap, least_room, block_of, length_of, live_place, place, allocated, freed, reallocated, with_bytes, stats_of, gaps, LieApart};
+ghost use Rattle.mote_types.specs.Conditions.{IsName};
+ghost use Rattle.heap_core.specs.HeapStore.{empty_heap, least_room, block_of, place, allocated, freed, reallocated, with_bytes, stats_of, gaps};
+ghost use Rattle.heap_core.specs.Conditions.{IsHeapSize, IsHeaderLength, length_of, live_place};
+ghost use Rattle.heap_core.specs.Code.BlockOrder.{LieApart};
 
 use crate::chunk::Place;
 use crate::region::Region;

@@ -16,7 +16,8 @@ pub use Rattle.kernel_core.specs.Run.{Answers, Running, after_step, after_steps,
 pub use Rattle.kernel_core.specs.SerialProcess.{broadcast_line, line_count, line_served, post_continue, serial_line, serve_line}
 pub use Rattle.kernel_core.specs.TimerProcesses.{exited_application, is_any_due, post_due, post_first_due}
 pub use Rattle.kernel_core.specs.declared.fields.KernelFields.{KernelFields}
-pub use Rattle.mote_types.specs.Applications.{Applications, Says, fold_says, says_of}
+pub use Rattle.mote_types.specs.Applications.{Applications, Says, says_of}
+pub use Rattle.mote_types.specs.StateMachines.{fold_says}
 pub use Rattle.mote_types.specs.Codes.{number_event, plain_event}
 pub use Rattle.mote_types.specs.EventNumbers.{CONTINUE, EXIT, EXITED, INIT, PACKET, POLL, SERIAL_LINE, TIMER}
 pub use Rattle.mote_types.specs.declared.call.Call.{Call}
@@ -32,7 +33,8 @@ pub use Rattle.process_core.specs.Code.LonePoll.{IsLonePoll, unmarked}
 pub use Rattle.process_core.specs.Code.SchedulerView.{SchedulerView, awaiting_nothing, job_of}
 pub use Rattle.process_core.specs.Idle.{is_empty, is_idle}
 pub use Rattle.process_core.specs.Processes.{is_any_marked, is_kernel_process, is_process, numbers, without}
-pub use Rattle.process_core.specs.Scheduler.{ComesTo, Scheduler, after_front, after_front_of, after_item, after_items, at_boot, delivery, first_event, has_room, in_front, job, job_at, job_of_event, job_of_give, job_of_item, of_event, wants_round}
+pub use Rattle.process_core.specs.Scheduler.{Scheduler, after_front, after_front_of, after_item, at_boot, delivery, first_event, has_room, in_front, job, job_at, job_of_event, job_of_give, job_of_item, of_event, wants_round}
+pub use Rattle.process_core.specs.Code.Items.{ComesTo, after_items}
 pub use Rattle.process_core.specs.declared.process.Process.{Process}
 pub use Rattle.std.proofs.lemmas.Bool.Decides.{nat_tests}
 pub use Rattle.std.proofs.lemmas.List.{get_or-replicate, get_or-set_same, length-map, length-replicate, length-set}

@@ -3,7 +3,8 @@ use Rattle.kernel_core.proofs.Common.{nat_tests, list_any, AllByRecursion, IsDis
 use Rattle.std.proofs.Common.{◌≡◌, ◌≢◌, ◌∙◌, ℕ, Bool, true, false, List, [], ◌∷◌, ◌++◌, length, ap, sym, arith, refl, ◌<◌, ◌≤◌, Option, Some, None, eqb, map, is_some, if◌then◌else◌, ◌==◌, ◌||◌, slice_get, drop}
 use Rattle.device_core.specs.declared.frame.Frame.{Frame}
 use Rattle.mote_types.specs.BlockNames.{number_of}
-use Rattle.node_memory.specs.Frames.{frame_in, frame_taken, frame_dropped}
+use Rattle.node_memory.specs.Frames.{frame_taken, frame_dropped}
+use Rattle.node_memory.specs.Conditions.{frame_in}
 use Rattle.node_memory.specs.declared.sizes.Sizes.{Sizes}
 use Rattle.node_memory.specs.Separation.{BlockName, LeavesOthers, changed_block, frame_block}
 use Rattle.heap_core.specs.HeapStore.{HeapStore}

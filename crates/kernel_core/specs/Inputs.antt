@@ -1,5 +1,5 @@
 -- What an input does to the mote.
-use Rattle.std.specs.Prelude.{ℕ, ◌+◌, Bool, true, not, List, length, Option, Some, None, if◌then◌else◌, nat_lt}
+use Rattle.std.specs.Prelude.{ℕ, ◌+◌, not, List, length, Option, Some, None, if◌then◌else◌}
 use Rattle.mote_types.specs.declared.entry.Entry.{Entry}
 use Rattle.mote_types.specs.declared.entry.Input.{Input}
 use Rattle.mote_types.specs.declared.entry.Note.{Note}
@@ -50,13 +50,3 @@ effect (Input.Frame bytes) m = frame_arrived bytes.items m
 -- the input is handed in: its entry comes first, and the work counts from 0 again
 abbrev pub fed : Input → Machine → Machine
 fed input m = shown_first (Entry.Input input) (effect input (record m { work = 0 }))
-
--- by how much an input moves the clock
-abbrev pub ticks_of : Input → ℕ
-ticks_of (Input.Tick n) = n
-ticks_of _ = 0
-
--- a frame has at least one byte
-abbrev pub has_bytes : Input → Bool
-has_bytes (Input.Frame bytes) = nat_lt 0 (length bytes.items)
-has_bytes _ = true

@@ -1,5 +1,6 @@
 -- What a reader has to believe.
 pub mod Calls
+pub mod Conditions
 pub mod Expiries
 pub mod Inputs
 pub mod KernelProcesses

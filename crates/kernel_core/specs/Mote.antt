@@ -1,6 +1,5 @@
 -- What contracts see of a kernel.
-use Rattle.std.specs.Prelude.{ℕ, ◌<◌}
-use Rattle.kernel_core.specs.declared.step.Step.{Step}
+use Rattle.std.specs.Prelude.{ℕ}
 use Rattle.kernel_core.specs.Machine.{Machine}
 
 pub record Mote : Type 0 where
@@ -9,8 +8,3 @@ pub record Mote : Type 0 where
   pub inputs : ℕ
   -- the most entries that it can still make before it rests
   pub entries_left : ℕ
-
--- an entry that is made is one less that can be made
-abbrev pub TakesEntry : Step → Mote → Mote → Type 0
-TakesEntry (Step.Entry entry) old new = new.entries_left < old.entries_left
-TakesEntry _ old new = Unit {0}

@@ -6,10 +6,11 @@ ghost use Rattle.std.specs.List.{list_any};
 ghost use Rattle.mote_types.specs.Applications.{says_of};
 ghost use Rattle.mote_types.specs.Entries.{is_halt};
 ghost use Rattle.mote_types.specs.declared.event.Stimulus.{Stimulus as ToldStimulus};
-ghost use Rattle.kernel_core.specs.Inputs.{fed, has_bytes, ticks_of};
+ghost use Rattle.kernel_core.specs.Inputs.{fed};
+ghost use Rattle.kernel_core.specs.Conditions.{has_bytes, ticks_of};
 ghost use Rattle.kernel_core.specs.Run.{heard, is_at_rest};
 ghost use Rattle.kernel_core.specs.Code.Steps.{GoesOn, made};
-ghost use Rattle.kernel_core.specs.Mote.{TakesEntry};
+ghost use Rattle.kernel_core.specs.Conditions.{TakesEntry};
 
 use crate::kernel::Kernel;
 use crate::step::{Step, StepOutcome};

@@ -10,8 +10,9 @@ ghost use Rattle.kernel_core.specs.Code.View.{HoldsFrames, machine_of, no_pendin
 ghost use Rattle.process_core.specs.Code.NextJobs.{job_told};
 ghost use Rattle.process_core.specs.declared.next_job.NextJob as ready;
 ghost use Rattle.process_core.specs.Code.SchedulerView.{job_of, turn_of, callback_of};
-ghost use Rattle.process_core.specs.Processes.{IsApplication, numbers};
-ghost use Rattle.process_core.specs.Scheduler.{IsWellFormed};
+ghost use Rattle.process_core.specs.Processes.{numbers};
+ghost use Rattle.process_core.specs.Conditions.{IsApplication};
+ghost use Rattle.process_core.specs.Code.Invariant.{IsWellFormed};
 ghost use Rattle.kernel_core.specs.Code.Draws.{HasQueueableEvents, IsQueueableJob, drawn_in_all, draws_of_job};
 ghost use Rattle.kernel_core.specs.Code.Cost.{IsPaid, costs, present};
 ghost use Rattle.kernel_core.specs.Code.View.{ComesToJob};

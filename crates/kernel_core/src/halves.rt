@@ -7,7 +7,7 @@ ghost use Rattle.mote_types.specs.Entries.{is_halt};
 ghost use Rattle.kernel_core.specs.Calls.{after_call};
 ghost use Rattle.kernel_core.specs.Code.OpenTurns.{AwaitsCall, IsMidTurn};
 ghost use Rattle.kernel_core.specs.Code.View.{entries_left_in, machine_of, mote_of, IsInOrder};
-ghost use Rattle.kernel_core.specs.Mote.{TakesEntry};
+ghost use Rattle.kernel_core.specs.Conditions.{TakesEntry};
 ghost use Rattle.kernel_core.specs.Run.{Answers, heard};
 ghost use Rattle.kernel_core.specs.Code.Steps.{GoesOn, made as made_by, stepped};
 

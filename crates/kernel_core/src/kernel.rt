@@ -7,10 +7,11 @@ ghost use Rattle.mote_types.specs.Entries.{is_halt};
 ghost use Rattle.mote_types.specs.declared.event.Stimulus.{Stimulus as ToldStimulus};
 ghost use Rattle.kernel_core.specs.Machine.{is_bootable, booted};
 ghost use Rattle.kernel_core.specs.Code.IdleRound.{has_idle_round};
-ghost use Rattle.kernel_core.specs.Inputs.{fed, has_bytes, ticks_of};
+ghost use Rattle.kernel_core.specs.Inputs.{fed};
+ghost use Rattle.kernel_core.specs.Conditions.{has_bytes, ticks_of};
 ghost use Rattle.kernel_core.specs.Run.{Answers, heard, is_at_rest};
 ghost use Rattle.kernel_core.specs.Code.Steps.{GoesOn, made, made as made_by, stepped};
-ghost use Rattle.kernel_core.specs.Mote.{TakesEntry};
+ghost use Rattle.kernel_core.specs.Conditions.{TakesEntry};
 
 use crate::config::Config;
 use crate::fields::KernelFields;

@@ -1,10 +1,10 @@
 //! Process 0 (etimer), which posts the timers that have run out, and process 1 (ctimer), for callback timers.
 
 ghost use Rattle.std.specs.Prelude.{◌≡◌, ◌≤◌, ◌<◌, ◌+◌, ◌^◌, true, false, length, Some};
-ghost use Rattle.process_core.specs.Requests.{called_back};
+ghost use Rattle.process_core.specs.Code.Items.{called_back};
 ghost use Rattle.process_core.specs.Scheduler.{has_room};
 ghost use Rattle.process_core.specs.Code.SchedulerView.{awaiting_nothing};
-ghost use Rattle.timer_core.specs.Names.{IsNamed};
+ghost use Rattle.timer_core.specs.Conditions.{IsNamed};
 ghost use Rattle.timer_core.specs.declared.timer.Timer.{Timer};
 ghost use Rattle.mote_types.specs.Codes.{number_event};
 ghost use Rattle.kernel_core.specs.Code.Draws.{HasQueueableEvents, drawn_in_all};

@@ -5,7 +5,7 @@ ghost use Rattle.std.specs.List.{list_any};
 ghost use Rattle.mote_types.specs.Entries.{is_halt};
 ghost use Rattle.kernel_core.specs.Code.OpenTurns.{AwaitsCall, IsMidTurn};
 ghost use Rattle.kernel_core.specs.Code.View.{entries_left_in, machine_of, mote_of, no_pending_entries, IsInOrder};
-ghost use Rattle.kernel_core.specs.Mote.{TakesEntry};
+ghost use Rattle.kernel_core.specs.Conditions.{TakesEntry};
 ghost use Rattle.kernel_core.specs.Run.{Answers, heard};
 ghost use Rattle.kernel_core.specs.Code.Steps.{GoesOn, made as made_by, stepped};
 

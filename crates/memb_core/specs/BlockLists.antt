@@ -1,7 +1,6 @@
 -- The lists of a pool as their users see them: block numbers in order, the head first.
-use Rattle.std.specs.Prelude.{ℕ, ◌-◌, Bool, not, List, [], ◌∷◌, ◌++◌, length, take, drop, filter, slice_get, Option, Some, None, if◌then◌else◌, ◌==◌}
+use Rattle.std.specs.Prelude.{ℕ, ◌-◌, Bool, not, List, [], ◌∷◌, ◌++◌, length, take, drop, filter, slice_get, Option, None, if◌then◌else◌, ◌==◌}
 use Rattle.std.specs.List.{list_any}
-use Rattle.memb_core.specs.declared.list_name.ListName.{ListName}
 
 abbrev pub has_number : ℕ → List ℕ → Bool
 has_number b list = list_any (λ other. other == b) list
@@ -44,8 +43,3 @@ popped list = drop 1 list
 -- without the tail
 abbrev pub chopped : List ℕ → List ℕ
 chopped list = take (length list - 1) list
-
--- the one of two lists that has b
-abbrev pub holder_of : ℕ → List ℕ → List ℕ → Option ListName
-holder_of b first second =
-    if has_number b first then Some ListName.First else if has_number b second then Some ListName.Second else None

@@ -3,7 +3,8 @@ use Rattle.mmem_core.proofs.Words.{◌≡◌, ◌≢◌, ℕ, zero, suc, ◌==�
 use Rattle.std.specs.Prelude.{IsTrue, ◌↔◌, is_some, nat_le}
 use Rattle.std.proofs.lemmas.Bool.{false≢true, le-leb, lt-leb}
 use Rattle.mote_types.specs.Bytes.{range_of}
-use Rattle.mmem_core.specs.ManagedStore.{fits, length_of}
+use Rattle.mmem_core.specs.ManagedStore.{fits}
+use Rattle.mmem_core.specs.Conditions.{length_of}
 use Rattle.mmem_core.specs.declared.place.Place.{Place}
 use Rattle.arena_core.proofs.Ranges.{length-written}
 use Rattle.mmem_core.proofs.PlaceLemmas.{place_in-set_same, place_in-set_other, len_le_room, end_le_last, last_end-added, LieApart-from, IsLaidOut-none}

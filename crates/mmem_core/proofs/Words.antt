@@ -13,7 +13,8 @@ pub use Rattle.arena_core.specs.Contents.{Contents, contents}
 pub use Rattle.arena_core.specs.Outside.{ChangesOnly}
 pub use Rattle.arena_core.specs.Written.{written}
 pub use Rattle.arena_core.specs.declared.span.Span.{Span}
-pub use Rattle.mote_types.specs.BlockNames.{IsName, number_of}
+pub use Rattle.mote_types.specs.BlockNames.{number_of}
+pub use Rattle.mote_types.specs.Conditions.{IsName}
 pub use Rattle.mote_types.specs.Bytes.{overwritten, zeros}
 pub use Rattle.mote_types.specs.Rounding.{up4}
 pub use Rattle.mmem_core.specs.Code.Laid.{AreLaid, IsLaidOut, LieApart, at_of, room_of}

@@ -1,7 +1,8 @@
 -- what a reader must believe
+pub mod Conditions
+pub mod HandleTable
 pub mod ManagedStore
 pub mod Places
 pub mod Separation
-pub mod HandleTable
 -- the code's own invariants
 pub mod Code

@@ -1,8 +1,8 @@
 -- Managed memory as its users see it: a map from handles of processes to byte lists. A block has no place in it, and the
 -- blocks have no order.
-use Rattle.std.specs.Prelude.{◌≡◌, ℕ, ◌-◌, ◌%◌, ◌≤◌, Bool, List, [], length, replicate, get_or, slice_set, sum_by, nat_le, Option, Some, None, unwrap_or}
+use Rattle.std.specs.Prelude.{ℕ, ◌-◌, Bool, List, [], length, replicate, get_or, slice_set, sum_by, nat_le, Option, Some, None, unwrap_or}
 use Rattle.std.specs.List.{range_with_len}
-use Rattle.std.specs.Option.{option_map, option_map_or}
+use Rattle.std.specs.Option.{option_map_or}
 use Rattle.mote_types.specs.BlockNames.{number_of}
 use Rattle.mote_types.specs.declared.refusal.Refusal.{Refusal}
 use Rattle.mote_types.specs.Rounding.{up4}
@@ -21,10 +21,6 @@ empty_store capacity quota = record { capacity = capacity; quota = quota; blocks
 -- the bytes of p's block, if it is live
 abbrev pub block_of : ℕ → ℕ → ManagedStore → Option (List ℕ)
 block_of p handle store = get_or store.blocks (number_of p handle) None
-
--- the length of p's block, if it is live
-abbrev pub length_of : ℕ → ℕ → ManagedStore → Option ℕ
-length_of p handle store = option_map length (block_of p handle store)
 
 -- what a block takes: its length, rounded up
 abbrev pub size_of : Option (List ℕ) → ℕ
@@ -75,7 +71,3 @@ with_bytes p handle at bytes store = with_block p handle (Some (overwritten at b
 -- all bytes of p's block stand at the front of q's
 abbrev pub copied : ℕ → ℕ → ℕ → ℕ → ManagedStore → ManagedStore
 copied p source q target store = with_bytes q target 0 (bytes_of p source store) store
-
--- the sizes that a managed region may have
-abbrev pub IsManagedSize : ℕ → Type 0
-IsManagedSize size = (4 ≤ size) × (size ≤ 65536) × (size % 4 ≡ 0)

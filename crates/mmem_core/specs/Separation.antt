@@ -1,7 +1,8 @@
 -- Where the live blocks lie in the arena. Nothing else shows it: replies are read from the map of handles to bytes.
 use Rattle.std.specs.Prelude.{◌≡◌, ◌≢◌, ℕ, ◌+◌, ◌⊎◌, List, slice_set, Option, Some, None}
 use Rattle.std.specs.Option.{option_map}
-use Rattle.mote_types.specs.BlockNames.{IsName, number_of}
+use Rattle.mote_types.specs.BlockNames.{number_of}
+use Rattle.mote_types.specs.Conditions.{IsName}
 use Rattle.mote_types.specs.Bytes.{range_of}
 use Rattle.mote_types.specs.Rounding.{up4}
 use Rattle.arena_core.specs.Extents.{Extent, LiesIn, AreApart}

@@ -4,8 +4,9 @@ ghost use Rattle.std.specs.Prelude.{◌≡◌, ℕ, List, ◌+◌, ◌-◌, ◌*
 ghost use Rattle.std.specs.Option.{option_map_or};
 ghost use Rattle.mote_types.specs.Rounding.{up4};
 ghost use Rattle.mote_types.specs.BlockNames as names;
-ghost use Rattle.mote_types.specs.BlockNames.{IsName};
-ghost use Rattle.mmem_core.specs.ManagedStore.{IsManagedSize, empty_store, block_of, length_of, unused, free, shortage, allocated, freed, with_bytes, copied};
+ghost use Rattle.mote_types.specs.Conditions.{IsName};
+ghost use Rattle.mmem_core.specs.ManagedStore.{empty_store, block_of, unused, free, shortage, allocated, freed, with_bytes, copied};
+ghost use Rattle.mmem_core.specs.Conditions.{IsManagedSize, length_of};
 
 use crate::order::Order;
 use crate::place::{Place, rounded};

@@ -1,7 +1,7 @@
 //! Runs applications on a mote: a script comes from standard input, its transcript goes to standard output.
 #![tactic(auto)]
 
-ghost use Rattle.std.specs.Prelude.{◌≡◌, ◌<◌, ◌-◌, ◌^◌, false, map, string_bytes, IfOk, IfErr};
+ghost use Rattle.std.specs.Prelude.{◌≡◌, ◌<◌, ◌-◌, ◌^◌, ⊤, false, map, string_bytes, IfOk, IfErr};
 ghost use Rattle.mote_shell.specs.declared.failure.Failure.{Failure as Refused};
 ghost use Rattle.mote_run.specs.RunText.{Exchanged};
 ghost use Rattle.mote.specs.CommandLine.{HasRunNamed, IsStatusFor};
@@ -13,8 +13,8 @@ use mote_shell::{Failure, Program, after_help, exit_code, finish, texts_of, word
 use mote_streams::{Input, Output};
 use mote_types::device::{ByteSink, ByteSource};
 use running::run_words;
+use std::io;
 use std::process::ExitCode;
-use std::{env, io};
 
 const PROGRAM: Program = Program {
     name: "mote",
@@ -56,16 +56,28 @@ fn run_to_status<R: AllocGlobal + Print + Eprint, S: ByteSource, K: ByteSink>(
     Ok(finish(rt, PROGRAM, outcome))
 }
 
-/// What the program does, from standard input to standard output, and the status that it exits with.
-fn work<R: AllocGlobal + env::Env + io::Input + Print + Eprint>(
+/// What the program does with its words, from standard input to standard output, of which no contract names a byte. Answers the
+/// status that it exits with. The first word is the program's name.
+///
+/// # Errors
+///
+/// `OutOfMemory` where memory was refused for the words.
+fn work<R: AllocGlobal + io::Input + Print + Eprint>(
     rt: &R,
-) -> Result<u8, Failure<'static>> {
-    let words = words_of(rt)?;
+    words: &[String],
+) -> Result<u8, Failure<'static>>
+    ensures status { IfOk result (IsStatusFor (map string_bytes words.now) (λ _. ⊤)) }
+    ensures failure { IfErr result (λ failure. failure ≡ Refused.OutOfMemory) }
+{
     let mut source = Input::new(rt.reader());
     let mut sink = Output::new(io::writer(rt));
-    run_to_status(rt, words.as_slice(), &mut source, &mut sink)
+    run_to_status(rt, words, &mut source, &mut sink)
 }
 
 fn main(rt: HostRuntime) -> ExitCode {
-    exit_code(&rt, PROGRAM, work(&rt))
+    let outcome = match words_of(&rt) {
+        Ok(words) => work(&rt, words.as_slice()),
+        Err(failure) => Err(failure),
+    };
+    exit_code(&rt, PROGRAM, outcome)
 }

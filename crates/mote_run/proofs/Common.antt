@@ -1,6 +1,7 @@
 -- The names that most proofs here cite, passed on from one place. Declares nothing.
 pub use Rattle.kernel_core.specs.Code.Steps.{GoesOn, Silently, entry_of, made}
-pub use Rattle.kernel_core.specs.Inputs.{fed, frame_held, frame_refusal, has_bytes, held_unless_lost, ticks_of}
+pub use Rattle.kernel_core.specs.Inputs.{fed, frame_held, frame_refusal, held_unless_lost}
+pub use Rattle.kernel_core.specs.Conditions.{has_bytes, ticks_of}
 pub use Rattle.kernel_core.specs.Machine.{Machine, booted, is_bootable}
 pub use Rattle.kernel_core.specs.Run.{Answers, ComesToRest, Running, Runs, after_step, after_steps, answers_after, at_start, gone_on, heard, is_at_rest, is_still, one_step, stimulus_of, with_input}
 pub use Rattle.kernel_core.specs.declared.config.Config.{Config}

@@ -2,7 +2,7 @@
 
 ghost use Rattle.std.specs.Prelude.{◌≡◌, ◌<◌, ◌≤◌, ◌+◌, ◌-◌, ◌^◌, ◌++◌, ◌∷◌, [], ℕ, List, length, OnErr, OnOk};
 ghost use Rattle.mote_types.specs.declared.entry.Entry.{Entry as MadeEntry};
-ghost use Rattle.mote_text.specs.EntryText.{entry_line_limit};
+ghost use Rattle.mote_text.specs.Code.EntryLines.{entry_line_limit};
 ghost use Rattle.mote_text.specs.Transcript.{final_line};
 ghost use Rattle.kernel_core.specs.Code.Steps.{entry_of};
 ghost use Rattle.mote_run.specs.Code.Reading.{HasFrameLine};

@@ -2,7 +2,7 @@
 use Rattle.std.specs.Prelude.{◌+◌, ◌^◌, Bool, true, not, ◌||◌, length, Option, None, Some, is_some, if◌then◌else◌, nat_le, nat_lt}
 use Rattle.std.specs.Option.{option_or}
 use Rattle.mote_types.specs.declared.entry.Input.{Input}
-use Rattle.kernel_core.specs.Inputs.{ticks_of}
+use Rattle.kernel_core.specs.Conditions.{ticks_of}
 use Rattle.kernel_core.specs.Run.{is_at_rest}
 use Rattle.mote_session.specs.SessionView.{SessionView}
 use Rattle.mote_session.specs.declared.refusal.SessionRefusal.{SessionRefusal}

@@ -2,10 +2,11 @@
 
 ghost use Rattle.std.specs.Prelude.{◌≡◌, ◌≢◌, ◌≤◌, ◌+◌, ◌++◌, ◌↔◌, None, Some, false, true, length, IfErr, IfOk, IfSome, IfNone, IsErrOf, IsSomeAnd};
 ghost use Rattle.mote_types.specs.declared.entry.Entry.{Entry as MadeEntry};
-ghost use Rattle.mote_text.specs.EntryText.{entry_line, entry_line_limit};
+ghost use Rattle.mote_text.specs.EntryText.{entry_line};
+ghost use Rattle.mote_text.specs.Code.EntryLines.{entry_line_limit};
 ghost use Rattle.mote_text.specs.Script.{read_line};
 ghost use Rattle.kernel_core.specs.Calls.{after_call};
-ghost use Rattle.kernel_core.specs.Inputs.{ticks_of};
+ghost use Rattle.kernel_core.specs.Conditions.{ticks_of};
 ghost use Rattle.kernel_core.specs.Machine.{booted, is_bootable};
 ghost use Rattle.kernel_core.specs.declared.turn.Turn.{Turn as Taken};
 ghost use Rattle.mote_session.specs.Code.Places.{AreInPlace, session_view};

@@ -4,7 +4,8 @@ unfoldable pub use Rattle.hex.specs.Hex.{decode_pairs, encode_with}
 pub use Rattle.hex.specs.Hex.{IsBytes, decode_of, digit_or_error, encode_lower, hex_digit_value, lower_digits, pair_value, value_at, ◌>>=◌}
 unfoldable pub use Rattle.mote_text.specs.Code.Reading.{read_on}
 pub use Rattle.mote_text.specs.Code.Reading.{Before}
-unfoldable pub use Rattle.mote_text.specs.EntryText.{entry_line, line_of, spaced}
+unfoldable pub use Rattle.mote_text.specs.EntryText.{entry_line, line_of}
+unfoldable pub use Rattle.mote_text.specs.Code.EntryLines.{spaced}
 pub use Rattle.mote_text.specs.EntryText.{hex}
 unfoldable pub use Rattle.mote_text.specs.Script.{inputs, read_line, script_limit}
 pub use Rattle.mote_text.specs.Script.{Reading, argument_of, has_leading_zero, is_number, line_limit, parts, preceded_by, read_bytes, read_lines, read_number, read_words, says_nothing, whole_lines, with_last_line, with_line, without_last}

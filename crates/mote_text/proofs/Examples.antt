@@ -9,7 +9,7 @@ use Rattle.mote_types.specs.declared.event.Stimulus.{Stimulus}
 use Rattle.mote_types.specs.declared.refusal.Refusal.{Refusal}
 use Rattle.mote_types.specs.declared.reply.Reply.{Reply}
 use Rattle.mote_text.proofs.WholeLines.{inputs_of_short}
-use Rattle.mote_text.specs.EntryText.{entry_line_limit}
+use Rattle.mote_text.specs.Code.EntryLines.{entry_line_limit}
 use Rattle.mote_text.specs.Transcript.{final_line, shown, text}
 
 small : (n : ℕ) → n ≤ 1000 → n ≤ script_limit

@@ -1,4 +1,5 @@
 pub mod CallWords
+pub mod EntryLines
 pub mod HexDigits
 pub mod LineAnswers
 pub mod Lines

@@ -1,5 +1,5 @@
 -- The line of an entry: its words, with one space between each two.
-use Rattle.std.specs.Prelude.{ℕ, Bool, true, false, List, [], ◌∷◌, ◌++◌, length, flat_map, codes, decimal, if◌then◌else◌, ◌==◌}
+use Rattle.std.specs.Prelude.{ℕ, Bool, true, false, List, [], ◌∷◌, ◌++◌, length, codes, decimal, if◌then◌else◌, ◌==◌}
 use Rattle.std.specs.List.{join_by}
 use Rattle.hex.specs.Hex.{encode_lower}
 use Rattle.mote_types.specs.Codes.{refusal_number}
@@ -125,10 +125,6 @@ entry_words (Entry.Turn pid origin stimulus call) =
 entry_words (Entry.Note note) = codes "note" ∷ note_words note
 entry_words Entry.Halt = codes "halt" ∷ []
 
--- a space in front of each word
-unfoldable pub spaced : List Word → List ℕ
-spaced words = flat_map (λ word. codes " " ++ word) words
-
 -- the words, a space between each two, and the line's end
 unfoldable pub line_of : List Word → List ℕ
 line_of words = join_by (λ word. word) (codes " ") words ++ codes "\n"
@@ -136,7 +132,3 @@ line_of words = join_by (λ word. word) (codes " ") words ++ codes "\n"
 -- the bytes of an entry's line, with its end
 unfoldable pub entry_line : Entry → List ℕ
 entry_line entry = line_of (entry_words entry)
-
--- no line of an entry has more bytes, with its end
-abbrev pub entry_line_limit : ℕ
-entry_line_limit = 640

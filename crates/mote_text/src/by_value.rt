@@ -1,7 +1,8 @@
 //! For users of this layer: an entry's line alone. A run puts it behind other text (`push_entry`).
 
 ghost use Rattle.std.specs.Prelude.{◌≡◌, ◌≤◌, length};
-ghost use Rattle.mote_text.specs.EntryText.{entry_line, entry_line_limit};
+ghost use Rattle.mote_text.specs.EntryText.{entry_line};
+ghost use Rattle.mote_text.specs.Code.EntryLines.{entry_line_limit};
 
 use crate::line::{LineBuf, OutputBuffer};
 use crate::transcript::push_entry;

@@ -1,8 +1,9 @@
 //! The words of a call: an arrow, its own word, and behind it its arguments, a space in front of each.
-#![tactic(auto, unfolding(crate::specs::EntryText::spaced))]
+#![tactic(auto, unfolding(crate::specs::Code::EntryLines::spaced))]
 
 ghost use Rattle.std.specs.Prelude.{◌≡◌, ◌≤◌, ◌+◌, ◌++◌, [], ◌∷◌, length, take, codes, decimal};
-ghost use Rattle.mote_text.specs.EntryText.{spaced, hex, payload_word, call_words};
+ghost use Rattle.mote_text.specs.EntryText.{hex, payload_word, call_words};
+ghost use Rattle.mote_text.specs.Code.EntryLines.{spaced};
 ghost use Rattle.mote_text.specs.Code.CallWords.{argument_words};
 
 use crate::line::{OutputBuffer, push_hex, push_number};

@@ -1,10 +1,11 @@
 //! Lines of a transcript, and how they are put together. A word, a number or bytes have a space in front.
-#![tactic(auto, unfolding(crate::specs::EntryText::spaced))]
+#![tactic(auto, unfolding(crate::specs::Code::EntryLines::spaced))]
 
 ghost use Rattle.std.specs.Prelude.{◌≡◌, ◌≤◌, ◌<◌, ◌+◌, ◌*◌, ◌++◌, [], ◌∷◌, length, take, decimal, map};
 ghost use Rattle.std.specs.Char.{to_ascii_lowercase};
 ghost use Rattle.hex.specs.Hex.{encode_lower};
-ghost use Rattle.mote_text.specs.EntryText.{hex, spaced};
+ghost use Rattle.mote_text.specs.EntryText.{hex};
+ghost use Rattle.mote_text.specs.Code.EntryLines.{spaced};
 
 use crate::hex_digits::DigitPairs;
 use arrayvec::ArrayVec;

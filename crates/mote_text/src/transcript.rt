@@ -1,10 +1,11 @@
 //! The lines of a transcript.
-#![tactic(auto, unfolding(crate::specs::EntryText::spaced))]
+#![tactic(auto, unfolding(crate::specs::Code::EntryLines::spaced))]
 
 ghost use Rattle.std.specs.Prelude.{◌≡◌, ◌≤◌, ◌+◌, ◌++◌, ◌||◌, not, length, Some};
 ghost use Rattle.mote_types.specs.declared.entry.Entry.{Entry as Made};
 ghost use Rattle.mote_types.specs.declared.entry.Input.{Input as Handed};
-ghost use Rattle.mote_text.specs.EntryText.{entry_line, entry_line_limit, spaced};
+ghost use Rattle.mote_text.specs.EntryText.{entry_line};
+ghost use Rattle.mote_text.specs.Code.EntryLines.{entry_line_limit, spaced};
 ghost use Rattle.mote_text.specs.Script.{read_line};
 ghost use Rattle.mote_text.specs.Transcript.{final_line, is_shown, prints_or_sends};
 
@@ -21,7 +22,7 @@ use mote_types::event::{Origin, Pid, Stimulus};
 /// Source: the transcript format is this project's profile.
 // As `push_input`.
 #[inline(always)]
-#[tactic(auto, unfolding(crate::specs::EntryText::entry_line, crate::specs::EntryText::line_of, crate::specs::EntryText::spaced))]
+#[tactic(auto, unfolding(crate::specs::EntryText::entry_line, crate::specs::EntryText::line_of, crate::specs::Code::EntryLines::spaced))]
 pub fn push_input_line(input: &Input, line: &mut OutputBuffer)
     requires { length line.old.items + entry_line_limit ≤ 4096 }
     ensures text { line.new.items ≡ line.old.items ++ entry_line (Made.Input input.now) }
@@ -35,7 +36,7 @@ pub fn push_input_line(input: &Input, line: &mut OutputBuffer)
 /// Appends the line of a turn, with its end.
 ///
 /// Source: the transcript format is this project's profile.
-#[tactic(auto, unfolding(crate::specs::EntryText::entry_line, crate::specs::EntryText::line_of, crate::specs::EntryText::spaced))]
+#[tactic(auto, unfolding(crate::specs::EntryText::entry_line, crate::specs::EntryText::line_of, crate::specs::Code::EntryLines::spaced))]
 pub fn push_turn_line(
     pid: Pid,
     origin: Origin,
@@ -57,7 +58,7 @@ pub fn push_turn_line(
 /// Appends the line of an entry, with its end.
 ///
 /// Source: the transcript format is this project's profile.
-#[tactic(auto, unfolding(crate::specs::EntryText::entry_line, crate::specs::EntryText::line_of, crate::specs::EntryText::spaced))]
+#[tactic(auto, unfolding(crate::specs::EntryText::entry_line, crate::specs::EntryText::line_of, crate::specs::Code::EntryLines::spaced))]
 pub fn push_entry(entry: &Entry, line: &mut OutputBuffer)
     requires { length line.old.items + entry_line_limit ≤ 4096 }
     ensures text { line.new.items ≡ line.old.items ++ entry_line entry.now }
@@ -97,7 +98,7 @@ pub fn said_text(script_line: &[u8], line: &mut TextBuffer)
 /// Appends the last line of a transcript, with its end: nothing, where the run finished or halted.
 ///
 /// Source: the transcript format is this project's profile.
-#[tactic(auto, unfolding(crate::specs::EntryText::line_of, crate::specs::EntryText::spaced))]
+#[tactic(auto, unfolding(crate::specs::EntryText::line_of, crate::specs::Code::EntryLines::spaced))]
 pub fn push_final_line(end: End, line: &mut OutputBuffer)
     requires { length line.old.items + entry_line_limit ≤ 4096 }
     ensures text { line.new.items ≡ line.old.items ++ final_line end }

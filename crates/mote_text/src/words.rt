@@ -1,9 +1,10 @@
 //! The words of an entry: each function appends its words to a line, a space in front of each.
-#![tactic(auto, unfolding(crate::specs::EntryText::spaced))]
+#![tactic(auto, unfolding(crate::specs::Code::EntryLines::spaced))]
 
 ghost use Rattle.std.specs.Prelude.{◌≡◌, ◌≤◌, ◌+◌, ◌++◌, [], ◌∷◌, length, codes, decimal};
 ghost use Rattle.mote_types.specs.Codes.{refusal_number};
-ghost use Rattle.mote_text.specs.EntryText.{spaced, hex, flag_word, payload_word, origin_word, stats_words, reply_words, stimulus_words, input_words, note_words};
+ghost use Rattle.mote_text.specs.EntryText.{hex, flag_word, payload_word, origin_word, stats_words, reply_words, stimulus_words, input_words, note_words};
+ghost use Rattle.mote_text.specs.Code.EntryLines.{spaced};
 
 use crate::line::{OutputBuffer, push_number, push_numbered, push_shown, push_word};
 use mote_types::entry::{Input, Note};

@@ -11,13 +11,6 @@ Says = List Stimulus → Call
 abbrev pub Applications : Type 0
 Applications = ℕ → Says
 
--- what an application says that is a machine: its answer in a state to a stimulus, and its next state
-abbrev pub fold_says : {A : Type 0} → (A → Stimulus → Call) → (A → Stimulus → A) → A → Says
-fold_says answer next state [] = Call.Wait
-fold_says answer next state (stimulus ∷ []) = answer state stimulus
-fold_says answer next state (stimulus ∷ (following ∷ later)) =
-    fold_says answer next (next state stimulus) (following ∷ later)
-
 -- what the i-th of these applications says; where there is none it waits
 abbrev pub nth_says : {B : Type 0} → (B → Says) → List B → ℕ → Says
 nth_says says [] i l = Call.Wait

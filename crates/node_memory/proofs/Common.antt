@@ -3,9 +3,11 @@ pub use Rattle.arena_core.specs.Contents.{Contents}
 pub use Rattle.arena_core.specs.Extents.{AreApart, Extent, LiesIn}
 pub use Rattle.arena_core.specs.declared.span.Span.{Span}
 pub use Rattle.heap_core.specs.HeapBytes.{heap_of}
-pub use Rattle.heap_core.specs.HeapStore.{Block, HeapStore, allocated, block_at, empty_heap, find_block, freed, has_name, length_of, moved, new_place, place, reallocated, resized_block, without_block}
+pub use Rattle.heap_core.specs.HeapStore.{Block, HeapStore, allocated, block_at, empty_heap, find_block, freed, has_name, moved, new_place, place, reallocated, resized_block, without_block}
+pub use Rattle.heap_core.specs.Conditions.{length_of}
 pub use Rattle.heap_core.specs.declared.region.Region.{Region}
-pub use Rattle.memb_core.specs.BlockLists.{added, chopped, has_number, head_of, holder_of, inserted, popped, pushed, tail_of, without}
+pub use Rattle.memb_core.specs.BlockLists.{added, chopped, has_number, head_of, inserted, popped, pushed, tail_of, without}
+pub use Rattle.memb_core.specs.Code.Holders.{holder_of}
 pub use Rattle.memb_core.specs.BlockPool.{BlockPool, block_of, first_unused, unused_pool}
 pub use Rattle.memb_core.specs.Links.{AreLinked, list_of}
 pub use Rattle.memb_core.specs.PoolBytes.{IsWithin, place_of}
@@ -15,12 +17,14 @@ pub use Rattle.memb_core.specs.declared.list_name.ListName.{ListName}
 pub use Rattle.mmem_core.proofs.StoreLemmas.{block_in}
 pub use Rattle.mmem_core.specs.ManagedStore.{ManagedStore, bytes_of, copied, empty_store, shortage, with_block, with_bytes}
 pub use Rattle.mmem_core.specs.HandleTable.{HandleTable, region_of, store_of}
-pub use Rattle.mote_types.specs.BlockNames.{IsName, number_of}
+pub use Rattle.mote_types.specs.BlockNames.{number_of}
+pub use Rattle.mote_types.specs.Conditions.{IsName}
 pub use Rattle.mote_types.specs.Bytes.{overwritten, range_of, resized, zeros}
 pub use Rattle.mote_types.specs.declared.call.Call.{Call}
 pub use Rattle.mote_types.specs.declared.refusal.Refusal.{Refusal}
 pub use Rattle.mote_types.specs.declared.reply.Reply.{Reply}
-pub use Rattle.node_memory.specs.Ask.{Asked, IfRefused, MayAsk, ask, ask_part, ask_pool_of, done_or_no_room}
+pub use Rattle.node_memory.specs.Ask.{Asked, ask, ask_part, ask_pool_of, done_or_no_room}
+pub use Rattle.node_memory.specs.Conditions.{IfRefused, MayAsk}
 pub use Rattle.node_memory.specs.Code.Layout.{IsLaidOut, LieBehind, end_of}
 pub use Rattle.node_memory.specs.Frames.{frame_dropped, frame_taken}
 pub use Rattle.node_memory.specs.HeapCalls.{alloc_refusal, free_refusal, is_heap_block, is_live, realloc_refusal}

@@ -1,5 +1,5 @@
 -- The calls on memory, one row each: when the call is refused, and else the memory after it and the reply. The caller is p.
-use Rattle.std.specs.Prelude.{ℕ, ◌≤◌, List, length, Option, Some, None, if◌then◌else◌, nat_lt}
+use Rattle.std.specs.Prelude.{ℕ, List, length, Option, Some, None, if◌then◌else◌, nat_lt}
 use Rattle.mote_types.specs.Bytes.{range_of}
 use Rattle.mote_types.specs.declared.call.Call.{Call}
 use Rattle.mote_types.specs.declared.reply.Reply.{Reply}
@@ -80,13 +80,3 @@ ask_part None call p m = done m
 -- what a call of p makes of the memory, and what it is answered
 abbrev pub ask : Call → ℕ → Memory → Asked
 ask call p m = ask_part (part_called call) call p m
-
--- the processes that may make a call: the applications, and process 3 too may ask how much is free
-abbrev pub MayAsk : ℕ → Call → Type 0
-MayAsk p Call.MmemAvail = (3 ≤ p) × (p ≤ 19)
-MayAsk p _ = (4 ≤ p) × (p ≤ 19)
-
--- where the reply is a refusal
-abbrev pub IfRefused : Reply → Type 0 → Type 0
-IfRefused (Reply.Refused refusal) fact = fact
-IfRefused _ fact = Unit {0}

@@ -1,17 +1,13 @@
 -- Frames, each of which is held in a managed block of process 3, and the bytes that an application sends.
 use Rattle.std.specs.Prelude.{ℕ, not, List, length, Option, Some, None, if◌then◌else◌, nat_lt}
 use Rattle.mote_types.specs.declared.refusal.Refusal.{Refusal}
-use Rattle.mmem_core.specs.ManagedStore.{ManagedStore, block_of, bytes_of, with_block, freed}
+use Rattle.mmem_core.specs.ManagedStore.{ManagedStore, bytes_of, with_block, freed}
 use Rattle.node_memory.specs.ManagedCalls.{is_handle, is_live}
 use Rattle.node_memory.specs.Memory.{Memory, with_managed}
 
 -- process 3 holds the frames
 abbrev pub frame_holder : ℕ
 frame_holder = 3
-
--- the bytes of the frame in that slot, if it holds one
-abbrev pub frame_in : ℕ → Memory → Option (List ℕ)
-frame_in slot m = block_of frame_holder slot m.managed
 
 -- the memory with these bytes as the frame in that slot
 abbrev pub frame_taken : ℕ → List ℕ → Memory → Memory

@@ -2,6 +2,7 @@
 pub mod Answered
 pub mod Ask
 pub mod BlockRefusals
+pub mod Conditions
 pub mod Frames
 pub mod HeapCalls
 pub mod ListedPools

@@ -1,5 +1,5 @@
 -- The part of memory that a call is on: managed memory, the heap, or one of the pools, with its lists.
-use Rattle.std.specs.Prelude.{ℕ, ◌/◌, Bool, Option, Some, None, is_some}
+use Rattle.std.specs.Prelude.{ℕ, ◌/◌, Option, Some, None}
 use Rattle.std.specs.Option.{option_map}
 use Rattle.mote_types.specs.declared.call.Call.{Call}
 use Rattle.node_memory.specs.declared.parts.Part.{Part}
@@ -38,6 +38,3 @@ part_called (Call.HeapWrite b at chunk) = Some Part.Heap
 part_called (Call.HeapRead b at len) = Some Part.Heap
 part_called Call.HeapStats = Some Part.Heap
 part_called call = option_map Part.Pool (pool_called call)
-
-abbrev pub is_memory_call : Call → Bool
-is_memory_call call = is_some (part_called call)

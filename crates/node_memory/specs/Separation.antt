@@ -4,7 +4,7 @@ use Rattle.std.specs.Option.{option_map}
 use Rattle.mote_types.specs.declared.call.Call.{Call}
 use Rattle.mote_types.specs.declared.refusal.Refusal.{Refusal}
 use Rattle.mote_types.specs.declared.reply.Reply.{Reply}
-use Rattle.mote_types.specs.BlockNames.{IsName}
+use Rattle.mote_types.specs.Conditions.{IsName}
 use Rattle.mmem_core.specs.ManagedStore as managed
 use Rattle.heap_core.specs.HeapStore as heap
 use Rattle.memb_core.specs.BlockPool as pools

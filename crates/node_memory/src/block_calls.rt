@@ -4,7 +4,7 @@ ghost use Rattle.std.specs.Prelude.{◌≡◌, ℕ};
 ghost use Rattle.mote_types.specs.declared.call.Call.{Call};
 ghost use Rattle.memb_core.specs.Links.{AreLinked};
 ghost use Rattle.memb_core.specs.PoolBytes.{KeepsToSpan};
-ghost use Rattle.node_memory.specs.Ask.{IfRefused};
+ghost use Rattle.node_memory.specs.Conditions.{IfRefused};
 ghost use Rattle.node_memory.specs.Placed.{seen};
 ghost use Rattle.node_memory.specs.PoolCalls as calls;
 ghost use Rattle.node_memory.specs.PoolCalls.{ask_pool};

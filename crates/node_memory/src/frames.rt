@@ -3,7 +3,8 @@
 ghost use Rattle.std.specs.Prelude.{◌≡◌, ◌≤◌, ◌<◌, true, false, None, Some, length, IsSome, IfOk, IfErr};
 ghost use Rattle.mmem_core.specs.ManagedStore as store;
 ghost use Rattle.mmem_core.specs.ManagedStore.{fits, shortage};
-ghost use Rattle.node_memory.specs.Frames.{frame_holder, frame_in, frame_taken, frame_dropped, send_refusal};
+ghost use Rattle.node_memory.specs.Frames.{frame_holder, frame_taken, frame_dropped, send_refusal};
+ghost use Rattle.node_memory.specs.Conditions.{frame_in};
 ghost use Rattle.node_memory.specs.Placed.{last_owner};
 ghost use Rattle.node_memory.specs.Separation.{LeavesOthers, frame_block};
 

@@ -1,11 +1,13 @@
 //! The calls on heap memory, each with its refusals. A call that is refused changes no block.
 
 ghost use Rattle.std.specs.Prelude.{◌≡◌, ◌≤◌};
-ghost use Rattle.mote_types.specs.BlockNames.{IsName};
+ghost use Rattle.mote_types.specs.Conditions.{IsName};
 ghost use Rattle.mote_types.specs.declared.call.Call.{Call};
 ghost use Rattle.mote_types.specs.declared.reply.Reply.{Reply as Answer};
 ghost use Rattle.heap_core.specs.HeapStore as store;
-ghost use Rattle.node_memory.specs.Ask.{ask_heap, IfRefused};
+ghost use Rattle.heap_core.specs.Conditions as store_conditions;
+ghost use Rattle.node_memory.specs.Ask.{ask_heap};
+ghost use Rattle.node_memory.specs.Conditions.{IfRefused};
 ghost use Rattle.node_memory.specs.Placed.{last_owner};
 ghost use Rattle.node_memory.specs.Separation.{LeavesAll};
 
@@ -23,7 +25,7 @@ impl NodeMemory {
     /// The length of a block as it was asked for, if it is live.
     fn heap_len_of(&self, key: Key) -> Option<u32>
         requires { IsName key.0.0 key.1 }
-        ensures { result ≡ store.length_of key.0.0 key.1 self.now.contents.heap }
+        ensures { result ≡ store_conditions.length_of key.0.0 key.1 self.now.contents.heap }
     {
         self.heap.len_of(&self.arena, key)
     }

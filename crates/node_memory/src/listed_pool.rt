@@ -5,7 +5,7 @@ ghost use Rattle.arena_core.specs.Contents.{contents};
 ghost use Rattle.memb_core.specs.BlockLists.{has_number};
 ghost use Rattle.memb_core.specs.Links.{AreLinked, list_of};
 ghost use Rattle.memb_core.specs.PoolBytes.{KeepsToSpan};
-ghost use Rattle.node_memory.specs.Ask.{IfRefused};
+ghost use Rattle.node_memory.specs.Conditions.{IfRefused};
 ghost use Rattle.node_memory.specs.ListedPools as specs;
 ghost use Rattle.node_memory.specs.ListedPools.{unused_pool_of};
 ghost use Rattle.node_memory.specs.Placed.{seen};

@@ -2,7 +2,8 @@
 
 ghost use Rattle.std.specs.Prelude.{◌≡◌, ◌≤◌, None, Some, length, IfOk, IfErr};
 ghost use Rattle.mmem_core.specs.ManagedStore as store;
-ghost use Rattle.mote_types.specs.BlockNames.{IsName};
+ghost use Rattle.mmem_core.specs.Conditions as store_conditions;
+ghost use Rattle.mote_types.specs.Conditions.{IsName};
 ghost use Rattle.mote_types.specs.declared.call.Call.{Call};
 ghost use Rattle.node_memory.specs.Ask.{ask_managed};
 ghost use Rattle.node_memory.specs.ManagedCalls as calls;
@@ -23,7 +24,7 @@ impl NodeMemory {
     /// The length of a block, if it is live.
     pub(crate) fn len_of(&self, key: Key) -> Option<u32>
         requires { IsName key.0.0 key.1 }
-        ensures { result ≡ store.length_of key.0.0 key.1 self.now.contents.managed }
+        ensures { result ≡ store_conditions.length_of key.0.0 key.1 self.now.contents.managed }
     {
         let _arena = &self.arena;
         self.mmem.len_of(key)

@@ -7,8 +7,9 @@ ghost use Rattle.node_memory.specs.Placed.{seen};
 ghost use Rattle.node_memory.specs.Code.Layout.{LieBehind};
 ghost use Rattle.node_memory.specs.Sizes.{are_sizes};
 ghost use Rattle.node_memory.specs.Ask as asking;
-ghost use Rattle.node_memory.specs.Ask.{IfRefused};
-ghost use Rattle.node_memory.specs.Parts.{is_memory_call};
+ghost use Rattle.node_memory.specs.Conditions as asking_conditions;
+ghost use Rattle.node_memory.specs.Conditions.{IfRefused};
+ghost use Rattle.node_memory.specs.Conditions.{is_memory_call};
 ghost use Rattle.node_memory.specs.Parts as parts;
 ghost use Rattle.node_memory.specs.declared.parts.Part as part;
 
@@ -119,7 +120,7 @@ impl NodeMemory {
     /// that have one.
     pub fn ask(&mut self, pid: Pid, call: &Call) -> Reply
         requires on_memory { is_memory_call call.now ≡ true }
-        requires asker { asking.MayAsk pid.0 call.now }
+        requires asker { asking_conditions.MayAsk pid.0 call.now }
         requires owner { pid.0 ≤ last_owner self.old }
         ensures asked { asking.ask call.now pid.0 self.old.contents ≡ (self.new.contents, result) }
         ensures refused { IfRefused result (LeavesAll call.now result self.old self.new) }
@@ -136,7 +137,7 @@ impl NodeMemory {
 
     /// Carries out a call on managed memory.
     fn ask_managed(&mut self, pid: Pid, call: &Call) -> Reply
-        requires asker { asking.MayAsk pid.0 call.now }
+        requires asker { asking_conditions.MayAsk pid.0 call.now }
         requires owner { pid.0 ≤ last_owner self.old }
         requires part { parts.part_called call.now ≡ Some part.Part.Managed }
         ensures asked { asking.ask_managed call.now pid.0 self.old.contents ≡ (self.new.contents, result) }
@@ -162,7 +163,7 @@ impl NodeMemory {
 
     /// Carries out a call on heap memory.
     fn ask_heap(&mut self, pid: Pid, call: &Call) -> Reply
-        requires asker { asking.MayAsk pid.0 call.now }
+        requires asker { asking_conditions.MayAsk pid.0 call.now }
         requires part { parts.part_called call.now ≡ Some part.Part.Heap }
         ensures asked { asking.ask_heap call.now pid.0 self.old.contents ≡ (self.new.contents, result) }
         ensures refused { IfRefused result (LeavesAll call.now result self.old self.new) }

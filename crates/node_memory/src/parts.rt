@@ -2,6 +2,7 @@
 
 ghost use Rattle.std.specs.Prelude.{◌≡◌};
 ghost use Rattle.node_memory.specs.Parts as specs;
+ghost use Rattle.node_memory.specs.Conditions as specs_conditions;
 
 use mote_types::call::Call;
 
@@ -60,7 +61,7 @@ pub fn part_called(call: &Call) -> Option<Part>
 
 /// Whether a call is on memory, so that `NodeMemory::ask` answers it.
 pub fn is_memory_call(call: &Call) -> bool
-    ensures { result ≡ specs.is_memory_call call.now }
+    ensures { result ≡ specs_conditions.is_memory_call call.now }
 {
     part_called(call).is_some()
 }

@@ -1,5 +1,6 @@
 -- what a reader must believe
 pub mod Agenda
+pub mod Conditions
 pub mod Idle
 pub mod Processes
 pub mod Requests

@@ -1,5 +1,5 @@
 -- The process list: the processes that are on it, the head first, with what each of them is doing.
-use Rattle.std.specs.Prelude.{ℕ, ◌+◌, ◌<◌, ◌≡◌, [], ◌∷◌, Bool, true, false, not, ◌&&◌, List, map, filter, find, if◌then◌else◌, ◌==◌, nat_le, nat_lt}
+use Rattle.std.specs.Prelude.{ℕ, ◌+◌, [], ◌∷◌, Bool, true, false, not, ◌&&◌, List, map, filter, find, if◌then◌else◌, ◌==◌, nat_le, nat_lt}
 use Rattle.std.specs.List.{list_any}
 use Rattle.std.specs.Option.{option_map_or}
 use Rattle.process_core.specs.declared.state.State.{State}
@@ -56,10 +56,6 @@ abbrev pub is_ending : State → Bool
 is_ending State.Ending = true
 is_ending _ = false
 
-abbrev pub is_called : State → Bool
-is_called State.Called = true
-is_called _ = false
-
 -- the kernel's processes, which are always on the list
 abbrev pub at_first : List Process
 at_first = map (λ p. record { number = p; state = State.Running; marked = false }) (3 ∷ 2 ∷ 1 ∷ 0 ∷ [])
@@ -67,11 +63,3 @@ at_first = map (λ p. record { number = p; state = State.Running; marked = false
 -- whether the process is an application, where there are so many
 abbrev pub is_application : ℕ → ℕ → Bool
 is_application applications p = nat_le 4 p && nat_lt p (4 + applications)
-
-abbrev pub IsApplication : ℕ → ℕ → Type 0
-IsApplication applications p = is_application applications p ≡ true
-
--- The kernel's processes always run, and any other process on the list is an application
-pub record IsOfMote (applications : ℕ) (list : List Process) : Type 0 where
-  pub kernel : (p : ℕ) → p < 4 → state_of p list ≡ State.Running
-  pub known : (p : ℕ) → (state_of p list ≡ State.Absent → ⊥) → p < 4 + applications

@@ -1,5 +1,5 @@
 -- What an application may ask of the scheduler: when it is refused, and what follows where it isn't.
-use Rattle.std.specs.Prelude.{ℕ, ◌+◌, Bool, not, ◌||◌, List, [], ◌∷◌, ◌++◌, map, Option, Some, None, if◌then◌else◌, nat_lt}
+use Rattle.std.specs.Prelude.{ℕ, ◌+◌, not, List, [], ◌∷◌, ◌++◌, map, Option, Some, None, if◌then◌else◌, nat_lt}
 use Rattle.mote_types.specs.declared.event.Event.{Event}
 use Rattle.mote_types.specs.declared.event.Stimulus.{Stimulus}
 use Rattle.mote_types.specs.declared.event.Origin.{Origin}
@@ -8,13 +8,9 @@ use Rattle.mote_types.specs.declared.refusal.Refusal.{Refusal}
 use Rattle.mote_types.specs.EventNumbers.{EXITED}
 use Rattle.mote_types.specs.Codes.{number_event, is_reserved}
 use Rattle.process_core.specs.declared.state.State.{State}
-use Rattle.process_core.specs.Processes.{numbers, without, is_on_list, is_alive, is_called, is_ending, is_application}
+use Rattle.process_core.specs.Processes.{numbers, without, is_on_list, is_alive, is_ending, is_application}
 use Rattle.process_core.specs.Agenda.{Item}
 use Rattle.process_core.specs.Scheduler.{Scheduler, state_in, in_front, put_in_state, has_room, of_event}
-
--- it has taken a turn, and its activation goes on
-abbrev pub is_in_activation : State → Bool
-is_in_activation state = is_called state || is_ending state
 
 -- whether a process in that state may be killed
 abbrev pub kill_refusal_in : State → Option Refusal
@@ -28,10 +24,6 @@ module _ {X : Type 0} where
   -- the application is given the answer in its next turn
   abbrev pub answered : ℕ → Reply → Scheduler X → Scheduler X
   answered p reply s = in_front (Item.Turn p Origin.Answer (Stimulus.Answer reply) ∷ []) s
-
-  -- the process is given the callback of its timer
-  abbrev pub called_back : ℕ → ℕ → Scheduler X → Scheduler X
-  called_back p number s = in_front (Item.Give p Origin.Callback (Stimulus.Callback number) ∷ []) s
 
   abbrev pub post_refusal : Scheduler X → Option Refusal
   post_refusal s = if has_room s then None else Some Refusal.Full

@@ -1,6 +1,6 @@
 -- The scheduler: how the agenda is worked off.
-use Rattle.std.specs.Prelude.{ℕ, Bool, true, false, not, ◌&&◌, ◌||◌, List, [], ◌∷◌, ◌++◌, map, drop, length, Option, Some, None, if◌then◌else◌, nat_lt, flat_map, slice_get, zero, suc, is_some, ◌≡◌, ◌≤◌, eqb}
-use Rattle.std.specs.List.{range_with_len, list_any, IsDistinct}
+use Rattle.std.specs.Prelude.{ℕ, Bool, true, false, not, ◌&&◌, ◌||◌, List, [], ◌∷◌, ◌++◌, map, drop, length, Option, Some, None, if◌then◌else◌, nat_lt, flat_map, slice_get}
+use Rattle.std.specs.List.{range_with_len}
 use Rattle.mote_types.specs.declared.event.Event.{Event}
 use Rattle.mote_types.specs.declared.event.Stimulus.{Stimulus}
 use Rattle.mote_types.specs.declared.event.Origin.{Origin}
@@ -8,7 +8,7 @@ use Rattle.mote_types.specs.EventNumbers.{INIT, POLL, EXIT, FIRST_FREE}
 use Rattle.mote_types.specs.Codes.{plain_event}
 use Rattle.process_core.specs.declared.state.State.{State}
 use Rattle.process_core.specs.declared.process.Process.{Process}
-use Rattle.process_core.specs.Processes.{numbers, state_of, is_marked, is_any_marked, with_state, with_mark, without, is_on_list, is_running, is_kernel_process, at_first, IsOfMote}
+use Rattle.process_core.specs.Processes.{numbers, state_of, is_marked, is_any_marked, with_state, with_mark, without, is_on_list, is_running, is_kernel_process, at_first}
 use Rattle.process_core.specs.Agenda.{Queued, Item, Job}
 
 -- what is to be done, and by whom. X is what an expiry of a callback timer carries
@@ -123,17 +123,6 @@ module _ {X : Type 0} where
   abbrev pub job : Scheduler X → Option (Job X)
   job s = job_at s.agenda s
 
-  -- the scheduler after at most n items that are no jobs
-  abbrev pub after_items : ℕ → Scheduler X → Scheduler X
-  after_items zero s = s
-  after_items (suc n) s =
-      let later = after_items n (after_front s) in
-      if is_some (job s) then s else later
-
-  -- items are worked off up to this job, and the job's own item
-  abbrev pub ComesTo : Scheduler X → Job X → Scheduler X → Type 0
-  ComesTo s next after = (n : ℕ) × (job (after_items n s) ≡ Some next) × (after_front (after_items n s) ≡ after)
-
 -- the process list before the applications start, and the applications that are to be started
 abbrev pub at_boot : {X : Type 0} → ℕ → Scheduler X
 at_boot applications =
@@ -144,16 +133,3 @@ at_boot applications =
       agenda = map (λ p. Item.Start p) (range_with_len 4 applications);
       next_event = FIRST_FREE;
     }
-
-abbrev pub is_shown : Item → Bool
-is_shown (Item.Show entry) = true
-is_shown _ = false
-
--- what is true of the scheduler at any time
-pub record IsWellFormed {X : Type 0} (s : Scheduler X) : Type 0 where
-  pub few : s.applications ≤ 16
-  pub mote : IsOfMote s.applications s.processes
-  -- no process is on the list twice
-  pub distinct : IsDistinct eqb (numbers s.processes)
-  -- entries are shown by the layer above
-  pub nothing_shown : list_any is_shown s.agenda ≡ false

@@ -4,9 +4,11 @@ ghost use Rattle.std.specs.Prelude.{◌≡◌, ◌<◌, None, IfSome, [], true, 
 ghost use Rattle.mote_types.specs.declared.event.Event.{Event};
 ghost use Rattle.mote_types.specs.declared.event.Pid.{Pid};
 ghost use Rattle.process_core.specs.Code.SchedulerView.{job_of, turn_of, callback_of};
-ghost use Rattle.process_core.specs.Processes.{IsApplication};
-ghost use Rattle.process_core.specs.Requests.{is_in_activation};
-ghost use Rattle.process_core.specs.Scheduler.{ComesTo, state_in, wants_round, IsWellFormed};
+ghost use Rattle.process_core.specs.Conditions.{IsApplication};
+ghost use Rattle.process_core.specs.Code.Invariant.{is_in_activation};
+ghost use Rattle.process_core.specs.Scheduler.{state_in, wants_round};
+ghost use Rattle.process_core.specs.Code.Items.{ComesTo};
+ghost use Rattle.process_core.specs.Code.Invariant.{IsWellFormed};
 ghost use Rattle.process_core.specs.declared.job.Job as ready;
 
 use crate::job::Job;

@@ -14,7 +14,7 @@ use mote_types::reply::Reply;
 /// is seen as what they stand for.
 ///
 /// The agenda is kept in parts, which come in this order: the front, the stack from its topmost continuation, the poll round, and
-/// the base (`specs/OpenWork.antt`).
+/// the base (`specs/Code/OpenWork.antt`).
 #[derive(Drop)]
 pub struct SchedulerFields {
     /// How many applications there are, 0 to 16.

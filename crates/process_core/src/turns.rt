@@ -2,6 +2,7 @@
 
 ghost use Rattle.std.specs.Prelude.{◌≡◌, Some};
 ghost use Rattle.process_core.specs.Requests as request;
+ghost use Rattle.process_core.specs.Code.Items as request_items;
 ghost use Rattle.process_core.specs.Code.SchedulerView.{awaiting_nothing};
 
 use crate::front::Front;
@@ -61,7 +62,7 @@ impl Scheduler {
     /// The expiry that `next` has just answered counts: the process is given the callback, if it runs.
     pub fn give_callback(&mut self, pid: Pid, number: u8)
         requires { self.old.callback ≡ Some (pid, number) }
-        ensures { self.new ≡ awaiting_nothing (request.called_back pid.0 number self.old.state) }
+        ensures { self.new ≡ awaiting_nothing (request_items.called_back pid.0 number self.old.state) }
     {
         self.fields.front = Front::Callback { pid, number };
     }

@@ -37,7 +37,8 @@ pub use Rattle.node_memory.specs.Frames.{frame_dropped, frame_taken, send_refusa
 pub use Rattle.node_memory.specs.HeapCalls.{alloc_refusal, free_refusal, is_heap_block, realloc_refusal, write_refusal}
 pub use Rattle.node_memory.specs.ManagedCalls.{copy_refusal, is_handle}
 pub use Rattle.node_memory.specs.Memory.{Memory, pool_in, with_heap, with_managed, with_pool}
-pub use Rattle.node_memory.specs.Parts.{is_memory_call, part_called}
+pub use Rattle.node_memory.specs.Parts.{part_called}
+pub use Rattle.node_memory.specs.Conditions.{is_memory_call}
 pub use Rattle.node_memory.specs.PoolCalls.{ask_pool}
 pub use Rattle.node_memory.specs.declared.parts.Part.{Part}
 pub use Rattle.process_core.specs.Agenda.{Item, Job, Queued}

@@ -2,8 +2,9 @@
 
 ghost use Rattle.std.specs.Prelude.{◌≡◌, ◌⊎◌, ◌≤◌, Some, None, IsSome, IfSome, IfOk};
 ghost use Rattle.std.specs.Bool.{OnTrue, OnFalse};
-ghost use Rattle.mote_types.specs.BlockNames.{IsName};
-ghost use Rattle.heap_core.specs.HeapStore.{IsHeapSize, IsHeaderLength, empty_heap, allocated, reallocated, freed, length_of, live_place, place, stats_of};
+ghost use Rattle.mote_types.specs.Conditions.{IsName};
+ghost use Rattle.heap_core.specs.HeapStore.{empty_heap, allocated, reallocated, freed, place, stats_of};
+ghost use Rattle.heap_core.specs.Conditions.{IsHeapSize, IsHeaderLength, length_of, live_place};
 
 use arena_core::Arena;
 use heap_core::{Heap, Key, Place};

@@ -1,8 +1,8 @@
 //! The map of the heap: where its blocks lie, by a heap in which the accepted calls of the transcript are carried out.
 
 ghost use Rattle.std.specs.Prelude.{◌≡◌, IfSome};
-ghost use Rattle.mote_types.specs.BlockNames.{IsName};
-ghost use Rattle.heap_core.specs.HeapStore.{IsHeaderLength};
+ghost use Rattle.mote_types.specs.Conditions.{IsName};
+ghost use Rattle.heap_core.specs.Conditions.{IsHeaderLength};
 
 use crate::heap::LiveHeap;
 use crate::stay::{Record, Stay};

@@ -1,7 +1,7 @@
 //! The heap with its arena, where the conditions of each call are tested as the kernel tests them.
 
 ghost use Rattle.std.specs.Prelude.{◌≡◌, ◌≤◌, ◌%◌};
-ghost use Rattle.heap_core.specs.HeapStore.{IsHeapSize, IsHeaderLength};
+ghost use Rattle.heap_core.specs.Conditions.{IsHeapSize, IsHeaderLength};
 
 use arena_core::Arena;
 use heap_core::{Heap, Key};

@@ -1,7 +1,7 @@
 //! Managed memory with its arena: the conditions of each call are looked at before it, as the kernel does.
 
 ghost use Rattle.std.specs.Prelude.{◌≤◌, ◌%◌, ◌≡◌};
-ghost use Rattle.mmem_core.specs.ManagedStore.{IsManagedSize};
+ghost use Rattle.mmem_core.specs.Conditions.{IsManagedSize};
 
 use arena_core::Arena;
 use mmem_core::{Key, Mmem};

@@ -13,7 +13,8 @@ unfoldable pub use Rattle.timer_core.specs.Code.Links.{listed_from}
 pub use Rattle.timer_core.specs.Code.Neighbours.{Follows, IsHead}
 pub use Rattle.timer_core.specs.Code.Numbered.{IsNumbered}
 pub use Rattle.timer_core.specs.Code.Places.{are_placed, is_named, place_of, timer_at}
-pub use Rattle.timer_core.specs.Names.{IsNamed, is_callback_timer_of, is_event_timer_of, is_timer}
+pub use Rattle.timer_core.specs.Names.{is_callback_timer_of, is_event_timer_of, is_timer}
+pub use Rattle.timer_core.specs.Conditions.{IsNamed}
 unfoldable pub use Rattle.timer_core.specs.Names.{all_timers}
 pub use Rattle.timer_core.specs.Timers.{NamedCell, Timers, armed_with, cell_of, cell_under, deadline, first_due, given_cell, is_armed, is_due, no_timers, stop_timer, with_cell, without_callback_timers, without_event_timers, zero_cell}
 pub use Rattle.timer_core.specs.declared.table.LinkedCell.{LinkedCell}

@@ -1,5 +1,6 @@
 -- What the code keeps true of its own parts.
 pub mod Armings
+pub mod DueTimers
 pub mod Links
 pub mod Neighbours
 pub mod Numbered

@@ -1,4 +1,5 @@
 -- what a reader must believe
+pub mod Conditions
 pub mod Names
 pub mod Timers
 -- what is always true of the code's own parts

@@ -1,5 +1,5 @@
 -- Event timers and callback timers: their cells, and one list of those that are armed.
-use Rattle.std.specs.Prelude.{ℕ, ◌+◌, ◌*◌, ◌^◌, Bool, not, List, [], ◌∷◌, filter, find, map, Option, Some, None, if◌then◌else◌, nat_le}
+use Rattle.std.specs.Prelude.{ℕ, ◌+◌, ◌*◌, ◌^◌, Bool, not, List, [], ◌∷◌, filter, find, map, Option, if◌then◌else◌, nat_le}
 use Rattle.std.specs.List.{list_any}
 use Rattle.std.specs.Option.{option_map_or}
 use Rattle.timer_core.specs.declared.timer.Timer.{Timer}
@@ -84,14 +84,6 @@ is_due clock timers timer = nat_le (deadline (cell_of timer timers)) clock
 -- the first on the list whose deadline has come
 abbrev pub first_due : ℕ → Timers → Option Timer
 first_due clock timers = find (is_due clock timers) timers.armed
-
-abbrev pub stop_if_any : Option Timer → Timers → Timers
-stop_if_any None timers = timers
-stop_if_any (Some timer) timers = stop_timer timer timers
-
--- that one is off the list
-abbrev pub without_first_due : ℕ → Timers → Timers
-without_first_due clock timers = stop_if_any (first_due clock timers) timers
 
 -- the timers of p are off the list
 abbrev pub without_event_timers : ℕ → Timers → Timers

@@ -4,7 +4,7 @@ ghost use Rattle.std.specs.Prelude.{◌≡◌, ◌≤◌, ◌^◌, true, None, I
 ghost use Rattle.timer_core.specs.Code.Neighbours.{Follows, IsHead};
 ghost use Rattle.timer_core.specs.Code.Outlooks.{IsOutlook};
 ghost use Rattle.timer_core.specs.Code.Places.{timer_at};
-ghost use Rattle.timer_core.specs.Names.{IsNamed};
+ghost use Rattle.timer_core.specs.Conditions.{IsNamed};
 ghost use Rattle.timer_core.specs.Timers.{no_timers, cell_of, is_armed, armed_with, stop_timer, without_event_timers, without_callback_timers};
 
 use crate::timer::{Cell, Timer};

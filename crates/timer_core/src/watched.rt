@@ -1,7 +1,7 @@
 //! The timer table, and the moment from which on one of its timers may be due.
 
 ghost use Rattle.std.specs.Prelude.{◌≡◌, ◌≤◌, ◌^◌, IfSome};
-ghost use Rattle.timer_core.specs.Names.{IsNamed};
+ghost use Rattle.timer_core.specs.Conditions.{IsNamed};
 ghost use Rattle.timer_core.specs.Timers.{no_timers, cell_of, is_armed, armed_with, stop_timer, first_due, without_event_timers, without_callback_timers};
 
 use crate::table::{Outlook, TimerTable};

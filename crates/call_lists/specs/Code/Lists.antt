@@ -1,9 +1,10 @@
 -- A list of calls that fills from its front.
-use Rattle.std.specs.Prelude.{◌≡◌, ◌≤◌, ◌<◌, ◌+◌, ◌⊎◌, ℕ, List, [], ◌++◌, length, take, drop, codes, decimal, Option, Some, None}
+use Rattle.std.specs.Prelude.{◌≡◌, ◌≤◌, ◌<◌, ◌+◌, ◌⊎◌, ℕ, List, [], ◌∷◌, ◌++◌, length, take, drop, codes, decimal, Option, Some, None}
 use Rattle.std.specs.List.{join_by}
 use Rattle.mote_types.specs.declared.call.Call.{Call}
 use denote.Ref.{Bor}
 use Rattle.call_lists.specs.Calls.{AreMade, AreOfParts}
+use Rattle.call_lists.specs.Ranges.{ArePossible}
 
 -- a text without the number in front of it, and that number, which isn't 0, or the text itself, and 1
 abbrev pub IsCounted : List ℕ → ℕ → List ℕ → Type 0
@@ -37,3 +38,13 @@ pub record ArePut (text : List ℕ) (old new : List Call) : Type 0 where
   pub size : ℕ
   pub is_text : text ≡ join_by (λ part. part) (codes ", ") parts
   pub has_front : HasFront parts size old new
+
+-- the text has parts, one at least, and they make calls that there are, which fill a list from a place on and not over its end
+pub record HasParts (text : List ℕ) (place end : ℕ) : Type 0 where
+  pub part : List ℕ
+  pub parts : List (List ℕ)
+  pub made : List Call
+  pub is_text : text ≡ join_by (λ part. part) (codes ", ") (part ∷ parts)
+  pub are_of_parts : AreOfParts (part ∷ parts) made
+  pub possible : ArePossible made
+  pub fit : place + length made ≤ end

@@ -3,7 +3,8 @@ use Rattle.std.specs.Prelude.{ℕ, List, Option}
 use Rattle.std.specs.Option.{option_map}
 use Rattle.mote_types.specs.declared.event.Pid.{Pid}
 use Rattle.device_core.specs.declared.frame.Frame.{Frame}
-use Rattle.device_core.specs.PacketQueue.{PacketQueue, receiver_number}
+use Rattle.device_core.specs.PacketQueue.{PacketQueue}
+use Rattle.device_core.specs.Code.HeldFrames.{receiver_number}
 
 abbrev pub packets_of : List Frame → ℕ → Option Pid → PacketQueue
 packets_of frames announced receiver = record { frames = frames; announced = announced; receiver = option_map receiver_number receiver }

@@ -6,7 +6,7 @@ use Rattle.mote_types.specs.declared.entry.Input.{Input}
 use Rattle.mote_types.specs.declared.entry.Note.{Note}
 use Rattle.mote_types.specs.declared.event.Pid.{Pid}
 use Rattle.device_core.specs.declared.frame.Frame.{Frame}
-use Rattle.node_memory.specs.Frames.{frame_in}
+use Rattle.node_memory.specs.Conditions.{frame_in}
 use Rattle.node_memory.specs.Memory.{Memory}
 use Rattle.node_memory.specs.Placed.{last_owner}
 use Rattle.process_core.specs.Agenda.{Item, Job}

@@ -6,7 +6,8 @@ use Rattle.process_core.specs.declared.process.Process.{Process}
 use Rattle.process_core.specs.Agenda.{Job}
 use Rattle.process_core.specs.Idle.{is_empty, is_idle}
 use Rattle.process_core.specs.Processes.{is_marked, is_any_marked, with_mark}
-use Rattle.process_core.specs.Scheduler.{Scheduler, ComesTo}
+use Rattle.process_core.specs.Scheduler.{Scheduler}
+use Rattle.process_core.specs.Code.Items.{ComesTo}
 
 -- p is marked, and no other process is
 abbrev pub is_only_marked : ℕ → List Process → Bool

@@ -8,8 +8,9 @@ use Rattle.mote_types.specs.declared.event.Pid.{Pid}
 use Rattle.process_core.specs.declared.process.Process.{Process}
 use Rattle.process_core.specs.declared.state.State.{State}
 use Rattle.process_core.specs.declared.open_work.Continuation.{Continuation}
-use Rattle.process_core.specs.Processes.{state_of, IsOfMote}
-use Rattle.process_core.specs.Requests.{is_in_activation}
+use Rattle.process_core.specs.Processes.{state_of}
+use Rattle.process_core.specs.Code.Invariant.{IsOfMote}
+use Rattle.process_core.specs.Code.Invariant.{is_in_activation}
 
 abbrev pub is_one_of : ℕ → List ℕ → Bool
 is_one_of p ps = list_any (eqb p) ps

@@ -1,7 +1,8 @@
 -- What items of the agenda come to that are worked off together.
 use Rattle.std.specs.Prelude.{◌≡◌, ℕ, Option, Some, None}
 use Rattle.process_core.specs.Agenda.{Job}
-use Rattle.process_core.specs.Scheduler.{Scheduler, after_items, ComesTo}
+use Rattle.process_core.specs.Scheduler.{Scheduler}
+use Rattle.process_core.specs.Code.Items.{after_items, ComesTo}
 
 module _ {X : Type 0} where
   -- Items are worked off: up to this job where there is one, and else some that are no jobs

@@ -1,7 +1,7 @@
 -- What a look at the timer list finds.
 use Rattle.std.specs.Prelude.{◌≡◌, ℕ, Some, None}
 use Rattle.timer_core.specs.declared.table.Outlook.{Outlook}
-use Rattle.timer_core.specs.Names.{IsNamed}
+use Rattle.timer_core.specs.Conditions.{IsNamed}
 use Rattle.timer_core.specs.Timers.{Timers, first_due}
 use Rattle.timer_core.specs.Code.Watched.{NoneDueBefore}
 

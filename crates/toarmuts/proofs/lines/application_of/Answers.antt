@@ -32,7 +32,7 @@ anyway A None a = a
 pub returns-in-Some-clause-named : goal.returns-in-Some-clause-named
 returns-in-Some-clause-named c =
     subst (λ (o : Option Application). IfSome o (IsOfLine c.args.line.now)) (sym c.ok.ensures.value)
-    (ok_gives _ _ c.listed.result (λ application is. inr (c.in-Some.text.now, c.in-Some.ensures, is)) c.listed.ensures)
+    (ok_gives _ _ c.listed.result (λ application is. inr (c.in-Some.text.now, c.in-Some.ensures, is)) c.listed.ensures.listed)
 
 pub returns-in-Some-clause-none : goal.returns-in-Some-clause-none
 returns-in-Some-clause-none c = anyway _ _ (no_name c.args.line.now c.in-Some.text.now c.in-Some.ensures)

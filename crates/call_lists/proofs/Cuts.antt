@@ -1,0 +1,114 @@
+-- Texts that are cut at their first blank, and what hex digits of either case leave of that.
+use Rattle.std.proofs.Common.{◌≡◌, ◌∙◌, ◌≢◌, ◌<◌, ◌==◌, ◌&&◌, ℕ, suc, Bool, true, false, not, List, [], ◌∷◌, ◌++◌, length, get_or, drop, refl, ap, ne_eqb, arith}
+use Rattle.std.proofs.lemmas.Bool.{and_parts}
+use Rattle.std.proofs.lemmas.Bool.Decides.{nat_tests}
+use Rattle.std.specs.Prelude.{⊤}
+use Rattle.std.specs.Char.{is_ascii_digit}
+use Rattle.std.specs.List.{list_all}
+use Rattle.mote_text.specs.EntryText.{Word}
+use Rattle.mote_text.specs.Code.EntryLines.{spaced}
+use Rattle.call_lists.specs.Calls.{hex_lowered}
+use Rattle.call_lists.specs.Code.Readings.{behind_first, first_word}
+
+-- neither a blank nor a comma
+abbrev pub is_plain : ℕ → Bool
+is_plain c = not (c == 32) && not (c == 44)
+
+abbrev pub IsPlain : List ℕ → Type 0
+IsPlain text = list_all is_plain text ≡ true
+
+-- nothing, or what begins with a blank
+abbrev pub IsBehind : List ℕ → Type 0
+IsBehind [] = ⊤
+IsBehind (c ∷ text) = c ≡ 32
+
+pub behind_spaced : (words : List Word) → IsBehind (spaced words)
+unfolding spaced
+behind_spaced [] = tt
+behind_spaced (word ∷ words) = refl
+
+no_blank : (c : ℕ) → is_plain c ≡ true → (c == 32) ≡ false
+no_blank c is = grind (arith, nat_tests, is)
+
+pub cut_of_free : (word left : List ℕ) → ((i : ℕ) → i < length word → get_or word i 0 ≢ 32) → IsBehind left
+    → (first_word (word ++ left) ≡ word) × (behind_first (word ++ left) ≡ left)
+cut_of_free [] [] free is = (refl, refl)
+cut_of_free [] (c ∷ left) free is = rw is (refl, refl)
+cut_of_free (c ∷ word) left free is =
+    let others = cut_of_free word left (λ i inside. free (suc i) (omega (arith, inside))) is in
+    let other : (c == 32) ≡ false = ne_eqb c 32 (free 0 (omega arith)) in
+    rw (other, others.0, others.1) (refl, refl)
+
+pub whole_word : (word : List ℕ) → ((i : ℕ) → i < length word → get_or word i 0 ≢ 32) → (first_word word ≡ word) × (behind_first word ≡ [])
+whole_word [] free = (refl, refl)
+whole_word (c ∷ word) free =
+    let others = whole_word word (λ i inside. free (suc i) (omega (arith, inside))) in
+    let other : (c == 32) ≡ false = ne_eqb c 32 (free 0 (omega arith)) in
+    rw (other, others.0, others.1) (refl, refl)
+
+pub cut_of_plain : (word left : List ℕ) → IsPlain word → IsBehind left → (first_word (word ++ left) ≡ word) × (behind_first (word ++ left) ≡ left)
+cut_of_plain [] [] plain is = (refl, refl)
+cut_of_plain [] (c ∷ left) plain is = rw is (refl, refl)
+cut_of_plain (c ∷ word) left plain is =
+    let parts = and_parts (is_plain c) (list_all is_plain word) plain in
+    let others = cut_of_plain word left parts.1 is in
+    rw (no_blank c parts.0, others.0, others.1) (refl, refl)
+
+-- ---- with hex digits of either case
+
+abbrev pub lowered : ℕ → ℕ
+lowered c = get_or (hex_lowered (c ∷ [])) 0 0
+
+head_of : (c d : ℕ) (text others : List ℕ) → hex_lowered (c ∷ text) ≡ d ∷ others → lowered c ≡ d
+head_of c d text others same = ap (λ text. get_or text 0 0) same
+
+tail_of : (c d : ℕ) (text others : List ℕ) → hex_lowered (c ∷ text) ≡ d ∷ others → hex_lowered text ≡ others
+tail_of c d text others same = ap (drop 1) same
+
+blank_lowered : (c d : ℕ) → lowered c ≡ d → d ≡ 32 → c ≡ 32
+blank_lowered c d same is = grind (arith, nat_tests, same, is)
+
+plain_lowered : (c d : ℕ) → lowered c ≡ d → is_plain d ≡ true → is_plain c ≡ true
+plain_lowered c d same is = grind (arith, nat_tests, same, is)
+
+digit_lowered : (c d : ℕ) → lowered c ≡ d → is_ascii_digit d ≡ true → c ≡ d
+digit_lowered c d same is = grind (arith, nat_tests, same, is)
+
+pub none_lowered : (text : List ℕ) → hex_lowered text ≡ [] → text ≡ []
+none_lowered [] same = refl
+none_lowered (c ∷ text) same = cc same
+
+pub behind_lowered : (text left : List ℕ) → IsBehind left → hex_lowered text ≡ left → IsBehind text
+behind_lowered [] left is same = tt
+behind_lowered (c ∷ text) [] is same = cc same
+behind_lowered (c ∷ text) (d ∷ left) is same = blank_lowered c d (head_of c d text left same) is
+
+pub plain_from_lowered : (text word : List ℕ) → IsPlain word → hex_lowered text ≡ word → IsPlain text
+plain_from_lowered [] word plain same = refl
+plain_from_lowered (c ∷ text) [] plain same = cc same
+plain_from_lowered (c ∷ text) (d ∷ word) plain same =
+    let parts = and_parts (is_plain d) (list_all is_plain word) plain in
+    rw (plain_lowered c d (head_of c d text word same) parts.0, plain_from_lowered text word parts.1 (tail_of c d text word same)) refl
+
+pub digits_lowered : (text digits : List ℕ) → list_all is_ascii_digit digits ≡ true → hex_lowered text ≡ digits → text ≡ digits
+digits_lowered [] digits all same = same
+digits_lowered (c ∷ text) [] all same = cc same
+digits_lowered (c ∷ text) (d ∷ digits) all same =
+    let parts = and_parts (is_ascii_digit d) (list_all is_ascii_digit digits) all in
+    rw (digit_lowered c d (head_of c d text digits same) parts.0, digits_lowered text digits parts.1 (tail_of c d text digits same)) refl
+
+pub lowered_cut : (text word left : List ℕ) → IsPlain word → IsBehind left → hex_lowered text ≡ word ++ left
+    → (hex_lowered (first_word text) ≡ word) × (hex_lowered (behind_first text) ≡ left)
+lowered_cut [] [] left plain is same = (refl, same)
+lowered_cut [] (d ∷ word) left plain is same = cc same
+lowered_cut (c ∷ text) [] [] plain is same = cc same
+lowered_cut (c ∷ text) [] (d ∷ left) plain is same =
+    let blank : c ≡ 32 = blank_lowered c d (head_of c d text left same) is in
+    let here : (c == 32) ≡ true = rw blank refl in
+    rw here (refl, same)
+lowered_cut (c ∷ text) (d ∷ word) left plain is same =
+    let parts = and_parts (is_plain d) (list_all is_plain word) plain in
+    let head : lowered c ≡ d = head_of c d text (word ++ left) same in
+    let others = lowered_cut text word left parts.1 is (tail_of c d text (word ++ left) same) in
+    let here : (c == 32) ≡ false = no_blank c (plain_lowered c d head parts.0) in
+    rw here (ap (λ c. c ∷ hex_lowered (first_word text)) head ∙ ap (λ word. d ∷ word) others.0, others.1)

@@ -1,0 +1,200 @@
+-- Which words of a text fit the words of a call, with hex digits of either case.
+use Rattle.std.proofs.Common.{◌≡◌, ◌∙◌, ◌<◌, ◌≤◌, ◌^◌, ◌*◌, ◌/◌, ◌&&◌, ◌||◌, ℕ, suc, Bool, true, false, List, [], ◌∷◌, ◌++◌, length, get_or, drop, codes, decimal, bytes_eq, nat_lt, Some, None, Ok, Option, refl, sym, ap, subst, le-leb, lt-ltb, arith}
+use Rattle.std.proofs.lemmas.Bool.{and_parts}
+use Rattle.std.proofs.lemmas.Bool.Decides.{nat_tests}
+use Rattle.std.proofs.lemmas.Fmt.{decimal_nonempty}
+use Rattle.std.proofs.lemmas.List.Elements.{All-cons, All-head, All-nil, All-tail}
+use Rattle.std.specs.Prelude.{⊤}
+use Rattle.std.specs.Char.{is_ascii_digit}
+use Rattle.std.specs.List.{AllPass, list_all}
+use Rattle.arrayvec.specs.ArrayVec.{ArrayVec}
+use Rattle.hex.proofs.HexLemmas.{decode_of-digits, decode_of-encode_lower, decode_of-ok, length-encode_with}
+use Rattle.hex.specs.Hex.{decode_of, encode_lower, is_hex_digit, lower_digits}
+use Rattle.mote_text.proofs.Ticks.{read_decimal}
+use Rattle.mote_text.specs.EntryText.{Word, hex, payload_word}
+use Rattle.mote_text.specs.Code.EntryLines.{spaced}
+use Rattle.mote_text.specs.Script.{read_number}
+use Rattle.mote_types.specs.declared.event.Payload.{Payload}
+use Rattle.call_lists.specs.Calls.{hex_lowered}
+use Rattle.call_lists.specs.Ranges.{AreBytes, IsByte, IsChunk, IsPayload, IsWide}
+use Rattle.call_lists.specs.Code.Readings.{Test, behind_first, first_word, is_at_most, is_chunk, is_hex, is_payload, is_small, is_wide, left_by_all, left_by_call}
+use Rattle.call_lists.proofs.Lowered.{digits_of_read}
+use Rattle.call_lists.proofs.Cuts.{IsPlain, behind_spaced, digits_lowered, is_plain, lowered, lowered_cut, none_lowered}
+
+-- the word has no blank and no comma, and a text that is it in lower case passes the test
+abbrev pub Fits : Test → Word → Type 0
+Fits is_word word = IsPlain word × ((text : List ℕ) → hex_lowered text ≡ word → is_word text ≡ true)
+
+-- so each of these fits its test
+abbrev pub AllFit : List Test → List Word → Type 0
+AllFit [] [] = ⊤
+AllFit [] (word ∷ words) = ⊥
+AllFit (test ∷ tests) [] = ⊥
+AllFit (test ∷ tests) (word ∷ words) = Fits test word × AllFit tests words
+
+abbrev pub FitsCall : Option (List Test) → List Word → Type 0
+FitsCall None words = ⊥
+FitsCall (Some tests) words = AllFit tests words
+
+-- ---- numbers
+
+plain_digit : (c : ℕ) → is_ascii_digit c ≡ true → is_plain c ≡ true
+plain_digit c is = grind (arith, nat_tests, is)
+
+pub plain_digits : (text : List ℕ) → list_all is_ascii_digit text ≡ true → IsPlain text
+plain_digits [] all = refl
+plain_digits (c ∷ text) all =
+    let parts = and_parts (is_ascii_digit c) (list_all is_ascii_digit text) all in
+    rw (plain_digit c parts.0, plain_digits text parts.1) refl
+
+pub all_digits : (n : ℕ) → n < 2 ^ 32 → list_all is_ascii_digit (decimal n) ≡ true
+all_digits n wide = digits_of_read (decimal n) n (read_decimal n wide)
+
+read_lowered : (n : ℕ) (text : List ℕ) → IsWide n → hex_lowered text ≡ decimal n → read_number text ≡ Some n
+read_lowered n text wide same = ap read_number (digits_lowered text (decimal n) (all_digits n (omega arith)) same) ∙ read_decimal n wide
+
+pub small_fits : (n : ℕ) → IsByte n → Fits is_small (decimal n)
+small_fits n small = (
+  plain_digits (decimal n) (all_digits n (omega arith)),
+  λ text same. ap (is_at_most 255) (read_lowered n text (omega arith) same) ∙ le-leb n 255 (omega arith),
+)
+
+pub wide_fits : (n : ℕ) → IsWide n → Fits is_wide (decimal n)
+wide_fits n wide = (
+  plain_digits (decimal n) (all_digits n (omega arith)),
+  λ text same. ap (is_at_most 4294967295) (read_lowered n text wide same) ∙ le-leb n 4294967295 (omega arith),
+)
+
+-- ---- bytes
+
+plain_hex_digit : (c : ℕ) → is_hex_digit c ≡ true → is_plain c ≡ true
+plain_hex_digit c is = grind (arith, nat_tests, is)
+
+plain_hex : (text : List ℕ) → AllPass is_hex_digit text → IsPlain text
+plain_hex [] all = refl
+plain_hex (c ∷ text) all =
+    let first = plain_hex_digit c (All-head (λ c. is_hex_digit c ≡ true) c text all) in
+    let others = plain_hex text (All-tail (λ c. is_hex_digit c ≡ true) c text all) in
+    rw (first, others) refl
+
+hex_digit_lowered : (c : ℕ) → is_hex_digit (lowered c) ≡ true → is_hex_digit c ≡ true
+hex_digit_lowered c is = grind (arith, nat_tests, is)
+
+hex_digits_lowered : (text : List ℕ) → AllPass is_hex_digit (hex_lowered text) → AllPass is_hex_digit text
+hex_digits_lowered [] all = All-nil (λ c. is_hex_digit c ≡ true)
+hex_digits_lowered (c ∷ text) all =
+    All-cons (λ c. is_hex_digit c ≡ true) c text (hex_digit_lowered c (All-head (λ c. is_hex_digit c ≡ true) (lowered c) (hex_lowered text) all))
+    (hex_digits_lowered text (All-tail (λ c. is_hex_digit c ≡ true) (lowered c) (hex_lowered text) all))
+
+digits_of : (most : ℕ) (bytes : List ℕ) → AreBytes most bytes → AllPass is_hex_digit (encode_lower bytes)
+digits_of most bytes are = (decode_of-ok (encode_lower bytes) bytes (decode_of-encode_lower bytes are.1)).1
+
+length_lowered : (text : List ℕ) → length (hex_lowered text) ≡ length text
+length_lowered [] = refl
+length_lowered (c ∷ text) = ap suc (length_lowered text)
+
+hex_fits : (most : ℕ) (bytes : List ℕ) → AreBytes most bytes → (text : List ℕ) → hex_lowered text ≡ encode_lower bytes → is_hex most text ≡ true
+hex_fits most bytes are text same =
+    let long : length text ≡ 2 * length bytes = sym (length_lowered text) ∙ ap length same ∙ length-encode_with lower_digits bytes in
+    let digits : AllPass is_hex_digit text = hex_digits_lowered text (subst (AllPass is_hex_digit) (sym same) (digits_of most bytes are)) in
+    let decoded = decode_of-digits text (omega (arith, long)) digits in
+    let few : length text / 2 ≤ most = omega (arith, long, are.0) in
+    rw (le-leb (length text / 2) most few, decoded.1) refl
+
+dash_lowered : (text : List ℕ) → hex_lowered text ≡ codes "-" → text ≡ codes "-"
+dash_lowered text same = dash text same
+  where
+    only : (c : ℕ) → lowered c ≡ 45 → c ≡ 45
+    only c is = grind (arith, nat_tests, is)
+
+    dash : (text : List ℕ) → hex_lowered text ≡ codes "-" → text ≡ codes "-"
+    dash [] same = cc same
+    dash (c ∷ text) same = rw (only c (ap (λ text. get_or text 0 0) same), none_lowered text (ap (drop 1) same)) refl
+
+some_digits : (b : ℕ) (bytes text : List ℕ) → hex_lowered text ≡ encode_lower (b ∷ bytes) → 0 < length text
+some_digits b bytes text same =
+    let long : length text ≡ 2 * length (b ∷ bytes) = sym (length_lowered text) ∙ ap length same ∙ length-encode_with lower_digits (b ∷ bytes) in
+    omega (arith, long)
+
+or_right : (a b : Bool) → b ≡ true → (a || b) ≡ true
+or_right true b is = refl
+or_right false b is = is
+
+-- whether a word is of bytes, where it is no dash
+pub chunk_passes : (word bytes : List ℕ) → is_hex 64 word ≡ true → decode_of word ≡ Ok bytes → 0 < length bytes → is_chunk word ≡ true
+chunk_passes word bytes is decoded some =
+    let long : length word ≡ 2 * length bytes = (decode_of-ok word bytes decoded).2 in
+    or_right (bytes_eq word (codes "-")) _ (rw (lt-ltb 0 (length word) (omega (arith, long, some)), is) refl)
+
+pub no_bytes_fail : (word bytes : List ℕ) → bytes_eq word (codes "-") ≡ false → decode_of word ≡ Ok bytes → length bytes ≡ 0 → is_chunk word ≡ false
+no_bytes_fail word bytes other decoded none =
+    let long : length word ≡ 2 * length bytes = (decode_of-ok word bytes decoded).2 in
+    let empty : length word ≡ 0 = omega (arith, long, none) in
+    rw (other, empty) refl
+
+and_false : (a b : Bool) → b ≡ false → (a && b) ≡ false
+and_false true b is = is
+and_false false b is = refl
+
+pub no_hex_fails : (word : List ℕ) → bytes_eq word (codes "-") ≡ false → is_hex 64 word ≡ false → is_chunk word ≡ false
+no_hex_fails word other is = rw other (and_false _ _ is)
+
+hex_some : (b : ℕ) (bytes : List ℕ) → hex (b ∷ bytes) ≡ encode_lower (b ∷ bytes)
+hex_some b bytes = grind (arith, nat_tests)
+
+pub bytes_fit : (bytes : List ℕ) → AreBytes 64 bytes → Fits is_chunk (hex bytes)
+bytes_fit [] are = (refl, λ text same. rw (dash_lowered text same) refl)
+bytes_fit (b ∷ bytes) are =
+    subst (Fits is_chunk) (sym (hex_some b bytes)) (
+      plain_hex (encode_lower (b ∷ bytes)) (digits_of 64 (b ∷ bytes) are),
+      λ text same. or_right (bytes_eq text (codes "-")) _
+          (rw (lt-ltb 0 (length text) (some_digits b bytes text same), hex_fits 64 (b ∷ bytes) are text same) refl),
+    )
+
+pub chunk_fits : (chunk : ArrayVec ℕ) → IsChunk chunk → Fits is_chunk (hex chunk.items)
+chunk_fits chunk is = bytes_fit chunk.items is
+
+-- ---- what an event carries
+
+number_text : (text : List ℕ) → list_all is_ascii_digit text ≡ true → 0 < length text → is_payload text ≡ is_wide text
+number_text [] all some = absurd (omega arith)
+number_text (c ∷ text) all some =
+    let digit = (and_parts (is_ascii_digit c) (list_all is_ascii_digit text) all).0 in
+    grind (arith, nat_tests, digit)
+
+line_word : (text : List ℕ) → is_payload (120 ∷ text) ≡ is_hex 127 text
+line_word text = let some : nat_lt 0 (length (120 ∷ text)) ≡ true = lt-ltb 0 (length (120 ∷ text)) (omega arith) in rw some refl
+
+line_text : (text bytes : List ℕ) → AreBytes 127 bytes → hex_lowered text ≡ codes "x" ++ encode_lower bytes → is_payload text ≡ true
+line_text [] bytes are same = cc same
+line_text (c ∷ text) bytes are same = rw (only c (ap (λ text. get_or text 0 0) same)) (line_word text ∙ hex_fits 127 bytes are text (ap (drop 1) same))
+  where
+    only : (c : ℕ) → lowered c ≡ 120 → c ≡ 120
+    only c is = grind (arith, nat_tests, is)
+
+pub payload_fits : (payload : Payload) → IsPayload payload → Fits is_payload (payload_word payload)
+payload_fits Payload.Empty is = (refl, λ text same. rw (dash_lowered text same) refl)
+payload_fits (Payload.Num n) is = (
+  plain_digits (decimal n) (all_digits n (omega arith)),
+  λ text same.
+      let digits = all_digits n (omega arith) in
+      let is_text : text ≡ decimal n = digits_lowered text (decimal n) digits same in
+      ap is_payload is_text ∙ number_text (decimal n) digits (decimal_nonempty n (omega arith)) ∙ (wide_fits n is).1 (decimal n) (ap hex_lowered (sym is_text) ∙ same),
+)
+payload_fits (Payload.Line line) is = (plain_hex (encode_lower line.items) (digits_of 127 line.items is), λ text same. line_text text line.items is same)
+
+-- ---- all words of a call
+
+pub all_taken : (tests : List Test) (words : List Word) (left : List ℕ) → AllFit tests words → hex_lowered left ≡ spaced words → left_by_all tests (Some left) ≡ Some []
+unfolding spaced
+all_taken [] [] left fit same = rw (none_lowered left same) refl
+all_taken [] (word ∷ words) left fit same = absurd fit
+all_taken (test ∷ tests) [] left fit same = absurd fit
+all_taken (test ∷ tests) (word ∷ words) [] fit same = cc same
+all_taken (test ∷ tests) (word ∷ words) (c ∷ text) fit same =
+    let cut = lowered_cut text word (spaced words) fit.0.0 (behind_spaced words) (ap (drop 1) same) in
+    rw (fit.0.1 (first_word text) cut.0) (all_taken tests words (behind_first text) fit.1 cut.1)
+
+pub call_taken : (tests : Option (List Test)) (words : List Word) (left : List ℕ) → FitsCall tests words → hex_lowered left ≡ spaced words → left_by_call tests (Some left) ≡ Some []
+call_taken None words left fit same = absurd fit
+call_taken (Some tests) words left fit same = all_taken tests words left fit same

@@ -1,0 +1,21 @@
+-- What handing in an input, and making an entry, ask.
+use Rattle.std.specs.Prelude.{ℕ, Bool, true, length, nat_lt, ◌<◌}
+use Rattle.mote_types.specs.declared.entry.Entry.{Entry}
+use Rattle.mote_types.specs.declared.entry.Input.{Input}
+use Rattle.kernel_core.specs.declared.step.Step.{Step}
+use Rattle.kernel_core.specs.Mote.{Mote}
+
+-- by how much an input moves the clock
+abbrev pub ticks_of : Input → ℕ
+ticks_of (Input.Tick n) = n
+ticks_of _ = 0
+
+-- a frame has at least one byte
+abbrev pub has_bytes : Input → Bool
+has_bytes (Input.Frame bytes) = nat_lt 0 (length bytes.items)
+has_bytes _ = true
+
+-- an entry that is made is one less that can be made
+abbrev pub TakesEntry : Step → Mote → Mote → Type 0
+TakesEntry (Step.Entry entry) old new = new.entries_left < old.entries_left
+TakesEntry _ old new = Unit {0}

@@ -1,0 +1,25 @@
+-- What a call on memory asks of who makes it, and what a refused one leaves.
+use Rattle.std.specs.Prelude.{ℕ, ◌≤◌, List, Option, Bool, is_some}
+use Rattle.mote_types.specs.declared.call.Call.{Call}
+use Rattle.mote_types.specs.declared.reply.Reply.{Reply}
+use Rattle.mmem_core.specs.ManagedStore.{block_of}
+use Rattle.node_memory.specs.Memory.{Memory}
+use Rattle.node_memory.specs.Parts.{part_called}
+use Rattle.node_memory.specs.Frames.{frame_holder}
+
+-- the processes that may make a call: the applications, and process 3 too may ask how much is free
+abbrev pub MayAsk : ℕ → Call → Type 0
+MayAsk p Call.MmemAvail = (3 ≤ p) × (p ≤ 19)
+MayAsk p _ = (4 ≤ p) × (p ≤ 19)
+
+-- where the reply is a refusal
+abbrev pub IfRefused : Reply → Type 0 → Type 0
+IfRefused (Reply.Refused refusal) fact = fact
+IfRefused _ fact = Unit {0}
+
+-- the bytes of the frame in that slot, if it holds one
+abbrev pub frame_in : ℕ → Memory → Option (List ℕ)
+frame_in slot m = block_of frame_holder slot m.managed
+
+abbrev pub is_memory_call : Call → Bool
+is_memory_call call = is_some (part_called call)
