@@ -23,7 +23,7 @@ TOARMUTS_ASSERT((HEAPMEM_CONF_MAX_ZONES) >= 1 && (HEAPMEM_CONF_MAX_ZONES) <= 255
 static TOARMUTS_BYTES(memory, SIZE);
 static struct toarmuts_heap_row rows[SIZE / TOARMUTS_ALIGNMENT];
 static uint8_t zone_of[SIZE / TOARMUTS_ALIGNMENT];
-static struct toarmuts_heap_zone zones[HEAPMEM_CONF_MAX_ZONES] = {{"general", SIZE}};
+static struct toarmuts_heap_zone zones[HEAPMEM_CONF_MAX_ZONES] = {{"general", SIZE, 0}};
 
 const struct toarmuts_heap_memory toarmuts_heap_memory = {
   memory.bytes, SIZE, rows, SIZE / TOARMUTS_ALIGNMENT, zone_of, zones, HEAPMEM_CONF_MAX_ZONES};

@@ -24,20 +24,6 @@ zone_at(size_t place)
   return &toarmuts_heap_memory.zone_of[place / TOARMUTS_ALIGNMENT];
 }
 
-/* What the blocks of a zone take: each its size. */
-static size_t
-taken_by(heapmem_zone_t zone)
-{
-  size_t sum = 0;
-  for(size_t i = 0; i < used; i++) {
-    const struct toarmuts_heap_row *row = &toarmuts_heap_memory.rows[i];
-    if(row->place < toarmuts_heap_memory.size && *zone_at(row->place) == zone) {
-      sum += row->size;
-    }
-  }
-  return sum;
-}
-
 /* How many bytes a zone has left beside a block of so many; none where there is no such zone. */
 static size_t
 left_in(heapmem_zone_t zone, size_t beside)
@@ -45,7 +31,7 @@ left_in(heapmem_zone_t zone, size_t beside)
   if(zone >= toarmuts_heap_memory.zone_num || toarmuts_heap_memory.zones[zone].name == NULL) {
     return 0;
   }
-  size_t taken = taken_by(zone) - beside;
+  size_t taken = toarmuts_heap_memory.zones[zone].taken - beside;
   size_t size = toarmuts_heap_memory.zones[zone].size;
   return taken < size ? size - taken : 0;
 }
@@ -58,16 +44,33 @@ place_of(const void *ptr)
   return at >= start && at - start < toarmuts_heap_memory.size ? at - start : toarmuts_heap_memory.size;
 }
 
-/* The size of the block that begins at a place of the heap; 0 where none does. */
+/* The size of the block that begins at a place of the heap; 0 where none does. The rows are in the order of their places. */
 static size_t
 size_at(size_t place)
 {
-  for(size_t i = 0; place < toarmuts_heap_memory.size && i < used; i++) {
-    if(toarmuts_heap_memory.rows[i].place == place) {
-      return toarmuts_heap_memory.rows[i].size;
+  const struct toarmuts_heap_row *rows = toarmuts_heap_memory.rows;
+  size_t low = 0, high = used;
+  if(place >= toarmuts_heap_memory.size) {
+    return 0;
+  }
+  while(low < high) {
+    size_t middle = low + (high - low) / 2;
+    if(rows[middle].place < place) {
+      low = middle + 1;
+    } else {
+      high = middle;
     }
   }
-  return 0;
+  return low < used && rows[low].place == place ? rows[low].size : 0;
+}
+
+/* A block of a zone took so many bytes, and takes so many now. */
+static void
+note_taken(heapmem_zone_t zone, size_t before, size_t now)
+{
+  if(zone < toarmuts_heap_memory.zone_num) {
+    toarmuts_heap_memory.zones[zone].taken += now - before;
+  }
 }
 
 /* After a call that made or resized a block: the rows are in the order of their places, so the last one has the footprint. */
@@ -114,6 +117,7 @@ heapmem_zone_alloc(heapmem_zone_t zone, size_t size)
   }
   used++;
   *zone_at(place) = zone;
+  note_taken(zone, 0, wanted);
   note_footprint();
   return toarmuts_heap_memory.bytes + place;
 }
@@ -161,6 +165,7 @@ heapmem_realloc(void *ptr, size_t size)
     return NULL;
   }
   *zone_at(place) = zone;
+  note_taken(zone, old, wanted);
   note_footprint();
   return toarmuts_heap_memory.bytes + place;
 }
@@ -168,11 +173,13 @@ heapmem_realloc(void *ptr, size_t size)
 bool
 heapmem_free(void *ptr)
 {
-  if(toarmuts_heapmem_free(toarmuts_heap_memory.rows, used, toarmuts_heap_memory.bytes, toarmuts_heap_memory.size,
-                           place_of(ptr)) != TOARMUTS_HEAP_DONE) {
+  size_t place = place_of(ptr), size = size_at(place);
+  if(toarmuts_heapmem_free(toarmuts_heap_memory.rows, used, toarmuts_heap_memory.bytes, toarmuts_heap_memory.size, place) !=
+     TOARMUTS_HEAP_DONE) {
     return false;
   }
   used--;
+  note_taken(*zone_at(place), size, 0);
   return true;
 }
 

@@ -442,3 +442,20 @@ module _ (old one two : Contents) (b at len word : ℕ) (first : one ≡ content
 
     pub free_changes : ChangesOnly (b + at) 12 old.bytes new.bytes
     free_changes = grind (arith, changes_then, changes_more, live_changes, three_put)
+
+-- the link of a free one alone
+module _ (old new : Contents) (b at next : ℕ) (put : new ≡ contents (written old.bytes (b + at + 8) (to_le_bytes w32 next)) old.carved) (within : b + at + 12 ≤ length old.bytes) (small : next < 2 ^ 32) where
+  link_put : WordPut old.bytes new.bytes (b + at + 8) next
+  link_put = put_in old new (b + at + 8) next put (omega arith) small
+
+  pub link_written : (gap : Chunk) (link : Option ℕ) → chunk_at old.bytes b at ≡ gap → gap.owner ≡ None → number_in next ≡ link → chunk_at new.bytes b at ≡ chunk_of at gap.len gap.owner gap.size link
+  unfolding chunk_at
+  link_written gap link told free is =
+      sym (chunk_is new.bytes b at gap.len gap.owner gap.size link
+      (sym (ap (λ (k : Chunk). k.len) told) ∙ sym (link_put.apart (b + at) (inl (omega arith))))
+      (sym (ap (λ (k : Chunk). k.owner) told) ∙ ap owner_in (sym (link_put.apart (b + at + 4) (inl (omega arith)))))
+      (sym (ap (λ (k : Chunk). k.size) told) ∙ ap size_in (sym (link_put.apart (b + at + 4) (inl (omega arith)))))
+      (sym is ∙ ap number_in (sym link_put.here) ∙ sym (link_free gap.owner (word_at new.bytes (b + at + 8)) (ap is_a_name free))))
+
+  pub link_changes : ChangesOnly (b + at) 12 old.bytes new.bytes
+  link_changes = changes_more (b + at + 8) 4 (b + at) 12 old.bytes new.bytes link_put.changes (omega arith) (omega arith)

@@ -1,6 +1,6 @@
 -- Chunks that were freed and are not joined yet.
-use Rattle.heap_core.proofs.Words.{◌≡◌, ◌≢◌, ℕ, ◌+◌, ◌-◌, ◌≤◌, ◌<◌, inl, inr, Bool, not, List, [], ◌∷◌, ◌++◌, length, true, false, refl, sym, ap, ◌∙◌, subst, arith, Option, Some, None, IfSome, filter, map, cases_Bool, ltb-true, lt-ltb, le-ltb, length-append, filter-append, All-nil, ChangesOnly, Chunk, Region, Block, HeapStore, placed, heap_of, FREED, is_a_name, chunk_at, Tell, AreJoined, with_chunk, blocks_in, is_named, chunks_of, store_of, HasChunks, gaps_among, LinkedTo, NoneAt, AreFreed, unnamed, GapsLinked, FreedLinked, Stands, LiveIn, Aside, KeepsFreed, block_in_chunk, Contents, gaps, IsLaidOut, Joins, ◌*◌, ◌⊎◌, ltb, sum_by, All, sum_by-cons, length-range, Gap, end_of, gap_between, gaps_from, LieInOrder, shortest, least_len, mul-le, footprint, stats_of}
-use Rattle.heap_core.proofs.ChunkHeaders.{in_told, elsewhere, In, in_of, in_right, in_without, stands_of, Spliced, spliced, joined_swap, joined_behind, Around, around, blocks_append, changes_more, place_told, told_le, First, first_of}
+use Rattle.heap_core.proofs.Words.{◌≡◌, ◌≢◌, ℕ, ◌+◌, ◌-◌, ◌≤◌, ◌<◌, inl, inr, Bool, not, List, [], ◌∷◌, ◌++◌, length, true, false, refl, sym, ap, ◌∙◌, subst, arith, Option, Some, None, IfSome, filter, map, cases_Bool, ltb-true, lt-ltb, le-ltb, length-append, filter-append, All-nil, ChangesOnly, Chunk, Region, Block, HeapStore, placed, heap_of, FREED, is_a_name, chunk_at, Tell, AreJoined, with_chunk, blocks_in, is_named, chunks_of, store_of, HasChunks, gaps_among, LinkedTo, NoneAt, AreFreed, unnamed, GapsLinked, FreedLinked, Stands, LiveIn, Aside, KeepsFreed, block_in_chunk, block_at, with_block, without_place, place_in_chunk, bytes_in_chunk, Contents, gaps, IsLaidOut, Joins, ◌*◌, ◌⊎◌, ltb, sum_by, All, sum_by-cons, length-range, Gap, end_of, gap_between, gaps_from, LieInOrder, shortest, least_len, mul-le, footprint, stats_of}
+use Rattle.heap_core.proofs.ChunkHeaders.{in_told, elsewhere, blocks_between, placed_behind, placed_front, In, in_of, in_right, in_without, stands_of, Spliced, spliced, joined_swap, joined_behind, Around, around, blocks_append, changes_more, place_told, told_le, First, first_of}
 use Rattle.heap_core.proofs.Gaps.{many, gaps_are, gaps_many, last_end}
 use Rattle.heap_core.proofs.Lists.{gaps_append, live_first, linked_parted, linked_live, link_live, linked_append}
 use Rattle.heap_core.proofs.Releases.{left_apart}
@@ -183,6 +183,56 @@ module _ (heap : Region) (B : List ℕ) (has : HasChunks heap B) where
           all = omega (arith, f.all, set_unnamed, freed);
         };
       }
+
+    -- its header and its bytes are written anew, and its length stays
+    module _ (n : ℕ) (room : heap.header + n ≤ chunk.len) (B' : List ℕ) (changes : ChangesOnly (heap.span.at + chunk.at) chunk.len B B')
+        (told : chunk_at B' heap.span.at chunk.at ≡ (let k : Chunk = record { at = chunk.at; len = chunk.len; owner = Some name; size = n; link = None } in k)) where
+      abbrev again : Chunk
+      again = record { at = chunk.at; len = chunk.len; owner = Some name; size = n; link = None }
+
+      again_live : again.owner ≢ None
+      again_live none = absurd (let two : Some name ≡ None = none in cc)
+
+      anew : Spliced heap heap B B' at.before (again ∷ []) at.behind
+      anew =
+          let was : AreJoined heap.header (at.before ++ (chunk ∷ at.behind)) = subst (AreJoined heap.header) at.is has.joined in
+          let later = joined_behind heap.header at.before (chunk ∷ at.behind) was in
+          spliced heap heap B B' chunk.at (chunk.at + chunk.len) at.before (again ∷ []) at.behind refl refl has.within
+          (changes_more (heap.span.at + chunk.at) chunk.len (heap.span.at + chunk.at) (chunk.at + chunk.len - chunk.at) B B' changes (omega arith) (omega arith))
+          at.front (told, omega (arith, at.enough, room), refl) at.back
+          (joined_swap heap.header at.before (chunk ∷ at.behind) (again ∷ at.behind) (λ live. again_live) was ((λ none. absurd (again_live none)), later.1, later.2))
+
+      abbrev put_again : List ℕ → Block
+      put_again ws = block_at (place_in_chunk heap.header chunk) name ws
+
+      pub anew_store : (ws : List ℕ) → bytes_in_chunk heap.header B' heap.span.at again ≡ ws → store_of heap B' ≡ with_block (put_again ws) (without_place chunk.at (store_of heap B))
+      anew_store ws fresh =
+          let block = put_again ws in
+          let front : placed block ys ≡ block ∷ ys = placed_front (chunk.at + chunk.len) heap.footprint block ys (blocks_between heap.header B heap.span.at (chunk.at + chunk.len) heap.footprint at.behind at.back) (omega (arith, at.enough)) in
+          let there : placed block (xs ++ ys) ≡ xs ++ (block ∷ ys) =
+          placed_behind 0 chunk.at block xs ys (blocks_between heap.header B heap.span.at 0 chunk.at at.before at.front) (omega arith) ∙ ap (λ l. xs ++ l) front in
+          anew.store
+          ∙ ap (λ blocks. let h : HeapStore = record { size = heap.span.len; header = heap.header; blocks = blocks } in h)
+          (ap (λ bytes. xs ++ ((let k : Block = record { name = name; at = chunk.at; room = chunk.len - heap.header; bytes = bytes } in k) ∷ ys)) fresh
+          ∙ sym there
+          ∙ sym (ap (placed block) other_blocks))
+
+      anew_gaps : gaps_among (chunks_of heap B') ≡ gaps_among T
+      anew_gaps = grind (arith, anew, gaps_append, at, live_first)
+
+      anew_linked : LinkedTo heap.lowest T None → LinkedTo heap.lowest (chunks_of heap B') None
+      anew_linked linked = grind (arith, linked_parted, at, anew, linked_append, link_live, linked_live)
+
+      pub anew_list : GapsLinked heap B → GapsLinked heap B'
+      anew_list g = record { linked = anew_linked g.linked; count = g.count ∙ sym (ap length anew_gaps) }
+
+      pub anew_others : (other : Chunk) → LiveIn other T → other.at ≢ chunk.at → LiveIn other (chunks_of heap B')
+      anew_others other h far =
+          let left = in_without other chunk at.before [] at.behind h.live far (All-nil (λ (c : Chunk). c.owner ≡ None)) (subst (In other) at.is (in_of other T h.stands)) in
+          anew.kept other (record { stands = stands_of other (at.before ++ at.behind) left; live = h.live })
+
+      pub anew_chunks : HasChunks heap B'
+      anew_chunks = anew.has
 
 -- a block with a name is put among the others
 pub placed_unnamed : (block : Block) (xs : List Block) → is_named block ≡ true → length (unnamed (placed block xs)) ≡ length (unnamed xs)

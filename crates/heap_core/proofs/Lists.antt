@@ -242,6 +242,11 @@ module _ (heap : Region) (B : List ℕ) where
       → (gaps_from_place heap B heap.lowest ≡ gaps_among (chunks_of heap B)) × (length (gaps_from_place heap B heap.lowest) ≤ heap.footprint) × Walk heap.lowest
   walk_begins has linked = grind (arith, followed, place_is)
 
+  -- its place is small
+  pub lowest_small : (head : Option ℕ) → heap.lowest ≡ head → HasChunks heap B → LinkedTo heap.lowest (chunks_of heap B) None → IfSome head (λ place. place < 65536)
+  lowest_small None e has linked = tt
+  lowest_small (Some at) e has linked = omega (arith, heap.inside, heap.small, header_fits heap.lowest at (gaps_from_place heap B heap.lowest) e (walk_begins has linked).2)
+
 -- the gap below a chunk is the last one of those before it
 pub below_is : (heap : Region) (B : List ℕ) (chunk : Chunk) (a : Around heap.header B heap.span.at heap.footprint chunk (chunks_of heap B)) → gap_below chunk.at (gaps_among (chunks_of heap B)) ≡ last_of (gaps_among a.before)
 below_is heap B chunk a =

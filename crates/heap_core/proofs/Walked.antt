@@ -1,5 +1,5 @@
 -- The walk along the links to the gaps beside a place.
-use Rattle.heap_core.proofs.Words.{◌≡◌, ℕ, ◌+◌, ◌≤◌, ◌<◌, List, [], ◌∷◌, length, true, leb, refl, sym, ap, ◌∙◌, subst, arith, Option, Some, None, IfSome, fold, option_map, lt-ltb, le-ltb, le-leb, lt-leb, Chunk, Region, least_len, chunk_at, Tell, chunks_of, HasChunks, gaps_among, LinkedTo, Follow, lower, higher, gap_below, gap_from, gaps_from_place, inl, inr, false, ltb, option_map_or, cases_Bool, ltb-false, Gap, shorter, best_gap, gaps, store_of}
+use Rattle.heap_core.proofs.Words.{◌≡◌, ℕ, ◌+◌, ◌≤◌, ◌<◌, List, [], ◌∷◌, length, true, leb, refl, sym, ap, ◌∙◌, subst, arith, Option, Some, None, IfSome, fold, option_map, lt-ltb, le-ltb, le-leb, lt-leb, Chunk, Region, least_len, chunk_at, Tell, chunks_of, HasChunks, gaps_among, LinkedTo, Follow, lower, higher, gap_below, gap_from, gaps_from_place, inl, inr, false, ltb, ◌-◌, ◌^◌, ◌%◌, ◌⊎◌, eqb, ne_eqb, cases_eq, number_in, option_map_or, cases_Bool, ltb-false, Gap, shorter, best_gap, gaps, store_of}
 use Rattle.heap_core.proofs.Lists.{kept_higher, gap_first, live_first, walk_begins, next_gap, no_gap, followed, NextGap}
 use Rattle.heap_core.proofs.ChunkHeaders.{place_told, owner_cases}
 use Rattle.heap_core.proofs.Gaps.{better_chunk, better_same, gaps_are}
@@ -70,6 +70,20 @@ module _ (heap : Region) (B : List ℕ) (p : ℕ) where
 
     pub ended_next : next ≡ gap_from p (gaps_among (chunks_of heap B))
     ended_next = is ∙ sym (ap (fold (higher p) None) none_left) ∙ w.highered
+
+-- The words that the walk keeps: less 1 each is the place that it tells.
+told_place : (word : ℕ) → 1 ≤ word → number_in word ≡ Some (word - 1)
+told_place word some = let far : eqb word 0 ≡ false = ne_eqb word 0 (λ none. absurd (omega (arith, none, some))) in rw far refl
+
+-- a word less 1 is lower than a place, and none is not
+pub word_below : (word at : ℕ) → at < 2 ^ 32 → (word + (2 ^ 32 - 1)) % 2 ^ 32 < at → (number_in word ≡ Some (word - 1)) × (1 ≤ word)
+word_below word at small less = let some : 1 ≤ word = omega (arith, small, less) in (told_place word some, some)
+
+pub word_above : (word : ℕ) → (number_in word ≡ None) ⊎ ((number_in word ≡ Some (word - 1)) × (1 ≤ word))
+word_above word = elim (cases_eq word 0) [
+  | inl none ↦ inl (ap number_in none)
+  | inr more ↦ let some : 1 ≤ word = omega (arith, more) in inr (told_place word some, some)
+]
 
 -- the gap found has its header where it says
 abbrev pub HasHeader : List ℕ → ℕ → ℕ → Chunk → Type 0

@@ -5,7 +5,7 @@ ghost use Rattle.std.specs.Option.{option_map};
 ghost use Rattle.heap_core.specs.FreeList.{gaps_among, LinkedTo};
 ghost use Rattle.heap_core.specs.Code.Links.{gap_below, gap_from};
 
-use crate::chunk::Chunk;
+use crate::chunk::{Chunk, number_in, word_of};
 use crate::region::Region;
 use arena_core::Arena;
 
@@ -64,15 +64,13 @@ impl Region {
         ensures below { result.0 ≡ option_map (λ gap. gap.at) (gap_below at (gaps_among (chunks_of self.now arena.now.bytes))) }
         ensures next { result.1 ≡ gap_from at (gaps_among (chunks_of self.now arena.now.bytes)) }
     {
-        let mut below = None;
-        let mut next = self.lowest;
-        while let Some(place) = next {
-            if at <= place {
-                return (below, next);
-            }
+        let mut below = 0;
+        let mut next = word_of(self.lowest);
+        // Less 1 a word is the place that it tells. That of none is no lower than any place.
+        while next.wrapping_sub(1) < at {
             below = next;
-            next = self.link_at(arena, place);
+            next = self.link_word(arena, next - 1);
         }
-        (below, next)
+        (number_in(below), number_in(next))
     }
 }

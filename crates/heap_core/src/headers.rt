@@ -3,7 +3,7 @@
 ghost use Rattle.std.specs.Prelude.{◌≡◌, ◌+◌, ◌≤◌, ◌<◌, ◌⊎◌, true, None, IfSome, false, slice_range};
 ghost use Rattle.arena_core.specs.Outside.{ChangesOnly};
 ghost use Rattle.mote_types.specs.Bytes.{resized};
-ghost use Rattle.heap_core.specs.Chunks.{chunk_at, is_a_name};
+ghost use Rattle.heap_core.specs.Chunks.{chunk_at, is_a_name, number_in};
 ghost use Rattle.heap_core.specs.Code.PlacedBlocks.{bytes_in_chunk, bytes_given};
 
 use crate::chunk::{Chunk, is_a_name, number_in, owned_word, owner_in, size_in, word_of};
@@ -45,14 +45,14 @@ impl Region {
         arena.word(self.span.at + at)
     }
 
-    /// The link of the free chunk at a place. No other word of it is read.
-    pub(crate) fn link_at(&self, arena: &Arena, at: u32) -> Option<u32>
+    /// The word for the link of the free chunk at a place. No other word of it is read.
+    pub(crate) fn link_word(&self, arena: &Arena, at: u32) -> u32
         requires within { IsWithin self.now arena.now.bytes }
         requires inside { at + 12 ≤ self.now.span.len }
         requires free { is_a_name (chunk_at arena.now.bytes self.now.span.at at).owner ≡ false }
-        ensures { result ≡ (chunk_at arena.now.bytes self.now.span.at at).link }
+        ensures { number_in result ≡ (chunk_at arena.now.bytes self.now.span.at at).link }
     {
-        number_in(arena.word(self.span.at + at + 8))
+        arena.word(self.span.at + at + 8)
     }
 
     /// The part of the arena that a live block's bytes lie in: those behind its header.
@@ -88,6 +88,30 @@ impl Region {
             return;
         }
         arena.put_word(header + 8, word_of(chunk.link));
+    }
+
+    /// The link of the free chunk at a place. No other word of it is read.
+    pub(crate) fn link_at(&self, arena: &Arena, at: u32) -> Option<u32>
+        requires within { IsWithin self.now arena.now.bytes }
+        requires inside { at + 12 ≤ self.now.span.len }
+        requires free { is_a_name (chunk_at arena.now.bytes self.now.span.at at).owner ≡ false }
+        ensures { result ≡ (chunk_at arena.now.bytes self.now.span.at at).link }
+    {
+        number_in(self.link_word(arena, at))
+    }
+
+    /// Links a gap to another place. No other word of its header is written.
+    pub(crate) fn put_link(&self, arena: &mut Arena, gap: Chunk, link: Option<u32>)
+        requires within { IsWithin self.now arena.old.bytes }
+        requires inside { gap.at + 12 ≤ self.now.span.len }
+        requires told { chunk_at arena.old.bytes self.now.span.at gap.at ≡ gap }
+        requires free { gap.owner ≡ None }
+        requires link { IfSome link (λ place. place < 65536) }
+        ensures chunk { chunk_at arena.new.bytes self.now.span.at gap.at ≡ record gap { link = link } }
+        ensures others { ChangesOnly (self.now.span.at + gap.at) 12 arena.old.bytes arena.new.bytes }
+        ensures carved { arena.new.carved ≡ arena.old.carved }
+    {
+        arena.put_word(self.span.at + gap.at + 8, word_of(link));
     }
 
     /// Writes zeros over a live block's bytes from `from` on, where there are so many.

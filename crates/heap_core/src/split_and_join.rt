@@ -25,6 +25,7 @@ impl Region {
 
     /// Writes a live chunk's header at the front of the free bytes up to `end`. What it leaves of them becomes a gap, which is
     /// linked to the next one, or a part of the top gap. Answers the place of the gap that the one before is to be linked to.
+    #[inline(always)]
     fn lay(&mut self, arena: &mut Arena, live: Chunk, end: u32, link: Option<u32>) -> Option<u32>
         requires hole { Hole self.old arena.old.bytes live.at end }
         requires fits { Fits self.old live end }
@@ -77,7 +78,7 @@ impl Region {
         ensures rest { KeepsToSpan self.old self.new arena.old arena.new }
     {
         match before {
-            Some(gap) => self.put_chunk(arena, Chunk { link: first, ..gap }),
+            Some(gap) => self.put_link(arena, gap, first),
             None => self.lowest = first,
         }
     }
@@ -99,15 +100,15 @@ impl Region {
                 link: None,
             };
         }
-        let gap = self.chunk_at(arena, target.at);
         FreeEnd {
-            at: target.at + gap.len,
-            link: gap.link,
+            at: target.at + self.len_at(arena, target.at),
+            link: self.link_at(arena, target.at),
         }
     }
 
     /// Puts a block of `n` bytes at the place that was found for it. It is given the bytes of a live chunk, if one is named, and
     /// zeros behind them.
+    #[inline(always)]
     pub(crate) fn put_block(
         &mut self,
         arena: &mut Arena,
@@ -244,6 +245,7 @@ impl Region {
     }
 
     /// Joins the chunks that were freed with the gaps beside them, the newest first.
+    #[inline(always)]
     pub(crate) fn join(&mut self, arena: &mut Arena)
         requires chunks { HasChunks self.old arena.old.bytes }
         requires gaps { GapsLinked self.old arena.old.bytes }
@@ -283,6 +285,26 @@ impl Region {
         self.freed += 1;
     }
 
+    /// Gives a name's chunk `n` bytes in the room that it has: the first ones stay, and zeros follow. No gap changes.
+    fn refill(&self, arena: &mut Arena, chunk: Chunk, name: u32, n: u32)
+        requires chunks { HasChunks self.now arena.old.bytes }
+        requires owned { Owned name chunk (chunks_of self.now arena.old.bytes) }
+        requires name { name < 272 }
+        requires fits { self.now.header + n ≤ chunk.len }
+        requires gaps { GapsLinked self.now arena.old.bytes }
+        ensures { Changed self.now self.now arena.old arena.new chunk.at (with_block (block_at (place_in_chunk self.now.header chunk) name (resized n (bytes_in_chunk self.now.header arena.old.bytes self.now.span.at chunk))) (without_place chunk.at (store_of self.now arena.old.bytes))) }
+    {
+        let live = Chunk {
+            at: chunk.at,
+            len: chunk.len,
+            owner: Some(name),
+            size: n,
+            link: None,
+        };
+        self.clear(arena, live, chunk.size);
+        self.put_chunk(arena, live);
+    }
+
     /// Gives a name's chunk another room where it is, and `n` bytes: the first ones stay, and zeros follow. What is left of its
     /// bytes and of the gap behind it becomes a gap.
     pub(crate) fn resize(&mut self, arena: &mut Arena, chunk: Chunk, name: u32, room: u32, n: u32)
@@ -294,6 +316,10 @@ impl Region {
         requires gaps { GapsLinked self.old arena.old.bytes }
         ensures { Changed self.old self.new arena.old arena.new chunk.at (with_block (block_at (at_place chunk.at room) name (resized n (bytes_in_chunk self.old.header arena.old.bytes self.old.span.at chunk))) (without_place chunk.at (store_of self.old arena.old.bytes))) }
     {
+        if self.header + room == chunk.len {
+            self.refill(arena, chunk, name, n);
+            return;
+        }
         let beside = self.gaps_beside(arena, chunk.at);
         let gap = self.gap_behind(arena, chunk);
         let end = chunk.at + chunk.len + gap;

@@ -1,12 +1,13 @@
 -- Rows and what they stand for, rows that are no table, places, and outcomes.
-use Rattle.std.proofs.Common.{◌≡◌, ℕ, [], ◌∷◌, refl, arith}
+use Rattle.std.proofs.Common.{◌≡◌, ℕ, inl, inr, List, [], ◌∷◌, refl, arith}
 use Rattle.std.specs.Prelude.{Some, None}
 use Rattle.mote_types.specs.Bytes.{zeros}
 use Rattle.heap_core.specs.HeapStore.{HeapStore, place, new_place}
 use Rattle.heapmem_c.specs.declared.row.Row.{Row}
 use Rattle.heapmem_c.specs.declared.outcome.Outcome.{Outcome}
 use Rattle.heapmem_c.specs.Heaps.{heap_of, IsTable, front, with_new, with_resized}
-use Rattle.heapmem_c.specs.Answers.{outcome_numbered, AllocTold, FreeTold}
+use Rattle.heapmem_c.specs.Answers.{outcome_numbered, AllocTold, FreeTold, ReallocTold, StatsTold}
+use Rattle.heapmem_c.specs.Code.Rows.{with_row, without_row, next_place, IsFree, BeginsAt, BeginBelow}
 
 abbrev row : ℕ → ℕ → ℕ → Row
 row place room size = record { place = place; room = room; size = size }
@@ -97,3 +98,51 @@ refused_where_there_is_room told = absurd (let none = told.2 in cc)
 
 freed_where_no_block_begins : FreeTold Outcome.Done 1 (row 0 2 1 ∷ []) (zeros 4) → ⊥
 freed_where_no_block_begins told = absurd (let some = told.1 in cc)
+
+resized_where_no_block_begins : ReallocTold Outcome.Done 1 4 (row 0 2 1 ∷ []) (zeros 4) → ⊥
+resized_where_no_block_begins told = told.1
+
+not_resized_where_there_is_room : ReallocTold Outcome.NoRoom 0 4 (row 0 8 1 ∷ []) (zeros 16) → ⊥
+not_resized_where_there_is_room told = absurd (let none = told.1 in cc)
+
+figures_of_no_table : StatsTold Outcome.Done (row 0 0 0 ∷ []) (zeros 4) → ⊥
+figures_of_no_table told = omega (arith, told.1)
+
+-- rows with blocks from 0 to 2 and from 4 to 7
+abbrev two_rows : List Row
+two_rows = row 0 2 1 ∷ row 4 3 3 ∷ []
+
+between_them : IsFree 0 two_rows 10 2 2
+between_them = inr (inl (omega arith, omega arith))
+
+behind_them : IsFree 0 two_rows 10 7 3
+behind_them = inr (inr (omega arith, omega arith))
+
+one_byte_too_many : IsFree 0 two_rows 10 2 3 → ⊥
+one_byte_too_many (inl first) = omega (arith, first.1)
+one_byte_too_many (inr (inl second)) = omega (arith, second.1)
+one_byte_too_many (inr (inr last)) = omega (arith, last.0)
+
+put_between : with_row (row 2 1 1) two_rows ≡ row 0 2 1 ∷ row 2 1 1 ∷ row 4 3 3 ∷ []
+put_between = refl
+
+first_taken_out : without_row 0 two_rows ≡ row 4 3 3 ∷ []
+first_taken_out = refl
+
+next_behind_the_first : next_place 0 two_rows 10 ≡ 4
+next_behind_the_first = refl
+
+next_behind_the_last : next_place 1 two_rows 10 ≡ 10
+next_behind_the_last = refl
+
+second_begins_at_four : BeginsAt two_rows 4 2 (Some 1)
+second_begins_at_four = (omega arith, refl)
+
+one_begins_there : BeginsAt two_rows 4 2 None → ⊥
+one_begins_there none = none 1 (omega arith) refl
+
+the_other_one : BeginsAt two_rows 4 2 (Some 0) → ⊥
+the_other_one begins = omega (arith, begins.1)
+
+second_is_not_below_three : BeginBelow two_rows 3 2 → ⊥
+second_is_not_below_three below = omega (arith, below 1 (omega arith))

@@ -1,5 +1,6 @@
 -- What rows that are a table keep, and what is free between them.
-use Rattle.std.proofs.Common.{Bool, true, false, if◌then◌else◌, ℕ, ◌+◌, ◌-◌, ◌≤◌, inl, inr, List, [], ◌∷◌, arith}
+use Rattle.std.proofs.Common.{Bool, true, false, if◌then◌else◌, ℕ, zero, suc, ◌+◌, ◌-◌, ◌≤◌, ◌<◌, inl, inr, List, [], ◌∷◌, length, slice_index_or, arith}
+use Rattle.std.specs.List.Sorted.{IsNonDecreasingBy}
 use Rattle.std.specs.Prelude.{nat_lt}
 use Rattle.heap_core.specs.HeapStore.{least_room, room_taken}
 use Rattle.heapmem_c.specs.declared.row.Row.{Row}
@@ -9,6 +10,19 @@ use Rattle.heapmem_c.specs.Code.Rows.{IsFree}
 pub lie_le : (from : ℕ) (rows : List Row) (capacity : ℕ) → LieFrom from rows capacity → from ≤ capacity
 lie_le from [] capacity lie = lie
 lie_le from (row ∷ rows) capacity lie = omega (arith, lie.0, lie_le (row.place + row.room) rows capacity lie.3)
+
+-- the places rise
+above : (from : ℕ) (rows : List Row) (capacity j : ℕ) (d : Row) → LieFrom from rows capacity → j < length rows → from ≤ (slice_index_or rows j d).place
+above from [] capacity j d lie l = absurd (omega arith)
+above from (row ∷ rows) capacity zero d lie l = lie.0
+above from (row ∷ rows) capacity (suc j) d lie l = omega (arith, lie.0, above (row.place + row.room) rows capacity j d lie.3 (omega arith))
+
+pub places_rise : (from : ℕ) (rows : List Row) (capacity : ℕ) → LieFrom from rows capacity → IsNonDecreasingBy (λ (row : Row). row.place) rows
+places_rise from [] capacity lie i j d le l = absurd (omega arith)
+places_rise from (row ∷ rows) capacity lie zero zero d le l = omega arith
+places_rise from (row ∷ rows) capacity lie zero (suc j) d le l = omega (arith, above (row.place + row.room) rows capacity j d lie.3 (omega arith))
+places_rise from (row ∷ rows) capacity lie (suc i) zero d le l = absurd (omega (arith, le))
+places_rise from (row ∷ rows) capacity lie (suc i) (suc j) d le l = places_rise (row.place + row.room) rows capacity lie.3 i j d (omega (arith, le)) (omega arith)
 
 -- fewer bytes from the same place on are free too
 pub free_shorter : (from : ℕ) (rows : List Row) (capacity at len fewer : ℕ) → fewer ≤ len → IsFree from rows capacity at len → IsFree from rows capacity at fewer

@@ -1,6 +1,6 @@
 //! What rows leave free: whether they are a table, which gap a block takes, and where the last one ends.
 
-ghost use Rattle.std.specs.Prelude.{◌≡◌, ℕ, List, ◌+◌, ◌≤◌, ◌<◌, ◌↔◌, ◌⊎◌, IsTrue, length, sum_by, IfSome, Some};
+ghost use Rattle.std.specs.Prelude.{◌≡◌, ℕ, List, ◌+◌, ◌^◌, ◌≤◌, ◌<◌, ◌↔◌, ◌⊎◌, IsTrue, length, sum_by, IfSome, IfNone, Some};
 ghost use Rattle.std.specs.Option.{option_map};
 ghost use Rattle.heap_core.specs.HeapStore.{best_gap, better, gaps, footprint, place, place_of, room_in_place, stats_of, top_gap};
 ghost use Rattle.heapmem_c.specs.Heaps.{block_told, heap_of, IsTable};
@@ -8,15 +8,17 @@ ghost use Rattle.heapmem_c.specs.Code.Rows.{gap_of, place_told, row_of, next_pla
 
 use crate::row::{Hole, Row, Spot, Stats, least_room, room_taken};
 
-/// Whether a row tells of a block that lies between two places, and has room for its size.
-fn lies_between(row: Row, from: usize, capacity: usize) -> bool
-    ensures { IsTrue result ↔ ((from ≤ row.place) × (1 ≤ row.room) × (row.size ≤ row.room) × (row.place + row.room ≤ capacity)) }
+/// Where a row's block ends, if it lies from a place on, and has room for its size.
+fn end_behind(row: Row, from: usize) -> Option<usize>
+    ensures some { IfSome result (λ end. (from ≤ row.place) × (1 ≤ row.room) × (row.size ≤ row.room) × (end ≡ row.place + row.room)) }
+    ensures none { IfNone result (from ≤ row.place → 1 ≤ row.room → row.size ≤ row.room → 2 ^ 64 ≤ row.place + row.room) }
 {
-    from <= row.place
-        && row.room != 0
-        && row.size <= row.room
-        && row.place <= capacity
-        && row.room <= capacity - row.place
+    let end = row.place.checked_add(row.room)?;
+    if from <= row.place && row.room != 0 && row.size <= row.room {
+        Some(end)
+    } else {
+        None
+    }
 }
 
 /// Whether the rows tell of blocks that lie in so many bytes, apart from each other and in their order.
@@ -25,12 +27,12 @@ pub fn is_table(rows: &[Row], capacity: usize) -> bool
 {
     let mut from = 0;
     for row in rows {
-        if !lies_between(*row, from, capacity) {
+        let Some(end) = end_behind(*row, from) else {
             return false;
-        }
-        from = row.place + row.room;
+        };
+        from = end;
     }
-    true
+    from <= capacity
 }
 
 /// The better one for so many bytes of a gap found before, if there is one, and this one.

@@ -1,6 +1,7 @@
 //! How rows come into a table and go.
 
 ghost use Rattle.std.specs.Prelude.{◌≡◌, ℕ, ◌+◌, ◌≤◌, ◌<◌, length};
+ghost use Rattle.std.specs.List.Sorted.{IsNonDecreasingBy};
 ghost use Rattle.heapmem_c.specs.Heaps.{front};
 ghost use Rattle.heapmem_c.specs.Code.Rows.{row_of, with_row, without_row, BeginsAt, BeginBelow};
 
@@ -8,33 +9,31 @@ use crate::row::Row;
 
 /// The number of the first row that begins behind a place; how many rows there are, where none does.
 fn first_behind(rows: &[Row], place: usize) -> usize
+    requires { IsNonDecreasingBy (λ row. row.place) rows.now }
     ensures inside { result ≤ length rows.now }
     ensures below { BeginBelow rows.now place result }
     ensures above { result < length rows.now → place < (row_of rows.now result).place }
 {
-    for number in 0..rows.len() {
-        if rows[number].place > place {
-            return number;
-        }
-    }
-    rows.len()
+    rows.partition_point(|row| row.place <= place)
 }
 
 /// The number of the row that begins at a place.
 pub fn row_at(rows: &[Row], place: usize) -> Option<usize>
+    requires { IsNonDecreasingBy (λ row. row.place) rows.now }
     ensures { BeginsAt rows.now place (length rows.now) result }
 {
-    for number in 0..rows.len() {
-        if rows[number].place == place {
-            return Some(number);
-        }
+    let behind = first_behind(rows, place);
+    if behind != 0 && rows[behind - 1].place == place {
+        Some(behind - 1)
+    } else {
+        None
     }
-    None
 }
 
 /// Puts a row among those before the last one, in the order of their places. The last one goes.
 pub fn insert(rows: &mut [Row], row: Row)
-    requires { 1 ≤ length rows.old }
+    requires last { 1 ≤ length rows.old }
+    requires order { IsNonDecreasingBy (λ row. row.place) (front rows.old) }
     ensures { rows.new ≡ with_row row (front rows.old) }
 {
     let last = rows.len() - 1;

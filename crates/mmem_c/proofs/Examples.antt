@@ -1,11 +1,12 @@
 -- Tables and what they stand for, tables that are none, and answers.
-use Rattle.std.proofs.Common.{◌≡◌, ℕ, zero, suc, inl, inr, List, [], ◌∷◌, refl, arith}
+use Rattle.std.proofs.Common.{◌≡◌, ℕ, zero, suc, inl, inr, List, [], ◌∷◌, true, false, refl, ap, arith}
 use Rattle.std.specs.Prelude.{Some, None}
 use Rattle.mmem_core.specs.ManagedStore.{ManagedStore}
+use Rattle.mmem_core.specs.Code.Laid.{at_of}
 use Rattle.mmem_c.specs.declared.block.Block.{Block}
-use Rattle.mmem_c.specs.Stored.{place_told, stored, part_of, IsTable, process_of, handle_of, unused_store}
-use Rattle.mmem_c.specs.Answers.{Answer, number_of_answer, answer_to}
-use Rattle.mmem_c.specs.Code.Rows.{IsClear, AreSound}
+use Rattle.mmem_c.specs.Stored.{place_told, stored, part_of, IsTable, LieNoHigher, KeepOrder, process_of, handle_of, unused_store}
+use Rattle.mmem_c.specs.Answers.{Answer, number_of_answer, is_live, answer_to}
+use Rattle.mmem_c.specs.Code.Rows.{EndsBefore, IsClear, AreSound, IsNext}
 use Rattle.mmem_c.proofs.Rows.{table_from}
 
 abbrev row : ℕ → ℕ → Block
@@ -68,6 +69,50 @@ sharing_bytes sound = elim (sound.apart 0 1 (record { at = 0; len = 5 }) (record
   | inl before ↦ omega (arith, before)
   | inr behind ↦ omega (arith, behind)
 ]
+
+-- a block with 3 bytes from 0 on ends behind a block's front at 2, and before one at 4
+reaches_into : EndsBefore (row 0 3) (row 2 1) → ⊥
+reaches_into ends = omega (arith, ends (omega arith) (omega arith) (omega arith))
+
+ends_there : EndsBefore (row 0 3) (row 4 1)
+ends_there one other le = omega arith
+
+not_clear : IsClear (row 0 3 ∷ row 2 1 ∷ []) 0 2 → ⊥
+not_clear clear = reaches_into (clear 1 (omega arith) (λ e. absurd (omega (arith, e))))
+
+not_sound : AreSound (row 0 3 ∷ row 2 1 ∷ []) 8 2 → ⊥
+not_sound sound = not_clear (sound 0 (omega arith)).1
+
+-- of the blocks at 4 and 0 that at 0 is the next one from 0 on, and none comes from 5 on
+the_higher_one_is_not_next : IsNext table 0 3 (Some 0) → ⊥
+the_higher_one_is_not_next next = omega (arith, next.3 2 (omega arith) (omega arith) (omega arith))
+
+none_is_left : IsNext table 0 3 None → ⊥
+none_is_left next = omega (arith, next 2 (omega arith) (omega arith))
+
+-- a block that slid from 4 to 0, and one that rose
+one_lower : LieNoHigher (row 4 3 ∷ []) (row 0 3 ∷ [])
+one_lower zero old new was is = omega (arith, ap at_of was, ap at_of is)
+one_lower (suc i) old new was is = absurd (let none : None ≡ Some old = was in cc)
+
+one_higher : LieNoHigher (row 0 3 ∷ []) (row 4 3 ∷ []) → ⊥
+one_higher down = omega (arith, down 0 (record { at = 0; len = 3 }) (record { at = 4; len = 3 }) refl refl)
+
+-- two blocks that changed places
+changed_places : KeepOrder (row 4 3 ∷ row 8 3 ∷ []) (row 4 3 ∷ row 0 3 ∷ []) → ⊥
+changed_places keep = omega (
+  arith,
+  keep 0 1 (record { at = 4; len = 3 }) (record { at = 8; len = 3 }) (record { at = 4; len = 3 }) (record { at = 0; len = 3 }) refl refl refl refl (omega arith),
+)
+
+a_live_handle : is_live 2 store ≡ true
+a_live_handle = refl
+
+an_unused_handle : is_live 1 store ≡ false
+an_unused_handle = refl
+
+no_handle_is_not_live : is_live 3 store ≡ false
+no_handle_is_not_live = refl
 
 -- 10 bytes, of which blocks take 4 and 4
 too_many : answer_to 1 3 store ≡ Answer.NoRoom

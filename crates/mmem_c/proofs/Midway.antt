@@ -8,7 +8,7 @@ use Rattle.mmem_c.specs.declared.block.Block.{Block}
 use Rattle.mmem_c.specs.Stored.{places_told, stored, IsTable}
 use Rattle.mmem_c.specs.Code.Rows.{row_of, IsNext}
 use Rattle.mmem_c.proofs.Rows.{table_lies, table_of, told_some, room_is, at_is, live_below, live_is}
-use Rattle.mmem_c.proofs.Sliding.{AreSliding, sliding_first, sliding_more, lowered_down, inside, left, last_is_end, end_le_total}
+use Rattle.mmem_c.proofs.Sliding.{AreSliding, sliding_first, sliding_more, lowered_down, lowered_room, lowered_order, inside, left, last_is_end, end_le_total}
 use Rattle.mmem_c.proofs.Stores.{same_store, told-set}
 
 pub record IsMidway (old now : List Block) (before after : List ℕ) (end : ℕ) : Type 0 where
@@ -16,9 +16,12 @@ pub record IsMidway (old now : List Block) (before after : List ℕ) (end : ℕ)
   pub sliding : AreSliding (length before) (sum_by room_of (places_told old)) end (places_told now)
   pub store : stored now after ≡ stored old before
   pub down : (j : ℕ) → at_of (place_in (places_told now) j) ≤ at_of (place_in (places_told old) j)
+  pub rooms : (j : ℕ) → room_of (place_in (places_told now) j) ≡ room_of (place_in (places_told old) j)
+  pub order : (j k : ℕ) → 0 < room_of (place_in (places_told old) j) → at_of (place_in (places_told old) j) < at_of (place_in (places_told old) k)
+      → at_of (place_in (places_told now) j) < at_of (place_in (places_told now) k)
 
 pub midway_first : (table : List Block) (buffer : List ℕ) → IsTable table (length buffer) → IsMidway table table buffer buffer 0
-midway_first table buffer sound = record { size = refl; sliding = sliding_first (length buffer) (places_told table) (table_lies table (length buffer) sound); store = refl; down = λ j. omega arith }
+midway_first table buffer sound = record { size = refl; sliding = sliding_first (length buffer) (places_told table) (table_lies table (length buffer) sound); store = refl; down = λ j. omega arith; rooms = λ j. refl; order = λ j k some less. less }
 
 module _ (old now : List Block) (before after : List ℕ) (end : ℕ) (midway : IsMidway old now before after end) where
   module _ (i : ℕ) (next : IsNext now end (length now) (Some i)) where
@@ -60,6 +63,11 @@ module _ (old now : List Block) (before after : List ℕ) (end : ℕ) (midway : 
               ∙ midway.store;
           down = λ j. let t = ap (λ places. at_of (place_in places j)) told in
               omega (arith, lowered_down (length before) total end (places_told now) midway.sliding i place live next.2 lowest j, midway.down j);
+          rooms = λ j. ap (λ places. room_of (place_in places j)) told
+              ∙ lowered_room (length before) total end (places_told now) midway.sliding i place live next.2 lowest j
+              ∙ midway.rooms j;
+          order = λ j k some less. let t = ap (λ places. at_of (place_in places j)) told in let u = ap (λ places. at_of (place_in places k)) told in
+              omega (arith, lowered_order (length before) total end (places_told now) midway.sliding i place live next.2 lowest j k (omega (arith, midway.rooms j, some)) (midway.order j k some less));
         }
 
   -- all have slid down

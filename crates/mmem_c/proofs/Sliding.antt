@@ -149,6 +149,32 @@ module _ (size total end : ℕ) (xs : List (Option Place)) (sliding : AreSliding
       | inr ne ↦ let a = ap at_of (there j ne) in omega arith
     ]
 
+    pub lowered_room : (j : ℕ) → room_of (place_in ys j) ≡ room_of (place_in xs j)
+    lowered_room j = elim (cases_eq j i) [
+      | inl e ↦ let r = ap room_of (here j e) in let s = ap (λ k. room_of (place_in xs k)) e in let t = room_i in omega arith
+      | inr ne ↦ ap room_of (there j ne)
+    ]
+
+    pub lowered_order : (j k : ℕ) → 0 < room_of (place_in xs j) → at_of (place_in xs j) < at_of (place_in xs k) → at_of (place_in ys j) < at_of (place_in ys k)
+    lowered_order j k some less = elim (cases_eq j i) [
+      | inl e ↦
+          let a = ap at_of (here j e) in let was = ap (λ n. at_of (place_in xs n)) e in let at = at_i in
+          elim (cases_eq k i) [
+            | inl same ↦ absurd (let b = ap (λ n. at_of (place_in xs n)) same in omega arith)
+            | inr ne ↦
+                let b = ap at_of (there k ne) in
+                elim (past k ne) [ inl before ↦ absurd (omega (arith, behind)) | inr after ↦ omega (arith, some_room, behind) ]
+          ]
+      | inr ne ↦
+          let a = ap at_of (there j ne) in
+          elim (cases_eq k i) [
+            | inl same ↦
+                let b = ap at_of (here k same) in let was = ap (λ n. at_of (place_in xs n)) same in let at = at_i in
+                elim (past j ne) [ inl before ↦ omega arith | inr after ↦ absurd (omega (arith, some_room)) ]
+            | inr ne' ↦ let b = ap at_of (there k ne') in omega arith
+          ]
+    ]
+
     pub sliding_more : AreSliding size total (end + up4 place.len) ys
     sliding_more = record {
       apart = record { inside = moved_inside; apart = moved_apart; no_empty = moved_some };

@@ -10,7 +10,7 @@ use Rattle.arena_core.proofs.Ranges.{length-written}
 use Rattle.mmem_core.proofs.PlaceLemmas.{place_in-set_same, place_in-set_other, len_le_room, end_le_last, last_end-added, LieApart-from, IsLaidOut-none}
 use Rattle.mmem_core.proofs.StoreLemmas.{block_in, get_or-blocks, no_place, sum_same, blocks-added, unused-added}
 use Rattle.mmem_c.specs.declared.block.Block.{Block}
-use Rattle.mmem_c.specs.Stored.{place_told, places_told, stored, IsTable, LieNoHigher, process_of, handle_of, unused_store}
+use Rattle.mmem_c.specs.Stored.{place_told, places_told, stored, IsTable, LieNoHigher, KeepOrder, process_of, handle_of, unused_store}
 use Rattle.mmem_c.specs.Answers.{Answer, is_live, answer_to}
 use Rattle.mmem_c.specs.Code.Rows.{row_of}
 use Rattle.mmem_c.proofs.Rows.{table_lies, table_of, number_is, told_some, live_is, unused_is}
@@ -284,4 +284,25 @@ no_higher old now i row none down j before after e f = elim (cases_eq j i) [
       let still = ap at_of (place_in-set_other (places_told now) i j (place_told row) ne) in
       let a = ap at_of e in let b = ap at_of f in
       omega (arith, down j)
+]
+
+-- nor do they change their order
+pub same_order : (old now : List Block) (i : ℕ) (row : Block) → (row_of old i).size ≡ 0
+    → ((j : ℕ) → place_in (places_told old) j ≢ None → 0 < room_of (place_in (places_told old) j))
+    → ((j k : ℕ) → 0 < room_of (place_in (places_told old) j) → at_of (place_in (places_told old) j) < at_of (place_in (places_told old) k)
+    → at_of (place_in (places_told now) j) < at_of (place_in (places_told now) k))
+    → KeepOrder old (slice_set now i row)
+same_order old now i row none some order j k low high new_low new_high e f g h less = elim (cases_eq j i) [
+  | inl same ↦ absurd (let gone = unused_is old i none in cc)
+  | inr ne ↦ elim (cases_eq k i) [
+    | inl same ↦ absurd (let gone = unused_is old i none in cc)
+    | inr ne' ↦
+        let told = ap (λ places. at_of (place_in places j)) (told-set now i row) in
+        let still = ap at_of (place_in-set_other (places_told now) i j (place_told row) ne) in
+        let told' = ap (λ places. at_of (place_in places k)) (told-set now i row) in
+        let still' = ap at_of (place_in-set_other (places_told now) i k (place_told row) ne') in
+        let a = ap at_of e in let b = ap at_of f in let c = ap at_of g in let d = ap at_of h in
+        let live = some j (λ gone. absurd (let l = e in cc)) in
+        omega (arith, order j k live (omega arith))
+  ]
 ]

@@ -1,5 +1,5 @@
 -- Managed memory that C keeps: a table with a row for each handle, and a buffer.
-use Rattle.std.specs.Prelude.{◌≡◌, ◌≢◌, ℕ, ◌≤◌, ◌+◌, ◌/◌, ◌%◌, ◌==◌, List, length, map, replicate, Option, Some, None, if◌then◌else◌}
+use Rattle.std.specs.Prelude.{◌≡◌, ◌≢◌, ℕ, ◌≤◌, ◌<◌, ◌+◌, ◌/◌, ◌%◌, ◌==◌, List, length, map, replicate, Option, Some, None, if◌then◌else◌}
 use Rattle.std.specs.Option.{option_map}
 use Rattle.mote_types.specs.Rounding.{up4}
 use Rattle.arena_core.specs.Extents.{Extent, AreApart}
@@ -37,6 +37,11 @@ pub record IsTable (table : List Block) (capacity : ℕ) : Type 0 where
 -- each block that a table has and had lies where it lay, or below
 abbrev pub LieNoHigher : List Block → List Block → Type 0
 LieNoHigher before after = (i : ℕ) (old new : Place) → place_in (places_told before) i ≡ Some old → place_in (places_told after) i ≡ Some new → new.at ≤ old.at
+
+-- of two blocks that a table has and had, that which lay below still does
+abbrev pub KeepOrder : List Block → List Block → Type 0
+KeepOrder before after = (i j : ℕ) (low high new_low new_high : Place) → place_in (places_told before) i ≡ Some low → place_in (places_told before) j ≡ Some high
+    → place_in (places_told after) i ≡ Some new_low → place_in (places_told after) j ≡ Some new_high → low.at < high.at → new_low.at < new_high.at
 
 -- a handle as a name of mmem_core's: sixteen of them to a process, the first ones to process 3
 abbrev pub process_of : ℕ → ℕ

@@ -17,7 +17,7 @@ ghost use Rattle.mote_types.specs.Rounding.{up4};
 ghost use Rattle.mmem_core.specs.ManagedStore.{unused, block_of, allocated, freed};
 ghost use Rattle.mmem_core.specs.Conditions.{length_of};
 ghost use Rattle.mmem_core.specs.Places.{place_in, last_end};
-ghost use Rattle.mmem_c.specs.Stored.{places_told, stored, IsTable, LieNoHigher, process_of, handle_of, unused_store};
+ghost use Rattle.mmem_c.specs.Stored.{places_told, stored, IsTable, LieNoHigher, KeepOrder, process_of, handle_of, unused_store};
 ghost use Rattle.mmem_c.specs.Answers.{Answer, number_of_answer, is_live, answer_to};
 
 use crate::block::fits;
@@ -57,6 +57,7 @@ pub extern "C" fn toarmuts_mmem_alloc(
     ensures together { result ≡ number_of_answer Answer.Allocated → length buffer.old < last_end (places_told blocks.old) + up4 size →
         last_end (places_told blocks.new) + unused (stored blocks.new buffer.new) ≤ length buffer.new }
     ensures down { result ≡ number_of_answer Answer.Allocated → LieNoHigher blocks.old blocks.new }
+    ensures order { result ≡ number_of_answer Answer.Allocated → KeepOrder blocks.old blocks.new }
     ensures behind { result ≡ number_of_answer Answer.Allocated → IsSomeAnd (place_in (places_told blocks.new) handle) (λ place. last_end (places_told blocks.new) ≡ place.at + up4 size) }
     ensures unchanged { result ≢ number_of_answer Answer.Allocated → (blocks.new ≡ blocks.old) × (buffer.new ≡ buffer.old) }
 {

@@ -59,6 +59,8 @@ fn slide_together(blocks: &mut [Block], buffer: &mut [u8]) -> usize
     ensures inside { result ≤ length buffer.new }
     ensures together { result ≤ sum_by room_of (places_told blocks.old) }
     ensures down { (i : ℕ) → at_of (place_in (places_told blocks.new) i) ≤ at_of (place_in (places_told blocks.old) i) }
+    ensures order { (i j : ℕ) → 0 < room_of (place_in (places_told blocks.old) i) → at_of (place_in (places_told blocks.old) i) < at_of (place_in (places_told blocks.old) j) →
+        at_of (place_in (places_told blocks.new) i) < at_of (place_in (places_told blocks.new) j) }
 {
     let mut end = 0;
     while let Some(number) = next_from(blocks, end) {
@@ -83,6 +85,8 @@ pub fn make_room(blocks: &mut [Block], buffer: &mut [u8], size: usize) -> usize
     ensures end { result ≡ last_end (places_told blocks.new) }
     ensures room { result + up4 size ≤ length buffer.new }
     ensures down { (i : ℕ) → at_of (place_in (places_told blocks.new) i) ≤ at_of (place_in (places_told blocks.old) i) }
+    ensures order { (i j : ℕ) → 0 < room_of (place_in (places_told blocks.old) i) → at_of (place_in (places_told blocks.old) i) < at_of (place_in (places_told blocks.old) j) →
+        at_of (place_in (places_told blocks.new) i) < at_of (place_in (places_told blocks.new) j) }
     ensures still { last_end (places_told blocks.old) + up4 size ≤ length buffer.old → (blocks.new ≡ blocks.old) × (buffer.new ≡ buffer.old) }
     ensures together { length buffer.old < last_end (places_told blocks.old) + up4 size → result ≤ sum_by room_of (places_told blocks.old) }
 {

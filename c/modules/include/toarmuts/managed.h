@@ -1,10 +1,11 @@
 /*
  * Managed memory by handles, under this project's names: what lib/mmem.h stands on. Blocks of any sizes in one memory, which move
- * together where the room behind the last one is too short. For the native target, x86-64 and aarch64.
+ * together where the room behind the last one is too short. For the native target, x86-64 and aarch64: there is no build for
+ * 32-bit processors, so none for Cortex-M.
  *
- * To be kept by the caller: rows and mem are good for as many rows and bytes as num and size say, and overlap nothing else that
- * is given; where that number is 0, NULL is fine. No two threads use one memory at once, and no signal handler uses one that a
- * thread uses. Rows of any content are answered. Each call needs less than 1 KB of stack.
+ * To be kept by the caller: a memory that is given is no NULL. Its rows and mem are good for as many rows and bytes as num and size
+ * say, and overlap nothing else; where that number is 0, NULL is fine. No two threads use one memory at once, and no signal handler
+ * uses one that a thread uses. Rows of any content are answered. Each call needs less than 1 KB of stack.
  */
 #ifndef TOARMUTS_MANAGED_H
 #define TOARMUTS_MANAGED_H

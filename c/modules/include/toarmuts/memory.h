@@ -22,10 +22,11 @@ struct toarmuts_mmem_memory {
 
 extern const struct toarmuts_mmem_memory toarmuts_mmem_memory;
 
-/* A zone of the heap: one whose name is NULL is none. */
+/* A zone of the heap, and how many bytes its blocks take: one whose name is NULL is none. */
 struct toarmuts_heap_zone {
   const char *name;
   size_t size;
+  size_t taken;
 };
 
 /* The bytes, and beside them a row of each block, the zone of the block that begins at each 16th byte, and the zones. */

@@ -1,10 +1,11 @@
-use Rattle.std.proofs.Common.{sym, subst, ap, ◌∙◌, arith}
+use Rattle.std.proofs.Common.{length, sym, subst, ap, ◌∙◌, arith}
 use Rattle.mote_types.specs.Rounding.{up4}
 use Rattle.mmem_core.specs.ManagedStore.{unused, allocated}
 use Rattle.mmem_c.specs.Answers.{number_of_answer}
 use Rattle.mmem_c.specs.declared.block.Block.{Block}
-use Rattle.mmem_c.specs.Stored.{LieNoHigher, process_of, handle_of}
-use Rattle.mmem_c.proofs.Stores.{unused_left, unused_after, none_told, too_many, still_unused, answer_in_use, answer_no_bytes, answer_no_room, answer_allocated, no_higher}
+use Rattle.mmem_c.specs.Stored.{LieNoHigher, KeepOrder, process_of, handle_of}
+use Rattle.mmem_c.proofs.Rows.{table_lies}
+use Rattle.mmem_c.proofs.Stores.{unused_left, unused_after, none_told, too_many, still_unused, answer_in_use, answer_no_bytes, answer_no_room, answer_allocated, no_higher, same_order}
 use Rattle.mmem_c.proofs.toarmuts_mmem_alloc.Goals as goal
 
 pub returns-then-has_block-clause-answer : goal.returns-then-has_block-clause-answer
@@ -51,3 +52,11 @@ returns-clause-down c done =
     let none = none_told table i c.has_block.result c.if-has_block.false c.has_block.ensures in
     let block : Block = record { place = c.make_room-place.result; size = c.args.size } in
     subst (LieNoHigher table) (sym c.put_last.ensures.row) (no_higher table c.make_room-place.new.blocks i block none c.make_room-place.ensures.down)
+
+pub returns-clause-order : goal.returns-clause-order
+returns-clause-order c done =
+    let table = c.args.blocks.now in let i = c.args.handle in
+    let none = none_told table i c.has_block.result c.if-has_block.false c.has_block.ensures in
+    let lies = table_lies table (length c.args.buffer.now) (c.lie_apart.ensures.0 c.if-not-lie_apart.false) in
+    let block : Block = record { place = c.make_room-place.result; size = c.args.size } in
+    subst (KeepOrder table) (sym c.put_last.ensures.row) (same_order table c.make_room-place.new.blocks i block none lies.no_empty c.make_room-place.ensures.order)

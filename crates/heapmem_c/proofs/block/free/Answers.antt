@@ -4,6 +4,7 @@ use Rattle.heapmem_c.specs.declared.row.Row.{Row}
 use Rattle.heapmem_c.specs.Heaps.{heap_of, IsTable}
 use Rattle.heapmem_c.proofs.Edits.{no_block, block_found, lie_without}
 use Rattle.heapmem_c.proofs.Puts.{gone_is}
+use Rattle.heapmem_c.proofs.Tables.{places_rise}
 use Rattle.heapmem_c.proofs.block.free.Goals as goal
 
 pub returns-in_default-clause-answer : goal.returns-in_default-clause-answer
@@ -30,3 +31,6 @@ returns-clause-sound c done =
     let table = c.is_table.ensures.0 c.if-not-is_table.false in
     subst (λ (rows : List Row). IsTable rows (length c.args.bytes.now)) (sym c.remove.ensures.rows)
     (lie_without 0 c.args.rows.now (length c.args.bytes.now) c.in-Some.number table)
+
+pub row_at-requires : goal.row_at-requires
+row_at-requires c = places_rise 0 c.args.rows.now (length c.args.bytes.now) (c.is_table.ensures.0 c.if-not-is_table.false)

@@ -1,4 +1,4 @@
-use Rattle.std.proofs.Common.{Some, None, refl, sym, ap, arith}
+use Rattle.std.proofs.Common.{Some, None, length, refl, sym, ap, arith}
 use Rattle.std.specs.Option.{is_some}
 use Rattle.std.specs.Prelude.{IsSome, IsNone}
 use Rattle.heap_core.specs.declared.chunk.Place.{Place}
@@ -7,6 +7,7 @@ use Rattle.heapmem_c.specs.Heaps.{block_told, heap_of}
 use Rattle.heapmem_c.specs.Code.Rows.{row_of, place_told}
 use Rattle.heapmem_c.proofs.Edits.{no_block}
 use Rattle.heapmem_c.proofs.Moves.{some_and, found_at, new_in_place, new_elsewhere}
+use Rattle.heapmem_c.proofs.Tables.{places_rise}
 use Rattle.heapmem_c.proofs.block.realloc.Goals as goal
 
 pub returns-in_default-clause-answer : goal.returns-in_default-clause-answer
@@ -67,3 +68,6 @@ returns-clause-block c done =
     let new = new_elsewhere block c.args.n heap (Some (place_told spot)) (c.in_default-room_in_place.ensures.room bytes refl) (c.in-Some-find_place.ensures.place bytes refl) in
     some_and (find_block c.args.at.now heap) block _ (found_at rows bytes i c.args.at.now table c.in-Some.ensures.0 c.in-Some.ensures.1)
     (some_and (new_place (place_of block) c.args.n heap) (place_told spot) _ new (refl, c.relocate.ensures.heap))
+
+pub row_at-requires : goal.row_at-requires
+row_at-requires c = places_rise 0 c.args.rows.now (length c.args.bytes.now) (c.is_table.ensures.0 c.if-not-is_table.false)

@@ -1,7 +1,10 @@
-use Rattle.std.proofs.Common.{length, arith}
+use Rattle.std.proofs.Common.{List, length, sym, subst, arith}
+use Rattle.std.specs.List.Sorted.{IsNonDecreasingBy}
+use Rattle.heapmem_c.specs.declared.row.Row.{Row}
 use Rattle.mote_types.specs.Bytes.{range_of}
-use Rattle.heapmem_c.specs.Code.Rows.{row_of}
-use Rattle.heapmem_c.proofs.Edits.{free_inside}
+use Rattle.heapmem_c.specs.Code.Rows.{row_of, without_row}
+use Rattle.heapmem_c.proofs.Edits.{free_inside, lie_without}
+use Rattle.heapmem_c.proofs.Tables.{places_rise}
 use Rattle.heapmem_c.proofs.Resizes.{free_without, moved_is, moved_table, length-resized, row_holds}
 use Rattle.heapmem_c.proofs.block.relocate.Goals as goal
 
@@ -27,3 +30,9 @@ returns-clause-table c =
     rw (c.carry.ensures, c.insert.ensures, c.remove.ensures.rows)
     (moved_table rows bytes i c.args.n c.requires.table c.requires.there c.args.spot.at c.args.spot.room c.requires.fits (length-resized c.args.n (range_of old.place old.size bytes))
     (free_without 0 rows (length bytes) c.args.spot.at c.args.spot.room i c.requires.table c.requires.free) c.requires.some)
+
+pub insert-requires-clause-order : goal.insert-requires-clause-order
+insert-requires-clause-order c =
+    let rows = c.args.rows.now in let bytes = c.args.bytes.now in
+    subst (λ (left : List Row). IsNonDecreasingBy (λ (row : Row). row.place) left) (sym c.remove.ensures.rows)
+    (places_rise 0 (without_row c.args.number rows) (length bytes) (lie_without 0 rows (length bytes) c.args.number c.requires.table))

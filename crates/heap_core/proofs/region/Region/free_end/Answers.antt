@@ -1,5 +1,7 @@
-use Rattle.heap_core.proofs.Lemmas.{rules, ◌≡◌, ◌+◌, inl, inr, sym, ap, ◌∙◌, subst, arith, Chunk, chunk_at, Free, chunks_of, gaps_among, gap_from, place_cases, free_top, free_gap, behind_gap, above_all, around}
+use Rattle.heap_core.proofs.Lemmas.{rules, ◌≡◌, ◌+◌, inl, inr, sym, ap, ◌∙◌, subst, arith, is_a_name, Chunk, chunk_at, Around, Free, chunks_of, gaps_among, gap_from, place_cases, free_top, free_gap, behind_gap, above_all, around}
+use Rattle.heap_core.specs.Code.FreeBytes.{GapAt}
 use Rattle.heap_core.proofs.region.Region.free_end.Goals as goal
+use Rattle.heap_core.proofs.region.Region.free_end.Goals.{Else-target-self}
 
 pub returns-then-target-self : goal.returns-then-target-self
 returns-then-target-self c =
@@ -14,46 +16,53 @@ returns-then-target-self c =
       room = elim (place_cases c.args.self.now c.args.arena.now.bytes c.requires.chunks c.args.n c.args.target c.requires.some c.requires.place) [ inl top ↦ top.room | inr low ↦ low.room ];
     }
 
-pub chunk_at-gap-requires-clause-inside : goal.chunk_at-gap-requires-clause-inside
-chunk_at-gap-requires-clause-inside c =
-    let heap = c.args.self.now in let B = c.args.arena.now.bytes in
-    elim (place_cases heap B c.requires.chunks c.args.n c.args.target c.requires.some c.requires.place) [
-      | inl top ↦ absurd (c.if-target-self.false top.at)
-      | inr low ↦ let a = around heap B low.gap.gap c.requires.chunks low.gap.stands in omega (arith, a.fits, a.enough, low.gap.at, heap.inside)
-    ]
+-- the gap that the place is in
+found : (c : Else-target-self) → GapAt c.args.self.now.header c.args.target.at (c.args.self.now.header + c.args.target.room) (chunks_of c.args.self.now c.args.arena.now.bytes)
+found c = elim (place_cases c.args.self.now c.args.arena.now.bytes c.requires.chunks c.args.n c.args.target c.requires.some c.requires.place) [ inl top ↦ absurd (c.if-target-self.false top.at) | inr low ↦ low.gap ]
+
+around_it : (c : Else-target-self) → Around c.args.self.now.header c.args.arena.now.bytes c.args.self.now.span.at c.args.self.now.footprint (found c).gap (chunks_of c.args.self.now c.args.arena.now.bytes)
+around_it c = around c.args.self.now c.args.arena.now.bytes (found c).gap c.requires.chunks (found c).stands
+
+gap_is : (c : Else-target-self) → chunk_at c.args.arena.now.bytes c.args.self.now.span.at c.args.target.at ≡ (found c).gap
+gap_is c = ap (chunk_at c.args.arena.now.bytes c.args.self.now.span.at) (sym (found c).at) ∙ (around_it c).here
+
+pub len_at-requires-clause-inside : goal.len_at-requires-clause-inside
+len_at-requires-clause-inside c =
+    let k = (goal.at.len_at-requires-clause-inside c).Else-target-self in let a = around_it k in
+    omega (arith, a.fits, a.enough, (found k).at, c.args.self.now.inside)
 
 pub overflow_add-result : goal.overflow_add-result
 overflow_add-result c =
-    let heap = c.args.self.now in let B = c.args.arena.now.bytes in
-    elim (place_cases heap B c.requires.chunks c.args.n c.args.target c.requires.some c.requires.place) [
-      | inl top ↦ absurd (c.if-target-self.false top.at)
-      | inr low ↦
-          let g = low.gap in let a = around heap B g.gap c.requires.chunks g.stands in
-          let is : c.chunk_at-gap.result ≡ g.gap = c.chunk_at-gap.ensures ∙ ap (chunk_at B heap.span.at) (sym g.at) ∙ a.here in
-          omega (arith, ap (λ (k : Chunk). k.len) is, a.fits, g.at, heap.inside, heap.small)
-    ]
+    let k = (goal.at.overflow_add-result c).Else-target-self in let a = around_it k in
+    omega (arith, c.len_at.ensures, ap (λ (chunk : Chunk). chunk.len) (gap_is k), a.fits, (found k).at, c.args.self.now.inside, c.args.self.now.small)
+
+pub link_at-requires-clause-inside : goal.link_at-requires-clause-inside
+link_at-requires-clause-inside c =
+    let k = (goal.at.link_at-requires-clause-inside c).Else-target-self in let a = around_it k in
+    omega (arith, a.fits, a.enough, (found k).at, c.args.self.now.inside)
+
+pub link_at-requires-clause-free : goal.link_at-requires-clause-free
+link_at-requires-clause-free c =
+    let k = (goal.at.link_at-requires-clause-free c).Else-target-self in
+    ap (λ (chunk : Chunk). is_a_name chunk.owner) (gap_is k) ∙ ap is_a_name (found k).free
 
 pub returns : goal.returns
 returns c =
     let heap = c.args.self.now in let B = c.args.arena.now.bytes in let target = c.args.target in
+    let k = (goal.at.returns c).Else-target-self in let g = found k in let a = around_it k in
+    let len : c.len_at.result ≡ g.gap.len = c.len_at.ensures ∙ ap (λ (chunk : Chunk). chunk.len) (gap_is k) in
     record {
       free = elim (place_cases heap B c.requires.chunks c.args.n target c.requires.some c.requires.place) [
         | inl top ↦ absurd (c.if-target-self.false top.at)
         | inr low ↦
-            let g = low.gap in let a = around heap B g.gap c.requires.chunks g.stands in
-            let is : c.chunk_at-gap.result ≡ g.gap = c.chunk_at-gap.ensures ∙ ap (chunk_at B heap.span.at) (sym g.at) ∙ a.here in
-            subst (λ (k : Chunk). Free heap B target (target.at + k.len)) (sym is) (free_gap heap B c.requires.chunks target g low.whole)
+            let same : c.len_at.result ≡ low.gap.gap.len = c.len_at.ensures ∙ ap (λ (chunk : Chunk). chunk.len) (ap (chunk_at B heap.span.at) (sym low.gap.at) ∙ (around heap B low.gap.gap c.requires.chunks low.gap.stands).here) in
+            subst (λ len. Free heap B target (target.at + len)) (sym same) (free_gap heap B c.requires.chunks target low.gap low.whole)
       ];
       along = search rules;
-      link = elim (place_cases heap B c.requires.chunks c.args.n c.args.target c.requires.some c.requires.place) [
-        | inl top ↦ absurd (c.if-target-self.false top.at)
-        | inr low ↦
-            let g = low.gap in let a = around heap B g.gap c.requires.chunks g.stands in
-            let is : c.chunk_at-gap.result ≡ g.gap = c.chunk_at-gap.ensures ∙ ap (chunk_at B heap.span.at) (sym g.at) ∙ a.here in
-            ap (λ (k : Chunk). k.link) is
-            ∙ behind_gap heap B c.requires.chunks c.requires.linked g.gap a g.free
-            ∙ ap (λ at. gap_from (at + g.gap.len) (gaps_among (chunks_of heap B))) g.at
-            ∙ ap (λ (k : Chunk). gap_from (c.args.target.at + k.len) (gaps_among (chunks_of heap B))) (sym is)
-      ];
-      room = elim (place_cases c.args.self.now c.args.arena.now.bytes c.requires.chunks c.args.n c.args.target c.requires.some c.requires.place) [ inl top ↦ top.room | inr low ↦ low.room ];
+      link = c.link_at.ensures
+          ∙ ap (λ (chunk : Chunk). chunk.link) (gap_is k)
+          ∙ behind_gap heap B c.requires.chunks c.requires.linked g.gap a g.free
+          ∙ ap (λ at. gap_from (at + g.gap.len) (gaps_among (chunks_of heap B))) g.at
+          ∙ ap (λ len. gap_from (target.at + len) (gaps_among (chunks_of heap B))) (sym len);
+      room = elim (place_cases heap B c.requires.chunks c.args.n target c.requires.some c.requires.place) [ inl top ↦ top.room | inr low ↦ low.room ];
     }

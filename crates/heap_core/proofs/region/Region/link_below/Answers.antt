@@ -11,19 +11,20 @@ gap_stands c = subst (λ o. IfSome o (IsGap (chunks_of c.args.self.now c.args.ar
 there : (c : In-Some) → Around c.args.self.now.header c.args.arena.now.bytes c.args.self.now.span.at c.args.self.now.footprint c.in-Some.gap (chunks_of c.args.self.now c.args.arena.now.bytes)
 there c = let s = gap_stands c in here c.args.self.now c.args.arena.now.bytes c.args.arena.now.bytes c.in-Some.gap c.args.first c.requires.chunks s.0 s.1
 
-pub put_chunk-requires-clause-inside : goal.put_chunk-requires-clause-inside
-put_chunk-requires-clause-inside c = let heap = c.args.self.now in let a = there (goal.at.put_chunk-requires-clause-inside c).In-Some in omega (arith, a.fits, a.enough, heap.inside)
+pub put_link-requires-clause-inside : goal.put_link-requires-clause-inside
+put_link-requires-clause-inside c = let heap = c.args.self.now in let a = there (goal.at.put_link-requires-clause-inside c).In-Some in omega (arith, a.fits, a.enough, heap.inside)
 
-pub put_chunk-requires-clause-size : goal.put_chunk-requires-clause-size
-put_chunk-requires-clause-size c =
-    let heap = c.args.self.now in let a = there (goal.at.put_chunk-requires-clause-size c).In-Some in
-    omega (arith, a.fits, a.enough, heap.header_least, heap.inside, heap.small)
+pub put_link-requires-clause-told : goal.put_link-requires-clause-told
+put_link-requires-clause-told c = (there (goal.at.put_link-requires-clause-told c).In-Some).here
+
+pub put_link-requires-clause-free : goal.put_link-requires-clause-free
+put_link-requires-clause-free c = (gap_stands (goal.at.put_link-requires-clause-free c).In-Some).1
 
 pub returns-in-Some-clause-relinked : goal.returns-in-Some-clause-relinked
 returns-in-Some-clause-relinked c =
-    let heap = c.args.self.now in let B = c.args.arena.now.bytes in let B' = c.put_chunk.new.arena.bytes in let s = gap_stands (goal.at.returns-in-Some-clause-relinked c).In-Some in
+    let heap = c.args.self.now in let B = c.args.arena.now.bytes in let B' = c.put_link.new.arena.bytes in let s = gap_stands (goal.at.returns-in-Some-clause-relinked c).In-Some in
     subst (λ last. LinkChanged heap heap B B' last c.args.first) (sym c.in-Some.is)
-    (link_changed heap B B' c.in-Some.gap c.args.first c.requires.chunks s.0 s.1 c.put_chunk.ensures.chunk c.put_chunk.ensures.others)
+    (link_changed heap B B' c.in-Some.gap c.args.first c.requires.chunks s.0 s.1 c.put_link.ensures.chunk c.put_link.ensures.others)
 
 pub returns-in-Some-clause-rest : goal.returns-in-Some-clause-rest
 returns-in-Some-clause-rest c =
@@ -31,8 +32,8 @@ returns-in-Some-clause-rest c =
     record {
       span = refl;
       header = refl;
-      carved = c.put_chunk.ensures.carved;
-      bytes = changes_more (heap.span.at + c.in-Some.gap.at) 12 heap.span.at heap.span.len c.args.arena.now.bytes c.put_chunk.new.arena.bytes c.put_chunk.ensures.others (omega arith) (omega (arith, a.fits, a.enough, heap.inside));
+      carved = c.put_link.ensures.carved;
+      bytes = changes_more (heap.span.at + c.in-Some.gap.at) 12 heap.span.at heap.span.len c.args.arena.now.bytes c.put_link.new.arena.bytes c.put_link.ensures.others (omega arith) (omega (arith, a.fits, a.enough, heap.inside));
     }
 
 pub returns-in-None-clause-relinked : goal.returns-in-None-clause-relinked

@@ -1,4 +1,4 @@
-use Rattle.heap_core.proofs.Lemmas.{ℕ, List, ◌+◌, ◌<◌, refl, sym, subst, ◌∙◌, arith, IfSome, filter, resized, Chunk, Region, Block, KeepsToSpan, chunks_of, store_of, gap_count, at_place, bytes_in_chunk, elsewhere, KeepsToSpan-then, Room, Put, fits, into, put, own, own_end, own_room, gap_from_small, gaps_few, kept_then, has_same, changes_more}
+use Rattle.heap_core.proofs.Lemmas.{ℕ, List, ◌+◌, ◌-◌, ◌≡◌, ◌<◌, refl, sym, ap, subst, chunks_behind, front_gap, with_block, block_at, without_place, ◌∙◌, arith, IfSome, filter, resized, Chunk, Region, Block, KeepsToSpan, chunks_of, store_of, gap_count, at_place, bytes_in_chunk, elsewhere, KeepsToSpan-then, Room, Put, fits, into, put, own, own_end, own_room, gap_from_small, gaps_few, kept_then, has_same, changes_more}
 use Rattle.heap_core.proofs.region.Region.resize.Goals as goal
 use Rattle.heap_core.proofs.region.Region.resize.Goals.{After-gap_behind-gap, After-lay-first}
 
@@ -19,6 +19,34 @@ laid c =
     let r = own_room heap B c.requires.chunks c.args.chunk name c.requires.owned c.gap_behind-gap.result c.gap_behind-gap.ensures c.args.n c.args.room c.requires.some c.requires.room in
     put heap B _ _ _ _ _ r name B1 changes c.requires.chunks c.requires.gaps c.lay-first.new.self c.lay-first.new.arena.bytes c.gaps_beside-beside.result.below c.lay-first.result c.link_behind-link.result
     (c.lay-first.ensures.laid (into heap B _ _ _ _ _ r name B1 changes)) c.gaps_beside-beside.ensures.below c.link_behind-link.ensures
+
+pub overflow_add-self : goal.overflow_add-self
+overflow_add-self c =
+    let heap = c.args.self.now in let B = c.args.arena.now.bytes in let chunk = c.args.chunk in
+    let r = own_room heap B c.requires.chunks chunk c.args.name c.requires.owned (front_gap (chunks_behind heap B (chunk.at + chunk.len))) refl c.args.n c.args.room c.requires.some c.requires.room in
+    omega (arith, r.inside, heap.small)
+
+-- the room stays
+pub refill-requires-clause-fits : goal.refill-requires-clause-fits
+refill-requires-clause-fits c =
+    let heap = c.args.self.now in let B = c.args.arena.now.bytes in let chunk = c.args.chunk in
+    let r = own_room heap B c.requires.chunks chunk c.args.name c.requires.owned (front_gap (chunks_behind heap B (chunk.at + chunk.len))) refl c.args.n c.args.room c.requires.some c.requires.room in
+    omega (arith, r.enough, c.if-self-room.true)
+
+pub returns-then-self-room : goal.returns-then-self-room
+unfolding chunks_of
+returns-then-self-room c =
+    let heap = c.args.self.now in let B = c.args.arena.now.bytes in let chunk = c.args.chunk in let r = c.refill.ensures in
+    let room : chunk.len - heap.header ≡ c.args.room = omega (arith, c.if-self-room.true) in
+    let bytes = resized c.args.n (bytes_in_chunk heap.header B heap.span.at chunk) in
+    record {
+      chunks = has_same heap _ c.refill.new.arena.bytes refl refl refl r.chunks;
+      gaps = record { linked = r.gaps.linked; count = r.gaps.count };
+      block = r.block ∙ ap (λ k. with_block (block_at (at_place chunk.at k) c.args.name bytes) (without_place chunk.at (store_of heap B))) room;
+      others = r.others;
+      kept = record { places = refl; newest = refl; freed = refl };
+      rest = record { span = refl; header = refl; carved = r.rest.carved; bytes = r.rest.bytes };
+    }
 
 pub overflow_add-end : goal.overflow_add-end
 overflow_add-end c =
