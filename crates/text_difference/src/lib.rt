@@ -1,15 +1,21 @@
-//! Where a text differs from the one that was wanted: the first line that does, to be read by a person.
+//! Where a text differs from the one that was wanted, to be read by a person: the first line that does, or all; and whether it
+//! fits one of which parts are left out. Of these two nothing is promised but that they are safe and end.
 #![tactic(auto)]
 
 ghost use Rattle.std.specs.Prelude.{◌≡◌, ◌≢◌, ◌≤◌, length, OnOk, OnErr};
 
+mod alignment;
+mod change;
+mod gaps;
 #[cfg(test)]
 mod tests;
 
+pub use change::{Change, changes};
+pub use gaps::{GAP, fits};
 use std::fmt;
 
 /// How many of the lines before are shown.
-const LINES_BEFORE: usize = 3;
+pub(crate) const LINES_BEFORE: usize = 3;
 
 /// The first line at which a text differs from the one that was wanted.
 #[derive(Clone, Copy, Drop)]
