@@ -3,14 +3,13 @@
 --     range-written_part, range-written       a part of what was written, and all of it, is read back
 --     range-written_apart                     a range that the write does not meet is as it was
 --     written-range                           a write within a range, seen from that range
---     written-written                         of two writes to one range the last one stays
 --     written-same                            a range that is written over with its own bytes changes nothing
 --     range-range                             a range of a range is a range
 --     changes_only                            a write changes its range alone
 --     take_past                               the front of two lists that reaches into the second
 use Rattle.arena_core.proofs.Words.{◌≡◌, ℕ, suc, ◌+◌, ◌-◌, ◌≤◌, ◌⊎◌, inl, inr, List, [], ◌∷◌, ◌++◌, length, take, drop, slice_range, sym, ap, ◌∙◌, arith, take-take, drop-take, take_all, drop_all, take-append-le, drop-append-le, written}
 use Rattle.std.proofs.Common.{length-take, length-drop}
-use Rattle.std.proofs.lemmas.List.{take_at, drop_at, drop-drop, take-append-drop}
+use Rattle.std.proofs.lemmas.List.{drop_at, drop-drop, take-append-drop}
 use Rattle.arena_core.specs.Outside.{ChangesOnly}
 pub use Rattle.arena_core.specs.Code.Lending.{length-written}
 use Rattle.arena_core.proofs.Rows.{written_is}
@@ -137,18 +136,6 @@ written-range xs at n x ws within inside =
     ∙ ap (λ m. A ++ (ws ++ take (n - (x + l)) m)) (drop-drop (x + l) at xs)
     ∙ ap (λ k. A ++ (ws ++ take (n - (x + l)) (drop k xs))) (omega arith) in
     left ∙ sym right
-
--- of two writes to one range the last one stays
-pub written-written : (xs : List ℕ) (at : ℕ) (ws us : List ℕ) → at + length ws ≤ length xs → length ws ≡ length us → written (written xs at ws) at us ≡ written xs at us
-written-written xs at ws us fits same =
-    let ys = written xs at ws in
-    let long = length-written xs at ws in
-    let front_is : take at ys ≡ take at xs =
-    ap (take at) (written_is xs at ws fits) ∙ take_at (take at xs) (ws ++ drop (at + length ws) xs) at (omega (arith, length-take at xs)) in
-    written_is ys at us (omega arith)
-    ∙ ap (λ l. l ++ (us ++ drop (at + length us) ys)) front_is
-    ∙ ap (λ l. take at xs ++ (us ++ l)) (drop_written_above xs at ws fits (at + length us) (omega arith))
-    ∙ sym (written_is xs at us (omega arith))
 
 -- a range that is written over with its own bytes changes nothing
 pub written-same : (xs : List ℕ) (at n : ℕ) → at + n ≤ length xs → written xs at (slice_range xs at (at + n)) ≡ xs
