@@ -1,0 +1,127 @@
+"""The crates of a repository, what each stands on, and whether what ./prove built of one is of the sources as they are."""
+from __future__ import annotations
+
+import hashlib
+import os
+import re
+import subprocess
+import time
+from pathlib import Path
+
+PARTS = ("src", "specs", "proofs")
+# A file's time may lie so much behind the clock: it is that of the last tick.
+GRAIN = 10_000_000
+
+
+class Sources:
+    """A folder with crates.txt and crates/."""
+
+    def __init__(self, root: Path) -> None:
+        self.root = root
+        self.lines: dict[str, str] = {}
+        self.below: dict[str, list[str]] = {}
+        self.libraries_for_c: set[str] = set()
+        for line in (root / "crates.txt").read_text(encoding="utf-8").splitlines():
+            told = re.match(r"(\w+)( staticlib)?:(.*)", line)
+            if told is None:
+                continue
+            name, for_c, below = told.groups()
+            self.lines[name] = line
+            # Libraries of the kit have no folder.
+            self.below[name] = [it for it in below.partition("#")[0].split() if (root / "crates" / it).is_dir()]
+            if for_c:
+                self.libraries_for_c.add(name)
+
+    def is_program(self, name: str) -> bool:
+        """Whether a program is made of this crate."""
+        return (self.root / "crates" / name / "src/main.rt").is_file()
+
+    def is_product(self, name: str) -> bool:
+        """Whether this names what ./prove builds: a program, or a library for C."""
+        return self.is_program(name) or name in self.libraries_for_c
+
+    def built_as(self, name: str) -> str:
+        """The name of the file that is built."""
+        return name if self.is_program(name) else f"lib{name}.a"
+
+    def product(self, name: str) -> Path:
+        """What is built: a program or a library."""
+        return self.root / "crates" / name / "out" / self.built_as(name)
+
+    def mark(self, name: str) -> Path:
+        """The mark beside it of what was proved and built: a name of the sources, one of what was built, the kit, and then where
+        the sources stand, a place a line. Its time is that at which they were read: a newer source was not proved."""
+        return self.root / "crates" / name / "out/proved"
+
+    def with_all_below(self, *wanted: str) -> dict[str, list[str]]:
+        """These crates and all that they stand on, the lowest first, with what each stands on."""
+        found: dict[str, list[str]] = {}
+
+        def add(name: str) -> None:
+            if name not in found:
+                for lower in self.below[name]:
+                    add(lower)
+                found[name] = self.below[name]
+
+        for name in wanted:
+            add(name)
+        return found
+
+    def places(self, *wanted: str) -> list[str]:
+        """Where the sources of these and of all that they stand on are."""
+        parts = (f"crates/{name}/{part}" for name in self.with_all_below(*wanted) for part in PARTS)
+        return ["crates.txt", *(it for it in parts if (self.root / it).is_dir())]
+
+    def files(self, name: str) -> list[str]:
+        """The files of a crate and of all that it stands on."""
+        places = self.places(name)[1:]
+        return sorted((os.path.relpath(os.path.join(at, file), self.root) for place in places
+                       for at, _, files in os.walk(self.root / place) for file in files), key=os.fsencode)
+
+    def name_of_sources(self, name: str) -> str:
+        """A name of the sources of a crate and of all that it stands on, the same exactly where they are the same."""
+        names = self.with_all_below(name)
+        told = hashlib.sha256("".join(f"{line}\n" for it, line in self.lines.items() if it in names).encode())
+        for file in self.files(name):
+            told.update(os.fsencode(f"{sum_of(self.root / file)}  {file}\n"))
+        return f"{told.hexdigest()}  -"
+
+    def are_older_than(self, when: int) -> bool:
+        """Whether no source was written, moved or made since then, in nanoseconds: by the times that no program can set."""
+        places = [self.root / it for it in self.places(*self.below)]
+        inner = (Path(at, it) for place in places for at, folders, files in os.walk(place) for it in folders + files)
+        return all(it.lstat().st_ctime_ns < when for it in [*places, *inner])
+
+    def mark_text(self, name: str, product: Path) -> str:
+        """What the mark has to say of what was built of these sources."""
+        lines = [self.name_of_sources(name), f"{sum_of(product)}  -", kit(), *self.places(name)]
+        return "".join(f"{line}\n" for line in lines)
+
+    def is_current(self, name: str) -> bool:
+        """Whether a program or a library is the one of the sources as they are, by hashes. If so, the mark takes the time at which
+        they were read, so that scripts/launch sees by times alone that none is newer."""
+        before = time.time_ns() - GRAIN
+        product, mark = self.product(name), self.mark(name)
+        if not (os.access(product, os.R_OK) and os.access(mark, os.R_OK)):
+            return False
+        if mark.read_text(encoding="utf-8").splitlines()[:2] != [self.name_of_sources(name), f"{sum_of(product)}  -"]:
+            return False
+        try:
+            os.utime(mark, ns=(before, before))
+        except OSError:
+            pass
+        return True
+
+    def kit_of(self, name: str) -> str:
+        """The kit that built it, as the mark tells."""
+        return (self.mark(name).read_text(encoding="utf-8").splitlines() + [""] * 3)[2]
+
+
+def kit() -> str:
+    """The kit that proves."""
+    return subprocess.run(["rt", "version"], check=True, capture_output=True, text=True).stdout.rstrip("\n")
+
+
+def sum_of(file: Path) -> str:
+    """A name of what a file holds."""
+    return hashlib.sha256(file.read_bytes()).hexdigest()
