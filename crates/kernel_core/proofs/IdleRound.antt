@@ -1,8 +1,12 @@
 -- A round in which nothing is done but that etimer looks for due timers, and finds none.
-use Rattle.std.proofs.Common.{◌≡◌, ℕ, ◌+◌, ◌==◌, Bool, true, false, refl, ap, is_some}
-use Rattle.kernel_core.proofs.Common.{length-map, POLL, plain_event, Job, is_idle, unmarked, IsLonePoll, Scheduler, carrying, awaiting_nothing, first_due, KernelFields, machine_of, no_pending_entries, is_cancelled, serve, Machine, free_places, Answers, silent, work_limit, GoesToRest, post_first_due, is_any_due}
+use Rattle.std.proofs.Common.{◌≡◌, ℕ, ◌+◌, ◌==◌, Bool, true, false, refl, ap, subst, is_some}
+use Rattle.kernel_core.proofs.Common.{length-map, POLL, plain_event, Job, is_idle, unmarked, IsLonePoll, Scheduler, carrying, awaiting_nothing, first_due, KernelFields, machine_of, no_pending_entries, is_cancelled, serve, Machine, free_places, Answers, silent, work_limit, GoesToRest, post_first_due, is_any_due, Entry}
+use Rattle.kernel_core.specs.Code.IdleRound.{RestsAfter}
+use Rattle.kernel_core.specs.Inputs.{effect}
+use Rattle.mote_types.specs.declared.entry.Input.{Input}
+use Rattle.process_core.specs.Scheduler.{marked}
 use Rattle.kernel_core.proofs.Leftover.{due_stops}
-use Rattle.kernel_core.proofs.Reaching.{fields_reach, then_job, job_silently}
+use Rattle.kernel_core.proofs.Reaching.{entry_comes_first, fields_reach, then_job, job_silently}
 use Rattle.kernel_core.proofs.Repeating.{times_same}
 
 -- where no timer is due, a POLL of etimer changes nothing
@@ -28,4 +32,20 @@ idle_round answers k running shown room none lone =
       before =
           job_silently (then_job polls (fields_reach answers polled (awaiting_nothing (unmarked 0 k.scheduler.state)) Job.Rest running shown lone.rest)) refl;
       at_rest = rw (running, shown) (idle_carrying (is_cancelled k.timers.armings) (unmarked 0 k.scheduler.state) lone.idle);
+    }
+
+-- from rest a tick that leaves no timer due is taken in: its entry is made, and such a round follows
+pub idle_tick : (answers : Answers) (k : KernelFields) (n : ℕ) → k.halted ≡ false → k.pending ≡ no_pending_entries
+    → is_some (first_due (k.clock + n) k.timers.timers) ≡ false → IsLonePoll 0 (marked 0 k.scheduler.state)
+    → unmarked 0 (marked 0 k.scheduler.state) ≡ k.scheduler.state
+    → RestsAfter answers (Input.Tick n) (machine_of k) (machine_of (record k { clock = k.clock + n; work = 1; inputs = k.inputs + 1 }))
+idle_tick answers k n running shown none lone same =
+    let handed : KernelFields = record k { clock = k.clock + n; work = 0; scheduler = awaiting_nothing (marked 0 k.scheduler.state) } in
+    record {
+      accepted = machine_of handed;
+      entry = entry_comes_first (Entry.Input (Input.Tick n)) (effect (Input.Tick n) (record (machine_of k) { work = 0 })) (machine_of handed) refl running;
+      running = running;
+      rest =
+          subst (λ s. GoesToRest answers (machine_of handed) (machine_of (record handed { work = 1; scheduler = awaiting_nothing s }))) same
+          (idle_round answers handed running shown refl none lone);
     }

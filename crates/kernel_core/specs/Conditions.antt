@@ -1,6 +1,5 @@
 -- What handing in an input, and making an entry, ask.
 use Rattle.std.specs.Prelude.{ℕ, Bool, true, length, nat_lt, ◌<◌}
-use Rattle.mote_types.specs.declared.entry.Entry.{Entry}
 use Rattle.mote_types.specs.declared.entry.Input.{Input}
 use Rattle.kernel_core.specs.declared.step.Step.{Step}
 use Rattle.kernel_core.specs.Mote.{Mote}

@@ -1,12 +1,14 @@
 //! A round in which nothing is done but that etimer looks for due timers, and finds none.
 
-ghost use Rattle.std.specs.Prelude.{◌≡◌, true, false};
+ghost use Rattle.std.specs.Prelude.{◌≡◌, ◌≤◌, ◌<◌, ◌+◌, ◌^◌, true, false};
 ghost use Rattle.kernel_core.specs.Code.View.{machine_of, no_pending_entries, IsInOrder};
-ghost use Rattle.kernel_core.specs.Code.IdleRound.{has_idle_round};
-ghost use Rattle.kernel_core.specs.Run.{Answers};
+ghost use Rattle.kernel_core.specs.Code.IdleRound.{has_idle_round, is_idle_tick, RestsAfter};
+ghost use Rattle.kernel_core.specs.Conditions.{ticks_of};
+ghost use Rattle.kernel_core.specs.Run.{Answers, is_at_rest};
 ghost use Rattle.kernel_core.specs.Code.Steps.{GoesToRest};
 
 use crate::fields::{KernelFields, WORK_LIMIT};
+use mote_types::entry::Input;
 use mote_types::event::ETIMER;
 
 impl KernelFields {
@@ -32,6 +34,40 @@ impl KernelFields {
         }
         self.work += 1;
         self.scheduler.unmark(ETIMER);
+        true
+    }
+
+    /// Takes in a tick that leaves no timer due, and makes the round that follows, in one go: the entry is made, etimer is
+    /// polled, and there is rest. Else nothing is done.
+    #[inline]
+    pub fn accept_idle_tick(&mut self, input: &Input) -> bool
+        requires order { IsInOrder self.old }
+        requires rest { is_at_rest (machine_of self.old) ≡ true }
+        requires shown { self.old.pending ≡ no_pending_entries }
+        requires running { self.old.halted ≡ false }
+        requires clock { self.old.clock + ticks_of input.now ≤ 2 ^ 62 }
+        requires few { self.old.inputs < 2 ^ 40 }
+        ensures value { result ≡ is_idle_tick input.now (machine_of self.old) }
+        ensures passed { result ≡ true → (answers : Answers) → RestsAfter answers input.now (machine_of self.old) (machine_of self.new) }
+        ensures order { IsInOrder self.new }
+        ensures halted { self.new.halted ≡ self.old.halted }
+        ensures scheduler { self.new.scheduler ≡ self.old.scheduler }
+        ensures clock { result ≡ true → self.new.clock ≡ self.old.clock + ticks_of input.now }
+        ensures inputs { result ≡ true → self.new.inputs ≡ self.old.inputs + 1 }
+        ensures else_nothing { result ≡ false → self.new ≡ self.old }
+    {
+        let Input::Tick(ticks) = input else {
+            return false;
+        };
+        let clock = self.clock + *ticks as u64;
+        if self.timers.any_due(clock) {
+            return false;
+        }
+        // Nothing is done: the call tells the proof that the round polls etimer alone.
+        self.scheduler.rest_goes_on();
+        self.clock = clock;
+        self.work = 1;
+        self.inputs += 1;
         true
     }
 }

@@ -6,7 +6,7 @@ ghost use Rattle.mote_types.specs.Applications.{says_of};
 ghost use Rattle.mote_types.specs.Entries.{is_halt};
 ghost use Rattle.mote_types.specs.declared.event.Stimulus.{Stimulus as ToldStimulus};
 ghost use Rattle.kernel_core.specs.Machine.{is_bootable, booted};
-ghost use Rattle.kernel_core.specs.Code.IdleRound.{has_idle_round};
+ghost use Rattle.kernel_core.specs.Code.IdleRound.{is_idle_tick, RestsAfter};
 ghost use Rattle.kernel_core.specs.Inputs.{fed};
 ghost use Rattle.kernel_core.specs.Conditions.{has_bytes, ticks_of};
 ghost use Rattle.kernel_core.specs.Run.{Answers, heard, is_at_rest};
@@ -126,21 +126,22 @@ impl Kernel {
         self.fields.inputs += 1;
     }
 
-    /// Makes the next poll round at once, where nothing is done in it but that etimer finds no timer due: the mote rests after
-    /// it. Else nothing is done.
-    pub fn pass_idle_round(&mut self) -> bool
-        ensures value { result ≡ has_idle_round self.old.machine }
-        ensures machine { result ≡ true → (answers : Answers) → GoesOn answers self.old.machine Step.Rest self.new.machine }
-        ensures else_nothing { result ≡ false → self.new ≡ self.old }
+    /// Hands a tick that the caller keeps to a mote at rest, as `accept`, and makes the one round that follows, where no timer is
+    /// due then: the mote rests again. Where one is due, or the input is no tick, nothing is done.
+    #[inline]
+    pub fn accept_idle_tick(&mut self, input: &Input) -> bool
+        requires rest { is_at_rest self.old.machine ≡ true }
+        requires clock { self.old.machine.clock + ticks_of input.now ≤ 2 ^ 62 }
+        requires few { self.old.inputs < 2 ^ 40 }
+        ensures value { result ≡ is_idle_tick input.now self.old.machine }
+        ensures machine { result ≡ true → (answers : Answers) → RestsAfter answers input.now self.old.machine self.new.machine }
         ensures halted { self.new.machine.is_halted ≡ self.old.machine.is_halted }
-        ensures clock { self.new.machine.clock ≡ self.old.machine.clock }
         ensures applications { self.new.machine.scheduler.applications ≡ self.old.machine.scheduler.applications }
-        ensures inputs { self.new.inputs ≡ self.old.inputs }
+        ensures clock { result ≡ true → self.new.machine.clock ≡ self.old.machine.clock + ticks_of input.now }
+        ensures inputs { result ≡ true → self.new.inputs ≡ self.old.inputs + 1 }
+        ensures else_nothing { result ≡ false → self.new ≡ self.old }
     {
-        if self.fields.halted || !self.fields.pending.is_empty() {
-            return false;
-        }
-        self.fields.pass_idle_round()
+        self.fields.accept_idle_tick(input)
     }
 
     /// Works as `step`, and puts the entry that is made into a place: a turn into `turn`, any other entry into `other`.

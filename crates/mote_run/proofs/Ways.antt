@@ -6,6 +6,7 @@ use Rattle.std.proofs.lemmas.Grind.{flat_map-append}
 use Rattle.mote_types.specs.declared.call.Call.{Call}
 use Rattle.mote_types.specs.declared.refusal.Refusal.{Refusal}
 use Rattle.kernel_core.proofs.Determined.{run_from, still_rest}
+use Rattle.kernel_core.specs.Code.IdleRound.{RestsAfter}
 use Rattle.mote_run.proofs.Steps.{made_steps, runs_behind}
 use Rattle.mote_run.proofs.Writing.{nothing_more}
 
@@ -74,10 +75,6 @@ either_way : (halted rests : Bool) → rests ≡ true → (halted || rests) ≡ 
 either_way true rests e = refl
 either_way false rests e = e
 
--- at rest nothing more happens
-pub rest_is_still : (old new : Machine) → ((answers : Answers) → GoesOn answers old Step.Rest new) → is_still new ≡ true
-rest_is_still old new goes = either_way new.is_halted (is_at_rest new) (goes (λ p stimulus. Call.Wait)).at_rest
-
 halts_by : (halted : Bool) → (halted ≡ false → ⊥) → halted ≡ true
 halts_by true h = refl
 halts_by false h = absurd (h refl)
@@ -97,6 +94,10 @@ last_is here still (input ∷ later) last none (rested, rests, stop, go) =
     let same : rested ≡ begins here = still_rest here.says (begins here) rested still rests in
     let halted : here.machine.is_halted ≡ true = halts_by here.machine.is_halted (λ h. let e = none h in absurd (cc)) in
     stop (rw same halted) ∙ same
+
+-- at rest nothing more happens
+pub idle_is_still : (input : Input) (old new : Machine) → ((answers : Answers) → RestsAfter answers input old new) → is_still new ≡ true
+idle_is_still input old new rests = either_way new.is_halted (is_at_rest new) (rests (λ p stimulus. Call.Wait)).rest.at_rest
 
 module _ {quiet : Bool} where
   pub went_on : {inputs more : List Input} {given₀ given₁ given₂ : List ℕ} {from mid to : Place} → Went quiet inputs given₀ given₁ from mid →
@@ -166,6 +167,15 @@ module _ {quiet : Bool} where
       old.is_halted ≡ false → new.is_halted ≡ old.is_halted → Went quiet inputs given₀ given₁ from (record { due = due; says = says; machine = new })
   went_to_rest {given₁ = given₁} {due = due} so_far goes running same =
       went_step Step.Rest so_far (nothing_more given₁ due) goes (λ p next later. refl) (rw (same, running) refl) (sym (append-nil due))
+
+  -- an input is handed in, its line is put behind what is due, and it comes to rest in silence
+  pub went_idly : {given₀ given₁ due₀ due₁ due₂ : List ℕ} {says : Applications} {old new : Machine} (input : Input) → is_still old ≡ true → old.is_halted ≡ false →
+      WritesOn given₀ due₀ given₁ due₁ [] → ((answers : Answers) → RestsAfter answers input old new) → new.is_halted ≡ old.is_halted →
+      due₂ ≡ due₁ ++ lines quiet (Entry.Input input ∷ []) →
+      Went quiet (input ∷ []) given₀ given₁ (record { due = due₀; says = says; machine = old }) (record { due = due₂; says = says; machine = new })
+  went_idly {says = says} input still running writes rests same due =
+      let r = rests (λ p stimulus. says p (stimulus ∷ [])) in
+      went_to_rest (went_input input still running writes r.entry r.running due) r.rest r.running (same ∙ (running ∙ sym r.running))
 
   -- what is left where nothing more happens
   module _ (here : Place) (still : is_still here.machine ≡ true) where

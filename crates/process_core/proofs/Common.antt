@@ -17,12 +17,12 @@ pub use Rattle.process_core.specs.Code.SchedulerFields.{BootsKnown, HoldsEvent, 
 pub use Rattle.process_core.specs.Code.SchedulerView.{job_of}
 pub use Rattle.process_core.specs.Code.Walks.{from_application, from_marked, is_broadcast, receiver_is_next}
 pub use Rattle.process_core.specs.Code.Yields.{Yields}
-pub use Rattle.process_core.specs.Idle.{is_empty}
+pub use Rattle.process_core.specs.Idle.{is_empty, is_idle}
 pub use Rattle.process_core.specs.Processes.{at_first, changed, is_any_marked, is_ending, is_kernel_process, is_marked, numbers, state_of, with_mark, with_state, without}
 pub use Rattle.process_core.specs.Conditions.{IsApplication}
 pub use Rattle.process_core.specs.Code.Invariant.{IsOfMote}
 pub use Rattle.process_core.specs.Code.Invariant.{is_in_activation}
-pub use Rattle.process_core.specs.Scheduler.{Scheduler, after_front, after_front_of, at_boot, first_event, in_front, job, job_at, of_event, state_in, wants_round}
+pub use Rattle.process_core.specs.Scheduler.{Scheduler, after_front, after_front_of, at_boot, first_event, in_front, job, job_at, marked, of_event, state_in, wants_round}
 pub use Rattle.process_core.specs.Code.Items.{ComesTo, after_items}
 pub use Rattle.process_core.specs.Code.Invariant.{IsWellFormed, is_shown}
 pub use Rattle.std.proofs.lemmas.Bool.Decides.{nat_tests}

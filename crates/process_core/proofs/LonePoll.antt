@@ -1,5 +1,7 @@
 -- A round that does nothing but poll one process of the kernel.
-use Rattle.process_core.proofs.Common.{◌≡◌, ℕ, ◌<◌, ◌==◌, Bool, true, false, ◌&&◌, List, [], ◌∷◌, length, refl, arith, Some, not, map, nat_tests, POLL, plain_event, Item, Job, from_marked, queued_of, is_one_of, is_empty, is_only_marked, polls_alone, numbers, is_marked, is_any_marked, is_kernel_process, with_mark, Scheduler, in_front, Process, unmarked, IsLonePoll, zero, suc, ◌≤◌, nat_eq, ◌++◌, drop, ◌∙◌, flat_map, reverse, length-reverse, Event, front_items, items_of, base_items, agenda_of, Base, Continuation, SchedulerFields, sym, ap, if◌then◌else◌, Reply, is_other_than, IsInOrder, from_application, receiver_is_next, poll_items, receiver_items, Front, behind_kernel_receivers, is_broadcast}
+use Rattle.process_core.proofs.Common.{◌≡◌, ℕ, ◌<◌, ◌==◌, Bool, true, false, ◌&&◌, List, [], ◌∷◌, length, refl, arith, Some, not, map, nat_tests, POLL, plain_event, Item, Job, from_marked, queued_of, is_one_of, is_empty, is_only_marked, polls_alone, numbers, is_marked, is_any_marked, is_kernel_process, with_mark, Scheduler, in_front, Process, unmarked, IsLonePoll, zero, suc, ◌≤◌, nat_eq, ◌++◌, drop, ◌∙◌, flat_map, reverse, length-reverse, Event, front_items, items_of, base_items, agenda_of, Base, Continuation, SchedulerFields, sym, ap, if◌then◌else◌, Reply, is_other_than, IsInOrder, from_application, receiver_is_next, poll_items, receiver_items, Front, behind_kernel_receivers, is_broadcast, is_idle, marked, state_of, State}
+use Rattle.std.proofs.lemmas.Bool.{or_parts}
+use Rattle.process_core.proofs.Listed.{marked_from_running}
 use Rattle.process_core.proofs.Yields.{unmarked_pass, poll_one_yields, yields_next, yields_after}
 use Rattle.process_core.specs.declared.queued.Queued as code
 
@@ -90,6 +92,24 @@ module _ {X : Type 0} where
       let none = negated (is_any_marked (with_mark p false s.processes)) only.1 in
       let first = marked_first s.processes (numbers s.processes) p (λ q h. alone_marked s.processes p q none h) only.0 (marked_is_one_of s.processes p only.0) in
       grind (arith, lone_poll_at, empty_list, nat_tests, marked_is_any)
+
+-- At rest a process is marked, and its mark is taken away again.
+marked_again : (list : List Process) (p : ℕ) → is_any_marked list ≡ false → with_mark p false (with_mark p true list) ≡ list
+marked_again [] p none = refl
+marked_again (x ∷ list) p none = let rest = marked_again list p in grind (arith, nat_tests, or_parts)
+
+module _ {X : Type 0} where
+  pub unmarked_again : (s : Scheduler X) (p : ℕ) → is_idle s ≡ true → unmarked p (marked p s) ≡ s
+  unmarked_again s p idle =
+      let none : is_any_marked s.processes ≡ false = grind (arith, nat_tests, idle) in
+      rw (marked_again s.processes p none) refl
+
+  pub polls_alone_from_rest : (s : Scheduler X) (p : ℕ) → is_idle s ≡ true → state_of p s.processes ≡ State.Running → polls_alone p (marked p s) ≡ true
+  polls_alone_from_rest s p idle runs =
+      let none : is_any_marked s.processes ≡ false = grind (arith, nat_tests, idle) in
+      let quiet : is_empty s.events ≡ true = grind (arith, nat_tests, idle) in
+      let bare : is_empty s.agenda ≡ true = grind (arith, nat_tests, idle) in
+      all_three bare quiet (rw (marked_from_running p s.processes (with_mark p true s.processes) runs refl, marked_again s.processes p none, none) refl)
 
 -- When nothing is left to be done.
 pub is_empty_append : {A : Type 0} (xs ys : List A) → is_empty (xs ++ ys) ≡ (is_empty xs && is_empty ys)

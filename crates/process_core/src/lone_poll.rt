@@ -1,7 +1,9 @@
 //! A round that does nothing but poll one process of the kernel.
 
-ghost use Rattle.std.specs.Prelude.{◌≡◌, ◌<◌, None, true};
+ghost use Rattle.std.specs.Prelude.{◌≡◌, ◌<◌, ℕ, None, true};
 ghost use Rattle.process_core.specs.Code.LonePoll.{polls_alone, unmarked, IsLonePoll};
+ghost use Rattle.process_core.specs.Code.SchedulerView.{is_at_rest};
+ghost use Rattle.process_core.specs.Scheduler.{marked};
 
 use crate::scheduler::Scheduler;
 use mote_types::event::Pid;
@@ -19,6 +21,17 @@ impl Scheduler {
         self.fields.processes.is_only_marked(pid)
             && self.fields.events.is_empty()
             && self.fields.is_over()
+    }
+
+    /// From rest a mark of one of the kernel's processes leads to a round that polls it alone, and without that mark all is as
+    /// it was. Nothing is done: the contract is the law.
+    #[inline]
+    pub fn rest_goes_on(&self)
+        requires { is_at_rest self.now ≡ true }
+        ensures round { (p : ℕ) → p < 4 → IsLonePoll p (marked p self.now.state) }
+        ensures same { (p : ℕ) → unmarked p (marked p self.now.state) ≡ self.now.state }
+    {
+        let _ = &self.fields;
     }
 
     /// Takes the mark of a process away, as a poll round does that comes to it.
