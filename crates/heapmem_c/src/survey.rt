@@ -13,8 +13,9 @@ fn end_behind(row: Row, from: usize) -> Option<usize>
     ensures some { IfSome result (λ end. (from ≤ row.place) × (1 ≤ row.room) × (row.size ≤ row.room) × (end ≡ row.place + row.room)) }
     ensures none { IfNone result (from ≤ row.place → 1 ≤ row.room → row.size ≤ row.room → 2 ^ 64 ≤ row.place + row.room) }
 {
-    let end = row.place.checked_add(row.room)?;
-    if from <= row.place && row.room != 0 && row.size <= row.room {
+    // That is no higher than the place where the room is 0, or where no number tells the end.
+    let end = row.place.wrapping_add(row.room);
+    if from <= row.place && row.place < end && row.size <= row.room {
         Some(end)
     } else {
         None
