@@ -1,0 +1,4 @@
+mod Examples
+mod Parts
+mod TextExamples
+mod Texts
