@@ -1,11 +1,14 @@
 -- Where a resized block is, by what the code found.
-use Rattle.std.proofs.Common.{◌≡◌, ℕ, ◌<◌, List, length, Option, Some, None, sym, ap, ◌∙◌, subst, IsSomeAnd}
-use Rattle.std.specs.Option.{option_map, option_or}
+use Rattle.std.proofs.Common.{◌≡◌, ℕ, ◌<◌, List, length, Option, Some, None, refl, sym, ap, ◌∙◌, subst, IsSomeAnd}
+use Rattle.std.specs.Option.{option_map, option_or, is_some}
+use Rattle.std.specs.Prelude.{IsNone}
 use Rattle.heap_core.specs.declared.chunk.Place.{Place}
 use Rattle.heap_core.specs.HeapStore.{Block, HeapStore, find_block, place, place_of, new_place, room_in_place}
 use Rattle.heapmem_c.specs.declared.row.Row.{Row}
+use Rattle.heapmem_c.specs.declared.outcome.Outcome.{Outcome}
 use Rattle.heapmem_c.specs.Heaps.{block_told, heap_of, IsTable}
-use Rattle.heapmem_c.specs.Code.Rows.{row_of}
+use Rattle.heapmem_c.specs.Answers.{ReallocTold}
+use Rattle.heapmem_c.specs.Code.Rows.{row_of, HasNoPlace}
 use Rattle.heapmem_c.proofs.Edits.{block_found}
 
 pub some_and : {X : Type 0} (o : Option X) (x : X) (P : X → Type 0) → o ≡ Some x → P x → IsSomeAnd o P
@@ -26,3 +29,14 @@ module _ (block : Block) (n : ℕ) (heap : HeapStore) where
 
   pub new_elsewhere : (found : Option Place) → None ≡ room_in_place (place_of block) n heap → found ≡ place n heap → new_place (place_of block) n heap ≡ found
   new_elsewhere found e f = ap (λ (o : Option ℕ). option_or (option_map at_room o) (place n heap)) (sym e) ∙ sym f
+
+-- where it has no room where it is, and no place elsewhere
+pub resize_refused : (outcome : Outcome) (rows : List Row) (bytes : List ℕ) (at n : ℕ) (block : Block) → find_block at (heap_of rows bytes) ≡ Some block
+    → None ≡ room_in_place (place_of block) n (heap_of rows bytes) → HasNoPlace outcome n rows (length bytes) → ReallocTold outcome at n rows bytes
+resize_refused Outcome.NoTable rows bytes at n block found room why = why
+resize_refused Outcome.NoRoom rows bytes at n block found room why =
+    let heap = heap_of rows bytes in
+    (why.0, some_and (find_block at heap) block (λ b. IsNone (new_place (place_of b) n heap)) found (ap is_some (new_elsewhere block n heap None room (why.1 bytes refl))))
+resize_refused Outcome.Done rows bytes at n block found room why = absurd why
+resize_refused Outcome.NoBlock rows bytes at n block found room why = absurd why
+resize_refused Outcome.NoRow rows bytes at n block found room why = absurd why

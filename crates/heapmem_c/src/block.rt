@@ -54,11 +54,9 @@ pub fn alloc(rows: &mut [Row], bytes: &mut [u8], size: usize, at: &mut usize) ->
         return Outcome::NoRow;
     }
     let taken = &rows[..rows.len() - 1];
-    if !is_table(taken, bytes.len()) {
-        return Outcome::NoTable;
-    }
-    let Some(spot) = find_place(taken, bytes.len(), size) else {
-        return Outcome::NoRoom;
+    let spot = match find_place(taken, bytes.len(), size) {
+        Ok(spot) => spot,
+        Err(outcome) => return outcome,
     };
     put(rows, bytes, spot, size);
     *at = spot.at;
@@ -166,8 +164,9 @@ pub fn realloc(rows: &mut [Row], bytes: &mut [u8], at: &mut usize, n: usize) -> 
         resize(rows, bytes, number, room, n);
         return Outcome::Done;
     }
-    let Some(spot) = find_place(rows, bytes.len(), n) else {
-        return Outcome::NoRoom;
+    let spot = match find_place(rows, bytes.len(), n) {
+        Ok(spot) => spot,
+        Err(outcome) => return outcome,
     };
     relocate(rows, bytes, number, spot, n);
     *at = spot.at;

@@ -19,7 +19,7 @@ ghost use Rattle.heapmem_c.specs.Heaps.{heap_of, IsTable, front, with_new, with_
 ghost use Rattle.heapmem_c.specs.Answers.{outcome_numbered, AllocTold, FreeTold, ReallocTold, StatsTold};
 
 use crate::outcome::{Outcome, number_of};
-use crate::survey::{figures, is_table};
+use crate::survey::figures;
 pub use row::{Row, Stats};
 
 /// Gives a block of `size` bytes, all 0, and tells its place (`heapmem_alloc`). The last row is a spare one, and of no block.
@@ -81,9 +81,9 @@ pub extern "C" fn toarmuts_heapmem_stats(rows: &[Row], bytes: &[u8], stats: &mut
     ensures chunks { outcome_numbered result ≡ Some Outcome.Done → stats.new.chunks ≡ (stats_of (heap_of rows.now bytes.now)).chunks }
     ensures unchanged { outcome_numbered result ≢ Some Outcome.Done → stats.new ≡ stats.old }
 {
-    if !is_table(rows, bytes.len()) {
+    let Some(told) = figures(rows, bytes.len()) else {
         return number_of(Outcome::NoTable);
-    }
-    *stats = figures(rows, bytes.len());
+    };
+    *stats = told;
     number_of(Outcome::Done)
 }

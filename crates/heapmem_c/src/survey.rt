@@ -1,11 +1,12 @@
 //! What rows leave free: whether they are a table, which gap a block takes, and where the last one ends.
 
-ghost use Rattle.std.specs.Prelude.{◌≡◌, ℕ, List, ◌+◌, ◌^◌, ◌≤◌, ◌<◌, ◌↔◌, ◌⊎◌, IsTrue, length, sum_by, IfSome, IfNone, Some};
+ghost use Rattle.std.specs.Prelude.{◌≡◌, ℕ, List, ◌+◌, ◌^◌, ◌≤◌, ◌<◌, ◌↔◌, ◌⊎◌, IsTrue, length, sum_by, IfSome, IfNone, IfOk, IfErr, Some};
 ghost use Rattle.std.specs.Option.{option_map};
 ghost use Rattle.heap_core.specs.HeapStore.{best_gap, better, gaps, footprint, place, place_of, room_in_place, stats_of, top_gap};
 ghost use Rattle.heapmem_c.specs.Heaps.{block_told, heap_of, IsTable};
-ghost use Rattle.heapmem_c.specs.Code.Rows.{gap_of, place_told, row_of, next_place, IsFree};
+ghost use Rattle.heapmem_c.specs.Code.Rows.{gap_of, place_told, row_of, next_place, IsFree, HasNoPlace};
 
+use crate::outcome::Outcome;
 use crate::row::{Hole, Row, Spot, Stats, least_room, room_taken};
 
 /// Where a row's block ends, if it lies from a place on, and has room for its size.
@@ -59,18 +60,22 @@ pub struct Survey {
     pub end: usize,
 }
 
-/// The best gap for so many bytes, and where the last block ends.
-fn look_over(rows: &[Row], capacity: usize, need: u128) -> Survey
-    requires { IsTable rows.now capacity }
-    ensures best { (bytes : List ℕ) → option_map gap_of result.best ≡ best_gap need (gaps (heap_of rows.now bytes)) }
-    ensures end { (bytes : List ℕ) → result.end ≡ footprint (heap_of rows.now bytes) }
-    ensures inside { result.end ≤ capacity }
-    ensures free { IfSome result.best (λ hole. (need ≤ hole.len) × IsFree 0 rows.now capacity hole.at hole.len) }
-    ensures top { (len : ℕ) → result.end + len ≤ capacity → IsFree 0 rows.now capacity result.end len }
+/// The best gap for so many bytes, and where the last block ends. `None` where the rows are no table.
+fn look_over(rows: &[Row], capacity: usize, need: u128) -> Option<Survey>
+    ensures table { IfSome result (λ _. IsTable rows.now capacity) }
+    ensures none { IfNone result (¬ IsTable rows.now capacity) }
+    ensures best { IfSome result (λ survey. (bytes : List ℕ) → option_map gap_of survey.best ≡ best_gap need (gaps (heap_of rows.now bytes))) }
+    ensures end { IfSome result (λ survey. (bytes : List ℕ) → survey.end ≡ footprint (heap_of rows.now bytes)) }
+    ensures inside { IfSome result (λ survey. survey.end ≤ capacity) }
+    ensures free { IfSome result (λ survey. IfSome survey.best (λ hole. (need ≤ hole.len) × IsFree 0 rows.now capacity hole.at hole.len)) }
+    ensures top { IfSome result (λ survey. (len : ℕ) → survey.end + len ≤ capacity → IsFree 0 rows.now capacity survey.end len) }
 {
     let mut best = None;
     let mut end = 0;
     for row in rows {
+        let Some(next) = end_behind(*row, end) else {
+            return None;
+        };
         if end < row.place {
             best = better(
                 need,
@@ -81,29 +86,35 @@ fn look_over(rows: &[Row], capacity: usize, need: u128) -> Survey
                 },
             );
         }
-        end = row.place + row.room;
+        end = next;
     }
-    Survey { best, end }
+    if end > capacity {
+        return None;
+    }
+    Some(Survey { best, end })
 }
 
-/// Where a block of `n` bytes goes.
-pub fn find_place(rows: &[Row], capacity: usize, n: usize) -> Option<Spot>
-    requires { IsTable rows.now capacity }
-    ensures place { (bytes : List ℕ) → length bytes ≡ capacity → option_map place_told result ≡ place n (heap_of rows.now bytes) }
-    ensures free { IfSome result (λ spot. (1 ≤ spot.room) × (n ≤ spot.room) × IsFree 0 rows.now capacity spot.at spot.room) }
+/// Where a block of `n` bytes goes, or why it can't: `NoTable` or `NoRoom`.
+pub fn find_place(rows: &[Row], capacity: usize, n: usize) -> Result<Spot, Outcome>
+    ensures table { IfOk result (λ _. IsTable rows.now capacity) }
+    ensures place { IfOk result (λ spot. (bytes : List ℕ) → length bytes ≡ capacity → Some (place_told spot) ≡ place n (heap_of rows.now bytes)) }
+    ensures free { IfOk result (λ spot. (1 ≤ spot.room) × (n ≤ spot.room) × IsFree 0 rows.now capacity spot.at spot.room) }
+    ensures refused { IfErr result (λ outcome. HasNoPlace outcome n rows.now capacity) }
 {
     let room = least_room(n);
-    let survey = look_over(rows, capacity, room);
+    let Some(survey) = look_over(rows, capacity, room) else {
+        return Err(Outcome::NoTable);
+    };
     match survey.best {
-        Some(hole) => Some(Spot {
+        Some(hole) => Ok(Spot {
             at: hole.at,
             room: room_taken(room as usize, hole.len),
         }),
-        None if room <= (capacity - survey.end) as u128 => Some(Spot {
+        None if room <= (capacity - survey.end) as u128 => Ok(Spot {
             at: survey.end,
             room: room as usize,
         }),
-        None => None,
+        None => Err(Outcome::NoRoom),
     }
 }
 
@@ -158,19 +169,23 @@ fn left_over(rows: &[Row], capacity: usize) -> usize
     free + (capacity - end)
 }
 
-/// The figures of a heap.
-pub fn figures(rows: &[Row], capacity: usize) -> Stats
-    requires { IsTable rows.now capacity }
-    ensures allocated { (bytes : List ℕ) → length bytes ≡ capacity → result.allocated ≡ (stats_of (heap_of rows.now bytes)).allocated }
-    ensures available { (bytes : List ℕ) → length bytes ≡ capacity → result.available ≡ (stats_of (heap_of rows.now bytes)).available }
-    ensures footprint { (bytes : List ℕ) → result.footprint ≡ (stats_of (heap_of rows.now bytes)).footprint }
-    ensures chunks { (bytes : List ℕ) → result.chunks ≡ (stats_of (heap_of rows.now bytes)).chunks }
+/// The figures of a heap. `None` where the rows are no table.
+pub fn figures(rows: &[Row], capacity: usize) -> Option<Stats>
+    ensures table { IfSome result (λ _. IsTable rows.now capacity) }
+    ensures none { IfNone result (¬ IsTable rows.now capacity) }
+    ensures allocated { IfSome result (λ told. (bytes : List ℕ) → length bytes ≡ capacity → told.allocated ≡ (stats_of (heap_of rows.now bytes)).allocated) }
+    ensures available { IfSome result (λ told. (bytes : List ℕ) → length bytes ≡ capacity → told.available ≡ (stats_of (heap_of rows.now bytes)).available) }
+    ensures footprint { IfSome result (λ told. (bytes : List ℕ) → told.footprint ≡ (stats_of (heap_of rows.now bytes)).footprint) }
+    ensures chunks { IfSome result (λ told. (bytes : List ℕ) → told.chunks ≡ (stats_of (heap_of rows.now bytes)).chunks) }
 {
+    let Some(survey) = look_over(rows, capacity, 0) else {
+        return None;
+    };
     let available = left_over(rows, capacity);
-    Stats {
+    Some(Stats {
         allocated: capacity - available,
         available,
-        footprint: look_over(rows, capacity, 0).end,
+        footprint: survey.end,
         chunks: rows.len(),
-    }
+    })
 }

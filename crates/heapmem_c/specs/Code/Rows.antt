@@ -2,9 +2,12 @@
 use Rattle.std.specs.Prelude.{◌≡◌, ◌≢◌, ℕ, zero, suc, ◌+◌, ◌≤◌, ◌<◌, ◌⊎◌, List, [], ◌∷◌, length, slice_index_or, nat_lt, if◌then◌else◌, Option, Some, None}
 use Rattle.heap_core.specs.declared.chunk.Gap.{Gap}
 use Rattle.heap_core.specs.declared.chunk.Place.{Place}
+use Rattle.heap_core.specs.HeapStore.{place}
+use Rattle.heapmem_c.specs.declared.outcome.Outcome.{Outcome}
 use Rattle.heapmem_c.specs.declared.row.Row.{Row}
 use Rattle.heapmem_c.specs.declared.row.Hole.{Hole}
 use Rattle.heapmem_c.specs.declared.row.Spot.{Spot}
+use Rattle.heapmem_c.specs.Heaps.{heap_of, IsTable}
 
 abbrev pub gap_of : Hole → Gap
 gap_of hole = record { at = hole.at; len = hole.len }
@@ -38,6 +41,14 @@ without_row (suc i) (row ∷ rows) = row ∷ without_row i rows
 abbrev pub BeginsAt : List Row → ℕ → ℕ → Option ℕ → Type 0
 BeginsAt rows at n None = (j : ℕ) → j < n → (row_of rows j).place ≢ at
 BeginsAt rows at n (Some i) = (i < length rows) × ((row_of rows i).place ≡ at)
+
+-- why a block of n bytes has no place
+abbrev pub HasNoPlace : Outcome → ℕ → List Row → ℕ → Type 0
+HasNoPlace Outcome.NoTable n rows capacity = ¬ IsTable rows capacity
+HasNoPlace Outcome.NoRoom n rows capacity = IsTable rows capacity × ((bytes : List ℕ) → length bytes ≡ capacity → None ≡ place n (heap_of rows bytes))
+HasNoPlace Outcome.Done n rows capacity = ⊥
+HasNoPlace Outcome.NoBlock n rows capacity = ⊥
+HasNoPlace Outcome.NoRow n rows capacity = ⊥
 
 -- the first n rows begin at a place or below
 abbrev pub BeginBelow : List Row → ℕ → ℕ → Type 0
