@@ -148,5 +148,6 @@ def extensions() -> list[Any]:
 
 
 def built() -> dict[str, str]:
-    """What is told of the build to the package: the repository, and which library it was."""
-    return {"repository": str(ROOT), "library": hashlib.sha256(LIBRARY.read_bytes()).hexdigest(), "backend": backend()}
+    """What is told of the build to the package: the repository, which TOARMUTS_REPOSITORY may name, and which library it was."""
+    repository = os.environ.get("TOARMUTS_REPOSITORY", str(ROOT))
+    return {"repository": repository, "library": hashlib.sha256(LIBRARY.read_bytes()).hexdigest(), "backend": backend()}

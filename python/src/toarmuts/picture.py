@@ -22,7 +22,7 @@ td.text, pre { font-family: monospace } tr.input { background: #e8f0fe } tr.refu
 
 
 def program() -> pathlib.Path | None:
-    """The program: what TOARMUTS_PICTURE names, what the repository has built, or ``mote_picture`` in PATH."""
+    """The program: what TOARMUTS_PICTURE names, what the repository has built, or ``mote-picture`` in PATH, as a release has it."""
     named = os.environ.get("TOARMUTS_PICTURE")
     if named:
         return pathlib.Path(named)
@@ -30,7 +30,7 @@ def program() -> pathlib.Path | None:
     built = root / "crates/mote_picture/out/mote_picture" if root is not None else None
     if built is not None and os.access(built, os.X_OK):
         return built
-    found = shutil.which("mote_picture")
+    found = shutil.which("mote-picture") or shutil.which("mote_picture")
     return pathlib.Path(found) if found else None
 
 
