@@ -27,7 +27,7 @@ SOURCES = ["native/transcript_table.c", "native/advance.c"]
 # What cffi is told of the headers, since it reads no preprocessor's lines. The compiler compares it with them.
 DECLARED = """
 struct toarmuts_configuration { uint32_t mmem, heap, header, has_quota, quota, quiet; };
-struct toarmuts_answer { uint32_t status; uint64_t line; size_t length; };
+struct toarmuts_answer { uint32_t status; uint64_t line; size_t length; uint32_t reason, application; size_t call; };
 void toarmuts_run(const struct toarmuts_configuration *configuration, const uint8_t *applications, size_t applications_length,
                   const uint8_t *script, size_t script_length, uint8_t *transcript, size_t room, struct toarmuts_answer *answer);
 struct transcript_row { ...; };
@@ -123,7 +123,7 @@ def build_arguments(folder: pathlib.Path) -> dict[str, Any]:
         "sources": [*SOURCES, write_call_words(folder), write_source(folder, "memory.c", '#include "toarmuts_memory.c"\n')],
         "include_dirs": [str(HERE / "native"), str(CRATE / "include")],
         "depends": [str(LIBRARY), str(HEADER), str(HERE / "native/transcript_table.h"), str(HERE / "native/advance.h")],
-        "extra_compile_args": ["-std=c11", "-O2"],
+        "extra_compile_args": ["-std=c11", "-O3"],
         "extra_link_args": ["-Wl,--whole-archive", str(LIBRARY), "-Wl,--no-whole-archive"],
         "py_limited_api": True,
     }
@@ -136,7 +136,7 @@ def extensions() -> list[Any]:
     check_library()
     arguments = build_arguments(HERE / "build" / "native")
     entries = Extension("toarmuts._entries", sources=["native/entries.c"], include_dirs=[str(HERE / "native")],
-                        depends=["native/transcript_table.h"], extra_compile_args=["-std=c11", "-O2"], py_limited_api=True)
+                        depends=["native/transcript_table.h"], extra_compile_args=["-std=c11", "-O3"], py_limited_api=True)
     if backend() == "ctypes":
         return [Extension("toarmuts._library", **arguments)] + ([entries] if has_headers() else [])
     from cffi import FFI

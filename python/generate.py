@@ -37,30 +37,24 @@ def wrapped(text: str, indent: str = "    ") -> str:
     return textwrap.fill(text, width=120, initial_indent=indent, subsequent_indent=indent)
 
 
-def call_class(rule: Any, rules: Any) -> str:
+def call_class(rule: Any) -> str:
     """The source of a call's class."""
-    refusals = ", ".join(f"{rules.refusals[number].name} ({number})" for number in rule.refusals)
-    told = [f"{name}: {rules.arguments[name].about}." for name in rule.arguments]
-    told.append(f"The answer is {rule.reply}." if rule.reply else "It has no answer.")
-    told += [f"Refused with {refusals}."] if refusals else []
-    lines = [f'class {class_name(rule.name)}(Call, word="{rule.name}"):', f'    """{rule.about}.', ""]
-    lines += [wrapped(" ".join(told)), '    """', "", "    __slots__ = ()"]
+    lines = ["@dataclass(frozen=True, eq=False, repr=False)", f"class {class_name(rule.name)}(Call):", f'    """{rule.about}."""']
     if rule.arguments:
-        types = [(name, TYPES.get(name, "int")) for name in rule.arguments]
-        lines += [f"    {name}: {kind}" for name, kind in types]
-        parameters = ", ".join(f"{name}: {kind}" + (" = None" if name == "payload" else "") for name, kind in types)
-        lines += ["", f"    def __init__(self, {parameters}) -> None:", f"        super().__init__({', '.join(rule.arguments)})"]
-    else:
-        lines += ["", "    def __init__(self) -> None:", "        super().__init__()"]
+        lines.append("")
+    for name in rule.arguments:
+        lines.append(f"    {name}: {TYPES.get(name, 'int')}" + (" = None" if name == "payload" else ""))
     return "\n".join(lines)
 
 
 def calls_source(rules: Any) -> str:
-    head = f'"""The calls of an application, a class for each.\n\n{NOTICE}\n\n>>> str(TimerSet(0, 10))\n\'timer-set 0 10\'\n"""\n'
-    head += "from __future__ import annotations\n\nfrom .call import Call\nfrom .values import Payload\n"
+    head = '"""The calls of an application: a class for each, with its arguments. Their ``help`` tells what these may be, and the refusals.\n\n'
+    head += f"{NOTICE}\n\n>>> str(TimerSet(0, 10))\n'timer-set 0 10'\n\"\"\"\n"
+    head += "from __future__ import annotations\n\nfrom dataclasses import dataclass\n\n"
+    head += "from .call import Call\nfrom .values import Payload\n"
     names = [class_name(word) for word in rules.calls]
     exported = wrapped(", ".join(f'"{name}"' for name in names) + ",")
-    classes = "\n\n\n".join(call_class(rule, rules) for rule in rules.calls.values())
+    classes = "\n\n\n".join(call_class(rule) for rule in rules.calls.values())
     return f"{head}\n__all__ = [\n{exported}\n]\n\n\n{classes}\n"
 
 

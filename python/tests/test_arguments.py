@@ -6,9 +6,10 @@ import pytest
 from common import random_call, random_line
 
 import toarmuts
-from toarmuts.applications import read_applications
+from toarmuts.bundled import Echo
+from toarmuts.call import read_calls
 from toarmuts.script import has_form
-from toarmuts import (BadCall, BadInput, BadScenario, BadSizes, BadTranscript, Call, Mote, NoApplication, Options, Post, Print, Script,
+from toarmuts import (BadCall, BadInput, BadScenario, BadSizes, BadTranscript, Call, Mote, NoApplication, Options, Post, Print, Reason, Script,
                       TimerSet, TooManyApplications, Transcript, Wait, WrongType)
 
 
@@ -22,13 +23,13 @@ def run(*arguments, **options):
 
 WRONG = [
     # Sizes.
-    (run([], mmem=5), BadSizes, "mmem is 5, which is no multiple of 4"),
-    (run([], mmem=2**32 + 4096), BadSizes, "mmem is 4294971392; 4 to 65,536 is allowed"),
-    (run([], mmem=-4), BadSizes, "mmem is -4; 4 to 65,536 is allowed"),
-    (run([], heap=16), BadSizes, "heap is 16; 20 to 65,536 is allowed"),
+    (run([], mmem=5), BadSizes, "mmem is 5; a multiple of 4 from 4 to 65,536 is allowed"),
+    (run([], mmem=2**32 + 4096), BadSizes, "mmem is 4294971392; a multiple of 4 from 4 to 65,536 is allowed"),
+    (run([], mmem=-4), BadSizes, "mmem is -4; a multiple of 4 from 4 to 65,536 is allowed"),
+    (run([], heap=16), BadSizes, "heap is 16; a multiple of 4 from 20 to 65,536 is allowed"),
     (run([], header=12), BadSizes, "header is 12; 16 or 8 is allowed"),
-    (run([], mmem=6, heap=6), BadSizes, "mmem is 6, which is no multiple of 4; heap is 6; 20 to 65,536 is allowed"),
-    (run([], quota=0), BadSizes, "quota is 0; 4 to 65,536 is allowed"),
+    (run([], heap=6, header=6), BadSizes, "heap is 6; a multiple of 4 from 20 to 65,536 is allowed"),
+    (run([], quota=0), BadSizes, "quota is 0; a multiple of 4 from 4 to 65,536 is allowed"),
     (run(["hello"], quota=2052), BadSizes, "quota is 2052; 2 of them (1 application and the frames) exceed mmem, which is 4096"),
     (run([], mmem="4096"), WrongType, "mmem is to be an int, not str"),
     (run([], mmem=4096.0), WrongType, "mmem is to be an int, not float"),
@@ -53,9 +54,14 @@ WRONG = [
     (run(["hello", [Wait]]), WrongType, "application 2, call 1 is to be a Call or its words, not the class Wait: Wait(..) is meant"),
     (run([["wait", 5]]), WrongType, "application 1, call 2 is to be a Call or its words, not int"),
     (run([["wait", "kill"]]), NoApplication, "application 1 (process 4), call 2: 'kill': kill lacks a word"),
-    (run(["calls wait, frob 1"]), NoApplication, "application 1 (process 4), call 2: 'frob 1': no call frob"),
-    (run(["calls timer-set 0 05"]), NoApplication, "call 1: 'timer-set 0 05': 05 is no number from 0 to 4294967295"),
+    (run(["calls wait, frob 1"]), NoApplication, "application 1 (process 4), call 2: 'frob 1': no call has this name"),
+    (run(["calls timer-set 0 05"]), NoApplication, "call 1: 'timer-set 0 05': a word is no number, or one out of its range: timer-set "
+                                                   "takes timer (0 to 255), interval (0 to 4,294,967,295)"),
+    (run(["calls print 0"]), NoApplication, "call 1: 'print 0': a word is no hex, or has too many bytes: print takes data"),
+    (run(["calls 2 clock 1"]), NoApplication, "call 1: '2 clock 1': there are more words than the call takes: clock takes none"),
     (run(["calls 128 wait, clock"]), NoApplication, "application 1 (process 4): an application makes at most 128 calls"),
+    (run([Echo, "frob"]), NoApplication, "application 2 (process 5): no application 'frob'; there are hello, blink,"),
+    (run([Echo, "calls wait, frob 1"]), NoApplication, "application 2 (process 5), call 2: 'frob 1': no call frob"),
     (run([[Wait()] * 129]), NoApplication, "application 1 (process 4): 129 calls; a list has at most 128"),
     # Scripts.
     (run([], 5), WrongType, "script is to be a str, bytes or Script, not int"),
@@ -92,7 +98,8 @@ WRONG = [
     (lambda: toarmuts.read_scenarios("tock 5\n"), BadScenario, "line 1: unknown word tock"),
     # A mote in hand.
     (lambda: Mote("blink"), WrongType, "applications is to be a list: ['blink']"),
-    (lambda: Mote([], mmem=2), BadSizes, "mmem is 2; 4 to 65,536 is allowed"),
+    (lambda: Mote([], mmem=2), BadSizes, "mmem is 2; a multiple of 4 from 4 to 65,536 is allowed"),
+    (lambda: Mote(["hello"] * 3, quota=2048), BadSizes, "quota is 2048; 4 of them (3 applications and the frames) exceed mmem, which is 4096"),
     (lambda: Mote().tick(-1), BadInput, "tick -1: 0 to 4,294,967,295 is allowed"),
     (lambda: Mote().frame(b""), BadInput, "frame of 0 bytes: 1 to 127 are allowed"),
     (lambda: Mote().feed("tick 01"), BadInput, "'tick 01' is no line of a script"),
@@ -115,30 +122,44 @@ def test_faults_are_of_this_package_and_of_pythons_kinds():
 def test_which_application_and_call():
     with pytest.raises(NoApplication) as caught:
         toarmuts.run(["hello", "calls wait, wait, kill"])
-    assert (caught.value.number, caught.value.process, caught.value.call) == (2, 5, 3)
+    assert (caught.value.number, caught.value.process, caught.value.call, caught.value.why) == (2, 5, 3, Reason.FEW_WORDS)
 
 
-def test_all_sizes_are_told():
+def test_the_first_bad_size_is_told():
     with pytest.raises(BadSizes) as caught:
-        toarmuts.run([], mmem=6, heap=6, header=6)
-    assert len(caught.value.faults) == 3 and caught.value.sizes == ("mmem", "heap", "header")
+        toarmuts.run([], heap=6, header=6, quota=8192)
+    assert (caught.value.size, caught.value.why) == ("heap", Reason.HEAP)
 
 
-def test_sizes_are_refused_exactly_where_the_library_refuses():
-    """For all small sizes, and quotas of several applications."""
+def reason_of(mmem, heap, header, quota, applications):
+    """Why no mote has these sizes, by README.md."""
+    if mmem % 4 or not 4 <= mmem <= 65536:
+        return Reason.MMEM
+    if heap % 4 or not 20 <= heap <= 65536:
+        return Reason.HEAP
+    if header not in (16, 8):
+        return Reason.HEADER
+    if quota is not None and (quota % 4 or not 4 <= quota <= 65536):
+        return Reason.QUOTA
+    return Reason.ALL_QUOTAS if quota is not None and quota * (applications + 1) > mmem else Reason.NONE
+
+
+def test_sizes_are_refused_for_the_first_reason():
+    """For all small sizes, sizes about each bound, and quotas of several applications."""
     from toarmuts.library import BAD_SIZES, library
 
-    for mmem in range(0, 30):
-        for quota in (None, 0, 3, 4, 8):
-            for applications in (0, 1, 2):
-                options = Options(mmem=mmem, quota=quota)
-                status, _, _ = library().run(options.configuration(), b"hello\n" * applications, b"")
-                assert (status == BAD_SIZES) == bool(options.faults(applications)), (mmem, quota, applications)
+    def check(options, applications):
+        status, _, _ = library().run(options.configuration(), b"hello\n" * applications, b"")
+        reason = reason_of(options.mmem, options.heap, options.header, options.quota, applications)
+        assert (library().why(), status == BAD_SIZES) == ((reason, 0, 0), reason != Reason.NONE), (options, applications)
+
+    for mmem in [*range(0, 30), 65532, 65536, 65540]:
+        for quota in (None, 0, 3, 4, 8, 21848, 65536, 65540, 2**31):
+            for applications in (0, 1, 2, 16):
+                check(Options(mmem=mmem, quota=quota), applications)
     for heap in (0, 16, 19, 20, 21, 24, 65535, 65536, 65540):
         for header in (0, 8, 12, 16, 20):
-            options = Options(heap=heap, header=header)
-            status, _, _ = library().run(options.configuration(), b"", b"")
-            assert (status == BAD_SIZES) == bool(options.faults()), (heap, header)
+            check(Options(heap=heap, header=header, quota=8192), 0)
 
 
 def spoilt(chance, text):
@@ -150,23 +171,61 @@ def spoilt(chance, text):
     return text
 
 
-def test_lists_are_refused_exactly_where_the_library_refuses():
-    """Lists of random calls as text, with characters spoilt."""
+# Why a list is none, as its reader in Python tells it.
+REASONS = {"no call ": Reason.CALL, "lacks a word": Reason.FEW_WORDS, "more words": Reason.MANY_WORDS, "is no number": Reason.NUMBER,
+           "is no hex": Reason.HEX, "at most 128 calls": Reason.MANY_CALLS}
+
+
+def why_no_list(text):
+    """The reason, and the place of the call, by the reader in Python."""
+    try:
+        read_calls(text)
+    except BadCall as fault:
+        reason = next(reason for words, reason in REASONS.items() if words in fault.reason)
+        return reason, (fault.place or 1) - 1
+    return Reason.NONE, 0
+
+
+def test_lists_are_refused_for_the_first_reason():
+    """Lists of random calls as text, with characters spoilt, behind other applications."""
     from toarmuts.library import NO_APPLICATION, library
 
-    usual, refused = Options().configuration(), 0
+    usual, refused = Options().configuration(), set()
     for seed in range(3000):
         chance = random.Random(seed)
-        line = "calls " + spoilt(chance, ", ".join(str(random_call(chance)) for _ in range(chance.randrange(1, 4))))
-        status, _, _ = library().run(usual, (line + "\n").encode(), b"")
-        try:
-            read_applications([line])
-        except NoApplication:
-            refused += 1
-            assert status == NO_APPLICATION, line
+        text = spoilt(chance, ", ".join(str(random_call(chance)) for _ in range(chance.randrange(1, 4))))
+        before = chance.randrange(16)
+        status, line, _ = library().run(usual, b"hello\n" * before + f"calls {text}\n".encode(), b"")
+        reason, call = why_no_list(text)
+        if reason is Reason.NONE:
+            assert status != NO_APPLICATION, text
         else:
-            assert status != NO_APPLICATION, line
-    assert 500 < refused < 2500
+            assert (status, line, library().why()) == (NO_APPLICATION, before + 1, (reason, before, call)), text
+        refused.add(reason)
+    assert refused == {Reason.NONE, *REASONS.values()} - {Reason.MANY_CALLS}
+
+
+@pytest.mark.parametrize("text, reason, call", [
+    ("frob, kill", Reason.CALL, 0), ("wait, kill, frob", Reason.FEW_WORDS, 1), ("wait, wait, kill 4 5", Reason.MANY_WORDS, 2),
+    ("exit, 2 poll x", Reason.NUMBER, 1), ("0 wait", Reason.NUMBER, 0), ("129 wait", Reason.NUMBER, 0), ("128 wait", Reason.NONE, 0),
+    ("print 6", Reason.HEX, 0), ("wait, ", Reason.CALL, 1), (", wait", Reason.CALL, 0), ("wait,exit", Reason.CALL, 0), ("", Reason.NONE, 0),
+    ("128 wait, exit", Reason.MANY_CALLS, 0), ("128 wait, exit, frob", Reason.CALL, 2), ("poll 1, poll 256, poll", Reason.NUMBER, 1),
+])
+def test_which_part_of_a_list_it_is(text, reason, call):
+    from toarmuts.library import library
+
+    status, _, _ = library().run(Options().configuration(), f"blink\ncalls {text}".encode(), b"")
+    assert (status == 17, library().why()) == (reason != Reason.NONE, (reason, int(reason != Reason.NONE), call))
+
+
+def test_what_has_no_place():
+    """Neither a run, nor one line too many, nor what is no text has a reason besides; a name has no call."""
+    from toarmuts.library import library
+
+    usual = Options().configuration()
+    for applications, script, status, why in ((b"hello", b"", 0, (0, 0, 0)), (b"hello", b"tock\n", 2, (0, 0, 0)), (b"\xff", b"", 16, (0, 0, 0)),
+                                              (b"hello\n" * 17, b"", 18, (0, 16, 0)), (b"hello\nnobody", b"", 17, (6, 1, 0))):
+        assert library().run(usual, applications, script)[0] == status and library().why() == why, applications
 
 
 def test_lines_have_no_form_exactly_where_the_library_finds_none():

@@ -13,7 +13,9 @@ from toarmuts import (Answer, Call, Callback, Ending, Event, EventCode, Input, I
 from toarmuts.scenario import read_file
 
 from toarmuts.bundled import Blink as BLINK
-from toarmuts.rows import PlainRow, make_plain
+from toarmuts.rows import PlainRow, PlainWords, make_plain
+from toarmuts.transcript import read_callback
+from toarmuts.values import read_answer, read_event
 
 
 def hexes(data):
@@ -76,16 +78,38 @@ def test_rows_made_in_python_are_the_same():
     for seed in range(50):
         run = random_run(seed)
         table = run.entries._source.table
-        plain = make_plain((PlainEntry,) * 7, run.entries._source, run.entries._source.data, table, 0, len(run.entries))
-        names = [name for name in type(plain[0]).__mro__[1].__slots__ if name not in ("_source", "_data", "index")] if plain else []
-        for row, entry in zip(plain, run.entries):
+        clock = None if seed % 5 == 0 else 1000 * (seed % 3)
+        transcript = Transcript(run.transcript, quiet=clock is None, clock_before=clock or 0)
+        plain = make_plain((PlainEntry,) * 7, run.entries._source, run.entries._source.data, table, 0, len(run.entries), clock)
+        names = [name for name in PlainRow.__slots__ if name not in ("_source", "_data")]
+        for row, entry in zip(plain, transcript):
             assert [getattr(row, name) for name in names] == [getattr(entry, name) for name in names]
+            assert not isinstance(entry, Turn) or (row.call, row.stimulus) == (entry.call, entry.stimulus)
+        assert len(plain) == len(transcript)
 
 
 class PlainEntry(PlainRow):
     """A row made in Python."""
 
     __slots__ = ()
+    call = PlainWords(True, (Call.parse,))
+    stimulus = PlainWords(False, (read_event, read_event, read_event, read_callback, read_answer))
+
+
+def test_words_are_of_rows_alone():
+    for words in (Turn.__dict__["call"], Turn.__dict__["stimulus"]):
+        with pytest.raises((TypeError, AttributeError)):
+            words.__get__(5, int)
+    assert Turn.call is Turn.__dict__["call"]
+
+
+def test_words_that_share_a_place_are_told_apart():
+    """More words than there are places for, over and over, and those of one length that differ in a byte."""
+    text = "".join(f"4 event {code} {number} -> timer-set {code % 8} {number}\n" for number in range(200) for code in range(100, 140))
+    for _ in range(2):
+        for place, turn in enumerate(Transcript(text)):
+            number, code = place // 40, 100 + place % 40
+            assert turn.call == TimerSet(code % 8, number) and turn.stimulus == Event(code, number)
 
 
 def test_what_turns_tell():

@@ -110,8 +110,8 @@ def test_what_is_drawn_is_carried_out():
         coverage = Coverage()
         try:
             run = toarmuts.run([*lists, table], script, options=options)
-        except BadSizes:
-            assert options.faults(len(lists) + 1)
+        except BadSizes as fault:
+            assert fault.size in ("mmem", "heap", "header", "quota")
             return
         assert "".join(f"{entry}\n" for entry in run.entries) == run.text
         coverage.add(run)

@@ -32,52 +32,101 @@ run(struct toarmuts_configuration configuration, const char *applications, const
   return answer;
 }
 
+/* Why there is no run of these, and of what the answer tells. */
+struct refused {
+  struct toarmuts_configuration configuration;
+  const char *applications;
+  uint32_t status;
+  uint32_t reason;
+  uint32_t application;
+  size_t call;
+};
+
+#define USUAL {4096, 4096, 16, 0, 0, 0}
+#define BAD {6, 6, 6, 1, 6, 0}
+
+/* Each reason, and where two apply the first. No room has any of them. */
+static const struct refused refused[] = {
+  {USUAL, "\xff", TOARMUTS_NOT_TEXT, TOARMUTS_REASON_NONE, 0, 0},
+  {USUAL, "nobody", TOARMUTS_NO_APPLICATION, TOARMUTS_REASON_NAME, 0, 0},
+  {USUAL, "hello\n\nblink", TOARMUTS_NO_APPLICATION, TOARMUTS_REASON_NAME, 1, 0},
+  {USUAL, "hello\ncall wait", TOARMUTS_NO_APPLICATION, TOARMUTS_REASON_NAME, 1, 0},
+  {USUAL, "calls frob", TOARMUTS_NO_APPLICATION, TOARMUTS_REASON_CALL, 0, 0},
+  {USUAL, "calls wait, ", TOARMUTS_NO_APPLICATION, TOARMUTS_REASON_CALL, 0, 1},
+  {USUAL, "calls wait,exit", TOARMUTS_NO_APPLICATION, TOARMUTS_REASON_CALL, 0, 0},
+  {USUAL, "hello\ncalls wait, 3 clock, frob 1, kill", TOARMUTS_NO_APPLICATION, TOARMUTS_REASON_CALL, 1, 2},
+  {USUAL, "calls wait\ncalls wait, kill, frob", TOARMUTS_NO_APPLICATION, TOARMUTS_REASON_FEW_WORDS, 1, 1},
+  {USUAL, "calls exit, kill 4 5", TOARMUTS_NO_APPLICATION, TOARMUTS_REASON_MANY_WORDS, 0, 1},
+  {USUAL, "calls poll 255, poll 256", TOARMUTS_NO_APPLICATION, TOARMUTS_REASON_NUMBER, 0, 1},
+  {USUAL, "calls timer-set 0 05", TOARMUTS_NO_APPLICATION, TOARMUTS_REASON_NUMBER, 0, 0},
+  {USUAL, "calls wait, 0 wait", TOARMUTS_NO_APPLICATION, TOARMUTS_REASON_NUMBER, 0, 1},
+  {USUAL, "calls print 6", TOARMUTS_NO_APPLICATION, TOARMUTS_REASON_HEX, 0, 0},
+  {USUAL, "calls wait, wait, post 4 140 x0g", TOARMUTS_NO_APPLICATION, TOARMUTS_REASON_HEX, 0, 2},
+  {USUAL, "calls 128 wait, exit", TOARMUTS_NO_APPLICATION, TOARMUTS_REASON_MANY_CALLS, 0, 0},
+  {USUAL, "calls 128 wait, exit, frob", TOARMUTS_NO_APPLICATION, TOARMUTS_REASON_CALL, 0, 2},
+  {USUAL, "\n\n\n\n\n\n\n\n\n\n\n\n\n\n\n\n\n", TOARMUTS_NO_APPLICATION, TOARMUTS_REASON_NAME, 0, 0},
+  {USUAL, FOUR FOUR FOUR "hello\nhello\nhello\nnobody\nnobody", TOARMUTS_NO_APPLICATION, TOARMUTS_REASON_NAME, 15, 0},
+  {USUAL, SIXTEEN "hello", TOARMUTS_TOO_MANY_APPLICATIONS, TOARMUTS_REASON_NONE, 16, 0},
+  {USUAL, "nobody\n\xff", TOARMUTS_NOT_TEXT, TOARMUTS_REASON_NONE, 0, 0},
+  {USUAL, SIXTEEN "hello\n\xff", TOARMUTS_NOT_TEXT, TOARMUTS_REASON_NONE, 0, 0},
+  {BAD, "\xff", TOARMUTS_NOT_TEXT, TOARMUTS_REASON_NONE, 0, 0},
+  {USUAL, "hello\nnobody\ncalls nothing", TOARMUTS_NO_APPLICATION, TOARMUTS_REASON_NAME, 1, 0},
+  {USUAL, "hello\nhello\ncalls kill 256\nnobody", TOARMUTS_NO_APPLICATION, TOARMUTS_REASON_NUMBER, 2, 0},
+  {USUAL, "hello\nnobody\n" SIXTEEN, TOARMUTS_NO_APPLICATION, TOARMUTS_REASON_NAME, 1, 0},
+  {USUAL, SIXTEEN "nobody", TOARMUTS_TOO_MANY_APPLICATIONS, TOARMUTS_REASON_NONE, 16, 0},
+  {BAD, SIXTEEN "hello", TOARMUTS_TOO_MANY_APPLICATIONS, TOARMUTS_REASON_NONE, 16, 0},
+  {BAD, "nobody", TOARMUTS_NO_APPLICATION, TOARMUTS_REASON_NAME, 0, 0},
+  {BAD, "hello", TOARMUTS_BAD_SIZES, TOARMUTS_REASON_MMEM, 0, 0},
+  {{0, 4096, 16, 0, 0, 0}, "", TOARMUTS_BAD_SIZES, TOARMUTS_REASON_MMEM, 0, 0},
+  {{65540, 4096, 16, 0, 0, 0}, "", TOARMUTS_BAD_SIZES, TOARMUTS_REASON_MMEM, 0, 0},
+  {{4, 16, 6, 1, 6, 0}, "hello", TOARMUTS_BAD_SIZES, TOARMUTS_REASON_HEAP, 0, 0},
+  {{65536, 65536, 12, 1, 6, 0}, "hello", TOARMUTS_BAD_SIZES, TOARMUTS_REASON_HEADER, 0, 0},
+  {{4096, 20, 8, 1, 6, 0}, "hello", TOARMUTS_BAD_SIZES, TOARMUTS_REASON_QUOTA, 0, 0},
+  {{4096, 20, 8, 1, 0, 0}, "", TOARMUTS_BAD_SIZES, TOARMUTS_REASON_QUOTA, 0, 0},
+  {{4096, 20, 8, 1, 65540, 0}, "", TOARMUTS_BAD_SIZES, TOARMUTS_REASON_QUOTA, 0, 0},
+  {{4096, 20, 8, 1, 2052, 0}, "hello", TOARMUTS_BAD_SIZES, TOARMUTS_REASON_ALL_QUOTAS, 0, 0},
+  {{4096, 20, 8, 1, 65536, 0}, "", TOARMUTS_BAD_SIZES, TOARMUTS_REASON_ALL_QUOTAS, 0, 0},
+};
+
+static bool
+tells_no_reason(const struct toarmuts_answer *answer)
+{
+  return answer->reason == TOARMUTS_REASON_NONE && answer->application == 0 && answer->call == 0;
+}
+
+static void
+check_reasons(void)
+{
+  uint8_t transcript[1];
+  for(size_t i = 0; i < sizeof refused / sizeof refused[0]; i++) {
+    struct toarmuts_answer answer = run(refused[i].configuration, refused[i].applications, "", transcript, 0);
+    uint64_t line = refused[i].status == TOARMUTS_NO_APPLICATION ? refused[i].application + 1 : 0;
+    bool holds = answer.status == refused[i].status && answer.reason == refused[i].reason && answer.length == 0 && answer.line == line &&
+                 answer.application == refused[i].application && answer.call == refused[i].call;
+    if(!holds) {
+      printf("%s: status %u, reason %u, application %u, call %zu\n", refused[i].applications, (unsigned)answer.status,
+             (unsigned)answer.reason, (unsigned)answer.application, answer.call);
+    }
+    check("a reason", holds);
+  }
+}
+
 static void
 check_answers(void)
 {
-  struct toarmuts_configuration defaults = TOARMUTS_DEFAULTS, sizes = {6, 4096, 16, 0, 0, 0};
+  struct toarmuts_configuration defaults = TOARMUTS_DEFAULTS;
   uint8_t transcript[200];
   struct toarmuts_answer answer = run(defaults, "calls exit", "", transcript, sizeof transcript);
   const char *text = "4 synch 129 - -> exit\n";
-  check("a run", answer.status == TOARMUTS_FINISHED && answer.length == strlen(text) && memcmp(transcript, text, answer.length) == 0);
-  check("no room", run(defaults, "calls exit", "", transcript, answer.length - 1).status == TOARMUTS_NO_ROOM);
+  check("a run", answer.status == TOARMUTS_FINISHED && answer.length == strlen(text) && memcmp(transcript, text, answer.length) == 0 &&
+                 tells_no_reason(&answer));
   check("just the room", run(defaults, "calls exit", "", transcript, answer.length).status == TOARMUTS_FINISHED);
+  answer = run(defaults, "calls exit", "", transcript, answer.length - 1);
+  check("no room", answer.status == TOARMUTS_NO_ROOM && answer.length == strlen(text) && tells_no_reason(&answer));
   answer = run(defaults, "", "tick 1\ntock\n", transcript, sizeof transcript);
-  check("bad line", answer.status == TOARMUTS_BAD_LINE && answer.line == 2);
+  check("bad line", answer.status == TOARMUTS_BAD_LINE && answer.line == 2 && tells_no_reason(&answer));
   answer = run(defaults, "hello\nnobody", "", transcript, sizeof transcript);
   check("no application", answer.status == TOARMUTS_NO_APPLICATION && answer.line == 2 && answer.length == 0);
-  check("no text", run(defaults, "\xff", "", transcript, sizeof transcript).status == TOARMUTS_NOT_TEXT);
-  check("many", run(defaults, SIXTEEN "hello", "", transcript, sizeof transcript).status == TOARMUTS_TOO_MANY_APPLICATIONS);
-  check("bad sizes", run(sizes, "hello", "", transcript, sizeof transcript).status == TOARMUTS_BAD_SIZES);
-}
-
-/* Of two reasons that hold at once the first in the table of docs/library.md is told. */
-static void
-check_two_reasons(void)
-{
-  static const struct toarmuts_configuration good = TOARMUTS_DEFAULTS, bad = {6, 4096, 16, 0, 0, 0};
-  static const struct {
-    const char *name, *applications;
-    bool is_bad;
-    uint32_t status;
-    uint64_t line;
-  } wanted[] = {
-    {"no text, and no application", "nobody\n\xff", false, TOARMUTS_NOT_TEXT, 0},
-    {"no text, and too many", SIXTEEN "hello\n\xff", false, TOARMUTS_NOT_TEXT, 0},
-    {"no text, and bad sizes", "\xff", true, TOARMUTS_NOT_TEXT, 0},
-    {"no application, and another", "hello\nnobody\ncalls nothing\n", false, TOARMUTS_NO_APPLICATION, 2},
-    {"no list of calls, and no application", "hello\nhello\ncalls kill 256\nnobody\n", false, TOARMUTS_NO_APPLICATION, 3},
-    {"no application, and too many", "hello\nnobody\n" SIXTEEN, false, TOARMUTS_NO_APPLICATION, 2},
-    {"no application, and bad sizes", "nobody\n", true, TOARMUTS_NO_APPLICATION, 1},
-    {"too many, the last of which is none", SIXTEEN "nobody\n", false, TOARMUTS_TOO_MANY_APPLICATIONS, 0},
-    {"too many, and bad sizes", SIXTEEN "hello\n", true, TOARMUTS_TOO_MANY_APPLICATIONS, 0},
-    {"bad sizes, and no room", "hello\n", true, TOARMUTS_BAD_SIZES, 0},
-  };
-  uint8_t transcript[1];
-  for(size_t i = 0; i < sizeof wanted / sizeof wanted[0]; i++) {
-    struct toarmuts_answer answer = run(wanted[i].is_bad ? bad : good, wanted[i].applications, "", transcript, 0);
-    check(wanted[i].name, answer.status == wanted[i].status && answer.line == wanted[i].line && answer.length == 0);
-  }
 }
 
 static uint32_t
@@ -138,7 +187,7 @@ main(int count, char **words)
   bool holds = true;
   long calls = count > 1 ? atol(words[1]) : 1000;
   check_answers();
-  check_two_reasons();
+  check_reasons();
   while(holds && calls-- > 0) {
     holds = is_answered();
   }

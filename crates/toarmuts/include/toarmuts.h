@@ -52,16 +52,40 @@ struct toarmuts_configuration {
 /* The sizes that mote has where no option names others. */
 #define TOARMUTS_DEFAULTS {4096, 4096, 16, 0, 0, 0}
 
+/* Why there was no run, where the status leaves that open: the first of these that applies, in their order. */
+enum toarmuts_reason {
+  TOARMUTS_REASON_NONE = 0,        /* the status tells all */
+  /* BAD_SIZES */
+  TOARMUTS_REASON_MMEM = 1,        /* no such mmem */
+  TOARMUTS_REASON_HEAP = 2,        /* no such heap */
+  TOARMUTS_REASON_HEADER = 3,      /* no such header */
+  TOARMUTS_REASON_QUOTA = 4,       /* no such quota */
+  TOARMUTS_REASON_ALL_QUOTAS = 5,  /* the quotas of the applications and of the frames exceed mmem */
+  /* NO_APPLICATION */
+  TOARMUTS_REASON_NAME = 6,        /* no application has this name */
+  TOARMUTS_REASON_CALL = 7,        /* of a list the first part that is no call: no call has its name */
+  TOARMUTS_REASON_FEW_WORDS = 8,   /* it lacks a word */
+  TOARMUTS_REASON_MANY_WORDS = 9,  /* it has more words than its call takes */
+  TOARMUTS_REASON_NUMBER = 10,     /* a word is no number, or one out of its range */
+  TOARMUTS_REASON_HEX = 11,        /* a word is no hex, or has too many bytes */
+  TOARMUTS_REASON_MANY_CALLS = 12  /* all parts are calls, and more than 128 */
+};
+
+/* How a run went. The last three members came behind 0.1.0: a program is compiled with the header of the library that it is linked
+ * with. */
 struct toarmuts_answer {
-  uint32_t status; /* one of enum toarmuts_status */
-  uint64_t line;   /* the line of no form, or the line that names no application, from 1 on; else 0 */
-  size_t length;   /* the bytes of the transcript, with TOARMUTS_NO_ROOM too; 0 with the other statuses above 4 */
+  uint32_t status;      /* one of enum toarmuts_status */
+  uint64_t line;        /* the line of no form, or the line that names no application, from 1 on; else 0 */
+  size_t length;        /* the bytes of the transcript, with TOARMUTS_NO_ROOM too; 0 with the other statuses above 4 */
+  uint32_t reason;      /* one of enum toarmuts_reason */
+  uint32_t application; /* with NO_APPLICATION and TOO_MANY_APPLICATIONS (16) which it is, from 0 on; else 0 */
+  size_t call;          /* with the reasons CALL to HEX which part of its list, from 0 on: a comma parts them; else 0 */
 };
 
 /*
  * Runs applications over a script and writes the transcript to the front of the room for it. The applications are a line each:
  * a name (hello, blink, echo, relay, churn, ping, clock-watcher), or 'calls' and a list of calls, as
- * 'calls timer-set 0 5, wait, print 6869'. Where the status is above 4, nothing is written.
+ * 'calls timer-set 0 5, wait, print 6869'. Where the status is above 4, nothing is written, and the answer tells why.
  */
 void toarmuts_run(const struct toarmuts_configuration *configuration, const uint8_t *applications, size_t applications_length,
                   const uint8_t *script, size_t script_length, uint8_t *transcript, size_t room, struct toarmuts_answer *answer);

@@ -1,14 +1,22 @@
 -- Worked examples: what lines and numbers come to, and that of two reasons the first is told.
-use Rattle.std.proofs.Common.{◌≡◌, ◌<◌, ◌≤◌, ◌++◌, ℕ, true, false, List, [], ◌∷◌, codes, refl, ap, subst, arith, get_or, inl, inr, length, length-append, Some, None}
-use Rattle.std.specs.Str.{IsUtf8}
-use Rattle.call_lists.specs.Applications.{IsListed}
-use Rattle.mote_apps.specs.declared.bundled.Bundled.{Bundled}
+use Rattle.std.proofs.Common.{◌≡◌, ◌∙◌, ◌++◌, ◌==◌, ◌||◌, ◌⊎◌, ℕ, zero, suc, Bool, true, false, List, [], ◌∷◌, codes, refl, sym, ap, subst, arith, get_or, inl, inr, length, length-append, replicate, Some, None}
+use Rattle.std.proofs.lemmas.Grind.{common_steps}
+use Rattle.std.proofs.lemmas.List.{append-nil}
+use Rattle.std.proofs.lemmas.List.Elements.{All-cons, All-nil, All-replicate}
+use Rattle.call_lists.specs.Calls.{IsCall, IsListOf}
+use Rattle.call_lists.specs.Faults.{IsNoList}
+use Rattle.call_lists.specs.Ranges.{ArePossible}
+use Rattle.mote_text.specs.Code.EntryLines.{spaced}
+use Rattle.mote_types.specs.declared.call.Call.{Call}
 use Rattle.mote_text.specs.declared.script.End.{End}
-use Rattle.toarmuts.proofs.Common.{Application, AreOfLines, HasCalls, HasRun, IsNoName, IsOfLine, NamesNone, Refuses, Refusal, lines}
-use Rattle.toarmuts.proofs.ReadLines.{as_many}
-use Rattle.toarmuts.specs.Answers.{AreTooMany, HasBadSizes, IsRefusalOf, IsRunOf, IsTooLongFor, line_of, refusal_line, refusal_status, status_of}
+use Rattle.toarmuts.proofs.Common.{Application, AreOfLines, HasCalls, HasNoCalls, HasRun, IsLineReason, IsOfLine, LineReason, Refuses, Refusal, lines}
+use Rattle.node_memory.specs.declared.sizes.Sizes.{Sizes}
+use Rattle.toarmuts.specs.Answers.{HasBadSizes, HasNoReason, IsRefusalOf, IsRunOf, IsTooLongFor, line_of, refusal_application, refusal_call, refusal_line, refusal_reason, refusal_status, status_of}
 use Rattle.toarmuts.specs.Configurations.{is_quiet, sizes_of}
+use Rattle.toarmuts.specs.Reasons.{HasCallsAlone, HasNoCallAt, IsBehindPart, IsCallPart, IsNoApplication, IsNoCallPart, IsOnePart, size_reason, with_commas}
 use Rattle.toarmuts.specs.declared.configuration.Configuration.{Configuration}
+use Rattle.toarmuts.specs.declared.refusal.CallReason.{CallReason}
+use Rattle.toarmuts.specs.declared.refusal.SizeReason.{SizeReason}
 
 -- What the numbers of a configuration say.
 
@@ -78,49 +86,255 @@ module _ (configuration : Configuration) (text script out : List ℕ) where
   size_is_of_text : (room size : ℕ) → IsTooLongFor room configuration text script size → (end : End) × (whole : List ℕ) × HasRun configuration text script whole end × (size ≡ length whole)
   size_is_of_text room size is = (is.end, is.out, is.has_run, is.is_size)
 
+-- The first size that is bad.
+
+abbrev sized : ℕ → ℕ → ℕ → ℕ → Sizes
+sized mmem heap header quota = record { mmem = mmem; heap = heap; header = header; quota = Some quota }
+
+all_good : size_reason (sized 4096 20 8 2048) 1 ≡ None
+all_good = refl
+
+good_without_quota : size_reason (record { mmem = 4; heap = 65536; header = 16; quota = None }) 16 ≡ None
+good_without_quota = refl
+
+of_four_the_first : size_reason (sized 6 6 6 6) 1 ≡ Some SizeReason.Mmem
+of_four_the_first = refl
+
+of_three_the_first : size_reason (sized 65536 16 6 6) 1 ≡ Some SizeReason.Heap
+of_three_the_first = refl
+
+of_two_the_first : size_reason (sized 4096 20 12 6) 1 ≡ Some SizeReason.Header
+of_two_the_first = refl
+
+no_such_quota : size_reason (sized 4096 20 8 65540) 1 ≡ Some SizeReason.Quota
+no_such_quota = refl
+
+too_much_for_two : size_reason (sized 4096 20 8 2052) 1 ≡ Some SizeReason.AllQuotas
+too_much_for_two = refl
+
+enough_for_one : size_reason (sized 4096 20 8 2052) 0 ≡ None
+enough_for_one = refl
+
+-- Why a line is no application.
+
+abbrev comma : List ℕ → Bool
+comma [] = false
+comma (byte ∷ text) = byte == 44 || comma text
+
+in_either : (first : Bool) → first || true ≡ true
+in_either true = refl
+in_either false = refl
+
+has_comma : (front behind : List ℕ) → comma (front ++ (codes ", " ++ behind)) ≡ true
+has_comma [] behind = refl
+has_comma (byte ∷ front) behind = ap (λ there. byte == 44 || there) (has_comma front behind) ∙ in_either (byte == 44)
+
+without_comma : (part : List ℕ) → comma part ≡ false → IsOnePart part
+without_comma part none front behind has = let both : false ≡ true = sym none ∙ ap comma has ∙ has_comma front behind in absurd (cc)
+
+one_part : IsOnePart (codes "wait")
+one_part = without_comma (codes "wait") refl
+
+two_parts : IsOnePart (codes "wait, exit") → ⊥
+two_parts is = is (codes "wait") (codes "exit") refl
+
+no_list : HasNoCalls (codes "blink")
+no_list text (inl has) = let letters_differ : ◌≡◌ {A = ℕ} 98 99 = ap (λ line. get_or line 0 0) has.0 in absurd (omega arith)
+no_list text (inr has) = let letters_differ : ◌≡◌ {A = ℕ} 98 99 = ap (λ line. get_or line 0 0) has in absurd (omega arith)
+
+a_list : HasNoCalls (codes "calls exit") → ⊥
+a_list none = none (codes "exit") (inr refl)
+
+a_list_is_no_reason : IsLineReason (codes "calls frob") LineReason.NoName → ⊥
+a_list_is_no_reason is = is (codes "frob") (inr refl)
+
+no_calls_there : HasNoCalls (codes "nobody")
+no_calls_there text (inl has) = let letters_differ : ◌≡◌ {A = ℕ} 110 99 = ap (λ line. get_or line 0 0) has.0 in absurd (omega arith)
+no_calls_there text (inr has) = let letters_differ : ◌≡◌ {A = ℕ} 110 99 = ap (λ line. get_or line 0 0) has in absurd (omega arith)
+
+no_list_of_a_name : (number : ℕ) (reason : CallReason) → IsLineReason (codes "nobody") (LineReason.NoCall number reason) → ⊥
+no_list_of_a_name number reason is = no_calls_there is.0 is.1
+
+-- a list of one call, which is to wait, as all behind it
+abbrev waits : List Call
+waits = replicate 128 Call.Wait
+
+possible : (n : ℕ) → ArePossible (replicate n Call.Wait)
+possible zero = tt
+possible (suc n) = (tt, possible n)
+
+one_wait : IsCall (codes "wait") Call.Wait
+unfolding spaced
+one_wait = ([], refl, refl)
+
+all_wait : IsListOf (codes "wait") waits
+all_wait =
+    record {
+      parts = codes "wait" ∷ [];
+      made = Call.Wait ∷ [];
+      waits = replicate 127 Call.Wait;
+      is_text = refl;
+      are_of_parts = (Call.Wait ∷ [], [], refl, inl (refl, (one_wait, tt)), refl);
+      are_calls = refl;
+      are_waits = All-replicate (λ call. call ≡ Call.Wait) 127 Call.Wait refl;
+    }
+
+a_call : IsCallPart (codes "wait")
+a_call = ((λ is. cc is), one_part, (Application.Listed waits, all_wait))
+
+no_call : IsNoCallPart (codes "wait") → ⊥
+no_call is = for_either is.1 where
+  for_either : (codes "wait" ≡ []) ⊎ IsNoList (codes "wait") → ⊥
+  for_either (inl nothing) = absurd (cc)
+  for_either (inr none) = none waits (possible 128) refl all_wait
+
+nothing_is_no_call : IsNoCallPart []
+nothing_is_no_call = (without_comma [] refl, inl refl)
+
+two_calls_are_no_part : IsNoCallPart (codes "wait, exit") → ⊥
+two_calls_are_no_part is = two_parts is.0
+
+-- a line with a list is an application
+a_good_list : IsNoApplication (codes "calls wait") → ⊥
+a_good_list none = none.1 (codes "wait") (inr refl) waits (possible 128) refl all_wait
+
+a_good_name : IsNoApplication (codes "clock-watcher") → ⊥
+a_good_name none = none.0.1 refl
+
+nobody : IsNoApplication (codes "nobody")
+nobody =
+    ((refl, λ is. let letters_differ : ◌≡◌ {A = ℕ} 110 99 = ap (λ line. get_or line 0 0) is in absurd (omega arith)), λ text has. absurd (no_calls_there text has))
+
+-- a comma with nothing behind it: its second part is no call
+second_of_a_list : HasNoCallAt (codes "wait, ") 1
+second_of_a_list =
+    record {
+      before = codes "wait" ∷ [];
+      part = [];
+      behind = [];
+      is_text = refl;
+      is_behind = inl refl;
+      is_number = refl;
+      are_calls = All-cons IsCallPart (codes "wait") [] a_call (All-nil IsCallPart);
+      is_no_call = nothing_is_no_call;
+    }
+
+-- and the first, where a call stands behind it
+first_of_a_list : HasNoCallAt (codes ", wait") 0
+first_of_a_list =
+    record {
+      before = [];
+      part = [];
+      behind = codes ", wait";
+      is_text = refl;
+      is_behind = inr (codes "wait", refl);
+      is_number = refl;
+      are_calls = All-nil IsCallPart;
+      is_no_call = nothing_is_no_call;
+    }
+
+not_the_first : HasNoCallAt (codes "wait") 0 → ⊥
+not_the_first is = nothing_before is.before is.is_number is.is_text is.is_behind where
+  alone : codes "wait" ≡ is.part ++ is.behind → IsBehindPart is.behind → ⊥
+  alone text (inl nothing) = no_call (subst IsNoCallPart (sym (text ∙ ap (λ behind. is.part ++ behind) nothing ∙ append-nil is.part)) is.is_no_call)
+  alone text (inr (others, comma)) = one_part is.part others (text ∙ ap (λ behind. is.part ++ behind) comma)
+
+  nothing_before : (before : List (List ℕ)) → 0 ≡ length before → codes "wait" ≡ with_commas before ++ (is.part ++ is.behind) → IsBehindPart is.behind → ⊥
+  nothing_before [] number text behind = alone text behind
+  nothing_before (first ∷ others) number text behind = absurd (omega (arith, number))
+
+no_second_of_one : HasNoCallAt (codes "wait") 1 → ⊥
+no_second_of_one is = behind is.before (is.part ++ is.behind) is.is_number is.is_text where
+  behind : (before : List (List ℕ)) (left : List ℕ) → 1 ≡ length before → codes "wait" ≡ with_commas before ++ left → ⊥
+  behind [] left number has = absurd (omega (arith, number))
+  behind (part ∷ parts) left number has =
+      one_part part (with_commas parts ++ left) (has ∙ grind (arith, common_steps))
+
+no_empty_part : IsCallPart [] → ⊥
+no_empty_part is = is.0 refl
+
+no_list_of_no_calls : HasCallsAlone [] → ⊥
+no_list_of_no_calls is = alone is.before is.last is.is_text is.is_call where
+  alone : (before : List (List ℕ)) (last : List ℕ) → [] ≡ with_commas before ++ last → IsCallPart last → ⊥
+  alone [] last has call = call.0 (sym has)
+  alone ([] ∷ parts) last has call = absurd (cc)
+  alone ((byte ∷ part) ∷ parts) last has call = absurd (cc)
+
 -- What was refused, by its numbers.
 
-numbers_of_a_name : (refusal_status (Refusal.NoApplication 2) ≡ 17) × (refusal_line (Refusal.NoApplication 2) ≡ 2)
-numbers_of_a_name = (refl, refl)
+numbers_of_a_name : (refusal_status (Refusal.NoApplication 1 LineReason.NoName) ≡ 17) × (refusal_line (Refusal.NoApplication 1 LineReason.NoName) ≡ 2)
+    × (refusal_reason (Refusal.NoApplication 1 LineReason.NoName) ≡ 6) × (refusal_application (Refusal.NoApplication 1 LineReason.NoName) ≡ 1)
+    × (refusal_call (Refusal.NoApplication 1 LineReason.NoName) ≡ 0)
+numbers_of_a_name = (refl, refl, refl, refl, refl)
 
-numbers_of_sizes : (refusal_status Refusal.BadSizes ≡ 19) × (refusal_line Refusal.BadSizes ≡ 0)
-numbers_of_sizes = (refl, refl)
+abbrev hex_at_three : Refusal
+hex_at_three = Refusal.NoApplication 0 (LineReason.NoCall 3 CallReason.NoHex)
+
+numbers_of_a_call : (refusal_reason hex_at_three ≡ 11) × (refusal_call hex_at_three ≡ 3) × (refusal_application hex_at_three ≡ 0) × (refusal_line hex_at_three ≡ 1)
+numbers_of_a_call = (refl, refl, refl, refl)
+
+numbers_of_sizes : (refusal_status (Refusal.BadSizes SizeReason.Heap) ≡ 19) × (refusal_line (Refusal.BadSizes SizeReason.Heap) ≡ 0) × (refusal_reason (Refusal.BadSizes SizeReason.Heap) ≡ 2)
+numbers_of_sizes = (refl, refl, refl)
+
+numbers_of_too_many : (refusal_status Refusal.TooManyApplications ≡ 18) × (refusal_reason Refusal.TooManyApplications ≡ 0) × (refusal_application Refusal.TooManyApplications ≡ 16)
+numbers_of_too_many = (refl, refl, refl)
+
+-- a reason of 0 is no reason
+no_reason : HasNoReason (record { status = 0; line = 0; length = 5; reason = 0; application = 0; call = 0 })
+no_reason = (refl, refl, refl)
+
+a_place : HasNoReason (record { status = 18; line = 0; length = 0; reason = 0; application = 16; call = 0 }) → ⊥
+a_place none = let same : ◌≡◌ {A = ℕ} 16 0 = none.1 in absurd (omega arith)
 
 module _ (configuration : Configuration) (text : List ℕ) where
-  sizes_are_bad : (line : ℕ) → IsRefusalOf configuration text 19 line → HasBadSizes configuration (lines text)
-  sizes_are_bad line is = of_refusal is.refusal is.is_status is.is_refused where
-    of_refusal : (refusal : Refusal) → 19 ≡ refusal_status refusal → Refuses configuration text refusal → HasBadSizes configuration (lines text)
-    of_refusal Refusal.BadSizes status refused = refused.1
-    of_refusal Refusal.NotText status refused = absurd (omega (arith, status))
-    of_refusal (Refusal.NoApplication number) status refused = absurd (omega (arith, status))
-    of_refusal Refusal.TooManyApplications status refused = absurd (omega (arith, status))
-    of_refusal Refusal.OutOfMemory status refused = absurd (omega (arith, status))
+  -- with status 19 and reason 2 it is the heap
+  sizes_are_bad : (line application call : ℕ) → IsRefusalOf configuration text 19 line 2 application call → HasBadSizes configuration (lines text) SizeReason.Heap
+  sizes_are_bad line application call is = of_refusal is.refusal is.is_status is.is_reason is.is_refused where
+    of_refusal : (refusal : Refusal) → 19 ≡ refusal_status refusal → 2 ≡ refusal_reason refusal → Refuses configuration text refusal
+        → HasBadSizes configuration (lines text) SizeReason.Heap
+    of_refusal (Refusal.BadSizes SizeReason.Heap) status reason refused = refused.1
+    of_refusal (Refusal.BadSizes SizeReason.Mmem) status reason refused = absurd (omega (arith, reason))
+    of_refusal (Refusal.BadSizes SizeReason.Header) status reason refused = absurd (omega (arith, reason))
+    of_refusal (Refusal.BadSizes SizeReason.Quota) status reason refused = absurd (omega (arith, reason))
+    of_refusal (Refusal.BadSizes SizeReason.AllQuotas) status reason refused = absurd (omega (arith, reason))
+    of_refusal Refusal.NotText status reason refused = absurd (omega (arith, status))
+    of_refusal (Refusal.NoApplication number why) status reason refused = absurd (omega (arith, status))
+    of_refusal Refusal.TooManyApplications status reason refused = absurd (omega (arith, status))
+    of_refusal Refusal.OutOfMemory status reason refused = absurd (omega (arith, status))
 
   -- Of two reasons the first is told: what is no text has no lines.
-  no_text_first : Refuses configuration text Refusal.NotText → Refuses configuration text Refusal.BadSizes → ⊥
-  no_text_first no_text refused = no_text refused.0
+  no_text_first : (reason : SizeReason) → Refuses configuration text Refusal.NotText → Refuses configuration text (Refusal.BadSizes reason) → ⊥
+  no_text_first reason no_text refused = no_text refused.0
 
-  no_text_before_names : (number : ℕ) → Refuses configuration text Refusal.NotText → Refuses configuration text (Refusal.NoApplication number) → ⊥
-  no_text_before_names number no_text refused = no_text refused.0
+  no_text_before_names : (number : ℕ) (reason : LineReason) → Refuses configuration text Refusal.NotText → Refuses configuration text (Refusal.NoApplication number reason) → ⊥
+  no_text_before_names number reason no_text refused = no_text refused.0
 
   no_text_before_number : Refuses configuration text Refusal.NotText → Refuses configuration text Refusal.TooManyApplications → ⊥
   no_text_before_number no_text refused = no_text refused.0
 
   -- the lines before the one that names none all name applications
-  first_of_names : (number : ℕ) → (refused : Refuses configuration text (Refusal.NoApplication number))
+  first_of_names : (number : ℕ) (reason : LineReason) → (refused : Refuses configuration text (Refusal.NoApplication number reason))
       → (applications : List Application) × AreOfLines refused.1.before applications
-  first_of_names number refused = refused.1.are_named
+  first_of_names number reason refused = refused.1.are_named
 
   -- a seventeenth line is not looked at
-  no_seventeenth_name : Refuses configuration text (Refusal.NoApplication 17) → ⊥
-  no_seventeenth_name refused = let among = refused.1.is_among in absurd (omega (arith, among))
+  no_seventeenth_name : (reason : LineReason) → Refuses configuration text (Refusal.NoApplication 16 reason) → ⊥
+  no_seventeenth_name reason refused = let among = refused.1.is_among in absurd (omega (arith, among))
+
+  -- the reason is that of the line
+  reason_is_of_line : (number : ℕ) (reason : LineReason) → (refused : Refuses configuration text (Refusal.NoApplication number reason)) → IsLineReason refused.1.line reason
+  reason_is_of_line number reason refused = refused.1.is_reason
 
   -- too many lines are no lines with bad sizes
-  number_before_sizes : Refuses configuration text Refusal.TooManyApplications → Refuses configuration text Refusal.BadSizes → ⊥
-  number_before_sizes many bad =
+  number_before_sizes : (reason : SizeReason) → Refuses configuration text Refusal.TooManyApplications → Refuses configuration text (Refusal.BadSizes reason) → ⊥
+  number_before_sizes reason many bad =
       let size = ap length many.1.is_line in
       let grown = length-append many.1.before (many.1.line ∷ many.1.behind) in
       absurd (omega (arith, size, grown, many.1.are_full, bad.1.are_few))
 
-  sizes_only_of_applications : Refuses configuration text Refusal.BadSizes → (applications : List Application) × AreOfLines (lines text) applications
-  sizes_only_of_applications refused = refused.1.are_named
+  sizes_only_of_applications : (reason : SizeReason) → Refuses configuration text (Refusal.BadSizes reason) → (applications : List Application) × AreOfLines (lines text) applications
+  sizes_only_of_applications reason refused = refused.1.are_named
+
+  -- of two bad sizes one reason is told
+  one_size : (reason other : SizeReason) → Refuses configuration text (Refusal.BadSizes reason) → Refuses configuration text (Refusal.BadSizes other) → Some reason ≡ Some other
+  one_size reason other is also = sym is.1.is_reason ∙ also.1.is_reason

@@ -1,4 +1,6 @@
 mod Examples
 mod LineEnds
+mod Parts
 mod ReadLines
+mod SizeReasons
 pub mod Common

@@ -1,7 +1,7 @@
 -- The applications of the lines that were read, and the lines that are left.
-use Rattle.std.proofs.Common.{◌≡◌, ◌∙◌, ◌+◌, ◌<◌, ◌≤◌, ℕ, suc, List, [], ◌∷◌, ◌++◌, refl, sym, ap, subst, length, arith, length-append, Option, Some, None, Result, Ok, Err, IfErr, IsErr, IsErrAnd}
+use Rattle.std.proofs.Common.{◌≡◌, ◌∙◌, ◌<◌, ◌≤◌, ℕ, suc, List, [], ◌∷◌, ◌++◌, refl, sym, ap, subst, length, arith, Option, Some, None, Result, Ok, Err, IfErr, IsErr, IsErrAnd}
 use Rattle.std.specs.Iterator.{AlwaysYields}
-use Rattle.toarmuts.proofs.Common.{append-nil, append_assoc, IsNoName, Application, AreOfLines, AreRefused, IsOfLine, IsRefusedLine, NamesNone, Refusal}
+use Rattle.toarmuts.proofs.Common.{append-nil, append_assoc, IsLineReason, IsNoApplication, Application, AreOfLines, AreRefused, IsOfLine, IsRefusedLine, LineReason, NamesNone, Refusal}
 use Rattle.toarmuts.specs.Answers.{AreTooMany}
 
 pub as_many : (lines : List (List ℕ)) (applications : List Application) → AreOfLines lines applications → length lines ≡ length applications
@@ -85,27 +85,29 @@ module _ {S A : Type 0} (steps : S → Option A → S → Type 0) (v : A → Lis
         are_full = omega (arith, same, many);
       }
 
-  names_none : (all : List (List ℕ)) (applications : List Application) (s t : S) (x : A)
-      → AreLeft all applications s → steps s (Some x) t → length applications < 16 → IsNoName (v x) → NamesNone all (length applications + 1)
-  names_none all applications s t x left step few none =
+  names_none : (all : List (List ℕ)) (applications : List Application) (reason : LineReason) (s t : S) (x : A)
+      → AreLeft all applications s → steps s (Some x) t → length applications < 16 → IsNoApplication (v x) → IsLineReason (v x) reason
+      → NamesNone all (length applications) reason
+  names_none all applications reason s t x left step few none why =
       let first = next all applications s t x left step in
       record {
         line = v x;
         before = first.1.before;
         behind = first.0;
         is_line = first.1.are_all;
-        is_number = ap (λ n. n + 1) (sym (as_many first.1.before applications first.1.are_of_lines));
-        is_among = omega (arith, few);
+        is_number = sym (as_many first.1.before applications first.1.are_of_lines);
+        is_among = few;
         are_named = (applications, first.1.are_of_lines);
         is_none = none;
+        is_reason = why;
       }
 
   -- why the line that is yielded is refused, the lines are
   pub refused_line : (all : List (List ℕ)) (applications : List Application) (count : ℕ) (s t : S) (x : A) (refusal : Refusal)
       → AreLeft all applications s → steps s (Some x) t → count ≡ length applications → IsRefusedLine (v x) count refusal → AreRefused all refusal
-  refused_line all applications count s t x (Refusal.NoApplication number) left step same refused =
+  refused_line all applications count s t x (Refusal.NoApplication number reason) left step same refused =
       let few : length applications < 16 = omega (arith, same, refused.1) in
-      subst (NamesNone all) (sym (refused.0 ∙ ap (λ n. n + 1) same)) (names_none all applications s t x left step few refused.2)
+      subst (λ n. NamesNone all n reason) (sym (refused.0 ∙ same)) (names_none all applications reason s t x left step few refused.2 refused.3)
   refused_line all applications count s t x Refusal.TooManyApplications left step same refused =
       one_too_many all applications s t x left step (omega (arith, same, refused))
   refused_line all applications count s t x refusal left step same refused = absurd refused

@@ -1,23 +1,21 @@
 -- What an answer says of a run.
-use Rattle.std.specs.Prelude.{◌≡◌, ◌+◌, ◌<◌, ◌≤◌, ◌⊎◌, ⊤, ℕ, false, List, [], ◌∷◌, ◌++◌, length, codes}
+use Rattle.std.specs.Prelude.{◌≡◌, ◌+◌, ◌<◌, ◌≤◌, ◌⊎◌, ⊤, ℕ, false, List, [], ◌∷◌, ◌++◌, length, Some}
 use Rattle.std.specs.Str.{IsUtf8}
 use Rattle.std.specs.Str.Lines.{lines}
 use Rattle.mote_types.specs.Applications.{says_of}
 use Rattle.mote_text.specs.declared.script.End.{End}
 use Rattle.call_lists.specs.Applications.{application_says, IsListed, IsNamed}
-use Rattle.call_lists.specs.Faults.{IsNoName}
 use Rattle.call_lists.specs.declared.applications.Application.{Application}
-use Rattle.kernel_core.specs.declared.config.Config.{Config}
 use Rattle.kernel_core.specs.Machine.{is_bootable}
 use Rattle.mote_kit.specs.Runs.{config_of}
 use Rattle.mote_run.specs.RunText.{IsRunText}
 use Rattle.toarmuts.specs.Configurations.{is_quiet, sizes_of}
+use Rattle.toarmuts.specs.Reasons.{HasCalls, IsLineReason, IsNoApplication, call_of_list, line_reason_number, size_reason, size_reason_number}
+use Rattle.toarmuts.specs.declared.answer.Answer.{Answer}
 use Rattle.toarmuts.specs.declared.configuration.Configuration.{Configuration}
+use Rattle.toarmuts.specs.declared.refusal.LineReason.{LineReason}
 use Rattle.toarmuts.specs.declared.refusal.Refusal.{Refusal}
-
--- the line has this text of calls behind its first word
-abbrev pub HasCalls : List ℕ → List ℕ → Type 0
-HasCalls line text = ((line ≡ codes "calls") × (text ≡ [])) ⊎ (line ≡ codes "calls " ++ text)
+use Rattle.toarmuts.specs.declared.refusal.SizeReason.{SizeReason}
 
 -- the line names this application, or has its calls
 abbrev pub IsOfLine : List ℕ → Application → Type 0
@@ -40,16 +38,17 @@ pub record HasRun (configuration : Configuration) (text script out : List ℕ) (
 abbrev pub AreNamed : List (List ℕ) → Type 0
 AreNamed lines = (applications : List Application) × AreOfLines lines applications
 
--- the line of this number, from 1 on, is the first that names no application of the mote, and one of the first 16
-pub record NamesNone (all : List (List ℕ)) (number : ℕ) : Type 0 where
+-- the line of this number, from 0 on, is the first that names no application of the mote, for this reason, and one of the first 16
+pub record NamesNone (all : List (List ℕ)) (number : ℕ) (reason : LineReason) : Type 0 where
   pub line : List ℕ
   pub before : List (List ℕ)
   pub behind : List (List ℕ)
   pub is_line : all ≡ before ++ line ∷ behind
-  pub is_number : number ≡ length before + 1
-  pub is_among : number ≤ 16
+  pub is_number : number ≡ length before
+  pub is_among : number < 16
   pub are_named : AreNamed before
-  pub is_none : IsNoName line
+  pub is_none : IsNoApplication line
+  pub is_reason : IsLineReason line reason
 
 -- there is a line behind 16 that name applications
 pub record AreTooMany (all : List (List ℕ)) : Type 0 where
@@ -62,35 +61,31 @@ pub record AreTooMany (all : List (List ℕ)) : Type 0 where
 
 -- why a line is no further application behind so many
 abbrev pub IsRefusedLine : List ℕ → ℕ → Refusal → Type 0
-IsRefusedLine line count (Refusal.NoApplication number) = (number ≡ count + 1) × (count < 16) × IsNoName line
+IsRefusedLine line count (Refusal.NoApplication number reason) = (number ≡ count) × (count < 16) × IsNoApplication line × IsLineReason line reason
 IsRefusedLine line count Refusal.TooManyApplications = 16 ≤ count
 IsRefusedLine line count refusal = ⊥
 
 -- why lines are no applications
 abbrev pub AreRefused : List (List ℕ) → Refusal → Type 0
-AreRefused all (Refusal.NoApplication number) = NamesNone all number
+AreRefused all (Refusal.NoApplication number reason) = NamesNone all number reason
 AreRefused all Refusal.TooManyApplications = AreTooMany all
 AreRefused all Refusal.OutOfMemory = ⊤
 AreRefused all refusal = ⊥
 
--- why there is no run of a mote
-abbrev pub IsRefusedRun : Config → Refusal → Type 0
-IsRefusedRun config Refusal.BadSizes = is_bootable config ≡ false
-IsRefusedRun config Refusal.OutOfMemory = ⊤
-IsRefusedRun config refusal = ⊥
-
--- each line names an application, and they are at most 16, but no mote boots with these sizes and so many
-pub record HasBadSizes (configuration : Configuration) (all : List (List ℕ)) : Type 0 where
+-- each line names an application, and they are at most 16, but no mote boots with these sizes and so many: the first size that is
+-- bad is the reason
+pub record HasBadSizes (configuration : Configuration) (all : List (List ℕ)) (reason : SizeReason) : Type 0 where
   pub are_named : AreNamed all
   pub are_few : length all ≤ 16
   pub is_bad : is_bootable (config_of (sizes_of configuration) (length all)) ≡ false
+  pub is_reason : size_reason (sizes_of configuration) (length all) ≡ Some reason
 
 -- why there was no run: the first of these reasons, in this order; memory may be refused at any time
 abbrev pub Refuses : Configuration → List ℕ → Refusal → Type 0
 Refuses configuration text Refusal.NotText = IsUtf8 text → ⊥
-Refuses configuration text (Refusal.NoApplication number) = IsUtf8 text × NamesNone (lines text) number
+Refuses configuration text (Refusal.NoApplication number reason) = IsUtf8 text × NamesNone (lines text) number reason
 Refuses configuration text Refusal.TooManyApplications = IsUtf8 text × AreTooMany (lines text)
-Refuses configuration text Refusal.BadSizes = IsUtf8 text × HasBadSizes configuration (lines text)
+Refuses configuration text (Refusal.BadSizes reason) = IsUtf8 text × HasBadSizes configuration (lines text) reason
 Refuses configuration text Refusal.OutOfMemory = ⊤
 
 -- the number of a run's end
@@ -108,15 +103,36 @@ line_of end = 0
 -- the number of what was refused
 abbrev pub refusal_status : Refusal → ℕ
 refusal_status Refusal.NotText = 16
-refusal_status (Refusal.NoApplication number) = 17
+refusal_status (Refusal.NoApplication number reason) = 17
 refusal_status Refusal.TooManyApplications = 18
-refusal_status Refusal.BadSizes = 19
+refusal_status (Refusal.BadSizes reason) = 19
 refusal_status Refusal.OutOfMemory = 21
 
--- the number of the line that names no application, where that is the reason
+-- the number, from 1 on, of the line that names no application, where that is why
 abbrev pub refusal_line : Refusal → ℕ
-refusal_line (Refusal.NoApplication number) = number
+refusal_line (Refusal.NoApplication number reason) = number + 1
 refusal_line refusal = 0
+
+-- the number of the reason, where it tells more than the status
+abbrev pub refusal_reason : Refusal → ℕ
+refusal_reason (Refusal.NoApplication number reason) = line_reason_number reason
+refusal_reason (Refusal.BadSizes reason) = size_reason_number reason
+refusal_reason refusal = 0
+
+-- the application that is none, or the first that is one too many, from 0 on
+abbrev pub refusal_application : Refusal → ℕ
+refusal_application (Refusal.NoApplication number reason) = number
+refusal_application Refusal.TooManyApplications = 16
+refusal_application refusal = 0
+
+-- the call of its list that is none, from 0 on
+abbrev pub refusal_call : Refusal → ℕ
+refusal_call (Refusal.NoApplication number reason) = call_of_list reason
+refusal_call refusal = 0
+
+-- no reason is told, and no place
+abbrev pub HasNoReason : Answer → Type 0
+HasNoReason answer = (answer.reason ≡ 0) × (answer.application ≡ 0) × (answer.call ≡ 0)
 
 -- out is the text of that run, and status and line are those of its end
 pub record IsRunOf (configuration : Configuration) (text script out : List ℕ) (status line : ℕ) : Type 0 where
@@ -133,9 +149,12 @@ pub record IsTooLongFor (room : ℕ) (configuration : Configuration) (text scrip
   pub is_size : size ≡ length out
   pub is_over : room < size
 
--- status and line are those of a reason why there was no run
-pub record IsRefusalOf (configuration : Configuration) (text : List ℕ) (status line : ℕ) : Type 0 where
+-- the numbers are those of a reason why there was no run
+pub record IsRefusalOf (configuration : Configuration) (text : List ℕ) (status line reason application call : ℕ) : Type 0 where
   pub refusal : Refusal
   pub is_refused : Refuses configuration text refusal
   pub is_status : status ≡ refusal_status refusal
   pub is_line : line ≡ refusal_line refusal
+  pub is_reason : reason ≡ refusal_reason refusal
+  pub is_application : application ≡ refusal_application refusal
+  pub is_call : call ≡ refusal_call refusal

@@ -1,3 +1,5 @@
 pub mod Answers
+pub mod Code
 pub mod Configurations
+pub mod Reasons
 pub mod Steps

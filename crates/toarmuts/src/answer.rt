@@ -1,7 +1,7 @@
 //! How a call went.
 
 ghost use Rattle.std.specs.Prelude.{◌≡◌, ◌≢◌, ◌≤◌, ◌<◌, length, take, drop};
-ghost use Rattle.toarmuts.specs.Answers.{line_of, refusal_line, refusal_status, status_of};
+ghost use Rattle.toarmuts.specs.Answers.{HasNoReason, line_of, refusal_application, refusal_call, refusal_line, refusal_reason, refusal_status, status_of};
 
 use crate::refusal::Refusal;
 use mote_kit::mote::Ran;
@@ -22,6 +22,15 @@ pub struct Answer {
     pub line: u64,
     /// How many bytes the transcript has; with status 20 too, and 0 with those beside it.
     pub length: usize,
+    /// Why, where that is more than the status tells; else 0. With 19 the first size that is bad: 1 `mmem`, 2 `heap`, 3 `header`,
+    /// 4 `quota`, 5 all quotas together exceed `mmem`. With 17: 6 no application has this name; the first part of a list that is
+    /// no call 7 has the name of none, 8 too few words, 9 too many, 10 a word that is no number in its range, 11 a word that is no
+    /// hex or too long; 12 a list has more than 128 calls.
+    pub reason: u32,
+    /// The application of which 17 and 18 tell, from 0 on; else 0.
+    pub application: u32,
+    /// The part of the list of which the reasons 7 to 11 tell, from 0 on; else 0.
+    pub call: usize,
 }
 
 /// The status of a run that ended so, and the number of its line of no form.
@@ -38,19 +47,22 @@ fn end_numbers(end: End) -> (u32, u64)
     }
 }
 
-/// The status where there was no run, and the number of the line that is the reason.
-fn refusal_numbers(refusal: Refusal) -> (u32, u64)
-    ensures status { result.0 ≡ refusal_status refusal }
-    ensures line { result.1 ≡ refusal_line refusal }
-    ensures large { 4 < result.0 }
-    ensures other { result.0 ≢ 20 }
+/// The answer of a run that ended so, and whose transcript has this length.
+fn run_answer(end: End, length: usize) -> Answer
+    ensures status { result.status ≡ status_of end }
+    ensures line { result.line ≡ line_of end }
+    ensures small { result.status ≤ 4 }
+    ensures length { result.length ≡ length }
+    ensures no_reason { HasNoReason result }
 {
-    match refusal {
-        Refusal::NotText => (16, 0),
-        Refusal::NoApplication(number) => (17, number),
-        Refusal::TooManyApplications => (18, 0),
-        Refusal::BadSizes => (19, 0),
-        Refusal::OutOfMemory => (21, 0),
+    let (status, line) = end_numbers(end);
+    Answer {
+        status,
+        line,
+        length,
+        reason: 0,
+        application: 0,
+        call: 0,
     }
 }
 
@@ -65,8 +77,8 @@ pub fn put_run(ran: Ran, transcript: &mut [u8], answer: &mut Answer)
     ensures full { 4 < answer.new.status → answer.new.status ≡ 20 }
     ensures over { 4 < answer.new.status → length transcript.old < answer.new.length }
     ensures unchanged { 4 < answer.new.status → transcript.new ≡ transcript.old }
+    ensures no_reason { HasNoReason answer.new }
 {
-    let (status, line) = end_numbers(ran.end);
     let text = ran.transcript.as_slice();
     let size = text.len();
     if size > transcript.len() {
@@ -74,29 +86,62 @@ pub fn put_run(ran: Ran, transcript: &mut [u8], answer: &mut Answer)
             status: NO_ROOM,
             line: 0,
             length: size,
+            reason: 0,
+            application: 0,
+            call: 0,
         };
         return;
     }
     transcript[..size].copy_from_slice(text);
-    *answer = Answer {
-        status,
-        line,
-        length: size,
-    };
+    *answer = run_answer(ran.end, size);
+}
+
+/// The numbers of a refusal: its status, its reason, and the application and the call of which it tells.
+fn refusal_numbers(refusal: Refusal) -> (u32, u32, u32, usize)
+    ensures status { result.0 ≡ refusal_status refusal }
+    ensures reason { result.1 ≡ refusal_reason refusal }
+    ensures application { result.2 ≡ refusal_application refusal }
+    ensures call { result.3 ≡ refusal_call refusal }
+    ensures large { 4 < result.0 }
+    ensures other { result.0 ≢ 20 }
+{
+    match refusal {
+        Refusal::NotText => (16, 0, 0, 0),
+        Refusal::NoApplication(place, reason) => (17, reason.number(), place, reason.call()),
+        Refusal::TooManyApplications => (18, 0, 16, 0),
+        Refusal::BadSizes(reason) => (19, reason.number(), 0, 0),
+        Refusal::OutOfMemory => (21, 0, 0, 0),
+    }
+}
+
+/// The line that names no application, from 1 on; else 0.
+fn line_number(refusal: Refusal) -> u64
+    ensures { result ≡ refusal_line refusal }
+{
+    match refusal {
+        Refusal::NoApplication(place, _) => u64::from(place) + 1,
+        _ => 0,
+    }
 }
 
 /// Answers why there was no run.
 pub fn put_refusal(refusal: Refusal, answer: &mut Answer)
     ensures status { answer.new.status ≡ refusal_status refusal }
     ensures line { answer.new.line ≡ refusal_line refusal }
+    ensures reason { answer.new.reason ≡ refusal_reason refusal }
+    ensures application { answer.new.application ≡ refusal_application refusal }
+    ensures call { answer.new.call ≡ refusal_call refusal }
     ensures large { 4 < answer.new.status }
     ensures other { answer.new.status ≢ 20 }
     ensures empty { answer.new.length ≡ 0 }
 {
-    let (status, line) = refusal_numbers(refusal);
+    let (status, reason, application, call) = refusal_numbers(refusal);
     *answer = Answer {
         status,
-        line,
+        line: line_number(refusal),
         length: 0,
+        reason,
+        application,
+        call,
     };
 }

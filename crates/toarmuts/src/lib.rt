@@ -2,14 +2,16 @@
 #![tactic(auto)]
 
 ghost use Rattle.std.specs.Prelude.{◌≡◌, ◌≢◌, ◌≤◌, ◌<◌, length, take, drop};
-ghost use Rattle.toarmuts.specs.Answers.{IsRefusalOf, IsRunOf, IsTooLongFor};
+ghost use Rattle.toarmuts.specs.Answers.{HasNoReason, IsRefusalOf, IsRunOf, IsTooLongFor};
 
 mod answer;
 mod configuration;
 mod in_session;
 mod lines;
+mod list_reason;
 mod refusal;
 mod running;
+mod sizes;
 mod status;
 pub mod steps;
 
@@ -23,7 +25,8 @@ use std::alloc::Global;
 /// `applications` has a line for each: its name, or `calls` and its calls. No call asks anything of what it is given.
 ///
 /// Where the status is that of a run's end (0, 2, 3 or 4), what was written is the text of the run that the machine makes with
-/// these sizes, applications and inputs, and that is how it ends. Otherwise nothing is written.
+/// these sizes, applications and inputs, and that is how it ends. Otherwise nothing is written, and the answer tells why: which
+/// size, or which application, which call of its list and what is wrong with it.
 #[unsafe(no_mangle)]
 pub extern "C" fn toarmuts_run(
     alloc: Global,
@@ -37,7 +40,9 @@ pub extern "C" fn toarmuts_run(
     ensures fits { answer.new.status ≤ 4 → answer.new.length ≤ length transcript.new }
     ensures behind { answer.new.status ≤ 4 → drop answer.new.length transcript.new ≡ drop answer.new.length transcript.old }
     ensures no_room { answer.new.status ≡ 20 → IsTooLongFor (length transcript.old) configuration.now applications.now script.now answer.new.length }
-    ensures refused { 4 < answer.new.status → answer.new.status ≢ 20 → IsRefusalOf configuration.now applications.now answer.new.status answer.new.line }
+    ensures refused { 4 < answer.new.status → answer.new.status ≢ 20 → IsRefusalOf configuration.now applications.now answer.new.status answer.new.line answer.new.reason answer.new.application answer.new.call }
+    ensures no_reason { answer.new.status ≤ 4 → HasNoReason answer.new }
+    ensures room_is_reason { answer.new.status ≡ 20 → HasNoReason answer.new }
     ensures unchanged { 4 < answer.new.status → transcript.new ≡ transcript.old }
 {
     match run_lines(alloc, configuration, applications, script) {

@@ -1,11 +1,12 @@
 //! The applications that lines name.
 
-ghost use Rattle.std.specs.Prelude.{◌<◌, ◌≤◌, length, IfErr, IfNone, IfOk, IfSome};
+ghost use Rattle.std.specs.Prelude.{◌<◌, ◌≤◌, ◌≢◌, ◌++◌, length, IfErr, IfNone, IfOk, IfSome};
 ghost use Rattle.std.specs.Str.Lines.{lines};
-ghost use Rattle.call_lists.specs.Faults.{IsNoName};
-ghost use Rattle.toarmuts.specs.Answers.{AreOfLines, AreRefused, HasCalls, IsOfLine, IsRefusedLine};
+ghost use Rattle.toarmuts.specs.Answers.{AreOfLines, AreRefused, IsOfLine, IsRefusedLine};
+ghost use Rattle.toarmuts.specs.Reasons.{HasCalls, HasNoCalls, IsLineReason, IsNoApplication};
 
-use crate::refusal::Refusal;
+use crate::list_reason::list_reason;
+use crate::refusal::{LineReason, Refusal};
 use call_lists::Application;
 use std::alloc::Global;
 
@@ -14,7 +15,8 @@ const MOST_APPLICATIONS: usize = 16;
 
 /// The text of calls that a line has, where its first word says that it has one.
 fn calls_in(line: &str) -> Option<&str>
-    ensures { IfSome result (λ text. HasCalls line.now text.now) }
+    ensures has { IfSome result (λ text. HasCalls line.now text.now) }
+    ensures has_none { IfNone result (HasNoCalls line.now) }
 {
     if line == "calls" {
         return Some("");
@@ -23,13 +25,23 @@ fn calls_in(line: &str) -> Option<&str>
 }
 
 /// The application that a line names, or whose calls it has.
-fn application_of(line: &str) -> Option<Application>
-    ensures named { IfSome result (IsOfLine line.now) }
-    ensures none { IfNone result (IsNoName line.now) }
+///
+/// # Errors
+///
+/// Why it is none.
+fn application_of(line: &str) -> Result<Application, LineReason>
+    ensures named { IfOk result (IsOfLine line.now) }
+    ensures none { IfErr result (λ reason. IsNoApplication line.now × IsLineReason line.now reason) }
 {
     match calls_in(line) {
-        Some(text) => Application::listed(text).ok(),
-        None => Application::named(line).ok(),
+        Some(text) => match Application::listed(text) {
+            Ok(application) => Ok(application),
+            Err(_) => Err(list_reason(text)),
+        },
+        None => match Application::named(line) {
+            Ok(application) => Ok(application),
+            Err(_) => Err(LineReason::NoName),
+        },
     }
 }
 
@@ -47,8 +59,8 @@ fn next_application(line: &str, count: usize) -> Result<Application, Refusal>
         return Err(Refusal::TooManyApplications);
     }
     match application_of(line) {
-        Some(application) => Ok(application),
-        None => Err(Refusal::NoApplication(count as u64 + 1)),
+        Ok(application) => Ok(application),
+        Err(reason) => Err(Refusal::NoApplication(count as u32, reason)),
     }
 }
 

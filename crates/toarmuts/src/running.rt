@@ -1,17 +1,18 @@
 //! The run of the applications that lines name.
 
-ghost use Rattle.std.specs.Prelude.{length, IfErr, IfOk};
+ghost use Rattle.std.specs.Prelude.{◌≡◌, length, IfErr, IfOk};
 ghost use Rattle.mote_types.specs.Applications.{says_of};
 ghost use Rattle.call_lists.specs.Applications.{application_says};
 ghost use Rattle.mote_kit.specs.Runs.{config_of};
 ghost use Rattle.mote_run.specs.RunText.{IsRunText};
-ghost use Rattle.toarmuts.specs.Answers.{HasRun, IsRefusedRun, Refuses};
+ghost use Rattle.toarmuts.specs.Answers.{HasRun, Refuses};
+ghost use Rattle.toarmuts.specs.declared.refusal.Refusal.TheVariants.{OutOfMemory};
 
 use crate::configuration::Configuration;
 use crate::lines::read_applications;
 use crate::refusal::Refusal;
+use crate::sizes::size_reason;
 use call_lists::Application;
-use mote_kit::fault::MoteFault;
 use mote_kit::mote::{Ran, Sizes, run_script};
 use mote_types::app::App;
 use std::alloc::Global;
@@ -20,7 +21,7 @@ use std::alloc::Global;
 ///
 /// # Errors
 ///
-/// `BadSizes` where no mote boots with these sizes and so many applications, else `OutOfMemory`.
+/// `OutOfMemory`: a mote boots with these sizes.
 fn run_applications(
     alloc: Global,
     sizes: Sizes,
@@ -29,7 +30,7 @@ fn run_applications(
     quiet: bool,
 ) -> Result<Ran, Refusal>
     ensures text { IfOk result (λ ran. IsRunText (config_of sizes (length applications.items)) (says_of application_says applications.items) quiet script.now ran.transcript.items ran.end) }
-    ensures refused { IfErr result (IsRefusedRun (config_of sizes (length applications.items))) }
+    ensures refused { IfErr result (λ refusal. refusal ≡ OutOfMemory) }
 {
     let mut boxes: Vec<Box<dyn App>> = Vec::new(alloc);
     for application in applications {
@@ -37,7 +38,6 @@ fn run_applications(
     }
     match run_script(alloc, sizes, boxes.as_mut_slice(), script, quiet) {
         Ok(ran) => Ok(ran),
-        Err(MoteFault::BadSizes) => Err(Refusal::BadSizes),
         Err(_) => Err(Refusal::OutOfMemory),
     }
 }
@@ -46,7 +46,7 @@ fn run_applications(
 ///
 /// # Errors
 ///
-/// The first line that names no application, too many of them, sizes that no mote boots with, or want of memory.
+/// The first line that names no application, too many of them, the first size that no mote has, or want of memory.
 pub fn run_lines(
     alloc: Global,
     configuration: &Configuration,
@@ -61,6 +61,9 @@ pub fn run_lines(
     };
     let applications = read_applications(alloc, text)?;
     let sizes = configuration.sizes();
+    if let Some(reason) = size_reason(&sizes, applications.len() as u32) {
+        return Err(Refusal::BadSizes(reason));
+    }
     let quiet = configuration.is_quiet();
     run_applications(alloc, sizes, applications, script, quiet)
 }

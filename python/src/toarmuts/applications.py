@@ -23,7 +23,8 @@ from typing import Any, Protocol, Union
 
 from .call import MOST_CALLS, Call, read_calls
 from .calls import Exit, Wait
-from .errors import BadCall, NoApplication, TooManyApplications, ToarmutsError, WrongType
+from .errors import BadCall, NoApplication, Reason, TooManyApplications, ToarmutsError, WrongType
+from .library import Why
 from .numbers import EventCode
 from .rules import FIRST_PROCESS, MOST_APPLICATIONS, RULES
 from .values import Event, Stimulus
@@ -185,19 +186,63 @@ def _once(turns: Turns) -> Callable[[], Turns]:
 
 
 def _read_line(number: int, line: str) -> Named:
-    """A name, or ``calls`` and a list of calls."""
+    """A name, or ``calls`` and a list of calls. The library tells whether it is one; where it is carried out in Python, `make` does."""
     if "\n" in line or "\r" in line:
         raise NoApplication(number, line, f"a name has no line end: {line!r}")
     if line == "calls" or line.startswith("calls "):
-        try:
-            calls = read_calls(line[6:])
-        except BadCall as fault:
-            raise NoApplication(number, line, str(fault), fault.place) from None
-        return Named(number, line, functools.partial(CallList, calls), "calls")
-    if line not in RULES.applications:
-        names = ", ".join(RULES.applications)
-        raise NoApplication(number, line, f"no application {line!r}; there are {names}, and 'calls ..'" if line else "its name is empty")
-    return Named(number, line, functools.partial(bundled, line), line)
+        return Named(number, line, functools.partial(_make_list, number, line), "calls")
+    return Named(number, line, functools.partial(_make_named, number, line), line)
+
+
+def _make_list(number: int, line: str) -> Application:
+    """The list of calls of a line."""
+    try:
+        return CallList(read_calls(line[6:]))
+    except BadCall as fault:
+        raise NoApplication(number, line, str(fault), fault.place) from None
+
+
+def _make_named(number: int, name: str) -> Application:
+    """The mote's own application of this name."""
+    if name not in RULES.applications:
+        raise NoApplication(number, name, _no_name(name))
+    return bundled(name)
+
+
+def _no_name(name: str) -> str:
+    names = ", ".join(RULES.applications)
+    return f"no application {name!r}; there are {names}, and 'calls ..'" if name else "its name is empty"
+
+
+_NO_CALL = {
+    Reason.CALL: "no call has this name",
+    Reason.FEW_WORDS: "the call lacks a word",
+    Reason.MANY_WORDS: "there are more words than the call takes",
+    Reason.NUMBER: "a word is no number, or one out of its range",
+    Reason.HEX: "a word is no hex, or has too many bytes",
+}
+
+
+def no_application(named: Named, why: Why) -> NoApplication:
+    """The exception where the library takes an application for none, for this reason."""
+    number, line = named.number, named.line or ""
+    if why.reason is Reason.NAME:
+        return NoApplication(number, line, _no_name(line), None, why.reason)
+    if why.reason is Reason.MANY_CALLS:
+        return NoApplication(number, line, f"an application makes at most {MOST_CALLS} calls", None, why.reason)
+    part = line[6:].split(", ")[why.call]
+    return NoApplication(number, line, f"{part!r}: {_NO_CALL[why.reason]}{_taken(part)}", why.call + 1, why.reason)
+
+
+def _taken(part: str) -> str:
+    """What the call of a list's part takes, where there is one of its name."""
+    rule = next((RULES.calls[word] for word in part.split(" ")[:2] if word in RULES.calls), None)
+    return "" if rule is None else f": {rule.name} takes {', '.join(map(_argument, rule.arguments)) or 'none'}"
+
+
+def _argument(name: str) -> str:
+    most = RULES.arguments[name].most
+    return name if most is None else f"{name} (0 to {most:,})"
 
 
 def _read_list(number: int, calls: Sequence[object]) -> Named:

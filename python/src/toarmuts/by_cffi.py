@@ -6,8 +6,8 @@ import weakref
 from typing import Any
 
 from ._native import ffi, lib  # type: ignore[import]
-from .errors import LibraryError
-from .library import ADVANCE_SIZE, FIRST_ROOM, MAKE, MOST_ROOM_KEPT, NO_ROOM, ROW_SIZE, Configuration, Held
+from .errors import LibraryError, Reason
+from .library import ADVANCE_SIZE, FIRST_ROOM, MAKE, MOST_ROOM_KEPT, NO_ROOM, ROW_SIZE, Configuration, Held, Why
 
 
 class _Room(threading.local):
@@ -62,6 +62,11 @@ class CffiLibrary:
         transcript = bytes(ffi.buffer(room.transcript, answer.length)) if answer.length else b""
         room.shrink()
         return answer.status, answer.line, transcript
+
+    def why(self) -> Why:
+        """What the last run answered besides."""
+        answer = self._room.answer
+        return Why(Reason(answer.reason), answer.application, answer.call)
 
     def table(self, text: bytes) -> bytearray:
         """The rows of a transcript's table."""

@@ -7,15 +7,16 @@ import threading
 import weakref
 from typing import Any
 
-from .errors import LibraryError
-from .library import ADVANCE_SIZE, FIRST_ROOM, MAKE, MOST_ROOM_KEPT, NO_ROOM, ROW_SIZE, Configuration, Held
+from .errors import LibraryError, Reason
+from .library import ADVANCE_SIZE, FIRST_ROOM, MAKE, MOST_ROOM_KEPT, NO_ROOM, ROW_SIZE, Configuration, Held, Why
 
 NEEDED = ("toarmuts_run", "transcript_table", "transcript_lines", "toarmuts_open", "toarmuts_feed", "toarmuts_feed_input", "toarmuts_clock",
           "toarmuts_close", "advance_mote")
 
 
 class _Answer(ctypes.Structure):
-    _fields_ = [("status", ctypes.c_uint32), ("line", ctypes.c_uint64), ("length", ctypes.c_size_t)]
+    _fields_ = [("status", ctypes.c_uint32), ("line", ctypes.c_uint64), ("length", ctypes.c_size_t), ("reason", ctypes.c_uint32),
+                ("application", ctypes.c_uint32), ("call", ctypes.c_size_t)]
 
 
 class _Mote(ctypes.Structure):
@@ -89,6 +90,11 @@ class CtypesLibrary:
         transcript = ctypes.string_at(room.transcript, answer.length)
         room.shrink()
         return answer.status, answer.line, transcript
+
+    def why(self) -> Why:
+        """What the last run answered besides."""
+        answer = self._room.answer
+        return Why(Reason(answer.reason), answer.application, answer.call)
 
     def table(self, text: bytes) -> bytearray:
         """The rows of a transcript's table."""

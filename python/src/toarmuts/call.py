@@ -1,6 +1,7 @@
 """What all calls of an application have in common; :mod:`toarmuts.calls` has a class for each."""
 from __future__ import annotations
 
+import re
 import struct
 from typing import Any, Callable, ClassVar, Sequence, Union
 
@@ -65,12 +66,22 @@ def _checker(word: str, name: str) -> Callable[[object], Argument]:
     return check
 
 
-def _argument(place: int) -> property:
-    return property(lambda call: call.arguments[place])
+def _word_of(name: str) -> str:
+    """The word of a call's class: ``timer-set`` of ``TimerSet``."""
+    return re.sub("(?<=.)([A-Z])", r"-\1", name).lower()
+
+
+def _about(rule: CallRule) -> str:
+    """What a call does, what its arguments may be, and what it is answered."""
+    told = [f"{name}: {RULES.arguments[name].about}." for name in rule.arguments]
+    told.append(f"The answer is {rule.reply}." if rule.reply else "It has no answer.")
+    if rule.refusals:
+        told.append("Refused with " + ", ".join(f"{RULES.refusals[number].name} ({number})" for number in rule.refusals) + ".")
+    return f"{rule.about}.\n\n" + "\n".join(told)
 
 
 class Call:
-    """A call with its arguments. It can't be changed; two are equal where their words are.
+    """A call with its arguments, which are the fields of its class. It can't be changed; two are equal where their words are.
 
     >>> call = Call.parse("mmem-write 0 4 6869")
     >>> call
@@ -79,7 +90,6 @@ class Call:
     (4, b'hi', 'mmem-write 0 4 6869')
     """
 
-    __slots__ = ("arguments", "_packed")
     word: ClassVar[str] = ""
     """The word of a transcript, as ``timer-set``."""
     kind: ClassVar[int] = 0
@@ -94,28 +104,26 @@ class Call:
 
     arguments: tuple[Argument, ...]
     """The arguments in their order."""
-    _packed: bytes | None
+    _packed: bytes
 
-    def __init_subclass__(cls, word: str = "", **others: Any) -> None:
-        super().__init_subclass__(**others)
-        if not word:
-            return
+    def __init_subclass__(cls) -> None:
+        super().__init_subclass__()
+        word = _word_of(cls.__name__)
+        if word not in RULES.calls:
+            raise WrongType(f"{cls.__name__} is a class of no call")
         rule = RULES.calls[word]
         cls.word, cls.kind, cls.rule, cls.ends_activation = word, rule.kind, rule, rule.reply is None
+        cls.__doc__ = _about(rule)
         cls._checks = tuple(_checker(word, name) for name in rule.arguments)
-        setattr(cls, "__match_args__", rule.arguments)
-        for place, name in enumerate(rule.arguments):
-            setattr(cls, name, _argument(place))
         Call.by_word[word] = cls
 
-    def __init__(self, *arguments: object) -> None:
-        if not self.word:
-            raise WrongType("Call is no call itself: write one of its classes, as Wait(), or Call.parse('wait')")
-        object.__setattr__(self, "arguments", tuple([check(argument) for check, argument in zip(self._checks, arguments)]))
-        object.__setattr__(self, "_packed", None)
+    def __init__(self) -> None:
+        raise WrongType("Call is no call itself: write one of its classes, as Wait(), or Call.parse('wait')")
 
-    def __setattr__(self, name: str, value: object) -> None:
-        raise AttributeError(f"a call can't be changed: {name}")
+    def __post_init__(self) -> None:
+        known = self.__dict__
+        arguments = tuple([check(argument) for check, argument in zip(self._checks, known.values())])
+        known.update(zip(self.rule.arguments, arguments), arguments=arguments)
 
     def __str__(self) -> str:
         words = [self.word]
@@ -142,9 +150,9 @@ class Call:
 
     def packed(self) -> bytes:
         """The bytes of ``struct toarmuts_call``."""
-        if self._packed is None:
-            object.__setattr__(self, "_packed", self._pack())
-        return self._packed or b""
+        if "_packed" not in self.__dict__:
+            self.__dict__["_packed"] = self._pack()
+        return self._packed
 
     def _pack(self) -> bytes:
         numbers: list[int] = []
@@ -227,8 +235,8 @@ def read_calls(text: str) -> list[Call]:
 
 def _repeated(part: str) -> Sequence[Call]:
     """A call, or several of it where a number stands before it."""
-    first, _, rest = part.partition(" ")
-    if not first[:1].isdigit():
+    first, space, rest = part.partition(" ")
+    if not space or not first[:1].isdigit():
         return [Call.parse(part)]
     times = read_number(first, MOST_CALLS, least=1)
     return [Call.parse(rest)] * times

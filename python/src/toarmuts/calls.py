@@ -1,4 +1,4 @@
-"""The calls of an application, a class for each.
+"""The calls of an application: a class for each, with its arguments. Their ``help`` tells what these may be, and the refusals.
 
 Written by python/generate.py from rules.json: change that file, and run the program again.
 
@@ -6,6 +6,8 @@ Written by python/generate.py from rules.json: change that file, and run the pro
 'timer-set 0 10'
 """
 from __future__ import annotations
+
+from dataclasses import dataclass
 
 from .call import Call
 from .values import Payload
@@ -20,705 +22,366 @@ __all__ = [
 ]
 
 
-class Post(Call, word="post"):
-    """Puts an event at the end of the event queue, for one process.
+@dataclass(frozen=True, eq=False, repr=False)
+class Post(Call):
+    """Puts an event at the end of the event queue, for one process."""
 
-    process: a process: 4, 5, .. are the applications in their order. code: an event's code. payload: what an event
-    carries: nothing, a number up to 4,294,967,295, or a line of at most 127 bytes. The answer is done. Refused with
-    bad-name (7), reserved (5), full (1).
-    """
-
-    __slots__ = ()
     process: int
     code: int
-    payload: Payload
-
-    def __init__(self, process: int, code: int, payload: Payload = None) -> None:
-        super().__init__(process, code, payload)
+    payload: Payload = None
 
 
-class Broadcast(Call, word="broadcast"):
-    """Puts an event at the end of the event queue, for every process on the process list.
+@dataclass(frozen=True, eq=False, repr=False)
+class Broadcast(Call):
+    """Puts an event at the end of the event queue, for every process on the process list."""
 
-    code: an event's code. payload: what an event carries: nothing, a number up to 4,294,967,295, or a line of at most
-    127 bytes. The answer is done. Refused with reserved (5), full (1).
-    """
-
-    __slots__ = ()
     code: int
-    payload: Payload
-
-    def __init__(self, code: int, payload: Payload = None) -> None:
-        super().__init__(code, payload)
+    payload: Payload = None
 
 
-class PostSynch(Call, word="post-synch"):
-    """Gives a process an event at once; the answer comes after its activation.
+@dataclass(frozen=True, eq=False, repr=False)
+class PostSynch(Call):
+    """Gives a process an event at once; the answer comes after its activation."""
 
-    process: a process: 4, 5, .. are the applications in their order. code: an event's code. payload: what an event
-    carries: nothing, a number up to 4,294,967,295, or a line of at most 127 bytes. The answer is done. Refused with
-    bad-name (7), reserved (5).
-    """
-
-    __slots__ = ()
     process: int
     code: int
-    payload: Payload
-
-    def __init__(self, process: int, code: int, payload: Payload = None) -> None:
-        super().__init__(process, code, payload)
+    payload: Payload = None
 
 
-class Poll(Call, word="poll"):
-    """Marks a process for the next poll round.
+@dataclass(frozen=True, eq=False, repr=False)
+class Poll(Call):
+    """Marks a process for the next poll round."""
 
-    process: a process: 4, 5, .. are the applications in their order. The answer is done. Refused with bad-name (7),
-    not-running (2).
-    """
-
-    __slots__ = ()
     process: int
 
-    def __init__(self, process: int) -> None:
-        super().__init__(process)
 
+@dataclass(frozen=True, eq=False, repr=False)
+class Start(Call):
+    """Puts a process at the head of the process list and gives it INIT."""
 
-class Start(Call, word="start"):
-    """Puts a process at the head of the process list and gives it INIT.
-
-    process: a process: 4, 5, .. are the applications in their order. The answer is done. Refused with bad-name (7),
-    already (3).
-    """
-
-    __slots__ = ()
     process: int
 
-    def __init__(self, process: int) -> None:
-        super().__init__(process)
 
+@dataclass(frozen=True, eq=False, repr=False)
+class Kill(Call):
+    """Ends another process, which is given EXIT."""
 
-class Kill(Call, word="kill"):
-    """Ends another process, which is given EXIT.
-
-    process: a process: 4, 5, .. are the applications in their order. The answer is done. Refused with bad-name (7),
-    not-running (2), busy (4).
-    """
-
-    __slots__ = ()
     process: int
 
-    def __init__(self, process: int) -> None:
-        super().__init__(process)
 
+@dataclass(frozen=True, eq=False, repr=False)
+class IsRunning(Call):
+    """Asks whether a process runs."""
 
-class IsRunning(Call, word="is-running"):
-    """Asks whether a process runs.
-
-    process: a process: 4, 5, .. are the applications in their order. The answer is flag. Refused with bad-name (7).
-    """
-
-    __slots__ = ()
     process: int
 
-    def __init__(self, process: int) -> None:
-        super().__init__(process)
+
+@dataclass(frozen=True, eq=False, repr=False)
+class AllocEvent(Call):
+    """Draws an event number that was never drawn."""
 
 
-class AllocEvent(Call, word="alloc-event"):
-    """Draws an event number that was never drawn.
+@dataclass(frozen=True, eq=False, repr=False)
+class TimerSet(Call):
+    """Arms an event timer: it runs out so many ticks after the present clock."""
 
-    The answer is num. Refused with no-event (6).
-    """
-
-    __slots__ = ()
-
-    def __init__(self) -> None:
-        super().__init__()
-
-
-class TimerSet(Call, word="timer-set"):
-    """Arms an event timer: it runs out so many ticks after the present clock.
-
-    timer: an event timer: 0 to 7. interval: ticks. The answer is done. Refused with bad-name (7).
-    """
-
-    __slots__ = ()
     timer: int
     interval: int
 
-    def __init__(self, timer: int, interval: int) -> None:
-        super().__init__(timer, interval)
 
+@dataclass(frozen=True, eq=False, repr=False)
+class TimerStop(Call):
+    """Disarms an event timer."""
 
-class TimerStop(Call, word="timer-stop"):
-    """Disarms an event timer.
-
-    timer: an event timer: 0 to 7. The answer is done. Refused with bad-name (7).
-    """
-
-    __slots__ = ()
     timer: int
 
-    def __init__(self, timer: int) -> None:
-        super().__init__(timer)
 
+@dataclass(frozen=True, eq=False, repr=False)
+class TimerReset(Call):
+    """Arms an event timer with the interval that begins where its last one ended."""
 
-class TimerReset(Call, word="timer-reset"):
-    """Arms an event timer with the interval that begins where its last one ended.
-
-    timer: an event timer: 0 to 7. The answer is done. Refused with bad-name (7), range (11).
-    """
-
-    __slots__ = ()
     timer: int
 
-    def __init__(self, timer: int) -> None:
-        super().__init__(timer)
 
+@dataclass(frozen=True, eq=False, repr=False)
+class TimerRestart(Call):
+    """Arms an event timer with its interval, from the present clock on."""
 
-class TimerRestart(Call, word="timer-restart"):
-    """Arms an event timer with its interval, from the present clock on.
-
-    timer: an event timer: 0 to 7. The answer is done. Refused with bad-name (7).
-    """
-
-    __slots__ = ()
     timer: int
 
-    def __init__(self, timer: int) -> None:
-        super().__init__(timer)
 
+@dataclass(frozen=True, eq=False, repr=False)
+class TimerExpired(Call):
+    """Asks whether an event timer isn't armed."""
 
-class TimerExpired(Call, word="timer-expired"):
-    """Asks whether an event timer isn't armed.
-
-    timer: an event timer: 0 to 7. The answer is flag. Refused with bad-name (7).
-    """
-
-    __slots__ = ()
     timer: int
 
-    def __init__(self, timer: int) -> None:
-        super().__init__(timer)
 
+@dataclass(frozen=True, eq=False, repr=False)
+class CallbackSet(Call):
+    """Arms a callback timer: it runs out so many ticks after the present clock."""
 
-class CallbackSet(Call, word="callback-set"):
-    """Arms a callback timer: it runs out so many ticks after the present clock.
-
-    callback: a callback timer: 0 to 3. interval: ticks. The answer is done. Refused with bad-name (7).
-    """
-
-    __slots__ = ()
     callback: int
     interval: int
 
-    def __init__(self, callback: int, interval: int) -> None:
-        super().__init__(callback, interval)
 
+@dataclass(frozen=True, eq=False, repr=False)
+class CallbackStop(Call):
+    """Disarms a callback timer."""
 
-class CallbackStop(Call, word="callback-stop"):
-    """Disarms a callback timer.
-
-    callback: a callback timer: 0 to 3. The answer is done. Refused with bad-name (7).
-    """
-
-    __slots__ = ()
     callback: int
 
-    def __init__(self, callback: int) -> None:
-        super().__init__(callback)
+
+@dataclass(frozen=True, eq=False, repr=False)
+class Clock(Call):
+    """Asks for the clock, in ticks since boot."""
 
 
-class Clock(Call, word="clock"):
-    """Asks for the clock, in ticks since boot.
+@dataclass(frozen=True, eq=False, repr=False)
+class Print(Call):
+    """Shows these bytes in the transcript."""
 
-    The answer is wide.
-    """
-
-    __slots__ = ()
-
-    def __init__(self) -> None:
-        super().__init__()
-
-
-class Print(Call, word="print"):
-    """Shows these bytes in the transcript.
-
-    data: at most 64 bytes. The answer is done.
-    """
-
-    __slots__ = ()
     data: bytes
 
-    def __init__(self, data: bytes) -> None:
-        super().__init__(data)
+
+@dataclass(frozen=True, eq=False, repr=False)
+class Wait(Call):
+    """Ends the activation; the process goes on running."""
 
 
-class Wait(Call, word="wait"):
-    """Ends the activation; the process goes on running.
-
-    It has no answer.
-    """
-
-    __slots__ = ()
-
-    def __init__(self) -> None:
-        super().__init__()
+@dataclass(frozen=True, eq=False, repr=False)
+class Exit(Call):
+    """Ends the activation and the process."""
 
 
-class Exit(Call, word="exit"):
-    """Ends the activation and the process.
+@dataclass(frozen=True, eq=False, repr=False)
+class MmemAlloc(Call):
+    """Gives a handle a block of managed memory, its bytes all 0."""
 
-    It has no answer.
-    """
-
-    __slots__ = ()
-
-    def __init__(self) -> None:
-        super().__init__()
-
-
-class MmemAlloc(Call, word="mmem-alloc"):
-    """Gives a handle a block of managed memory, its bytes all 0.
-
-    handle: a handle of managed memory: 0 to 15. size: bytes. The answer is done. Refused with bad-name (7), in-use (8),
-    range (11), no-room (12), over-quota (18).
-    """
-
-    __slots__ = ()
     handle: int
     size: int
 
-    def __init__(self, handle: int, size: int) -> None:
-        super().__init__(handle, size)
 
+@dataclass(frozen=True, eq=False, repr=False)
+class MmemFree(Call):
+    """Takes a handle's block away."""
 
-class MmemFree(Call, word="mmem-free"):
-    """Takes a handle's block away.
-
-    handle: a handle of managed memory: 0 to 15. The answer is done. Refused with bad-name (7), not-live (9).
-    """
-
-    __slots__ = ()
     handle: int
 
-    def __init__(self, handle: int) -> None:
-        super().__init__(handle)
 
+@dataclass(frozen=True, eq=False, repr=False)
+class MmemWrite(Call):
+    """Writes bytes into a handle's block."""
 
-class MmemWrite(Call, word="mmem-write"):
-    """Writes bytes into a handle's block.
-
-    handle: a handle of managed memory: 0 to 15. at: the place of the first byte, from 0 on. data: at most 64 bytes. The
-    answer is done. Refused with bad-name (7), not-live (9), range (11).
-    """
-
-    __slots__ = ()
     handle: int
     at: int
     data: bytes
 
-    def __init__(self, handle: int, at: int, data: bytes) -> None:
-        super().__init__(handle, at, data)
 
+@dataclass(frozen=True, eq=False, repr=False)
+class MmemRead(Call):
+    """Reads from a handle's block."""
 
-class MmemRead(Call, word="mmem-read"):
-    """Reads from a handle's block.
-
-    handle: a handle of managed memory: 0 to 15. at: the place of the first byte, from 0 on. length: bytes: at most 64
-    are read. The answer is bytes. Refused with bad-name (7), not-live (9), range (11).
-    """
-
-    __slots__ = ()
     handle: int
     at: int
     length: int
 
-    def __init__(self, handle: int, at: int, length: int) -> None:
-        super().__init__(handle, at, length)
 
+@dataclass(frozen=True, eq=False, repr=False)
+class MmemCopy(Call):
+    """Copies all bytes of a handle's block to the front of another's."""
 
-class MmemCopy(Call, word="mmem-copy"):
-    """Copies all bytes of a handle's block to the front of another's.
-
-    source: the handle that is copied from: 0 to 15. target: the handle that is copied to: 0 to 15. The answer is done.
-    Refused with bad-name (7), not-live (9), range (11).
-    """
-
-    __slots__ = ()
     source: int
     target: int
 
-    def __init__(self, source: int, target: int) -> None:
-        super().__init__(source, target)
+
+@dataclass(frozen=True, eq=False, repr=False)
+class MmemAvail(Call):
+    """Asks how many bytes of managed memory are free for the caller."""
 
 
-class MmemAvail(Call, word="mmem-avail"):
-    """Asks how many bytes of managed memory are free for the caller.
+@dataclass(frozen=True, eq=False, repr=False)
+class HeapAlloc(Call):
+    """Makes a block of heap memory, its bytes all 0."""
 
-    The answer is num.
-    """
-
-    __slots__ = ()
-
-    def __init__(self) -> None:
-        super().__init__()
-
-
-class HeapAlloc(Call, word="heap-alloc"):
-    """Makes a block of heap memory, its bytes all 0.
-
-    heap_block: a block of heap memory: 0 to 15. size: bytes. The answer is done. Refused with bad-name (7), in-use (8),
-    range (11), no-room (12).
-    """
-
-    __slots__ = ()
     heap_block: int
     size: int
 
-    def __init__(self, heap_block: int, size: int) -> None:
-        super().__init__(heap_block, size)
 
+@dataclass(frozen=True, eq=False, repr=False)
+class HeapRealloc(Call):
+    """Gives a block of heap memory another length; further bytes are 0."""
 
-class HeapRealloc(Call, word="heap-realloc"):
-    """Gives a block of heap memory another length; further bytes are 0.
-
-    heap_block: a block of heap memory: 0 to 15. size: bytes. The answer is done. Refused with bad-name (7), not-live
-    (9), range (11), no-room (12).
-    """
-
-    __slots__ = ()
     heap_block: int
     size: int
 
-    def __init__(self, heap_block: int, size: int) -> None:
-        super().__init__(heap_block, size)
 
+@dataclass(frozen=True, eq=False, repr=False)
+class HeapFree(Call):
+    """Takes a block of heap memory away."""
 
-class HeapFree(Call, word="heap-free"):
-    """Takes a block of heap memory away.
-
-    heap_block: a block of heap memory: 0 to 15. The answer is done. Refused with bad-name (7), not-live (9).
-    """
-
-    __slots__ = ()
     heap_block: int
 
-    def __init__(self, heap_block: int) -> None:
-        super().__init__(heap_block)
 
+@dataclass(frozen=True, eq=False, repr=False)
+class HeapWrite(Call):
+    """Writes bytes into a block of heap memory."""
 
-class HeapWrite(Call, word="heap-write"):
-    """Writes bytes into a block of heap memory.
-
-    heap_block: a block of heap memory: 0 to 15. at: the place of the first byte, from 0 on. data: at most 64 bytes. The
-    answer is done. Refused with bad-name (7), not-live (9), range (11).
-    """
-
-    __slots__ = ()
     heap_block: int
     at: int
     data: bytes
 
-    def __init__(self, heap_block: int, at: int, data: bytes) -> None:
-        super().__init__(heap_block, at, data)
 
+@dataclass(frozen=True, eq=False, repr=False)
+class HeapRead(Call):
+    """Reads from a block of heap memory."""
 
-class HeapRead(Call, word="heap-read"):
-    """Reads from a block of heap memory.
-
-    heap_block: a block of heap memory: 0 to 15. at: the place of the first byte, from 0 on. length: bytes: at most 64
-    are read. The answer is bytes. Refused with bad-name (7), not-live (9), range (11).
-    """
-
-    __slots__ = ()
     heap_block: int
     at: int
     length: int
 
-    def __init__(self, heap_block: int, at: int, length: int) -> None:
-        super().__init__(heap_block, at, length)
+
+@dataclass(frozen=True, eq=False, repr=False)
+class HeapStats(Call):
+    """Asks for the state of the whole heap."""
 
 
-class HeapStats(Call, word="heap-stats"):
-    """Asks for the state of the whole heap.
+@dataclass(frozen=True, eq=False, repr=False)
+class MembAlloc(Call):
+    """Takes the unused block of lowest number of a pool, its bytes all 0."""
 
-    The answer is stats.
-    """
-
-    __slots__ = ()
-
-    def __init__(self) -> None:
-        super().__init__()
-
-
-class MembAlloc(Call, word="memb-alloc"):
-    """Takes the unused block of lowest number of a pool, its bytes all 0.
-
-    pool: a pool: 0 to 3. The answer is num. Refused with bad-name (7), no-block (13).
-    """
-
-    __slots__ = ()
     pool: int
 
-    def __init__(self, pool: int) -> None:
-        super().__init__(pool)
 
+@dataclass(frozen=True, eq=False, repr=False)
+class MembFree(Call):
+    """Gives a pool's block back."""
 
-class MembFree(Call, word="memb-free"):
-    """Gives a pool's block back.
-
-    pool: a pool: 0 to 3. block: a pool's block: 0 to 15. The answer is done. Refused with bad-name (7), not-live (9),
-    linked (14).
-    """
-
-    __slots__ = ()
     pool: int
     block: int
 
-    def __init__(self, pool: int, block: int) -> None:
-        super().__init__(pool, block)
 
+@dataclass(frozen=True, eq=False, repr=False)
+class MembWrite(Call):
+    """Writes bytes into a pool's block."""
 
-class MembWrite(Call, word="memb-write"):
-    """Writes bytes into a pool's block.
-
-    pool: a pool: 0 to 3. block: a pool's block: 0 to 15. at: the place of the first byte, from 0 on. data: at most 64
-    bytes. The answer is done. Refused with bad-name (7), not-live (9), range (11).
-    """
-
-    __slots__ = ()
     pool: int
     block: int
     at: int
     data: bytes
 
-    def __init__(self, pool: int, block: int, at: int, data: bytes) -> None:
-        super().__init__(pool, block, at, data)
 
+@dataclass(frozen=True, eq=False, repr=False)
+class MembRead(Call):
+    """Reads from a pool's block."""
 
-class MembRead(Call, word="memb-read"):
-    """Reads from a pool's block.
-
-    pool: a pool: 0 to 3. block: a pool's block: 0 to 15. at: the place of the first byte, from 0 on. length: bytes: at
-    most 64 are read. The answer is bytes. Refused with bad-name (7), not-live (9), range (11).
-    """
-
-    __slots__ = ()
     pool: int
     block: int
     at: int
     length: int
 
-    def __init__(self, pool: int, block: int, at: int, length: int) -> None:
-        super().__init__(pool, block, at, length)
 
+@dataclass(frozen=True, eq=False, repr=False)
+class MembNumFree(Call):
+    """Asks how many blocks of a pool are unused."""
 
-class MembNumFree(Call, word="memb-num-free"):
-    """Asks how many blocks of a pool are unused.
-
-    pool: a pool: 0 to 3. The answer is num. Refused with bad-name (7).
-    """
-
-    __slots__ = ()
     pool: int
 
-    def __init__(self, pool: int) -> None:
-        super().__init__(pool)
 
+@dataclass(frozen=True, eq=False, repr=False)
+class ListAdd(Call):
+    """Takes a block to the end of a list."""
 
-class ListAdd(Call, word="list-add"):
-    """Takes a block to the end of a list.
-
-    chain: a list: 0 to 7; lists 2 k and 2 k + 1 link blocks of pool k. block: a pool's block: 0 to 15. The answer is
-    done. Refused with bad-name (7), not-live (9), linked (14).
-    """
-
-    __slots__ = ()
     chain: int
     block: int
 
-    def __init__(self, chain: int, block: int) -> None:
-        super().__init__(chain, block)
 
+@dataclass(frozen=True, eq=False, repr=False)
+class ListPush(Call):
+    """Takes a block to the front of a list."""
 
-class ListPush(Call, word="list-push"):
-    """Takes a block to the front of a list.
-
-    chain: a list: 0 to 7; lists 2 k and 2 k + 1 link blocks of pool k. block: a pool's block: 0 to 15. The answer is
-    done. Refused with bad-name (7), not-live (9), linked (14).
-    """
-
-    __slots__ = ()
     chain: int
     block: int
 
-    def __init__(self, chain: int, block: int) -> None:
-        super().__init__(chain, block)
 
+@dataclass(frozen=True, eq=False, repr=False)
+class ListInsert(Call):
+    """Takes a block to the place directly behind another one of a list."""
 
-class ListInsert(Call, word="list-insert"):
-    """Takes a block to the place directly behind another one of a list.
-
-    chain: a list: 0 to 7; lists 2 k and 2 k + 1 link blocks of pool k. previous: the block of the list behind which the
-    other one comes: 0 to 15. block: a pool's block: 0 to 15. The answer is done. Refused with bad-name (7), not-live
-    (9), linked (14), not-linked (15).
-    """
-
-    __slots__ = ()
     chain: int
     previous: int
     block: int
 
-    def __init__(self, chain: int, previous: int, block: int) -> None:
-        super().__init__(chain, previous, block)
 
+@dataclass(frozen=True, eq=False, repr=False)
+class ListPop(Call):
+    """Takes the head out of a list."""
 
-class ListPop(Call, word="list-pop"):
-    """Takes the head out of a list.
-
-    chain: a list: 0 to 7; lists 2 k and 2 k + 1 link blocks of pool k. The answer is num. Refused with bad-name (7),
-    empty (10).
-    """
-
-    __slots__ = ()
     chain: int
 
-    def __init__(self, chain: int) -> None:
-        super().__init__(chain)
 
+@dataclass(frozen=True, eq=False, repr=False)
+class ListChop(Call):
+    """Takes the tail out of a list."""
 
-class ListChop(Call, word="list-chop"):
-    """Takes the tail out of a list.
-
-    chain: a list: 0 to 7; lists 2 k and 2 k + 1 link blocks of pool k. The answer is num. Refused with bad-name (7),
-    empty (10).
-    """
-
-    __slots__ = ()
     chain: int
 
-    def __init__(self, chain: int) -> None:
-        super().__init__(chain)
 
+@dataclass(frozen=True, eq=False, repr=False)
+class ListRemove(Call):
+    """Takes a block out of a list."""
 
-class ListRemove(Call, word="list-remove"):
-    """Takes a block out of a list.
-
-    chain: a list: 0 to 7; lists 2 k and 2 k + 1 link blocks of pool k. block: a pool's block: 0 to 15. The answer is
-    done. Refused with bad-name (7), not-linked (15).
-    """
-
-    __slots__ = ()
     chain: int
     block: int
 
-    def __init__(self, chain: int, block: int) -> None:
-        super().__init__(chain, block)
 
+@dataclass(frozen=True, eq=False, repr=False)
+class ListHead(Call):
+    """Asks for the head of a list."""
 
-class ListHead(Call, word="list-head"):
-    """Asks for the head of a list.
-
-    chain: a list: 0 to 7; lists 2 k and 2 k + 1 link blocks of pool k. The answer is num. Refused with bad-name (7),
-    empty (10).
-    """
-
-    __slots__ = ()
     chain: int
 
-    def __init__(self, chain: int) -> None:
-        super().__init__(chain)
 
+@dataclass(frozen=True, eq=False, repr=False)
+class ListNext(Call):
+    """Asks for the block behind another one of a list."""
 
-class ListNext(Call, word="list-next"):
-    """Asks for the block behind another one of a list.
-
-    chain: a list: 0 to 7; lists 2 k and 2 k + 1 link blocks of pool k. block: a pool's block: 0 to 15. The answer is
-    num. Refused with bad-name (7), not-linked (15), empty (10).
-    """
-
-    __slots__ = ()
     chain: int
     block: int
 
-    def __init__(self, chain: int, block: int) -> None:
-        super().__init__(chain, block)
 
+@dataclass(frozen=True, eq=False, repr=False)
+class ListLength(Call):
+    """Asks how many blocks a list has."""
 
-class ListLength(Call, word="list-length"):
-    """Asks how many blocks a list has.
-
-    chain: a list: 0 to 7; lists 2 k and 2 k + 1 link blocks of pool k. The answer is num. Refused with bad-name (7).
-    """
-
-    __slots__ = ()
     chain: int
 
-    def __init__(self, chain: int) -> None:
-        super().__init__(chain)
+
+@dataclass(frozen=True, eq=False, repr=False)
+class PacketOpen(Call):
+    """Becomes the receiver of frames."""
 
 
-class PacketOpen(Call, word="packet-open"):
-    """Becomes the receiver of frames.
+@dataclass(frozen=True, eq=False, repr=False)
+class PacketRead(Call):
+    """Reads from the front frame."""
 
-    The answer is done. Refused with not-running (2), already (3), busy (4).
-    """
-
-    __slots__ = ()
-
-    def __init__(self) -> None:
-        super().__init__()
-
-
-class PacketRead(Call, word="packet-read"):
-    """Reads from the front frame.
-
-    at: the place of the first byte, from 0 on. length: bytes: at most 64 are read. The answer is bytes. Refused with
-    not-receiver (17), no-packet (16), range (11).
-    """
-
-    __slots__ = ()
     at: int
     length: int
 
-    def __init__(self, at: int, length: int) -> None:
-        super().__init__(at, length)
+
+@dataclass(frozen=True, eq=False, repr=False)
+class PacketDone(Call):
+    """Gives the front frame back."""
 
 
-class PacketDone(Call, word="packet-done"):
-    """Gives the front frame back.
-
-    The answer is done. Refused with not-receiver (17), no-packet (16).
-    """
-
-    __slots__ = ()
-
-    def __init__(self) -> None:
-        super().__init__()
+@dataclass(frozen=True, eq=False, repr=False)
+class PacketCount(Call):
+    """Asks how many frames are held."""
 
 
-class PacketCount(Call, word="packet-count"):
-    """Asks how many frames are held.
+@dataclass(frozen=True, eq=False, repr=False)
+class PacketSend(Call):
+    """Sends the bytes of a handle's block as a frame; the block stays."""
 
-    The answer is num.
-    """
-
-    __slots__ = ()
-
-    def __init__(self) -> None:
-        super().__init__()
-
-
-class PacketSend(Call, word="packet-send"):
-    """Sends the bytes of a handle's block as a frame; the block stays.
-
-    handle: a handle of managed memory: 0 to 15. The answer is done. Refused with bad-name (7), not-live (9), range
-    (11).
-    """
-
-    __slots__ = ()
     handle: int
-
-    def __init__(self, handle: int) -> None:
-        super().__init__(handle)

@@ -5,11 +5,36 @@ error. :meth:`toarmuts.Run.check` makes it one.
 """
 from __future__ import annotations
 
-from typing import TYPE_CHECKING, Sequence
+import enum
+from typing import TYPE_CHECKING
 
 if TYPE_CHECKING:
     from .runs import Run
     from .values import Stimulus
+
+
+class Reason(enum.IntEnum):
+    """Why the library makes no run, where its status leaves that open: ``enum toarmuts_reason`` of toarmuts.h."""
+
+    NONE = 0
+    MMEM = 1
+    HEAP = 2
+    HEADER = 3
+    QUOTA = 4
+    ALL_QUOTAS = 5
+    """The quotas of the applications and of the frames exceed managed memory."""
+    NAME = 6
+    """No application has this name."""
+    CALL = 7
+    """No call has this name."""
+    FEW_WORDS = 8
+    MANY_WORDS = 9
+    NUMBER = 10
+    """A word is no number, or one out of its range."""
+    HEX = 11
+    """A word is no hex, or has too many bytes."""
+    MANY_CALLS = 12
+    """A list has more than 128 calls."""
 
 
 class ToarmutsError(Exception):
@@ -36,21 +61,22 @@ class BadInput(ToarmutsError, ValueError):
 
 
 class BadSizes(ToarmutsError, ValueError):
-    """No mote boots with these sizes: ``sizes`` has their names, and ``faults`` tells of each what is wrong with it."""
+    """No mote boots with these sizes: ``size`` is the name of the first that is bad, in the order mmem, heap, header, quota, and ``why``
+    tells whether it is bad by itself or all quotas are."""
 
-    def __init__(self, faults: Sequence[str]) -> None:
-        super().__init__("; ".join(faults))
-        self.faults = tuple(faults)
-        self.sizes = tuple(fault.split(" ")[0] for fault in faults)
+    def __init__(self, size: str, why: Reason, message: str) -> None:
+        super().__init__(message)
+        self.size, self.why = size, why
 
 
 class NoApplication(ToarmutsError, ValueError):
-    """An application is none: ``number`` counts from 1, ``process`` is what it would have been, ``call`` counts from 1 too."""
+    """An application is none: ``number`` counts from 1, ``process`` is what it would have been, ``call`` counts from 1 too. ``why`` is
+    what the library answered, where it was asked."""
 
-    def __init__(self, number: int, text: str, reason: str, call: int | None = None) -> None:
+    def __init__(self, number: int, text: str, reason: str, call: int | None = None, why: Reason = Reason.NONE) -> None:
         place = f", call {call}" if call is not None else ""
         super().__init__(f"application {number} (process {number + 3}){place}: {reason}")
-        self.number, self.text, self.reason, self.call = number, text, reason, call
+        self.number, self.text, self.reason, self.call, self.why = number, text, reason, call, why
         self.process = number + 3
 
 

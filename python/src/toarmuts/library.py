@@ -7,9 +7,9 @@ import json
 import os
 import pathlib
 import warnings
-from typing import Any, Protocol
+from typing import Any, NamedTuple, Protocol
 
-from .errors import LibraryError
+from .errors import LibraryError, Reason
 
 HERE = pathlib.Path(__file__).resolve().parent
 MAKE = "`./prove toarmuts` in the repository, and then `pip install ./python`, make it"
@@ -26,6 +26,14 @@ ADVANCE_SIZE = 1488
 
 Configuration = tuple[int, int, int, int, int, int]
 """mmem, heap, header, whether there is a quota, quota, quiet: ``struct toarmuts_configuration``."""
+
+
+class Why(NamedTuple):
+    """Why there was no run: the reason, and the application and the call of its list, both from 0 on, of which it tells."""
+
+    reason: Reason
+    application: int
+    call: int
 
 
 class Held(Protocol):
@@ -57,6 +65,9 @@ class Library(Protocol):
 
     def run(self, configuration: Configuration, applications: bytes, script: bytes) -> tuple[int, int, bytes]:
         """Status, line and transcript of ``toarmuts_run``."""
+
+    def why(self) -> Why:
+        """What that call answered besides, where it was this thread's last one."""
 
     def table(self, text: bytes) -> bytearray:
         """The rows of a transcript's table."""

@@ -3,18 +3,14 @@ from __future__ import annotations
 
 from dataclasses import dataclass, fields
 
-from .errors import BadSizes, WrongType
+from .errors import BadSizes, Reason, WrongType
 from .library import Configuration
 from .rules import RULES
 
 
 @dataclass(frozen=True)
 class Options:
-    """Sizes in bytes, as the program ``mote`` takes them. Numbers of any size may stand here; :meth:`check` tells what is wrong.
-
-    >>> Options(mmem=6, header=4).faults()
-    ['mmem is 6, which is no multiple of 4', 'header is 4; 16 or 8 is allowed']
-    """
+    """Sizes in bytes, as the program ``mote`` takes them. Numbers of any size may stand here; a run or a mote refuses bad ones."""
 
     mmem: int = 4096
     """Managed memory: a multiple of 4 from 4 to 65,536."""
@@ -36,28 +32,21 @@ class Options:
         if not isinstance(self.quiet, bool):
             raise WrongType(f"quiet is to be True or False, not {type(self.quiet).__name__}")
 
-    def faults(self, applications: int = 0) -> list[str]:
-        """Why no mote with so many applications boots with these sizes: a reason for each size, none where one boots."""
-        sizes = {name: getattr(self, name) for name in RULES.sizes if getattr(self, name) is not None}
-        found = [fault for name, size in sizes.items() if (fault := RULES.sizes[name].fault(size)) is not None]
-        if self.quota is not None and not found and self.quota * (applications + 1) > self.mmem:
+    def bad(self, why: Reason, applications: int = 0) -> BadSizes:
+        """The exception where no mote with so many applications boots with these sizes, for this reason."""
+        if why is Reason.ALL_QUOTAS:
             holders = f"{applications} application{'' if applications == 1 else 's'} and the frames"
-            found.append(f"quota is {self.quota}; {applications + 1} of them ({holders}) exceed mmem, which is {self.mmem}")
-        return found
-
-    def check(self, applications: int = 0) -> "Options":
-        """Itself, where a mote with so many applications boots with these sizes; else BadSizes."""
-        faults = self.faults(applications)
-        if faults:
-            raise BadSizes(faults)
-        return self
+            message = f"quota is {self.quota}; {applications + 1} of them ({holders}) exceed mmem, which is {self.mmem}"
+            return BadSizes("quota", why, message)
+        name = why.name.lower()
+        return BadSizes(name, why, f"{name} is {getattr(self, name)}; {RULES.sizes[name].allowed} is allowed")
 
     def configuration(self) -> Configuration:
-        """The numbers for the library; BadSizes where one is none of 32 bits."""
-        numbers = (self.mmem, self.heap, self.header, self.quota is not None, self.quota or 0, self.quiet)
-        if not all(0 <= number < 2**32 for number in numbers):
-            self.check()
-        return numbers
+        """The numbers for the library, which tells what is wrong with them; BadSizes where one is none of 32 bits."""
+        for why in (Reason.MMEM, Reason.HEAP, Reason.HEADER, Reason.QUOTA):
+            if not 0 <= (getattr(self, why.name.lower()) or 0) < 2**32:
+                raise self.bad(why)
+        return self.mmem, self.heap, self.header, self.quota is not None, self.quota or 0, self.quiet
 
     def words(self) -> list[str]:
         """The words for the program ``mote``, of sizes that are not the usual ones.

@@ -2,7 +2,7 @@
 from __future__ import annotations
 
 import struct
-from typing import TYPE_CHECKING, Any, Callable, TypeVar
+from typing import TYPE_CHECKING, Any, Callable, Generic, TypeVar, overload
 
 from .library import ROW_SIZE
 
@@ -14,21 +14,23 @@ _FORMAT = struct.Struct("=4Q3I8B4x")
 assert _FORMAT.size == ROW_SIZE
 
 MOST_KEPT = 65536
+ARROW = len(" -> ")
 Made = TypeVar("Made")
 
 
 class PlainRow:
     """A row with the members of the compiled one."""
 
-    __slots__ = ("_source", "_data", "index", "_begin", "_clock", "_answer", "_asked", "_length", "_told", "_call", "_kind", "_detail",
+    __slots__ = ("_source", "_data", "index", "clock", "_begin", "_answer", "_asked", "_length", "_told", "_call", "_kind", "_detail",
                  "_process", "_event", "_reply", "_refusal", "_call_kind", "_asked_kind")
 
     _source: "Source"
     _data: bytes
     index: int
     """Its place in the transcript that it was taken from, from 0 on."""
+    clock: int | None
+    """The ticks since boot, of a tick those behind it; None in a quiet transcript, which shows no ticks."""
     _begin: int
-    _clock: int
     _answer: int
     _asked: int
     _length: int
@@ -43,35 +45,55 @@ class PlainRow:
     _call_kind: int
     _asked_kind: int
 
-    def _kept(self, known: dict[bytes, Made], first: int, behind: int, read: Callable[[str], Made]) -> Made:
-        """What the words between two places of its line tell, read once for equal words."""
-        words = self._data[self._begin + first:self._begin + behind]
+
+class PlainWords(Generic[Made]):
+    """What words of a turn's line tell, read once for equal words: those of its call, by the one reader; or those of its stimulus, by the
+    reader for its origin."""
+
+    def __init__(self, are_call: bool, readers: tuple[Callable[[str], Made], ...]) -> None:
+        self._are_call, self._readers = are_call, readers
+        self._known: tuple[dict[bytes, Made], ...] = tuple({} for _ in readers)
+
+    @overload
+    def __get__(self, row: None, owner: type[Any]) -> "PlainWords[Made]": ...
+
+    @overload
+    def __get__(self, row: PlainRow, owner: type[Any]) -> Made: ...
+
+    def __get__(self, row: PlainRow | None, owner: type[Any]) -> "PlainWords[Made] | Made":
+        if row is None:
+            return self
+        first, behind, place = (row._call, row._length, 0) if self._are_call else (row._told, row._call - ARROW, row._detail)
+        words, known = row._data[row._begin + first:row._begin + behind], self._known[place]
         made = known.get(words)
         if made is None:
-            made = read(words.decode())
+            made = self._readers[place](words.decode())
             if len(known) < MOST_KEPT:
                 known[words] = made
         return made
 
 
 def make_plain(types: tuple[type[Any], ...], source: "Source", data: bytes, table: bytearray, first: int,
-               count: int) -> list[Any]:
-    """So many rows of a table from the first one on, of the class that ``types`` has for their kinds."""
+               count: int, clock: int | None) -> list[Any]:
+    """So many rows of a table from the first one on, of the class that ``types`` has for their kinds. Their clocks are counted from this
+    one; where it is None they have none."""
     made = []
     for index, numbers in enumerate(_FORMAT.iter_unpack(memoryview(table)[first * ROW_SIZE:(first + count) * ROW_SIZE]), first):
         row = types[numbers[7]]()
-        (row._begin, row._clock, row._answer, row._asked, row._length, row._told, row._call, row._kind, row._detail, row._process,
+        (row._begin, row.clock, row._answer, row._asked, row._length, row._told, row._call, row._kind, row._detail, row._process,
          row._event, row._reply, row._refusal, row._call_kind, row._asked_kind) = numbers
         row._source, row._data, row.index = source, data, index
+        row.clock = None if clock is None else clock + row.clock
         made.append(row)
     return made
 
 
 if TYPE_CHECKING:
     Row = PlainRow
+    Words = PlainWords
     make = make_plain
 else:
     try:
-        from ._entries import Row, make
+        from ._entries import Row, Words, make
     except ImportError:
-        Row, make = PlainRow, make_plain
+        Row, Words, make = PlainRow, PlainWords, make_plain

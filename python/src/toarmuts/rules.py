@@ -70,18 +70,16 @@ class SizeRule:
     one_of: tuple[int, ...]
     default: int | None
 
-    def fault(self, size: int) -> str | None:
-        """Why no mote has this size, or None.
+    @property
+    def allowed(self) -> str:
+        """Which sizes a mote may have.
 
-        >>> RULES.sizes["mmem"].fault(6)
-        'mmem is 6, which is no multiple of 4'
+        >>> RULES.sizes["mmem"].allowed
+        'a multiple of 4 from 4 to 65,536'
         """
         if self.one_of:
-            allowed = " or ".join(map(str, self.one_of))
-            return None if size in self.one_of else f"{self.name} is {size}; {allowed} is allowed"
-        if not self.least <= size <= self.most:
-            return f"{self.name} is {size}; {self.least:,} to {self.most:,} is allowed"
-        return f"{self.name} is {size}, which is no multiple of {self.multiple_of}" if size % self.multiple_of else None
+            return " or ".join(map(str, self.one_of))
+        return f"a multiple of {self.multiple_of} from {self.least:,} to {self.most:,}"
 
 
 @dataclass(frozen=True)

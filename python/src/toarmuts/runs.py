@@ -5,10 +5,10 @@ from collections.abc import Iterable
 from dataclasses import dataclass
 from functools import cached_property
 
-from .applications import ApplicationLike, Named, read_applications
+from .applications import ApplicationLike, Named, no_application, read_applications
 from .calls import PacketSend, Print
 from .difference import Difference, TranscriptLike, first_difference
-from .errors import NoApplication, OutOfMemory, RunEnded, ToarmutsError, TooManyApplications
+from .errors import OutOfMemory, RunEnded, ToarmutsError, TooManyApplications
 from .library import BAD_SIZES, NO_APPLICATION, TOO_MANY_APPLICATIONS, library
 from .options import Options, one_of
 from .rules import RULES
@@ -139,7 +139,7 @@ def run(applications: Iterable[ApplicationLike] = (), script: ScriptLike = "", *
     '4 synch 129 - -> print 68690a\\n4 answer done -> wait\\n'
     >>> run(["hello"], mmem=5)
     Traceback (most recent call last):
-    toarmuts.errors.BadSizes: mmem is 5, which is no multiple of 4
+    toarmuts.errors.BadSizes: mmem is 5; a multiple of 4 from 4 to 65,536 is allowed
     """
     given = one_of(Options(mmem, heap, header, quota, quiet), options)
     named = read_applications(applications)
@@ -156,17 +156,17 @@ def _run_by_library(named: list[Named], script: bytes, options: Options) -> Run:
     lines = "".join(f"{application.line}\n" for application in named)
     status, line, transcript = library().run(options.configuration(), lines.encode(), script)
     if status > Status.TOO_LONG:
-        raise _refusal(status, line, named, options)
+        raise _refusal(status, named, options)
     return Run(tuple(named), script, options, Status(status), line or None, transcript)
 
 
-def _refusal(status: int, line: int, named: list[Named], options: Options) -> ToarmutsError:
-    """The exception for a status that is none of a run's end; which size or application, the rules tell."""
+def _refusal(status: int, named: list[Named], options: Options) -> ToarmutsError:
+    """The exception for a status that is none of a run's end; which size, application and call it is, the library tells."""
+    why = library().why()
     if status == BAD_SIZES:
-        options.check(len(named))
+        return options.bad(why.reason, len(named))
     if status == NO_APPLICATION:
-        text = named[line - 1].line or ""
-        return NoApplication(line, text, f"the library takes no application {text!r}")
+        return no_application(named[why.application], why)
     if status == TOO_MANY_APPLICATIONS:
         return TooManyApplications("a mote has at most 16 applications")
     return OutOfMemory("memory was refused")

@@ -6,7 +6,7 @@ import struct
 from .applications import Application, Named, why_no_call
 from .call import Call
 from .errors import ApplicationError, MoteError, OutOfMemory, ToarmutsError
-from .library import (AWAITS_CALL, CLOSED, NO_CALL, NO_INPUT, NO_TURN, NOT_AT_REST, OUT_OF_MEMORY, TOO_MANY_INPUTS, Held,
+from .library import (AWAITS_CALL, BAD_SIZES, CLOSED, NO_CALL, NO_INPUT, NO_TURN, NOT_AT_REST, OUT_OF_MEMORY, TOO_MANY_INPUTS, Held,
                       library)
 from .numbers import Refusal, ReplyKind
 from .options import Options
@@ -41,6 +41,12 @@ def refuse(status: int) -> ToarmutsError:
     return MoteError(REASONS.get(status, f"the library answers {status}"))
 
 
+def _bad_sizes(options: Options, applications: int) -> ToarmutsError:
+    """The exception for sizes with which no mote opens: a run of as many empty lists is refused by them, and tells why."""
+    library().run(options.configuration(), b"calls\n" * applications, b"")
+    return options.bad(library().why().reason, applications)
+
+
 def _payload(kind: int, number: int, data: bytes) -> Payload:
     return (None, number, data)[kind]
 
@@ -62,9 +68,10 @@ class Stepper:
     """Works a mote of the library from rest to rest, and asks applications in Python for their calls."""
 
     def __init__(self, applications: list[Named], options: Options) -> None:
-        options.check(len(applications))
         self.applications: list[Application] = [named.make() for named in applications]
         status, held = library().open(options.configuration(), len(applications))
+        if status == BAD_SIZES:
+            raise _bad_sizes(options, len(applications))
         if status:
             raise refuse(status)
         self.held: Held = held

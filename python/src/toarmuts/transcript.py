@@ -13,7 +13,7 @@ from .calls import Print
 from .errors import BadTranscript, WrongType
 from .library import ROW_SIZE, library
 from .numbers import Origin, Refusal
-from .rows import Row, make
+from .rows import Row, Words, make
 from .values import Answer, Callback, Event, Stimulus, read_answer, read_event
 
 TURN, INPUT, NOTE, HALT, BAD_LINE, TOO_LONG, NO_FORM = range(7)
@@ -39,10 +39,6 @@ class NoteKind(enum.Enum):
 _ORIGINS = tuple(Origin)
 _INPUTS = tuple(InputKind)
 _NOTES = tuple(NoteKind)
-_CALLBACK, _ANSWER = int(Origin.CALLBACK), int(Origin.ANSWER)
-_calls: dict[bytes, Call] = {}
-_answers: dict[bytes, Answer] = {}
-_events: dict[bytes, Event] = {}
 
 
 class Source:
@@ -66,6 +62,11 @@ class Source:
             self._table = library().table(self.data)
         return self._table
 
+    def rows(self, first: int, count: int) -> list["Entry"]:
+        """So many entries from the first one on."""
+        made: list[Entry] = make(_CLASSES, self, self.data, self.table, first, count, None if self.quiet else self.clock_before)
+        return made
+
 
 class Entry(Row):
     """A line of a transcript. Two are equal where their texts and their numbers are."""
@@ -76,11 +77,6 @@ class Entry(Row):
     def line(self) -> int:
         """The number of its line in the whole transcript, from 1 on."""
         return self._source.lines_before + self.index + 1
-
-    @property
-    def clock(self) -> int | None:
-        """The ticks since boot, of a tick those behind it; None in a quiet transcript, which shows no ticks."""
-        return None if self._source.quiet else self._source.clock_before + self._clock
 
     def _words(self, first: int, behind: int | None = None) -> bytes:
         begin = self._begin
@@ -115,36 +111,28 @@ class Entry(Row):
         return explain(self)
 
 
+def read_callback(words: str) -> Callback:
+    """The callback timer that ran out, of a line of a transcript."""
+    return Callback(int(words))
+
+
 class Turn(Entry):
     """A process was told a stimulus, and answered with a call."""
 
     __slots__ = ()
     __match_args__ = ("process", "stimulus", "call")
 
-    @property
-    def process(self) -> int:
-        """The process, from 4 on."""
-        return self._process
+    process: int = Row._process  # type: ignore[misc]  # the row's own member, so that no function stands between
+    """The process, from 4 on."""
+    stimulus: Words[Stimulus] = Words(False, (read_event, read_event, read_event, read_callback, read_answer))
+    """What it was told: an Event, a Callback, or the Answer to its call before."""
+    call: Words[Call] = Words(True, (Call.parse,))
+    """The call that it made."""
 
     @property
     def origin(self) -> Origin:
         """Where the stimulus comes from."""
         return _ORIGINS[self._detail]
-
-    @property
-    def stimulus(self) -> Stimulus:
-        """What it was told: an Event, a Callback, or the Answer to its call before."""
-        origin = self._detail
-        if origin == _ANSWER:
-            return self._kept(_answers, self._told, self._call - 4, read_answer)
-        if origin == _CALLBACK:
-            return Callback(self._event)
-        return self._kept(_events, self._told, self._call - 4, read_event)
-
-    @property
-    def call(self) -> Call:
-        """The call that it made."""
-        return self._kept(_calls, self._call, self._length, Call.parse)
 
     @property
     def answered_in(self) -> "Turn | None":
@@ -240,8 +228,7 @@ _CLASSES: tuple[type[Entry], ...] = (Turn, Input, Note, Ending, Ending, Ending, 
 
 def _entry_of(source: Source, index: int) -> Entry:
     """An entry of a source."""
-    made: Entry = make(_CLASSES, source, source.data, source.table, index, 1)[0]
-    return made
+    return source.rows(index, 1)[0]
 
 
 class Transcript(Sequence[Entry]):
@@ -273,7 +260,7 @@ class Transcript(Sequence[Entry]):
     def _all(self) -> list[Entry]:
         if self._entries is None:
             table = self._source.table
-            made: list[Entry] = make(_CLASSES, self._source, self._source.data, table, 0, len(table) // ROW_SIZE)
+            made = self._source.rows(0, len(table) // ROW_SIZE)
             bad = table[KIND_PLACE::ROW_SIZE].find(NO_FORM)
             if bad >= 0:
                 raise BadTranscript(f"line {made[bad].line} is no line of a transcript: {made[bad].text[:100]}")

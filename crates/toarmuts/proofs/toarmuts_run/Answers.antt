@@ -40,4 +40,7 @@ returns-in-Err-clause-refused c large other =
       is_refused = c.in-Err.ensures.refused;
       is_status = c.put_refusal.ensures.status;
       is_line = c.put_refusal.ensures.line;
+      is_reason = c.put_refusal.ensures.reason;
+      is_application = c.put_refusal.ensures.application;
+      is_call = c.put_refusal.ensures.call;
     }

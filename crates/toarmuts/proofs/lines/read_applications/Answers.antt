@@ -1,5 +1,5 @@
 use Rattle.toarmuts.proofs.Common.{lines_rest, lines_steps, lines, Application, AreRefused}
-use Rattle.std.proofs.Common.{◌≡◌, ◌∙◌, ◌+◌, ◌≤◌, List, [], ◌∷◌, ◌++◌, rules, length, ap, subst, sym, arith, length-append}
+use Rattle.std.proofs.Common.{◌≡◌, ◌∙◌, List, [], ◌∷◌, rules, length, ap, subst, sym, arith, length-append}
 use Rattle.std.proofs.lemmas.Iterator.Splits.{YieldsList-from_lines}
 use Rattle.toarmuts.proofs.ReadLines.{AreRead, handed_on, none_read, none_left, one_less, refused_line}
 use Rattle.toarmuts.proofs.lines.read_applications.Goals as goal

@@ -1,7 +1,6 @@
-use Rattle.std.proofs.Common.{rules, arith, refl, inl, ◌≡◌, ◌∷◌, [], ◌++◌, ◌∙◌, List, ap, sym, subst, length, false}
+use Rattle.std.proofs.Common.{arith, refl, inl, ◌≡◌, ◌∷◌, [], ◌++◌, ◌∙◌, List, ap, sym, subst, length}
 use Rattle.toarmuts.proofs.Common.{into_iter_items, append_assoc, Applications, Says, says_of, IsRunText, config_of, application_says}
 use denote.Param.Object.{read_made}
-use Rattle.kernel_core.specs.Machine.{is_bootable}
 use Rattle.mote_run.proofs.Boxed.{all_yielded, as_many_more, one_more, same_applications}
 use Rattle.toarmuts.proofs.running.run_applications.OwnLists.{own-1}
 use Rattle.toarmuts.proofs.running.run_applications.Goals as goal
@@ -40,12 +39,3 @@ returns-in-Ok-clause-text c =
     as_many
     (subst (λ (says : Applications). IsRunText (config_of c.args.sizes (length c.as_mut_slice.result.now)) says c.args.quiet c.args.script.now ran.transcript.items ran.end)
     (same_applications _ application_says _ _ _ _ c.as_mut_slice.ensures.value before.2 all) c.in-Ok.ensures.text)
-
-pub returns-in-Err-BadSizes-clause-refused : goal.returns-in-Err-BadSizes-clause-refused
-returns-in-Err-BadSizes-clause-refused c =
-    let before = c.loop-application.invariant in
-    let empty : into_iter_items c.loop-application.application-iterator ≡ [] = nothing_left _ (sym before.3 ∙ c.in-None.ensures.steps.0) in
-    let all = all_yielded c.loop-application.yielded _ _ empty (before.1 ∙ c.into_iter-application-iterator.ensures.into_iter_gives.0) in
-    let as_many : length c.as_mut_slice.result.now ≡ length c.args.applications.items =
-    ap length c.as_mut_slice.ensures.value ∙ (before.0 ∙ ap length all) in
-    subst (λ n. is_bootable (config_of c.args.sizes n) ≡ false) as_many (c.in-Err-BadSizes.ensures.bad_sizes.0 (search rules))

@@ -1,40 +1,44 @@
-use Rattle.std.proofs.Common.{◌≡◌, ◌≤◌, ℕ, List, Bool, subst, length, sym, arith, Result, Ok, Err, IfOk, IfErr}
+use Rattle.std.proofs.Common.{◌≡◌, ◌≤◌, ◌∙◌, ◌&&◌, ℕ, List, Bool, false, nat_le, ap, sym, subst, length, arith, rules, Result, Ok, Err, IfOk, Some}
 use Rattle.std.specs.Str.{IsUtf8}
-use Rattle.toarmuts.proofs.Common.{lines, says_of, IsRunText, config_of, application_says, Application, AreOfLines, AreRefused, IsRefusedRun, Refuses, Refusal}
+use Rattle.toarmuts.proofs.Common.{lines, says_of, IsRunText, config_of, application_says, Application, AreOfLines, AreRefused, Refuses, Refusal}
+use Rattle.kernel_core.specs.Machine.{is_bootable}
+use Rattle.node_memory.specs.Sizes.{are_sizes}
 use Rattle.node_memory.specs.declared.sizes.Sizes.{Sizes}
 use Rattle.toarmuts.specs.Configurations.{sizes_of}
 use Rattle.toarmuts.specs.declared.configuration.Configuration.{Configuration}
+use Rattle.toarmuts.specs.Reasons.{size_reason}
+use Rattle.toarmuts.specs.declared.refusal.SizeReason.{SizeReason}
 use Rattle.toarmuts.proofs.ReadLines.{as_many, handed_on}
+use Rattle.toarmuts.proofs.SizeReasons.{no_such_sizes}
 use Rattle.toarmuts.proofs.running.run_lines.Goals as goal
 
 refused_lines : (configuration : Configuration) (text : List ℕ) (refusal : Refusal) → IsUtf8 text → AreRefused (lines text) refusal → Refuses configuration text refusal
 refused_lines configuration text Refusal.NotText is_text refused = absurd refused
-refused_lines configuration text Refusal.BadSizes is_text refused = absurd refused
+refused_lines configuration text (Refusal.BadSizes reason) is_text refused = absurd refused
 refused_lines configuration text Refusal.OutOfMemory is_text refused = tt
 refused_lines configuration text refusal is_text refused = (is_text, refused)
 
-refused_run : (configuration : Configuration) (text : List ℕ) (applications : List Application) (refusal : Refusal) → IsUtf8 text
-    → AreOfLines (lines text) applications → length applications ≤ 16
-    → IsRefusedRun (config_of (sizes_of configuration) (length applications)) refusal → Refuses configuration text refusal
-refused_run configuration text applications Refusal.BadSizes is_text are few refused =
-    let same = as_many (lines text) applications are in (
+not_bootable : (sizes : Sizes) (applications : ℕ) → are_sizes sizes applications ≡ false → is_bootable (config_of sizes applications) ≡ false
+not_bootable sizes applications bad = ap (λ good. good && nat_le applications 16) bad
+
+bad_sizes : (configuration : Configuration) (text : List ℕ) (applications : List Application) (reason : SizeReason) → IsUtf8 text
+    → AreOfLines (lines text) applications → length applications ≤ 16 → size_reason (sizes_of configuration) (length applications) ≡ Some reason
+    → Refuses configuration text (Refusal.BadSizes reason)
+bad_sizes configuration text applications reason is_text are few is =
+    let same = as_many (lines text) applications are in
+    let because : size_reason (sizes_of configuration) (length (lines text)) ≡ Some reason = ap (size_reason (sizes_of configuration)) same ∙ is in (
       is_text,
       record {
         are_named = (applications, are);
         are_few = omega (arith, same, few);
-        is_bad = subst (λ n. IsRefusedRun (config_of (sizes_of configuration) n) Refusal.BadSizes) (sym same) refused;
+        is_bad = not_bootable (sizes_of configuration) (length (lines text)) (no_such_sizes (sizes_of configuration) (length (lines text)) reason because);
+        is_reason = because;
       },
     )
-refused_run configuration text applications Refusal.OutOfMemory is_text are few refused = tt
-refused_run configuration text applications refusal is_text are few refused = absurd refused
 
 on_ok : {T E : Type 0} (P Q : T → Type 0) (r : Result T E) → ((x : T) → P x → Q x) → IfOk r P → IfOk r Q
 on_ok P Q (Ok x) f p = f x p
 on_ok P Q (Err e) f p = tt
-
-on_err : {T E : Type 0} (P Q : E → Type 0) (r : Result T E) → ((e : E) → P e → Q e) → IfErr r P → IfErr r Q
-on_err P Q (Ok x) f p = tt
-on_err P Q (Err e) f p = f e p
 
 pub returns-in_err-applications-clause-refused : goal.returns-in_err-applications-clause-refused
 returns-in_err-applications-clause-refused c =
@@ -58,12 +62,12 @@ returns-clause-run c =
     })
     c.run_applications.ensures.text
 
-pub returns-clause-refused : goal.returns-clause-refused
-returns-clause-refused c =
+pub returns-in-Some-clause-refused : goal.returns-in-Some-clause-refused
+returns-in-Some-clause-refused c =
     let applications = c.in_ok-applications.applications.items in
     let all : AreOfLines (lines c.args.lines.now) applications =
     subst (λ (text : List ℕ). AreOfLines (lines text) applications) c.in-Ok.ensures.cases.0 c.in_ok-applications.ensures.of_lines in
-    on_err _ _ c.run_applications.result
-    (λ refusal refused. refused_run c.args.configuration.now c.args.lines.now applications refusal c.in-Ok.ensures.cases.1 all c.in_ok-applications.ensures.few
-    (subst (λ (sizes : Sizes). IsRefusedRun (config_of sizes (length applications)) refusal) c.sizes-sizes.ensures refused))
-    c.run_applications.ensures.refused
+    let many : c.len.result ≡ length applications = search rules in
+    bad_sizes c.args.configuration.now c.args.lines.now applications c.in-Some.reason c.in-Ok.ensures.cases.1 all c.in_ok-applications.ensures.few
+    (sym (ap (λ (sizes : Sizes). size_reason sizes c.len.result) c.sizes-sizes.ensures ∙ ap (size_reason (sizes_of c.args.configuration.now)) many)
+    ∙ (sym c.size_reason.ensures ∙ c.in-Some.is))
