@@ -7,7 +7,7 @@ use Rattle.heapmem_c.specs.declared.row.Row.{Row}
 use Rattle.heapmem_c.specs.declared.outcome.Outcome.{Outcome}
 use Rattle.heapmem_c.specs.Heaps.{heap_of, IsTable, front, with_new, with_resized}
 use Rattle.heapmem_c.specs.Answers.{outcome_numbered, AllocTold, FreeTold, ReallocTold, StatsTold}
-use Rattle.heapmem_c.specs.Code.Rows.{with_row, without_row, next_place, IsFree, BeginsAt, BeginBelow}
+use Rattle.heapmem_c.specs.Code.Rows.{with_row, without_row, next_place, IsFree, HasNoPlace, BeginsAt, BeginBelow}
 
 abbrev row : ℕ → ℕ → ℕ → Row
 row place room size = record { place = place; room = room; size = size }
@@ -146,3 +146,9 @@ the_other_one begins = omega (arith, begins.1)
 
 second_is_not_below_three : BeginBelow two_rows 3 2 → ⊥
 second_is_not_below_three below = omega (arith, below 1 (omega arith))
+
+these_are_a_table : HasNoPlace Outcome.NoTable 4 two_rows 10 → ⊥
+these_are_a_table none = none is_table
+
+there_is_room : HasNoPlace Outcome.NoRoom 4 [] 16 → ⊥
+there_is_room none = absurd (let nowhere : None ≡ place 4 (heap_of [] (zeros 16)) = none.1 (zeros 16) refl in cc)

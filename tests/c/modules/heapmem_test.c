@@ -1,12 +1,14 @@
 /*
- * Heap memory: worked calls, wrong arguments, zones, and a million random calls beside a plain model, which keeps of each 16 bytes
- * whose they are and looks for places there. The heap has 1,024 bytes (HEAPMEM_CONF_ARENA_SIZE) and 3 zones.
+ * Heap memory: worked calls, wrong arguments, zones, a million random calls beside a plain model, which keeps of each 16 bytes
+ * whose they are and looks for places there, and the proved calls on rows with anything in them. The heap has 1,024 bytes
+ * (HEAPMEM_CONF_ARENA_SIZE) and 3 zones.
  */
 #include "lib/heapmem.h"
 #include "toarmuts/memory.h"
 
 #include "check.h"
 
+#include <stdlib.h>
 #include <string.h>
 
 enum { SIZE = 1024, UNITS = SIZE / 16, BLOCKS = 40, LONGEST = 200, NOBODY = -1 };
@@ -284,6 +286,80 @@ check_random_calls(void)
   }
 }
 
+/* A number up to a bit more than that, and now and then one of the largest. */
+static size_t
+any_number(size_t most)
+{
+  return next_random() % 16 == 0 ? SIZE_MAX - next_random() % 3 : next_random() % (most + 2);
+}
+
+/* Whether each row has a room that holds its size, and these lie in so many bytes, each behind the one before. */
+static bool
+is_table(const struct toarmuts_heap_row *rows, size_t num, size_t size)
+{
+  size_t next = 0;
+  for(size_t i = 0; i < num; i++) {
+    if(rows[i].room == 0 || rows[i].size > rows[i].room || rows[i].place < next || rows[i].place > size ||
+       rows[i].room > size - rows[i].place) {
+      return false;
+    }
+    next = rows[i].place + rows[i].room;
+  }
+  return true;
+}
+
+/* Each proved call on such rows, the last of which is spare for a new block: which are a table, and that nothing changes else. */
+static bool
+is_sound_on(struct toarmuts_heap_row *rows, size_t num, unsigned char *bytes, size_t size)
+{
+  struct toarmuts_heap_row before[4];
+  struct toarmuts_heap_stats stats;
+  bool table = is_table(rows, num, size), front = is_table(rows, num - 1, size);
+  size_t at = any_number(size), first = at, wanted = any_number(size);
+  memcpy(before, rows, num * sizeof *rows);
+  bool told = (toarmuts_heapmem_stats(rows, num, bytes, size, &stats) == TOARMUTS_HEAP_DONE) == table;
+  uint8_t status = toarmuts_heapmem_realloc(rows, num, bytes, size, &at, wanted);
+  bool sound = status == TOARMUTS_HEAP_DONE ? is_table(rows, num, size) : at == first;
+  told = told && (status != TOARMUTS_HEAP_NO_TABLE) == table && sound;
+  told = told && (status == TOARMUTS_HEAP_DONE || memcmp(before, rows, num * sizeof *rows) == 0);
+  memcpy(rows, before, num * sizeof *rows);
+  status = toarmuts_heapmem_free(rows, num, bytes, size, first);
+  sound = status == TOARMUTS_HEAP_DONE ? is_table(rows, num - 1, size) : memcmp(before, rows, num * sizeof *rows) == 0;
+  told = told && (status != TOARMUTS_HEAP_NO_TABLE) == table && sound;
+  memcpy(rows, before, num * sizeof *rows);
+  status = toarmuts_heapmem_alloc(rows, num, bytes, size, wanted, &at);
+  sound = status == TOARMUTS_HEAP_DONE ? is_table(rows, num, size) : memcmp(before, rows, num * sizeof *rows) == 0;
+  return told && (status != TOARMUTS_HEAP_NO_TABLE) == front && sound;
+}
+
+/* The rows and the bytes are blocks of their own, so that the sanitizer sees a byte behind them. */
+static void
+check_any_table(void)
+{
+  bool holds = true;
+  int tables = 0;
+  for(int i = 0; i < RANDOM_CALLS / 3 && holds; i++) {
+    size_t size = 1 + next_random() % 64, num = 1 + next_random() % 4, from = 0;
+    struct toarmuts_heap_row *rows = malloc(num * sizeof *rows);
+    unsigned char *bytes = calloc(1, size);
+    if(rows == NULL || bytes == NULL) {
+      abort();
+    }
+    for(size_t k = 0; k < num; k++) {
+      rows[k].place = next_random() % 4 == 0 ? any_number(size) : from + next_random() % 8;
+      rows[k].room = any_number(16);
+      rows[k].size = next_random() % 4 == 0 ? any_number(16) : rows[k].room - rows[k].room / 2;
+      from = rows[k].place + rows[k].room;
+    }
+    tables += is_table(rows, num, size);
+    holds = is_sound_on(rows, num, bytes, size);
+    free(rows);
+    free(bytes);
+  }
+  check("any table", holds);
+  check("some tables, and many that are none", tables > RANDOM_CALLS / 100 && tables < RANDOM_CALLS / 3 - RANDOM_CALLS / 100);
+}
+
 int
 main(void)
 {
@@ -291,5 +367,6 @@ main(void)
   check_wrong_arguments();
   check_random_calls();
   check_zones();
+  check_any_table();
   return told();
 }
