@@ -37,22 +37,6 @@ unknown_by digit value (Some v) e is large = absurd (omega (arith, digit_below_1
 unknown : (digit value : ℕ) → value ≡ value_or_none digit → 15 < value → hex_digit_value digit ≡ None
 unknown digit value is large = unknown_by digit value (hex_digit_value digit) refl is large
 
--- one that is none is 255
-large_by : (digit value : ℕ) (o : Option ℕ) → hex_digit_value digit ≡ o → value ≡ unwrap_or o 255 → 15 < value → value ≡ 255
-large_by digit value None e is large = is
-large_by digit value (Some v) e is large = absurd (omega (arith, digit_below_16 digit v e))
-
-large_is_none : (digit value : ℕ) → value ≡ value_or_none digit → 15 < value → value ≡ 255
-large_is_none digit value is large = large_by digit value (hex_digit_value digit) refl is large
-
--- so where a pair is worth less, both are values of digits
-pub both_small : (high low h l : ℕ) → h ≡ value_or_none high → l ≡ value_or_none low → h * 16 + l < 255 → (h ≤ 15) × (l ≤ 15)
-both_small high low h l is_high is_low small =
-    elim (cases_lt 15 l) [
-      | inl large ↦ let none = large_is_none low l is_low large in absurd (omega arith)
-      | inr digit ↦ (omega arith, digit)
-    ]
-
 -- two values from the table make a byte
 pub pair_read : (high low i h l : ℕ) → h ≡ value_or_none high → l ≡ value_or_none low → h ≤ 15 → l ≤ 15 →
     pair_value high low i ≡ Ok (h * 16 + l)
@@ -62,7 +46,7 @@ pair_read high low i h l is_high is_low small_high small_low =
     rw (first, second) refl
 
 -- where the first is no digit, or the second
-high_refused : (high low i h : ℕ) → h ≡ value_or_none high → 15 < h → (e : FromHexError) × (pair_value high low i ≡ Err e)
+pub high_refused : (high low i h : ℕ) → h ≡ value_or_none high → 15 < h → (e : FromHexError) × (pair_value high low i ≡ Err e)
 high_refused high low i h is large =
     let first : value_at high i ≡ Err (InvalidHexCharacter high i) = ap (digit_or_error high i) (unknown high h is large) in
     (InvalidHexCharacter high i, rw first refl)
@@ -74,17 +58,8 @@ low_refused_by high low i (Ok v) is none =
     (InvalidHexCharacter low (i + 1), rw (is, second) refl)
 low_refused_by high low i (Err e) is none = (e, rw is refl)
 
-low_refused : (high low i l : ℕ) → l ≡ value_or_none low → 15 < l → (e : FromHexError) × (pair_value high low i ≡ Err e)
+pub low_refused : (high low i l : ℕ) → l ≡ value_or_none low → 15 < l → (e : FromHexError) × (pair_value high low i ≡ Err e)
 low_refused high low i l is large = low_refused_by high low i (value_at high i) refl (unknown low l is large)
-
--- where one of them is none
-pub pair_refused : (high low i h l : ℕ) → h ≡ value_or_none high → l ≡ value_or_none low → (h ≤ 15 → 15 < l) →
-    (e : FromHexError) × (pair_value high low i ≡ Err e)
-pair_refused high low i h l is_high is_low lacking =
-    elim (cases_lt 15 h) [
-      | inl none ↦ high_refused high low i h is_high none
-      | inr digit ↦ low_refused high low i l is_low (lacking digit)
-    ]
 
 -- the table of values, filled digit by digit
 

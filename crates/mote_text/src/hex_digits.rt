@@ -1,6 +1,6 @@
 //! Digits of bytes in hex. The crate `hex` makes and reads each of them once, and here they are looked up.
 
-ghost use Rattle.std.specs.Prelude.{◌≡◌, ◌≤◌, ◌<◌, ◌*◌, EachIndex, true, false, length, slice_index};
+ghost use Rattle.std.specs.Prelude.{◌≡◌, ◌*◌, EachIndex, length, slice_index};
 ghost use Rattle.std.specs.Result.{result_ok};
 ghost use Rattle.hex.specs.Hex.{decode_sized, encode_lower};
 ghost use Rattle.mote_text.specs.Code.HexDigits.{PairsOfDigits, ValuesOfDigits};
@@ -53,15 +53,6 @@ impl DigitPairs {
 /// The digits of either case, each behind a 0: so the crate `hex` reads them as bytes, which are their values.
 const DIGITS: &[u8; 44] = b"000102030405060708090a0b0c0d0e0f0A0B0C0D0E0F";
 
-/// Whether both of these are what digits are worth.
-#[inline(always)]
-fn are_digits(high: u8, low: u8) -> bool
-    ensures both { result ≡ true → (high ≤ 15) × (low ≤ 15) }
-    ensures lacking { result ≡ false → high ≤ 15 → 15 < low }
-{
-    high <= 15 && low <= 15
-}
-
 /// What each byte is worth as a hex digit of either case.
 #[derive(Drop)]
 pub struct DigitValues {
@@ -92,12 +83,10 @@ impl DigitValues {
         'bytes: for i in 0..place.len() {
             let high = self.values[digits[2 * i] as usize];
             let low = self.values[digits[2 * i + 1] as usize];
-            let pair = high as u32 * 16 + low as u32;
-            // One test serves both for nearly all pairs: one that has no digit is worth that much at least.
-            if pair >= NO_DIGIT as u32 && !are_digits(high, low) {
+            if high > 15 || low > 15 {
                 return false;
             }
-            place[i] = pair as u8;
+            place[i] = high * 16 + low;
         }
         true
     }
