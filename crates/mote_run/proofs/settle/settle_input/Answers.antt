@@ -13,11 +13,11 @@ returns-in_err-make_room-clause-goes g c = λ named.
 
 pub returns-then-accept_idle_tick-clause-goes : goal.returns-then-accept_idle_tick-clause-goes
 returns-then-accept_idle_tick-clause-goes g c = λ named. (
-      _,
-      went_idly c.args.line_input.now.input c.requires.still c.requires.running (c.in_ok-make_room.ensures.written named)
+  _,
+  went_idly c.args.line_input.now.input c.requires.still c.requires.running (c.in_ok-make_room.ensures.written named)
       (c.accept_idle_tick.ensures.machine c.if-accept_idle_tick.true) c.accept_idle_tick.ensures.halted c.put_input.ensures,
-      refl,
-    )
+  refl,
+)
 
 pub returns-then-accept_idle_tick-clause-still : goal.returns-then-accept_idle_tick-clause-still
 returns-then-accept_idle_tick-clause-still g c =
