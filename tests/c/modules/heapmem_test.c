@@ -77,16 +77,21 @@ static void
 check_zones(void)
 {
   heapmem_zone_t one = heapmem_zone_register("one", 64);
+  check("a known name", heapmem_zone_register("one", 16) == HEAPMEM_ZONE_INVALID &&
+                          heapmem_zone_register("general", 16) == HEAPMEM_ZONE_INVALID);
   check("two zones beside the general one", one == 1 && heapmem_zone_register("two", 16) == 2);
-  check("a name twice, no name, too many", heapmem_zone_register("one", 16) == HEAPMEM_ZONE_INVALID &&
-                                             heapmem_zone_register(NULL, 16) == HEAPMEM_ZONE_INVALID &&
-                                             heapmem_zone_register("three", 16) == HEAPMEM_ZONE_INVALID);
+  check("no name, too many", heapmem_zone_register(NULL, 16) == HEAPMEM_ZONE_INVALID &&
+                               heapmem_zone_register("three", 16) == HEAPMEM_ZONE_INVALID);
   unsigned char *a = heapmem_zone_alloc(one, 33);
   check("no more than its bytes", a != NULL && heapmem_zone_alloc(one, 17) == NULL && heapmem_zone_calloc(one, 2, 9) == NULL);
   check("nor when it grows", heapmem_realloc(a, 65) == NULL && heapmem_realloc(a, 64) == a && heapmem_zone_alloc(one, 1) == NULL);
   check("the general zone has the rest", heapmem_alloc(SIZE - 80 + 1) == NULL);
   check("no such zone", heapmem_zone_alloc(3, 1) == NULL && heapmem_zone_alloc(HEAPMEM_ZONE_INVALID, 1) == NULL);
   check("given back", heapmem_free(a) && heapmem_zone_alloc(one, 64) == a && heapmem_free(a));
+  a = heapmem_zone_alloc(one, 16);
+  unsigned char *b = heapmem_alloc(16), *moved = heapmem_realloc(a, 48);
+  check("it moves in its zone", moved == b + 16 && heapmem_zone_alloc(one, 17) == NULL && heapmem_free(moved));
+  check("and is given back there", heapmem_zone_alloc(one, 64) == b + 16 && heapmem_free(b + 16) && heapmem_free(b));
 }
 
 /* Whose each unit of 16 bytes is, and each block's pointer, size and bytes. */

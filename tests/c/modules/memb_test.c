@@ -33,6 +33,9 @@ check_worked_calls(void)
   check("in the pool", memb_inmemb(&pool, (char *)c + sizeof *c - 1) && !memb_inmemb(&pool, memory + 3));
   struct connection *d = memb_alloc(&pool);
   check("the lowest again, and 0", d == b && d->port == 0);
+  memset(pool.mem, 7, 3 * sizeof *memory);
+  memb_init(&pool);
+  check("all unused, and 0", memb_numfree(&pool) == 3 && a->port == 0 && c->name[sizeof c->name - 1] == 0);
 }
 
 static void

@@ -31,6 +31,8 @@ check_wrong_arguments(void)
   uint8_t data[1] = {9};
   ringbuf_init(&ring, NULL, 8);
   check("nowhere", ringbuf_put(&ring, 1) == 0 && ringbuf_get(&ring) == -1 && ringbuf_elements(&ring) == 0);
+  ring.put_ptr = 3;
+  check("nowhere, and a spoilt place", ringbuf_put(&ring, 1) == 0 && ringbuf_get(&ring) == -1 && ringbuf_elements(&ring) == 0);
   ringbuf_init(&ring, data, 0);
   check("no bytes", ringbuf_put(&ring, 1) == 0 && ringbuf_get(&ring) == -1 && data[0] == 9);
   ringbuf_init(&ring, data, 1);
