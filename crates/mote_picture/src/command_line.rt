@@ -19,20 +19,40 @@ Reads a transcript, as the program mote writes it, from standard input, and
 writes one SVG to standard output, to be opened in any browser. The other words
 are those that mote was given, since a transcript tells neither names nor sizes.";
 
+const PAGE: &str =
+    "Writes one HTML file in place of the SVG, for long runs: to be scrolled, searched and stepped through";
+
+const DUMP: &str =
+    "Writes a value change dump in place of the SVG, for the viewers of logic analysers, as GTKWave";
+
 const AFTER_HELP: &str = "\
 Exit status:
   0     the picture was written, or this text or the version was printed
-  2     a line is no line of a transcript: nothing is written
+  2     a line is no line of a transcript, or a quiet one is to be a value change
+        dump: nothing is written
   5, 6  standard input can't be read, standard output can't be written
   64    the words name no mote
   70    memory was refused
 
 Example:
-  mote relay < relay.script | mote_picture relay > relay.svg";
+  mote relay < relay.script | mote_picture relay > relay.svg
+  mote relay < relay.script | mote_picture --page relay > relay.html";
+
+/// What is written of a run.
+#[derive(Clone, Copy, Drop)]
+pub enum Form {
+    /// One SVG.
+    Picture,
+    /// One HTML file.
+    Page,
+    /// A value change dump.
+    Dump,
+}
 
 /// What the words name.
 #[derive(Drop)]
 pub struct Named<'a> {
+    pub form: Form,
     pub names: Vec<&'a str>,
     pub from: u64,
     pub to: u64,
@@ -96,6 +116,8 @@ fn command<'a>(alloc: Global) -> Result<Command<'a>, AllocError> {
         .arg(number_option(alloc, "from", value_parser!(u64), from).default_value("0"))?
         .arg(number_option(alloc, "to", value_parser!(u64), to))?
         .arg(flag(alloc, "unfolded", "Gives each line a row of its own"))?
+        .arg(flag(alloc, "page", PAGE))?
+        .arg(flag(alloc, "vcd", DUMP))?
         .arg(names)
 }
 
@@ -129,11 +151,22 @@ fn sizes_of(matches: &ArgMatches<'_>) -> Sizes {
     }
 }
 
+/// What is to be written. `None` where two forms are asked for.
+fn form_of(matches: &ArgMatches<'_>) -> Option<Form> {
+    match (matches.get_flag("page"), matches.get_flag("vcd")) {
+        (false, false) => Some(Form::Picture),
+        (true, false) => Some(Form::Page),
+        (false, true) => Some(Form::Dump),
+        (true, true) => None,
+    }
+}
+
 /// What the words name. The first word is the program's name.
 ///
 /// # Errors
 ///
-/// What the parser finds in the words, then more than sixteen names, then sizes that no mote has, or want of memory.
+/// What the parser finds in the words, then more than sixteen names, then sizes that no mote has, then two forms at once, or want of
+/// memory.
 pub fn read_words<'a>(alloc: Global, words: &'a [&'a str]) -> Result<Named<'a>, Failure> {
     let matches = parse(alloc, words)?;
     let mut names = Vec::new(alloc);
@@ -148,7 +181,11 @@ pub fn read_words<'a>(alloc: Global, words: &'a [&'a str]) -> Result<Named<'a>, 
     if !are_sizes(&matches) {
         return Err(Failure::BadSizes);
     }
+    let Some(form) = form_of(&matches) else {
+        return Err(Failure::TwoForms);
+    };
     Ok(Named {
+        form,
         names,
         from: matches.get_one::<u64>("from").unwrap_or(0),
         to: matches.get_one::<u64>("to").unwrap_or(u64::MAX),
@@ -157,11 +194,13 @@ pub fn read_words<'a>(alloc: Global, words: &'a [&'a str]) -> Result<Named<'a>, 
     })
 }
 
-/// What stands above the picture: the words.
+/// What stands above the picture: the words, but for the one that asks for a page.
 pub fn title_of(alloc: Global, words: &[&str]) -> Result<String, AllocError> {
     let mut title = String::from_str(alloc, "mote")?;
     for word in words.iter().skip(1) {
-        write!(title, " {word}")?;
+        if *word != "--page" {
+            write!(title, " {word}")?;
+        }
     }
     Ok(title)
 }

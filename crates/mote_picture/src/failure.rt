@@ -18,6 +18,10 @@ pub enum Failure {
     TooManyApplications,
     /// A size is no multiple of 4, or a header has other than 16 or 8 bytes.
     BadSizes,
+    /// Both a page and a dump are asked for.
+    TwoForms,
+    /// A dump of a quiet transcript is asked for, which tells no clock.
+    Quiet,
     /// The line of this number is no line of a transcript.
     NoLine(u64),
     OutOfMemory,
@@ -30,13 +34,14 @@ impl Failure {
     pub fn status(&self) -> u8 {
         match self {
             Failure::Request(_) => 0,
-            Failure::NoLine(_) => 2,
+            Failure::NoLine(_) | Failure::Quiet => 2,
             Failure::Read => 5,
             Failure::Write => 6,
             Failure::NotText
             | Failure::Words(_)
             | Failure::TooManyApplications
-            | Failure::BadSizes => 64,
+            | Failure::BadSizes
+            | Failure::TwoForms => 64,
             Failure::OutOfMemory => 70,
         }
     }
@@ -49,6 +54,10 @@ impl fmt::Display for Failure {
             Failure::Request(text) | Failure::Words(text) => write!(f, "{text}"),
             Failure::TooManyApplications => f.write_str("mote_picture: too many applications"),
             Failure::BadSizes => f.write_str("mote_picture: bad sizes"),
+            Failure::TwoForms => f.write_str("mote_picture: --page and --vcd are two forms: take one"),
+            Failure::Quiet => {
+                f.write_str("mote_picture: a quiet transcript tells no clock: --vcd needs the whole one")
+            }
             Failure::NoLine(number) => {
                 write!(f, "mote_picture: line {number} is no line of a transcript")
             }

@@ -1,12 +1,14 @@
-//! Draws the picture of a run: a transcript comes from standard input, one SVG goes to standard output.
+//! Draws the picture of a run: a transcript comes from standard input, one SVG, HTML file or value change dump goes to standard output.
 #![tactic(auto)]
 
 mod command_line;
 mod failure;
 
-use command_line::{read_words, title_of};
+use command_line::{Form, Named, read_words, title_of};
 use failure::Failure;
+use run_facts::is_quiet;
 use run_picture::{Settings, draw, lines_of};
+use std::alloc::Global;
 use std::io::{Read, Write};
 use std::process::ExitCode;
 use std::{env, io};
@@ -44,6 +46,55 @@ fn write_all<R: Print>(rt: &R, picture: &[u8]) -> Result<(), Failure> {
     }
 }
 
+/// The picture that is asked for.
+fn drawn(
+    alloc: Global,
+    lines: &[&str],
+    named: &Named<'_>,
+    title: &str,
+) -> Result<Vec<u8>, Failure> {
+    let settings = Settings {
+        title,
+        names: named.names.as_slice(),
+        from: named.from,
+        to: named.to,
+        sizes: named.sizes,
+        unfolded: named.unfolded,
+    };
+    Ok(draw(alloc, lines, &settings)?)
+}
+
+/// The page that is asked for.
+fn page(
+    alloc: Global,
+    lines: &[&str],
+    named: &Named<'_>,
+    title: &str,
+) -> Result<Vec<u8>, Failure> {
+    let settings = picture_html::Settings {
+        title,
+        names: named.names.as_slice(),
+        from: named.from,
+        to: named.to,
+        sizes: named.sizes,
+    };
+    Ok(picture_html::page_of(alloc, lines, &settings)?)
+}
+
+/// The dump that is asked for.
+fn dump(alloc: Global, lines: &[&str], named: &Named<'_>) -> Result<Vec<u8>, Failure> {
+    if is_quiet(lines) {
+        return Err(Failure::Quiet);
+    }
+    let settings = wave_dump::Settings {
+        names: named.names.as_slice(),
+        from: named.from,
+        to: named.to,
+        sizes: named.sizes,
+    };
+    Ok(wave_dump::wave_of(alloc, lines, &settings)?)
+}
+
 /// Draws what the words ask for. Nothing is written before all lines are read.
 fn draw_picture<R: AllocGlobal + io::Input + Print>(rt: &R, words: &[&str]) -> Result<(), Failure> {
     let alloc = rt.alloc();
@@ -51,15 +102,11 @@ fn draw_picture<R: AllocGlobal + io::Input + Print>(rt: &R, words: &[&str]) -> R
     let title = title_of(alloc, words)?;
     let bytes = read_all(rt)?;
     let lines = lines_of(alloc, bytes.as_slice())?;
-    let settings = Settings {
-        title: title.as_str(),
-        names: named.names.as_slice(),
-        from: named.from,
-        to: named.to,
-        sizes: named.sizes,
-        unfolded: named.unfolded,
+    let picture = match named.form {
+        Form::Picture => drawn(alloc, lines.as_slice(), &named, title.as_str())?,
+        Form::Page => page(alloc, lines.as_slice(), &named, title.as_str())?,
+        Form::Dump => dump(alloc, lines.as_slice(), &named)?,
     };
-    let picture = draw(alloc, lines.as_slice(), &settings)?;
     write_all(rt, picture.as_slice())
 }
 

@@ -1,0 +1,126 @@
+//! The data of a page: JSON in which no `<` stands, so that nothing in it ends the element that holds it.
+
+ghost use Rattle.std.specs.Prelude.{◌≡◌, ℕ, List, [], ◌++◌, ◌<◌, ◌^◌, decimal, IfOk};
+ghost use Rattle.picture_html.specs.Data.{IsHarmless, guarded, guarded_byte, string_byte, string_bytes_of, json_string};
+
+use itoa::Buffer;
+use std::alloc::{AllocError, Global};
+use std::marker::Model;
+
+/// Appends a byte of JSON, a `<` as what stands for it in a string.
+fn push_guarded_byte(out: &mut Vec<u8>, byte: u8) -> Result<(), AllocError>
+    ensures { IfOk result (λ _. out.new.items ≡ out.old.items ++ guarded_byte byte) }
+{
+    match byte {
+        b'<' => out.extend_from_slice(b"\\u003c"),
+        _ => out.extend_from_slice(&[byte]),
+    }
+}
+
+/// Appends JSON, each `<` in it as what stands for it in a string.
+fn push_guarded(out: &mut Vec<u8>, text: &[u8]) -> Result<(), AllocError>
+    ensures { IfOk result (λ _. out.new.items ≡ out.old.items ++ guarded text.now) }
+{
+    for byte in text {
+        push_guarded_byte(out, *byte)?;
+    }
+    Ok(())
+}
+
+/// Appends a byte as it stands within a string of JSON.
+fn push_string_byte(out: &mut Vec<u8>, byte: u8) -> Result<(), AllocError>
+    ensures { IfOk result (λ _. out.new.items ≡ out.old.items ++ string_byte byte) }
+{
+    match byte {
+        b'"' => out.extend_from_slice(b"\\\""),
+        b'\\' => out.extend_from_slice(b"\\\\"),
+        b'\n' => out.extend_from_slice(b"\\n"),
+        b'\t' => out.extend_from_slice(b"\\t"),
+        0..=31 => out.extend_from_slice(b"\\ufffd"),
+        b'<' => out.extend_from_slice(b"\\u003c"),
+        _ => out.extend_from_slice(&[byte]),
+    }
+}
+
+/// Appends what stands between the quotes of a string.
+fn push_string_bytes(out: &mut Vec<u8>, text: &[u8]) -> Result<(), AllocError>
+    ensures { IfOk result (λ _. out.new.items ≡ out.old.items ++ string_bytes_of text.now) }
+{
+    for byte in text {
+        push_string_byte(out, *byte)?;
+    }
+    Ok(())
+}
+
+/// JSON, or a front part of it.
+#[derive(Drop)]
+pub struct Data {
+    bytes: Vec<u8>,
+}
+
+impl Model for Data {
+    ghost Value = { List ℕ };
+
+    ghost view = { λ d. d.bytes.items };
+
+    ghost invariant = { λ d. IsHarmless d.bytes.items };
+}
+
+impl Data {
+    pub fn new(alloc: Global) -> Self
+        ensures { result ≡ [] }
+    {
+        Data {
+            bytes: Vec::new(alloc),
+        }
+    }
+
+    /// Appends JSON.
+    pub fn put(&mut self, json: &str) -> Result<(), AllocError>
+        ensures { IfOk result (λ _. self.new ≡ self.old ++ guarded json.now) }
+    {
+        let mut more = Vec::new(*self.bytes.allocator());
+        push_guarded(&mut more, json.as_bytes())?;
+        self.bytes.extend_from_slice(more.as_slice())
+    }
+
+    /// Appends a string that stands for a text. A control character but a line end and a tab stands there as one that can't be shown.
+    pub fn say(&mut self, text: &str) -> Result<(), AllocError>
+        ensures { IfOk result (λ _. self.new ≡ self.old ++ json_string text.now) }
+    {
+        let mut more = Vec::new(*self.bytes.allocator());
+        more.push(b'"')?;
+        push_string_bytes(&mut more, text.as_bytes())?;
+        more.push(b'"')?;
+        self.bytes.extend_from_slice(more.as_slice())
+    }
+
+    /// Appends a number.
+    pub fn count(&mut self, number: u64) -> Result<(), AllocError>
+        ensures { IfOk result (λ _. self.new ≡ self.old ++ guarded (decimal number)) }
+    {
+        let mut buffer = Buffer::new();
+        self.put(buffer.format(number))
+    }
+
+    /// Appends other data.
+    pub fn append(&mut self, other: &Data) -> Result<(), AllocError>
+        ensures { IfOk result (λ _. self.new ≡ self.old ++ other.now) }
+    {
+        self.bytes.extend_from_slice(other.bytes.as_slice())
+    }
+
+    pub fn bytes(&self) -> &[u8]
+        ensures { result.now ≡ self.now }
+    {
+        self.bytes.as_slice()
+    }
+
+    /// There is no `<` in it.
+    pub fn is_harmless(&self)
+        ensures { IsHarmless self.now }
+    {
+        // Nothing is done: the clause tells what holds of all data.
+        let _bytes = &self.bytes;
+    }
+}

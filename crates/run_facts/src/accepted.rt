@@ -1,0 +1,28 @@
+//! Calls with their answers.
+
+use transcript_lines::{Turn, read_turn};
+
+/// A call that wasn't refused.
+#[derive(Clone, Copy, Drop)]
+pub(crate) struct Accepted<'a> {
+    /// The words of the call.
+    pub(crate) call: &'a str,
+    /// The words of the answer.
+    pub(crate) answer: &'a str,
+}
+
+/// The call of a turn, where its answer stands in the line of that number, and is no refusal.
+pub(crate) fn accepted_call<'a>(
+    lines: &[&'a str],
+    turn: &Turn<'a>,
+    answer: Option<usize>,
+) -> Option<Accepted<'a>> {
+    let told = read_turn(lines.get(answer?)?)?;
+    if told.stimulus.starts_with("refused ") {
+        return None;
+    }
+    Some(Accepted {
+        call: turn.call,
+        answer: told.stimulus,
+    })
+}
