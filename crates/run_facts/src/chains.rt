@@ -1,5 +1,8 @@
 //! The lists of the pools: which blocks each of them has, the head first.
 
+ghost use Rattle.std.specs.Prelude.{◌≡◌, ◌≤◌, length, IfOk};
+ghost use Rattle.run_facts.specs.Lists as spec;
+
 use crate::accepted::Accepted;
 use std::alloc::{AllocError, Global};
 
@@ -14,6 +17,19 @@ pub struct Chain {
     pub list: usize,
     /// The numbers of its blocks in their pool, the head first.
     pub blocks: Vec<u64>,
+}
+
+/// What an accepted call does to a list.
+#[derive(Clone, Copy, Drop)]
+pub(crate) enum ListChange {
+    /// A block is put behind all others.
+    Append(u64),
+    /// A block is put before all others.
+    Prepend(u64),
+    /// Behind the first block the second one is put.
+    PutBehind(u64, u64),
+    /// A block leaves the list.
+    Remove(u64),
 }
 
 /// The lists as the lines so far leave them.
@@ -32,53 +48,70 @@ fn number_of(word: Option<&str>) -> u64 {
     }
 }
 
+/// What a call changes, by its word, its first number behind the list's and its last one, and the number that it was answered.
+fn change_by(word: &str, first: u64, last: u64, answer: u64) -> Option<ListChange>
+    ensures { result ≡ spec.change_by word.now first last answer }
+{
+    match word {
+        "list-add" => Some(ListChange::Append(last)),
+        "list-push" => Some(ListChange::Prepend(last)),
+        "list-insert" => Some(ListChange::PutBehind(first, last)),
+        "list-remove" => Some(ListChange::Remove(last)),
+        "list-pop" | "list-chop" => Some(ListChange::Remove(answer)),
+        _ => None,
+    }
+}
+
 /// Takes a block out of a list, if it is there.
-fn take_out(blocks: &mut Vec<u64>, block: u64) {
+fn take_out(blocks: &mut Vec<u64>, block: u64)
+    ensures { blocks.new.items ≡ spec.without block blocks.old.items }
+{
     blocks.retain(|other| *other != block);
 }
 
-/// Puts a block into a list, behind so many others.
-fn put_in(blocks: &mut Vec<u64>, place: usize, block: u64) -> Result<(), AllocError> {
-    let place = place.min(blocks.len());
-    blocks.insert(place, block)?;
-    Ok(())
-}
-
-/// Where a list has a block, or its end.
-fn place_behind(blocks: &[u64], block: u64) -> usize {
+/// The place behind a block, or the end where the list doesn't have it.
+fn place_behind(blocks: &[u64], block: u64) -> usize
+    ensures within { result ≤ length blocks.now }
+    ensures place { result ≡ spec.place_behind block blocks.now }
+{
     match blocks.iter().position(|other| *other == block) {
-        Some(place) => place.saturating_add(1),
+        Some(place) => place + 1,
         None => blocks.len(),
     }
 }
 
-/// Does to a list what a call on it does that has this word, numbers and answer. Whether it is one that changes lists.
-fn change(
-    blocks: &mut Vec<u64>,
-    word: &str,
-    first: u64,
-    last: u64,
-    answer: u64,
-) -> Result<bool, AllocError> {
-    match word {
-        "list-add" => {
-            take_out(blocks, last);
-            put_in(blocks, usize::MAX, last)?;
+/// Changes a list. A block that is put into it leaves its old place first.
+fn carry_out(blocks: &mut Vec<u64>, change: ListChange) -> Result<(), AllocError>
+    ensures { IfOk result (λ _. blocks.new.items ≡ spec.changed change blocks.old.items) }
+{
+    match change {
+        ListChange::Append(block) => {
+            take_out(blocks, block);
+            blocks.push(block)?;
         }
-        "list-push" => {
-            take_out(blocks, last);
-            put_in(blocks, 0, last)?;
+        ListChange::Prepend(block) => {
+            take_out(blocks, block);
+            blocks.insert(0, block)?;
         }
-        "list-insert" => {
-            take_out(blocks, last);
-            let place = place_behind(blocks.as_slice(), first);
-            put_in(blocks, place, last)?;
+        ListChange::PutBehind(other, block) => {
+            take_out(blocks, block);
+            let place = place_behind(blocks.as_slice(), other);
+            blocks.insert(place, block)?;
         }
-        "list-remove" => take_out(blocks, last),
-        "list-pop" | "list-chop" => take_out(blocks, answer),
-        _ => return Ok(false),
+        ListChange::Remove(block) => take_out(blocks, block),
     }
-    Ok(true)
+    Ok(())
+}
+
+/// Which list a call changes, and how.
+fn read_change(call: &Accepted<'_>) -> Option<(usize, ListChange)> {
+    let mut words = call.call.split(' ');
+    let word = words.next().unwrap_or("");
+    let list = number_of(words.next()).min(LISTS as u64) as usize;
+    let first = number_of(words.next());
+    let last = words.next().map_or(first, |word| number_of(Some(word)));
+    let answer = number_of(call.answer.strip_prefix("num "));
+    Some((list, change_by(word, first, last, answer)?))
 }
 
 impl Lists {
@@ -96,24 +129,15 @@ impl Lists {
 
     /// A call in the line of that number was accepted.
     pub(crate) fn carry_out(&mut self, call: &Accepted<'_>, line: usize) -> Result<(), AllocError> {
-        let mut words = call.call.split(' ');
-        let word = words.next().unwrap_or("");
-        let list = number_of(words.next()).min(LISTS as u64) as usize;
-        let first = number_of(words.next());
-        let last = words.next().map_or(first, |word| number_of(Some(word)));
-        let answer = number_of(call.answer.strip_prefix("num "));
+        let Some((list, change)) = read_change(call) else {
+            return Ok(());
+        };
         let Some(blocks) = self.lists.as_mut_slice().get_mut(list) else {
             return Ok(());
         };
-        if change(blocks, word, first, last, answer)? {
-            let mut copy = Vec::new(self.alloc);
-            copy.extend_from_slice(blocks.as_slice())?;
-            self.chains.push(Chain {
-                line,
-                list,
-                blocks: copy,
-            })?;
-        }
+        carry_out(blocks, change)?;
+        let blocks = Vec::from_slice(self.alloc, blocks.as_slice())?;
+        self.chains.push(Chain { line, list, blocks })?;
         Ok(())
     }
 

@@ -1,6 +1,9 @@
 //! The events that wait in the queue, as far as a transcript tells: those that applications posted. The kernel's own have no line before
 //! they are told.
 
+ghost use Rattle.std.specs.Prelude.{IfSome};
+ghost use Rattle.run_facts.specs.Posts.{Posts};
+
 use crate::accepted::Accepted;
 use std::alloc::{AllocError, Global};
 use transcript_lines::{Origin, Turn};
@@ -48,13 +51,15 @@ fn bit_of(pid: usize) -> u32 {
 }
 
 /// Whom a call posts an event to, and its code and what it carries. `None` where it posts nothing.
-fn posted_by(call: &str) -> Option<(Option<usize>, &str)> {
+fn posted_by(call: &str) -> Option<(Option<usize>, &str)>
+    ensures { IfSome result (λ posted. Posts call.now posted.0 posted.1.now) }
+{
     let (word, rest) = call.split_once(' ')?;
     match word {
         "broadcast" => Some((None, rest)),
         "post" => {
             let (to, event) = rest.split_once(' ')?;
-            Some((Some(to.parse::<usize>().unwrap_or(0)), event))
+            Some((Some(to.parse::<usize>().ok()?), event))
         }
         _ => None,
     }
@@ -81,11 +86,7 @@ impl<'a> Queue<'a> {
     }
 
     /// A call in the line of that number was accepted.
-    pub(crate) fn carry_out(
-        &mut self,
-        call: &Accepted<'a>,
-        line: usize,
-    ) -> Result<(), AllocError> {
+    pub(crate) fn carry_out(&mut self, call: &Accepted<'a>, line: usize) -> Result<(), AllocError> {
         let Some((to, event)) = posted_by(call.call) else {
             return Ok(());
         };
@@ -152,7 +153,9 @@ impl<'a> Queue<'a> {
     /// All events that waited; the last ones still do.
     pub(crate) fn finish(self) -> Result<Vec<Wait>, AllocError> {
         let Queue {
-            posted, mut waits, ..
+            posted,
+            mut waits,
+            ..
         } = self;
         for posted in posted.as_slice() {
             waits.push(Wait {

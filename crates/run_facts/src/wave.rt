@@ -1,14 +1,14 @@
 //! The dump of a run.
 
 ghost use Rattle.std.specs.Prelude.{◌≡◌, ℕ, ◌++◌, codes, string_bytes, IfOk};
-ghost use Rattle.wave_dump.specs.Dump.{AreChanges, IsDump};
+ghost use Rattle.run_facts.specs.Dump.{AreChanges, IsDump};
 
 use crate::changes::{Change, changes_of};
 use crate::dump::{Dump, Value};
+use crate::facts::{Facts, facts_of};
 use crate::head::{Scale, declarations};
 use crate::levels::Levels;
 use crate::signal::{COMMON, FIRST, SIGNALS, Signal};
-use run_facts::{Facts, facts_of};
 use run_memory::Sizes;
 use run_rows::{Shown, shown_of};
 use std::alloc::{AllocError, Global};
@@ -168,7 +168,11 @@ fn whole(alloc: Global, declarations: &str, dump: &Dump) -> Result<Vec<u8>, Allo
 /// # Errors
 ///
 /// `AllocError` where memory was refused.
-pub fn wave_of(alloc: Global, lines: &[&str], settings: &Settings<'_>) -> Result<Vec<u8>, AllocError>
+pub fn wave_of(
+    alloc: Global,
+    lines: &[&str],
+    settings: &Settings<'_>,
+) -> Result<Vec<u8>, AllocError>
     ensures { IfOk result (λ bytes. IsDump bytes.items) }
 {
     let facts = facts_of(alloc, lines, settings.sizes)?;

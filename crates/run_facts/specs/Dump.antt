@@ -1,7 +1,7 @@
 -- The form of a value change dump.
 use Rattle.std.specs.Prelude.{◌≡◌, ℕ, ◌+◌, ◌<◌, false, List, [], ◌∷◌, ◌++◌, codes, decimal}
 use Rattle.std.specs.Fmt.{digits}
-use Rattle.wave_dump.specs.declared.dump.Value.{Value}
+use Rattle.run_facts.specs.declared.dump.Value.{Value}
 
 -- the line of a time
 abbrev pub time_line : ℕ → List ℕ

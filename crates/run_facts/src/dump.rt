@@ -1,7 +1,7 @@
 //! The values of a dump: times that grow, and behind each of them the values that change there.
 
 ghost use Rattle.std.specs.Prelude.{◌≡◌, ℕ, List, ◌++◌, ◌<◌, IfOk};
-ghost use Rattle.wave_dump.specs.Dump.{AreChanges, time_line, value_digits, value_line};
+ghost use Rattle.run_facts.specs.Dump.{AreChanges, time_line, value_digits, value_line};
 
 use itoa::Buffer;
 use std::alloc::{AllocError, Global};
@@ -32,12 +32,7 @@ fn push_digits(alloc: Global, out: &mut Vec<u8>, value: Value) -> Result<(), All
 }
 
 /// Appends the line of a value.
-fn push_value(
-    alloc: Global,
-    out: &mut Vec<u8>,
-    value: Value,
-    signal: u8,
-) -> Result<(), AllocError>
+fn push_value(alloc: Global, out: &mut Vec<u8>, value: Value, signal: u8) -> Result<(), AllocError>
     requires { signal < 94 }
     ensures { IfOk result (λ _. out.new.items ≡ out.old.items ++ value_line value signal) }
 {

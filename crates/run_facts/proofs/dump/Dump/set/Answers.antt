@@ -1,8 +1,8 @@
 use Rattle.std.proofs.Common.{◌≡◌, ◌++◌, arith}
-use Rattle.wave_dump.specs.Dump.{AreChanges, value_line}
-use Rattle.wave_dump.specs.Dump.AreChanges.{set}
-use Rattle.wave_dump.proofs.Growing.{grown}
-use Rattle.wave_dump.proofs.dump.Dump.set.Goals as goal
+use Rattle.run_facts.specs.Dump.{AreChanges, value_line}
+use Rattle.run_facts.specs.Dump.AreChanges.{set}
+use Rattle.run_facts.proofs.Growing.{grown}
+use Rattle.run_facts.proofs.dump.Dump.set.Goals as goal
 
 pub invariant_of-self : goal.invariant_of-self
 invariant_of-self c =

@@ -1,8 +1,8 @@
 -- Lines of a dump, at small values.
 use Rattle.std.proofs.Common.{◌≡◌, codes, refl}
 use Rattle.std.specs.Fmt.{digits}
-use Rattle.wave_dump.specs.declared.dump.Value.{Value}
-use Rattle.wave_dump.specs.Dump.{time_line, value_line}
+use Rattle.run_facts.specs.declared.dump.Value.{Value}
+use Rattle.run_facts.specs.Dump.{time_line, value_line}
 
 -- a time
 time : time_line 120 ≡ codes "#120\n"

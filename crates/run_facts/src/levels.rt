@@ -1,5 +1,8 @@
 //! What holds at a line, as the values of the signals.
 
+ghost use Rattle.std.specs.Prelude.{◌≡◌};
+ghost use Rattle.run_facts.specs.Levels as spec;
+
 use crate::changes::{Change, Level};
 use crate::dump::Value;
 use crate::signal::{PROCESSES, Signal};
@@ -37,7 +40,9 @@ fn moved(level: u64, change: &Change) -> u64 {
 }
 
 /// What is left of so many bytes where some are taken.
-fn free(size: u32, taken: u64) -> Value {
+fn free(size: u32, taken: u64) -> Value
+    ensures { result ≡ spec.free size taken }
+{
     match (size as u64).checked_sub(taken) {
         Some(free) => Value::Number(free),
         None => Value::Unknown,

@@ -1,6 +1,6 @@
 //! What changes from one line of a run to the next.
 
-use run_facts::Facts;
+use crate::facts::Facts;
 use run_memory::Stay;
 use std::alloc::{AllocError, Global};
 

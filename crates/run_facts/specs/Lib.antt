@@ -1,0 +1,4 @@
+pub mod Dump
+pub mod Levels
+pub mod Lists
+pub mod Posts
