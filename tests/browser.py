@@ -93,7 +93,7 @@ HANDS_WANTED: List[Tuple[str, Any]] = [
     ("(press('0'), shown().length)", 11),
     ("(byId('whole').click(), shown().length)", 11),
     # A drag over the last tick of 13, a wheel's turn outward, a click on the first tick.
-    ("((width) => { point('pointerdown', width * 0.95); point('pointermove', width * 0.97); point('pointerup', width - 6); return shown(); })"
+    ("((width) => { point('pointerdown', width * 0.9); point('pointermove', width * 0.95); point('pointerup', width - 6); return shown(); })"
      "(byId('overview').clientWidth)", [10, 11]),
     ("(press('0'), point('pointerdown', 7), point('pointerup', 8), line())", 1),
     ("(location.hash = '#7', goToHash(), line())", 7),

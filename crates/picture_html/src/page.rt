@@ -52,12 +52,7 @@ fn data_of(alloc: Global, text: &str, rest: &Data) -> Result<Data, AllocError>
 }
 
 /// A page of these parts.
-fn filled(
-    alloc: Global,
-    front: &str,
-    members: &Data,
-    back: &str,
-) -> Result<Vec<u8>, AllocError>
+fn filled(alloc: Global, front: &str, members: &Data, back: &str) -> Result<Vec<u8>, AllocError>
     ensures { IfOk result (λ page. page.items ≡ front.now ++ members.now ++ back.now) }
 {
     let mut page = Vec::new(alloc);
@@ -92,7 +87,11 @@ fn page_between(
 /// # Errors
 ///
 /// `AllocError` where memory was refused.
-pub fn page_of(alloc: Global, lines: &[&str], settings: &Settings<'_>) -> Result<Vec<u8>, AllocError>
+pub fn page_of(
+    alloc: Global,
+    lines: &[&str],
+    settings: &Settings<'_>,
+) -> Result<Vec<u8>, AllocError>
     ensures { IfOk result (λ page. IsPage lines.now settings.now.from settings.now.to FRONT.now BACK.now page.items) }
 {
     page_between(alloc, lines, settings, FRONT, BACK)

@@ -90,18 +90,6 @@ function readLine(run, place) {
   return { kind: "turn", pid: Number(turn[1]), origin: turn[2], refusal };
 }
 
-// What is wrong with a line that no transcript has, or nothing.
-function faultOf(line) {
-  if (/^(> tick \d+|> (serial|frame) [0-9a-f]+|note lost \d+|note sent ([0-9a-f]+|-)|halt|too long|bad line \d+)$/.test(line)) return "";
-  if (line === "") return "it is empty";
-  if (line.startsWith(">")) return "behind > stands no tick N, serial HEX or frame HEX";
-  if (line.startsWith("note")) return "behind note stands no lost N or sent HEX";
-  const turn = /^(\S+) (\S+) .+ -> .+$/.exec(line);
-  if (!turn) return "it is no input, note, end, or turn with -> between what is told and the call";
-  if (!/^([4-9]|1\d)$/.test(turn[1])) return `${turn[1]} is no process from 4 to 19`;
-  return `${turn[2]} is no event, synch, poll, callback or answer`;
-}
-
 // ---- What holds at a line ----
 
 // The items that are there at a line.
@@ -172,25 +160,32 @@ function rowOf(place) {
   return low;
 }
 
-// Whether the filters leave a line.
-function isKept(place, words) {
-  const line = told[place];
-  if (run.places[place] < range.from || run.places[place] >= range.to) return false;
-  if (line.pid === null ? !byId("inputs").checked : hidden.has(line.pid)) return false;
-  if (byId("refused").checked && line.refusal === null) return false;
-  return words.every((word) => searched(place).includes(word));
-}
-
 // What words are looked for in: a line and what stands for it, made when it is asked for first.
 function searched(place) {
   found[place] ??= `${run.lines[place]} ${run.words[place]}`.toLowerCase();
   return found[place];
 }
 
+// What the reader asks for, but for the part of the clock.
+const wishes = () => ({
+  words: byId("find").value.toLowerCase().split(/\s+/).filter(Boolean),
+  inputs: byId("inputs").checked,
+  refusals: byId("refused").checked,
+});
+
+// Whether the filters leave a line.
+function isKept(place, { words, inputs, refusals }) {
+  const line = told[place];
+  if (run.places[place] < range.from || run.places[place] >= range.to) return false;
+  if (line.pid === null ? !inputs : hidden.has(line.pid)) return false;
+  if (refusals && line.refusal === null) return false;
+  return words.every((word) => searched(place).includes(word));
+}
+
 function sift() {
-  const words = byId("find").value.toLowerCase().split(/\s+/).filter(Boolean);
+  const wished = wishes();
   kept = [];
-  for (let place = 0; place < run.lines.length; place++) if (isKept(place, words)) kept.push(place);
+  for (let place = 0; place < run.lines.length; place++) if (isKept(place, wished)) kept.push(place);
   const most = Math.floor(MOST_PIXELS / ROW);
   const rest = kept.length > most ? `, of which the first ${most.toLocaleString("en")} fit on a page: take --from and --to` : "";
   kept.length = Math.min(kept.length, most);
@@ -756,9 +751,7 @@ function tally() {
 
 // What can't be trusted, in words.
 function faults() {
-  const place = told.findIndex((line, at) => line.kind !== "turn" && faultOf(run.lines[at]) !== "");
   const found = [];
-  if (place >= 0) found.push(`Line ${run.first + place + 1} is no line of a transcript: ${faultOf(run.lines[place])}.`);
   if (run.quiet) {
     found.push("This transcript is a quiet one: it tells turns that print or send, and frames that were sent."
       + " Clock, memory, timers and queue can't be known from it.");

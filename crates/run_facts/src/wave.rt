@@ -77,13 +77,13 @@ impl Walk {
             return Ok(());
         }
         *told = Some(value);
+        let time = self.clock.saturating_mul(self.scale.units);
+        self.dump.go_to(time.saturating_add(self.place))?;
         self.dump.set(place, value)
     }
 
-    /// The values are told at the time that has come.
+    /// The values that are other ones than before are told at the time that has come.
     fn tell_all(&mut self) -> Result<(), AllocError> {
-        let time = self.clock.saturating_mul(self.scale.units);
-        self.dump.go_to(time.saturating_add(self.place))?;
         for signal in COMMON {
             self.tell(signal)?;
         }
