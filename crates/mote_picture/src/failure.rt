@@ -54,9 +54,13 @@ impl fmt::Display for Failure {
             Failure::Request(text) | Failure::Words(text) => write!(f, "{text}"),
             Failure::TooManyApplications => f.write_str("mote_picture: too many applications"),
             Failure::BadSizes => f.write_str("mote_picture: bad sizes"),
-            Failure::TwoForms => f.write_str("mote_picture: --page and --vcd are two forms: take one"),
+            Failure::TwoForms => f.write_str(
+                "mote_picture: --page and --vcd are two forms: take one",
+            ),
             Failure::Quiet => {
-                f.write_str("mote_picture: a quiet transcript tells no clock: --vcd needs the whole one")
+                f.write_str(
+                    "mote_picture: a quiet transcript tells no clock: --vcd needs the whole one",
+                )
             }
             Failure::NoLine(number) => {
                 write!(f, "mote_picture: line {number} is no line of a transcript")

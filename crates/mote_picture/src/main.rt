@@ -65,12 +65,7 @@ fn drawn(
 }
 
 /// The page that is asked for.
-fn page(
-    alloc: Global,
-    lines: &[&str],
-    named: &Named<'_>,
-    title: &str,
-) -> Result<Vec<u8>, Failure> {
+fn page(alloc: Global, lines: &[&str], named: &Named<'_>, title: &str) -> Result<Vec<u8>, Failure> {
     let settings = picture_html::Settings {
         title,
         names: named.names.as_slice(),
@@ -86,13 +81,13 @@ fn dump(alloc: Global, lines: &[&str], named: &Named<'_>) -> Result<Vec<u8>, Fai
     if is_quiet(lines) {
         return Err(Failure::Quiet);
     }
-    let settings = wave_dump::Settings {
+    let settings = run_facts::Settings {
         names: named.names.as_slice(),
         from: named.from,
         to: named.to,
         sizes: named.sizes,
     };
-    Ok(wave_dump::wave_of(alloc, lines, &settings)?)
+    Ok(run_facts::wave_of(alloc, lines, &settings)?)
 }
 
 /// Draws what the words ask for. Nothing is written before all lines are read.

@@ -52,6 +52,15 @@ fn push_string_bytes(out: &mut Vec<u8>, text: &[u8]) -> Result<(), AllocError>
     Ok(())
 }
 
+/// Appends a string that stands for a text.
+fn push_string(out: &mut Vec<u8>, text: &[u8]) -> Result<(), AllocError>
+    ensures { IfOk result (λ _. out.new.items ≡ out.old.items ++ json_string text.now) }
+{
+    out.extend_from_slice(b"\"")?;
+    push_string_bytes(out, text)?;
+    out.extend_from_slice(b"\"")
+}
+
 /// JSON, or a front part of it.
 #[derive(Drop)]
 pub struct Data {
@@ -89,9 +98,7 @@ impl Data {
         ensures { IfOk result (λ _. self.new ≡ self.old ++ json_string text.now) }
     {
         let mut more = Vec::new(*self.bytes.allocator());
-        more.push(b'"')?;
-        push_string_bytes(&mut more, text.as_bytes())?;
-        more.push(b'"')?;
+        push_string(&mut more, text.as_bytes())?;
         self.bytes.extend_from_slice(more.as_slice())
     }
 

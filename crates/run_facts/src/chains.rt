@@ -1,6 +1,6 @@
 //! The lists of the pools: which blocks each of them has, the head first.
 
-ghost use Rattle.std.specs.Prelude.{◌≡◌, ◌≤◌, length, IfOk};
+ghost use Rattle.std.specs.Prelude.{◌≡◌, ◌==◌, ◌<◌, ◌≤◌, length, position, IfOk, IfSome};
 ghost use Rattle.run_facts.specs.Lists as spec;
 
 use crate::accepted::Accepted;
@@ -69,12 +69,20 @@ fn take_out(blocks: &mut Vec<u64>, block: u64)
     blocks.retain(|other| *other != block);
 }
 
+/// The place of a block, if the list has it.
+fn place_of(blocks: &[u64], block: u64) -> Option<usize>
+    ensures within { IfSome result (λ place. place < length blocks.now) }
+    ensures place { result ≡ position (λ other. other == block) blocks.now }
+{
+    blocks.iter().position(|other| *other == block)
+}
+
 /// The place behind a block, or the end where the list doesn't have it.
 fn place_behind(blocks: &[u64], block: u64) -> usize
     ensures within { result ≤ length blocks.now }
     ensures place { result ≡ spec.place_behind block blocks.now }
 {
-    match blocks.iter().position(|other| *other == block) {
+    match place_of(blocks, block) {
         Some(place) => place + 1,
         None => blocks.len(),
     }

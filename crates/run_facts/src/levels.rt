@@ -67,7 +67,7 @@ impl Levels {
         }
     }
 
-    pub(crate) fn apply(&mut self, change: &Change) {
+    fn apply(&mut self, change: &Change) {
         match change.level {
             Level::Queue => self.queue = moved(self.queue, change),
             Level::Managed => self.managed = moved(self.managed, change),
@@ -83,6 +83,12 @@ impl Levels {
                     process.activations = moved(process.activations, change);
                 }
             }
+        }
+    }
+
+    pub(crate) fn apply_all(&mut self, changes: &[Change]) {
+        for change in changes {
+            self.apply(change);
         }
     }
 

@@ -1,7 +1,8 @@
 //! The events that wait in the queue, as far as a transcript tells: those that applications posted. The kernel's own have no line before
 //! they are told.
 
-ghost use Rattle.std.specs.Prelude.{IfSome};
+ghost use Rattle.std.specs.Prelude.{◌≡◌, ◌++◌, codes, IfSome};
+ghost use Rattle.std.specs.Str.Parse.{digits_value, without_leading_plus};
 ghost use Rattle.run_facts.specs.Posts.{Posts};
 
 use crate::accepted::Accepted;
@@ -50,16 +51,31 @@ fn bit_of(pid: usize) -> u32 {
     1_u32.checked_shl(pid.min(32) as u32).unwrap_or(0)
 }
 
+/// What stands in a text before its first space, and what behind it.
+fn parted(text: &str) -> Option<(&str, &str)>
+    ensures { IfSome result (λ parts. text.now ≡ parts.0.now ++ codes " " ++ parts.1.now) }
+{
+    text.split_once(' ')
+}
+
+/// The number that a word writes.
+fn number_in(word: &str) -> Option<usize>
+    ensures { IfSome result (λ number. number ≡ digits_value 10 (without_leading_plus word.now)) }
+{
+    word.parse::<usize>().ok()
+}
+
 /// Whom a call posts an event to, and its code and what it carries. `None` where it posts nothing.
 fn posted_by(call: &str) -> Option<(Option<usize>, &str)>
     ensures { IfSome result (λ posted. Posts call.now posted.0 posted.1.now) }
 {
-    let (word, rest) = call.split_once(' ')?;
+    let (word, rest) = parted(call)?;
     match word {
         "broadcast" => Some((None, rest)),
         "post" => {
-            let (to, event) = rest.split_once(' ')?;
-            Some((Some(to.parse::<usize>().ok()?), event))
+            let (to, event) = parted(rest)?;
+            let to = number_in(to)?;
+            Some((Some(to), event))
         }
         _ => None,
     }

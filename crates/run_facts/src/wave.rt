@@ -121,12 +121,11 @@ impl Walk {
     }
 }
 
-/// How many changes come at a line or before it.
-fn count_up_to(changes: &[Change], line: usize) -> usize {
-    changes
-        .iter()
-        .take_while(|change| change.line <= line)
-        .count()
+/// The changes that come at a line or before it, and the others.
+fn parted(changes: &[Change], line: usize) -> (&[Change], &[Change]) {
+    let later = changes.iter().position(|change| change.line > line);
+    let count = later.unwrap_or(changes.len()).min(changes.len());
+    changes.split_at(count)
 }
 
 /// The values of the lines that are told.
@@ -142,11 +141,9 @@ fn walk_over(
     let clocks = clocks_of(facts, shown).iter();
     for (number, (line, clock)) in lines.iter().zip(clocks).enumerate() {
         let number = number.saturating_add(shown.first);
-        let count = count_up_to(left, number).min(left.len());
-        for change in &left[..count] {
-            walk.levels.apply(change);
-        }
-        left = &left[count..];
+        let (due, later) = parted(left, number);
+        walk.levels.apply_all(due);
+        left = later;
         walk.take_line(line, *clock)?;
     }
     walk.finish()
