@@ -114,7 +114,9 @@ class Replay:
         elif line.startswith("> "):
             self.take_input(number, line)
         elif not line.startswith("note"):
+            # How the run ended: nothing goes on.
             self.state.running = None
+            self.state.active.clear()
 
     def take_input(self, number: int, line: str) -> None:
         """The mote was at rest."""
