@@ -1,5 +1,5 @@
 -- What the values of a dump say of a line.
-use Rattle.std.specs.Prelude.{◌≡◌, ℕ, ◌-◌, nat_le, nat_lt, List, if◌then◌else◌}
+use Rattle.std.specs.Prelude.{ℕ, ◌-◌, nat_le, if◌then◌else◌}
 use Rattle.run_facts.specs.declared.dump.Value.{Value}
 
 -- how many of so many bytes no block takes; where more is taken than there is, that isn't known

@@ -1,5 +1,5 @@
 -- Calls that post an event.
-use Rattle.std.specs.Prelude.{◌≡◌, ℕ, Option, Some, None, List, ◌++◌, codes}
+use Rattle.std.specs.Prelude.{ℕ, Option, Some, None, List, ◌++◌, codes}
 use Rattle.std.specs.Str.Parse.{digits_value, without_leading_plus}
 
 -- the call posts an event, its code and what it carries, to all or to the process of that number

@@ -1,5 +1,5 @@
-use Rattle.std.proofs.Common.{◌≡◌, ◌++◌, refl}
-use Rattle.run_facts.specs.Dump.{AreChanges, time_line}
+use Rattle.std.proofs.Common.{◌≡◌, refl}
+use Rattle.run_facts.specs.Dump.{time_line}
 use Rattle.run_facts.specs.Dump.AreChanges.{later}
 use Rattle.run_facts.proofs.dump.Dump.go_to.Goals as goal
 
