@@ -1,6 +1,5 @@
 -- Strings of data, at small values.
-use Rattle.std.proofs.Common.{◌≡◌, ◌∷◌, [], codes, false, refl}
-use Rattle.std.specs.List.{list_all}
+use Rattle.std.proofs.Common.{◌≡◌, ◌∷◌, [], codes, refl}
 use Rattle.picture_html.specs.Data.{guarded, json_string}
 
 -- markup in a text ends nothing

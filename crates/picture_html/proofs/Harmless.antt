@@ -1,6 +1,5 @@
 -- Texts in which no `<` stands.
 use Rattle.std.proofs.Common.{◌≡◌, ℕ, Bool, true, false, not, List, [], ◌∷◌, ◌++◌, flat_map, codes, if◌then◌else◌, ◌==◌, nat_lt, refl, sym, subst}
-use Rattle.std.specs.List.{list_all}
 use Rattle.std.proofs.lemmas.List.Folds.{list_all-append}
 use Rattle.std.proofs.lemmas.List.Concat.{flat_map-cons}
 use Rattle.picture_html.specs.Data.{IsHarmless, guarded_byte, guarded, string_byte, string_bytes_of, json_string}

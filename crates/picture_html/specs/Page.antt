@@ -1,5 +1,5 @@
 -- What a page holds of a transcript.
-use Rattle.std.specs.Prelude.{◌≡◌, ℕ, ◌-◌, ◌^◌, ◌≤◌, List, ◌++◌, map, flat_map, length, slice_range, codes}
+use Rattle.std.specs.Prelude.{◌≡◌, ℕ, ◌-◌, ◌^◌, ◌≤◌, List, ◌++◌, flat_map, length, slice_range, codes}
 use denote.Ref.{Bor}
 use Rattle.picture_html.specs.Data.{IsHarmless, json_string}
 

@@ -1,4 +1,4 @@
-use Rattle.std.proofs.Common.{◌≡◌, ◌++◌, refl}
+use Rattle.std.proofs.Common.{◌≡◌, refl}
 use Rattle.picture_html.specs.Data.{IsHarmless, guarded}
 use Rattle.picture_html.proofs.Harmless.{grown, guarded-harmless}
 use Rattle.picture_html.proofs.data.Data.put.Goals as goal

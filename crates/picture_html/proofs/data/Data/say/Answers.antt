@@ -1,4 +1,4 @@
-use Rattle.std.proofs.Common.{◌≡◌, ◌++◌, refl}
+use Rattle.std.proofs.Common.{◌≡◌, refl}
 use Rattle.picture_html.specs.Data.{IsHarmless, json_string}
 use Rattle.picture_html.proofs.Harmless.{grown, json_string-harmless}
 use Rattle.picture_html.proofs.data.Data.say.Goals as goal
