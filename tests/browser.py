@@ -50,6 +50,11 @@ const point = (kind, x) => {
   byId("overview").dispatchEvent(new PointerEvent(kind, { clientX: box.left + x, clientY: box.top + 5, pointerId: 1, bubbles: true }));
 };
 const said = () => byId("panel").innerText;
+const isDrawn = (clock, lane) => {
+  const canvas = byId("overview");
+  const [x, y] = [overviewX(clock, canvas.clientWidth), AXIS + lane * LANE + 2].map((place) => place * devicePixelRatio);
+  return canvas.getContext("2d").getImageData(x, y, 1, 1).data[3] > 0;
+};
 """
 
 HANDS_RUN = """\
@@ -96,6 +101,10 @@ HANDS_WANTED: List[Tuple[str, Any]] = [
     ("((width) => { point('pointerdown', width * 0.9); point('pointermove', width * 0.95); point('pointerup', width - 6); return shown(); })"
      "(byId('overview').clientWidth)", [10, 11]),
     ("(press('0'), point('pointerdown', 7), point('pointerup', 8), line())", 1),
+    ("((width) => { point('pointerdown', width - 1); point('pointerup', width - 1); return line(); })(byId('overview').clientWidth)", 11),
+    # Activations of process 4 and 5 at clock 0, none in between, and again at 10.
+    ("[isDrawn(0.2, 0), isDrawn(0.2, 1), isDrawn(0.7, 0), isDrawn(0.7, 1)]", [True, False, False, True]),
+    ("[isDrawn(5, 0), isDrawn(5, 1), isDrawn(10.1, 0), isDrawn(10.3, 0), isDrawn(10.9, 1), isDrawn(11.5, 1)]", [False, False, False, True, True, False]),
     ("(location.hash = '#7', goToHash(), line())", 7),
     ("((row) => { row.dispatchEvent(new MouseEvent('click', { bubbles: true, clientY: row.getBoundingClientRect().top + 3 })); return line(); })"
      "(document.querySelectorAll('.row')[2])", 3),

@@ -199,7 +199,7 @@ class Replay:
         if word in ("post", "broadcast"):
             # Of a full queue the oldest event went to a process that doesn't run.
             self.state.queue[:] = [*self.state.queue[1 - QUEUE_PLACES:], number]
-        elif word == "kill":
+        elif word == "kill" and not self.exits_itself(number, numbers[0]):
             self.end_process(numbers[0])
         elif word.startswith(("timer-", "callback-")):
             self.set_timer(word, turn.pid, numbers)
@@ -207,6 +207,12 @@ class Replay:
             self.change_memory(word, turn.pid, numbers)
         elif word.startswith(("memb-", "list-")):
             self.change_pools(word, turn.pid, numbers, answer)
+
+    def exits_itself(self, number: int, pid: int) -> bool:
+        """Whether a process that is killed in a line answers the EXIT that it is given with `exit`: then it ends there."""
+        answer = self.answers[number]
+        turns = [turn_in(line) for line in self.lines[number:answer]]
+        return any(turn and (turn.pid, turn.call) == (pid, "exit") for turn in turns)
 
     def set_timer(self, word: str, pid: int, numbers: List[int]) -> None:
         kind, _, what = word.partition("-")
