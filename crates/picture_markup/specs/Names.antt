@@ -15,6 +15,7 @@ tag_name Tag.Title = codes "title"
 
 abbrev pub attribute_name : Attribute → List ℕ
 attribute_name Attribute.Namespace = codes "xmlns"
+attribute_name Attribute.Space = codes "xml:space"
 attribute_name Attribute.Width = codes "width"
 attribute_name Attribute.Height = codes "height"
 attribute_name Attribute.ViewBox = codes "viewBox"

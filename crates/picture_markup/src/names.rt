@@ -37,6 +37,8 @@ impl Tag {
 #[derive(Clone, Copy, Drop)]
 pub enum Attribute {
     Namespace,
+    /// Whether spaces stay as they are.
+    Space,
     Width,
     Height,
     ViewBox,
@@ -58,6 +60,7 @@ impl Attribute {
     {
         match self {
             Attribute::Namespace => "xmlns",
+            Attribute::Space => "xml:space",
             Attribute::Width => "width",
             Attribute::Height => "height",
             Attribute::ViewBox => "viewBox",

@@ -1,5 +1,8 @@
 //! What lines tell, in words.
 
+ghost use Rattle.std.specs.Prelude.{◌≡◌, ◌++◌, codes, string_bytes, IfOk, IfSome};
+ghost use Rattle.run_words.specs.Words as spec;
+
 use hex::FromHexError;
 use std::alloc::{AllocError, Global};
 use transcript_lines::{Ending, Input, Note, Origin, Turn};
@@ -85,6 +88,24 @@ fn push_payload(alloc: Global, out: &mut String, payload: &str) -> Result<(), Al
     }
 }
 
+/// Appends an event's name, or its number where it has none.
+fn push_event_name(out: &mut String, code: &str) -> Result<(), AllocError>
+    ensures { IfOk result (λ _. string_bytes out.new ≡ string_bytes out.old ++ spec.event_words code.now) }
+{
+    match code {
+        "129" => out.push_str("INIT"),
+        "130" => out.push_str("POLL"),
+        "131" => out.push_str("EXIT"),
+        "133" => out.push_str("CONTINUE"),
+        "134" => out.push_str("MSG"),
+        "135" => out.push_str("EXITED"),
+        "136" => out.push_str("TIMER"),
+        "138" => out.push_str("LINE"),
+        "139" => out.push_str("PACKET of"),
+        _ => write!(out, "event {code}"),
+    }
+}
+
 /// Appends an event by its name, or its number, and what it carries.
 fn push_event(
     alloc: Global,
@@ -92,18 +113,7 @@ fn push_event(
     code: &str,
     payload: &str,
 ) -> Result<(), AllocError> {
-    match code {
-        "129" => out.push_str("INIT")?,
-        "130" => out.push_str("POLL")?,
-        "131" => out.push_str("EXIT")?,
-        "133" => out.push_str("CONTINUE")?,
-        "134" => out.push_str("MSG")?,
-        "135" => out.push_str("EXITED")?,
-        "136" => out.push_str("TIMER")?,
-        "138" => out.push_str("LINE")?,
-        "139" => out.push_str("PACKET of")?,
-        _ => write!(out, "event {code}")?,
-    }
+    push_event_name(out, code)?;
     push_payload(alloc, out, payload)
 }
 
@@ -123,7 +133,9 @@ pub fn push_told(alloc: Global, out: &mut String, turn: &Turn<'_>) -> Result<(),
 }
 
 /// Why a call is refused, by the number of the refusal.
-fn reason(number: &str) -> &'static str {
+fn reason(number: &str) -> &'static str
+    ensures { result.now ≡ spec.reason number.now }
+{
     match number {
         "1" => "queue full",
         "2" => "not running",
@@ -148,7 +160,9 @@ fn reason(number: &str) -> &'static str {
 }
 
 /// The number of its refusal, where an answer is one.
-pub fn refusal_in(answer: &str) -> Option<&str> {
+pub fn refusal_in(answer: &str) -> Option<&str>
+    ensures { IfSome result (λ number. answer.now ≡ codes "refused " ++ number.now) }
+{
     answer.strip_prefix("refused ")
 }
 
@@ -168,12 +182,16 @@ pub fn push_answer(alloc: Global, out: &mut String, answer: &str) -> Result<(), 
 }
 
 /// Whether the last word of a call is bytes that go to memory.
-fn ends_in_bytes(word: &str) -> bool {
+fn ends_in_bytes(word: &str) -> bool
+    ensures { result ≡ spec.ends_in_bytes word.now }
+{
     matches!(word, "mmem-write" | "heap-write" | "memb-write")
 }
 
 /// Whether the last word of a call is what an event carries.
-fn ends_in_payload(word: &str) -> bool {
+fn ends_in_payload(word: &str) -> bool
+    ensures { result ≡ spec.ends_in_payload word.now }
+{
     matches!(word, "post" | "post-synch" | "broadcast")
 }
 
@@ -228,7 +246,9 @@ pub fn push_note(alloc: Global, out: &mut String, note: &Note<'_>) -> Result<(),
 }
 
 /// Appends how the run ended.
-pub fn push_ending(out: &mut String, ending: Ending) -> Result<(), AllocError> {
+pub fn push_ending(out: &mut String, ending: Ending) -> Result<(), AllocError>
+    ensures { IfOk result (λ _. string_bytes out.new ≡ string_bytes out.old ++ spec.ending_words ending) }
+{
     match ending {
         Ending::Halt => out.push_str("halt: 10,000 turns and rounds in one input"),
         Ending::BadLine(number) => write!(out, "bad line {number}: the script ends here"),

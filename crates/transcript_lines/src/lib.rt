@@ -4,7 +4,9 @@
 
 mod forms;
 pub mod line;
+pub mod quiet;
 pub mod turn;
 
 pub use line::{Ending, Input, Line, Note, read_line};
+pub use quiet::is_quiet;
 pub use turn::{Origin, Turn, read_turn};
