@@ -1,2 +1,2 @@
+pub mod Elements
 pub mod Places
-pub mod Title

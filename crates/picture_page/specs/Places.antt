@@ -1,5 +1,5 @@
 -- Where the parts of a picture stand, in pixels from the left and from above. No number exceeds 64 bits.
-use Rattle.std.specs.Prelude.{ℕ, ◌+◌, ◌-◌, ◌*◌, ◌/◌, ◌^◌, min, max, nat_le, if◌then◌else◌, ◌==◌}
+use Rattle.std.specs.Prelude.{ℕ, ◌+◌, ◌-◌, ◌*◌, ◌/◌, ◌^◌, min, max, nat_le, if◌then◌else◌, ◌==◌, Option, Some, None}
 use Rattle.picture_page.specs.declared.page.Page.{Page}
 
 abbrev pub capped : ℕ → ℕ
@@ -13,9 +13,18 @@ row_top page row = capped (page.top + 17 * row)
 abbrev pub row_base : Page → ℕ → ℕ
 row_base page row = capped (page.top + 17 * row + 12)
 
+-- what stays somewhere begins and ends in the middle of a row
+abbrev pub row_middle : Page → ℕ → ℕ
+row_middle page row = capped (page.top + 17 * row + 8)
+
 -- where the rows end
 abbrev pub bottom : Page → ℕ
 bottom page = row_top page page.rows
+
+-- what stays to the end, ends there
+abbrev pub end_of : Page → Option ℕ → ℕ
+end_of page None = bottom page
+end_of page (Some row) = row_middle page row
 
 -- the more lanes, the narrower each
 abbrev pub lane_width : ℕ → ℕ

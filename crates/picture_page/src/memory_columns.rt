@@ -1,7 +1,7 @@
 //! The columns of memory beside the rows: a box for each block, for as long as it lies at its place.
 
-ghost use Rattle.std.specs.Prelude.{◌+◌, ◌≤◌};
-ghost use Rattle.picture_page.specs.Places.{capped};
+ghost use Rattle.std.specs.Prelude.{◌≡◌, ◌+◌, ◌-◌, ◌≤◌, max};
+ghost use Rattle.picture_page.specs.Places.{capped, end_of, row_middle};
 
 use crate::page::{Page, ROW};
 use crate::pen::{Area, Pen, Place};
@@ -52,7 +52,12 @@ pub fn bytes_shown(stays: &[Stay], size: u64) -> u64 {
 }
 
 /// The part of a column that a block takes.
-fn area_of(page: &Page, column: &Column, stay: &Stay) -> Area {
+fn area_of(page: &Page, column: &Column, stay: &Stay) -> Area
+    ensures top { result.place.top ≡ row_middle page.now stay.now.first }
+    ensures height { result.height ≡ max (end_of page.now stay.now.last - row_middle page.now stay.now.first) 1 }
+    ensures from { capped column.now.left ≤ result.place.left }
+    ensures to { result.place.left + result.width ≤ column.now.left + column.now.width + 1 }
+{
     let left = column.reach_of(stay.at);
     let right = column.reach_of(stay.at.saturating_add(stay.taken));
     let (top, end) = page.span_of(stay);

@@ -128,7 +128,10 @@ impl Page {
     }
 
     /// Where what stays somewhere begins and ends, from the middle of its first row on.
-    pub(crate) fn span_of(&self, stay: &Stay) -> (usize, usize) {
+    pub(crate) fn span_of(&self, stay: &Stay) -> (usize, usize)
+        ensures from { result.0 ≡ spec.row_middle self.now stay.now.first }
+        ensures to { result.1 ≡ spec.end_of self.now stay.now.last }
+    {
         let end = match stay.last {
             Some(row) => self.top_of(row).saturating_add(ROW / 2),
             None => self.bottom(),

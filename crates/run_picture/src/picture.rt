@@ -2,8 +2,8 @@
 
 ghost use Rattle.std.specs.Prelude.{◌≡◌, ◌≤◌, [], ◌++◌, length, IfOk};
 ghost use Rattle.picture_markup.specs.Markup.{IsDocument};
-ghost use Rattle.run_rows.specs.Rows.{Cover};
-ghost use Rattle.run_picture.specs.Titles.{bytes_of, IsDrawn, ShowsRows, IsPicture};
+ghost use Rattle.run_rows.specs.Rows.{Cover, bytes_of};
+ghost use Rattle.run_picture.specs.Titles.{IsDrawn, ShowsRows, IsPicture};
 
 use crate::drawing::{draw_activations, draw_curves, draw_gifts, draw_lives, draw_words};
 use crate::grounds::grounds_of;

@@ -1,6 +1,125 @@
--- The words that stand for numbers, and for how a run ended.
-use Rattle.std.specs.Prelude.{ℕ, Bool, ◌||◌, List, ◌++◌, bytes_eq, codes, decimal, if◌then◌else◌}
+-- The words for what a transcript's lines tell.
+use Rattle.std.specs.Prelude.{ℕ, ◌/◌, ◌%◌, ◌<◌, ◌≡◌, ◌≢◌, ◌⊎◌, Bool, ◌||◌, ◌&&◌, List, [], ◌∷◌, ◌++◌, length, get_or, take, flat_map, bytes_eq, codes, decimal, encode_utf8, nat_le, nat_lt, ◌==◌, if◌then◌else◌, Option, Some, None, Result, Ok, Err}
+use Rattle.std.specs.Fmt.{digit_glyph}
+use Rattle.std.specs.List.{after_first, before_first, list_all, position_or_len}
+use Rattle.hex.specs.Hex.{decode_of}
+use Rattle.transcript_lines.specs.Lines.{behind}
 use Rattle.transcript_lines.specs.declared.line.Ending.{Ending}
+use Rattle.transcript_lines.specs.declared.line.Input.{Input}
+use Rattle.transcript_lines.specs.declared.line.Note.{Note}
+use Rattle.transcript_lines.specs.declared.turn.Origin.{Origin}
+use Rattle.transcript_lines.specs.declared.turn.Turn.{Turn}
+
+-- ---- bytes
+
+-- signs that are no ASCII: quotation marks, a line's end, a carriage return, three dots, and a cross
+abbrev pub opening : List ℕ
+opening = 226 ∷ 128 ∷ 156 ∷ []
+
+abbrev pub closing : List ℕ
+closing = 226 ∷ 128 ∷ 157 ∷ []
+
+abbrev pub line_end : List ℕ
+line_end = 226 ∷ 143 ∷ 142 ∷ []
+
+abbrev pub carriage_return : List ℕ
+carriage_return = 226 ∷ 144 ∷ 141 ∷ []
+
+abbrev pub dots : List ℕ
+dots = 226 ∷ 128 ∷ 166 ∷ []
+
+abbrev pub cross : List ℕ
+cross = 226 ∷ 156 ∷ 151 ∷ []
+
+-- a byte of a text
+abbrev pub is_text_byte : ℕ → Bool
+is_text_byte byte = nat_le 32 byte && nat_le byte 126 || byte == 10 || byte == 13
+
+abbrev pub are_text : List ℕ → Bool
+are_text bytes = nat_lt 0 (length bytes) && list_all is_text_byte bytes
+
+abbrev pub text_byte : ℕ → List ℕ
+text_byte byte = if byte == 10 then line_end else if byte == 13 then carriage_return else encode_utf8 byte
+
+-- so many of the bytes at most, as text in quotation marks
+abbrev pub quoted : ℕ → List ℕ → List ℕ
+quoted most bytes = opening ++ flat_map text_byte (take most bytes) ++ closing
+
+-- eight of them at most, each as two digits and a space
+abbrev pub digit_pair : ℕ → List ℕ
+digit_pair byte = digit_glyph false (byte / 16) ∷ digit_glyph false (byte % 16) ∷ 32 ∷ []
+
+abbrev pub numbered : List ℕ → List ℕ
+numbered bytes = flat_map digit_pair (take 8 bytes)
+
+-- how many bytes there are, where not all are shown, or there are none
+abbrev pub count_words : ℕ → List ℕ → List ℕ
+count_words most bytes = if nat_lt most (length bytes) || length bytes == 0 then dots ++ codes " " ++ decimal (length bytes) ++ codes " bytes" else []
+
+-- as text of so many bytes at most where they are text, else as numbers
+abbrev pub shown_bytes : ℕ → List ℕ → List ℕ
+shown_bytes most bytes = if are_text bytes then quoted most bytes ++ count_words most bytes else numbered bytes ++ count_words 8 bytes
+
+abbrev pub bytes_or_none : {E : Type 0} → Result (List ℕ) E → List ℕ
+bytes_or_none (Ok bytes) = bytes
+bytes_or_none (Err error) = []
+
+-- the bytes of these digits, in hex; none where they are no digits
+abbrev pub bytes_in : List ℕ → List ℕ
+bytes_in digits = bytes_or_none (decode_of digits)
+
+-- of a print 48 bytes are shown, else 24
+abbrev pub printed_words : List ℕ → List ℕ
+printed_words digits = shown_bytes 48 (bytes_in digits)
+
+abbrev pub bytes_words : List ℕ → List ℕ
+bytes_words digits = shown_bytes 24 (bytes_in digits)
+
+-- ---- what a process was told
+
+-- what an event carries, with a space in front
+abbrev pub payload_by : List ℕ → Option (List ℕ) → List ℕ
+payload_by payload (Some digits) = codes " " ++ bytes_words digits
+payload_by payload None = if bytes_eq payload (codes "-") then [] else codes " " ++ payload
+
+abbrev pub payload_words : List ℕ → List ℕ
+payload_words payload = payload_by payload (behind (codes "x") payload)
+
+-- the name of an event, by its code; one that has no name is named by its code
+abbrev pub event_words : List ℕ → List ℕ
+event_words code =
+    if bytes_eq code (codes "129") then codes "INIT"
+    else if bytes_eq code (codes "130") then codes "POLL"
+    else if bytes_eq code (codes "131") then codes "EXIT"
+    else if bytes_eq code (codes "133") then codes "CONTINUE"
+    else if bytes_eq code (codes "134") then codes "MSG"
+    else if bytes_eq code (codes "135") then codes "EXITED"
+    else if bytes_eq code (codes "136") then codes "TIMER"
+    else if bytes_eq code (codes "138") then codes "LINE"
+    else if bytes_eq code (codes "139") then codes "PACKET of"
+    else codes "event " ++ code
+
+-- an event by its name, and what it carries
+abbrev pub is_space : ℕ → Bool
+is_space byte = byte == 32
+
+abbrev pub told_event : List ℕ → List ℕ
+told_event words =
+    if nat_lt (position_or_len is_space words) (length words) then event_words (before_first is_space words) ++ payload_words (after_first is_space words)
+    else event_words words
+
+-- an answer stands with its call
+abbrev pub told_by : Origin → List ℕ → List ℕ
+told_by Origin.Answer words = []
+told_by Origin.Callback words = codes "callback " ++ words
+told_by Origin.Event words = told_event words
+told_by Origin.Synch words = told_event words
+told_by Origin.Poll words = told_event words
+
+abbrev pub told_words : Turn → List ℕ
+told_words turn = told_by turn.origin turn.stimulus.now
+
+-- ---- answers
 
 -- why a call is refused, by the number of the refusal
 abbrev pub reason : List ℕ → List ℕ
@@ -25,19 +144,19 @@ reason number =
     else if bytes_eq number (codes "18") then codes "over quota"
     else codes "refused"
 
--- the name of an event, by its code; one that has no name is named by its code
-abbrev pub event_words : List ℕ → List ℕ
-event_words code =
-    if bytes_eq code (codes "129") then codes "INIT"
-    else if bytes_eq code (codes "130") then codes "POLL"
-    else if bytes_eq code (codes "131") then codes "EXIT"
-    else if bytes_eq code (codes "133") then codes "CONTINUE"
-    else if bytes_eq code (codes "134") then codes "MSG"
-    else if bytes_eq code (codes "135") then codes "EXITED"
-    else if bytes_eq code (codes "136") then codes "TIMER"
-    else if bytes_eq code (codes "138") then codes "LINE"
-    else if bytes_eq code (codes "139") then codes "PACKET of"
-    else codes "event " ++ code
+abbrev pub value_words : List ℕ → List ℕ → List ℕ
+value_words kind value = codes "  = " ++ (if bytes_eq kind (codes "bytes") then bytes_words value else value)
+
+abbrev pub answer_by : List ℕ → Option (List ℕ) → List ℕ
+answer_by answer (Some number) = codes "  " ++ cross ++ codes " " ++ reason number ++ codes " (" ++ number ++ codes ")"
+answer_by answer None =
+    if nat_lt (position_or_len is_space answer) (length answer) then value_words (before_first is_space answer) (after_first is_space answer) else []
+
+-- behind its call: a refusal by its reason, a value, and nothing where the call was done
+abbrev pub answer_words : List ℕ → List ℕ
+answer_words answer = answer_by answer (behind (codes "refused ") answer)
+
+-- ---- calls
 
 -- calls whose last word is bytes that go to memory, and those whose last word is what an event carries
 abbrev pub ends_in_bytes : List ℕ → Bool
@@ -45,6 +164,39 @@ ends_in_bytes word = bytes_eq word (codes "mmem-write") || bytes_eq word (codes 
 
 abbrev pub ends_in_payload : List ℕ → Bool
 ends_in_payload word = bytes_eq word (codes "post") || bytes_eq word (codes "post-synch") || bytes_eq word (codes "broadcast")
+
+-- the last word of a call whose name is this one
+abbrev pub last_words : List ℕ → List ℕ → List ℕ
+last_words name last =
+    if ends_in_payload name then payload_words last
+    else codes " " ++ (if bytes_eq name (codes "print") then printed_words last else if ends_in_bytes name then bytes_words last else last)
+
+abbrev pub call_by : List ℕ → List ℕ → List ℕ
+call_by front last = front ++ last_words (before_first is_space front) last
+
+abbrev pub HasNoSpace : List ℕ → Type 0
+HasNoSpace words = (place : ℕ) → place < length words → get_or words place 0 ≢ 32
+
+-- the words of a call are these: its own, and bytes as they are shown; the last word is the one behind the last space
+abbrev pub AreCallWords : List ℕ → List ℕ → Type 0
+AreCallWords call words =
+    (HasNoSpace call × (words ≡ call))
+    ⊎ ((front : List ℕ) × (last : List ℕ) × (call ≡ front ++ 32 ∷ last) × HasNoSpace last × (words ≡ call_by front last))
+
+-- ---- inputs, notes, and how a run ended
+
+abbrev pub input_words : Input → List ℕ
+input_words (Input.Tick ticks) = codes "tick " ++ decimal ticks
+input_words (Input.Serial digits) = codes "serial " ++ bytes_words digits.now
+input_words (Input.Frame digits) = codes "frame of " ++ decimal (length digits.now / 2) ++ codes ": " ++ bytes_words digits.now
+
+-- the number of the refusal is 1 where eight frames are held
+abbrev pub lost_words : ℕ → List ℕ
+lost_words number = if number == 1 then codes "8 are held (1)" else codes "no room in managed memory (" ++ decimal number ++ codes ")"
+
+abbrev pub note_words : Note → List ℕ
+note_words (Note.Lost number) = cross ++ codes " the frame is lost: " ++ lost_words number
+note_words (Note.Sent digits) = codes "sent " ++ bytes_words digits.now
 
 abbrev pub ending_words : Ending → List ℕ
 ending_words Ending.Halt = codes "halt: 10,000 turns and rounds in one input"

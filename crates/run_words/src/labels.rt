@@ -1,6 +1,8 @@
 //! What lines tell, in words.
 
-ghost use Rattle.std.specs.Prelude.{◌≡◌, ◌++◌, codes, string_bytes, IfOk, IfSome};
+ghost use Rattle.std.specs.Prelude.{◌≡◌, ◌++◌, List, ℕ, [], Some, length, take, codes, string_bytes, option_map, IfOk};
+ghost use Rattle.transcript_lines.specs.Lines.{behind};
+ghost use Rattle.std.specs.List.{before_first};
 ghost use Rattle.run_words.specs.Words as spec;
 
 use hex::FromHexError;
@@ -17,75 +19,132 @@ const MOST_PRINTED: usize = 48;
 const MOST_NUMBERS: usize = 8;
 
 /// Bytes of which all are text, a line end too.
-fn are_text(bytes: &[u8]) -> bool {
-    !bytes.is_empty()
-        && bytes
-            .iter()
-            .all(|byte| matches!(*byte, b' '..=b'~' | b'\n' | b'\r'))
+fn are_text(bytes: &[u8]) -> bool
+    ensures { result ≡ spec.are_text bytes.now }
+{
+    !bytes.is_empty() && bytes.iter().all(|byte| is_text_byte(*byte))
+}
+
+fn is_text_byte(byte: u8) -> bool
+    ensures { result ≡ spec.is_text_byte byte }
+{
+    matches!(byte, b' '..=b'~' | b'\n' | b'\r')
+}
+
+/// So many bytes at most.
+fn front_of(bytes: &[u8], most: usize) -> &[u8]
+    ensures { result.now ≡ take most bytes.now }
+{
+    if bytes.len() <= most {
+        bytes
+    } else {
+        &bytes[..most]
+    }
+}
+
+/// Appends a byte of a text.
+fn push_text_byte(out: &mut String, byte: u8) -> Result<(), AllocError>
+    ensures { IfOk result (λ _. string_bytes out.new ≡ string_bytes out.old ++ spec.text_byte byte) }
+{
+    match byte {
+        b'\n' => out.push_str("⏎"),
+        b'\r' => out.push_str("␍"),
+        _ => out.push(char::from(byte)),
+    }
 }
 
 /// Appends bytes as the text that they are, so many at most.
-fn push_text(out: &mut String, bytes: &[u8], most: usize) -> Result<(), AllocError> {
+fn push_text(out: &mut String, bytes: &[u8], most: usize) -> Result<(), AllocError>
+    ensures { IfOk result (λ _. string_bytes out.new ≡ string_bytes out.old ++ spec.quoted most bytes.now) }
+{
     out.push_str("“")?;
-    for byte in bytes.iter().take(most) {
-        match *byte {
-            b'\n' => out.push_str("⏎")?,
-            b'\r' => out.push_str("␍")?,
-            byte => out.push(char::from(byte))?,
-        }
+    for byte in front_of(bytes, most) {
+        push_text_byte(out, *byte)?;
     }
     out.push_str("”")
 }
 
 /// Appends bytes as two digits each.
-fn push_numbers(out: &mut String, bytes: &[u8]) -> Result<(), AllocError> {
-    for byte in bytes.iter().take(MOST_NUMBERS) {
-        let byte = *byte;
-        write!(out, "{byte:02x} ")?;
+fn push_numbers(out: &mut String, bytes: &[u8]) -> Result<(), AllocError>
+    ensures { IfOk result (λ _. string_bytes out.new ≡ string_bytes out.old ++ spec.numbered bytes.now) }
+{
+    for byte in front_of(bytes, MOST_NUMBERS) {
+        push_digits(out, *byte)?;
     }
     Ok(())
 }
 
-/// Appends what the digits of bytes stand for: text in quotes where it is text, of so many bytes at most, else two digits for
-/// each byte.
-fn push_some(
-    alloc: Global,
-    out: &mut String,
-    digits: &str,
-    most_text: usize,
-) -> Result<(), AllocError> {
-    let bytes = match hex::decode(alloc, digits) {
-        Ok(bytes) => bytes,
-        Err(FromHexError::OutOfMemory) => return Err(AllocError),
-        Err(_) => Vec::new(alloc),
-    };
-    let is_text = are_text(bytes.as_slice());
-    if is_text {
-        push_text(out, bytes.as_slice(), most_text)?;
+/// Appends a byte as two digits, and a space.
+fn push_digits(out: &mut String, byte: u8) -> Result<(), AllocError>
+    ensures { IfOk result (λ _. string_bytes out.new ≡ string_bytes out.old ++ spec.digit_pair byte) }
+{
+    write!(out, "{byte:02x} ")
+}
+
+/// Appends how many bytes there are, where not so many are shown, or there are none.
+fn push_count(out: &mut String, count: usize, most: usize) -> Result<(), AllocError>
+    ensures { (bytes : List ℕ) → length bytes ≡ count → IfOk result (λ _. string_bytes out.new ≡ string_bytes out.old ++ spec.count_words most bytes) }
+{
+    if count > most || count == 0 {
+        write!(out, "… {count} bytes")
     } else {
-        push_numbers(out, bytes.as_slice())?;
+        Ok(())
     }
-    let most = if is_text { most_text } else { MOST_NUMBERS };
-    if bytes.len() > most || bytes.is_empty() {
-        write!(out, "… {} bytes", bytes.len())?;
-    }
-    Ok(())
 }
 
-fn push_bytes(alloc: Global, out: &mut String, digits: &str) -> Result<(), AllocError> {
-    push_some(alloc, out, digits, MOST_BYTES)
+/// The bytes that digits stand for; none where they are no digits.
+fn bytes_of(alloc: Global, digits: &str) -> Result<Vec<u8>, AllocError>
+    ensures { IfOk result (λ bytes. bytes.items ≡ spec.bytes_in digits.now) }
+{
+    match hex::decode(alloc, digits) {
+        Ok(bytes) => Ok(bytes),
+        Err(FromHexError::OutOfMemory) => Err(AllocError),
+        Err(_) => Ok(Vec::new(alloc)),
+    }
+}
+
+/// Appends bytes: text in quotes where they are text, of so many bytes at most, else two digits for each byte.
+fn push_shown(out: &mut String, bytes: &[u8], most_text: usize) -> Result<(), AllocError>
+    ensures { IfOk result (λ _. string_bytes out.new ≡ string_bytes out.old ++ spec.shown_bytes most_text bytes.now) }
+{
+    if are_text(bytes) {
+        push_text(out, bytes, most_text)?;
+        push_count(out, bytes.len(), most_text)
+    } else {
+        push_numbers(out, bytes)?;
+        push_count(out, bytes.len(), MOST_NUMBERS)
+    }
+}
+
+/// Appends what the digits of a print's bytes stand for.
+fn push_printed(alloc: Global, out: &mut String, digits: &str) -> Result<(), AllocError>
+    ensures { IfOk result (λ _. string_bytes out.new ≡ string_bytes out.old ++ spec.printed_words digits.now) }
+{
+    let bytes = bytes_of(alloc, digits)?;
+    push_shown(out, bytes.as_slice(), MOST_PRINTED)
+}
+
+/// Appends what the digits of bytes stand for.
+fn push_bytes(alloc: Global, out: &mut String, digits: &str) -> Result<(), AllocError>
+    ensures { IfOk result (λ _. string_bytes out.new ≡ string_bytes out.old ++ spec.bytes_words digits.now) }
+{
+    let bytes = bytes_of(alloc, digits)?;
+    push_shown(out, bytes.as_slice(), MOST_BYTES)
 }
 
 /// Appends what an event carries.
-fn push_payload(alloc: Global, out: &mut String, payload: &str) -> Result<(), AllocError> {
-    match payload.strip_prefix('x') {
-        Some(line) => {
-            out.push_str(" ")?;
-            push_bytes(alloc, out, line)
-        }
-        None if payload == "-" => Ok(()),
-        None => write!(out, " {payload}"),
+fn push_payload(alloc: Global, out: &mut String, payload: &str) -> Result<(), AllocError>
+    ensures { IfOk result (λ _. string_bytes out.new ≡ string_bytes out.old ++ spec.payload_words payload.now) }
+{
+    if let Some(line) = payload.strip_prefix("x") {
+        out.push_str(" ")?;
+        return push_bytes(alloc, out, line);
     }
+    if payload == "-" {
+        return Ok(());
+    }
+    out.push_str(" ")?;
+    out.push_str(payload)
 }
 
 /// Appends an event's name, or its number where it has none.
@@ -102,33 +161,37 @@ fn push_event_name(out: &mut String, code: &str) -> Result<(), AllocError>
         "136" => out.push_str("TIMER"),
         "138" => out.push_str("LINE"),
         "139" => out.push_str("PACKET of"),
-        _ => write!(out, "event {code}"),
+        _ => {
+            out.push_str("event ")?;
+            out.push_str(code)
+        }
     }
 }
 
 /// Appends an event by its name, or its number, and what it carries.
-fn push_event(
-    alloc: Global,
-    out: &mut String,
-    code: &str,
-    payload: &str,
-) -> Result<(), AllocError> {
-    push_event_name(out, code)?;
-    push_payload(alloc, out, payload)
+fn push_event(alloc: Global, out: &mut String, words: &str) -> Result<(), AllocError>
+    ensures { IfOk result (λ _. string_bytes out.new ≡ string_bytes out.old ++ spec.told_event words.now) }
+{
+    match words.split_once(' ') {
+        Some((code, payload)) => {
+            push_event_name(out, code)?;
+            push_payload(alloc, out, payload)
+        }
+        None => push_event_name(out, words),
+    }
 }
 
 /// Appends what a process was told; an answer stands with its call.
-pub fn push_told(alloc: Global, out: &mut String, turn: &Turn<'_>) -> Result<(), AllocError> {
+pub fn push_told(alloc: Global, out: &mut String, turn: &Turn<'_>) -> Result<(), AllocError>
+    ensures { IfOk result (λ _. string_bytes out.new ≡ string_bytes out.old ++ spec.told_words turn.now) }
+{
     match turn.origin {
         Origin::Answer => Ok(()),
-        Origin::Callback => write!(out, "callback {}", turn.stimulus),
-        Origin::Event | Origin::Synch | Origin::Poll => {
-            let (code, payload) = turn
-                .stimulus
-                .split_once(' ')
-                .unwrap_or((turn.stimulus, "-"));
-            push_event(alloc, out, code, payload)
+        Origin::Callback => {
+            out.push_str("callback ")?;
+            out.push_str(turn.stimulus)
         }
+        Origin::Event | Origin::Synch | Origin::Poll => push_event(alloc, out, turn.stimulus),
     }
 }
 
@@ -161,23 +224,37 @@ fn reason(number: &str) -> &'static str
 
 /// The number of its refusal, where an answer is one.
 pub fn refusal_in(answer: &str) -> Option<&str>
-    ensures { IfSome result (λ number. answer.now ≡ codes "refused " ++ number.now) }
+    ensures { option_map (λ number. number.now) result ≡ behind (codes "refused ") answer.now }
 {
     answer.strip_prefix("refused ")
 }
 
+/// Appends why a call was refused.
+fn push_refusal(out: &mut String, number: &str) -> Result<(), AllocError>
+    ensures { IfOk result (λ _. string_bytes out.new ≡ string_bytes out.old ++ spec.answer_by [] (Some number.now)) }
+{
+    out.push_str("  ✗ ")?;
+    out.push_str(reason(number))?;
+    out.push_str(" (")?;
+    out.push_str(number)?;
+    out.push_str(")")
+}
+
 /// Appends an answer behind its call.
-pub fn push_answer(alloc: Global, out: &mut String, answer: &str) -> Result<(), AllocError> {
+pub fn push_answer(alloc: Global, out: &mut String, answer: &str) -> Result<(), AllocError>
+    ensures { IfOk result (λ _. string_bytes out.new ≡ string_bytes out.old ++ spec.answer_words answer.now) }
+{
     if let Some(number) = refusal_in(answer) {
-        return write!(out, "  ✗ {} ({number})", reason(number));
+        return push_refusal(out, number);
     }
-    match answer.split_once(' ') {
-        Some(("bytes", digits)) => {
-            out.push_str("  = ")?;
-            push_bytes(alloc, out, digits)
-        }
-        Some((_, value)) => write!(out, "  = {value}"),
-        None => Ok(()),
+    let Some((kind, value)) = answer.split_once(' ') else {
+        return Ok(());
+    };
+    out.push_str("  = ")?;
+    if kind == "bytes" {
+        push_bytes(alloc, out, value)
+    } else {
+        out.push_str(value)
     }
 }
 
@@ -195,28 +272,48 @@ fn ends_in_payload(word: &str) -> bool
     matches!(word, "post" | "post-synch" | "broadcast")
 }
 
-/// Appends a call: its words, and bytes among them as text where they are text.
-pub fn push_call(alloc: Global, out: &mut String, call: &str) -> Result<(), AllocError> {
-    let Some((front, last)) = call.rsplit_once(' ') else {
-        return out.push_str(call);
-    };
-    let word = front.split_once(' ').map_or(front, |(word, _)| word);
-    out.push_str(front)?;
-    if word == "print" {
-        out.push_str(" ")?;
-        push_some(alloc, out, last, MOST_PRINTED)
-    } else if ends_in_bytes(word) {
-        out.push_str(" ")?;
+/// Appends the last word of a call with that name.
+fn push_last(alloc: Global, out: &mut String, name: &str, last: &str) -> Result<(), AllocError>
+    ensures { IfOk result (λ _. string_bytes out.new ≡ string_bytes out.old ++ spec.last_words name.now last.now) }
+{
+    if ends_in_payload(name) {
+        return push_payload(alloc, out, last);
+    }
+    out.push_str(" ")?;
+    if name == "print" {
+        push_printed(alloc, out, last)
+    } else if ends_in_bytes(name) {
         push_bytes(alloc, out, last)
-    } else if ends_in_payload(word) {
-        push_payload(alloc, out, last)
     } else {
-        write!(out, " {last}")
+        out.push_str(last)
     }
 }
 
+/// The name of a call.
+fn name_of(words: &str) -> &str
+    ensures { result.now ≡ before_first spec.is_space words.now }
+{
+    match words.split_once(' ') {
+        Some((name, _)) => name,
+        None => words,
+    }
+}
+
+/// Appends a call: its words, and bytes among them as text where they are text.
+pub fn push_call(alloc: Global, out: &mut String, call: &str) -> Result<(), AllocError>
+    ensures { IfOk result (λ _. (words : List ℕ) × spec.AreCallWords call.now words × (string_bytes out.new ≡ string_bytes out.old ++ words)) }
+{
+    let Some((front, last)) = call.rsplit_once(' ') else {
+        return out.push_str(call);
+    };
+    out.push_str(front)?;
+    push_last(alloc, out, name_of(front), last)
+}
+
 /// Appends an input.
-pub fn push_input(alloc: Global, out: &mut String, input: &Input<'_>) -> Result<(), AllocError> {
+pub fn push_input(alloc: Global, out: &mut String, input: &Input<'_>) -> Result<(), AllocError>
+    ensures { IfOk result (λ _. string_bytes out.new ≡ string_bytes out.old ++ spec.input_words input.now) }
+{
     match *input {
         Input::Tick(ticks) => write!(out, "tick {ticks}"),
         Input::Serial(digits) => {
@@ -230,14 +327,26 @@ pub fn push_input(alloc: Global, out: &mut String, input: &Input<'_>) -> Result<
     }
 }
 
+/// Appends why a frame was lost, by the number of the refusal.
+fn push_lost(out: &mut String, number: u64) -> Result<(), AllocError>
+    ensures { IfOk result (λ _. string_bytes out.new ≡ string_bytes out.old ++ spec.lost_words number) }
+{
+    if number == 1 {
+        out.push_str("8 are held (1)")
+    } else {
+        write!(out, "no room in managed memory ({number})")
+    }
+}
+
 /// Appends what became of a frame.
-pub fn push_note(alloc: Global, out: &mut String, note: &Note<'_>) -> Result<(), AllocError> {
+pub fn push_note(alloc: Global, out: &mut String, note: &Note<'_>) -> Result<(), AllocError>
+    ensures { IfOk result (λ _. string_bytes out.new ≡ string_bytes out.old ++ spec.note_words note.now) }
+{
     match *note {
-        Note::Lost(1) => out.push_str("✗ the frame is lost: 8 are held (1)"),
-        Note::Lost(number) => write!(
-            out,
-            "✗ the frame is lost: no room in managed memory ({number})"
-        ),
+        Note::Lost(number) => {
+            out.push_str("✗ the frame is lost: ")?;
+            push_lost(out, number)
+        }
         Note::Sent(digits) => {
             out.push_str("sent ")?;
             push_bytes(alloc, out, digits)

@@ -1,5 +1,11 @@
 //! The forms of the words of a line.
 
+ghost use Rattle.std.specs.Prelude.{◌≡◌, ◌++◌};
+ghost use Rattle.std.specs.Char.{is_ascii_digit};
+ghost use Rattle.std.specs.List.{list_all};
+ghost use Rattle.transcript_lines.specs.Words as spec;
+ghost use Rattle.transcript_lines.specs.Code.{behind_word};
+
 /// What a word may be.
 #[derive(Clone, Copy, Drop)]
 pub(crate) enum Form {
@@ -14,7 +20,9 @@ pub(crate) enum Form {
 }
 
 impl Form {
-    fn allows(self, word: &str) -> bool {
+    fn allows(self, word: &str) -> bool
+        ensures { result ≡ spec.has_form self word.now }
+    {
         match self {
             Form::Number => number(word).is_some(),
             Form::Bytes => is_bytes(word),
@@ -24,32 +32,46 @@ impl Form {
     }
 }
 
-/// The number that is written so.
-pub(crate) fn number(word: &str) -> Option<u64> {
-    let is_short = word.len() == 1 || !word.starts_with('0');
-    let is_decimal = word.bytes().all(|byte| byte.is_ascii_digit());
-    if is_short && is_decimal {
-        word.parse::<u64>().ok()
-    } else {
-        None
-    }
+fn are_digits(word: &str) -> bool
+    ensures { result ≡ list_all is_ascii_digit word.now }
+{
+    word.as_bytes().iter().all(|byte| byte.is_ascii_digit())
 }
 
-fn is_lower_digit(byte: u8) -> bool {
+/// The number that is written so, without leading zeros.
+pub(crate) fn number(word: &str) -> Option<u64>
+    ensures { result ≡ spec.read_number word.now }
+{
+    let has_leading_zero = word.len() > 1 && word.as_bytes()[0] == b'0';
+    if has_leading_zero || !are_digits(word) {
+        return None;
+    }
+    word.parse::<u64>().ok()
+}
+
+fn is_hex_digit(byte: u8) -> bool
+    ensures { result ≡ spec.is_hex_digit byte }
+{
     matches!(byte, b'0'..=b'9' | b'a'..=b'f')
 }
 
 /// Two lower case digits for each byte.
-fn is_hex(word: &str) -> bool {
-    word.len() % 2 == 0 && word.bytes().all(|byte| is_lower_digit(byte))
+fn is_hex(word: &str) -> bool
+    ensures { result ≡ spec.is_hex word.now }
+{
+    word.len() % 2 == 0 && word.as_bytes().iter().all(|byte| is_hex_digit(*byte))
 }
 
-pub(crate) fn is_bytes(word: &str) -> bool {
+pub(crate) fn is_bytes(word: &str) -> bool
+    ensures { result ≡ spec.is_bytes word.now }
+{
     word == "-" || (!word.is_empty() && is_hex(word))
 }
 
-fn is_payload(word: &str) -> bool {
-    match word.strip_prefix('x') {
+fn is_payload(word: &str) -> bool
+    ensures { result ≡ spec.is_payload word.now }
+{
+    match word.strip_prefix("x") {
         Some(line) => is_hex(line),
         None => word == "-" || number(word).is_some(),
     }
@@ -71,7 +93,9 @@ pub(crate) fn have_forms(text: Option<&str>, forms: &[Form]) -> bool {
 }
 
 /// A text's first word, and what stands behind the space.
-pub(crate) fn first_word(text: &str) -> (&str, Option<&str>) {
+pub(crate) fn first_word(text: &str) -> (&str, Option<&str>)
+    ensures { text.now ≡ result.0.now ++ behind_word result.1 }
+{
     match text.split_once(' ') {
         Some((word, rest)) => (word, Some(rest)),
         None => (text, None),

@@ -1,6 +1,10 @@
 //! The lines of a transcript.
 
-use crate::forms::{first_word, is_bytes, number};
+ghost use Rattle.std.specs.Prelude.{◌≡◌, codes, option_and_then, IfSome};
+ghost use Rattle.transcript_lines.specs.Lines.{behind, ending_text, input_text, line_text, note_text, ticks_by, ticks_in, ticks_told};
+ghost use Rattle.transcript_lines.specs.Words.{read_number};
+
+use crate::forms::{is_bytes, number};
 use crate::turn::{Turn, read_turn};
 
 /// An input that is handed in.
@@ -43,28 +47,38 @@ pub enum Line<'a> {
     Ending(Ending),
 }
 
-fn read_input(text: &str) -> Option<Input<'_>> {
-    let (word, rest) = first_word(text);
-    let rest = rest?;
-    match word {
-        "tick" => Some(Input::Tick(number(rest)?)),
-        "serial" if is_bytes(rest) => Some(Input::Serial(rest)),
-        "frame" if is_bytes(rest) => Some(Input::Frame(rest)),
-        _ => None,
+/// The digits of bytes, where the word is such.
+fn digits_in(word: &str) -> Option<&str>
+    ensures { IfSome result (λ digits. digits.now ≡ word.now) }
+{
+    if is_bytes(word) { Some(word) } else { None }
+}
+
+fn read_input(text: &str) -> Option<Input<'_>>
+    ensures told { IfSome result (λ input. text.now ≡ input_text input) }
+    ensures ticks { option_and_then ticks_by result ≡ option_and_then read_number (behind (codes "tick ") text.now) }
+{
+    if let Some(ticks) = text.strip_prefix("tick ") {
+        return Some(Input::Tick(number(ticks)?));
+    }
+    match text.strip_prefix("serial ") {
+        Some(word) => Some(Input::Serial(digits_in(word)?)),
+        None => Some(Input::Frame(digits_in(text.strip_prefix("frame ")?)?)),
     }
 }
 
-fn read_note(text: &str) -> Option<Note<'_>> {
-    let (word, rest) = first_word(text);
-    let rest = rest?;
-    match word {
-        "lost" => Some(Note::Lost(number(rest)?)),
-        "sent" if is_bytes(rest) => Some(Note::Sent(rest)),
-        _ => None,
+fn read_note(text: &str) -> Option<Note<'_>>
+    ensures { IfSome result (λ note. text.now ≡ note_text note) }
+{
+    match text.strip_prefix("lost ") {
+        Some(word) => Some(Note::Lost(number(word)?)),
+        None => Some(Note::Sent(digits_in(text.strip_prefix("sent ")?)?)),
     }
 }
 
-fn read_ending(line: &str) -> Option<Ending> {
+fn read_ending(line: &str) -> Option<Ending>
+    ensures { IfSome result (λ ending. line.now ≡ ending_text ending) }
+{
     match line {
         "halt" => Some(Ending::Halt),
         "too long" => Some(Ending::TooLong),
@@ -75,8 +89,11 @@ fn read_ending(line: &str) -> Option<Ending> {
     }
 }
 
-/// What a line tells, without its line end. `None` where it is no line of a transcript.
-pub fn read_line(line: &str) -> Option<Line<'_>> {
+/// What a line tells, without its line end: all that stands there. `None` where it is no line of a transcript.
+pub fn read_line(line: &str) -> Option<Line<'_>>
+    ensures told { IfSome result (λ told. line.now ≡ line_text told) }
+    ensures ticks { option_and_then ticks_told result ≡ ticks_in line.now }
+{
     if let Some(text) = line.strip_prefix("> ") {
         return Some(Line::Input(read_input(text)?));
     }

@@ -1,6 +1,7 @@
 //! The turns that lines tell.
 
-ghost use Rattle.std.specs.Prelude.{◌≤◌, ◌<◌, IfSome};
+ghost use Rattle.std.specs.Prelude.{◌≡◌, ◌≤◌, ◌<◌, IfSome};
+ghost use Rattle.transcript_lines.specs.Lines.{origin_text, turn_text};
 
 use crate::forms::{Form, first_word, have_forms, number};
 
@@ -30,7 +31,9 @@ pub struct Turn<'a> {
     pub call: &'a str,
 }
 
-fn origin_of(word: &str) -> Option<Origin> {
+fn origin_of(word: &str) -> Option<Origin>
+    ensures { IfSome result (λ origin. word.now ≡ origin_text origin) }
+{
     match word {
         "event" => Some(Origin::Event),
         "synch" => Some(Origin::Synch),
@@ -132,6 +135,7 @@ fn is_call(text: &str) -> bool {
 /// The turn that a line tells, if it tells one: a process from 4 to 19, what it was told, and its call.
 pub fn read_turn(line: &str) -> Option<Turn<'_>>
     ensures process { IfSome result (λ turn. (4 ≤ turn.pid) × (turn.pid < 20)) }
+    ensures told { IfSome result (λ turn. line.now ≡ turn_text turn) }
 {
     let (told, call) = line.split_once(" -> ")?;
     let (pid, told) = told.split_once(' ')?;

@@ -1,3 +1,4 @@
+use Rattle.std.proofs.lemmas.List.{length-map}
 use Rattle.run_picture.proofs.Rows.{picture-told}
 use Rattle.run_picture.proofs.picture.draw.Goals as goal
 
@@ -6,9 +7,11 @@ returns-clause-titles c =
     picture-told c.args.lines.now c.args.settings.now.from c.args.settings.now.to c.args.settings.now.unfolded c.shown_of-shown.result c.as_slice-rows.result.now c.in_ok-text.text.items
     (record {
       order = c.shown_of-shown.ensures.order;
-      there = c.shown_of-shown.ensures.there;
+      there = rw length-map c.shown_of-shown.ensures.there;
       first = c.shown_of-shown.ensures.first;
-      last = c.shown_of-shown.ensures.last;
+      last = rw length-map c.shown_of-shown.ensures.last;
+      between = c.shown_of-shown.ensures.between;
     })
     (rw c.as_slice-rows.ensures.value c.in_ok-rows.ensures.cover) (rw c.as_slice-rows.ensures.value c.in_ok-rows.ensures.plain)
+    (rw c.as_slice-rows.ensures.value c.in_ok-rows.ensures.again)
     c.in_ok-text.ensures.shows_rows

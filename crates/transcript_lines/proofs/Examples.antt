@@ -1,0 +1,70 @@
+-- What lines say, and what they don't, at small values.
+use Rattle.std.proofs.Common.{◌≡◌, ℕ, true, false, codes, Some, None, refl}
+use Rattle.std.specs.Fmt.{digits}
+use Rattle.transcript_lines.specs.declared.line.Ending.{Ending}
+use Rattle.transcript_lines.specs.declared.line.Input.{Input}
+use Rattle.transcript_lines.specs.declared.line.Line.{Line}
+use Rattle.transcript_lines.specs.declared.line.Note.{Note}
+use Rattle.transcript_lines.specs.declared.turn.Origin.{Origin}
+use Rattle.transcript_lines.specs.Lines.{line_text, ticks_in, ticks_of}
+use Rattle.transcript_lines.specs.Words.{is_bytes, is_payload, read_number}
+
+nine : ticks_in (codes "> tick 9") ≡ Some 9
+nine = refl
+
+most : ticks_of (codes "> tick 18446744073709551615") ≡ 18446744073709551615
+most = refl
+
+too_many : ticks_in (codes "> tick 18446744073709551616") ≡ None
+too_many = refl
+
+needless_zero : ticks_in (codes "> tick 09") ≡ None
+needless_zero = refl
+
+other_input : ticks_of (codes "> serial 09") ≡ 0
+other_input = refl
+
+no_bracket : ticks_of (codes "tick 9") ≡ 0
+no_bracket = refl
+
+no_digits : read_number (codes "") ≡ None
+no_digits = refl
+
+zero_alone : read_number (codes "0") ≡ Some 0
+zero_alone = refl
+
+lower_case : is_bytes (codes "0aff") ≡ true
+lower_case = refl
+
+upper_case : is_bytes (codes "0A") ≡ false
+upper_case = refl
+
+half_a_byte : is_bytes (codes "0aa") ≡ false
+half_a_byte = refl
+
+no_bytes : is_bytes (codes "-") ≡ true
+no_bytes = refl
+
+no_word : is_bytes (codes "") ≡ false
+no_word = refl
+
+empty_line : is_payload (codes "x") ≡ true
+empty_line = refl
+
+bytes_alone : is_payload (codes "0a") ≡ false
+bytes_alone = refl
+
+a_number : is_payload (codes "10") ≡ true
+a_number = refl
+
+lost : line_text (Line.Note (Note.Lost 12)) ≡ codes "note lost 12"
+unfolding digits
+lost = refl
+
+bad_line : line_text (Line.Ending (Ending.BadLine 7)) ≡ codes "bad line 7"
+unfolding digits
+bad_line = refl
+
+a_tick : line_text (Line.Input (Input.Tick 10)) ≡ codes "> tick 10"
+unfolding digits
+a_tick = refl

@@ -1,0 +1,4 @@
+pub mod Behind
+mod Examples
+pub mod Numbers
+pub mod Told

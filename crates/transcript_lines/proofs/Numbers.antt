@@ -1,0 +1,45 @@
+-- A number is read exactly as it is written.
+use Rattle.std.proofs.Common.{◌≡◌, ◌∙◌, ◌<◌, ◌^◌, Bool, true, false, not, ◌&&◌, ◌||◌, ℕ, List, length, get_or, decimal, nat_lt, Result, Ok, Err, Option, Some, None, refl, sym, ap, arith, rules, lt-ltb}
+use Rattle.std.proofs.lemmas.Bool.{le-ltb}
+use Rattle.std.proofs.lemmas.Bool.Decides.{nat_tests}
+use Rattle.std.proofs.lemmas.Fmt.{decimal-digits_value}
+use Rattle.std.proofs.lemmas.Str.Parse.{IsNumeralModel, numerals_by_value, parse_digits}
+use Rattle.std.specs.Char.{is_ascii_digit}
+use Rattle.std.specs.List.{list_all}
+use Rattle.std.specs.Result.{result_ok}
+use Rattle.std.specs.Str.Parse.{digits_value, ParsesUnsigned}
+use Rattle.transcript_lines.specs.Words.{has_leading_zero, is_number, read_number}
+
+digits_are_numerals : IsNumeralModel (λ ds. list_all is_ascii_digit ds ≡ true) (digits_value 10)
+digits_are_numerals = numerals_by_value _ (search rules)
+
+-- what `parse` makes of digits, none of them a needless 0
+pub parsed : {E : Type 0} (text : List ℕ) (r : Result ℕ E) → list_all is_ascii_digit text ≡ true → has_leading_zero text ≡ false → ParsesUnsigned 64 10 text r → result_ok r ≡ read_number text
+parsed text (Ok n) digits first reads =
+    let is = parse_digits digits_are_numerals 64 text (Ok n) reads digits in
+    let some : nat_lt 0 (length text) ≡ true = lt-ltb 0 (length text) is.0.0 in
+    let small : nat_lt (digits_value 10 text) (2 ^ 64) ≡ true = lt-ltb (digits_value 10 text) (2 ^ 64) is.0.1 in
+    rw (some, digits, first, small, is.1) refl
+parsed text (Err e) digits first reads =
+    let is = parse_digits digits_are_numerals 64 text (Err e) reads digits in
+    refused text (is_number text && nat_lt (digits_value 10 text) (2 ^ 64)) refl is
+  where
+    refused : (text : List ℕ) (is_read : Bool) → (is_number text && nat_lt (digits_value 10 text) (2 ^ 64)) ≡ is_read → ((0 < length text) × (digits_value 10 text < 2 ^ 64) → ⊥) → None ≡ read_number text
+    refused text false test no = grind (arith, nat_tests)
+    refused text true test no = absurd (no (grind (arith, nat_tests, test), grind (arith, nat_tests, test)))
+
+pub unread : (text : List ℕ) → (has_leading_zero text || not (list_all is_ascii_digit text)) ≡ true → None ≡ read_number text
+unread text test = grind (arith, nat_tests)
+
+-- what is read as a number is how it is written
+read_from : (text : List ℕ) (n : ℕ) (is_read : Bool) → (is_number text && nat_lt (digits_value 10 text) (2 ^ 64)) ≡ is_read → read_number text ≡ Some n → text ≡ decimal n
+read_from text n false test reads = grind (arith, nat_tests)
+read_from text n true test reads =
+    let value : digits_value 10 text ≡ n = cc (rw test at reads) in
+    let digits : list_all is_ascii_digit text ≡ true = grind (arith, nat_tests, test) in
+    let first : get_or text 0 0 ≡ 48 → length text ≡ 1 = λ zero. grind (arith, nat_tests, test, zero) in
+    let small : digits_value 10 text < 2 ^ 64 = grind (arith, nat_tests, test) in
+    sym (decimal-digits_value digits_are_numerals text digits (grind (arith, nat_tests, test)) first small) ∙ ap decimal value
+
+pub decimal_of_read : (text : List ℕ) (n : ℕ) → read_number text ≡ Some n → text ≡ decimal n
+decimal_of_read text n reads = read_from text n (is_number text && nat_lt (digits_value 10 text) (2 ^ 64)) refl reads

@@ -1,0 +1,69 @@
+-- The lines of a transcript, and how each says what it tells.
+use Rattle.std.specs.Prelude.{ℕ, List, ◌++◌, length, take, drop, codes, decimal, bytes_eq, Option, Some, None, option_and_then, unwrap_or, if◌then◌else◌}
+use Rattle.transcript_lines.specs.declared.line.Ending.{Ending}
+use Rattle.transcript_lines.specs.declared.line.Input.{Input}
+use Rattle.transcript_lines.specs.declared.line.Line.{Line}
+use Rattle.transcript_lines.specs.declared.line.Note.{Note}
+use Rattle.transcript_lines.specs.declared.turn.Origin.{Origin}
+use Rattle.transcript_lines.specs.declared.turn.Turn.{Turn}
+use Rattle.transcript_lines.specs.Words.{read_number}
+
+-- ---- what is told, as a line says it
+
+abbrev pub input_text : Input → List ℕ
+input_text (Input.Tick ticks) = codes "tick " ++ decimal ticks
+input_text (Input.Serial digits) = codes "serial " ++ digits.now
+input_text (Input.Frame digits) = codes "frame " ++ digits.now
+
+abbrev pub note_text : Note → List ℕ
+note_text (Note.Lost reason) = codes "lost " ++ decimal reason
+note_text (Note.Sent digits) = codes "sent " ++ digits.now
+
+abbrev pub ending_text : Ending → List ℕ
+ending_text Ending.Halt = codes "halt"
+ending_text (Ending.BadLine number) = codes "bad line " ++ decimal number
+ending_text Ending.TooLong = codes "too long"
+
+abbrev pub origin_text : Origin → List ℕ
+origin_text Origin.Event = codes "event"
+origin_text Origin.Synch = codes "synch"
+origin_text Origin.Poll = codes "poll"
+origin_text Origin.Callback = codes "callback"
+origin_text Origin.Answer = codes "answer"
+
+abbrev pub turn_text : Turn → List ℕ
+turn_text turn =
+    decimal turn.pid ++ codes " " ++ origin_text turn.origin ++ codes " " ++ turn.stimulus.now ++ codes " -> " ++ turn.call.now
+
+abbrev pub line_text : Line → List ℕ
+line_text (Line.Input input) = codes "> " ++ input_text input
+line_text (Line.Turn turn) = turn_text turn
+line_text (Line.Note note) = codes "note " ++ note_text note
+line_text (Line.Ending ending) = ending_text ending
+
+-- ---- the clock
+
+-- what stands behind the word that the line begins with
+abbrev pub behind : List ℕ → List ℕ → Option (List ℕ)
+behind word line = if bytes_eq (take (length word) line) word then Some (drop (length word) line) else None
+
+-- by how many ticks the clock goes on at a line `> tick N`
+abbrev pub ticks_in : List ℕ → Option ℕ
+ticks_in line = option_and_then read_number (behind (codes "> tick ") line)
+
+-- at any line
+abbrev pub ticks_of : List ℕ → ℕ
+ticks_of line = unwrap_or (ticks_in line) 0
+
+-- by how many ticks it goes on as an input tells
+abbrev pub ticks_by : Input → Option ℕ
+ticks_by (Input.Tick ticks) = Some ticks
+ticks_by (Input.Serial digits) = None
+ticks_by (Input.Frame digits) = None
+
+-- as a line tells
+abbrev pub ticks_told : Line → Option ℕ
+ticks_told (Line.Input input) = ticks_by input
+ticks_told (Line.Turn turn) = None
+ticks_told (Line.Note note) = None
+ticks_told (Line.Ending ending) = None
