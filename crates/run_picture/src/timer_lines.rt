@@ -46,7 +46,7 @@ fn title_of(alloc: Global, arming: &Arming) -> Result<String, AllocError> {
             )?;
         }
         (Some(clock), _) => write!(title, ", told at {clock}")?,
-        (None, Some(_)) => title.push_str(", stopped or set anew")?,
+        (None, Some(_)) => title.push_str(", stopped or set anew, or its process ended")?,
         (None, None) => title.push_str(", still armed at the end")?,
     }
     Ok(title)

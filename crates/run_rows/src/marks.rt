@@ -189,6 +189,7 @@ impl Walk {
 
     /// A process ends in a row.
     fn end_life(&mut self, pid: usize, row: usize) -> Result<(), AllocError> {
+        self.timers.end_all(pid, row)?;
         let Some(process) = self.processes.get_mut(pid) else {
             return Ok(());
         };

@@ -45,7 +45,7 @@ pub struct Arming {
     pub last: Option<usize>,
     /// The clock at which it was due.
     pub due: u64,
-    /// The clock at which it was told, where it was and not stopped or set anew.
+    /// The clock at which it was told, where it was: it wasn't stopped or set anew before, and its process did not end.
     pub told: Option<u64>,
 }
 
@@ -164,6 +164,14 @@ impl Timers {
             }
             _ => Ok(0),
         }
+    }
+
+    /// A process ends in a row: none of its timers is armed any more.
+    pub(crate) fn end_all(&mut self, pid: usize, row: usize) -> Result<(), AllocError> {
+        for timer in 0..TIMERS {
+            self.end(pid, timer, row, None)?;
+        }
+        Ok(())
     }
 
     /// What is still armed stays so to the end.

@@ -53,12 +53,13 @@ abbrev pub numbered : List ℕ → List ℕ
 numbered bytes = flat_map digit_pair (take 8 bytes)
 
 -- how many bytes there are, where not all are shown, or there are none
-abbrev pub count_words : ℕ → List ℕ → List ℕ
-count_words most bytes = if nat_lt most (length bytes) || length bytes == 0 then dots ++ codes " " ++ decimal (length bytes) ++ codes " bytes" else []
+abbrev pub count_words : ℕ → ℕ → List ℕ
+count_words most count = if nat_lt most count || count == 0 then dots ++ codes " " ++ decimal count ++ codes " bytes" else []
 
 -- as text of so many bytes at most where they are text, else as numbers
 abbrev pub shown_bytes : ℕ → List ℕ → List ℕ
-shown_bytes most bytes = if are_text bytes then quoted most bytes ++ count_words most bytes else numbered bytes ++ count_words 8 bytes
+shown_bytes most bytes =
+    if are_text bytes then quoted most bytes ++ count_words most (length bytes) else numbered bytes ++ count_words 8 (length bytes)
 
 abbrev pub bytes_or_none : {E : Type 0} → Result (List ℕ) E → List ℕ
 bytes_or_none (Ok bytes) = bytes

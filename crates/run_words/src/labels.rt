@@ -83,10 +83,11 @@ fn push_digits(out: &mut String, byte: u8) -> Result<(), AllocError>
 
 /// Appends how many bytes there are, where not so many are shown, or there are none.
 fn push_count(out: &mut String, count: usize, most: usize) -> Result<(), AllocError>
-    ensures { (bytes : List ℕ) → length bytes ≡ count → IfOk result (λ _. string_bytes out.new ≡ string_bytes out.old ++ spec.count_words most bytes) }
+    ensures { IfOk result (λ _. string_bytes out.new ≡ string_bytes out.old ++ spec.count_words most count) }
 {
     if count > most || count == 0 {
-        write!(out, "… {count} bytes")
+        out.push_str("… ")?;
+        write!(out, "{count} bytes")
     } else {
         Ok(())
     }

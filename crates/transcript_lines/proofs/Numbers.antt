@@ -13,6 +13,12 @@ use Rattle.transcript_lines.specs.Words.{has_leading_zero, is_number, read_numbe
 digits_are_numerals : IsNumeralModel (λ ds. list_all is_ascii_digit ds ≡ true) (digits_value 10)
 digits_are_numerals = numerals_by_value _ (search rules)
 
+-- digits that are too many make no number
+refused : (text : List ℕ) (is_read : Bool) → (is_number text && nat_lt (digits_value 10 text) (2 ^ 64)) ≡ is_read → ((0 < length text) × (digits_value 10 text < 2 ^ 64) → ⊥)
+    → None ≡ read_number text
+refused text false test no = rw test refl
+refused text true test no = absurd (no (grind (arith, nat_tests, test), grind (arith, nat_tests, test)))
+
 -- what `parse` makes of digits, none of them a needless 0
 pub parsed : {E : Type 0} (text : List ℕ) (r : Result ℕ E) → list_all is_ascii_digit text ≡ true → has_leading_zero text ≡ false → ParsesUnsigned 64 10 text r → result_ok r ≡ read_number text
 parsed text (Ok n) digits first reads =
@@ -21,12 +27,7 @@ parsed text (Ok n) digits first reads =
     let small : nat_lt (digits_value 10 text) (2 ^ 64) ≡ true = lt-ltb (digits_value 10 text) (2 ^ 64) is.0.1 in
     rw (some, digits, first, small, is.1) refl
 parsed text (Err e) digits first reads =
-    let is = parse_digits digits_are_numerals 64 text (Err e) reads digits in
-    refused text (is_number text && nat_lt (digits_value 10 text) (2 ^ 64)) refl is
-  where
-    refused : (text : List ℕ) (is_read : Bool) → (is_number text && nat_lt (digits_value 10 text) (2 ^ 64)) ≡ is_read → ((0 < length text) × (digits_value 10 text < 2 ^ 64) → ⊥) → None ≡ read_number text
-    refused text false test no = grind (arith, nat_tests)
-    refused text true test no = absurd (no (grind (arith, nat_tests, test), grind (arith, nat_tests, test)))
+    refused text (is_number text && nat_lt (digits_value 10 text) (2 ^ 64)) refl (parse_digits digits_are_numerals 64 text (Err e) reads digits)
 
 pub unread : (text : List ℕ) → (has_leading_zero text || not (list_all is_ascii_digit text)) ≡ true → None ≡ read_number text
 unread text test = grind (arith, nat_tests)
