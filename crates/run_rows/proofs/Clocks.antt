@@ -16,7 +16,7 @@ pub clock_more : (lines : List (Bor (List ℕ))) (place now ticks : ℕ) (line :
     → now ≡ clock_after (take place (bytes_of lines)) → ticks ≡ ticks_of (get_or lines place line).now
     → min (now + ticks) (2 ^ 64 - 1) ≡ clock_after (take (place + 1) (bytes_of lines))
 clock_more lines place now ticks line none inside so_far here =
-    let size : length (bytes_of lines) ≡ length lines = length-map in
+    let size : length (bytes_of lines) ≡ length lines = length-map lines (λ (line : Bor (List ℕ)). line.now) in
     let more = sum_by_more ticks_of (bytes_of lines) place [] (omega (arith, size)) in
     let text = text_is lines place line none in
     ap (λ n. min (n + ticks) (2 ^ 64 - 1)) so_far ∙ capped_sum (sum_by ticks_of (take place (bytes_of lines))) ticks (2 ^ 64 - 1)
@@ -31,10 +31,3 @@ sum_grows lines one other order =
 -- the clock never goes back
 pub clock_grows : (lines : List (List ℕ)) (one other : ℕ) → one ≤ other → clock_at lines one ≤ clock_at lines other
 clock_grows lines one other order = omega (arith, sum_grows lines (one + 1) (other + 1) (omega arith))
-
-pub clock_at_most : (lines : List (List ℕ)) (line : ℕ) → clock_at lines line ≤ 2 ^ 64 - 1
-clock_at_most lines line = omega arith
-
--- from the line at which it has come so far, it has
-pub come_so_far : (lines : List (List ℕ)) (place clock : ℕ) → clock ≤ clock_at lines place → (count : ℕ) → (line : ℕ) → place ≤ line → line < count → clock ≤ clock_at lines line
-come_so_far lines place clock come count line behind inside = omega (arith, clock_grows lines place line behind)

@@ -1,11 +1,9 @@
 -- Words for what lines tell, at small values.
 use Rattle.std.proofs.Common.{◌≡◌, ◌++◌, ℕ, List, [], ◌∷◌, codes, refl}
 use Rattle.std.specs.Fmt.{digits}
-use Rattle.hex.proofs.OnLiterals.{hex_on_literals}
-use Rattle.transcript_lines.specs.declared.line.Ending.{Ending}
 use Rattle.transcript_lines.specs.declared.line.Note.{Note}
 use Rattle.transcript_lines.specs.declared.turn.Origin.{Origin}
-use Rattle.run_words.specs.Words.{answer_words, bytes_words, closing, count_words, cross, dots, ending_words, last_words, line_end, note_words, numbered, opening, quoted, reason, shown_bytes, told_by, told_event}
+use Rattle.run_words.specs.Words.{answer_words, closing, cross, dots, last_words, line_end, note_words, opening, reason, shown_bytes, told_by, told_event}
 
 queue_full : reason (codes "1") ≡ codes "queue full"
 queue_full = refl
@@ -13,14 +11,14 @@ queue_full = refl
 no_reason : reason (codes "19") ≡ codes "refused"
 no_reason = refl
 
-a_text : shown_bytes 24 (codes "on\n") ≡ opening ++ codes "on" ++ line_end ++ closing
+a_text : shown_bytes 24 (codes "\n") ≡ opening ++ line_end ++ closing
 a_text = refl
 
 -- a byte that is no text makes all numbers
 no_text : shown_bytes 24 (111 ∷ 0 ∷ []) ≡ codes "6f 00 "
 no_text = refl
 
-a_long_text : shown_bytes 2 (codes "abc") ≡ opening ++ codes "ab" ++ closing ++ dots ++ codes " 3 bytes"
+a_long_text : shown_bytes 1 (codes "\n\n") ≡ opening ++ line_end ++ closing ++ dots ++ codes " 2 bytes"
 unfolding digits
 a_long_text = refl
 

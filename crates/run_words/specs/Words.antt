@@ -1,5 +1,5 @@
 -- The words for what a transcript's lines tell.
-use Rattle.std.specs.Prelude.{ℕ, ◌/◌, ◌%◌, ◌<◌, ◌≡◌, ◌≢◌, ◌⊎◌, Bool, ◌||◌, ◌&&◌, List, [], ◌∷◌, ◌++◌, length, get_or, take, flat_map, bytes_eq, codes, decimal, encode_utf8, nat_le, nat_lt, ◌==◌, if◌then◌else◌, Option, Some, None, Result, Ok, Err}
+use Rattle.std.specs.Prelude.{ℕ, ◌/◌, ◌%◌, ◌<◌, ◌≡◌, ◌≢◌, ◌⊎◌, Bool, false, ◌||◌, ◌&&◌, List, [], ◌∷◌, ◌++◌, length, get_or, take, flat_map, bytes_eq, codes, decimal, encode_utf8, nat_le, nat_lt, ◌==◌, if◌then◌else◌, Option, Some, None, Result, Ok, Err}
 use Rattle.std.specs.Fmt.{digit_glyph}
 use Rattle.std.specs.List.{after_first, before_first, list_all, position_or_len}
 use Rattle.hex.specs.Hex.{decode_of}
@@ -86,9 +86,9 @@ payload_by payload None = if bytes_eq payload (codes "-") then [] else codes " "
 abbrev pub payload_words : List ℕ → List ℕ
 payload_words payload = payload_by payload (behind (codes "x") payload)
 
--- the name of an event, by its code; one that has no name is named by its code
-abbrev pub event_words : List ℕ → List ℕ
-event_words code =
+-- the name of an event, by its code; nothing where it has none
+abbrev pub event_name : List ℕ → List ℕ
+event_name code =
     if bytes_eq code (codes "129") then codes "INIT"
     else if bytes_eq code (codes "130") then codes "POLL"
     else if bytes_eq code (codes "131") then codes "EXIT"
@@ -98,7 +98,11 @@ event_words code =
     else if bytes_eq code (codes "136") then codes "TIMER"
     else if bytes_eq code (codes "138") then codes "LINE"
     else if bytes_eq code (codes "139") then codes "PACKET of"
-    else codes "event " ++ code
+    else []
+
+-- one that has no name is named by its code
+abbrev pub event_words : List ℕ → List ℕ
+event_words code = if length (event_name code) == 0 then codes "event " ++ code else event_name code
 
 -- an event by its name, and what it carries
 abbrev pub is_space : ℕ → Bool
@@ -193,10 +197,12 @@ input_words (Input.Frame digits) = codes "frame of " ++ decimal (length digits.n
 
 -- the number of the refusal is 1 where eight frames are held
 abbrev pub lost_words : ℕ → List ℕ
-lost_words number = if number == 1 then codes "8 are held (1)" else codes "no room in managed memory (" ++ decimal number ++ codes ")"
+lost_words number =
+    if number == 1 then cross ++ codes " the frame is lost: 8 are held (1)"
+    else cross ++ codes " the frame is lost: no room in managed memory (" ++ decimal number ++ codes ")"
 
 abbrev pub note_words : Note → List ℕ
-note_words (Note.Lost number) = cross ++ codes " the frame is lost: " ++ lost_words number
+note_words (Note.Lost number) = lost_words number
 note_words (Note.Sent digits) = codes "sent " ++ bytes_words digits.now
 
 abbrev pub ending_words : Ending → List ℕ

@@ -1,8 +1,9 @@
 //! What lines tell, in words.
 
-ghost use Rattle.std.specs.Prelude.{◌≡◌, ◌++◌, List, ℕ, [], Some, length, take, codes, string_bytes, option_map, IfOk};
+ghost use Rattle.std.specs.Prelude.{◌≡◌, ◌++◌, ◌<◌, false, List, ℕ, [], ◌∷◌, Some, take, codes, string_bytes, option_map, IfOk};
 ghost use Rattle.transcript_lines.specs.Lines.{behind};
-ghost use Rattle.std.specs.List.{before_first};
+ghost use Rattle.std.specs.Fmt.{digit_glyph};
+ghost use Rattle.std.specs.List.{before_first, list_all};
 ghost use Rattle.run_words.specs.Words as spec;
 
 use hex::FromHexError;
@@ -22,7 +23,13 @@ const MOST_NUMBERS: usize = 8;
 fn are_text(bytes: &[u8]) -> bool
     ensures { result ≡ spec.are_text bytes.now }
 {
-    !bytes.is_empty() && bytes.iter().all(|byte| is_text_byte(*byte))
+    !bytes.is_empty() && are_text_bytes(bytes)
+}
+
+fn are_text_bytes(bytes: &[u8]) -> bool
+    ensures { result ≡ list_all spec.is_text_byte bytes.now }
+{
+    bytes.iter().all(|byte| is_text_byte(*byte))
 }
 
 fn is_text_byte(byte: u8) -> bool
@@ -78,7 +85,22 @@ fn push_numbers(out: &mut String, bytes: &[u8]) -> Result<(), AllocError>
 fn push_digits(out: &mut String, byte: u8) -> Result<(), AllocError>
     ensures { IfOk result (λ _. string_bytes out.new ≡ string_bytes out.old ++ spec.digit_pair byte) }
 {
-    write!(out, "{byte:02x} ")
+    push_digit(out, byte / 16)?;
+    push_digit(out, byte % 16)?;
+    out.push_str(" ")
+}
+
+/// Appends a digit of a byte.
+fn push_digit(out: &mut String, value: u8) -> Result<(), AllocError>
+    requires { value < 16 }
+    ensures { IfOk result (λ _. string_bytes out.new ≡ string_bytes out.old ++ digit_glyph false value ∷ []) }
+{
+    let digit = if value < 10 {
+        b'0' + value
+    } else {
+        b'a' + (value - 10)
+    };
+    out.push(char::from(digit))
 }
 
 /// Appends how many bytes there are, where not so many are shown, or there are none.
@@ -148,24 +170,34 @@ fn push_payload(alloc: Global, out: &mut String, payload: &str) -> Result<(), Al
     out.push_str(payload)
 }
 
+/// An event's name, by its code; nothing where it has none.
+fn event_name(code: &str) -> &'static str
+    ensures { result.now ≡ spec.event_name code.now }
+{
+    match code {
+        "129" => "INIT",
+        "130" => "POLL",
+        "131" => "EXIT",
+        "133" => "CONTINUE",
+        "134" => "MSG",
+        "135" => "EXITED",
+        "136" => "TIMER",
+        "138" => "LINE",
+        "139" => "PACKET of",
+        _ => "",
+    }
+}
+
 /// Appends an event's name, or its number where it has none.
 fn push_event_name(out: &mut String, code: &str) -> Result<(), AllocError>
     ensures { IfOk result (λ _. string_bytes out.new ≡ string_bytes out.old ++ spec.event_words code.now) }
 {
-    match code {
-        "129" => out.push_str("INIT"),
-        "130" => out.push_str("POLL"),
-        "131" => out.push_str("EXIT"),
-        "133" => out.push_str("CONTINUE"),
-        "134" => out.push_str("MSG"),
-        "135" => out.push_str("EXITED"),
-        "136" => out.push_str("TIMER"),
-        "138" => out.push_str("LINE"),
-        "139" => out.push_str("PACKET of"),
-        _ => {
-            out.push_str("event ")?;
-            out.push_str(code)
-        }
+    let name = event_name(code);
+    if name.is_empty() {
+        out.push_str("event ")?;
+        out.push_str(code)
+    } else {
+        out.push_str(name)
     }
 }
 
@@ -333,9 +365,10 @@ fn push_lost(out: &mut String, number: u64) -> Result<(), AllocError>
     ensures { IfOk result (λ _. string_bytes out.new ≡ string_bytes out.old ++ spec.lost_words number) }
 {
     if number == 1 {
-        out.push_str("8 are held (1)")
+        out.push_str("✗ the frame is lost: 8 are held (1)")
     } else {
-        write!(out, "no room in managed memory ({number})")
+        out.push_str("✗ the frame is lost: no room in managed memory (")?;
+        write!(out, "{number})")
     }
 }
 
@@ -344,10 +377,7 @@ pub fn push_note(alloc: Global, out: &mut String, note: &Note<'_>) -> Result<(),
     ensures { IfOk result (λ _. string_bytes out.new ≡ string_bytes out.old ++ spec.note_words note.now) }
 {
     match *note {
-        Note::Lost(number) => {
-            out.push_str("✗ the frame is lost: ")?;
-            push_lost(out, number)
-        }
+        Note::Lost(number) => push_lost(out, number),
         Note::Sent(digits) => {
             out.push_str("sent ")?;
             push_bytes(alloc, out, digits)

@@ -1,4 +1,3 @@
-pub mod Behind
 mod Examples
 pub mod Numbers
 pub mod Told

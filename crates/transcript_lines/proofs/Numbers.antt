@@ -1,5 +1,5 @@
 -- A number is read exactly as it is written.
-use Rattle.std.proofs.Common.{◌≡◌, ◌∙◌, ◌<◌, ◌^◌, Bool, true, false, not, ◌&&◌, ◌||◌, ℕ, List, length, get_or, decimal, nat_lt, Result, Ok, Err, Option, Some, None, refl, sym, ap, arith, rules, lt-ltb}
+use Rattle.std.proofs.Common.{◌≡◌, ◌∙◌, ◌<◌, ◌^◌, Bool, true, false, not, ◌&&◌, ◌||◌, ℕ, List, ◌++◌, length, get_or, decimal, nat_lt, Result, Ok, Err, Option, Some, None, refl, sym, ap, arith, rules, lt-ltb}
 use Rattle.std.proofs.lemmas.Bool.{le-ltb}
 use Rattle.std.proofs.lemmas.Bool.Decides.{nat_tests}
 use Rattle.std.proofs.lemmas.Fmt.{decimal-digits_value}
@@ -16,21 +16,18 @@ digits_are_numerals = numerals_by_value _ (search rules)
 -- digits that are too many make no number
 refused : (text : List ℕ) (is_read : Bool) → (is_number text && nat_lt (digits_value 10 text) (2 ^ 64)) ≡ is_read → ((0 < length text) × (digits_value 10 text < 2 ^ 64) → ⊥)
     → None ≡ read_number text
-refused text false test no = rw test refl
-refused text true test no = absurd (no (grind (arith, nat_tests, test), grind (arith, nat_tests, test)))
+refused text false test lacks = rw test refl
+refused text true test lacks = absurd (lacks (grind (arith, nat_tests, test), grind (arith, nat_tests, test)))
 
 -- what `parse` makes of digits, none of them a needless 0
 pub parsed : {E : Type 0} (text : List ℕ) (r : Result ℕ E) → list_all is_ascii_digit text ≡ true → has_leading_zero text ≡ false → ParsesUnsigned 64 10 text r → result_ok r ≡ read_number text
-parsed text (Ok n) digits first reads =
-    let is = parse_digits digits_are_numerals 64 text (Ok n) reads digits in
+parsed {E} text (Ok n) digits first reads =
+    let is = parse_digits digits_are_numerals {E = E} 64 text (Ok n) reads digits in
     let some : nat_lt 0 (length text) ≡ true = lt-ltb 0 (length text) is.0.0 in
     let small : nat_lt (digits_value 10 text) (2 ^ 64) ≡ true = lt-ltb (digits_value 10 text) (2 ^ 64) is.0.1 in
     rw (some, digits, first, small, is.1) refl
-parsed text (Err e) digits first reads =
-    refused text (is_number text && nat_lt (digits_value 10 text) (2 ^ 64)) refl (parse_digits digits_are_numerals 64 text (Err e) reads digits)
-
-pub unread : (text : List ℕ) → (has_leading_zero text || not (list_all is_ascii_digit text)) ≡ true → None ≡ read_number text
-unread text test = grind (arith, nat_tests)
+parsed {E} text (Err e) digits first reads =
+    refused text (is_number text && nat_lt (digits_value 10 text) (2 ^ 64)) refl (parse_digits digits_are_numerals {E = E} 64 text (Err e) reads digits)
 
 -- what is read as a number is how it is written
 read_from : (text : List ℕ) (n : ℕ) (is_read : Bool) → (is_number text && nat_lt (digits_value 10 text) (2 ^ 64)) ≡ is_read → read_number text ≡ Some n → text ≡ decimal n
@@ -44,3 +41,7 @@ read_from text n true test reads =
 
 pub decimal_of_read : (text : List ℕ) (n : ℕ) → read_number text ≡ Some n → text ≡ decimal n
 decimal_of_read text n reads = read_from text n (is_number text && nat_lt (digits_value 10 text) (2 ^ 64)) refl reads
+
+-- behind a word
+pub said_number : (word text rest behind : List ℕ) (n : ℕ) → text ≡ word ++ behind → rest ≡ behind → Some n ≡ read_number rest → text ≡ word ++ decimal n
+said_number word text rest behind n whole is reads = whole ∙ ap (λ t. word ++ t) (sym is ∙ decimal_of_read rest n (sym reads))

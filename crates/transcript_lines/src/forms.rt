@@ -38,12 +38,20 @@ fn are_digits(word: &str) -> bool
     word.as_bytes().iter().all(|byte| byte.is_ascii_digit())
 }
 
+fn has_leading_zero(word: &str) -> bool
+    ensures { result ≡ spec.has_leading_zero word.now }
+{
+    word.len() > 1 && word.as_bytes()[0] == b'0'
+}
+
 /// The number that is written so, without leading zeros.
 pub(crate) fn number(word: &str) -> Option<u64>
     ensures { result ≡ spec.read_number word.now }
 {
-    let has_leading_zero = word.len() > 1 && word.as_bytes()[0] == b'0';
-    if has_leading_zero || !are_digits(word) {
+    if has_leading_zero(word) {
+        return None;
+    }
+    if !are_digits(word) {
         return None;
     }
     word.parse::<u64>().ok()
@@ -55,11 +63,17 @@ fn is_hex_digit(byte: u8) -> bool
     matches!(byte, b'0'..=b'9' | b'a'..=b'f')
 }
 
+fn are_hex_digits(word: &str) -> bool
+    ensures { result ≡ list_all spec.is_hex_digit word.now }
+{
+    word.as_bytes().iter().all(|byte| is_hex_digit(*byte))
+}
+
 /// Two lower case digits for each byte.
 fn is_hex(word: &str) -> bool
     ensures { result ≡ spec.is_hex word.now }
 {
-    word.len() % 2 == 0 && word.as_bytes().iter().all(|byte| is_hex_digit(*byte))
+    word.len() % 2 == 0 && are_hex_digits(word)
 }
 
 pub(crate) fn is_bytes(word: &str) -> bool

@@ -140,7 +140,10 @@ pub fn read_turn(line: &str) -> Option<Turn<'_>>
     let (told, call) = line.split_once(" -> ")?;
     let (pid, told) = told.split_once(' ')?;
     let (origin, stimulus) = told.split_once(' ')?;
-    let pid = number(pid).filter(|pid| (4..20).contains(pid))?;
+    let pid = number(pid)?;
+    if pid < 4 || pid > 19 {
+        return None;
+    }
     let origin = origin_of(origin)?;
     if is_stimulus(origin, stimulus) && is_call(call) {
         Some(Turn {
