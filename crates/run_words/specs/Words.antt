@@ -195,11 +195,18 @@ input_words (Input.Tick ticks) = codes "tick " ++ decimal ticks
 input_words (Input.Serial digits) = codes "serial " ++ bytes_words digits.now
 input_words (Input.Frame digits) = codes "frame of " ++ decimal (length digits.now / 2) ++ codes ": " ++ bytes_words digits.now
 
+abbrev pub no_room_words : ℕ → List ℕ
+no_room_words number = codes "no room in managed memory (" ++ decimal number ++ codes ")"
+
 -- the number of the refusal is 1 where eight frames are held
+abbrev pub lost_reason : ℕ → List ℕ
+lost_reason number = if number == 1 then codes "8 are held (1)" else no_room_words number
+
+abbrev pub lost_front : List ℕ
+lost_front = cross ++ codes " the frame is lost: "
+
 abbrev pub lost_words : ℕ → List ℕ
-lost_words number =
-    if number == 1 then cross ++ codes " the frame is lost: 8 are held (1)"
-    else cross ++ codes " the frame is lost: no room in managed memory (" ++ decimal number ++ codes ")"
+lost_words number = lost_front ++ lost_reason number
 
 abbrev pub note_words : Note → List ℕ
 note_words (Note.Lost number) = lost_words number

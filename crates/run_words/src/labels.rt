@@ -364,12 +364,25 @@ pub fn push_input(alloc: Global, out: &mut String, input: &Input<'_>) -> Result<
 fn push_lost(out: &mut String, number: u64) -> Result<(), AllocError>
     ensures { IfOk result (λ _. string_bytes out.new ≡ string_bytes out.old ++ spec.lost_words number) }
 {
+    out.push_str("✗ the frame is lost: ")?;
+    push_lost_reason(out, number)
+}
+
+fn push_lost_reason(out: &mut String, number: u64) -> Result<(), AllocError>
+    ensures { IfOk result (λ _. string_bytes out.new ≡ string_bytes out.old ++ spec.lost_reason number) }
+{
     if number == 1 {
-        out.push_str("✗ the frame is lost: 8 are held (1)")
+        out.push_str("8 are held (1)")
     } else {
-        out.push_str("✗ the frame is lost: no room in managed memory (")?;
-        write!(out, "{number})")
+        push_no_room(out, number)
     }
+}
+
+/// Appends that managed memory has no room.
+fn push_no_room(out: &mut String, number: u64) -> Result<(), AllocError>
+    ensures { IfOk result (λ _. string_bytes out.new ≡ string_bytes out.old ++ spec.no_room_words number) }
+{
+    write!(out, "no room in managed memory ({number})")
 }
 
 /// Appends what became of a frame.
