@@ -3,7 +3,7 @@ use Rattle.std.proofs.Common.{◌≡◌, ◌++◌, ℕ, List, [], ◌∷◌, cod
 use Rattle.std.specs.Fmt.{digits}
 use Rattle.transcript_lines.specs.declared.line.Note.{Note}
 use Rattle.transcript_lines.specs.declared.turn.Origin.{Origin}
-use Rattle.run_words.specs.Words.{answer_words, closing, cross, dots, last_words, line_end, note_words, opening, reason, shown_bytes, told_by, told_event}
+use Rattle.run_words.specs.Words.{answer_words, closing, cross, dots, last_words, line_end, note_words, opening, reason, space, shown_bytes, told_by, told_event}
 
 queue_full : reason (codes "1") ≡ codes "queue full"
 queue_full = refl
@@ -45,13 +45,13 @@ an_answer = refl
 a_callback : told_by Origin.Callback (codes "2") ≡ codes "callback 2"
 a_callback = refl
 
-refused : answer_words (codes "refused 12") ≡ codes "  " ++ cross ++ codes " no room (12)"
+refused : answer_words (codes "refused 12") ≡ space ++ space ++ cross ++ codes " no room (12)"
 refused = refl
 
 done : answer_words (codes "done") ≡ []
 done = refl
 
-a_value : answer_words (codes "num 44") ≡ codes "  = 44"
+a_value : answer_words (codes "num 44") ≡ space ++ space ++ codes "=" ++ space ++ codes "44"
 a_value = refl
 
 its_last : last_words (codes "timer-set") (codes "10") ≡ codes " 10"

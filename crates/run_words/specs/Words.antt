@@ -12,7 +12,10 @@ use Rattle.transcript_lines.specs.declared.turn.Turn.{Turn}
 
 -- ---- bytes
 
--- signs that are no ASCII: quotation marks, a line's end, a carriage return, three dots, and a cross
+-- signs that are no ASCII: a space that no viewer drops, quotation marks, a line's end, a carriage return, three dots, and a cross
+abbrev pub space : List ℕ
+space = 194 ∷ 160 ∷ []
+
 abbrev pub opening : List ℕ
 opening = 226 ∷ 128 ∷ 156 ∷ []
 
@@ -150,10 +153,10 @@ reason number =
     else codes "refused"
 
 abbrev pub value_words : List ℕ → List ℕ → List ℕ
-value_words kind value = codes "  = " ++ (if bytes_eq kind (codes "bytes") then bytes_words value else value)
+value_words kind value = space ++ space ++ codes "=" ++ space ++ (if bytes_eq kind (codes "bytes") then bytes_words value else value)
 
 abbrev pub answer_by : List ℕ → Option (List ℕ) → List ℕ
-answer_by answer (Some number) = codes "  " ++ cross ++ codes " " ++ reason number ++ codes " (" ++ number ++ codes ")"
+answer_by answer (Some number) = space ++ space ++ cross ++ codes " " ++ reason number ++ codes " (" ++ number ++ codes ")"
 answer_by answer None =
     if nat_lt (position_or_len is_space answer) (length answer) then value_words (before_first is_space answer) (after_first is_space answer) else []
 

@@ -266,7 +266,7 @@ pub fn refusal_in(answer: &str) -> Option<&str>
 fn push_refusal(out: &mut String, number: &str) -> Result<(), AllocError>
     ensures { IfOk result (λ _. string_bytes out.new ≡ string_bytes out.old ++ spec.answer_by [] (Some number.now)) }
 {
-    out.push_str("  ✗ ")?;
+    out.push_str("\u{a0}\u{a0}✗ ")?;
     out.push_str(reason(number))?;
     out.push_str(" (")?;
     out.push_str(number)?;
@@ -283,7 +283,7 @@ pub fn push_answer(alloc: Global, out: &mut String, answer: &str) -> Result<(), 
     let Some((kind, value)) = answer.split_once(' ') else {
         return Ok(());
     };
-    out.push_str("  = ")?;
+    out.push_str("\u{a0}\u{a0}=\u{a0}")?;
     if kind == "bytes" {
         push_bytes(alloc, out, value)
     } else {
