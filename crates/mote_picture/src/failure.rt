@@ -22,6 +22,10 @@ pub enum Failure {
     TwoForms,
     /// A dump of a quiet transcript is asked for, which tells no clock.
     Quiet,
+    /// `--from` is above `--to`.
+    BadRange(u64, u64),
+    /// `--from` or `--to` with a quiet transcript.
+    QuietRange,
     /// The line of this number is no line of a transcript.
     NoLine(u64),
     OutOfMemory,
@@ -41,7 +45,9 @@ impl Failure {
             | Failure::Words(_)
             | Failure::TooManyApplications
             | Failure::BadSizes
-            | Failure::TwoForms => 64,
+            | Failure::TwoForms
+            | Failure::BadRange(_, _)
+            | Failure::QuietRange => 64,
             Failure::OutOfMemory => 70,
         }
     }
@@ -61,6 +67,12 @@ impl fmt::Display for Failure {
                 f.write_str(
                     "mote_picture: a quiet transcript tells no clock: --vcd needs the whole one",
                 )
+            }
+            Failure::BadRange(from, to) => {
+                write!(f, "mote_picture: --from {from} is above --to {to}")
+            }
+            Failure::QuietRange => {
+                f.write_str("mote_picture: a quiet transcript tells no clock for --from and --to")
             }
             Failure::NoLine(number) => {
                 write!(f, "mote_picture: line {number} is no line of a transcript")

@@ -6,12 +6,14 @@ mod failure;
 
 use command_line::{Form, Named, read_words, title_of};
 use failure::Failure;
-use run_facts::is_quiet;
-use run_picture::{Settings, draw, lines_of};
+use run_picture::{Picture, Settings, draw, is_quiet, lines_of};
 use std::alloc::Global;
 use std::io::{Read, Write};
 use std::process::ExitCode;
 use std::{env, io};
+
+/// The height of a picture that most viewers still open, in pixels: they keep places in 15 bits.
+const HIGHEST: usize = 32_000;
 
 /// The words of the command line, the program's name first.
 fn words_of<R: AllocGlobal + env::Env>(rt: &R) -> Result<Vec<String>, Failure> {
@@ -52,7 +54,7 @@ fn drawn(
     lines: &[&str],
     named: &Named<'_>,
     title: &str,
-) -> Result<Vec<u8>, Failure> {
+) -> Result<Picture, Failure> {
     let settings = Settings {
         title,
         names: named.names.as_slice(),
@@ -91,18 +93,40 @@ fn dump(alloc: Global, lines: &[&str], named: &Named<'_>) -> Result<Vec<u8>, Fai
 }
 
 /// Draws what the words ask for. Nothing is written before all lines are read.
-fn draw_picture<R: AllocGlobal + io::Input + Print>(rt: &R, words: &[&str]) -> Result<(), Failure> {
+fn draw_picture<R: AllocGlobal + io::Input + Print + Eprint>(
+    rt: &R,
+    words: &[&str],
+) -> Result<(), Failure> {
     let alloc = rt.alloc();
     let named = read_words(alloc, words)?;
     let title = title_of(alloc, words)?;
     let bytes = read_all(rt)?;
     let lines = lines_of(alloc, bytes.as_slice())?;
-    let picture = match named.form {
-        Form::Picture => drawn(alloc, lines.as_slice(), &named, title.as_str())?,
+    let is_part = named.from > 0 || named.to < u64::MAX;
+    if is_part && is_quiet(lines.as_slice()) {
+        return Err(Failure::QuietRange);
+    }
+    let written = match named.form {
+        Form::Picture => {
+            let picture = drawn(alloc, lines.as_slice(), &named, title.as_str())?;
+            warn_of_height(rt, &picture);
+            picture.text
+        }
         Form::Page => page(alloc, lines.as_slice(), &named, title.as_str())?,
         Form::Dump => dump(alloc, lines.as_slice(), &named)?,
     };
-    write_all(rt, picture.as_slice())
+    write_all(rt, written.as_slice())
+}
+
+/// Says where a picture is too high for most viewers, which serve it only in part or not at all.
+fn warn_of_height<R: Eprint>(rt: &R, picture: &Picture) {
+    let height = picture.height;
+    if height > HIGHEST {
+        // Where that can't be told, the picture is written all the same.
+        let _ = eprintln!(rt;
+            "mote_picture: few viewers open a picture of {height} pixels, more than {HIGHEST}: --from and --to show a part of the run, --page writes a page"
+        );
+    }
 }
 
 /// Writes what there is to tell in place of a picture, and answers the status that the program exits with.

@@ -6,7 +6,7 @@ use crate::accepted::accepted_call;
 use crate::chains::{Chain, Lists};
 use crate::waiting::{Queue, Wait};
 use run_memory::Sizes;
-use run_rows::{Arming, Life, Marks, Shown, marks_of, rows_of};
+use run_rows::{Marks, Shown, marks_of, rows_of};
 use std::alloc::{AllocError, Global};
 use transcript_lines::{Line, Note, read_line};
 
@@ -18,23 +18,6 @@ pub struct Facts {
     pub chains: Vec<Chain>,
     /// The first line at which managed memory of the size that was told has no room for what the run holds.
     pub exceeds: Option<usize>,
-}
-
-/// Whether a line is one that a quiet transcript may have: a turn that prints or sends, a frame that was sent, or an end.
-fn may_be_quiet(line: &str) -> bool {
-    match read_line(line) {
-        Some(Line::Turn(turn)) => {
-            turn.call.starts_with("print ") || turn.call.starts_with("packet-send ")
-        }
-        Some(Line::Note(Note::Sent(_))) | Some(Line::Ending(_)) => true,
-        _ => false,
-    }
-}
-
-/// Whether a transcript is a quiet one: it tells of turns, and of no activation's end. Neither the clock nor memory, timers and queue
-/// can be known from it.
-pub fn is_quiet(lines: &[&str]) -> bool {
-    lines.iter().any(|line| line.contains(" -> ")) && lines.iter().all(|line| may_be_quiet(line))
 }
 
 /// The first line at which the blocks of managed memory take more than there is.
@@ -49,38 +32,6 @@ fn exceeds(marks: &Marks, size: u32) -> Option<usize> {
     first
 }
 
-/// The line at which the process of an arming ends, where it does.
-fn end_of_owner(lives: &[Life], arming: &Arming) -> Option<usize> {
-    for life in lives {
-        let is_owner = life.pid == arming.pid && life.first <= arming.first;
-        if is_owner && life.end >= Some(arming.first) {
-            return life.end;
-        }
-    }
-    None
-}
-
-/// An arming, up to the end of its process at most: timers leave the list with it.
-fn ended(arming: &Arming, lives: &[Life]) -> Arming {
-    let mut ended = *arming;
-    if let Some(end) = end_of_owner(lives, arming) {
-        if arming.last.is_none_or(|last| last > end) {
-            ended.last = Some(end);
-            ended.told = None;
-        }
-    }
-    ended
-}
-
-/// All armings, up to the ends of their processes.
-fn ended_armings(alloc: Global, marks: &Marks) -> Result<Vec<Arming>, AllocError> {
-    let mut armings = Vec::new(alloc);
-    for arming in marks.armings.as_slice() {
-        armings.push(ended(arming, marks.lives.as_slice()))?;
-    }
-    Ok(armings)
-}
-
 /// What holds at each of the lines.
 ///
 /// # Errors
@@ -92,8 +43,7 @@ pub fn facts_of(alloc: Global, lines: &[&str], sizes: Sizes) -> Result<Facts, Al
         end: lines.len(),
     };
     let rows = rows_of(alloc, lines, all, true)?;
-    let mut marks = marks_of(alloc, lines, rows.as_slice(), sizes)?;
-    marks.armings = ended_armings(alloc, &marks)?;
+    let marks = marks_of(alloc, lines, rows.as_slice(), sizes)?;
     let mut queue = Queue::new(alloc);
     let mut lists = Lists::new(alloc)?;
     for (number, line) in lines.iter().enumerate() {

@@ -15,6 +15,7 @@ pub mod waiting;
 pub mod wave;
 
 pub use chains::Chain;
-pub use facts::{Facts, facts_of, is_quiet};
+pub use facts::{Facts, facts_of};
+pub use transcript_lines::is_quiet;
 pub use waiting::Wait;
 pub use wave::{Settings, wave_of};
