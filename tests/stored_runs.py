@@ -5,7 +5,7 @@ import pathlib
 ROOT = pathlib.Path(__file__).resolve().parent.parent
 # The words of a scenario that begin no line of its transcript.
 DIRECTIVES = {"", "#", "app", "calls", "mmem", "heap", "quota", "header", "script", "last", "quiet", "ends", "tick", "serial", "frame", "text", "at"}
-SIZES = ("mmem", "heap", "header")
+SIZES = ("mmem", "heap", "quota", "header")
 
 
 @dataclasses.dataclass

@@ -124,16 +124,28 @@ fn are_sizes(matches: &ArgMatches<'_>) -> bool {
 fn sizes_of(matches: &ArgMatches<'_>) -> Sizes {
     Sizes {
         managed: matches.get_one::<u32>("mmem").unwrap_or(4096),
+        quota: matches.get_one::<u32>("quota"),
         heap: matches.get_one::<u32>("heap").unwrap_or(4096),
         header: matches.get_one::<u32>("header").unwrap_or(16),
     }
+}
+
+/// The clocks from which and up to which the run is shown.
+fn range_of(matches: &ArgMatches<'_>) -> Result<(u64, u64), Failure> {
+    let from = matches.get_one::<u64>("from").unwrap_or(0);
+    let to = matches.get_one::<u64>("to").unwrap_or(u64::MAX);
+    if from > to {
+        return Err(Failure::BadRange(from, to));
+    }
+    Ok((from, to))
 }
 
 /// What the words name. The first word is the program's name.
 ///
 /// # Errors
 ///
-/// What the parser finds in the words, then more than sixteen names, then sizes that no mote has, or want of memory.
+/// What the parser finds in the words, then more than sixteen names, then sizes that no mote has, then a range that ends before it
+/// begins, or want of memory.
 pub fn read_words<'a>(alloc: Global, words: &'a [&'a str]) -> Result<Named<'a>, Failure> {
     let matches = parse(alloc, words)?;
     let mut names = Vec::new(alloc);
@@ -148,10 +160,11 @@ pub fn read_words<'a>(alloc: Global, words: &'a [&'a str]) -> Result<Named<'a>, 
     if !are_sizes(&matches) {
         return Err(Failure::BadSizes);
     }
+    let (from, to) = range_of(&matches)?;
     Ok(Named {
         names,
-        from: matches.get_one::<u64>("from").unwrap_or(0),
-        to: matches.get_one::<u64>("to").unwrap_or(u64::MAX),
+        from,
+        to,
         sizes: sizes_of(&matches),
         unfolded: matches.get_flag("unfolded"),
     })

@@ -18,6 +18,10 @@ pub enum Failure {
     TooManyApplications,
     /// A size is no multiple of 4, or a header has other than 16 or 8 bytes.
     BadSizes,
+    /// `--from` is above `--to`.
+    BadRange(u64, u64),
+    /// `--from` or `--to` with a quiet transcript.
+    QuietRange,
     /// The line of this number is no line of a transcript.
     NoLine(u64),
     OutOfMemory,
@@ -36,7 +40,9 @@ impl Failure {
             Failure::NotText
             | Failure::Words(_)
             | Failure::TooManyApplications
-            | Failure::BadSizes => 64,
+            | Failure::BadSizes
+            | Failure::BadRange(_, _)
+            | Failure::QuietRange => 64,
             Failure::OutOfMemory => 70,
         }
     }
@@ -49,6 +55,12 @@ impl fmt::Display for Failure {
             Failure::Request(text) | Failure::Words(text) => write!(f, "{text}"),
             Failure::TooManyApplications => f.write_str("mote_picture: too many applications"),
             Failure::BadSizes => f.write_str("mote_picture: bad sizes"),
+            Failure::BadRange(from, to) => {
+                write!(f, "mote_picture: --from {from} is above --to {to}")
+            }
+            Failure::QuietRange => {
+                f.write_str("mote_picture: a quiet transcript tells no clock for --from and --to")
+            }
             Failure::NoLine(number) => {
                 write!(f, "mote_picture: line {number} is no line of a transcript")
             }

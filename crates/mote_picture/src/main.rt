@@ -6,10 +6,13 @@ mod failure;
 
 use command_line::{read_words, title_of};
 use failure::Failure;
-use run_picture::{Settings, draw, lines_of};
+use run_picture::{Picture, Settings, draw, is_quiet, lines_of};
 use std::io::{Read, Write};
 use std::process::ExitCode;
 use std::{env, io};
+
+/// The height of a picture that most viewers still open, in pixels: they keep places in 15 bits.
+const HIGHEST: usize = 32_000;
 
 /// The words of the command line, the program's name first.
 fn words_of<R: AllocGlobal + env::Env>(rt: &R) -> Result<Vec<String>, Failure> {
@@ -45,12 +48,19 @@ fn write_all<R: Print>(rt: &R, picture: &[u8]) -> Result<(), Failure> {
 }
 
 /// Draws what the words ask for. Nothing is written before all lines are read.
-fn draw_picture<R: AllocGlobal + io::Input + Print>(rt: &R, words: &[&str]) -> Result<(), Failure> {
+fn draw_picture<R: AllocGlobal + io::Input + Print + Eprint>(
+    rt: &R,
+    words: &[&str],
+) -> Result<(), Failure> {
     let alloc = rt.alloc();
     let named = read_words(alloc, words)?;
     let title = title_of(alloc, words)?;
     let bytes = read_all(rt)?;
     let lines = lines_of(alloc, bytes.as_slice())?;
+    let is_part = named.from > 0 || named.to < u64::MAX;
+    if is_part && is_quiet(lines.as_slice()) {
+        return Err(Failure::QuietRange);
+    }
     let settings = Settings {
         title: title.as_str(),
         names: named.names.as_slice(),
@@ -60,7 +70,19 @@ fn draw_picture<R: AllocGlobal + io::Input + Print>(rt: &R, words: &[&str]) -> R
         unfolded: named.unfolded,
     };
     let picture = draw(alloc, lines.as_slice(), &settings)?;
-    write_all(rt, picture.as_slice())
+    warn_of_height(rt, &picture);
+    write_all(rt, picture.text.as_slice())
+}
+
+/// Says where a picture is too high for most viewers, which serve it only in part or not at all.
+fn warn_of_height<R: Eprint>(rt: &R, picture: &Picture) {
+    let height = picture.height;
+    if height > HIGHEST {
+        // Where that can't be told, the picture is written all the same.
+        let _ = eprintln!(rt;
+            "mote_picture: few viewers open a picture of {height} pixels, more than {HIGHEST}: --from and --to show a part of the run, --page writes a page"
+        );
+    }
 }
 
 /// Writes what there is to tell in place of a picture, and answers the status that the program exits with.

@@ -1,1 +1,2 @@
-pub mod Title
+pub mod Elements
+pub mod Places

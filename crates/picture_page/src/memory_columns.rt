@@ -1,5 +1,8 @@
 //! The columns of memory beside the rows: a box for each block, for as long as it lies at its place.
 
+ghost use Rattle.std.specs.Prelude.{◌≡◌, ◌+◌, ◌-◌, ◌≤◌, max};
+ghost use Rattle.picture_page.specs.Places.{capped, end_of, row_middle};
+
 use crate::page::{Page, ROW};
 use crate::pen::{Area, Pen, Place};
 use run_memory::managed::FRAMES;
@@ -22,10 +25,14 @@ pub struct Column {
 
 impl Column {
     /// How far from the left of the picture so many bytes reach.
-    fn reach_of(&self, bytes: u64) -> usize {
-        let width = self.width as u64;
-        let along = width.saturating_mul(bytes.min(self.bytes)) / self.bytes.max(1);
-        self.left.saturating_add(along as usize)
+    fn reach_of(&self, bytes: u64) -> usize
+        ensures from { capped self.now.left ≤ result }
+        ensures to { result ≤ self.now.left + self.now.width }
+    {
+        let column = *self;
+        let along = (column.width as u64).saturating_mul(bytes.min(column.bytes))
+            / column.bytes.max(1);
+        column.left.saturating_add(along as usize)
     }
 }
 
@@ -45,7 +52,12 @@ pub fn bytes_shown(stays: &[Stay], size: u64) -> u64 {
 }
 
 /// The part of a column that a block takes.
-fn area_of(page: &Page, column: &Column, stay: &Stay) -> Area {
+fn area_of(page: &Page, column: &Column, stay: &Stay) -> Area
+    ensures top { result.place.top ≡ row_middle page.now stay.now.first }
+    ensures height { result.height ≡ max (end_of page.now stay.now.last - row_middle page.now stay.now.first) 1 }
+    ensures from { capped column.now.left ≤ result.place.left }
+    ensures to { result.place.left + result.width ≤ column.now.left + column.now.width + 1 }
+{
     let left = column.reach_of(stay.at);
     let right = column.reach_of(stay.at.saturating_add(stay.taken));
     let (top, end) = page.span_of(stay);
@@ -214,17 +226,4 @@ pub fn draw_heap(
         draw_pale_parts(pen, page, &column, stay, sizes.header)?;
     }
     Ok(())
-}
-
-/// Tells of the first line that a heap of these sizes answers in another way, if there is one.
-pub fn draw_difference(pen: &mut Pen, page: &Page, line: Option<usize>) -> Result<(), AllocError> {
-    let Some(line) = line else {
-        return Ok(());
-    };
-    let place = Place {
-        left: page.heap_left().saturating_add(40),
-        top: page.top.saturating_sub(24),
-    };
-    let words = format!(in pen.alloc; "not the run's heap from line {line} on: other sizes?")?;
-    pen.text("r", place, words.as_str())
 }

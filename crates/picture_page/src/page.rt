@@ -1,5 +1,9 @@
 //! Where the parts of a picture stand.
 
+ghost use Rattle.std.specs.Prelude.{◌≡◌, ◌+◌, if◌then◌else◌};
+ghost use Rattle.picture_page.specs.Places as spec;
+ghost use Rattle.picture_page.specs.Places.{capped, lane_width};
+
 use crate::pen::Place;
 use run_memory::Stay;
 
@@ -41,7 +45,11 @@ pub struct Columns {
 
 impl Columns {
     /// The columns for a run in which managed memory is used, or isn't, the heap, and so many pools.
-    pub fn new(is_managed: bool, is_heap: bool, pools: usize) -> Self {
+    pub fn new(is_managed: bool, is_heap: bool, pools: usize) -> Self
+        ensures managed { result.managed ≡ (if is_managed then 180 else 0) }
+        ensures heap { result.heap ≡ (if is_heap then 340 else 0) }
+        ensures pools { result.pools ≡ pools }
+    {
         Columns {
             managed: if is_managed { MANAGED } else { 0 },
             heap: if is_heap { HEAP } else { 0 },
@@ -51,7 +59,9 @@ impl Columns {
 }
 
 /// The end of a column that begins there, with the room behind it.
-fn behind(left: usize, width: usize) -> usize {
+fn behind(left: usize, width: usize) -> usize
+    ensures { result ≡ spec.behind left width }
+{
     if width == 0 {
         left
     } else {
@@ -76,7 +86,11 @@ pub struct Page {
 
 impl Page {
     /// The places for so many lanes and rows, where the overview begins there and has that height.
-    pub fn new(lanes: usize, rows: usize, strip: usize, height: usize, columns: Columns) -> Self {
+    pub fn new(lanes: usize, rows: usize, strip: usize, height: usize, columns: Columns) -> Self
+        ensures parts { (result.lanes ≡ lanes) × (result.rows ≡ rows) × (result.strip ≡ strip) × (result.columns ≡ columns) }
+        ensures top { result.top ≡ capped (strip + height) }
+        ensures lane { result.lane ≡ lane_width lanes }
+    {
         let lane = match lanes {
             0..=5 => 64,
             6..=9 => 44,
@@ -93,22 +107,31 @@ impl Page {
     }
 
     /// Where a row begins.
-    pub fn top_of(&self, row: usize) -> usize {
+    pub fn top_of(&self, row: usize) -> usize
+        ensures { result ≡ spec.row_top self.now row }
+    {
         row.saturating_mul(ROW).saturating_add(self.top)
     }
 
     /// Where the words of a row stand.
-    pub fn base_of(&self, row: usize) -> usize {
+    pub fn base_of(&self, row: usize) -> usize
+        ensures { result ≡ spec.row_base self.now row }
+    {
         self.top_of(row).saturating_add(12)
     }
 
     /// Where the rows end.
-    pub fn bottom(&self) -> usize {
+    pub fn bottom(&self) -> usize
+        ensures { result ≡ spec.bottom self.now }
+    {
         self.top_of(self.rows)
     }
 
     /// Where what stays somewhere begins and ends, from the middle of its first row on.
-    pub(crate) fn span_of(&self, stay: &Stay) -> (usize, usize) {
+    pub(crate) fn span_of(&self, stay: &Stay) -> (usize, usize)
+        ensures from { result.0 ≡ spec.row_middle self.now stay.now.first }
+        ensures to { result.1 ≡ spec.end_of self.now stay.now.last }
+    {
         let end = match stay.last {
             Some(row) => self.top_of(row).saturating_add(ROW / 2),
             None => self.bottom(),
@@ -117,7 +140,9 @@ impl Page {
     }
 
     /// The middle of a process's lane.
-    pub fn lane_of(&self, pid: usize) -> usize {
+    pub fn lane_of(&self, pid: usize) -> usize
+        ensures { result ≡ spec.lane_middle self.now pid }
+    {
         let number = pid.saturating_sub(4);
         number
             .saturating_mul(self.lane)
@@ -126,46 +151,63 @@ impl Page {
     }
 
     /// Where the words of the rows begin.
-    pub fn words(&self) -> usize {
+    pub fn words(&self) -> usize
+        ensures { result ≡ spec.words_left self.now }
+    {
         self.lanes
             .saturating_mul(self.lane)
             .saturating_add(LANES + 14)
     }
 
     /// Where the words of the rows end.
-    pub fn words_end(&self) -> usize {
+    pub fn words_end(&self) -> usize
+        ensures { result ≡ spec.words_end self.now }
+    {
         self.words().saturating_add(WORDS)
     }
 
     /// Where the column of managed memory begins.
-    pub fn managed_left(&self) -> usize {
+    pub fn managed_left(&self) -> usize
+        ensures { result ≡ spec.managed_left self.now }
+    {
         self.words_end().saturating_add(10)
     }
 
     /// Where the heap's map begins.
-    pub fn heap_left(&self) -> usize {
+    pub fn heap_left(&self) -> usize
+        ensures { result ≡ spec.heap_left self.now }
+    {
         behind(self.managed_left(), self.columns.managed)
     }
 
     /// Where the column of a pool begins that has so many others before it.
-    pub fn pool_left(&self, others: usize) -> usize {
+    pub fn pool_left(&self, others: usize) -> usize
+        ensures { result ≡ spec.pool_left self.now others }
+    {
         behind(self.heap_left(), self.columns.heap).saturating_add(others.saturating_mul(
             POOL + BETWEEN,
         ))
     }
 
-    pub fn width(&self) -> usize {
+    pub fn width(&self) -> usize
+        ensures { result ≡ spec.width_of self.now }
+    {
         self.pool_left(self.columns.pools)
             .saturating_add(10)
             .max(LEAST_WIDTH)
     }
 
-    pub fn height(&self) -> usize {
+    pub fn height(&self) -> usize
+        ensures { result ≡ spec.height_of self.now }
+    {
         self.bottom().saturating_add(30)
     }
 
     /// The place of a row's words, so far from the left of all words.
-    pub fn words_of(&self, row: usize, indent: usize) -> Place {
+    pub fn words_of(&self, row: usize, indent: usize) -> Place
+        ensures left { result.left ≡ capped (spec.words_left self.now + indent) }
+        ensures top { result.top ≡ spec.row_base self.now row }
+    {
         Place {
             left: self.words().saturating_add(indent),
             top: self.base_of(row),

@@ -1,7 +1,8 @@
 //! Shapes and texts that are put into a picture, each with what it tells when it is pointed at.
 
-ghost use Rattle.std.specs.Prelude.{◌≡◌, [], IfOk};
-ghost use Rattle.picture_page.specs.Title as spec;
+ghost use Rattle.std.specs.Prelude.{◌≡◌, ◌++◌, [], IfOk};
+ghost use Rattle.picture_markup.specs.Parts.{text_of};
+ghost use Rattle.picture_page.specs.Elements as spec;
 
 use picture_markup::{Attribute, Content, Element, Tag};
 use std::alloc::{AllocError, Global};
@@ -32,6 +33,7 @@ pub fn title_element(alloc: Global, title: &str) -> Result<Element, AllocError>
 pub fn area_element(alloc: Global, class: &str, area: Area) -> Result<Element, AllocError>
     ensures tag { IfOk result (λ element. element.tag ≡ Tag.Rect) }
     ensures inside { IfOk result (λ element. element.inside ≡ []) }
+    ensures whole { IfOk result (λ element. element ≡ spec.area_element class.now area) }
 {
     Element::new(alloc, Tag::Rect)
         .with(Attribute::Class, class)?
@@ -42,7 +44,9 @@ pub fn area_element(alloc: Global, class: &str, area: Area) -> Result<Element, A
 }
 
 /// A text's element, with nothing inside.
-pub fn text_element(alloc: Global, place: Place) -> Result<Element, AllocError> {
+pub fn text_element(alloc: Global, place: Place) -> Result<Element, AllocError>
+    ensures { IfOk result (λ element. element ≡ spec.text_element place) }
+{
     Element::new(alloc, Tag::Text)
         .with_number(Attribute::Left, place.left)?
         .with_number(Attribute::Top, place.top)
@@ -54,7 +58,9 @@ pub fn with_span(
     element: Element,
     class: &str,
     words: &str,
-) -> Result<Element, AllocError> {
+) -> Result<Element, AllocError>
+    ensures { IfOk result (λ whole. whole ≡ spec.with_span class.now words.now element) }
+{
     if words.is_empty() {
         return Ok(element);
     }
@@ -73,14 +79,18 @@ pub struct Pen {
 }
 
 impl Pen {
-    pub fn new(alloc: Global) -> Self {
+    pub fn new(alloc: Global) -> Self
+        ensures { result.content ≡ [] }
+    {
         Pen {
             alloc,
             content: Content::new(alloc),
         }
     }
 
-    fn put(&mut self, element: Element, title: &str) -> Result<(), AllocError> {
+    fn put(&mut self, element: Element, title: &str) -> Result<(), AllocError>
+        ensures { IfOk result (λ _. self.new.content ≡ self.old.content ++ text_of (spec.titled title.now element)) }
+    {
         if title.is_empty() {
             return self.content.hold(&element);
         }
@@ -88,20 +98,26 @@ impl Pen {
         self.content.hold(&element.holding(&title)?)
     }
 
-    pub fn area(&mut self, class: &str, area: Area, title: &str) -> Result<(), AllocError> {
+    pub fn area(&mut self, class: &str, area: Area, title: &str) -> Result<(), AllocError>
+        ensures { IfOk result (λ _. self.new.content ≡ self.old.content ++ text_of (spec.titled title.now (spec.area_element class.now area))) }
+    {
         let element = area_element(self.alloc, class, area)?;
         self.put(element, title)
     }
 
     /// A line by the commands of a path.
-    pub fn line(&mut self, class: &str, commands: &str, title: &str) -> Result<(), AllocError> {
+    pub fn line(&mut self, class: &str, commands: &str, title: &str) -> Result<(), AllocError>
+        ensures { IfOk result (λ _. self.new.content ≡ self.old.content ++ text_of (spec.titled title.now (spec.line_element class.now commands.now))) }
+    {
         let element = Element::new(self.alloc, Tag::Path)
             .with(Attribute::Class, class)?
             .with(Attribute::Commands, commands)?;
         self.put(element, title)
     }
 
-    pub fn text(&mut self, class: &str, place: Place, text: &str) -> Result<(), AllocError> {
+    pub fn text(&mut self, class: &str, place: Place, text: &str) -> Result<(), AllocError>
+        ensures { IfOk result (λ _. self.new.content ≡ self.old.content ++ text_of (spec.words_element class.now place text.now)) }
+    {
         let element = text_element(self.alloc, place)?
             .with(Attribute::Class, class)?
             .saying(text)?;

@@ -1,5 +1,8 @@
 //! The columns of the pools: which blocks are used, and which of these are in a list.
 
+ghost use Rattle.std.specs.Prelude.{◌≡◌, ◌-◌, ◌≤◌, max};
+ghost use Rattle.picture_page.specs.Places.{end_of, row_middle};
+
 use crate::page::{POOL, Page};
 use crate::pen::{Area, Pen, Place};
 use run_memory::Stay;
@@ -34,7 +37,9 @@ impl Pools {
     }
 
     /// How many pools have a column below that one.
-    pub fn below(&self, pool: u64) -> usize {
+    pub fn below(&self, pool: u64) -> usize
+        ensures { result ≤ 4 }
+    {
         let most = pool.min(POOLS) as usize;
         self.are_used
             .iter()
@@ -44,13 +49,19 @@ impl Pools {
     }
 
     /// How many pools have a column.
-    pub fn count(&self) -> usize {
+    pub fn count(&self) -> usize
+        ensures { result ≤ 4 }
+    {
         self.below(POOLS)
     }
 }
 
 /// The part of its pool's column that a block takes, from so far within it on.
-fn area_of(page: &Page, pools: &Pools, stay: &Stay, width: usize) -> Area {
+fn area_of(page: &Page, pools: &Pools, stay: &Stay, width: usize) -> Area
+    ensures top { result.place.top ≡ row_middle page.now stay.now.first }
+    ensures height { result.height ≡ max (end_of page.now stay.now.last - row_middle page.now stay.now.first) 1 }
+    ensures width { result.width ≡ width }
+{
     let block = (stay.at % BLOCKS) as usize;
     let left = page
         .pool_left(pools.below(stay.at / BLOCKS))

@@ -5,6 +5,7 @@ ghost use Rattle.mote_types.specs.Conditions.{IsName};
 ghost use Rattle.heap_core.specs.Conditions.{IsHeaderLength};
 
 use crate::heap::LiveHeap;
+use crate::memory::Answered;
 use crate::stay::{Record, Stay};
 use crate::words::number_of;
 use heap_core::Key;
@@ -20,7 +21,7 @@ pub(crate) struct HeapMap {
     record: Record,
     /// How many blocks there were at most at once.
     pub(crate) most: usize,
-    /// The row of the first call that this heap answers in another way than the transcript.
+    /// The line of the first call that this heap answers in another way than the transcript.
     pub(crate) differs: Option<usize>,
 }
 
@@ -39,6 +40,23 @@ fn key_of(pid: usize, number: u64) -> Option<Key>
         return None;
     }
     Some((Pid(pid as u8), number as u8))
+}
+
+/// What a call on the heap asks for.
+#[derive(Clone, Copy, Drop)]
+struct Asked<'a> {
+    word: &'a str,
+    number: u64,
+    size: u32,
+}
+
+fn asked_by(call: &str) -> Asked<'_> {
+    let mut words = call.split(' ');
+    Asked {
+        word: words.next().unwrap_or(""),
+        number: number_of(words.next()),
+        size: number_of(words.next()).min(u32::MAX as u64) as u32,
+    }
 }
 
 impl HeapMap {
@@ -64,35 +82,46 @@ impl HeapMap {
         }))
     }
 
-    /// A process's call was accepted that was made in a row.
-    pub(crate) fn carry_out(
-        &mut self,
-        pid: usize,
-        call: &str,
-        answer: &str,
-        row: usize,
-    ) -> Result<(), AllocError> {
-        let mut words = call.split(' ');
-        let word = words.next().unwrap_or("");
-        let number = number_of(words.next());
-        let size = number_of(words.next()).min(u32::MAX as u64) as u32;
-        let Some(key) = key_of(pid, number) else {
+    /// A call was accepted.
+    pub(crate) fn carry_out(&mut self, called: &Answered<'_>) -> Result<(), AllocError> {
+        let Asked { word, number, size } = asked_by(called.call);
+        let Some(key) = key_of(called.pid, number) else {
             return Ok(());
         };
         let is_so = match word {
             "heap-alloc" => self.heap.alloc(key, size),
             "heap-realloc" => self.heap.realloc(key, size),
             "heap-free" => self.heap.free(key),
-            "heap-stats" => self.has_stats(answer)?,
+            "heap-stats" => self.has_stats(called.answer)?,
             _ => return Ok(()),
         };
         if !is_so {
-            self.differs = self.differs.or(Some(row));
+            self.differs = self.differs.or(Some(called.line));
         }
         if word == "heap-stats" {
             return Ok(());
         }
-        self.show(key, size, row)
+        self.show(key, size, called.row)
+    }
+
+    /// A call was refused. Where that was for want of a place, this heap has none either.
+    pub(crate) fn refuse(&mut self, called: &Answered<'_>) {
+        let Asked { word, number, size } = asked_by(called.call);
+        let Some(key) = key_of(called.pid, number) else {
+            return;
+        };
+        if called.answer != "refused 12" {
+            return;
+        }
+        // Where it has one, the map is another run's from here on in any case.
+        let is_taken = match word {
+            "heap-alloc" => self.heap.alloc(key, size),
+            "heap-realloc" => self.heap.realloc(key, size),
+            _ => false,
+        };
+        if is_taken {
+            self.differs = self.differs.or(Some(called.line));
+        }
     }
 
     /// Whether these are the statistics of the heap.
@@ -132,7 +161,6 @@ impl HeapMap {
     pub(crate) fn forget_rows(&mut self) {
         self.record.forget_rows();
         self.most = self.record.live.len();
-        self.differs = None;
     }
 
     pub(crate) fn finish(self) -> Result<Vec<Stay>, AllocError> {

@@ -11,5 +11,5 @@ pub mod pools;
 pub mod stay;
 mod words;
 
-pub use memory::{Memory, Sizes, Stays};
+pub use memory::{Answered, Memory, Sizes, Stays};
 pub use stay::Stay;

@@ -11,9 +11,21 @@ use std::alloc::{AllocError, Global};
 #[derive(Clone, Copy, Drop)]
 pub struct Sizes {
     pub managed: u32,
+    /// How much of managed memory each process may have, and the frames. `None` where each may take all that is free.
+    pub quota: Option<u32>,
     pub heap: u32,
     /// The length of a header in the heap, 16 or 8.
     pub header: u32,
+}
+
+/// A process's call, what was answered, and where the call stands: its row, and the number of its line, from 0 on.
+#[derive(Clone, Copy, Drop)]
+pub struct Answered<'a> {
+    pub pid: usize,
+    pub call: &'a str,
+    pub answer: &'a str,
+    pub row: usize,
+    pub line: usize,
 }
 
 /// The memory of a mote as the calls so far leave it.
@@ -34,8 +46,10 @@ pub struct Stays {
     pub heap: Vec<Stay>,
     /// How many blocks the heap had at most at once.
     pub most: usize,
-    /// The row of the first call on the heap that a heap of the size that was told answers in another way.
+    /// The number of the line, from 0 on, with the first call on the heap that a heap of the size that was told answers in another way.
     pub differs: Option<usize>,
+    /// The same for managed memory, or that of the first frame.
+    pub managed_differs: Option<usize>,
     /// The used blocks of the pools, by their numbers among all blocks of all pools.
     pub used: Vec<Stay>,
     /// Those that are in a list, by the number of the list.
@@ -50,6 +64,7 @@ impl Stays {
             heap: Vec::new(alloc),
             most: 0,
             differs: None,
+            managed_differs: None,
             used: Vec::new(alloc),
             linked: Vec::new(alloc),
         }
@@ -64,57 +79,44 @@ impl Memory {
     /// `AllocError` where memory was refused.
     pub fn new(alloc: Global, sizes: Sizes) -> Result<Self, AllocError> {
         Ok(Memory {
-            managed: Managed::new(alloc),
+            managed: Managed::new(alloc, sizes.managed, sizes.quota),
             heap: HeapMap::new(alloc, sizes.heap, sizes.header)?,
             pools: Pools::new(alloc),
         })
     }
 
-    /// A process's call was accepted that was made in a row, with that answer. Calls that are on no memory change nothing.
-    pub fn carry_out(
-        &mut self,
-        pid: usize,
-        call: &str,
-        answer: &str,
-        row: usize,
-    ) -> Result<(), AllocError> {
-        let (part, _) = call.split_once('-').unwrap_or((call, ""));
+    /// A call was accepted. Calls that are on no memory change nothing.
+    pub fn carry_out(&mut self, called: &Answered<'_>) -> Result<(), AllocError> {
+        let (part, _) = called.call.split_once('-').unwrap_or((called.call, ""));
         match part {
-            "mmem" => self.carry_out_managed(pid, call, row),
+            "mmem" => self.managed.carry_out(called),
             "heap" => match &mut self.heap {
-                Some(heap) => heap.carry_out(pid, call, answer, row),
+                Some(heap) => heap.carry_out(called),
                 None => Ok(()),
             },
-            "memb" => self.pools.carry_out(pid, call, answer, row),
-            "list" => self.pools.carry_out_on_list(pid, call, answer, row),
-            "packet" if call == "packet-done" => self.managed.give_back(row),
+            "memb" => self.pools.carry_out(called),
+            "list" => self.pools.carry_out_on_list(called),
+            "packet" if called.call == "packet-done" => self.managed.give_back(called.row),
             _ => Ok(()),
         }
     }
 
-    /// The same for a call on managed memory.
-    fn carry_out_managed(&mut self, pid: usize, call: &str, row: usize) -> Result<(), AllocError> {
-        let mut words = call.split(' ');
-        let word = words.next();
-        let handle = number_of(words.next());
-        match word {
-            Some("mmem-alloc") => {
-                let size = number_of(words.next());
-                self.managed.add(pid, handle, size, row)
-            }
-            Some("mmem-free") => self.managed.free(pid, handle, row),
-            _ => Ok(()),
+    /// A call was refused, which changes nothing.
+    pub fn refuse(&mut self, called: &Answered<'_>) {
+        self.managed.refuse(called);
+        if let Some(heap) = &mut self.heap {
+            heap.refuse(called);
         }
     }
 
-    /// A frame of so many bytes has come in, and is held.
-    pub fn take_frame(&mut self, size: usize, row: usize) -> Result<(), AllocError> {
-        self.managed.take_frame(size as u64, row)
+    /// A frame of so many bytes came in, in that row and in the line of that number, and is held.
+    pub fn hold_frame(&mut self, size: usize, row: usize, line: usize) -> Result<(), AllocError> {
+        self.managed.hold_frame(size as u64, row, line)
     }
 
-    /// The frame that has just come in was lost.
-    pub fn lose_frame(&mut self) {
-        self.managed.lose_frame();
+    /// A frame of so many bytes came in, in the line of that number, and was lost: the number of the refusal.
+    pub fn lose_frame(&mut self, size: usize, number: u64, line: usize) {
+        self.managed.lose_frame(size as u64, number, line);
     }
 
     /// What has gone so far is forgotten, and what is there begins in the first row.
@@ -128,6 +130,7 @@ impl Memory {
 
     /// The blocks that there were.
     pub fn finish(self, alloc: Global) -> Result<Stays, AllocError> {
+        let managed_differs = self.managed.differs;
         let managed = self.managed.finish()?;
         let (used, linked) = self.pools.finish()?;
         let (heap, most, differs) = match self.heap {
@@ -142,6 +145,7 @@ impl Memory {
             heap,
             most,
             differs,
+            managed_differs,
             used,
             linked,
         })

@@ -1,5 +1,6 @@
 //! Pools and their lists: which blocks are used, and which of these are in a list.
 
+use crate::memory::Answered;
 use crate::stay::{Record, Stay};
 use crate::words::number_of;
 use std::alloc::{AllocError, Global};
@@ -41,14 +42,15 @@ impl Pools {
         }
     }
 
-    /// A process's call on a pool was accepted that was made in a row.
-    pub(crate) fn carry_out(
-        &mut self,
-        pid: usize,
-        call: &str,
-        answer: &str,
-        row: usize,
-    ) -> Result<(), AllocError> {
+    /// A call on a pool was accepted.
+    pub(crate) fn carry_out(&mut self, called: &Answered<'_>) -> Result<(), AllocError> {
+        let Answered {
+            pid,
+            call,
+            answer,
+            row,
+            ..
+        } = *called;
         let mut words = call.split(' ');
         let word = words.next();
         let pool = number_of(words.next());
@@ -67,13 +69,14 @@ impl Pools {
     }
 
     /// The same for a call on a list.
-    pub(crate) fn carry_out_on_list(
-        &mut self,
-        pid: usize,
-        call: &str,
-        answer: &str,
-        row: usize,
-    ) -> Result<(), AllocError> {
+    pub(crate) fn carry_out_on_list(&mut self, called: &Answered<'_>) -> Result<(), AllocError> {
+        let Answered {
+            pid,
+            call,
+            answer,
+            row,
+            ..
+        } = *called;
         let mut words = call.split(' ');
         let word = words.next().unwrap_or("");
         let list = number_of(words.next());

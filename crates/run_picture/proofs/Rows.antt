@@ -1,5 +1,5 @@
 -- Rows that have lines one behind the other, and what they tell.
-use Rattle.std.proofs.Common.{◌≡◌, ℕ, ◌+◌, ◌-◌, ◌<◌, ◌≤◌, Bool, List, [], ◌∷◌, ◌++◌, length, drop, All, flat_map, refl, arith, slice_range}
+use Rattle.std.proofs.Common.{◌≡◌, ℕ, ◌+◌, ◌-◌, ◌<◌, ◌≤◌, Bool, List, [], ◌∷◌, ◌++◌, length, drop, take, All, flat_map, refl, subst, arith, slice_range}
 use Rattle.std.proofs.lemmas.List.{drop-drop, take-map, drop-map, length-map}
 use Rattle.std.proofs.lemmas.Bool.{OnTrue_at, OnTrue_from}
 use Rattle.std.specs.Bool.{OnTrue}
@@ -10,8 +10,8 @@ use denote.Ref.{Bor}
 use Rattle.run_rows.specs.declared.row.Row.{Row}
 use Rattle.run_rows.specs.declared.row.Show.{Show}
 use Rattle.run_rows.specs.declared.rows.Shown.{Shown}
-use Rattle.run_rows.specs.Rows.{Cover, IsPlain}
-use Rattle.run_picture.specs.Titles.{bytes_of, title_by, title_of, ended_lines, AreShown, ShowsRows, IsPicture}
+use Rattle.run_rows.specs.Rows.{Cover, IsPlain, IsTrueRow, bytes_of}
+use Rattle.run_picture.specs.Titles.{title_by, title_of, ended_lines, AreShown, ShowsRows, IsPicture}
 
 -- they end where they begin, or behind it
 Cover-order : (first : ℕ) (rows : List Row) (end : ℕ) → Cover first rows end → first ≤ end
@@ -61,13 +61,18 @@ title_by-lines (Show.Again period) lines first count all = cc
 pub title_of-lines : (lines : List (Bor (List ℕ))) (row : Row) → row.show ≡ Show.Lines → ended_lines (bytes_of (slice_range lines row.first (row.first + row.count))) ≡ title_of (bytes_of lines) row
 title_of-lines lines row all = title_by-lines row.show lines row.first row.count all
 
+-- the first lines have the first bytes
+take-bytes : (lines : List (Bor (List ℕ))) (count : ℕ) → bytes_of (take count lines) ≡ take count (bytes_of lines)
+take-bytes lines count = rw (take-map (λ (line : Bor (List ℕ)). line.now) count lines) refl
+
 -- such rows and their titles are what a picture tells of the lines that are shown
-pub picture-told : (lines : List (Bor (List ℕ))) (from to : ℕ) (unfolded : Bool) (shown : Shown) (rows : List Row) (picture : List ℕ) → AreShown (length lines) from to shown → Cover shown.first rows shown.end → OnTrue unfolded (All IsPlain rows) → ShowsRows (bytes_of lines) rows picture → IsPicture (bytes_of lines) from to unfolded picture
-picture-told lines from to unfolded shown rows picture are_shown cover plain shows_rows = record {
+pub picture-told : (lines : List (Bor (List ℕ))) (from to : ℕ) (unfolded : Bool) (shown : Shown) (rows : List Row) (picture : List ℕ) → AreShown (bytes_of lines) from to shown → Cover shown.first rows shown.end → OnTrue unfolded (All IsPlain rows) → All (IsTrueRow (bytes_of (take shown.end lines))) rows → ShowsRows (bytes_of lines) rows picture → IsPicture (bytes_of lines) from to unfolded picture
+picture-told lines from to unfolded shown rows picture are_shown cover plain again shows_rows = record {
   shown = shown;
-  are_shown = rw length-map are_shown;
+  are_shown = are_shown;
   rows = rows;
   cover = cover;
   shows_rows = shows_rows;
   lines_back = OnTrue_from unfolded _ (λ is. titles-plain (bytes_of lines) shown.first rows shown.end cover (OnTrue_at is plain));
+  again = subst (λ texts. All (IsTrueRow texts) rows) (take-bytes lines shown.end) again;
 }

@@ -1,19 +1,15 @@
 -- What a picture tells of a transcript's lines: which are shown, the rows that they stand in, and the title of each row.
-use Rattle.std.specs.Prelude.{◌≡◌, ℕ, ◌+◌, ◌-◌, ◌^◌, ◌≤◌, Bool, List, [], ◌∷◌, ◌++◌, map, flat_map, length, slice_range, slice_index_or, codes, decimal}
+use Rattle.std.specs.Prelude.{◌≡◌, ℕ, ◌+◌, ◌-◌, ◌^◌, ◌≤◌, Bool, List, [], ◌∷◌, ◌++◌, flat_map, length, take, All, slice_range, slice_index_or, codes, decimal}
 use Rattle.std.specs.Bool.{OnTrue}
-use denote.Ref.{Bor}
 use Rattle.picture_markup.specs.declared.names.Tag.{Tag}
 use Rattle.picture_markup.specs.Markup.{AreAttributes, IsContent, element_text}
 use Rattle.picture_markup.specs.Parts.{Parts, text_of}
-use Rattle.picture_page.specs.Title.{title_element}
+use Rattle.picture_page.specs.Elements.{title_element}
 use Rattle.run_rows.specs.declared.row.Row.{Row}
 use Rattle.run_rows.specs.declared.row.Show.{Show}
 use Rattle.run_rows.specs.declared.rows.Shown.{Shown}
-use Rattle.run_rows.specs.Rows.{Cover}
-
--- the bytes of each line
-abbrev pub bytes_of : List (Bor (List ℕ)) → List (List ℕ)
-bytes_of lines = map (λ line. line.now) lines
+use Rattle.run_rows.specs.Clocks.{LieBetween}
+use Rattle.run_rows.specs.Rows.{Cover, IsTrueRow}
 
 -- the lines, a line end behind each
 abbrev pub ended_lines : List (List ℕ) → List ℕ
@@ -60,19 +56,21 @@ pub record ShowsRows (lines : List (List ℕ)) (rows : List Row) (picture : List
   pub are_grounds : AreGrounds lines rows grounds
   pub is_drawn : IsDrawn behind grounds over picture
 
--- the lines that are shown of so many between two clocks: with the widest range all of them
-pub record AreShown (count from to : ℕ) (shown : Shown) : Type 0 where
+-- the lines that are shown between two clocks: those at which the clock lies between them, with the widest range all lines
+pub record AreShown (lines : List (List ℕ)) (from to : ℕ) (shown : Shown) : Type 0 where
   pub order : shown.first ≤ shown.end
-  pub there : shown.end ≤ count
+  pub there : shown.end ≤ length lines
   pub first : from ≡ 0 → shown.first ≡ 0
-  pub last : to ≡ 2 ^ 64 - 1 → shown.end ≡ count
+  pub last : to ≡ 2 ^ 64 - 1 → shown.end ≡ length lines
+  pub between : LieBetween lines from to shown
 
 -- the picture of the lines between two clocks: each line that is shown stands in exactly one row, in order; where nothing is folded,
--- the rows' titles, one behind the other, are these lines
+-- the rows' titles, one behind the other, are these lines; lines that are shown as being there again are there again
 pub record IsPicture (lines : List (List ℕ)) (from to : ℕ) (unfolded : Bool) (picture : List ℕ) : Type 0 where
   pub shown : Shown
-  pub are_shown : AreShown (length lines) from to shown
+  pub are_shown : AreShown lines from to shown
   pub rows : List Row
   pub cover : Cover shown.first rows shown.end
   pub shows_rows : ShowsRows lines rows picture
   pub lines_back : OnTrue unfolded (flat_map (title_of lines) rows ≡ ended_lines (slice_range lines shown.first shown.end))
+  pub again : All (IsTrueRow (take shown.end lines)) rows

@@ -9,11 +9,12 @@ use run_words::{
     push_answer, push_call, push_ending, push_input, push_note, push_told, refusal_in,
 };
 use std::alloc::{AllocError, Global};
-use transcript_lines::{Line, Origin, Turn, read_line};
+use transcript_lines::{Line, Origin, Turn, read_line, read_turn};
 
-/// The clock before a row and at its end.
+/// The clock before a row and at its end, as far as the transcript tells it.
 #[derive(Clone, Copy, Drop)]
 struct Clocks {
+    are_known: bool,
     before: u64,
     clock: u64,
 }
@@ -110,6 +111,18 @@ pub(crate) fn draw_curves(pen: &mut Pen, page: &Page, curves: &[Curve]) -> Resul
     Ok(())
 }
 
+/// What the words of a row tell beside its lines.
+#[derive(Clone, Copy, Drop)]
+struct Beside<'a> {
+    /// The process of the row above, where that is one turn's.
+    above: Option<usize>,
+    /// The answer to the row's call, or nothing.
+    answer: &'a str,
+    /// How late the timers are that it tells: at most by so many ticks.
+    late: u64,
+    clocks: Clocks,
+}
+
 /// The words of a turn, and of the answer to its call.
 fn draw_turn(
     pen: &mut Pen,
@@ -117,16 +130,19 @@ fn draw_turn(
     row: usize,
     turn: &Turn<'_>,
     others: &str,
-    answer: &str,
+    beside: Beside<'_>,
 ) -> Result<(), AllocError> {
     let alloc = pen.alloc;
     let element = text_element(alloc, page.words_of(row, 0))?;
-    let element = draw_told(alloc, element, turn, others)?;
+    let element = match turn.origin {
+        Origin::Answer => draw_going_on(alloc, element, turn.pid, beside.above)?,
+        _ => draw_told(alloc, element, turn, others, beside.late)?,
+    };
     let mut call = String::new(alloc);
     push_call(alloc, &mut call, turn.call)?;
     let mut reply = String::new(alloc);
-    push_answer(alloc, &mut reply, answer)?;
-    let class = if refusal_in(answer).is_some() {
+    push_answer(alloc, &mut reply, beside.answer)?;
+    let class = if refusal_in(beside.answer).is_some() {
         "r"
     } else {
         "m"
@@ -147,22 +163,45 @@ fn class_of_call(call: &str) -> &'static str {
     }
 }
 
-/// Adds whom a turn tells something, and what; where it tells an answer, that stands with its call.
+/// Adds an arrow in the colour of a process that goes on, whose call in a row above has its answer there; and its number, where
+/// the row above is not its own.
+fn draw_going_on(
+    alloc: Global,
+    element: Element,
+    pid: usize,
+    above: Option<usize>,
+) -> Result<Element, AllocError> {
+    let arrow = class_of(alloc, "f", pid)?;
+    if above == Some(pid) {
+        return with_span(alloc, element, arrow.as_str(), "\u{a0}\u{a0}\u{a0}↳\u{a0}");
+    }
+    let who = format!(in alloc; "{pid}")?;
+    let element = with_span(alloc, element, "b", who.as_str())?;
+    with_span(alloc, element, arrow.as_str(), "\u{a0}↳\u{a0}")
+}
+
+/// Adds whom a turn tells something, what, and how late.
 fn draw_told(
     alloc: Global,
     element: Element,
     turn: &Turn<'_>,
     others: &str,
+    late: u64,
 ) -> Result<Element, AllocError> {
-    if turn.origin == Origin::Answer {
-        return with_span(alloc, element, "g", "   ↳ ");
-    }
-    let who = format!(in alloc; "{}{others}  ", turn.pid)?;
+    let who = format!(in alloc; "{}{others}\u{a0}\u{a0}", turn.pid)?;
     let element = with_span(alloc, element, "b", who.as_str())?;
     let mut told = String::new(alloc);
     push_told(alloc, &mut told, turn)?;
-    told.push_str(" → ")?;
-    with_span(alloc, element, "g", told.as_str())
+    if late == 0 {
+        told.push_str("\u{a0}→\u{a0}")?;
+        return with_span(alloc, element, "g", told.as_str());
+    }
+    let element = with_span(alloc, element, "g", told.as_str())?;
+    // Of several processes the longest delay is told.
+    let most = if others.is_empty() { "" } else { "up to " };
+    let delay = format!(in alloc; ", {most}{late} late")?;
+    let element = with_span(alloc, element, "r", delay.as_str())?;
+    with_span(alloc, element, "g", "\u{a0}→\u{a0}")
 }
 
 /// The processes of the turns behind the first one of a row, which are told the same.
@@ -183,7 +222,7 @@ fn draw_line(
     page: &Page,
     place: usize,
     lines: &[&str],
-    answer: &str,
+    beside: Beside<'_>,
 ) -> Result<(), AllocError> {
     let alloc = pen.alloc;
     let Some(first) = lines.first() else {
@@ -205,7 +244,7 @@ fn draw_line(
         }
         Some(Line::Turn(turn)) => {
             let others = others_in(alloc, lines, turn.pid)?;
-            return draw_turn(pen, page, place, &turn, others.as_str(), answer);
+            return draw_turn(pen, page, place, &turn, others.as_str(), beside);
         }
         None => "n",
     };
@@ -228,7 +267,8 @@ fn answer_in<'a>(lines: &[&'a str], number: Option<usize>) -> &'a str {
 
 /// The clock's number at a row where it has changed.
 fn draw_clock(pen: &mut Pen, page: &Page, place: usize, clocks: Clocks) -> Result<(), AllocError> {
-    if clocks.before == clocks.clock && place > 0 {
+    let is_same = clocks.before == clocks.clock && place > 0;
+    if is_same || !clocks.are_known {
         return Ok(());
     }
     let number = format!(in pen.alloc; "{}", clocks.clock)?;
@@ -239,6 +279,24 @@ fn draw_clock(pen: &mut Pen, page: &Page, place: usize, clocks: Clocks) -> Resul
     pen.text("e b", at, number.as_str())
 }
 
+/// The words of a row of lines that are there again, so many at a time.
+fn draw_again(
+    pen: &mut Pen,
+    page: &Page,
+    place: usize,
+    row: &Row,
+    period: usize,
+    clocks: Clocks,
+) -> Result<(), AllocError> {
+    let times = row.count / period.max(1);
+    let mut words = format!(in pen.alloc; "{times} more like the {period} lines above")?;
+    let Clocks { before, clock, .. } = clocks;
+    if clocks.are_known {
+        write!(words, ", clock {before} to {clock}")?;
+    }
+    pen.text("g", page.words_of(place, 0), words.as_str())
+}
+
 /// The words of a row, which has these lines.
 fn draw_row(
     pen: &mut Pen,
@@ -246,24 +304,49 @@ fn draw_row(
     place: usize,
     row: &Row,
     own: &[&str],
-    answer: &str,
-    clocks: Clocks,
+    beside: Beside<'_>,
 ) -> Result<(), AllocError> {
-    let Clocks { before, clock } = clocks;
+    let Clocks { before, clock, .. } = beside.clocks;
     match row.show {
-        Show::Lines => draw_line(pen, page, place, own, answer),
+        Show::Lines => draw_line(pen, page, place, own, beside),
         Show::Ticks => {
             let ticks = clock.saturating_sub(before);
             let words = format!(in pen.alloc; "{} ticks, {ticks} in all", row.count)?;
             pen.text("g", page.words_of(place, 0), words.as_str())
         }
-        Show::Again(period) => {
-            let times = row.count / period.max(1);
-            let words = format!(in pen.alloc;
-                "{times} more like the {period} lines above, clock {before} to {clock}"
-            )?;
-            pen.text("g", page.words_of(place, 0), words.as_str())
-        }
+        Show::Again(period) => draw_again(pen, page, place, row, period, beside.clocks),
+    }
+}
+
+/// The process whose turn a row shows, where it shows that of one alone.
+fn process_of(row: &Row, own: &[&str]) -> Option<usize> {
+    let first = read_turn(own.first()?)?;
+    let is_alone = own.iter().all(|line| read_turn(line).is_some_and(|turn| turn.pid == first.pid));
+    if is_alone && row.show == Show::Lines {
+        Some(first.pid)
+    } else {
+        None
+    }
+}
+
+/// What the words of the row at a place tell beside its lines.
+fn beside_of<'a>(
+    lines: &[&'a str],
+    marks: &Marks,
+    place: usize,
+    before: u64,
+    above: Option<usize>,
+) -> Beside<'a> {
+    let clock = marks.clocks.get(place).copied().unwrap_or(before);
+    Beside {
+        above,
+        answer: answer_in(lines, marks.answers.get(place).copied().flatten()),
+        late: marks.lateness.get(place).copied().unwrap_or(0),
+        clocks: Clocks {
+            are_known: !marks.is_quiet,
+            before,
+            clock,
+        },
     }
 }
 
@@ -276,16 +359,14 @@ pub(crate) fn draw_words(
     marks: &Marks,
 ) -> Result<(), AllocError> {
     let mut before = marks.start;
-    let mut place: usize = 0;
-    for row in rows {
-        let clock = marks.clocks.get(place).copied().unwrap_or(before);
-        let clocks = Clocks { before, clock };
-        draw_clock(pen, page, place, clocks)?;
+    let mut above = None;
+    for (place, row) in rows.iter().enumerate() {
+        let beside = beside_of(lines, marks, place, before, above);
+        draw_clock(pen, page, place, beside.clocks)?;
         let own = lines_of(lines, row);
-        let answer = answer_in(lines, marks.answers.get(place).copied().flatten());
-        draw_row(pen, page, place, row, own, answer, clocks)?;
-        before = clock;
-        place = place.saturating_add(1);
+        draw_row(pen, page, place, row, own, beside)?;
+        before = beside.clocks.clock;
+        above = process_of(row, own);
     }
     Ok(())
 }

@@ -2,7 +2,8 @@
 
 ghost use Rattle.std.specs.Prelude.{◌≡◌, ◌+◌, ◌^◌, ◌<◌, ◌≤◌, length, string_bytes, All, IfOk};
 ghost use Rattle.run_picture.specs.Titles as spec;
-ghost use Rattle.run_picture.specs.Titles.{bytes_of, ended_lines, IsGround, AreGrounds};
+ghost use Rattle.run_picture.specs.Titles.{ended_lines, IsGround, AreGrounds};
+ghost use Rattle.run_rows.specs.Rows.{bytes_of};
 
 use picture_markup::{Content, Element};
 use picture_page::page::{Page, ROW};

@@ -38,25 +38,67 @@ pub(crate) fn style_of(alloc: Global, lanes: usize) -> Result<String, AllocError
     Ok(style)
 }
 
-/// The numbers of a run in words.
+/// What the head tells of a run beside its numbers.
+#[derive(Clone, Copy, Drop)]
+pub(crate) struct Told<'a> {
+    /// The clock before the first line that is shown, where not all lines are.
+    pub(crate) from: Option<u64>,
+    /// The clock at the last line that is shown, if one is.
+    pub(crate) clock: Option<u64>,
+    /// How the run ended, where its last line is shown.
+    pub(crate) end: Option<&'a str>,
+    pub(crate) is_quiet: bool,
+}
+
+/// Appends what only a whole transcript tells, with what follows it.
+fn push_whole(out: &mut String, tally: &Tally, told: &Told<'_>) -> Result<(), AllocError> {
+    let Tally { inputs, turns, .. } = *tally;
+    write!(out, "inputs {inputs}, turns {turns}, ")?;
+    match (told.from, told.clock) {
+        (Some(from), Some(clock)) => write!(out, "clock {from} to {clock}, "),
+        (None, Some(clock)) => write!(out, "clock {clock}, "),
+        (_, None) => Ok(()),
+    }
+}
+
+/// Appends how many timers were late, and by how many ticks at most.
+fn push_late(out: &mut String, tally: &Tally) -> Result<(), AllocError> {
+    let Tally { late, latest, .. } = *tally;
+    write!(out, ", timers late {late}")?;
+    if late == 0 {
+        Ok(())
+    } else {
+        write!(out, " by up to {latest}")
+    }
+}
+
+/// The numbers of a run in words: of a quiet transcript those alone that it tells.
 pub(crate) fn tally_text(
     alloc: Global,
     tally: &Tally,
-    clock: u64,
-    end: &str,
+    told: &Told<'_>,
 ) -> Result<String, AllocError> {
     let Tally {
-        inputs,
-        turns,
         printed,
         sent,
         lost,
         refused,
-        late,
+        ..
     } = *tally;
-    format!(in alloc;
-        "inputs {inputs}, turns {turns}, clock {clock}, bytes printed {printed}, frames sent {sent}, lost {lost}, calls refused {refused}, timers late {late}, ends: {end}"
-    )
+    let mut text = String::new(alloc);
+    if !told.is_quiet {
+        push_whole(&mut text, tally, told)?;
+    }
+    write!(text, "bytes printed {printed}, frames sent {sent}")?;
+    if !told.is_quiet {
+        write!(text, ", lost {lost}, calls refused {refused}")?;
+        push_late(&mut text, tally)?;
+    }
+    match told.end {
+        Some(end) => write!(text, ", ends: {end}")?,
+        None => {}
+    }
+    Ok(text)
 }
 
 /// The name of each process over its lane, and a line of dots down to the end.
@@ -116,20 +158,44 @@ fn draw_lines(
     Ok(top)
 }
 
-/// Draws what was run, and the numbers of the run, and answers where the overview may begin.
+/// Draws what was run, and the numbers of the run, and answers where the next line may stand.
 pub(crate) fn draw_head(pen: &mut Pen, title: &str, tally: &str) -> Result<usize, AllocError> {
     let title = broken(pen.alloc, title, " ", TITLE_BYTES)?;
     let tally = broken(pen.alloc, tally, ", ", TALLY_BYTES)?;
     let top = draw_lines(pen, "h", title.as_str(), FIRST, TITLE)?;
-    let end = draw_lines(pen, "g", tally.as_str(), top, TALLY)?;
-    Ok(end.saturating_add(BELOW))
+    draw_lines(pen, "g", tally.as_str(), top, TALLY)
 }
 
-/// The words right above the rows.
-pub(crate) fn draw_legend(pen: &mut Pen, page: &Page) -> Result<(), AllocError> {
+/// Tells from which line on the transcript can't be a run with memory of that size, if there is such a line, whose number is from 0 on,
+/// and answers where the next line may stand.
+pub(crate) fn draw_difference(
+    pen: &mut Pen,
+    memory: &str,
+    line: Option<usize>,
+    top: usize,
+) -> Result<usize, AllocError> {
+    let Some(number) = line else {
+        return Ok(top);
+    };
+    let line = number.saturating_add(1);
+    let words = format!(in pen.alloc; "not the run's {memory} from line {line} on: other sizes?")?;
+    pen.text("r", Place { left: LEFT, top }, words.as_str())?;
+    Ok(top.saturating_add(TALLY))
+}
+
+/// Where the overview may begin, where the head's next line would stand there.
+pub(crate) fn below(top: usize) -> usize {
+    top.saturating_add(BELOW)
+}
+
+/// The words right above the rows: a quiet transcript tells neither clocks nor answers.
+pub(crate) fn draw_legend(pen: &mut Pen, page: &Page, is_quiet: bool) -> Result<(), AllocError> {
     let top = page.top.saturating_sub(12);
-    pen.text("g e", Place { left: CLOCK, top }, "clock")?;
     let left = page.words();
+    if is_quiet {
+        return pen.text("g", Place { left, top }, "told → call");
+    }
+    pen.text("g e", Place { left: CLOCK, top }, "clock")?;
     pen.text("g", Place { left, top }, "told → call = answer")
 }
 

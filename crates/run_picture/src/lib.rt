@@ -10,6 +10,7 @@ mod strip;
 mod style;
 mod timer_lines;
 
-pub use picture::{Settings, draw};
+pub use picture::{Picture, Settings, draw};
 pub use reading::{Unreadable, lines_of};
 pub use run_memory::Sizes;
+pub use transcript_lines::is_quiet;

@@ -2,16 +2,19 @@
 
 ghost use Rattle.std.specs.Prelude.{◌≡◌, ◌≤◌, [], ◌++◌, length, IfOk};
 ghost use Rattle.picture_markup.specs.Markup.{IsDocument};
-ghost use Rattle.run_rows.specs.Rows.{Cover};
-ghost use Rattle.run_picture.specs.Titles.{bytes_of, IsDrawn, ShowsRows, IsPicture};
+ghost use Rattle.run_rows.specs.Rows.{Cover, bytes_of};
+ghost use Rattle.run_picture.specs.Titles.{IsDrawn, ShowsRows, IsPicture};
 
 use crate::drawing::{draw_activations, draw_curves, draw_gifts, draw_lives, draw_words};
 use crate::grounds::grounds_of;
-use crate::head::{draw_ground, draw_head, draw_lanes, draw_legend, style_of, tally_text};
+use crate::head::{
+    Told, below, draw_difference, draw_ground, draw_head, draw_lanes, draw_legend, style_of,
+    tally_text,
+};
 use crate::strip::{draw_strip, height_of};
 use crate::timer_lines::draw_timers;
 use picture_markup::{Attribute, Content, Element, Tag};
-use picture_page::memory_columns::{draw_difference, draw_heap, draw_managed};
+use picture_page::memory_columns::{draw_heap, draw_managed};
 use picture_page::page::{Columns, Page};
 use picture_page::pen::Pen;
 use picture_page::pool_columns::{Pools, draw_pools};
@@ -79,23 +82,60 @@ struct Layout {
     page: Page,
 }
 
+/// What the head tells of the lines that are shown.
+fn told_of<'a>(lines: &[&str], shown: Shown, marks: &Marks) -> Told<'a> {
+    let is_all = shown.first == 0 && shown.end == lines.len();
+    let has_end = is_all || (shown.first < shown.end && shown.end == lines.len());
+    Told {
+        from: if is_all { None } else { Some(marks.start) },
+        clock: match marks.clocks.as_slice().last() {
+            Some(clock) => Some(*clock),
+            None if is_all => Some(0),
+            None => None,
+        },
+        end: if has_end { Some(end_of(lines)) } else { None },
+        is_quiet: marks.is_quiet,
+    }
+}
+
+/// What stands above the picture.
+fn title_of(alloc: Global, title: &str, is_quiet: bool) -> Result<String, AllocError> {
+    let kind = if is_quiet {
+        " (a quiet transcript)"
+    } else {
+        ""
+    };
+    format!(in alloc; "{title}{kind}")
+}
+
+/// Draws the head, and answers where the overview may begin.
+fn draw_title(
+    pen: &mut Pen,
+    settings: &Settings<'_>,
+    marks: &Marks,
+    told: &Told<'_>,
+) -> Result<usize, AllocError> {
+    let title = title_of(pen.alloc, settings.title, marks.is_quiet)?;
+    let tally = tally_text(pen.alloc, &marks.tally, told)?;
+    let stays = &marks.stays;
+    let top = draw_head(pen, title.as_str(), tally.as_str())?;
+    let top = draw_difference(pen, "managed memory", stays.managed_differs, top)?;
+    let top = draw_difference(pen, "heap", stays.differs, top)?;
+    Ok(below(top))
+}
+
 /// What the picture of these rows is drawn from.
 fn layout_of(
     alloc: Global,
     lines: &[&str],
+    shown: Shown,
     rows: &[Row],
     settings: &Settings<'_>,
 ) -> Result<Layout, AllocError> {
     let marks = marks_of(alloc, lines, rows, settings.sizes)?;
-    let clock = marks
-        .clocks
-        .as_slice()
-        .last()
-        .copied()
-        .unwrap_or(marks.start);
-    let tally = tally_text(alloc, &marks.tally, clock, end_of(lines))?;
+    let told = told_of(lines, shown, &marks);
     let mut pen = Pen::new(alloc);
-    let strip = draw_head(&mut pen, settings.title, tally.as_str())?;
+    let strip = draw_title(&mut pen, settings, &marks, &told)?;
     let page = page_of(rows, &marks, settings.names.len(), strip);
     let head = pen.content;
     Ok(Layout { marks, head, page })
@@ -112,34 +152,28 @@ fn draw_over(
     let mut pen = Pen::new(alloc);
     let (marks, page) = (&layout.marks, &layout.page);
     pen.content.append(&layout.head)?;
-    draw_legend(&mut pen, page)?;
+    draw_legend(&mut pen, page, marks.is_quiet)?;
     draw_strip(&mut pen, page, marks)?;
     draw_lanes(&mut pen, page, settings.names)?;
     draw_lives(&mut pen, page, marks.lives.as_slice())?;
-    draw_timers(&mut pen, page, marks.armings.as_slice())?;
+    draw_timers(
+        &mut pen,
+        page,
+        marks.armings.as_slice(),
+        marks.clocks.as_slice(),
+    )?;
     draw_activations(&mut pen, page, marks.activations.as_slice())?;
     draw_gifts(&mut pen, page, marks.gifts.as_slice())?;
     draw_curves(&mut pen, page, marks.curves.as_slice())?;
     draw_words(&mut pen, page, lines, rows, marks)?;
-    draw_memory(&mut pen, page, rows, &marks.stays, settings.sizes)?;
+    draw_memory(&mut pen, page, &marks.stays, settings.sizes)?;
     Ok(pen.content)
 }
 
 /// The columns of memory.
-fn draw_memory(
-    pen: &mut Pen,
-    page: &Page,
-    rows: &[Row],
-    stays: &Stays,
-    sizes: Sizes,
-) -> Result<(), AllocError> {
+fn draw_memory(pen: &mut Pen, page: &Page, stays: &Stays, sizes: Sizes) -> Result<(), AllocError> {
     draw_managed(pen, page, stays.managed.as_slice(), sizes.managed)?;
     draw_heap(pen, page, stays.heap.as_slice(), stays.most, sizes)?;
-    let line = match stays.differs {
-        Some(row) => rows.get(row).map(|row| row.first.saturating_add(1)),
-        None => None,
-    };
-    draw_difference(pen, page, line)?;
     draw_pools(pen, page, stays.used.as_slice(), stays.linked.as_slice())
 }
 
@@ -164,7 +198,8 @@ fn frame_of(alloc: Global, page: &Page) -> Result<Element, AllocError>
         .with(Attribute::Namespace, "http://www.w3.org/2000/svg")?
         .with_number(Attribute::Width, width)?
         .with_number(Attribute::Height, height)?
-        .with(Attribute::ViewBox, view.as_str())
+        .with(Attribute::ViewBox, view.as_str())?
+        .with(Attribute::Space, "preserve")
 }
 
 /// The text of a picture: what stands behind the rows, the rows' grounds, and what stands over them.
@@ -188,34 +223,45 @@ fn document_of(
     picture.document(alloc)
 }
 
-/// The picture of these rows, which have the lines that are shown.
+/// The text of the picture of these rows, which have the lines that are shown.
 fn draw_rows(
     alloc: Global,
     lines: &[&str],
     shown: Shown,
     rows: &[Row],
     settings: &Settings<'_>,
+    layout: &Layout,
 ) -> Result<Vec<u8>, AllocError>
     requires cover { Cover shown.first rows.now shown.end }
     requires there { shown.end ≤ length lines.now }
     ensures document { IfOk result (λ picture. IsDocument picture.items) }
     ensures shows_rows { IfOk result (λ picture. ShowsRows (bytes_of lines.now) rows.now picture.items) }
 {
-    let layout = layout_of(alloc, lines, rows, settings)?;
     let page = &layout.page;
     let behind = draw_behind(alloc, page)?;
     let grounds = grounds_of(alloc, page, lines, rows)?;
-    let over = draw_over(alloc, &layout, lines, rows, settings)?;
+    let over = draw_over(alloc, layout, lines, rows, settings)?;
     document_of(alloc, page, &behind, &grounds, &over)
+}
+
+/// A picture: its text, and its height in units of a pixel.
+#[derive(Drop)]
+pub struct Picture {
+    pub text: Vec<u8>,
+    pub height: usize,
 }
 
 /// The picture of a run, from the lines of its transcript: a document in which each element is closed and each text is escaped, and in
 /// which each line that is shown stands in exactly one row, whose title tells of it.
-pub fn draw(alloc: Global, lines: &[&str], settings: &Settings<'_>) -> Result<Vec<u8>, AllocError>
-    ensures document { IfOk result (λ picture. IsDocument picture.items) }
-    ensures titles { IfOk result (λ picture. IsPicture (bytes_of lines.now) settings.now.from settings.now.to settings.now.unfolded picture.items) }
+pub fn draw(alloc: Global, lines: &[&str], settings: &Settings<'_>) -> Result<Picture, AllocError>
+    ensures document { IfOk result (λ picture. IsDocument picture.text.items) }
+    ensures titles { IfOk result (λ picture. IsPicture (bytes_of lines.now) settings.now.from settings.now.to settings.now.unfolded picture.text.items) }
 {
     let shown = shown_of(lines, settings.from, settings.to);
     let rows = rows_of(alloc, lines, shown, settings.unfolded)?;
-    draw_rows(alloc, lines, shown, rows.as_slice(), settings)
+    let rows = rows.as_slice();
+    let layout = layout_of(alloc, lines, shown, rows, settings)?;
+    let text = draw_rows(alloc, lines, shown, rows, settings, &layout)?;
+    let height = layout.page.height();
+    Ok(Picture { text, height })
 }

@@ -140,7 +140,9 @@ pub(crate) fn draw_strip(pen: &mut Pen, page: &Page, marks: &Marks) -> Result<()
         height: page.lanes.saturating_mul(LANE),
     };
     pen.area("j", area, "")?;
-    draw_clocks(pen, page, marks)?;
+    if !marks.is_quiet {
+        draw_clocks(pen, page, marks)?;
+    }
     for lane in 0..page.lanes {
         draw_lane(pen, page, lane.saturating_add(4), band.lane(lane))?;
     }

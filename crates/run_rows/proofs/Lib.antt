@@ -1,2 +1,4 @@
 pub mod Again
+pub mod Clocks
 pub mod Covers
+mod Examples

@@ -2,8 +2,7 @@
 
 ghost use Rattle.std.specs.Prelude.{◌≡◌, ℕ, List, ◌+◌, ◌-◌, ◌≤◌, ◌<◌, length, take, All, IfOk, IfSome};
 ghost use Rattle.std.specs.Bool.{OnTrue};
-ghost use denote.Ref.{Bor};
-ghost use Rattle.run_rows.specs.Rows.{AreAgain, Cover, IsPlain, IsTrueRow};
+ghost use Rattle.run_rows.specs.Rows.{AreAgain, Cover, IsPlain, IsTrueRow, bytes_of};
 
 use crate::row::{Row, Show};
 use std::alloc::{AllocError, Global};
@@ -69,7 +68,7 @@ fn row_in_front(lines: &[&str], first: usize) -> Row
     ensures first { result.first ≡ first }
     ensures some { 0 < result.count }
     ensures there { result.count ≤ length lines.now }
-    ensures again { (all : List (Bor (List ℕ))) → IsTrueRow all result }
+    ensures again { (all : List (List ℕ)) → IsTrueRow all result }
 {
     let ticks = ticks_in_front(lines);
     if ticks > 1 {
@@ -112,7 +111,7 @@ fn are_again(lines: &[&str], before: usize, at: usize) -> bool
     requires order { before ≤ at }
     requires there { at ≤ length lines.now }
     ensures there { OnTrue result (at + (at - before) ≤ length lines.now) }
-    ensures again { OnTrue result (AreAgain lines.now (at - before) at (at + (at - before))) }
+    ensures again { OnTrue result (AreAgain (bytes_of lines.now) (at - before) at (at + (at - before))) }
 {
     let count = at - before;
     if lines.len() - at < count {
@@ -133,7 +132,7 @@ fn end_of_repeats(lines: &[&str], before: usize, at: usize) -> usize
     requires there { at ≤ length lines.now }
     ensures behind { at ≤ result }
     ensures there { result ≤ length lines.now }
-    ensures again { AreAgain lines.now (at - before) at result }
+    ensures again { AreAgain (bytes_of lines.now) (at - before) at result }
 {
     let count = at - before;
     let mut end = at;
@@ -151,7 +150,7 @@ fn repeats(lines: &[&str], starts: &[usize], at: usize) -> Option<Row>
     ensures first { IfSome result (λ row. row.first ≡ at) }
     ensures some { IfSome result (λ row. 0 < row.count) }
     ensures there { IfSome result (λ row. at + row.count ≤ length lines.now) }
-    ensures again { IfSome result (IsTrueRow lines.now) }
+    ensures again { IfSome result (IsTrueRow (bytes_of lines.now)) }
 {
     for start in starts.iter().rev().take(LONGEST_PERIOD) {
         let before = *start;
@@ -184,7 +183,7 @@ fn next_row(lines: &[&str], starts: &[usize], at: usize) -> Row
     ensures first { result.first ≡ at }
     ensures some { 0 < result.count }
     ensures there { at + result.count ≤ length lines.now }
-    ensures again { IsTrueRow lines.now result }
+    ensures again { IsTrueRow (bytes_of lines.now) result }
 {
     if begins_part(lines[at]) {
         if let Some(row) = repeats(lines, starts, at) {
@@ -204,7 +203,7 @@ pub(crate) fn folded_rows(
     requires order { first ≤ end }
     requires there { end ≤ length lines.now }
     ensures cover { IfOk result (λ rows. Cover first rows.items end) }
-    ensures again { IfOk result (λ rows. All (IsTrueRow (take end lines.now)) rows.items) }
+    ensures again { IfOk result (λ rows. All (IsTrueRow (bytes_of (take end lines.now))) rows.items) }
 {
     let lines = &lines[..end];
     let mut rows = Vec::new(alloc);

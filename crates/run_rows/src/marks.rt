@@ -3,9 +3,9 @@
 use crate::posts::{Curve, Posts};
 use crate::row::{Row, Show};
 use crate::timers::{Arming, Moment, Timers};
-use run_memory::{Memory, Sizes, Stays};
+use run_memory::{Answered, Memory, Sizes, Stays};
 use std::alloc::{AllocError, Global};
-use transcript_lines::{Input, Line, Note, Origin, Turn, read_line, read_turn};
+use transcript_lines::{Input, Line, Note, Origin, Turn, is_quiet, read_line, read_turn};
 
 /// Processes have numbers below this one.
 const PROCESSES: usize = 20;
@@ -43,8 +43,9 @@ pub struct Tally {
     pub sent: u64,
     pub lost: u64,
     pub refused: u64,
-    /// Timers that were told after they were due.
+    /// Timers that were told after they were due, and by how many ticks at most.
     pub late: u64,
+    pub latest: u64,
 }
 
 /// What the rows tell together.
@@ -56,6 +57,8 @@ pub struct Marks {
     pub clocks: Vec<u64>,
     /// For each row the number of the line with the answer to its call, from 0 on.
     pub answers: Vec<Option<usize>>,
+    /// For each row how late the timers are that it tells: at most by so many ticks.
+    pub lateness: Vec<u64>,
     pub activations: Vec<Activation>,
     pub lives: Vec<Life>,
     pub gifts: Vec<Gift>,
@@ -65,6 +68,16 @@ pub struct Marks {
     pub tally: Tally,
     /// One more than the greatest number of a process that took a turn.
     pub processes: usize,
+    /// Whether the transcript is a quiet one: then neither clocks nor answers are known, nor when a process ends.
+    pub is_quiet: bool,
+}
+
+/// A frame that came in; the next line tells whether it is lost.
+#[derive(Clone, Copy, Drop)]
+struct Arrived {
+    size: usize,
+    row: usize,
+    number: usize,
 }
 
 /// A call that isn't answered yet: its row, and the number of its line.
@@ -98,12 +111,13 @@ struct Walk {
     active: Vec<usize>,
     timers: Timers,
     memory: Memory,
+    arrived: Option<Arrived>,
     posts: Posts,
     marks: Marks,
 }
 
 impl Walk {
-    fn new(alloc: Global, sizes: Sizes) -> Result<Self, AllocError> {
+    fn new(alloc: Global, sizes: Sizes, is_quiet: bool) -> Result<Self, AllocError> {
         let process = Process {
             born: None,
             begun: 0,
@@ -118,11 +132,13 @@ impl Walk {
             active: Vec::new(alloc),
             timers: Timers::new(alloc)?,
             memory: Memory::new(alloc, sizes)?,
+            arrived: None,
             posts: Posts::new(alloc),
             marks: Marks {
                 start: 0,
                 clocks: Vec::new(alloc),
                 answers: Vec::new(alloc),
+                lateness: Vec::new(alloc),
                 activations: Vec::new(alloc),
                 lives: Vec::new(alloc),
                 gifts: Vec::new(alloc),
@@ -131,36 +147,49 @@ impl Walk {
                 stays: Stays::new(alloc),
                 tally: Tally::default(),
                 processes: 0,
+                is_quiet,
             },
         })
     }
 
-    fn take_input(&mut self, input: &Input<'_>, row: usize) -> Result<(), AllocError> {
+    fn take_input(&mut self, input: &Input<'_>, row: usize, number: usize) {
         let tally = &mut self.marks.tally;
         tally.inputs = tally.inputs.saturating_add(1);
         match *input {
-            Input::Tick(ticks) => {
-                self.clock = self.clock.saturating_add(ticks);
-                Ok(())
+            Input::Tick(ticks) => self.clock = self.clock.saturating_add(ticks),
+            Input::Frame(digits) => {
+                let size = digits.len() / 2;
+                self.arrived = Some(Arrived { size, row, number });
             }
-            Input::Frame(digits) => self.memory.take_frame(digits.len() / 2, row),
-            Input::Serial(_) => Ok(()),
+            Input::Serial(_) => {}
         }
     }
 
-    fn count_note(&mut self, note: &Note<'_>) {
+    /// The frame that came in last is held, if it is not lost.
+    fn hold_frame(&mut self) -> Result<(), AllocError> {
+        match self.arrived.take() {
+            Some(Arrived { size, row, number }) => { self.memory.hold_frame(size, row, number) }
+            None => Ok(()),
+        }
+    }
+
+    fn take_note(&mut self, note: &Note<'_>) -> Result<(), AllocError> {
         let tally = &mut self.marks.tally;
-        match note {
-            Note::Lost(_) => {
+        match *note {
+            Note::Lost(reason) => {
                 tally.lost = tally.lost.saturating_add(1);
-                self.memory.lose_frame();
+                if let Some(Arrived { size, number, .. }) = self.arrived.take() {
+                    self.memory.lose_frame(size, reason, number);
+                }
             }
             Note::Sent(_) => tally.sent = tally.sent.saturating_add(1),
         }
+        self.hold_frame()
     }
 
     /// A process ends in a row.
     fn end_life(&mut self, pid: usize, row: usize) -> Result<(), AllocError> {
+        self.timers.end_all(pid, row)?;
         let Some(process) = self.processes.get_mut(pid) else {
             return Ok(());
         };
@@ -190,39 +219,53 @@ impl Walk {
         if let Some(answer) = self.marks.answers.get_mut(awaited.row) {
             *answer = Some(number);
         }
+        let Some(asked) = lines.get(awaited.number).and_then(|line| read_turn(line)) else {
+            return Ok(());
+        };
+        let called = Answered {
+            pid: asked.pid,
+            call: asked.call,
+            answer: turn.stimulus,
+            row: awaited.row,
+            line: awaited.number,
+        };
         if turn.stimulus.starts_with("refused ") {
             let tally = &mut self.marks.tally;
             tally.refused = tally.refused.saturating_add(1);
+            self.memory.refuse(&called);
             return Ok(());
         }
-        match lines.get(awaited.number) {
-            Some(line) => self.carry_out(line, turn.stimulus, awaited),
-            None => Ok(()),
-        }
+        self.carry_out(&asked, &called, awaited)
     }
 
-    /// The call of a line was accepted, with that answer.
-    fn carry_out(&mut self, line: &str, answer: &str, call: Awaited) -> Result<(), AllocError> {
+    /// Counts the bytes of a print.
+    fn count_printed(&mut self, digits: &str) {
+        let tally = &mut self.marks.tally;
+        tally.printed = tally.printed.saturating_add(digits.len() / 2);
+    }
+
+    /// A call was accepted.
+    fn carry_out(
+        &mut self,
+        turn: &Turn<'_>,
+        called: &Answered<'_>,
+        call: Awaited,
+    ) -> Result<(), AllocError> {
         let Awaited { row, number } = call;
-        let Some(turn) = read_turn(line) else {
-            return Ok(());
-        };
         let (word, rest) = turn.call.split_once(' ').unwrap_or((turn.call, ""));
         match word {
             "print" => {
-                let tally = &mut self.marks.tally;
-                let bytes = rest.len() / 2;
-                tally.printed = tally.printed.saturating_add(bytes);
+                self.count_printed(rest);
                 Ok(())
             }
             "kill" => match rest.parse::<usize>() {
                 Ok(pid) => self.end_life(pid, row),
                 Err(_) => Ok(()),
             },
-            "post" | "broadcast" => self.posts.carry_out(&turn, number, row),
+            "post" | "broadcast" => self.posts.carry_out(turn, number, row),
             _ => {
                 let clock = self.clock;
-                self.memory.carry_out(turn.pid, turn.call, answer, row)?;
+                self.memory.carry_out(called)?;
                 self.timers
                     .carry_out(turn.pid, turn.call, Moment { row, clock })
             }
@@ -241,6 +284,19 @@ impl Walk {
         }
     }
 
+    /// A timer is told in a row, so many ticks after it was due.
+    fn count_late(&mut self, late: u64, row: usize) {
+        if late == 0 {
+            return;
+        }
+        let tally = &mut self.marks.tally;
+        tally.late = tally.late.saturating_add(1);
+        tally.latest = tally.latest.max(late);
+        if let Some(lateness) = self.marks.lateness.as_mut_slice().get_mut(row) {
+            *lateness = (*lateness).max(late);
+        }
+    }
+
     /// A process's activation begins in a row.
     fn begin(&mut self, lines: &[&str], turn: &Turn<'_>, row: usize) -> Result<(), AllocError> {
         match turn.origin {
@@ -249,7 +305,8 @@ impl Walk {
             _ => {}
         }
         let clock = self.clock;
-        self.timers.tell(turn, Moment { row, clock })?;
+        let late = self.timers.tell(turn, Moment { row, clock })?;
+        self.count_late(late, row);
         self.active.push(turn.pid)?;
         if let Some(process) = self.processes.get_mut(turn.pid) {
             process.begun = row;
@@ -306,6 +363,9 @@ impl Walk {
         let tally = &mut self.marks.tally;
         tally.turns = tally.turns.saturating_add(1);
         self.marks.processes = self.marks.processes.max(turn.pid.saturating_add(1));
+        if self.marks.is_quiet {
+            return self.take_quiet_turn(turn, row);
+        }
         if turn.origin == Origin::Answer {
             self.take_answer(lines, turn, number)?;
         }
@@ -313,6 +373,17 @@ impl Walk {
             self.begin(lines, turn, row)?;
         }
         self.take_call(turn, Awaited { row, number })
+    }
+
+    /// A turn of a quiet transcript: of its activation nothing else is known.
+    fn take_quiet_turn(&mut self, turn: &Turn<'_>, row: usize) -> Result<(), AllocError> {
+        if let Some(digits) = turn.call.strip_prefix("print ") {
+            self.count_printed(digits);
+        }
+        if let Some(process) = self.processes.get_mut(turn.pid) {
+            process.begun = row;
+        }
+        self.mark_activation(turn.pid, row)
     }
 
     /// What a process calls.
@@ -337,20 +408,25 @@ impl Walk {
         let Some(line) = lines.get(number) else {
             return Ok(());
         };
-        match read_line(line) {
+        let line = read_line(line);
+        if let Some(Line::Note(note)) = line {
+            return self.take_note(&note);
+        }
+        self.hold_frame()?;
+        match line {
             Some(Line::Input(input)) => {
                 self.rest()?;
-                self.take_input(&input, row)?;
+                self.take_input(&input, row, number);
+                Ok(())
             }
-            Some(Line::Note(note)) => self.count_note(&note),
-            Some(Line::Turn(turn)) => return self.take_turn(lines, &turn, row, number),
-            Some(Line::Ending(_)) | None => {}
+            Some(Line::Turn(turn)) => self.take_turn(lines, &turn, row, number),
+            _ => Ok(()),
         }
-        Ok(())
     }
 
-    /// What came before the first row shows in no row.
+    /// What came before the first row shows in no row, and counts nowhere.
     fn forget_rows(&mut self) {
+        self.marks.tally = Tally::default();
         self.marks.activations.clear();
         self.marks.lives.clear();
         self.marks.gifts.clear();
@@ -363,6 +439,7 @@ impl Walk {
     /// The lines of a row.
     fn take_row(&mut self, lines: &[&str], row: &Row, place: usize) -> Result<(), AllocError> {
         self.marks.answers.push(None)?;
+        self.marks.lateness.push(0)?;
         self.is_folded = matches!(row.show, Show::Again(_));
         for number in row.first..row.first.saturating_add(row.count) {
             self.take_line(lines, place, number)?;
@@ -374,13 +451,13 @@ impl Walk {
     /// What is still going on goes on to the end.
     fn finish(mut self, alloc: Global) -> Result<Marks, AllocError> {
         self.rest()?;
+        self.hold_frame()?;
         for (pid, process) in self.processes.iter().enumerate() {
             if let Some(first) = process.born {
                 let end = None;
                 self.marks.lives.push(Life { pid, first, end })?;
             }
         }
-        self.marks.tally.late = self.timers.late;
         self.marks.armings = self.timers.finish()?;
         self.marks.curves = self.posts.finish();
         self.marks.stays = self.memory.finish(alloc)?;
@@ -395,7 +472,7 @@ pub fn marks_of(
     rows: &[Row],
     sizes: Sizes,
 ) -> Result<Marks, AllocError> {
-    let mut walk = Walk::new(alloc, sizes)?;
+    let mut walk = Walk::new(alloc, sizes, is_quiet(lines))?;
     let first = rows.first().map_or(lines.len(), |row| row.first);
     for number in 0..first {
         walk.take_line(lines, 0, number)?;

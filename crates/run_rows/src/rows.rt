@@ -1,8 +1,10 @@
 //! Which lines of a transcript are shown, and the rows that they stand in.
 
-ghost use Rattle.std.specs.Prelude.{◌≡◌, ◌-◌, ◌^◌, ◌≤◌, length, take, All, IfOk};
+ghost use Rattle.std.specs.Prelude.{◌≡◌, ℕ, ◌-◌, ◌^◌, ◌<◌, ◌≤◌, length, take, All, IfOk};
 ghost use Rattle.std.specs.Bool.{OnTrue};
-ghost use Rattle.run_rows.specs.Rows.{Cover, IsPlain, IsTrueRow};
+ghost use Rattle.transcript_lines.specs.Lines as spec;
+ghost use Rattle.run_rows.specs.Clocks.{LieBetween, clock_at};
+ghost use Rattle.run_rows.specs.Rows.{Cover, IsPlain, IsTrueRow, bytes_of};
 
 use crate::folding::{folded_rows, unfolded_rows};
 use crate::row::Row;
@@ -17,7 +19,9 @@ pub struct Shown {
 }
 
 /// The ticks of a line.
-fn ticks_of(line: &str) -> u64 {
+fn ticks_of(line: &str) -> u64
+    ensures { result ≡ spec.ticks_of line.now }
+{
     match read_line(line) {
         Some(Line::Input(Input::Tick(ticks))) => ticks,
         _ => 0,
@@ -26,16 +30,32 @@ fn ticks_of(line: &str) -> u64 {
 
 /// How many lines stand before the first one at which the clock has come so far.
 fn count_before(lines: &[&str], clock: u64) -> usize
-    ensures { result ≤ length lines.now }
+    ensures there { result ≤ length lines.now }
+    ensures before { (line : ℕ) → line < result → clock_at (bytes_of lines.now) line < clock }
+    ensures behind { (line : ℕ) → result ≤ line → line < length lines.now → clock ≤ clock_at (bytes_of lines.now) line }
 {
     let mut now: u64 = 0;
-    for (place, line) in lines.iter().enumerate() {
-        now = now.saturating_add(ticks_of(line));
+    for place in 0..lines.len() {
+        now = now.saturating_add(ticks_of(lines[place]));
         if now >= clock {
             return place;
         }
     }
     lines.len()
+}
+
+/// How many lines stand before the first one at which the clock has gone further.
+fn count_up_to(lines: &[&str], clock: u64) -> usize
+    ensures there { result ≤ length lines.now }
+    ensures last { clock ≡ 2 ^ 64 - 1 → result ≡ length lines.now }
+    ensures within { (line : ℕ) → line < result → clock_at (bytes_of lines.now) line ≤ clock }
+    ensures behind { (line : ℕ) → result ≤ line → line < length lines.now → clock < clock_at (bytes_of lines.now) line }
+{
+    if clock == u64::MAX {
+        lines.len()
+    } else {
+        count_before(lines, clock + 1)
+    }
 }
 
 /// The lines from one clock to another, in ticks.
@@ -44,17 +64,10 @@ pub fn shown_of(lines: &[&str], from: u64, to: u64) -> Shown
     ensures there { result.end ≤ length lines.now }
     ensures first { from ≡ 0 → result.first ≡ 0 }
     ensures last { to ≡ 2 ^ 64 - 1 → result.end ≡ length lines.now }
+    ensures between { LieBetween (bytes_of lines.now) from to result }
 {
-    let end = if to == u64::MAX {
-        lines.len()
-    } else {
-        count_before(lines, to.saturating_add(1))
-    };
-    let first = if from == 0 {
-        0
-    } else {
-        count_before(lines, from).min(end)
-    };
+    let end = count_up_to(lines, to);
+    let first = count_before(lines, from).min(end);
     Shown { first, end }
 }
 
@@ -70,7 +83,7 @@ pub fn rows_of(
     requires there { shown.end ≤ length lines.now }
     ensures cover { IfOk result (λ rows. Cover shown.first rows.items shown.end) }
     ensures plain { OnTrue unfolded (IfOk result (λ rows. All IsPlain rows.items)) }
-    ensures again { IfOk result (λ rows. All (IsTrueRow (take shown.end lines.now)) rows.items) }
+    ensures again { IfOk result (λ rows. All (IsTrueRow (bytes_of (take shown.end lines.now))) rows.items) }
 {
     if unfolded {
         unfolded_rows(alloc, shown.first, shown.end)

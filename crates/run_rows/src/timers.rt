@@ -45,7 +45,7 @@ pub struct Arming {
     pub last: Option<usize>,
     /// The clock at which it was due.
     pub due: u64,
-    /// The clock at which it was told, where it was and not stopped or set anew.
+    /// The clock at which it was told, where it was: it wasn't stopped or set anew before, and its process did not end.
     pub told: Option<u64>,
 }
 
@@ -61,8 +61,6 @@ pub(crate) struct Moment {
 pub(crate) struct Timers {
     cells: Vec<Cell>,
     pub(crate) armings: Vec<Arming>,
-    /// How many were told after they were due.
-    pub(crate) late: u64,
 }
 
 impl Timers {
@@ -70,7 +68,6 @@ impl Timers {
         Ok(Timers {
             cells: vec![in alloc; UNUSED; CELLS]?,
             armings: Vec::new(alloc),
-            late: 0,
         })
     }
 
@@ -92,9 +89,6 @@ impl Timers {
         };
         let armed = *cell;
         cell.is_armed = false;
-        if armed.is_armed && told > Some(armed.due()) {
-            self.late = self.late.saturating_add(1);
-        }
         if armed.is_armed && armed.row < row {
             self.armings.push(Arming {
                 pid,
@@ -157,31 +151,27 @@ impl Timers {
         }
     }
 
-    /// A process is told something, which may be that its timer ran out.
-    pub(crate) fn tell(&mut self, turn: &Turn<'_>, moment: Moment) -> Result<(), AllocError> {
+    /// A process is told something, which may be that its timer ran out. Answers how many ticks before that it was due.
+    pub(crate) fn tell(&mut self, turn: &Turn<'_>, moment: Moment) -> Result<u64, AllocError> {
         let Moment { row, clock } = moment;
-        let timer = match turn.origin {
-            Origin::Event => turn.stimulus.strip_prefix("136 "),
-            Origin::Callback => Some(turn.stimulus),
-            _ => None,
+        let Some(timer) = timer_told(turn) else {
+            return Ok(0);
         };
-        let Some(timer) = timer else {
-            return Ok(());
-        };
-        let number = number_of(Some(timer)) as usize;
-        let number = match turn.origin {
-            Origin::Callback => number.saturating_add(EVENT_TIMERS),
-            _ => number,
-        };
-        let is_due = match self.cell(turn.pid, number) {
-            Some(cell) => cell.is_armed && cell.due() <= clock,
-            None => false,
-        };
-        if is_due {
-            self.end(turn.pid, number, row, Some(clock))
-        } else {
-            Ok(())
+        match self.cell(turn.pid, timer).map(|cell| *cell) {
+            Some(cell) if cell.is_armed && cell.due() <= clock => {
+                self.end(turn.pid, timer, row, Some(clock))?;
+                Ok(clock.saturating_sub(cell.due()))
+            }
+            _ => Ok(0),
         }
+    }
+
+    /// A process ends in a row: none of its timers is armed any more.
+    pub(crate) fn end_all(&mut self, pid: usize, row: usize) -> Result<(), AllocError> {
+        for timer in 0..TIMERS {
+            self.end(pid, timer, row, None)?;
+        }
+        Ok(())
     }
 
     /// What is still armed stays so to the end.
@@ -206,6 +196,21 @@ impl Timers {
             }
         }
         Ok(self.armings)
+    }
+}
+
+/// The timer of which a turn tells that it ran out, if it tells that of one.
+fn timer_told(turn: &Turn<'_>) -> Option<usize> {
+    match turn.origin {
+        Origin::Event => {
+            let number = turn.stimulus.strip_prefix("136 ")?;
+            Some(number_of(Some(number)) as usize)
+        }
+        Origin::Callback => {
+            let number = number_of(Some(turn.stimulus)) as usize;
+            Some(number.saturating_add(EVENT_TIMERS))
+        }
+        _ => None,
     }
 }
 
