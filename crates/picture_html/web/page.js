@@ -39,15 +39,18 @@ function chainsIn(numbers) {
   return chains;
 }
 
-// Where each line lies on the axis of the clock: the lines at one clock share its tick.
+// Where each line lies on the axis of the clock, from where to where: the lines at one clock share its tick.
 function placesOf(clocks) {
-  const places = new Float64Array(clocks.length + 1);
+  const places = new Float64Array(clocks.length);
+  const ends = new Float64Array(clocks.length);
   for (let first = 0, end; first < clocks.length; first = end) {
     for (end = first; end < clocks.length && clocks[end] === clocks[first]; end++);
-    for (let line = first; line < end; line++) places[line] = clocks[first] + (line - first) / (end - first);
-    places[end] = clocks[first] + 1;
+    for (let line = first; line < end; line++) {
+      places[line] = clocks[first] + (line - first) / (end - first);
+      ends[line] = clocks[first] + (line - first + 1) / (end - first);
+    }
   }
-  return places;
+  return { places, ends };
 }
 
 function readRun(data) {
@@ -56,7 +59,7 @@ function readRun(data) {
   return {
     title: data.title, names: data.names, quiet: data.quiet, total, first, start, exceeds, differs,
     sizes: { managed, heap, header }, lines, words: linesIn(data.words), clocks: data.clocks, answers: data.answers,
-    places: placesOf(data.clocks),
+    ...placesOf(data.clocks),
     activations: table(data.activations, "pid", "first", "last"),
     lives: table(data.lives, "pid", "first", "end"),
     gifts: table(data.gifts, "from", "to", "first"),
@@ -142,7 +145,7 @@ const told = run.lines.map((_, place) => readLine(run, place));
 const pids = [...new Set([...run.names.map((_, place) => place + 4), ...told.map((line) => line.pid)])]
   .filter((pid) => pid !== null).sort((a, b) => a - b);
 const hidden = new Set();
-const whole = { from: run.places[0] ?? 0, to: run.places.at(-1) || 1 };
+const whole = { from: run.places[0] ?? 0, to: run.ends.at(-1) ?? 1 };
 let range = { ...whole };
 let kept = [];
 let chosen = 0;
@@ -542,7 +545,7 @@ function drawBars({ pen, width, colour }) {
   const colours = new Map(pids.map((number) => [number, colour(`--p${number}`)]));
   for (let item = 0; item < count; item++) {
     const from = overviewX(run.places[Math.max(0, first[item] - run.first)], width);
-    const to = overviewX(run.places[Math.min(run.lines.length, last[item] - run.first + 1)], width);
+    const to = overviewX(run.ends[Math.min(run.lines.length - 1, last[item] - run.first)], width);
     if (to < 0 || from > width) continue;
     pen.fillStyle = colours.get(pid[item]);
     pen.fillRect(from, AXIS + pids.indexOf(pid[item]) * LANE, Math.max(1, to - from), LANE - 1);
@@ -580,7 +583,7 @@ function putMark(id, from, to, least) {
 function drawCursor() {
   const [first, end] = rowsThere(0);
   const at = run.places[chosen] ?? 0;
-  putMark("seen", run.places[kept[first]] ?? range.from, run.places[(kept[end - 1] ?? -1) + 1] ?? range.to, 2);
+  putMark("seen", run.places[kept[first]] ?? range.from, run.ends[kept[end - 1]] ?? range.to, 2);
   putMark("cursor", at, at, 1);
 }
 
@@ -675,7 +678,7 @@ function listenToOverview() {
     begun = null;
     putMark("part", 0, 0, 0);
     if (!isClick) zoomTo(from, to);
-    else go(kept.findIndex((place) => run.places[place + 1] > from));
+    else go(kept.filter((place) => run.ends[place] <= from).length);
   });
   canvas.addEventListener("wheel", (event) => {
     event.preventDefault();

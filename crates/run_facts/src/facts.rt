@@ -6,7 +6,7 @@ use crate::accepted::accepted_call;
 use crate::chains::{Chain, Lists};
 use crate::waiting::{Queue, Wait};
 use run_memory::Sizes;
-use run_rows::{Marks, Shown, marks_of, rows_of};
+use run_rows::{Arming, Life, Marks, Shown, marks_of, rows_of};
 use std::alloc::{AllocError, Global};
 use transcript_lines::{Line, Note, read_line};
 
@@ -49,6 +49,38 @@ fn exceeds(marks: &Marks, size: u32) -> Option<usize> {
     first
 }
 
+/// The line at which the process of an arming ends, where it does.
+fn end_of_owner(lives: &[Life], arming: &Arming) -> Option<usize> {
+    for life in lives {
+        let is_owner = life.pid == arming.pid && life.first <= arming.first;
+        if is_owner && life.end >= Some(arming.first) {
+            return life.end;
+        }
+    }
+    None
+}
+
+/// An arming, up to the end of its process at most: timers leave the list with it.
+fn ended(arming: &Arming, lives: &[Life]) -> Arming {
+    let mut ended = *arming;
+    if let Some(end) = end_of_owner(lives, arming) {
+        if arming.last.is_none_or(|last| last > end) {
+            ended.last = Some(end);
+            ended.told = None;
+        }
+    }
+    ended
+}
+
+/// All armings, up to the ends of their processes.
+fn ended_armings(alloc: Global, marks: &Marks) -> Result<Vec<Arming>, AllocError> {
+    let mut armings = Vec::new(alloc);
+    for arming in marks.armings.as_slice() {
+        armings.push(ended(arming, marks.lives.as_slice()))?;
+    }
+    Ok(armings)
+}
+
 /// What holds at each of the lines.
 ///
 /// # Errors
@@ -60,7 +92,8 @@ pub fn facts_of(alloc: Global, lines: &[&str], sizes: Sizes) -> Result<Facts, Al
         end: lines.len(),
     };
     let rows = rows_of(alloc, lines, all, true)?;
-    let marks = marks_of(alloc, lines, rows.as_slice(), sizes)?;
+    let mut marks = marks_of(alloc, lines, rows.as_slice(), sizes)?;
+    marks.armings = ended_armings(alloc, &marks)?;
     let mut queue = Queue::new(alloc);
     let mut lists = Lists::new(alloc)?;
     for (number, line) in lines.iter().enumerate() {
