@@ -99,6 +99,7 @@ pub fn settle_input<K: ByteSink>(
     // There is room for the line of each input, and for that of a frame.
     let frame_len = line_input.frame_line.as_slice().len();
     work.due.make_room(sink, MOST_OF_LINE.max(frame_len))?;
+    work.due.put_input(line_input, quiet);
     // Most lines are ticks that leave nothing due: the mote rests again at once.
     if work.kernel.accept_idle_tick(&line_input.input) {
         return Ok(());
