@@ -1,0 +1,265 @@
+"""What holds at each line of a transcript, carried out again from the rules in docs/profile.md.
+
+A line stands for the moment at which its call is carried out. Numbers of lines begin at 0. Where heap blocks lie isn't told here: that
+depends on how gaps are chosen, and what a run's answers to heap-stats tell is enough to compare with.
+"""
+import copy
+import dataclasses
+import re
+from typing import Dict, Iterator, List, Optional, Tuple
+
+TURN = re.compile(r"(\d+) (event|synch|poll|callback|answer) (.*) -> (.*)")
+FRAMES = 3
+QUEUE_PLACES = 32
+
+
+@dataclasses.dataclass
+class Turn:
+    """A line `PID ORIGIN STIMULUS -> CALL`."""
+
+    pid: int
+    origin: str
+    stimulus: str
+    call: str
+
+
+@dataclasses.dataclass
+class Block:
+    """A live block: its process (that of the frames is 3), its handle or name, and the length that was asked for."""
+
+    pid: int
+    name: int
+    size: int
+
+
+@dataclasses.dataclass
+class Timer:
+    """A timer's cell, and whether it is armed."""
+
+    start: int = 0
+    interval: int = 0
+    is_armed: bool = False
+
+    @property
+    def due(self) -> int:
+        return self.start + self.interval
+
+
+TimerName = Tuple[int, str, int]
+
+
+@dataclasses.dataclass
+class State:
+    """All that holds at a line."""
+
+    clock: int = 0
+    running: Optional[int] = None
+    active: List[int] = dataclasses.field(default_factory=list)
+    alive: List[int] = dataclasses.field(default_factory=list)
+    queue: List[int] = dataclasses.field(default_factory=list)
+    timers: Dict[TimerName, Timer] = dataclasses.field(default_factory=dict)
+    managed: List[Block] = dataclasses.field(default_factory=list)
+    heap: List[Block] = dataclasses.field(default_factory=list)
+    used: Dict[Tuple[int, int], int] = dataclasses.field(default_factory=dict)
+    lists: Dict[int, List[int]] = dataclasses.field(default_factory=dict)
+
+    def armed(self) -> Dict[TimerName, int]:
+        """When each armed timer is due."""
+        return {name: timer.due for name, timer in self.timers.items() if timer.is_armed}
+
+
+def turn_in(line: str) -> Optional[Turn]:
+    """The turn that a line tells, if it tells one."""
+    told = TURN.fullmatch(line)
+    return Turn(int(told[1]), told[2], told[3], told[4]) if told else None
+
+
+def answers_in(lines: List[str]) -> List[Optional[int]]:
+    """For each line the one that tells the answer to its call: its process's next turn, where that tells an answer."""
+    answers: List[Optional[int]] = [None] * len(lines)
+    awaited: Dict[int, int] = {}
+    for number, line in enumerate(lines):
+        turn = turn_in(line)
+        if turn:
+            if turn.origin == "answer" and turn.pid in awaited:
+                answers[awaited[turn.pid]] = number
+            awaited[turn.pid] = number
+    return answers
+
+
+class Replay:
+    """Carries out the lines of a transcript, one after the other."""
+
+    def __init__(self, lines: List[str]) -> None:
+        self.lines = lines
+        self.answers = answers_in(lines)
+        self.state = State()
+        # The process whose activation ends with the line before, and the broadcast that is being told: its words, and who was told.
+        self.ending: Optional[int] = None
+        self.broadcast: Optional[Tuple[str, List[int]]] = None
+
+    def states(self) -> Iterator[State]:
+        """What holds at each line."""
+        for number, line in enumerate(self.lines):
+            self.take_line(number, line)
+            yield copy.deepcopy(self.state)
+
+    def take_line(self, number: int, line: str) -> None:
+        if self.ending is not None:
+            self.state.active.remove(self.ending)
+            self.ending = None
+        turn = turn_in(line)
+        if turn:
+            self.take_turn(number, turn)
+        elif line.startswith("> "):
+            self.take_input(number, line)
+        elif not line.startswith("note"):
+            # How the run ended: nothing goes on.
+            self.state.running = None
+            self.state.active.clear()
+
+    def take_input(self, number: int, line: str) -> None:
+        """The mote was at rest."""
+        state = self.state
+        state.running = None
+        state.active.clear()
+        state.queue.clear()
+        self.broadcast = None
+        kind, value = line[2:].split(" ")
+        behind = self.lines[number + 1] if number + 1 < len(self.lines) else ""
+        if kind == "tick":
+            state.clock += int(value)
+        elif kind == "frame" and not behind.startswith("note lost"):
+            state.managed.append(Block(FRAMES, 0, len(value) // 2))
+
+    def take_turn(self, number: int, turn: Turn) -> None:
+        state = self.state
+        state.running = turn.pid
+        if turn.origin != "answer":
+            state.active.append(turn.pid)
+            self.take_stimulus(turn)
+        if turn.call in ("wait", "exit"):
+            self.ending = turn.pid
+            if turn.call == "exit" or turn.pid not in state.alive:
+                self.end_process(turn.pid)
+            return
+        answer = self.answers[number]
+        told = turn_in(self.lines[answer]) if answer is not None else None
+        if told and not told.stimulus.startswith("refused "):
+            self.carry_out(number, turn, told.stimulus)
+
+    def take_stimulus(self, turn: Turn) -> None:
+        """What a process is told that isn't an answer."""
+        state = self.state
+        if turn.stimulus.startswith("129 "):
+            state.alive.append(turn.pid)
+        kind, number = "", ""
+        if turn.origin == "callback":
+            kind, number = "callback", turn.stimulus
+        elif turn.origin == "event" and turn.stimulus.startswith("136 "):
+            kind, number = "timer", turn.stimulus[4:]
+        if kind:
+            timer = state.timers.get((turn.pid, kind, int(number)))
+            if timer and timer.is_armed and timer.due <= state.clock:
+                timer.is_armed = False
+        if turn.origin == "event":
+            self.take_event(turn)
+
+    def take_event(self, turn: Turn) -> None:
+        """An event that is told left the queue, and so did those before it."""
+        if self.broadcast and self.broadcast[0] == turn.stimulus and turn.pid not in self.broadcast[1]:
+            self.broadcast[1].append(turn.pid)
+            return
+        for place, line in enumerate(self.state.queue):
+            posting = turn_in(self.lines[line])
+            assert posting is not None, "a line that posts is a turn"
+            word, _, rest = posting.call.partition(" ")
+            target, _, event = rest.partition(" ")
+            if word == "broadcast" and rest == turn.stimulus:
+                self.broadcast = (rest, [turn.pid])
+            elif word == "post" and (int(target), event) == (turn.pid, turn.stimulus):
+                self.broadcast = None
+            else:
+                continue
+            del self.state.queue[:place + 1]
+            return
+
+    def end_process(self, pid: int) -> None:
+        """A process's timers leave the list with it; memory stays."""
+        if pid in self.state.alive:
+            self.state.alive.remove(pid)
+        for (owner, _, _), timer in self.state.timers.items():
+            if owner == pid:
+                timer.is_armed = False
+
+    def carry_out(self, number: int, turn: Turn, answer: str) -> None:
+        """An accepted call."""
+        word, *arguments = turn.call.split(" ")
+        numbers = [int(argument) for argument in arguments if argument.isdigit()]
+        if word in ("post", "broadcast"):
+            # Of a full queue the oldest event went to a process that doesn't run.
+            self.state.queue[:] = [*self.state.queue[1 - QUEUE_PLACES:], number]
+        elif word == "kill" and not self.exits_itself(number, numbers[0]):
+            self.end_process(numbers[0])
+        elif word.startswith(("timer-", "callback-")):
+            self.set_timer(word, turn.pid, numbers)
+        elif word.startswith(("mmem-", "heap-", "packet-")):
+            self.change_memory(word, turn.pid, numbers)
+        elif word.startswith(("memb-", "list-")):
+            self.change_pools(word, turn.pid, numbers, answer)
+
+    def exits_itself(self, number: int, pid: int) -> bool:
+        """Whether a process that is killed in a line answers the EXIT that it is given with `exit`: then it ends there."""
+        answer = self.answers[number]
+        turns = [turn_in(line) for line in self.lines[number:answer]]
+        return any(turn and (turn.pid, turn.call) == (pid, "exit") for turn in turns)
+
+    def set_timer(self, word: str, pid: int, numbers: List[int]) -> None:
+        kind, _, what = word.partition("-")
+        timer = self.state.timers.setdefault((pid, kind, numbers[0]), Timer())
+        if what == "set":
+            timer.start, timer.interval = self.state.clock, numbers[1]
+        elif what == "restart":
+            timer.start = self.state.clock
+        elif what == "reset":
+            timer.start = timer.due
+        if what != "expired":
+            timer.is_armed = what != "stop"
+
+    def change_memory(self, word: str, pid: int, numbers: List[int]) -> None:
+        state = self.state
+        kind, _, what = word.partition("-")
+        blocks = state.heap if kind == "heap" else state.managed
+        if what in ("alloc", "realloc"):
+            if what == "realloc":
+                state.heap = blocks = [block for block in blocks if (block.pid, block.name) != (pid, numbers[0])]
+            blocks.append(Block(pid, numbers[0], numbers[1]))
+        elif what == "free":
+            blocks[:] = [block for block in blocks if (block.pid, block.name) != (pid, numbers[0])]
+        elif word == "packet-done":
+            blocks.remove(next(block for block in blocks if block.pid == FRAMES))
+
+    def change_pools(self, word: str, pid: int, numbers: List[int], answer: str) -> None:
+        state = self.state
+        if word == "memb-alloc":
+            state.used[numbers[0], int(answer.partition(" ")[2])] = pid
+            return
+        if word == "memb-free":
+            del state.used[numbers[0], numbers[1]]
+            return
+        blocks = state.lists.setdefault(numbers[0], [])
+        if word in ("list-add", "list-push", "list-insert"):
+            block = numbers[-1]
+            if block in blocks:
+                blocks.remove(block)
+            place = {"list-add": len(blocks), "list-push": 0}.get(word)
+            blocks.insert(blocks.index(numbers[1]) + 1 if place is None else place, block)
+        elif word == "list-remove":
+            blocks.remove(numbers[1])
+        elif word in ("list-pop", "list-chop"):
+            blocks.remove(int(answer.partition(" ")[2]))
+
+
+def states_of(lines: List[str]) -> List[State]:
+    """What holds at each line of a transcript."""
+    return list(Replay(lines).states())
