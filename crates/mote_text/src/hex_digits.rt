@@ -80,14 +80,14 @@ impl DigitValues {
         if digits.len() != 2 * place.len() {
             return false;
         }
+        // The bits of all values: below 16 exactly where each is a digit's, so that one test serves for all.
+        let mut bits = 0;
         'bytes: for i in 0..place.len() {
             let high = self.values[digits[2 * i] as usize];
             let low = self.values[digits[2 * i + 1] as usize];
-            if high > 15 || low > 15 {
-                return false;
-            }
-            place[i] = high * 16 + low;
+            bits |= high | low;
+            place[i] = high.wrapping_mul(16).wrapping_add(low);
         }
-        true
+        bits < 16
     }
 }

@@ -1,36 +1,35 @@
-use Rattle.std.proofs.Common.{◌≡◌, ◌*◌, ◌+◌, ◌<◌, ℕ, List, slice_index, length, take, drop, None, Err, sym, ap, ◌∙◌, arith}
+use Rattle.std.proofs.Common.{◌≡◌, ◌*◌, ◌+◌, ◌%◌, ◌<◌, ◌≤◌, ℕ, List, ◌⊎◌, inl, inr, slice_index, length, take, drop, None, Err, sym, ap, ◌∙◌, arith}
+use Rattle.std.specs.Int.Bits.{bit_or}
+use Rattle.std.proofs.lemmas.Nat.{le_or_l, le_or_r, or_lt}
 use Rattle.std.specs.Result.{result_ok}
-use Rattle.hex.specs.Hex.{decode_sized}
 use Rattle.hex.specs.declared.error.FromHexError.{FromHexError}
 use Rattle.hex.proofs.Pairs.{decode_step, decode_done, decode_err, decode_sized-pairs, prepend}
-use Rattle.mote_text.proofs.Common.{decode_pairs, pair_value}
+use Rattle.mote_text.proofs.Common.{decode_pairs, pair_value, cases_lt, le-ltb, lt-ltb}
 use Rattle.mote_text.proofs.HexPairs.{pair_read, high_refused, low_refused}
-use Rattle.mote_text.proofs.hex_digits.DigitValues.read.Goals.{then-high-gt15-via-then-high-gt15, then-high-gt15-via-else-high-gt15+then-low-gt15}
 use Rattle.mote_text.proofs.hex_digits.DigitValues.read.Goals as goal
 
+-- two digits' values make a byte, no bit of which is lost
+whole : (high low : ℕ) → high < 16 → low < 16 → (high * 16 % 256 + low) % 256 ≡ high * 16 + low
+whole high low small_high small_low = omega arith
+
+-- where the bits of two are too large, one of them is
+one_is_large : (a b : ℕ) → 16 ≤ bit_or a b → (16 ≤ a) ⊎ (16 ≤ b)
+one_is_large a b large =
+    elim (cases_lt a 16) [
+      | inl small_a ↦
+          elim (cases_lt b 16) [
+            | inl small_b ↦ absurd (omega (arith, or_lt 4 a b small_a small_b))
+            | inr large_b ↦ inr large_b
+          ]
+      | inr large_a ↦ inl large_a
+    ]
+
 -- where a pair is refused, nothing is read
-refused : (digits place : List ℕ) (size i : ℕ) (e : FromHexError) → length digits ≡ 2 * size → i < size →
+refused : (digits place : List ℕ) (i : ℕ) (e : FromHexError) → 2 * i + 1 < length digits →
     pair_value (slice_index digits (2 * i)) (slice_index digits (2 * i + 1)) (2 * i) ≡ Err e →
     decode_pairs 0 digits ≡ prepend (take i place) (decode_pairs (2 * i) (drop (2 * i) digits)) →
-    None ≡ result_ok (decode_sized digits size)
-refused digits place size i e len inside bad before =
-    sym (ap result_ok (decode_sized-pairs digits size (omega arith) (omega arith) ∙ decode_err digits place i e (omega arith) bad before))
-
-pub returns-then-high-gt15 : goal.returns-then-high-gt15
-returns-then-high-gt15 c =
-    let digits : List ℕ = c.args.digits.now in
-    let i : ℕ = c.bytes.i in
-    let high : ℕ = slice_index digits (2 * i) in
-    let low : ℕ = slice_index digits (2 * i + 1) in
-    let values = c.args.self.now.right in
-    elim c.then-high-gt15.branch [
-      | then-high-gt15-via-then-high-gt15 w ↦
-          let bad = high_refused high low (2 * i) _ (values high (omega (arith, c.type_inv.digits (2 * i)))) w.if-high-gt15.true in
-          refused digits c.bytes.place _ i bad.0 c.if-digits-place.false (omega arith) bad.1 c.bytes.invariant
-      | then-high-gt15-via-else-high-gt15+then-low-gt15 w ↦
-          let bad = low_refused high low (2 * i) _ (values low (omega (arith, c.type_inv.digits (2 * i + 1)))) w.if-low-gt15.true in
-          refused digits c.bytes.place _ i bad.0 c.if-digits-place.false (omega arith) bad.1 c.bytes.invariant
-    ]
+    result_ok (decode_pairs 0 digits) ≡ None
+refused digits place i e inside bad before = ap result_ok (decode_err digits place i e inside bad before)
 
 pub bytes-preserved : goal.bytes-preserved
 bytes-preserved c =
@@ -38,13 +37,47 @@ bytes-preserved c =
     let i : ℕ = c.bytes.i in
     let high : ℕ = slice_index digits (2 * i) in
     let low : ℕ = slice_index digits (2 * i + 1) in
-    let values = c.args.self.now.right in
-    let pair = pair_read high low (2 * i) _ _ (values high (omega (arith, c.type_inv.digits (2 * i)))) (values low (omega (arith, c.type_inv.digits (2 * i + 1)))) c.if-high-gt15.false c.if-low-gt15.false in
-    decode_step digits c.bytes.place i _ (omega arith) (omega arith) pair c.bytes.invariant
+    let of_high = c.args.self.now.right high (omega (arith, c.type_inv.digits (2 * i))) in
+    let of_low = c.args.self.now.right low (omega (arith, c.type_inv.digits (2 * i + 1))) in
+    let worth_high : ℕ = slice_index c.args.self.now.values high in
+    let worth_low : ℕ = slice_index c.args.self.now.values low in
+    let both : ℕ = bit_or worth_high worth_low in
+    let inside : i < length c.bytes.place = omega arith in (
+      λ small.
+          let small_both : both < 16 = omega (arith, le_or_r c.bytes.bits both) in
+          let small_high : worth_high < 16 = omega (arith, le_or_l worth_high worth_low) in
+          let small_low : worth_low < 16 = omega (arith, le_or_r worth_high worth_low) in
+          let pair = pair_read high low (2 * i) _ _ of_high of_low (omega arith) (omega arith) in
+          let before = c.bytes.invariant.0 (omega (arith, le_or_l c.bytes.bits both)) in
+          rw (whole worth_high worth_low small_high small_low) (decode_step digits c.bytes.place i _ (omega arith) inside pair before),
+      λ large.
+          elim (cases_lt c.bytes.bits 16) [
+            | inr before ↦ c.bytes.invariant.1 before
+            | inl digits_before ↦
+                let before = c.bytes.invariant.0 digits_before in
+                let pair_is_large : 16 ≤ both = elim (one_is_large c.bytes.bits both large) [
+                  | inl seen ↦ absurd (omega arith)
+                  | inr pair ↦ pair
+                ] in
+                elim (one_is_large worth_high worth_low pair_is_large) [
+                  | inl bad ↦
+                      let fault = high_refused high low (2 * i) _ of_high (omega arith) in
+                      refused digits c.bytes.place i fault.0 (omega arith) fault.1 before
+                  | inr bad ↦
+                      let fault = low_refused high low (2 * i) _ of_low (omega arith) in
+                      refused digits c.bytes.place i fault.0 (omega arith) fault.1 before
+                ]
+          ],
+    )
 
 pub returns : goal.returns
 returns c =
     let digits : List ℕ = c.args.digits.now in
     let size = length c.args.place.now in
-    let sized = decode_sized-pairs digits size (omega arith) (omega arith) in
-    sym (ap result_ok (sized ∙ decode_done digits c.bytes.place c.bytes.i (omega arith) (omega arith) c.bytes.invariant))
+    let sized = ap result_ok (decode_sized-pairs digits size (omega arith) (omega arith)) in
+    elim (cases_lt c.bytes.bits 16) [
+      | inl small ↦
+          let all = decode_done digits c.bytes.place c.bytes.i (omega arith) (omega arith) (c.bytes.invariant.0 small) in
+          rw (lt-ltb c.bytes.bits 16 small) (sym (sized ∙ ap result_ok all))
+      | inr large ↦ rw (le-ltb c.bytes.bits 16 large) (sym (sized ∙ c.bytes.invariant.1 large))
+    ]
