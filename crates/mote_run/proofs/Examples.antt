@@ -1,6 +1,8 @@
 -- Worked examples: what counts as read, and a run on a script that was read to its end.
-use Rattle.std.proofs.Common.{◌≡◌, ℕ, Bool, true, List, [], ◌∷◌, ◌++◌, refl, sym, subst, append-nil}
-use Rattle.mote_run.proofs.Common.{Applications, End, Config, Exchange, HasRead, HasRun, HasRunInPart, IsRunText}
+use Rattle.std.proofs.Common.{◌≡◌, ℕ, Bool, true, List, [], ◌∷◌, ◌++◌, Result, Ok, refl, sym, subst, append-nil}
+use Rattle.mote_run.proofs.Common.{Applications, End, Config, Exchange, HasRead, HasRun, HasRunInPart, IsRunText, RunPromise, Running, Runs, at_start, inputs}
+use Rattle.mote_run.specs.Trace.{IsAnsweredAlike}
+use Rattle.run_laws.specs.RunLaws.{BlocksAreOwn, EventsArriveInOrder, ProcessesAreIsolated, TimersAreKept}
 
 -- two bytes, behind one that was read before
 two_read : HasRead 2 (116 ∷ []) (116 ∷ 105 ∷ 99 ∷ [])
@@ -28,3 +30,11 @@ front_of_text : (config : Config) (says : Applications) (quiet : Bool) (script o
     (rest : List ℕ) × (whole ≡ out ++ rest)
 front_of_text config says quiet script out whole end part text =
     part [] (λ ended. refl) whole end (subst (λ (bytes : List ℕ). IsRunText config says quiet bytes whole end) (sym (append-nil script)) text)
+
+-- where the promise of a run was kept on a script, the machine's run on it keeps each law
+keeps_each_law : (config : Config) (says : Applications) (quiet : Bool) (script out : List ℕ) (end : End) → RunPromise config says quiet (Ok end) (all_of script out) →
+    (last : Running) × Runs says (at_start config) (inputs (script ++ [])).0 last × BlocksAreOwn last.entries × EventsArriveInOrder config.apps last.entries ×
+    TimersAreKept config.apps last.entries × ProcessesAreIsolated config.quota config.apps last.entries × IsAnsweredAlike config.quota config.apps last.entries
+keeps_each_law config says quiet script out end promise =
+    let lawful = promise.lawful [] (λ ended. refl) in
+    (lawful.run.last, lawful.run.runs, lawful.laws.memory, lawful.laws.events, lawful.laws.timers, lawful.laws.isolation, lawful.laws.alike)

@@ -1,9 +1,7 @@
 -- What was read and written keeps the promise of a run.
 use Rattle.std.proofs.Common.{arith, ◌≡◌, ℕ, Bool, true, false, List, [], ◌++◌, refl, ap, sym, subst, ◌∙◌, append_assoc, Result, Ok, Err, IfOk, IsErr, OnErr, IsErrOf, if◌then◌else◌}
-use Rattle.mote_run.proofs.Common.{nat_tests, append-nil, list_any, IsErrAnd, Applications, is_halt, Entry, Input, End, inputs, end_of, final_line, shown, text, Config, booted, is_bootable, Running, Runs, at_start, RunFault, Exchange, Exchanged, HasRun, HasRunInPart, HasRunOnWholeLines, IsRunText, OfEachScript, RunPromise, TraceSatisfies, Ran, Follows, Place, WritesOn, lines}
+use Rattle.mote_run.proofs.Common.{nat_tests, append-nil, list_any, IsErrAnd, Applications, is_halt, Entry, Input, End, inputs, end_of, final_line, shown, text, Config, booted, is_bootable, Running, Runs, at_start, RunFault, Exchange, Exchanged, HasRun, HasRunInPart, HasRunOnWholeLines, IsRunText, OfEachScript, KeepsLaws, LawfulRun, RunPromise, Ran, Follows, Place, WritesOn, lines}
 use Rattle.mote_run.proofs.Pieces.{no_value, same_error}
-use Rattle.mote_run.specs.Trace.{IsAnsweredAlike}
-use Rattle.run_laws.specs.RunLaws.{BlocksAreOwn, EventsArriveInOrder, ProcessesAreIsolated, TimersAreKept}
 
 -- the machine that was booted tells its configuration
 pub boots_so : (a b : Config) → booted a ≡ booted b → is_bootable b ≡ true → is_bootable a ≡ true
@@ -19,11 +17,7 @@ same_without_end false lines = refl
 -- the laws of the machine's runs from this configuration
 pub record Laws (config : Config) : Type 0 where
   pub exists : (says : Applications) (inputs : List Input) → (after : Running) × Runs says (at_start config) inputs after
-  pub memory : (says : Applications) (inputs : List Input) (after : Running) → Runs says (at_start config) inputs after → BlocksAreOwn after.entries
-  pub events : (says : Applications) (inputs : List Input) (after : Running) → Runs says (at_start config) inputs after → EventsArriveInOrder config.apps after.entries
-  pub timers : (says : Applications) (inputs : List Input) (after : Running) → Runs says (at_start config) inputs after → TimersAreKept config.apps after.entries
-  pub isolation : (says : Applications) (inputs : List Input) (after : Running) → Runs says (at_start config) inputs after → ProcessesAreIsolated config.quota config.apps after.entries
-  pub alike : (says : Applications) (inputs : List Input) (after : Running) → Runs says (at_start config) inputs after → IsAnsweredAlike config.quota config.apps after.entries
+  pub kept : (says : Applications) (inputs : List Input) (after : Running) → Runs says (at_start config) inputs after → KeepsLaws config after.entries
 
 module _ {config : Config} {says : Applications} {quiet : Bool} {taken_old taken_new : List ℕ} {is_ended : Bool} {given_old given_new : List ℕ} {answer : Result End RunFault}
     (ran : Ran quiet taken_old taken_new is_ended given_old given_new (booting config says) (λ end. []) answer) (laws : Laws config) where
@@ -86,11 +80,10 @@ module _ {config : Config} {says : Applications} {quiet : Bool} {taken_old taken
             ∙ same_without_end (list_any is_halt run.0.entries) (lines quiet run.0.entries);
       }
 
-  shows : (Law : List Entry → Type 0) → ((says : Applications) (inputs : List Input) (after : Running) → Runs says (at_start config) inputs after → Law after.entries) →
-      TraceSatisfies config says quiet Law answer exchange
-  shows Law lawful = λ more limits.
+  lawful : OfEachScript exchange (λ script. LawfulRun config says quiet script ran.out answer)
+  lawful more limits =
       let r = rest_of more limits in
-      record { rest = r.rest; end = r.end; run = r.run; all = r.all; law = lawful says (inputs (ran.read ++ more)).0 r.run.last r.run.runs }
+      record { rest = r.rest; end = r.end; run = r.run; all = r.all; laws = laws.kept says (inputs (ran.read ++ more)).0 r.run.last r.run.runs }
 
   pub promised : Exchanged taken_old taken_new is_ended given_old given_new (RunPromise config says quiet answer)
   promised = record {
@@ -100,11 +93,7 @@ module _ {config : Config} {says : Applications} {quiet : Bool} {taken_old taken
     given = ran.given;
     holds = record {
       ran = record { text = text_of answer refl; front = on_err answer; after_read_fault = whole_lines };
-      memory = shows BlocksAreOwn laws.memory;
-      events = shows (EventsArriveInOrder config.apps) laws.events;
-      timers = shows (TimersAreKept config.apps) laws.timers;
-      isolation = shows (ProcessesAreIsolated config.quota config.apps) laws.isolation;
-      alike = shows (IsAnsweredAlike config.quota config.apps) laws.alike;
+      lawful = lawful;
     };
   }
 

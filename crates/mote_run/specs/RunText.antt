@@ -71,6 +71,9 @@ module _ (config : Config) (says : Applications) (quiet : Bool) where
     pub after_read_fault : IsErrOf answer read_failed → HasRunOnWholeLines exchange
 
 -- the kernel was just booted, for so many applications
-abbrev pub WasBooted : Mote → ℕ → Type 0
-WasBooted kernel applications =
-    ((config : Config) × (is_bootable config ≡ true) × (config.apps ≡ applications) × (kernel.machine ≡ booted config)) × (kernel.inputs ≡ 0)
+pub record WasBooted (kernel : Mote) (applications : ℕ) : Type 0 where
+  pub config : Config
+  pub boots : is_bootable config ≡ true
+  pub for_all : config.apps ≡ applications
+  pub is_booted : kernel.machine ≡ booted config
+  pub no_inputs : kernel.inputs ≡ 0

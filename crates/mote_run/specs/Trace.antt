@@ -21,25 +21,26 @@ IsAnsweredAlike quota applications X =
     → Runs tells (at_start other) inputs last → is_bootable other ≡ true → other.quota ≡ Some bytes → is_application other.apps p ≡ true
     → AreAnsweredAlike p X last.entries
 
+-- the laws of the machine's runs, kept by the entries of one
+pub record KeepsLaws (config : Config) (entries : List Entry) : Type 0 where
+  pub memory : BlocksAreOwn entries
+  pub events : EventsArriveInOrder config.apps entries
+  pub timers : TimersAreKept config.apps entries
+  pub isolation : ProcessesAreIsolated config.quota config.apps entries
+  pub alike : IsAnsweredAlike config.quota config.apps entries
+
 module _ (config : Config) (says : Applications) (quiet : Bool) where
   -- The machine's run on this script: its text begins with what was written, which is all of it where this was answered with
-  -- the run's end; and the law holds of its entries
-  pub record SatisfyingRun (Law : List Entry → Type 0) (script out : List ℕ) (answer : Result End RunFault) : Type 0 where
+  -- the run's end; and its entries keep the laws
+  pub record LawfulRun (script out : List ℕ) (answer : Result End RunFault) : Type 0 where
     pub rest : List ℕ
     pub end : End
     pub run : IsRunText config says quiet script (out ++ rest) end
     pub all : IfOk answer (λ answered. (rest ≡ []) × (answered ≡ end))
-    pub law : Law run.last.entries
+    pub laws : KeepsLaws config run.last.entries
 
-  -- what was read and written shows such a run, for whatever more the script has where its end was not read
-  abbrev pub TraceSatisfies : (List Entry → Type 0) → Result End RunFault → Exchange → Type 0
-  TraceSatisfies Law answer exchange = OfEachScript exchange (λ script. SatisfyingRun Law script exchange.written answer)
-
-  -- what a run promises that is answered so: its text, and the laws of the machine's runs
+  -- what a run promises that is answered so: its text, and, for whatever more the script has where its end was not read, that the
+  -- laws hold of the run whose text it is
   pub record RunPromise (answer : Result End RunFault) (exchange : Exchange) : Type 0 where
     pub ran : HasRunTo config says quiet RunFault.Read answer exchange
-    pub memory : TraceSatisfies BlocksAreOwn answer exchange
-    pub events : TraceSatisfies (EventsArriveInOrder config.apps) answer exchange
-    pub timers : TraceSatisfies (TimersAreKept config.apps) answer exchange
-    pub isolation : TraceSatisfies (ProcessesAreIsolated config.quota config.apps) answer exchange
-    pub alike : TraceSatisfies (IsAnsweredAlike config.quota config.apps) answer exchange
+    pub lawful : OfEachScript exchange (λ script. LawfulRun script exchange.written answer)

@@ -24,7 +24,13 @@ pub returns-clause-ready : goal.returns-clause-ready
 returns-clause-ready c =
     let config = with_applications c.in_ok-asked.asked c.len.result in
     let bootable : is_bootable config ≡ true = not_false _ _ _ c.in_ok-kernel.ensures.bad_sizes.1 in
-    ((config, bootable, c.len.ensures.value, c.in_ok-kernel.ensures.booted.0), c.in_ok-kernel.ensures.booted.1)
+    record {
+      config = config;
+      boots = bootable;
+      for_all = c.len.ensures.value;
+      is_booted = c.in_ok-kernel.ensures.booted.0;
+      no_inputs = c.in_ok-kernel.ensures.booted.1;
+    }
 
 pub returns-clause-booted : goal.returns-clause-booted
 returns-clause-booted c =

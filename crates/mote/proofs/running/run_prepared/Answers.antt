@@ -33,7 +33,13 @@ run-requires-clause-booted g c =
     let as_many : length c.as_mut_slice.result.now ≡ length c.args.prepared.applications.items =
     ap length c.as_mut_slice.ensures.value ∙ (c.loop-application.invariant.0 ∙ ap length all) in
     let given = c.requires.booted in
-    ((given.0.0, given.0.1, given.0.2 ∙ sym as_many, given.0.3), given.1)
+    record {
+      config = given.config;
+      boots = given.boots;
+      for_all = given.for_all ∙ sym as_many;
+      is_booted = given.is_booted;
+      no_inputs = given.no_inputs;
+    }
 
 pub returns-in-Ok-clause-ran : goal.returns-in-Ok-clause-ran
 returns-in-Ok-clause-ran g c =

@@ -45,7 +45,7 @@ run-requires-clause-booted g c =
     let config : Config = config_of c.args.sizes c.in-Ok.apps in
     let bootable : is_bootable config ≡ true = not_false _ _ _ c.in_ok-kernel.ensures.bad_sizes.1 in
     let same : c.in-Ok.apps ≡ length c.args.boxes.now = search rules in
-    ((config, bootable, same, search rules), search rules)
+    record { config = config; boots = bootable; for_all = same; is_booted = search rules; no_inputs = search rules }
 
 pub returns-clause-ran : goal.returns-clause-ran
 returns-clause-ran g c =

@@ -6,29 +6,35 @@ use Rattle.mote_run.proofs.run.run.Goals as goal
 
 pub returns-in_err-end-clause-promise : goal.returns-in_err-end-clause-promise
 returns-in_err-end-clause-promise g c = λ s k config boots.
-    let bootable : is_bootable config ≡ true = boots_so config c.requires.booted.0.0 (sym boots ∙ c.requires.booted.0.3) c.requires.booted.0.1 in
+    let bootable : is_bootable config ≡ true = boots_so config c.requires.booted.config (sym boots ∙ c.requires.booted.is_booted) c.requires.booted.boots in
     let laws : Laws config = record {
       exists = c.run_exists.ensures.exists config;
-      memory = λ says inputs after runs. c.blocks_are_own.ensures.own config says inputs after runs bootable;
-      events = c.events_arrive_in_order.ensures.in_order config;
-      timers = λ says inputs after runs. c.timers_are_kept.ensures.kept config says inputs after runs bootable;
-      isolation = λ says inputs after runs. c.processes_are_isolated.ensures.isolated config says inputs after runs bootable;
-      alike = λ says inputs after runs other tells others last bytes p limited named also_runs also_boots also_limited also_named.
-          c.same_calls_have_same_replies.ensures.alike config other says tells inputs others after last bytes p runs bootable limited named also_runs also_boots also_limited also_named;
+      kept = λ says inputs after runs. record {
+        memory = c.blocks_are_own.ensures.own config says inputs after runs bootable;
+        events = c.events_arrive_in_order.ensures.in_order config says inputs after runs;
+        timers = c.timers_are_kept.ensures.kept config says inputs after runs bootable;
+        isolation = c.processes_are_isolated.ensures.isolated config says inputs after runs bootable;
+        alike = λ other tells others last bytes p limited named also_runs also_boots also_limited also_named.
+            c.same_calls_have_same_replies.ensures.alike config other says tells inputs others after last bytes p
+            runs bootable limited named also_runs also_boots also_limited also_named;
+      };
     } in
     promised (ran_failed c.from_residual.ensures.0 c.from_residual.ensures.1 (rw (c.new-work.ensures.due, c.new-work.ensures.kernel, boots) at (c.in_err-end.ensures.ran s k))) laws
 
 pub returns-in_err-close-clause-promise : goal.returns-in_err-close-clause-promise
 returns-in_err-close-clause-promise g c = λ s k config boots.
-    let bootable : is_bootable config ≡ true = boots_so config c.requires.booted.0.0 (sym boots ∙ c.requires.booted.0.3) c.requires.booted.0.1 in
+    let bootable : is_bootable config ≡ true = boots_so config c.requires.booted.config (sym boots ∙ c.requires.booted.is_booted) c.requires.booted.boots in
     let laws : Laws config = record {
       exists = c.run_exists.ensures.exists config;
-      memory = λ says inputs after runs. c.blocks_are_own.ensures.own config says inputs after runs bootable;
-      events = c.events_arrive_in_order.ensures.in_order config;
-      timers = λ says inputs after runs. c.timers_are_kept.ensures.kept config says inputs after runs bootable;
-      isolation = λ says inputs after runs. c.processes_are_isolated.ensures.isolated config says inputs after runs bootable;
-      alike = λ says inputs after runs other tells others last bytes p limited named also_runs also_boots also_limited also_named.
-          c.same_calls_have_same_replies.ensures.alike config other says tells inputs others after last bytes p runs bootable limited named also_runs also_boots also_limited also_named;
+      kept = λ says inputs after runs. record {
+        memory = c.blocks_are_own.ensures.own config says inputs after runs bootable;
+        events = c.events_arrive_in_order.ensures.in_order config says inputs after runs;
+        timers = c.timers_are_kept.ensures.kept config says inputs after runs bootable;
+        isolation = c.processes_are_isolated.ensures.isolated config says inputs after runs bootable;
+        alike = λ other tells others last bytes p limited named also_runs also_boots also_limited also_named.
+            c.same_calls_have_same_replies.ensures.alike config other says tells inputs others after last bytes p
+            runs bootable limited named also_runs also_boots also_limited also_named;
+      };
     } in
     let ran = rw (c.new-work.ensures.due, c.new-work.ensures.kernel, boots) at (c.in_ok-end.ensures.ran s k) in
     let answer = c.from_residual-in_err-close.result in
@@ -37,15 +43,18 @@ returns-in_err-close-clause-promise g c = λ s k config boots.
 
 pub returns-clause-promise : goal.returns-clause-promise
 returns-clause-promise g c = λ s k config boots.
-    let bootable : is_bootable config ≡ true = boots_so config c.requires.booted.0.0 (sym boots ∙ c.requires.booted.0.3) c.requires.booted.0.1 in
+    let bootable : is_bootable config ≡ true = boots_so config c.requires.booted.config (sym boots ∙ c.requires.booted.is_booted) c.requires.booted.boots in
     let laws : Laws config = record {
       exists = c.run_exists.ensures.exists config;
-      memory = λ says inputs after runs. c.blocks_are_own.ensures.own config says inputs after runs bootable;
-      events = c.events_arrive_in_order.ensures.in_order config;
-      timers = λ says inputs after runs. c.timers_are_kept.ensures.kept config says inputs after runs bootable;
-      isolation = λ says inputs after runs. c.processes_are_isolated.ensures.isolated config says inputs after runs bootable;
-      alike = λ says inputs after runs other tells others last bytes p limited named also_runs also_boots also_limited also_named.
-          c.same_calls_have_same_replies.ensures.alike config other says tells inputs others after last bytes p runs bootable limited named also_runs also_boots also_limited also_named;
+      kept = λ says inputs after runs. record {
+        memory = c.blocks_are_own.ensures.own config says inputs after runs bootable;
+        events = c.events_arrive_in_order.ensures.in_order config says inputs after runs;
+        timers = c.timers_are_kept.ensures.kept config says inputs after runs bootable;
+        isolation = c.processes_are_isolated.ensures.isolated config says inputs after runs bootable;
+        alike = λ other tells others last bytes p limited named also_runs also_boots also_limited also_named.
+            c.same_calls_have_same_replies.ensures.alike config other says tells inputs others after last bytes p
+            runs bootable limited named also_runs also_boots also_limited also_named;
+      };
     } in
     let ran = rw (c.new-work.ensures.due, c.new-work.ensures.kernel, boots) at (c.in_ok-end.ensures.ran s k) in
     promised (closed ran (c.in_ok-close.ensures.written k) (λ is. absurd (cc)) (refl, refl)) laws
