@@ -9,12 +9,27 @@ import toarmuts
 from toarmuts.bundled import Echo
 from toarmuts.call import read_calls
 from toarmuts.script import has_form
-from toarmuts import (BadCall, BadInput, BadScenario, BadSizes, BadTranscript, Call, Mote, NoApplication, Options, Post, Print, Reason, Script,
-                      TimerSet, TooManyApplications, Transcript, Wait, WrongType)
+from toarmuts import (BadCall, BadInput, BadScenario, BadSizes, BadTranscript, Call, Coverage, Mote, NoApplication, Options, Post, Print,
+                      Reason, Script, Table, TimerSet, TooManyApplications, Transcript, Wait, WrongType, coverage_of)
 
 
 class NoTurn:
     """A class that is no application."""
+
+
+class NeedsMore:
+    """A class whose objects can't be made without more words."""
+
+    def __init__(self, period):
+        self.period = period
+
+    def turn(self, stimulus):
+        return Wait()
+
+
+def waits():
+    while True:
+        yield Wait()
 
 
 def run(*arguments, **options):
@@ -43,6 +58,14 @@ WRONG = [
     (run(b"blink"), WrongType, "applications is to be a list: [b'blink']"),
     (run(None), WrongType, "applications is to be a list, not NoneType"),
     (run({"blink": 1}), WrongType, "applications is to be a list, not dict"),
+    (run({"blink", "echo"}), WrongType, "applications is to be a list, not set"),
+    (run(["hello", "\udc80"]), NoApplication, "application 2 (process 5): a name is to be text that UTF-8 has, which '\\udc80' is not"),
+    (run([waits()]), WrongType, "application 1 is a generator that was made already: a generator function is meant, or lambda: f(..)"),
+    (run([NeedsMore]), NoApplication, "application 1 (process 4): NeedsMore() raised TypeError: NeedsMore.__init__() missing 1 required"),
+    (lambda: Table({256: [Wait()]}), WrongType, "a table's row is for an event code, 0 to 255, or for 'callback', not for 256"),
+    (lambda: Table({"timer": [Wait()]}), WrongType, "a table's row is for an event code, 0 to 255, or for 'callback', not for 'timer'"),
+    (lambda: Table({129: Wait()}), WrongType, "a table's row is a list of calls, not Wait"),
+    (lambda: Table({129: [Wait()], 136: [Wait]}), WrongType, "a table's row has calls, and not the class Wait: Wait(..) is meant"),
     (run(["hello"] * 17), TooManyApplications, "17 applications; a mote has at most 16"),
     (run(["hello", "frob"]), NoApplication, "application 2 (process 5): no application 'frob'; there are hello, blink,"),
     (run(["hello\nblink"]), NoApplication, "application 1 (process 4): a name has no line end: 'hello\\nblink'"),
@@ -54,6 +77,9 @@ WRONG = [
     (run(["hello", [Wait]]), WrongType, "application 2, call 1 is to be a Call or its words, not the class Wait: Wait(..) is meant"),
     (run([["wait", 5]]), WrongType, "application 1, call 2 is to be a Call or its words, not int"),
     (run([["wait", "kill"]]), NoApplication, "application 1 (process 4), call 2: 'kill': kill lacks a word"),
+    (run(["calls wait, 129 wait"]), NoApplication, "call 2: '129 wait': before a call stands how often it is made, 1 to 128"),
+    (run(["calls 2 poll x"]), NoApplication, "call 1: '2 poll x': a word is no number, or one out of its range: poll takes process (0 to"),
+    (lambda: coverage_of(toarmuts.run([])), WrongType, "runs are to be several, not one Run"),
     (run(["calls wait, frob 1"]), NoApplication, "application 1 (process 4), call 2: 'frob 1': no call has this name"),
     (run(["calls timer-set 0 05"]), NoApplication, "call 1: 'timer-set 0 05': a word is no number, or one out of its range: timer-set "
                                                    "takes timer (0 to 255), interval (0 to 4,294,967,295)"),
@@ -96,10 +122,19 @@ WRONG = [
     (lambda: Transcript(5), WrongType, "a transcript is to be a str or bytes, not int"),
     (lambda: list(Transcript("> tick 1\n4 nowhere 5 -> wait\n")), BadTranscript, "line 2 is no line of a transcript: 4 nowhere 5 -> wait"),
     (lambda: toarmuts.read_scenarios("tock 5\n"), BadScenario, "line 1: unknown word tock"),
+    (lambda: toarmuts.read_scenarios(b"tick 5\n"), WrongType, "scenarios are read from the text of a file, a str, not bytes"),
+    (lambda: toarmuts.run([]).scenario(name="a\nb"), BadScenario, "a run's name has no line end: 'a\\nb'"),
+    (lambda: toarmuts.first_difference("", None), WrongType, "a str, bytes, Transcript or Run is compared, not NoneType"),
+    (lambda: toarmuts.run([]).difference(["> tick 1"]), WrongType, "a str, bytes, Transcript or Run is compared, not list"),
+    (lambda: Coverage().add("> tick 1"), WrongType, "a Run, Mote or Transcript is counted, not str"),
     # A mote in hand.
     (lambda: Mote("blink"), WrongType, "applications is to be a list: ['blink']"),
     (lambda: Mote([], mmem=2), BadSizes, "mmem is 2; a multiple of 4 from 4 to 65,536 is allowed"),
     (lambda: Mote(["hello"] * 3, quota=2048), BadSizes, "quota is 2048; 4 of them (3 applications and the frames) exceed mmem, which is 4096"),
+    (lambda: Mote(options=Options(quiet=True)), toarmuts.MoteError, "a mote in hand tells all its entries"),
+    (lambda: Mote(["hello"]).application("4"), WrongType, "process is to be an int, not str"),
+    (lambda: Mote(["hello"]).application(5), WrongType, "there is no process 5; there are 4 to 4"),
+    (lambda: Mote().text("\udc80"), BadInput, "a line is to be text that UTF-8 has, which '\\udc80' is not"),
     (lambda: Mote().tick(-1), BadInput, "tick -1: 0 to 4,294,967,295 is allowed"),
     (lambda: Mote().frame(b""), BadInput, "frame of 0 bytes: 1 to 127 are allowed"),
     (lambda: Mote().feed("tick 01"), BadInput, "'tick 01' is no line of a script"),

@@ -67,6 +67,58 @@ def test_an_application_that_raises_is_a_fault(tmp_path):
     assert list(files) == ["process-4-fails-it-answered-None-and-no-call.txt"]
 
 
+FAILING = """from toarmuts.campaign import make_case
+
+
+class Target:
+    def draw(self, chance):
+        return make_case(["hello"])
+
+    def check(self, run):
+        return None
+
+
+class DrawsNone(Target):
+    def draw(self, chance):
+        return ["hello"], "tick 1"
+
+
+class ChecksFalse(Target):
+    def check(self, run):
+        return False
+
+
+class Raises(Target):
+    def check(self, run):
+        return run.entries[99]
+
+
+class DrawsNobody(Target):
+    def draw(self, chance):
+        return make_case(["nobody"])
+
+
+class NeedsMore(Target):
+    def __init__(self, words):
+        self.words = words
+"""
+
+
+@pytest.mark.parametrize("jobs", ["1", "2"])
+@pytest.mark.parametrize("name, reason", [
+    ("DrawsNone", "seed 3, case 0: draw(chance) answered a tuple, and no Case: make_case makes one"),
+    ("ChecksFalse", "seed 3, case 0: check(run) answered False: what is wrong is to be a str, or None"),
+    ("Raises", "seed 3, case 0: the target fails itself"),
+    ("DrawsNobody", "seed 3, case 0: application 1 (process 4): no application 'nobody'"),
+    ("NeedsMore", "NeedsMore: the target can't be made"),
+])
+def test_a_target_that_fails_itself_is_told(tmp_path, name, reason, jobs):
+    (tmp_path / "failing.py").write_text(FAILING)
+    command = [sys.executable, "-m", "toarmuts.campaign", f"failing.py:{name}", "--seeds", "3:4", "--jobs", jobs]
+    done = subprocess.run(command, capture_output=True, text=True, check=False, cwd=tmp_path)
+    assert done.returncode == 2 and reason in done.stderr and not (tmp_path / "found").exists(), done.stderr
+
+
 @pytest.mark.parametrize("words, reason", [
     (["nothing"], "nothing names no target: module:name or file.py:name is wanted"),
     (["no_such_module:name"], "no_such_module:name names no target: No module named 'no_such_module'"),

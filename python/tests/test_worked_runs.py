@@ -100,9 +100,14 @@ def test_ends():
 
 def test_a_run_that_ended_otherwise_can_be_refused():
     assert toarmuts.run([]).check().finished
-    with pytest.raises(toarmuts.RunEnded, match="the run ended with: bad line 1") as caught:
+    with pytest.raises(toarmuts.RunEnded, match="the run ended with: bad line 1, 'frob'") as caught:
         toarmuts.run([], "frob").check()
     assert isinstance(caught.value.run, Run) and caught.value.run.text == "bad line 1\n"
+    for script, words in (("tick 1\r\n", r"bad line 1, 'tick 1\\r'"), (b"\ntick 1\n\xff", "bad line 3, '\ufffd'")):
+        with pytest.raises(toarmuts.RunEnded, match=words):
+            toarmuts.run([], script).check()
+    with pytest.raises(toarmuts.RunEnded, match="the run ended with: halted$"):
+        toarmuts.run(["clock-watcher"]).check()
 
 
 def test_a_transcript_longer_than_the_first_room():

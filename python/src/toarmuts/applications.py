@@ -17,16 +17,18 @@ from __future__ import annotations
 
 import functools
 import inspect
-from collections.abc import Callable, Generator, Iterable, Mapping, Sequence
+import itertools
+from collections.abc import Callable, Generator, Iterable, Mapping, Sequence, Set
 from dataclasses import dataclass
 from typing import Any, Protocol, Union
 
-from .call import MOST_CALLS, Call, read_calls
+from .call import MOST_CALLS, Call, is_count, read_calls
 from .calls import Exit, Wait
-from .errors import BadCall, NoApplication, Reason, TooManyApplications, ToarmutsError, WrongType
+from .errors import BadCall, BadInput, NoApplication, Reason, TooManyApplications, ToarmutsError, WrongType
 from .library import Why
 from .numbers import EventCode
 from .rules import FIRST_PROCESS, MOST_APPLICATIONS, RULES
+from .script import encoded
 from .values import Event, Stimulus
 
 
@@ -57,21 +59,30 @@ class CallList:
 
 
 class GeneratorApplication:
-    """An application by a generator function. Each INIT begins a new generator; where one returns, the process exits."""
+    """An application by a generator function. Each INIT begins a new generator; where one returns, the process exits. One that raised
+    can't go on."""
 
     def __init__(self, function: Callable[[], Turns]) -> None:
         self._function = function
         self._turns: Turns | None = None
+        self._raised = False
 
     def turn(self, stimulus: Stimulus) -> Call:
         """What the generator yields next."""
+        begins = self._turns is None or (isinstance(stimulus, Event) and stimulus.code == EventCode.INIT)
+        if self._raised and not begins:
+            raise RuntimeError("the generator has raised, so it can't go on until its process is started again")
         try:
-            if self._turns is None or (isinstance(stimulus, Event) and stimulus.code == EventCode.INIT):
-                self._turns = self._function()
+            if begins:
+                self._raised, self._turns = False, self._function()
                 return next(self._turns)
+            assert self._turns is not None
             return self._turns.send(stimulus)
         except StopIteration:
             return EXIT
+        except Exception:
+            self._raised = True
+            raise
 
 
 class Table:
@@ -86,7 +97,7 @@ class Table:
     """
 
     def __init__(self, rows: Mapping[int | str, Sequence[Call]]) -> None:
-        self.rows = dict(rows)
+        self.rows = {key: _check_row(key, calls) for key, calls in rows.items()}
         self._left: list[Call] = []
 
     def turn(self, stimulus: Stimulus) -> Call:
@@ -99,6 +110,18 @@ class Table:
 
     def __repr__(self) -> str:
         return f"Table({self.rows!r})"
+
+
+def _check_row(key: object, calls: object) -> list[Call]:
+    """A row of a table."""
+    if key != "callback" and (isinstance(key, bool) or not isinstance(key, int) or not 0 <= key <= 255):
+        raise WrongType(f"a table's row is for an event code, 0 to 255, or for 'callback', not for {key!r}")
+    if not isinstance(calls, (list, tuple)):
+        raise WrongType(f"a table's row is a list of calls, not {type(calls).__name__}")
+    wrong = next((call for call in calls if not isinstance(call, Call)), None)
+    if wrong is not None:
+        raise WrongType(f"a table's row has calls, and not {_kind_of(wrong)}")
+    return list(calls)
 
 
 WAIT, EXIT = Wait(), Exit()
@@ -124,7 +147,7 @@ def read_applications(applications: object) -> list[Named]:
     """The applications of a mote, each of a form that is one; why not is told else."""
     if isinstance(applications, (str, bytes)):
         raise WrongType(f"applications is to be a list: [{applications!r}]")
-    if not isinstance(applications, Iterable) or isinstance(applications, Mapping):
+    if not isinstance(applications, Iterable) or isinstance(applications, (Mapping, Set)):
         raise WrongType(f"applications is to be a list, not {type(applications).__name__}")
     made = list(applications)
     if len(made) > MOST_APPLICATIONS:
@@ -150,6 +173,8 @@ def _read(number: int, application: object) -> Named:
         return Named(number, None, functools.partial(_itself, made), type(application).__name__)
     if callable(application):
         return Named(number, None, functools.partial(_make, number, application), _name_of(application))
+    if inspect.isgenerator(application):
+        raise WrongType(f"application {number} is a generator that was made already: a generator function is meant, or lambda: f(..)")
     raise WrongType(f"application {number} is to be a name, a list of calls, a class with turn(stimulus) or a generator function, "
                     f"not {type(application).__name__}")
 
@@ -171,24 +196,32 @@ def _name_of(application: object) -> str:
 
 def _make(number: int, factory: Callable[[], object]) -> Application:
     """What a class or another callable makes."""
-    made: Any = factory()
+    try:
+        made: Any = factory()
+    except Exception as fault:
+        name = _name_of(factory)
+        raise NoApplication(number, name, f"{name}() raised {type(fault).__name__}: {fault}") from fault
     if inspect.isgenerator(made):
-        return GeneratorApplication(_once(made))
+        return GeneratorApplication(_made_once(made, factory))
     if not callable(getattr(made, "turn", None)):
         raise WrongType(f"application {number}: {_name_of(factory)}() made a {type(made).__name__}, which has no turn(stimulus)")
     application: Application = made
     return application
 
 
-def _once(turns: Turns) -> Callable[[], Turns]:
-    """A generator that was made already, for the first start; it is spent at a later one."""
-    return lambda: turns
+def _made_once(turns: Turns, factory: Callable[[], Any]) -> Callable[[], Turns]:
+    """Answers a generator that was made already, and from then on further ones."""
+    return itertools.chain([turns], iter(factory, None)).__next__
 
 
 def _read_line(number: int, line: str) -> Named:
     """A name, or ``calls`` and a list of calls. The library tells whether it is one; where it is carried out in Python, `make` does."""
     if "\n" in line or "\r" in line:
         raise NoApplication(number, line, f"a name has no line end: {line!r}")
+    try:
+        encoded(line, "a name")
+    except BadInput as fault:
+        raise NoApplication(number, line, str(fault)) from None
     if line == "calls" or line.startswith("calls "):
         return Named(number, line, functools.partial(_make_list, number, line), "calls")
     return Named(number, line, functools.partial(_make_named, number, line), line)
@@ -231,7 +264,10 @@ def no_application(named: Named, why: Why) -> NoApplication:
     if why.reason is Reason.MANY_CALLS:
         return NoApplication(number, line, f"an application makes at most {MOST_CALLS} calls", None, why.reason)
     part = line[6:].split(", ")[why.call]
-    return NoApplication(number, line, f"{part!r}: {_NO_CALL[why.reason]}{_taken(part)}", why.call + 1, why.reason)
+    told = _NO_CALL[why.reason] + _taken(part)
+    if why.reason is Reason.NUMBER and part[:1].isdigit() and not is_count(part.partition(" ")[0]):
+        told = f"before a call stands how often it is made, 1 to {MOST_CALLS}"
+    return NoApplication(number, line, f"{part!r}: {told}", why.call + 1, why.reason)
 
 
 def _taken(part: str) -> str:

@@ -233,6 +233,14 @@ def read_calls(text: str) -> list[Call]:
     return made
 
 
+def is_count(word: str) -> bool:
+    """Whether a word says how often a call of a list is made."""
+    try:
+        return bool(read_number(word, MOST_CALLS, least=1))
+    except BadCall:
+        return False
+
+
 def _repeated(part: str) -> Sequence[Call]:
     """A call, or several of it where a number stands before it."""
     first, space, rest = part.partition(" ")

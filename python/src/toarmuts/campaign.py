@@ -20,12 +20,13 @@ import random
 import re
 import sys
 import time
+import traceback
 from collections.abc import Iterable, Iterator
 from dataclasses import dataclass, field
 from typing import Any, Protocol
 
 from .coverage import Cell, Coverage
-from .errors import ApplicationError, BadScenario, ToarmutsError
+from .errors import ApplicationError, BadScenario, ToarmutsError, WrongType
 from .runs import Run
 from .shrinking import Case, make_case, shrink
 
@@ -65,7 +66,7 @@ class Unit:
 
 
 class CampaignError(ToarmutsError):
-    """Words of the command line that name no target."""
+    """Words of the command line that name no target, or a target that fails itself."""
 
 
 def load_target(name: str) -> Target:
@@ -76,9 +77,11 @@ def load_target(name: str) -> Target:
     try:
         module = _load_file(module_name) if module_name.endswith(".py") else _load_module(module_name)
         made = getattr(module, attribute)
+        target: Any = made() if isinstance(made, type) else made
     except (ImportError, FileNotFoundError, AttributeError) as fault:
         raise CampaignError(f"{name} names no target: {fault}") from fault
-    target: Any = made() if isinstance(made, type) else made
+    except Exception:
+        raise CampaignError(f"{name}: the target can't be made\n{traceback.format_exc()}") from None
     if not callable(getattr(target, "draw", None)) or not callable(getattr(target, "check", None)):
         raise CampaignError(f"{name} is no target: it has no draw(chance) and check(run)")
     checked: Target = target
@@ -111,7 +114,18 @@ def fault_of(target: Target, case: Case) -> tuple[str | None, Run | None]:
         run = case.run()
     except ApplicationError as fault:
         return f"process {fault.process} fails: {fault.reason}", None
-    return target.check(run), run
+    told: object = target.check(run)
+    if told is not None and not isinstance(told, str):
+        raise WrongType(f"check(run) answered {told!r}: what is wrong is to be a str, or None")
+    return told, run
+
+
+def _draw_and_check(target: Target, chance: random.Random) -> tuple[Case, str | None, Run | None]:
+    """A case, what is wrong with its run, and the run."""
+    case: object = target.draw(chance)
+    if not isinstance(case, Case):
+        raise WrongType(f"draw(chance) answered a {type(case).__name__}, and no Case: make_case makes one")
+    return case, *fault_of(target, case)
 
 
 def carry_out_seed(name: str, seed: int, count: int, cover: bool) -> Unit:
@@ -120,15 +134,20 @@ def carry_out_seed(name: str, seed: int, count: int, cover: bool) -> Unit:
     unit, coverage = Unit(seed), Coverage()
     began = time.process_time()
     for number in range(count):
-        case = target.draw(random.Random(f"{seed}/{number}"))
-        fault, run = fault_of(target, case)
+        where = f"{name}, seed {seed}, case {number}"
+        try:
+            case, fault, run = _draw_and_check(target, random.Random(f"{seed}/{number}"))
+        except ToarmutsError as reason:
+            raise CampaignError(f"{where}: {reason}") from None
+        except Exception:
+            raise CampaignError(f"{where}: the target fails itself\n{traceback.format_exc()}") from None
         unit.runs += 1
         if run is not None:
             unit.lines += run.transcript.count(b"\n")
             if cover:
                 coverage.add(run.entries)
         if fault is not None and fault not in unit.found:
-            unit.found[fault] = _keep(target, case, fault, f"{name}, seed {seed}, case {number}", seed)
+            unit.found[fault] = _keep(target, case, fault, where, seed)
     unit.processor_seconds, unit.coverage = time.process_time() - began, dict(coverage)
     return unit
 
@@ -291,7 +310,8 @@ def _report(units: list[Unit], asked: argparse.Namespace, seconds: float) -> int
 
 
 def main(words: list[str] | None = None) -> int:
-    """The program ``toarmuts-campaign``; its status is 0 where nothing was found, 1 where something was, 2 for wrong words."""
+    """The program ``toarmuts-campaign``; its status is 0 where nothing was found, 1 where something was, 2 for wrong words or a target
+    that fails itself."""
     asked = _parser().parse_args(words)
     work = _Work(asked.target, asked.count, asked.coverage)
     began = time.monotonic()

@@ -12,6 +12,7 @@ from functools import lru_cache
 from operator import attrgetter
 from typing import Iterable, NamedTuple, Protocol
 
+from .errors import WrongType
 from .numbers import Origin, ReplyKind
 from .rules import RULES
 from .transcript import BAD_LINE, HALT, INPUT, NOTE, TURN, Transcript
@@ -93,7 +94,9 @@ class Coverage(Counter[Cell]):
 
     def add(self, run: "Transcript | HasEntries") -> "Coverage":
         """Counts the entries of a run, or of a transcript. A quiet one counts for nothing, since it doesn't show what was answered."""
-        transcript = run if isinstance(run, Transcript) else run.entries
+        transcript = run if isinstance(run, Transcript) else getattr(run, "entries", None)
+        if not isinstance(transcript, Transcript):
+            raise WrongType(f"a Run, Mote or Transcript is counted, not {type(run).__name__}")
         if not transcript.quiet:
             for numbers, count in Counter(map(_numbers, transcript)).items():
                 for cell in _cells_of(*numbers):
@@ -133,6 +136,8 @@ class HasEntries(Protocol):
 
 def coverage_of(runs: "Iterable[Transcript | HasEntries]") -> Coverage:
     """What runs reached."""
+    if not isinstance(runs, Iterable):
+        raise WrongType(f"runs are to be several, not one {type(runs).__name__}")
     coverage = Coverage()
     for run in runs:
         coverage.add(run)

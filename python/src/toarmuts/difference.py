@@ -4,7 +4,7 @@ from __future__ import annotations
 from dataclasses import dataclass
 from typing import Protocol, Union
 
-from .errors import ToarmutsError
+from .errors import ToarmutsError, WrongType
 from .transcript import Transcript
 
 
@@ -60,7 +60,11 @@ TranscriptLike = Union[str, bytes, Transcript, HasTranscript]
 
 
 def _lines(told: TranscriptLike) -> list[str]:
-    transcript = told if isinstance(told, (str, bytes)) else told.data if isinstance(told, Transcript) else told.transcript
+    transcript: object = told.data if isinstance(told, Transcript) else getattr(told, "transcript", None)
+    if isinstance(told, (str, bytes)):
+        transcript = told
+    if not isinstance(transcript, (str, bytes)):
+        raise WrongType(f"a str, bytes, Transcript or Run is compared, not {type(told).__name__}")
     text = transcript.decode("utf-8", "replace") if isinstance(transcript, bytes) else transcript
     lines = text.split("\n")
     return lines if lines[-1] else lines[:-1]

@@ -40,6 +40,8 @@ class Mote:
     def __init__(self, applications: Iterable[ApplicationLike] = (), *, mmem: int = 4096, heap: int = 4096, header: int = 16,
                  quota: int | None = None, options: Options | None = None) -> None:
         self.options = one_of(Options(mmem=mmem, heap=heap, header=header, quota=quota), options)
+        if self.options.quiet:
+            raise MoteError("a mote in hand tells all its entries: options with quiet are for run(..)")
         self._named = read_applications(applications)
         self._lock = threading.Lock()
         self._stepper = Stepper(self._named, self.options)
@@ -108,7 +110,7 @@ class Mote:
     def _feed_line(self, line: bytes) -> None:
         status = self._stepper.held.feed(line)
         if status == BAD_LINE:
-            raise BadInput(f"{line[:100]!r} is no line of a script")
+            raise BadInput(f"{line[:100].decode('utf-8', 'replace')!r} is no line of a script")
         if status:
             raise refuse(status)
         self._script.append(line)
@@ -163,6 +165,8 @@ class Mote:
 
     def application(self, process: int) -> Application:
         """The application of a process, from 4 on, as it is now."""
+        if isinstance(process, bool) or not isinstance(process, int):
+            raise WrongType(f"process is to be an int, not {type(process).__name__}")
         if not FIRST_PROCESS <= process < FIRST_PROCESS + len(self._named):
             last = FIRST_PROCESS + len(self._named) - 1
             raise WrongType(f"there is no process {process}; there are {FIRST_PROCESS} to {last}" if self._named

@@ -67,8 +67,14 @@ class Run:
     def check(self) -> "Run":
         """Itself, where the script was carried out to its end; else RunEnded."""
         if not self.finished:
-            raise RunEnded(f"the run ended with: {self.ended}", self)
+            raise RunEnded(f"the run ended with: {self.ended}{self._bad_line_words()}", self)
         return self
+
+    def _bad_line_words(self) -> str:
+        """The script's line of no form, where there is one, so that blanks and line ends in it are seen."""
+        if self.line is None:
+            return ""
+        return f", {script_lines(self.script)[self.line - 1][:100].decode('utf-8', 'replace')!r}"
 
     @property
     def text(self) -> str:

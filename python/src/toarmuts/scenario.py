@@ -10,7 +10,7 @@ from .applications import ApplicationLike
 from .call import MOST_CALLS, Call, read_calls
 from .calls import Wait
 from .difference import Difference, first_difference
-from .errors import BadCall, BadScenario, BadSizes, TooManyApplications
+from .errors import BadCall, BadScenario, BadSizes, TooManyApplications, WrongType
 from .options import Options
 from .rules import FIRST_PROCESS, RULES
 from .runs import Run, run
@@ -192,6 +192,8 @@ def read_scenarios(text: str) -> list[Scenario]:
     Traceback (most recent call last):
     toarmuts.errors.BadScenario: line 1: kill lacks a word
     """
+    if not isinstance(text, str):
+        raise WrongType(f"scenarios are read from the text of a file, a str, not {type(text).__name__}")
     made = []
     for name, first_line, lines in _parts(text):
         scenario = Scenario(name, first_line)
@@ -220,6 +222,8 @@ def read_file(path: Union[str, pathlib.Path]) -> list[Scenario]:
 
 def write(told: Run, *, name: str | None = None, comment: str = "", transcript: bool = True) -> str:
     """The text of a file that tells a run."""
+    if name is not None and "\n" in name:
+        raise BadScenario(f"a run's name has no line end: {name!r}")
     lines = [f"# {line}".rstrip() for line in comment.splitlines()]
     lines += [f"== {name}"] if name is not None else []
     lines += _option_lines(told.options)

@@ -41,8 +41,16 @@ def line_bytes(text: object) -> bytes:
     """A line of text as it comes in on the serial line, with its end."""
     if not isinstance(text, (str, bytes)):
         raise WrongType(f"text is to be a str or bytes, not {type(text).__name__}")
-    data = text.encode() if isinstance(text, str) else text
+    data = encoded(text, "a line") if isinstance(text, str) else text
     return check_data("text with its line end", data + b"\n", MOST_SERIAL)
+
+
+def encoded(text: str, what: str) -> bytes:
+    """The bytes of a text; BadInput where it can't be written as UTF-8, as half a surrogate pair can't."""
+    try:
+        return text.encode()
+    except UnicodeEncodeError as fault:
+        raise BadInput(f"{what} is to be text that UTF-8 has, which {text[fault.start:fault.end]!r} is not") from None
 
 
 def ticks_of(line: str) -> int | None:
@@ -61,7 +69,7 @@ def has_form(line: str) -> bool:
     >>> has_form("serial 0a"), has_form("serial 0a ")
     (True, False)
     """
-    if len(line.encode()) > 1024:
+    if len(line.encode("utf-8", "surrogatepass")) > 1024:
         return False
     if not line or line.startswith("#") or ticks_of(line) is not None:
         return True
@@ -163,7 +171,7 @@ def script_bytes(script: object) -> bytes:
     if isinstance(script, bytes):
         return script
     if isinstance(script, (str, Script)):
-        return str(script).encode()
+        return encoded(str(script), "a script")
     if isinstance(script, (bytearray, memoryview)):
         return bytes(script)
     hint = ": Script(lines) makes one of lines" if isinstance(script, (list, tuple)) else ""
