@@ -144,6 +144,12 @@ one_begins_at_0 told = absurd (let none = told.1 in cc)
 not_freed_in_a_table : FreeTold Outcome.NoTable 0 full (zeros 4) → ⊥
 not_freed_in_a_table told = told (omega arith, omega arith, omega arith, omega arith)
 
+freed_as_no_room : FreeTold Outcome.NoRoom 0 full (zeros 4) → ⊥
+freed_as_no_room told = told
+
+freed_as_no_row : FreeTold Outcome.NoRow 0 full (zeros 4) → ⊥
+freed_as_no_row told = told
+
 resized_where_no_block_begins : ReallocTold Outcome.Done 1 4 (row 0 2 1 ∷ []) (zeros 4) → ⊥
 resized_where_no_block_begins told = told.1
 
@@ -171,11 +177,23 @@ one_to_resize_begins_at_0 told = absurd (let none = told.1 in cc)
 not_resized_in_a_table : ReallocTold Outcome.NoTable 0 5 full (zeros 4) → ⊥
 not_resized_in_a_table told = told (omega arith, omega arith, omega arith, omega arith)
 
+resized_as_no_row : ReallocTold Outcome.NoRow 0 5 full (zeros 4) → ⊥
+resized_as_no_row told = told
+
 figures_of_no_table : StatsTold Outcome.Done (row 0 0 0 ∷ []) (zeros 4) → ⊥
 figures_of_no_table told = omega (arith, told.1)
 
 no_figures_of_a_table : StatsTold Outcome.NoTable full (zeros 4) → ⊥
 no_figures_of_a_table told = told (omega arith, omega arith, omega arith, omega arith)
+
+figures_as_no_block : StatsTold Outcome.NoBlock full (zeros 4) → ⊥
+figures_as_no_block told = told
+
+figures_as_no_room : StatsTold Outcome.NoRoom full (zeros 4) → ⊥
+figures_as_no_room told = told
+
+figures_as_no_row : StatsTold Outcome.NoRow full (zeros 4) → ⊥
+figures_as_no_row told = told
 
 -- rows with blocks from 0 to 2 and from 4 to 7
 abbrev two_rows : List Row
@@ -229,6 +247,15 @@ these_are_a_table none = none is_table
 
 there_is_room : HasNoPlace Outcome.NoRoom 4 [] 16 → ⊥
 there_is_room none = absurd (let nowhere : None ≡ place 4 (heap_of [] (zeros 16)) = none.1 (zeros 16) refl in cc)
+
+no_place_and_done : HasNoPlace Outcome.Done 5 full 4 → ⊥
+no_place_and_done none = none
+
+no_place_for_no_block : HasNoPlace Outcome.NoBlock 5 full 4 → ⊥
+no_place_for_no_block none = none
+
+no_place_without_a_row : HasNoPlace Outcome.NoRow 5 full 4 → ⊥
+no_place_without_a_row none = none
 
 no_room_of_no_table : HasNoPlace Outcome.NoRoom 4 spoilt 0 → ⊥
 no_room_of_no_table none = omega (arith, none.0.1)
