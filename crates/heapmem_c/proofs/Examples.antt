@@ -1,6 +1,6 @@
 -- Rows and what they stand for, rows that are no table, places, and outcomes.
 use Rattle.std.proofs.Common.{◌≡◌, ℕ, inl, inr, List, [], ◌∷◌, refl, arith}
-use Rattle.std.specs.Prelude.{Some, None}
+use Rattle.std.specs.Prelude.{Some, None, map}
 use Rattle.mote_types.specs.Bytes.{zeros}
 use Rattle.heap_core.specs.HeapStore.{HeapStore, place, new_place}
 use Rattle.heapmem_c.specs.declared.row.Row.{Row}
@@ -83,30 +83,117 @@ resized_block : with_resized (record { at = 4; room = 4 }) 3 (record { name = 0;
     ≡ heap_of (row 4 4 3 ∷ []) (7 ∷ 8 ∷ 9 ∷ 9 ∷ 7 ∷ 0 ∷ 0 ∷ 9 ∷ [])
 resized_block = refl
 
-numbers : outcome_numbered 3 ≡ Some Outcome.NoRoom
+numbers : map outcome_numbered (0 ∷ 1 ∷ 2 ∷ 3 ∷ 4 ∷ [])
+    ≡ Some Outcome.Done ∷ Some Outcome.NoTable ∷ Some Outcome.NoBlock ∷ Some Outcome.NoRoom ∷ Some Outcome.NoRow ∷ []
 numbers = refl
 
 no_such_number : outcome_numbered 5 ≡ None
 no_such_number = refl
 
+-- A row that is none, and the same behind a sound one; a heap of 4 bytes whose block has all of them
+abbrev spoilt : List Row
+spoilt = row 0 0 0 ∷ []
+
+abbrev full : List Row
+full = row 0 4 1 ∷ []
+
 -- of several reasons one alone is told
 no_row_is_told_first : AllocTold Outcome.NoTable 1 [] (zeros 4) → ⊥
 no_row_is_told_first told = omega (arith, told.0)
 
+a_row_is_there : AllocTold Outcome.NoRow 1 spoilt (zeros 4) → ⊥
+a_row_is_there told = omega (arith, told)
+
+-- the spare row need not be one
+no_rows_but_the_spare_one : AllocTold Outcome.NoTable 1 spoilt (zeros 4) → ⊥
+no_rows_but_the_spare_one told = told.1 (omega arith)
+
 refused_where_there_is_room : AllocTold Outcome.NoRoom 4 (row 0 0 0 ∷ []) (zeros 16) → ⊥
 refused_where_there_is_room told = absurd (let none = told.2 in cc)
+
+no_room_without_a_row : AllocTold Outcome.NoRoom 4 [] [] → ⊥
+no_room_without_a_row told = omega (arith, told.0)
+
+no_room_in_no_table : AllocTold Outcome.NoRoom 4 (row 0 0 0 ∷ spoilt) [] → ⊥
+no_room_in_no_table told = omega (arith, told.1.1)
+
+given_without_a_row : AllocTold Outcome.Done 4 [] (zeros 16) → ⊥
+given_without_a_row told = omega (arith, told.0)
+
+given_in_no_table : AllocTold Outcome.Done 4 (row 0 0 0 ∷ spoilt) (zeros 16) → ⊥
+given_in_no_table told = omega (arith, told.1.1)
+
+given_where_there_is_no_room : AllocTold Outcome.Done 9 spoilt (zeros 8) → ⊥
+given_where_there_is_no_room told = absurd (let some = told.2 in cc)
+
+given_as_no_block : AllocTold Outcome.NoBlock 4 spoilt (zeros 16) → ⊥
+given_as_no_block told = told
 
 freed_where_no_block_begins : FreeTold Outcome.Done 1 (row 0 2 1 ∷ []) (zeros 4) → ⊥
 freed_where_no_block_begins told = absurd (let some = told.1 in cc)
 
+freed_in_no_table : FreeTold Outcome.Done 0 spoilt (zeros 4) → ⊥
+freed_in_no_table told = omega (arith, told.0.1)
+
+no_block_in_no_table : FreeTold Outcome.NoBlock 1 spoilt (zeros 4) → ⊥
+no_block_in_no_table told = omega (arith, told.0.1)
+
+one_begins_at_0 : FreeTold Outcome.NoBlock 0 full (zeros 4) → ⊥
+one_begins_at_0 told = absurd (let none = told.1 in cc)
+
+not_freed_in_a_table : FreeTold Outcome.NoTable 0 full (zeros 4) → ⊥
+not_freed_in_a_table told = told (omega arith, omega arith, omega arith, omega arith)
+
+freed_as_no_room : FreeTold Outcome.NoRoom 0 full (zeros 4) → ⊥
+freed_as_no_room told = told
+
+freed_as_no_row : FreeTold Outcome.NoRow 0 full (zeros 4) → ⊥
+freed_as_no_row told = told
+
 resized_where_no_block_begins : ReallocTold Outcome.Done 1 4 (row 0 2 1 ∷ []) (zeros 4) → ⊥
 resized_where_no_block_begins told = told.1
+
+resized_in_no_table : ReallocTold Outcome.Done 0 0 spoilt (zeros 4) → ⊥
+resized_in_no_table told = omega (arith, told.0.1)
+
+resized_where_there_is_no_room : ReallocTold Outcome.Done 0 5 full (zeros 4) → ⊥
+resized_where_there_is_no_room told = absurd (let some = told.1 in cc)
 
 not_resized_where_there_is_room : ReallocTold Outcome.NoRoom 0 4 (row 0 8 1 ∷ []) (zeros 16) → ⊥
 not_resized_where_there_is_room told = absurd (let none = told.1 in cc)
 
+not_resized_in_no_table : ReallocTold Outcome.NoRoom 0 5 spoilt (zeros 4) → ⊥
+not_resized_in_no_table told = omega (arith, told.0.1)
+
+no_room_for_no_block : ReallocTold Outcome.NoRoom 1 5 full (zeros 4) → ⊥
+no_room_for_no_block told = told.1
+
+no_block_to_resize_in_no_table : ReallocTold Outcome.NoBlock 1 5 spoilt (zeros 4) → ⊥
+no_block_to_resize_in_no_table told = omega (arith, told.0.1)
+
+one_to_resize_begins_at_0 : ReallocTold Outcome.NoBlock 0 5 full (zeros 4) → ⊥
+one_to_resize_begins_at_0 told = absurd (let none = told.1 in cc)
+
+not_resized_in_a_table : ReallocTold Outcome.NoTable 0 5 full (zeros 4) → ⊥
+not_resized_in_a_table told = told (omega arith, omega arith, omega arith, omega arith)
+
+resized_as_no_row : ReallocTold Outcome.NoRow 0 5 full (zeros 4) → ⊥
+resized_as_no_row told = told
+
 figures_of_no_table : StatsTold Outcome.Done (row 0 0 0 ∷ []) (zeros 4) → ⊥
 figures_of_no_table told = omega (arith, told.1)
+
+no_figures_of_a_table : StatsTold Outcome.NoTable full (zeros 4) → ⊥
+no_figures_of_a_table told = told (omega arith, omega arith, omega arith, omega arith)
+
+figures_as_no_block : StatsTold Outcome.NoBlock full (zeros 4) → ⊥
+figures_as_no_block told = told
+
+figures_as_no_room : StatsTold Outcome.NoRoom full (zeros 4) → ⊥
+figures_as_no_room told = told
+
+figures_as_no_row : StatsTold Outcome.NoRow full (zeros 4) → ⊥
+figures_as_no_row told = told
 
 -- rows with blocks from 0 to 2 and from 4 to 7
 abbrev two_rows : List Row
@@ -122,6 +209,11 @@ one_byte_too_many : IsFree 0 two_rows 10 2 3 → ⊥
 one_byte_too_many (inl first) = omega (arith, first.1)
 one_byte_too_many (inr (inl second)) = omega (arith, second.1)
 one_byte_too_many (inr (inr last)) = omega (arith, last.0)
+
+reaches_into_the_first : IsFree 0 two_rows 10 1 2 → ⊥
+reaches_into_the_first (inl first) = omega (arith, first.1)
+reaches_into_the_first (inr (inl second)) = omega (arith, second.0)
+reaches_into_the_first (inr (inr last)) = omega (arith, last.0)
 
 put_between : with_row (row 2 1 1) two_rows ≡ row 0 2 1 ∷ row 2 1 1 ∷ row 4 3 3 ∷ []
 put_between = refl
@@ -144,6 +236,9 @@ one_begins_there none = none 1 (omega arith) refl
 the_other_one : BeginsAt two_rows 4 2 (Some 0) → ⊥
 the_other_one begins = omega (arith, begins.1)
 
+no_such_row : BeginsAt two_rows 0 2 (Some 2) → ⊥
+no_such_row begins = omega (arith, begins.0)
+
 second_is_not_below_three : BeginBelow two_rows 3 2 → ⊥
 second_is_not_below_three below = omega (arith, below 1 (omega arith))
 
@@ -152,3 +247,15 @@ these_are_a_table none = none is_table
 
 there_is_room : HasNoPlace Outcome.NoRoom 4 [] 16 → ⊥
 there_is_room none = absurd (let nowhere : None ≡ place 4 (heap_of [] (zeros 16)) = none.1 (zeros 16) refl in cc)
+
+no_place_and_done : HasNoPlace Outcome.Done 5 full 4 → ⊥
+no_place_and_done none = none
+
+no_place_for_no_block : HasNoPlace Outcome.NoBlock 5 full 4 → ⊥
+no_place_for_no_block none = none
+
+no_place_without_a_row : HasNoPlace Outcome.NoRow 5 full 4 → ⊥
+no_place_without_a_row none = none
+
+no_room_of_no_table : HasNoPlace Outcome.NoRoom 4 spoilt 0 → ⊥
+no_room_of_no_table none = omega (arith, none.0.1)

@@ -1,6 +1,6 @@
 -- Tables and what they stand for, tables that are none, and answers.
 use Rattle.std.proofs.Common.{◌≡◌, ℕ, zero, suc, inl, inr, List, [], ◌∷◌, true, false, refl, ap, arith}
-use Rattle.std.specs.Prelude.{Some, None}
+use Rattle.std.specs.Prelude.{Some, None, map}
 use Rattle.mmem_core.specs.ManagedStore.{ManagedStore}
 use Rattle.mmem_core.specs.Code.Laid.{at_of}
 use Rattle.mmem_c.specs.declared.block.Block.{Block}
@@ -83,9 +83,21 @@ not_clear clear = reaches_into (clear 1 (omega arith) (λ e. absurd (omega (arit
 not_sound : AreSound (row 0 3 ∷ row 2 1 ∷ []) 8 2 → ⊥
 not_sound sound = not_clear (sound 0 (omega arith)).1
 
+outside_is_not_sound : AreSound (row 4 5 ∷ []) 8 1 → ⊥
+outside_is_not_sound sound = omega (arith, (sound 0 (omega arith)).0 (omega arith))
+
 -- of the blocks at 4 and 0 that at 0 is the next one from 0 on, and none comes from 5 on
 the_higher_one_is_not_next : IsNext table 0 3 (Some 0) → ⊥
 the_higher_one_is_not_next next = omega (arith, next.3 2 (omega arith) (omega arith) (omega arith))
+
+an_unused_row_is_not_next : IsNext table 0 3 (Some 1) → ⊥
+an_unused_row_is_not_next next = omega (arith, next.1)
+
+one_that_begins_below_is_not_next : IsNext table 5 3 (Some 0) → ⊥
+one_that_begins_below_is_not_next next = omega (arith, next.2)
+
+one_of_the_others_is_not_next : IsNext table 0 2 (Some 2) → ⊥
+one_of_the_others_is_not_next next = omega (arith, next.0)
 
 none_is_left : IsNext table 0 3 None → ⊥
 none_is_left next = omega (arith, next 2 (omega arith) (omega arith))
@@ -130,5 +142,6 @@ no_such_handle = refl
 some_room : answer_to 1 4 (stored table (1 ∷ 2 ∷ 3 ∷ 4 ∷ 5 ∷ 6 ∷ 7 ∷ 8 ∷ 9 ∷ 10 ∷ 11 ∷ 12 ∷ [])) ≡ Answer.Allocated
 some_room = refl
 
-numbers : number_of_answer Answer.NoRoom ≡ 5
+numbers : map number_of_answer (Answer.Allocated ∷ Answer.NoTable ∷ Answer.NoHandle ∷ Answer.InUse ∷ Answer.NoBytes ∷ Answer.NoRoom ∷ [])
+    ≡ 0 ∷ 1 ∷ 2 ∷ 3 ∷ 4 ∷ 5 ∷ []
 numbers = refl

@@ -114,6 +114,14 @@ table_from table capacity sound = table_of table capacity (record {
 pub row_inside : (table : List Block) (capacity i : ℕ) → IsTable table capacity → 0 < (row_of table i).size → (row_of table i).place + up4 (row_of table i).size ≤ capacity
 row_inside table capacity i sound some = omega (arith, at_is table i some, room_is table i, (table_lies table capacity sound).inside i)
 
+-- a block whose row tells of a place outside ends behind so many bytes
+pub row_outside : (table : List Block) (capacity i : ℕ) (place : Place) → ¬ (0 < (row_of table i).size → (row_of table i).place + up4 (row_of table i).size ≤ capacity)
+    → place_in (places_told table) i ≡ Some place → capacity < place.at + up4 place.len
+row_outside table capacity i place outside told = elim (cases_lt capacity (place.at + up4 place.len)) [
+  | inl behind ↦ behind
+  | inr within ↦ absurd (outside (λ some. omega (arith, at_is table i some, room_is table i, ap at_of told, ap room_of told)))
+]
+
 pub row_clear : (table : List Block) (capacity i j : ℕ) → IsTable table capacity → j ≢ i → EndsBefore (row_of table i) (row_of table j)
 row_clear table capacity i j sound ne one other le =
     let a = at_is table i one in let b = at_is table j other in

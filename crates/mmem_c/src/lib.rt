@@ -14,6 +14,7 @@ mod table;
 ghost use Rattle.std.specs.Prelude.{◌≡◌, ◌≢◌, ℕ, List, ◌+◌, ◌≤◌, ◌<◌, length, slice_set, IsSomeAnd, true, false, Some, None};
 ghost use Rattle.mote_types.specs.Bytes.{range_of};
 ghost use Rattle.mote_types.specs.Rounding.{up4};
+ghost use Rattle.mmem_core.specs.declared.place.Place.{Place};
 ghost use Rattle.mmem_core.specs.ManagedStore.{unused, block_of, allocated, freed};
 ghost use Rattle.mmem_core.specs.Conditions.{length_of};
 ghost use Rattle.mmem_core.specs.Places.{place_in, last_end};
@@ -107,6 +108,7 @@ pub extern "C" fn toarmuts_mmem_place(blocks: &[Block], capacity: usize, handle:
         (result + len ≤ capacity) × (block_of (process_of handle) (handle_of handle) (stored blocks.now buffer) ≡ Some (range_of result len buffer))) }
     ensures none { result ≡ capacity → IsTable blocks.now capacity → (buffer : List ℕ) →
         block_of (process_of handle) (handle_of handle) (stored blocks.now buffer) ≡ None }
+    ensures outside { result ≡ capacity → (place : Place) → place_in (places_told blocks.now) handle ≡ Some place → capacity < place.at + up4 place.len }
 {
     if !has_block(blocks, handle) || !lies_inside(blocks[handle], capacity) {
         return capacity;

@@ -25,7 +25,7 @@ typedef struct heapmem_stats {
   size_t chunks;        /* the number of blocks */
 } heapmem_stats_t;
 
-/* A zone is a share of the heap: its blocks take no more than its size together. */
+/* A zone is a share of the heap: the sizes of its blocks, rounded up to multiples of 16, come to no more than its size. */
 typedef uint8_t heapmem_zone_t;
 
 #define HEAPMEM_ZONE_GENERAL 0

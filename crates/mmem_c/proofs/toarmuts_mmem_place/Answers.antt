@@ -1,6 +1,6 @@
 use Rattle.std.proofs.Common.{sym, ◌∙◌}
 use Rattle.std.proofs.lemmas.Bool.{false≢true}
-use Rattle.mmem_c.proofs.Rows.{row_inside}
+use Rattle.mmem_c.proofs.Rows.{row_inside, row_outside, unused_is}
 use Rattle.mmem_c.proofs.Stores.{none_told, no_block, block_read}
 use Rattle.mmem_c.proofs.toarmuts_mmem_place.Goals as goal
 use Rattle.mmem_c.proofs.toarmuts_mmem_place.Goals.{then-not-has_block-via-then-not-has_block, then-not-has_block-via-else-not-has_block+then-not-lies_inside}
@@ -11,6 +11,15 @@ returns-then-not-has_block-clause-none c same sound buffer =
     elim c.then-not-has_block.branch [
       | then-not-has_block-via-then-not-has_block w ↦ no_block table buffer i (none_told table i c.has_block.result w.if-not-has_block.true c.has_block.ensures)
       | then-not-has_block-via-else-not-has_block+then-not-lies_inside w ↦ absurd (false≢true (sym w.if-not-lies_inside.true ∙ w.lies_inside.ensures.1 (row_inside table c.args.capacity i sound)))
+    ]
+
+pub returns-then-not-has_block-clause-outside : goal.returns-then-not-has_block-clause-outside
+returns-then-not-has_block-clause-outside c same place told =
+    let table = c.args.blocks.now in let i = c.args.handle in
+    elim c.then-not-has_block.branch [
+      | then-not-has_block-via-then-not-has_block w ↦ absurd (let none = unused_is table i (none_told table i c.has_block.result w.if-not-has_block.true c.has_block.ensures) in cc)
+      | then-not-has_block-via-else-not-has_block+then-not-lies_inside w ↦
+          row_outside table c.args.capacity i place (λ inside. false≢true (sym w.if-not-lies_inside.true ∙ w.lies_inside.ensures.1 inside)) told
     ]
 
 pub returns-clause-block : goal.returns-clause-block
