@@ -16,7 +16,7 @@ use denote.Ref.{Bor}
 use Rattle.call_lists.specs.Applications.{IsNamed}
 use Rattle.call_lists.specs.Calls.{AreMade, AreOfParts, AreWaits, IsCall, IsListOf, hex_lowered}
 use Rattle.call_lists.specs.Faults.{IsNoCall, IsNoList, IsNoName, IsNoNumber, LiesOutside}
-use Rattle.call_lists.specs.Ranges.{ArePossible, IsChunk, IsPayload, IsPossible}
+use Rattle.call_lists.specs.Ranges.{ArePossible, IsByte, IsChunk, IsPayload, IsPossible, IsWide}
 use Rattle.call_lists.specs.declared.applications.Application.{Application}
 use Rattle.call_lists.specs.declared.fault.CallFault.{CallFault}
 use Rattle.call_lists.proofs.Only.{call_letter}
@@ -41,9 +41,9 @@ another_call : IsCall (codes "poll 4") (Call.Kill 4) → ⊥
 unfolding digits
 another_call is = let letters_differ : ◌≡◌ {A = ℕ} 112 107 = ap (λ text. get_or text 0 0) is.1 in absurd (omega arith)
 
--- a name has no letter in upper case
-upper_case : IsCall (codes "KILL 4") (Call.Kill 4) → ⊥
-upper_case is = let letters_differ : ◌≡◌ {A = ℕ} 75 107 = ap (λ text. get_or text 0 0) is.1 in absurd (omega arith)
+-- a name has no letter in upper case, though E is a hex digit
+upper_case : IsCall (codes "Exit") Call.Exit → ⊥
+upper_case is = let letters_differ : ◌≡◌ {A = ℕ} 69 101 = ap (λ text. get_or text 0 0) is.1 in absurd (omega arith)
 
 -- and the x in front of a line's digits is none either
 upper_x : IsCall (codes "broadcast 140 X41") (Call.Broadcast 140 (Payload.Line (record { items = 65 ∷ [] }))) → ⊥
@@ -141,8 +141,63 @@ another_fault word is = is
 
 -- ---- the calls that there are, and what is refused
 
-largest : IsPossible (Call.TimerSet 255 4294967295)
-largest = (omega arith, omega arith)
+-- each call at its largest numbers and its most bytes is one that there is
+
+byte : IsByte 255
+byte = omega arith
+
+wide : IsWide 4294967295
+wide = omega arith
+
+bytes_of_255 : (n i : ℕ) → get_or (replicate n 255) i 0 < 256
+bytes_of_255 zero i = omega arith
+bytes_of_255 (suc n) zero = omega arith
+bytes_of_255 (suc n) (suc i) = bytes_of_255 n i
+
+longest : IsChunk (record { items = replicate 64 255 })
+longest = (omega arith, bytes_of_255 64)
+
+longest_line : IsPayload (Payload.Line (record { items = replicate 127 255 }))
+longest_line = (omega arith, bytes_of_255 127)
+
+events : ArePossible (
+    Call.Post 255 255 (Payload.Num 4294967295) ∷ Call.Broadcast 255 Payload.Empty
+    ∷ Call.PostSynch 255 255 (Payload.Line (record { items = replicate 127 255 })) ∷ Call.AllocEvent ∷ [])
+events = ((byte, byte, wide), ((byte, tt), ((byte, byte, longest_line), (tt, tt))))
+
+processes : ArePossible (Call.Poll 255 ∷ Call.Start 255 ∷ Call.Kill 255 ∷ Call.IsRunning 255 ∷ Call.Wait ∷ Call.Exit ∷ [])
+processes = (byte, (byte, (byte, (byte, (tt, (tt, tt))))))
+
+prints : ArePossible (Call.Print (record { items = replicate 64 255 }) ∷ [])
+prints = (longest, tt)
+
+timers : ArePossible (
+    Call.TimerSet 255 4294967295 ∷ Call.TimerStop 255 ∷ Call.TimerReset 255 ∷ Call.TimerRestart 255 ∷ Call.TimerExpired 255
+    ∷ Call.CallbackSet 255 4294967295 ∷ Call.CallbackStop 255 ∷ Call.Clock ∷ [])
+timers = ((byte, wide), (byte, (byte, (byte, (byte, ((byte, wide), (byte, (tt, tt))))))))
+
+managed_memory : ArePossible (
+    Call.MmemAlloc 255 4294967295 ∷ Call.MmemFree 255 ∷ Call.MmemWrite 255 4294967295 (record { items = replicate 64 255 })
+    ∷ Call.MmemRead 255 4294967295 255 ∷ Call.MmemCopy 255 255 ∷ Call.MmemAvail ∷ [])
+managed_memory = ((byte, wide), (byte, ((byte, wide, longest), ((byte, wide, byte), ((byte, byte), (tt, tt))))))
+
+heap_memory : ArePossible (
+    Call.HeapAlloc 255 4294967295 ∷ Call.HeapRealloc 255 4294967295 ∷ Call.HeapFree 255
+    ∷ Call.HeapWrite 255 4294967295 (record { items = replicate 64 255 }) ∷ Call.HeapRead 255 4294967295 255 ∷ Call.HeapStats ∷ [])
+heap_memory = ((byte, wide), ((byte, wide), (byte, ((byte, wide, longest), ((byte, wide, byte), (tt, tt))))))
+
+pools : ArePossible (
+    Call.MembAlloc 255 ∷ Call.MembFree 255 255 ∷ Call.MembWrite 255 255 4294967295 (record { items = replicate 64 255 })
+    ∷ Call.MembRead 255 255 4294967295 255 ∷ Call.MembNumFree 255 ∷ [])
+pools = (byte, ((byte, byte), ((byte, byte, wide, longest), ((byte, byte, wide, byte), (byte, tt)))))
+
+lists : ArePossible (
+    Call.ListAdd 255 255 ∷ Call.ListPush 255 255 ∷ Call.ListInsert 255 255 255 ∷ Call.ListPop 255 ∷ Call.ListChop 255
+    ∷ Call.ListRemove 255 255 ∷ Call.ListHead 255 ∷ Call.ListNext 255 255 ∷ Call.ListLength 255 ∷ [])
+lists = ((byte, byte), ((byte, byte), ((byte, byte, byte), (byte, (byte, ((byte, byte), (byte, ((byte, byte), (byte, tt)))))))))
+
+packets : ArePossible (Call.PacketOpen ∷ Call.PacketRead 4294967295 255 ∷ Call.PacketDone ∷ Call.PacketCount ∷ Call.PacketSend 255 ∷ [])
+packets = (tt, ((wide, byte), (tt, (tt, (byte, tt)))))
 
 no_byte : IsPossible (Call.Kill 256) → ⊥
 no_byte is = let over : 256 < 256 = is in absurd (omega arith)
@@ -152,14 +207,6 @@ no_place is = let over : 4294967296 < 4294967296 = is.0 in absurd (omega arith)
 
 no_length : IsPossible (Call.PacketRead 0 256) → ⊥
 no_length is = let over : 256 < 256 = is.1 in absurd (omega arith)
-
-bytes_of_255 : (n i : ℕ) → get_or (replicate n 255) i 0 < 256
-bytes_of_255 zero i = omega arith
-bytes_of_255 (suc n) zero = omega arith
-bytes_of_255 (suc n) (suc i) = bytes_of_255 n i
-
-longest : IsChunk (record { items = replicate 64 255 })
-longest = (omega arith, bytes_of_255 64)
 
 too_long : IsChunk (record { items = replicate 65 0 }) → ⊥
 too_long is = let over : 65 ≤ 64 = is.0 in absurd (omega arith)
