@@ -1,5 +1,5 @@
 -- The walk along the links to the gaps beside a place.
-use Rattle.heap_core.proofs.Words.{◌≡◌, ℕ, ◌+◌, ◌≤◌, ◌<◌, List, [], ◌∷◌, length, true, leb, refl, sym, ap, ◌∙◌, subst, arith, Option, Some, None, IfSome, fold, option_map, lt-ltb, le-ltb, le-leb, lt-leb, Chunk, Region, least_len, chunk_at, Tell, chunks_of, HasChunks, gaps_among, LinkedTo, Follow, lower, higher, gap_below, gap_from, gaps_from_place, inl, inr, false, ltb, ◌-◌, ◌^◌, ◌%◌, ◌⊎◌, eqb, ne_eqb, cases_eq, number_in, option_map_or, cases_Bool, ltb-false, Gap, shorter, best_gap, gaps, store_of}
+use Rattle.heap_core.proofs.Words.{word_at, slice_range, from_le_bytes, w32, range-range, ◌≡◌, ℕ, ◌+◌, ◌≤◌, ◌<◌, List, [], ◌∷◌, length, true, leb, refl, sym, ap, ◌∙◌, subst, arith, Option, Some, None, IfSome, fold, option_map, lt-ltb, le-ltb, le-leb, lt-leb, Chunk, Region, least_len, chunk_at, Tell, chunks_of, HasChunks, gaps_among, LinkedTo, Follow, lower, higher, gap_below, gap_from, gaps_from_place, inl, inr, false, ltb, ◌-◌, ◌^◌, ◌%◌, ◌⊎◌, eqb, ne_eqb, cases_eq, number_in, option_map_or, cases_Bool, ltb-false, Gap, shorter, best_gap, gaps, store_of}
 use Rattle.heap_core.proofs.Lists.{kept_higher, gap_first, live_first, walk_begins, next_gap, no_gap, followed, NextGap}
 use Rattle.heap_core.proofs.ChunkHeaders.{place_told, owner_cases}
 use Rattle.heap_core.proofs.Gaps.{better_chunk, better_same, gaps_are}
@@ -72,17 +72,17 @@ module _ (heap : Region) (B : List ℕ) (p : ℕ) where
     ended_next = is ∙ sym (ap (fold (higher p) None) none_left) ∙ w.highered
 
 -- The words that the walk keeps: less 1 each is the place that it tells.
-told_place : (word : ℕ) → 1 ≤ word → number_in word ≡ Some (word - 1)
-told_place word some = let far : eqb word 0 ≡ false = ne_eqb word 0 (λ none. absurd (omega (arith, none, some))) in rw far refl
+pub word_told : (word : ℕ) → 1 ≤ word → number_in word ≡ Some (word - 1)
+word_told word some = let far : eqb word 0 ≡ false = ne_eqb word 0 (λ none. absurd (omega (arith, none, some))) in rw far refl
 
 -- a word less 1 is lower than a place, and none is not
-pub word_below : (word at : ℕ) → at < 2 ^ 32 → (word + (2 ^ 32 - 1)) % 2 ^ 32 < at → (number_in word ≡ Some (word - 1)) × (1 ≤ word)
-word_below word at small less = let some : 1 ≤ word = omega (arith, small, less) in (told_place word some, some)
+pub word_below : (word at : ℕ) → at < 2 ^ 64 → (word + (2 ^ 64 - 1)) % 2 ^ 64 < at → (number_in word ≡ Some (word - 1)) × (1 ≤ word)
+word_below word at small less = let some : 1 ≤ word = omega (arith, small, less) in (word_told word some, some)
 
 pub word_above : (word : ℕ) → (number_in word ≡ None) ⊎ ((number_in word ≡ Some (word - 1)) × (1 ≤ word))
 word_above word = elim (cases_eq word 0) [
   | inl none ↦ inl (ap number_in none)
-  | inr more ↦ let some : 1 ≤ word = omega (arith, more) in inr (told_place word some, some)
+  | inr more ↦ let some : 1 ≤ word = omega (arith, more) in inr (word_told word some, some)
 ]
 
 -- the gap found has its header where it says
@@ -99,6 +99,12 @@ below_told heap B p has linked = grind (arith, lower_told, followed)
 -- the gap that begins at the place kept
 pub gap_kept : (B : List ℕ) (b end place : ℕ) (found : Option Chunk) → Some place ≡ option_map (λ (gap : Chunk). gap.at) found → IfSome found (HasHeader B b end) → (found ≡ Some (chunk_at B b place)) × (place + 12 ≤ end)
 gap_kept B b end place found is h = grind arith
+
+-- a word of the span is that word of all bytes
+pub word_inside : (B : List ℕ) (b len at place : ℕ) → at + 4 ≤ len → b + at ≡ place → word_at (slice_range B b (b + len)) at ≡ word_at B place
+word_inside B b len at place fits is =
+    let four : b + (at + 4) ≡ b + at + 4 = omega arith in
+    ap (from_le_bytes w32) (range-range B b len at (at + 4) (omega arith) fits ∙ ap (slice_range B (b + at)) four) ∙ ap (word_at B) is
 
 -- The search along the links for the shortest gap that is long enough.
 

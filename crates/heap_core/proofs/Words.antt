@@ -9,7 +9,7 @@ pub use Rattle.std.specs.Int.{from_le_bytes, to_le_bytes}
 pub use Rattle.std.specs.Option.{option_map, option_map_or, option_or}
 pub use Rattle.std.specs.Prelude.{All, IfSome, IsSome, IsSomeAnd, None, Option, Some, filter, find, fold, if◌then◌else◌, is_none, map}
 pub use mir.Syntax.{w32}
-pub use Rattle.arena_core.proofs.Ranges.{changes_only, length-range, range-written, range-written_apart, take_past, written-range}
+pub use Rattle.arena_core.proofs.Ranges.{changes_only, length-range, range-range, range-written, range-written_apart, take_past, written-range}
 pub use Rattle.arena_core.proofs.Rows.{written_is}
 pub use Rattle.arena_core.specs.Contents.{Contents, contents}
 pub use Rattle.arena_core.specs.Extents.{AreApart, Extent, LiesIn}

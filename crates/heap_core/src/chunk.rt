@@ -132,6 +132,16 @@ pub(crate) fn word_of(number: Option<u32>) -> u32
     }
 }
 
+/// The word for a link, as wide as an index.
+pub(crate) fn index_word(number: Option<u32>) -> usize
+    ensures { number_in result ≡ number }
+{
+    match number {
+        Some(n) => n as usize + 1,
+        None => 0,
+    }
+}
+
 /// The owner or the link that a word tells.
 pub(crate) fn number_in(word: u32) -> Option<u32>
     ensures { result ≡ number_in word }

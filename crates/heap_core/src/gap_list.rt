@@ -64,13 +64,19 @@ impl Region {
         ensures below { result.0 ≡ option_map (λ gap. gap.at) (gap_below at (gaps_among (chunks_of self.now arena.now.bytes))) }
         ensures next { result.1 ≡ gap_from at (gaps_among (chunks_of self.now arena.now.bytes)) }
     {
+        let bytes = self.bytes(arena);
+        let end = at as usize;
         let mut below = 0;
-        let mut next = word_of(self.lowest);
-        // Less 1 a word is the place that it tells. That of none is no lower than any place.
-        while next.wrapping_sub(1) < at {
-            below = next;
-            next = self.link_word(arena, next - 1);
+        let mut next = word_of(self.lowest) as usize;
+        // Less 1 a word is the place that it tells. That of none is no lower than any place. Two gaps a turn, so that the last
+        // two words change places without a move.
+        while next.wrapping_sub(1) < end {
+            below = self.next_word(arena, bytes, next);
+            if below.wrapping_sub(1) >= end {
+                return (number_in(next as u32), number_in(below as u32));
+            }
+            next = self.next_word(arena, bytes, below);
         }
-        (number_in(below), number_in(next))
+        (number_in(below as u32), number_in(next as u32))
     }
 }

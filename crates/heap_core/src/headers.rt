@@ -1,14 +1,32 @@
 //! Headers read and written, and the bytes behind them.
 
-ghost use Rattle.std.specs.Prelude.{◌≡◌, ◌+◌, ◌≤◌, ◌<◌, ◌⊎◌, true, None, IfSome, false, slice_range};
+ghost use Rattle.std.specs.Prelude.{◌≡◌, ◌+◌, ◌-◌, ◌≤◌, ◌<◌, ◌⊎◌, true, None, IfSome, false, length, slice_range};
+ghost use Rattle.std.specs.Int.{from_le_bytes};
+ghost use mir.Syntax.{w32};
 ghost use Rattle.arena_core.specs.Outside.{ChangesOnly};
 ghost use Rattle.mote_types.specs.Bytes.{resized};
-ghost use Rattle.heap_core.specs.Chunks.{chunk_at, is_a_name, number_in};
+ghost use Rattle.heap_core.specs.Chunks.{chunk_at, is_a_name, number_in, word_at};
 ghost use Rattle.heap_core.specs.Code.PlacedBlocks.{bytes_in_chunk, bytes_given};
 
 use crate::chunk::{Chunk, is_a_name, number_in, owned_word, owner_in, size_in, word_of};
 use crate::region::Region;
 use arena_core::{Arena, Span};
+
+/// The number in 4 bytes, the low byte first.
+fn number_of_bytes(run: &[u8]) -> u32
+    requires { length run.now ≡ 4 }
+    ensures { result ≡ from_le_bytes w32 run.now }
+{
+    u32::from_le_bytes([run[0], run[1], run[2], run[3]])
+}
+
+/// The word from a place of these bytes on.
+fn word_in(bytes: &[u8], at: usize) -> u32
+    requires { at + 4 ≤ length bytes.now }
+    ensures { result ≡ word_at bytes.now at }
+{
+    number_of_bytes(&bytes[at..at + 4])
+}
 
 impl Region {
     ghost use Rattle.heap_core.specs.HeapBytes.{IsWithin};
@@ -45,14 +63,36 @@ impl Region {
         arena.word(self.span.at + at)
     }
 
-    /// The word for the link of the free chunk at a place. No other word of it is read.
-    pub(crate) fn link_word(&self, arena: &Arena, at: u32) -> u32
-        requires within { IsWithin self.now arena.now.bytes }
-        requires inside { at + 12 ≤ self.now.span.len }
-        requires free { is_a_name (chunk_at arena.now.bytes self.now.span.at at).owner ≡ false }
-        ensures { number_in result ≡ (chunk_at arena.now.bytes self.now.span.at at).link }
+    /// The bytes of the span. A walk takes them once: then a word of a header is read by one instruction.
+    pub(crate) fn bytes<'a>(&self, arena: &'a Arena) -> &'a [u8]
+        requires { IsWithin self.now arena.now.bytes }
+        ensures { result.now ≡ slice_range arena.now.bytes self.now.span.at (self.now.span.at + self.now.span.len) }
     {
-        arena.word(self.span.at + at + 8)
+        arena.bytes(self.span)
+    }
+
+    /// The word for the link of the free chunk whose place a word tells. `bytes` are those of the span.
+    pub(crate) fn next_word(&self, arena: &Arena, bytes: &[u8], word: usize) -> usize
+        requires within { IsWithin self.now arena.now.bytes }
+        requires bytes { bytes.now ≡ slice_range arena.now.bytes self.now.span.at (self.now.span.at + self.now.span.len) }
+        requires some { 1 ≤ word }
+        requires inside { word + 11 ≤ self.now.span.len }
+        requires free { is_a_name (chunk_at arena.now.bytes self.now.span.at (word - 1)).owner ≡ false }
+        ensures link { number_in result ≡ (chunk_at arena.now.bytes self.now.span.at (word - 1)).link }
+        ensures small { result < 4294967296 }
+    {
+        word_in(bytes, word + 7) as usize
+    }
+
+    /// The length of the chunk whose place a word tells. `bytes` are those of the span.
+    pub(crate) fn len_told(&self, arena: &Arena, bytes: &[u8], word: usize) -> u32
+        requires within { IsWithin self.now arena.now.bytes }
+        requires bytes { bytes.now ≡ slice_range arena.now.bytes self.now.span.at (self.now.span.at + self.now.span.len) }
+        requires some { 1 ≤ word }
+        requires inside { word + 11 ≤ self.now.span.len }
+        ensures { result ≡ (chunk_at arena.now.bytes self.now.span.at (word - 1)).len }
+    {
+        word_in(bytes, word - 1)
     }
 
     /// The part of the arena that a live block's bytes lie in: those behind its header.
@@ -97,7 +137,7 @@ impl Region {
         requires free { is_a_name (chunk_at arena.now.bytes self.now.span.at at).owner ≡ false }
         ensures { result ≡ (chunk_at arena.now.bytes self.now.span.at at).link }
     {
-        number_in(self.link_word(arena, at))
+        number_in(arena.word(self.span.at + at + 8))
     }
 
     /// Links a gap to another place. No other word of its header is written.

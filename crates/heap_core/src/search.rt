@@ -8,7 +8,9 @@ ghost use Rattle.heap_core.specs.Code.FreeBytes.{free_from, front_gap};
 ghost use Rattle.heap_core.specs.Code.Owners.{owned_by, Owned};
 ghost use Rattle.heap_core.specs.Code.PlacedBlocks.{block_in_chunk, place_in_chunk};
 
-use crate::chunk::{Chunk, Gap, Place, is_gap, is_live, least_room, room_taken, shorter};
+use crate::chunk::{
+    Chunk, Gap, Place, index_word, is_gap, is_live, least_room, room_taken, shorter,
+};
 use crate::region::Region;
 use arena_core::Arena;
 use mote_types::reply::HeapStats;
@@ -47,17 +49,24 @@ impl Region {
         requires linked { LinkedTo self.now.lowest (chunks_of self.now arena.now.bytes) None }
         ensures { result ≡ best_gap need (gaps (store_of self.now arena.now.bytes)) }
     {
+        let bytes = self.bytes(arena);
         let mut best = None;
-        let mut next = self.lowest;
-        while let Some(at) = next {
-            let len = self.len_at(arena, at);
+        let mut next = index_word(self.lowest);
+        while next != 0 {
+            let len = self.len_told(arena, bytes, next);
             if len as u64 >= need {
-                best = Some(shorter(best, Gap { at, len }));
+                best = Some(shorter(
+                    best,
+                    Gap {
+                        at: (next - 1) as u32,
+                        len,
+                    },
+                ));
                 if len as u64 == need {
                     return best;
                 }
             }
-            next = self.link_at(arena, at);
+            next = self.next_word(arena, bytes, next);
         }
         best
     }
