@@ -119,5 +119,30 @@ after_call Call.PacketCount p m = answer p (Reply.Num (length m.packets.frames))
 -- the note comes before the answer
 after_call (Call.PacketSend h) p m =
     refused_or (send_refusal p h m.memory.managed) p m (shown_first (sent p h m) (answer_done p m))
--- memory: every other call
-after_call call p m = asked_of_memory call p m
+-- memory
+after_call (Call.MmemAlloc h n) p m = asked_of_memory (Call.MmemAlloc h n) p m
+after_call (Call.MmemFree h) p m = asked_of_memory (Call.MmemFree h) p m
+after_call (Call.MmemWrite h at chunk) p m = asked_of_memory (Call.MmemWrite h at chunk) p m
+after_call (Call.MmemRead h at len) p m = asked_of_memory (Call.MmemRead h at len) p m
+after_call (Call.MmemCopy source target) p m = asked_of_memory (Call.MmemCopy source target) p m
+after_call Call.MmemAvail p m = asked_of_memory Call.MmemAvail p m
+after_call (Call.HeapAlloc b n) p m = asked_of_memory (Call.HeapAlloc b n) p m
+after_call (Call.HeapRealloc b n) p m = asked_of_memory (Call.HeapRealloc b n) p m
+after_call (Call.HeapFree b) p m = asked_of_memory (Call.HeapFree b) p m
+after_call (Call.HeapWrite b at chunk) p m = asked_of_memory (Call.HeapWrite b at chunk) p m
+after_call (Call.HeapRead b at len) p m = asked_of_memory (Call.HeapRead b at len) p m
+after_call Call.HeapStats p m = asked_of_memory Call.HeapStats p m
+after_call (Call.MembAlloc k) p m = asked_of_memory (Call.MembAlloc k) p m
+after_call (Call.MembFree k b) p m = asked_of_memory (Call.MembFree k b) p m
+after_call (Call.MembWrite k b at chunk) p m = asked_of_memory (Call.MembWrite k b at chunk) p m
+after_call (Call.MembRead k b at len) p m = asked_of_memory (Call.MembRead k b at len) p m
+after_call (Call.MembNumFree k) p m = asked_of_memory (Call.MembNumFree k) p m
+after_call (Call.ListAdd l b) p m = asked_of_memory (Call.ListAdd l b) p m
+after_call (Call.ListPush l b) p m = asked_of_memory (Call.ListPush l b) p m
+after_call (Call.ListInsert l prev b) p m = asked_of_memory (Call.ListInsert l prev b) p m
+after_call (Call.ListPop l) p m = asked_of_memory (Call.ListPop l) p m
+after_call (Call.ListChop l) p m = asked_of_memory (Call.ListChop l) p m
+after_call (Call.ListRemove l b) p m = asked_of_memory (Call.ListRemove l b) p m
+after_call (Call.ListHead l) p m = asked_of_memory (Call.ListHead l) p m
+after_call (Call.ListNext l b) p m = asked_of_memory (Call.ListNext l b) p m
+after_call (Call.ListLength l) p m = asked_of_memory (Call.ListLength l) p m

@@ -47,8 +47,32 @@ impl CallKind {
             | Call::PacketDone
             | Call::PacketCount
             | Call::PacketSend(_) => CallKind::Devices,
-            // Every other call is on memory.
-            _ => CallKind::Memory,
+            Call::MmemAlloc(..)
+            | Call::MmemFree(_)
+            | Call::MmemWrite(..)
+            | Call::MmemRead(..)
+            | Call::MmemCopy(..)
+            | Call::MmemAvail
+            | Call::HeapAlloc(..)
+            | Call::HeapRealloc(..)
+            | Call::HeapFree(_)
+            | Call::HeapWrite(..)
+            | Call::HeapRead(..)
+            | Call::HeapStats
+            | Call::MembAlloc(_)
+            | Call::MembFree(..)
+            | Call::MembWrite(..)
+            | Call::MembRead(..)
+            | Call::MembNumFree(_)
+            | Call::ListAdd(..)
+            | Call::ListPush(..)
+            | Call::ListInsert(..)
+            | Call::ListPop(_)
+            | Call::ListChop(_)
+            | Call::ListRemove(..)
+            | Call::ListHead(_)
+            | Call::ListNext(..)
+            | Call::ListLength(_) => CallKind::Memory,
         }
     }
 }

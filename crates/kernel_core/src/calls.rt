@@ -10,7 +10,6 @@ ghost use Rattle.kernel_core.specs.declared.call_kind.CallKind as kinds;
 
 use crate::call_kind::CallKind;
 use crate::fields::KernelFields;
-use crate::timer_calls::has_timer;
 use mote_types::call::Call;
 use mote_types::event::Pid;
 use mote_types::refusal::Refusal;
@@ -101,9 +100,6 @@ impl KernelFields {
         ensures machine { machine_of self.new ≡ after_call call.now pid.0 (machine_of self.old) }
         ensures kept { IsCarriedOut self.old self.new }
     {
-        if !has_timer(call) {
-            return self.refuse(pid, Refusal::BadName);
-        }
         match call {
             Call::TimerSet(timer, interval) => self.set_timer(pid, *timer, *interval),
             Call::TimerStop(timer) => self.stop_timer(pid, *timer),

@@ -7,8 +7,7 @@ ghost use Rattle.mote_types.specs.declared.event.Pid.{Pid as Process};
 ghost use Rattle.mote_types.specs.declared.event.Stimulus.{Stimulus as ToldStimulus};
 ghost use Rattle.node_memory.specs.Placed.{last_owner};
 ghost use Rattle.kernel_core.specs.Code.View.{HoldsFrames, machine_of, no_pending_entries, entries_left_in, IsInOrder};
-ghost use Rattle.process_core.specs.Code.NextJobs.{job_told};
-ghost use Rattle.process_core.specs.declared.next_job.NextJob as ready;
+ghost use Rattle.process_core.specs.declared.job.Job as ready;
 ghost use Rattle.process_core.specs.Code.SchedulerView.{job_of, turn_of, callback_of};
 ghost use Rattle.process_core.specs.Processes.{numbers};
 ghost use Rattle.process_core.specs.Conditions.{IsApplication};
@@ -25,7 +24,7 @@ use device_core::serial_line::SerialLine;
 use mote_types::entry::Entry;
 use mote_types::event::{Origin, Pid, Stimulus};
 use node_memory::NodeMemory;
-use process_core::next_job::NextJob;
+use process_core::job::Job;
 use process_core::scheduler::Scheduler;
 use timer_core::timers::Timers;
 
@@ -102,26 +101,26 @@ impl KernelFields {
     }
 
     /// The next thing that is to be done, which is taken from the agenda. What a process is told then is put into `told`.
-    pub fn next_job(&mut self, told: &mut Stimulus) -> NextJob
+    pub fn next_job(&mut self, told: &mut Stimulus) -> Job
         requires order { IsInOrder self.old }
         requires running { self.old.halted ≡ false }
         requires nothing_shown { self.old.pending ≡ no_pending_entries }
-        ensures reached { (answers : Answers) → ComesToJob self.old.timers.armings answers (machine_of self.old) (job_of (job_told result told.new)) (machine_of self.new) }
+        ensures reached { (answers : Answers) → ComesToJob self.old.timers.armings answers (machine_of self.old) (job_of result told.new) (machine_of self.new) }
         ensures paid { (bound : ℕ) → present self.old.scheduler.state ≤ bound →
-            IsPaid bound (Some (job_of (job_told result told.new))) (costs bound self.old.scheduler.state.agenda) (costs bound self.new.scheduler.state.agenda)
+            IsPaid bound (Some (job_of result told.new)) (costs bound self.old.scheduler.state.agenda) (costs bound self.new.scheduler.state.agenda)
             × (present self.new.scheduler.state ≤ present self.old.scheduler.state) }
-        ensures served { (pid : Process) → result ≡ ready.NextJob.Serve pid → (bound : ℕ) → present self.old.scheduler.state ≤ bound →
+        ensures served { (pid : Process) → result ≡ ready.Job.Serve pid → (bound : ℕ) → present self.old.scheduler.state ≤ bound →
             costs bound self.new.scheduler.state.agenda + 1 ≤ costs bound self.old.scheduler.state.agenda }
-        ensures turn { self.new.scheduler.turn ≡ turn_of (job_told result told.new) }
+        ensures turn { self.new.scheduler.turn ≡ turn_of result }
         ensures active { IfSome self.new.scheduler.turn (λ p. IsApplication self.new.applications p.0) }
         ensures applications { self.new.scheduler.state.applications ≡ self.old.scheduler.state.applications }
-        ensures rest { result ≡ ready.NextJob.Rest → is_at_rest (machine_of self.new) ≡ true }
+        ensures rest { result ≡ ready.Job.Rest → is_at_rest (machine_of self.new) ≡ true }
         ensures kept { self.new ≡ record self.old { scheduler = self.new.scheduler } }
-        ensures callback { self.new.scheduler.callback ≡ callback_of (job_told result told.new) }
+        ensures callback { self.new.scheduler.callback ≡ callback_of result }
         ensures standing { IsWellFormed self.new.scheduler.state }
         ensures events { HasQueueableEvents self.new }
-        ensures draws { drawn_in_all self.new + draws_of_job (job_of (job_told result told.new)) ≤ drawn_in_all self.old }
-        ensures expiry { IsQueueableJob self.old.timers.armings.drawn (job_of (job_told result told.new)) }
+        ensures draws { drawn_in_all self.new + draws_of_job (job_of result told.new) ≤ drawn_in_all self.old }
+        ensures expiry { IsQueueableJob self.old.timers.armings.drawn (job_of result told.new) }
     {
         self.scheduler.next_to(told)
     }

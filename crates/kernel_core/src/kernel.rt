@@ -106,8 +106,8 @@ impl Kernel {
         !self.fields.halted && self.fields.pending.is_empty() && self.fields.scheduler.at_rest()
     }
 
-    /// Hands an input that the caller keeps to a mote at rest: as `feed`, and then the step that makes the input's entry. What
-    /// follows is done by `step`.
+    /// Hands an input that the caller keeps to a mote at rest, and makes the step that makes the input's entry. What follows is
+    /// done by `step_to`.
     ///
     /// A frame has at least one byte.
     pub fn accept(&mut self, input: &Input)
@@ -144,8 +144,10 @@ impl Kernel {
         self.fields.accept_idle_tick(input)
     }
 
-    /// Works as `step`, and puts the entry that is made into a place: a turn into `turn`, any other entry into `other`.
-    /// Where no turn is taken, nothing is promised of `turn`.
+    /// Works until an entry is made or nothing is left to be done, and takes one turn at most, of one application. An entry is put
+    /// into a place: a turn into `turn`, any other entry into `other`. Where no turn is taken, nothing is promised of `turn`.
+    ///
+    /// `Rest` exactly where the mote has come to rest, `Halted` exactly where it was halted before.
     pub fn step_to(
         &mut self,
         apps: &mut [Box<dyn App>],

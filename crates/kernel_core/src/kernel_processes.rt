@@ -4,8 +4,7 @@ ghost use Rattle.std.specs.Prelude.{◌≡◌, ◌≤◌, ◌<◌, ◌+◌, ◌^
 ghost use Rattle.std.specs.Option.{option_map};
 ghost use Rattle.mote_types.specs.declared.event.Pid as pid;
 ghost use Rattle.kernel_core.specs.Code.Carrying.{job_carrying};
-ghost use Rattle.process_core.specs.Code.SchedulerView.{job_of};
-ghost use Rattle.process_core.specs.Code.NextJobs.{served_with};
+ghost use Rattle.process_core.specs.Code.SchedulerView.{served};
 ghost use Rattle.kernel_core.specs.Code.Cost.{present};
 ghost use Rattle.kernel_core.specs.Code.Draws.{HasQueueableEvents, drawn_in_all, draws_of_event, draws_of_job};
 ghost use Rattle.kernel_core.specs.Code.View.{entries_left_in, machine_of, no_pending_entries, IsInOrder, IsServed};
@@ -55,9 +54,9 @@ impl KernelFields {
         requires few { self.old.timers.armings.drawn < 2 ^ 60 }
         requires events { HasQueueableEvents self.old }
         ensures machine { (answers : Answers) (cancelled : ℕ → ℕ → ℕ → Bool) →
-            job_done answers (Some (job_carrying cancelled (job_of (served_with pid told.now)))) (machine_of self.old) ≡ silent (machine_of self.new) }
+            job_done answers (Some (job_carrying cancelled (served pid told.now))) (machine_of self.old) ≡ silent (machine_of self.new) }
         ensures kept { IsServed self.old self.new }
-        ensures draws { drawn_in_all self.new ≤ drawn_in_all self.old + draws_of_job (job_of (served_with pid told.now)) }
+        ensures draws { drawn_in_all self.new ≤ drawn_in_all self.old + draws_of_job (served pid told.now) }
     {
         if let Stimulus::Event(event) = told {
             self.serve(pid, event);

@@ -2,7 +2,6 @@
 #![tactic(auto)]
 
 pub mod awaiting_kernel;
-mod by_value;
 mod call_kind;
 mod calls;
 pub mod config;

@@ -2,7 +2,7 @@
 
 use mote_types::entry::Entry;
 
-/// What a step of the kernel came to.
+/// What a step of the kernel comes to, as contracts tell it.
 #[derive(Drop)]
 pub enum Step {
     /// This entry was made.

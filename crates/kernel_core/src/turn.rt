@@ -1,10 +1,10 @@
 //! A turn in parts.
 
 ghost use Rattle.std.specs.Prelude.{◌≡◌};
+ghost use Rattle.mote_types.specs.declared.entry.Entry.{Entry};
 ghost use Rattle.kernel_core.specs.Code.Steps.{entry_of};
 
 use mote_types::call::Call;
-use mote_types::entry::Entry;
 use mote_types::event::{Origin, Pid, Stimulus};
 
 /// A turn of an application. Each part has a place of its own, so that a stimulus and a call, which are large, are put
@@ -27,18 +27,6 @@ impl Turn {
             origin: Origin::Event,
             stimulus: Stimulus::Callback(0),
             call: Call::Wait,
-        }
-    }
-
-    /// The entry of this turn.
-    pub fn into_entry(self) -> Entry
-        ensures { result ≡ entry_of self }
-    {
-        Entry::Turn {
-            pid: self.pid,
-            origin: self.origin,
-            stimulus: self.stimulus,
-            call: self.call,
         }
     }
 }

@@ -13,7 +13,7 @@ use crate::fields::KernelFields;
 use crate::step::StepOutcome;
 use crate::turn::Turn;
 use mote_types::entry::Entry;
-use process_core::next_job::NextJob;
+use process_core::job::Job;
 
 impl KernelFields {
     /// Does one job after the other, until a turn begins, which is put into `turn` but for its call, until another entry is
@@ -41,7 +41,7 @@ impl KernelFields {
         self.pass_idle_receivers(&turn.call);
         'job: loop {
             match self.next_job(&mut turn.stimulus) {
-                NextJob::Give { pid, origin } => {
+                Job::TakeTurn { pid, origin } => {
                     turn.pid = pid;
                     turn.origin = origin;
                     if self.begin_turn(pid, origin, &turn.stimulus, other) {
@@ -49,18 +49,18 @@ impl KernelFields {
                     }
                     return StepOutcome::Other;
                 }
-                NextJob::Serve(pid) => self.serve_told(pid, &turn.stimulus),
-                NextJob::Callback {
+                Job::Serve(pid) => self.serve_told(pid, &turn.stimulus),
+                Job::CallBack {
                     pid,
                     number,
                     arming,
                 } => self.expire(pid, number, arming),
-                NextJob::Round => {
+                Job::Round => {
                     if !self.begin_round(other) {
                         return StepOutcome::Other;
                     }
                 }
-                NextJob::Rest => return StepOutcome::Rest,
+                Job::Rest => return StepOutcome::Rest,
             }
         }
     }

@@ -1,7 +1,6 @@
 //! The texts of a mote: lines of a script to inputs, entries of a transcript to lines.
 #![tactic(auto)]
 
-pub mod by_value;
 mod calls;
 pub mod hex_digits;
 pub mod line;

@@ -8,7 +8,6 @@ ghost use Rattle.mote_text.specs.EntryText.{hex};
 ghost use Rattle.mote_text.specs.Code.EntryLines.{spaced};
 
 use crate::hex_digits::DigitPairs;
-use arrayvec::ArrayVec;
 use itoa::Buffer;
 use std::marker::Model;
 
@@ -17,9 +16,6 @@ const CAPACITY: usize = 4_096;
 
 /// No line of a transcript is longer, with its end.
 pub const MOST_OF_LINE: usize = 640;
-
-/// Room for one line of a transcript.
-pub type LineBuf = ArrayVec<u8, MOST_OF_LINE>;
 
 /// Text that is gathered.
 ///

@@ -10,8 +10,7 @@ ghost use Rattle.node_memory.specs.ListedPools as specs;
 ghost use Rattle.node_memory.specs.ListedPools.{unused_pool_of};
 ghost use Rattle.node_memory.specs.Placed.{seen};
 ghost use Rattle.node_memory.specs.Code.ListCalls as code;
-ghost use Rattle.node_memory.specs.Code.ListCalls.{is_list_call, tells_of_list};
-ghost use Rattle.node_memory.specs.Parts.{pool_called};
+ghost use Rattle.node_memory.specs.Code.ListCalls.{is_list_call, pool_called, tells_of_list};
 ghost use Rattle.node_memory.specs.PoolCalls.{ask_pool};
 
 use arena_core::Arena;

@@ -15,30 +15,7 @@ pub enum Part {
     Pool(u8),
 }
 
-/// The pool that a call is on, or on one of whose lists. Lists 2 k and 2 k + 1 are of pool k.
-fn pool_called(call: &Call) -> Option<u8>
-    ensures { result ≡ specs.pool_called call.now }
-{
-    match call {
-        Call::MembAlloc(pool)
-        | Call::MembFree(pool, _)
-        | Call::MembWrite(pool, ..)
-        | Call::MembRead(pool, ..)
-        | Call::MembNumFree(pool) => Some(*pool),
-        Call::ListAdd(list, _)
-        | Call::ListPush(list, _)
-        | Call::ListInsert(list, ..)
-        | Call::ListPop(list)
-        | Call::ListChop(list)
-        | Call::ListRemove(list, _)
-        | Call::ListHead(list)
-        | Call::ListNext(list, _)
-        | Call::ListLength(list) => Some(*list / 2),
-        _ => None,
-    }
-}
-
-/// The part that a call is on, if it is on memory.
+/// The part that a call is on, if it is on memory. Lists 2 k and 2 k + 1 are of pool k.
 pub fn part_called(call: &Call) -> Option<Part>
     ensures { result ≡ specs.part_called call.now }
 {
@@ -55,7 +32,44 @@ pub fn part_called(call: &Call) -> Option<Part>
         | Call::HeapWrite(..)
         | Call::HeapRead(..)
         | Call::HeapStats => Some(Part::Heap),
-        _ => pool_called(call).map(Part::Pool),
+        Call::MembAlloc(pool)
+        | Call::MembFree(pool, _)
+        | Call::MembWrite(pool, ..)
+        | Call::MembRead(pool, ..)
+        | Call::MembNumFree(pool) => Some(Part::Pool(*pool)),
+        Call::ListAdd(list, _)
+        | Call::ListPush(list, _)
+        | Call::ListInsert(list, ..)
+        | Call::ListPop(list)
+        | Call::ListChop(list)
+        | Call::ListRemove(list, _)
+        | Call::ListHead(list)
+        | Call::ListNext(list, _)
+        | Call::ListLength(list) => Some(Part::Pool(*list / 2)),
+        Call::Wait
+        | Call::Exit
+        | Call::Post(..)
+        | Call::Broadcast(..)
+        | Call::PostSynch(..)
+        | Call::AllocEvent
+        | Call::Poll(_)
+        | Call::Start(_)
+        | Call::Kill(_)
+        | Call::IsRunning(_)
+        | Call::TimerSet(..)
+        | Call::TimerStop(_)
+        | Call::TimerReset(_)
+        | Call::TimerRestart(_)
+        | Call::TimerExpired(_)
+        | Call::CallbackSet(..)
+        | Call::CallbackStop(_)
+        | Call::Clock
+        | Call::Print(_)
+        | Call::PacketOpen
+        | Call::PacketRead(..)
+        | Call::PacketDone
+        | Call::PacketCount
+        | Call::PacketSend(_) => None,
     }
 }
 

@@ -1,6 +1,6 @@
 -- The stack stays sound, and is short.
 use Rattle.process_core.proofs.Common.{◌≡◌, ℕ, ◌+◌, ◌<◌, ◌≤◌, Bool, true, false, ◌||◌, List, [], ◌∷◌, length, refl, ◌∙◌, ap, arith, eqb, Option, Some, None, lit<, IfSome, nat_lt, ◌*◌, IsDistinct-cons, IsDistinct, AllByRecursion, nat_tests, length-le_from_distinct_below, Pid, state_of, with_state, with_mark, without, IsApplication, is_in_activation, answering, is_one_of, has_ended, IsAtTurn, IsSound, Process, State, Continuation, IsOfMote, leaving, IsNested, AreIn, ◌++◌, reverse, length-reverse, Event, Reply, is_ending, IsInOrder, BootsKnown, scheduler_behind, scheduler_of, front_items, reverse-append, SchedulerFields, Base, Front, IsOrdered, StartsKnown, active_in, turn_in, front_after}
-use Rattle.process_core.specs.declared.next_job.NextJob.{NextJob}
+use Rattle.process_core.specs.declared.job.Job as answer
 
 -- each continuation is one of these
 short : (stack : List Continuation) → length stack ≤ length (answering stack) + length (leaving stack)
@@ -315,7 +315,7 @@ pub no_front : (front : Front) (p : Pid) (reply : Reply) (synch : Event) → tur
 no_front front p reply synch e = grind (arith, nat_tests)
 
 -- nor after a job, or a step that is none
-pub behind_is_all : (d : SchedulerFields) (ready : Option NextJob) → d.front ≡ front_after ready → scheduler_behind d ≡ scheduler_of d
+pub behind_is_all : (d : SchedulerFields) (ready : Option answer.Job) → d.front ≡ front_after ready → scheduler_behind d ≡ scheduler_of d
 behind_is_all d ready e = grind (arith, nat_tests)
 
 -- its call was accepted, and this comes first

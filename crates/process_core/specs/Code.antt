@@ -5,7 +5,6 @@ pub mod Items
 pub mod KernelReceivers
 pub mod LonePoll
 pub mod Nesting
-pub mod NextJobs
 pub mod OpenWork
 pub mod ProcessList
 pub mod SchedulerFields

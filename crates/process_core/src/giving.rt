@@ -5,7 +5,6 @@ ghost use Rattle.mote_types.specs.Codes as codes;
 ghost use Rattle.process_core.specs.Agenda.{Item};
 ghost use Rattle.process_core.specs.Code.Weights.{weight};
 ghost use Rattle.process_core.specs.Code.SchedulerView.{job_of};
-ghost use Rattle.process_core.specs.Code.NextJobs.{job_told};
 ghost use Rattle.process_core.specs.Code.SchedulerFields.{scheduler_behind, front_after, HoldsEvent, IsInOrder};
 ghost use Rattle.process_core.specs.Scheduler.{in_front};
 ghost use Rattle.process_core.specs.Code.Yields.{Yields};
@@ -13,7 +12,7 @@ ghost use Rattle.process_core.specs.declared.open_work.Base.{Base};
 ghost use Rattle.process_core.specs.declared.front.Front.{Front};
 
 use crate::front::Front;
-use crate::next_job::NextJob;
+use crate::job::Job;
 use crate::open_work::{Base, put_event, tell};
 use crate::queued::Queued;
 use crate::scheduler_fields::SchedulerFields;
@@ -41,11 +40,11 @@ fn drop_first(events: &mut HeapCircularBuffer<Queued>)
 
 impl SchedulerFields {
     /// Gives the process the stimulus that it is to be told.
-    pub fn give(&mut self, pid: Pid, origin: Origin, told: &Stimulus) -> Option<NextJob>
+    pub fn give(&mut self, pid: Pid, origin: Origin, told: &Stimulus) -> Option<Job>
         requires order { IsInOrder self.old }
         requires idle { self.old.front ≡ Front.Nothing }
         ensures yields { Yields (in_front (Item.Give pid.0 origin told.now ∷ []) (scheduler_behind self.old))
-            (option_map (λ r. job_of (job_told r told.now)) result) (scheduler_behind self.new) }
+            (option_map (λ r. job_of r told.now) result) (scheduler_behind self.new) }
         ensures told { HoldsEvent result told.now }
         ensures front { self.new.front ≡ front_after result }
         ensures order { IsInOrder self.new }
@@ -53,7 +52,7 @@ impl SchedulerFields {
     {
         if pid.0 < FIRST_APPLICATION {
             return match told {
-                Stimulus::Event(_) => Some(NextJob::Serve(pid)),
+                Stimulus::Event(_) => Some(Job::Serve(pid)),
                 _ => None,
             };
         }
@@ -61,19 +60,19 @@ impl SchedulerFields {
             State::Running => {
                 self.processes.set_state(pid, State::Called);
                 self.front = Front::Call(pid);
-                Some(NextJob::Give { pid, origin })
+                Some(Job::TakeTurn { pid, origin })
             }
             _ => None,
         }
     }
 
     /// Starts the process, unless it's on the list.
-    pub fn start_one(&mut self, pid: Pid, told: &mut Stimulus) -> Option<NextJob>
+    pub fn start_one(&mut self, pid: Pid, told: &mut Stimulus) -> Option<Job>
         requires known { pid.0 < 4 + self.old.applications }
         requires order { IsInOrder self.old }
         requires idle { self.old.front ≡ Front.Nothing }
         ensures yields { Yields (in_front (Item.Start pid.0 ∷ []) (scheduler_behind self.old))
-            (option_map (λ r. job_of (job_told r told.new)) result) (scheduler_behind self.new) }
+            (option_map (λ r. job_of r told.new) result) (scheduler_behind self.new) }
         ensures told { HoldsEvent result told.new }
         ensures front { self.new.front ≡ front_after result }
         ensures order { IsInOrder self.new }
@@ -90,11 +89,11 @@ impl SchedulerFields {
     }
 
     /// A poll round comes to this process.
-    pub fn poll_one(&mut self, pid: Pid, told: &mut Stimulus) -> Option<NextJob>
+    pub fn poll_one(&mut self, pid: Pid, told: &mut Stimulus) -> Option<Job>
         requires order { IsInOrder self.old }
         requires idle { self.old.front ≡ Front.Nothing }
         ensures yields { Yields (in_front (Item.PollOne pid.0 ∷ []) (scheduler_behind self.old))
-            (option_map (λ r. job_of (job_told r told.new)) result) (scheduler_behind self.new) }
+            (option_map (λ r. job_of r told.new) result) (scheduler_behind self.new) }
         ensures told { HoldsEvent result told.new }
         ensures front { self.new.front ≡ front_after result }
         ensures order { IsInOrder self.new }
@@ -109,14 +108,14 @@ impl SchedulerFields {
     }
 
     /// Delivers the first event.
-    pub fn deliver(&mut self, told: &mut Stimulus) -> Option<NextJob>
+    pub fn deliver(&mut self, told: &mut Stimulus) -> Option<Job>
         requires order { IsInOrder self.old }
         requires idle { self.old.front ≡ Front.Nothing }
         requires bare { self.old.stack.items ≡ [] }
         requires unpolled { self.old.polls ≡ [] }
         requires nothing { self.old.base ≡ Base.Nothing }
         ensures yields { Yields (in_front (Item.Deliver ∷ []) (scheduler_behind self.old))
-            (option_map (λ r. job_of (job_told r told.new)) result) (scheduler_behind self.new) }
+            (option_map (λ r. job_of r told.new) result) (scheduler_behind self.new) }
         ensures told { HoldsEvent result told.new }
         ensures front { self.new.front ≡ front_after result }
         ensures order { IsInOrder self.new }
@@ -147,7 +146,7 @@ impl SchedulerFields {
                 let (pid, number, arming) = (*pid, *number, *arming);
                 drop_first(&mut self.events);
                 self.front = Front::Expiry { pid, number };
-                Some(NextJob::Callback {
+                Some(Job::CallBack {
                     pid,
                     number,
                     arming,

@@ -57,7 +57,7 @@ impl Scheduler {
         matches!(self.fields.front, Front::Call(_))
     }
 
-    /// Whether `next` could be called and would answer Rest: no call is awaited, no work is open, no process is marked
+    /// Whether `next_to` could be called and would answer Rest: no call is awaited, no work is open, no process is marked
     /// and no event waits.
     pub fn at_rest(&self) -> bool
         ensures { result ≡ is_at_rest self.now }

@@ -11,12 +11,11 @@ ghost use Rattle.process_core.specs.Code.Invariant.{is_in_activation};
 ghost use Rattle.process_core.specs.Scheduler.{at_boot, state_in, wants_round};
 ghost use Rattle.process_core.specs.Code.Items.{ComesTo};
 ghost use Rattle.process_core.specs.Code.Invariant.{IsWellFormed};
-ghost use Rattle.process_core.specs.Code.NextJobs.{job_told};
-ghost use Rattle.process_core.specs.declared.next_job.NextJob.{NextJob as Answer};
+ghost use Rattle.process_core.specs.declared.job.Job.{Job as Answer};
 
 use crate::front::Front;
 use crate::giving::plain_event;
-use crate::next_job::NextJob;
+use crate::job::Job;
 use crate::open_work::Base;
 use crate::process_list::ProcessList;
 use crate::process_numbers::ProcessNumbers;
@@ -85,13 +84,16 @@ impl Scheduler {
         Ok(Scheduler { fields })
     }
 
-    /// As `next`, but what a process is told lies in the place `told` then: for Give the stimulus, for Serve the event.
-    /// Where another answer is given, the place may hold what was to be told to a process that did not take it.
-    pub fn next_to(&mut self, told: &mut Stimulus) -> NextJob
+    /// What is to be done next: the first thing on the agenda that the scheduler does not do by itself. Where nothing is on the
+    /// agenda a round begins, if a process is marked or an event waits.
+    ///
+    /// What a process is told lies in the place `told` then: for TakeTurn the stimulus, for Serve the event. Where another answer
+    /// is given, the place may hold what was to be told to a process that did not take it.
+    pub fn next_to(&mut self, told: &mut Stimulus) -> Job
         requires { self.old.turn ≡ None }
-        ensures job { ComesTo self.old.state (job_of (job_told result told.new)) self.new.state }
-        ensures turn { self.new.turn ≡ turn_of (job_told result told.new) }
-        ensures callback { self.new.callback ≡ callback_of (job_told result told.new) }
+        ensures job { ComesTo self.old.state (job_of result told.new) self.new.state }
+        ensures turn { self.new.turn ≡ turn_of result }
+        ensures callback { self.new.callback ≡ callback_of result }
 
         // what the layer above can rely on
         ensures active { IfSome self.new.turn (λ p. IsApplication self.new.state.applications p.0

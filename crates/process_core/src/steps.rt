@@ -4,7 +4,6 @@ ghost use Rattle.std.specs.Prelude.{◌≡◌, ◌<◌, [], ◌∷◌, Some, IfN
 ghost use Rattle.mote_types.specs.declared.event.Stimulus.{Stimulus as ToldStimulus};
 ghost use Rattle.process_core.specs.Code.Weights.{weight, weight_over};
 ghost use Rattle.process_core.specs.Code.SchedulerView.{job_of};
-ghost use Rattle.process_core.specs.Code.NextJobs.{job_told};
 ghost use Rattle.process_core.specs.Code.SchedulerFields.{scheduler_of, scheduler_behind, scheduler_over, front_after, HoldsEvent, IsInOrder, IsOrdered};
 ghost use Rattle.process_core.specs.Code.Yields.{Yields};
 ghost use Rattle.process_core.specs.declared.front.Front.{Front};
@@ -13,7 +12,7 @@ ghost use Rattle.process_core.specs.declared.open_work.Continuation.{Continuatio
 
 use crate::front::Front;
 use crate::giving::plain_event;
-use crate::next_job::NextJob;
+use crate::job::Job;
 use crate::open_work::{Base, Continuation, tell, tell_reply};
 use crate::scheduler_fields::SchedulerFields;
 use crate::state::State;
@@ -24,10 +23,10 @@ use mote_types::reply::Reply;
 impl SchedulerFields {
     /// What was told since the last job comes first.
     #[inline(always)]
-    pub fn take_front(&mut self, told: &mut Stimulus) -> Option<NextJob>
+    pub fn take_front(&mut self, told: &mut Stimulus) -> Option<Job>
         requires order { IsInOrder self.old }
         ensures yields { Yields (scheduler_of self.old)
-            (option_map (λ r. job_of (job_told r told.new)) result) (scheduler_behind self.new) }
+            (option_map (λ r. job_of r told.new) result) (scheduler_behind self.new) }
         ensures told { HoldsEvent result told.new }
         ensures front { self.new.front ≡ front_after result }
         ensures order { IsInOrder self.new }
@@ -38,7 +37,7 @@ impl SchedulerFields {
             Front::Answer(pid) => {
                 tell_reply(told, &self.reply);
                 self.front = Front::Call(pid);
-                Some(NextJob::Give {
+                Some(Job::TakeTurn {
                     pid,
                     origin: Origin::Answer,
                 })
@@ -63,11 +62,11 @@ impl SchedulerFields {
         walk: Walk,
         exits: bool,
         told: &mut Stimulus,
-    ) -> Option<NextJob>
+    ) -> Option<Job>
         requires order { IsOrdered self.old (Continuation.Leave pid walk exits ∷ reverse self.old.stack.items) }
         requires idle { self.old.front ≡ Front.Nothing }
         ensures yields { Yields (scheduler_over self.old (Continuation.Leave pid walk exits ∷ reverse self.old.stack.items))
-            (option_map (λ r. job_of (job_told r told.new)) result) (scheduler_behind self.new) }
+            (option_map (λ r. job_of r told.new) result) (scheduler_behind self.new) }
         ensures told { HoldsEvent result told.new }
         ensures front { self.new.front ≡ front_after result }
         ensures order { IsInOrder self.new }
@@ -96,7 +95,7 @@ impl SchedulerFields {
                 self.processes.set_state(pid, State::Ending);
                 self.front = Front::Call(pid);
                 *told = Stimulus::Event(plain_event(event::EXIT));
-                Some(NextJob::Give {
+                Some(Job::TakeTurn {
                     pid,
                     origin: Origin::Synch,
                 })
@@ -106,14 +105,14 @@ impl SchedulerFields {
 
     // The next application is started.
     #[inline(never)]
-    fn resume_boot(&mut self, told: &mut Stimulus) -> Option<NextJob>
+    fn resume_boot(&mut self, told: &mut Stimulus) -> Option<Job>
         requires boots { self.old.base ≡ Base.Boot }
         requires bare { self.old.stack.items ≡ [] }
         requires unpolled { self.old.polls ≡ [] }
         requires order { IsInOrder self.old }
         requires idle { self.old.front ≡ Front.Nothing }
         ensures yields { Yields (scheduler_behind self.old)
-            (option_map (λ r. job_of (job_told r told.new)) result) (scheduler_behind self.new) }
+            (option_map (λ r. job_of r told.new) result) (scheduler_behind self.new) }
         ensures told { HoldsEvent result told.new }
         ensures front { self.new.front ≡ front_after result }
         ensures order { IsInOrder self.new }
@@ -129,14 +128,14 @@ impl SchedulerFields {
     }
 
     // A round: the poll round, and then the delivery.
-    fn resume_deliver(&mut self, is_polled: bool, told: &mut Stimulus) -> Option<NextJob>
+    fn resume_deliver(&mut self, is_polled: bool, told: &mut Stimulus) -> Option<Job>
         requires delivers { self.old.base ≡ Base.Deliver is_polled }
         requires bare { self.old.stack.items ≡ [] }
         requires unpolled { self.old.polls ≡ [] }
         requires order { IsInOrder self.old }
         requires idle { self.old.front ≡ Front.Nothing }
         ensures yields { Yields (scheduler_behind self.old)
-            (option_map (λ r. job_of (job_told r told.new)) result) (scheduler_behind self.new) }
+            (option_map (λ r. job_of r told.new) result) (scheduler_behind self.new) }
         ensures told { HoldsEvent result told.new }
         ensures front { self.new.front ≡ front_after result }
         ensures order { IsInOrder self.new }
@@ -153,14 +152,14 @@ impl SchedulerFields {
 
     // The next receiver is given the event, after a poll round.
     #[inline(always)]
-    fn resume_broadcast(&mut self, is_polled: bool, told: &mut Stimulus) -> Option<NextJob>
+    fn resume_broadcast(&mut self, is_polled: bool, told: &mut Stimulus) -> Option<Job>
         requires broadcasts { self.old.base ≡ Base.Broadcast is_polled }
         requires bare { self.old.stack.items ≡ [] }
         requires unpolled { self.old.polls ≡ [] }
         requires order { IsInOrder self.old }
         requires idle { self.old.front ≡ Front.Nothing }
         ensures yields { Yields (scheduler_behind self.old)
-            (option_map (λ r. job_of (job_told r told.new)) result) (scheduler_behind self.new) }
+            (option_map (λ r. job_of r told.new) result) (scheduler_behind self.new) }
         ensures told { HoldsEvent result told.new }
         ensures front { self.new.front ≡ front_after result }
         ensures order { IsInOrder self.new }
@@ -186,12 +185,12 @@ impl SchedulerFields {
 
     // No process is within an activation: the poll round comes to the next process that is marked, and behind it the base.
     #[inline(always)]
-    fn resume_below(&mut self, told: &mut Stimulus) -> Option<NextJob>
+    fn resume_below(&mut self, told: &mut Stimulus) -> Option<Job>
         requires bare { self.old.stack.items ≡ [] }
         requires order { IsInOrder self.old }
         requires idle { self.old.front ≡ Front.Nothing }
         ensures yields { Yields (scheduler_behind self.old)
-            (option_map (λ r. job_of (job_told r told.new)) result) (scheduler_behind self.new) }
+            (option_map (λ r. job_of r told.new) result) (scheduler_behind self.new) }
         ensures told { HoldsEvent result told.new }
         ensures front { self.new.front ≡ front_after result }
         ensures order { IsInOrder self.new }
@@ -210,12 +209,12 @@ impl SchedulerFields {
 
     // The topmost continuation is worked on.
     #[inline(never)]
-    fn resume_within(&mut self, told: &mut Stimulus) -> Option<NextJob>
+    fn resume_within(&mut self, told: &mut Stimulus) -> Option<Job>
         requires open { 0 < length self.old.stack.items }
         requires order { IsInOrder self.old }
         requires idle { self.old.front ≡ Front.Nothing }
         ensures yields { Yields (scheduler_behind self.old)
-            (option_map (λ r. job_of (job_told r told.new)) result) (scheduler_behind self.new) }
+            (option_map (λ r. job_of r told.new) result) (scheduler_behind self.new) }
         ensures told { HoldsEvent result told.new }
         ensures front { self.new.front ≡ front_after result }
         ensures order { IsInOrder self.new }
@@ -228,7 +227,7 @@ impl SchedulerFields {
             Some(Continuation::Answer(pid)) => {
                 tell_reply(told, &Reply::Done);
                 self.front = Front::Call(pid);
-                Some(NextJob::Give {
+                Some(Job::TakeTurn {
                     pid,
                     origin: Origin::Answer,
                 })
@@ -239,11 +238,11 @@ impl SchedulerFields {
 
     /// The open work goes on, or where there is none a round begins.
     #[inline(always)]
-    pub fn resume(&mut self, told: &mut Stimulus) -> Option<NextJob>
+    pub fn resume(&mut self, told: &mut Stimulus) -> Option<Job>
         requires order { IsInOrder self.old }
         requires idle { self.old.front ≡ Front.Nothing }
         ensures yields { Yields (scheduler_behind self.old)
-            (option_map (λ r. job_of (job_told r told.new)) result) (scheduler_behind self.new) }
+            (option_map (λ r. job_of r told.new) result) (scheduler_behind self.new) }
         ensures told { HoldsEvent result told.new }
         ensures front { self.new.front ≡ front_after result }
         ensures order { IsInOrder self.new }
@@ -257,11 +256,11 @@ impl SchedulerFields {
     }
 
     /// The open work goes on up to a job.
-    pub fn work_on(&mut self, told: &mut Stimulus) -> NextJob
+    pub fn work_on(&mut self, told: &mut Stimulus) -> Job
         requires order { IsInOrder self.old }
         requires idle { self.old.front ≡ Front.Nothing }
         ensures yields { Yields (scheduler_behind self.old)
-            (Some (job_of (job_told result told.new))) (scheduler_behind self.new) }
+            (Some (job_of result told.new)) (scheduler_behind self.new) }
         ensures told { HoldsEvent (Some result) told.new }
         ensures front { self.new.front ≡ front_after (Some result) }
         ensures order { IsInOrder self.new }
@@ -274,22 +273,22 @@ impl SchedulerFields {
     }
 
     /// No work is open: a round begins, if it has anything to do.
-    fn begin_round(&mut self) -> NextJob
+    fn begin_round(&mut self) -> Job
         requires order { IsInOrder self.old }
         requires idle { self.old.front ≡ Front.Nothing }
         requires bare { self.old.stack.items ≡ [] }
         requires unpolled { self.old.polls ≡ [] }
         requires nothing { self.old.base ≡ Base.Nothing }
         ensures yields { (told : ToldStimulus) →
-            Yields (scheduler_behind self.old) (Some (job_of (job_told result told))) (scheduler_behind self.new) }
+            Yields (scheduler_behind self.old) (Some (job_of result told)) (scheduler_behind self.new) }
         ensures told { (told : ToldStimulus) → HoldsEvent (Some result) told }
         ensures front { self.new.front ≡ front_after (Some result) }
         ensures order { IsInOrder self.new }
     {
         if !self.processes.is_any_marked() && self.events.is_empty() {
-            return NextJob::Rest;
+            return Job::Rest;
         }
         self.base = Base::Deliver { is_polled: false };
-        NextJob::Round
+        Job::Round
     }
 }

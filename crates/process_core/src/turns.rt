@@ -59,7 +59,7 @@ impl Scheduler {
         }
     }
 
-    /// The expiry that `next` has just answered counts: the process is given the callback, if it runs.
+    /// The expiry that `next_to` has just answered counts: the process is given the callback, if it runs.
     pub fn give_callback(&mut self, pid: Pid, number: u8)
         requires { self.old.callback ≡ Some (pid, number) }
         ensures { self.new ≡ awaiting_nothing (request_items.called_back pid.0 number self.old.state) }

@@ -1,11 +1,9 @@
 //! What applications answer to stimuli that no whole run gives them, and their names.
 
 use crate::spoilt_lines::plain_bytes;
-use crate::texts::{bytes, check_text};
+use crate::texts::{bytes, check};
 use arrayvec::ArrayVec;
 use mote_apps::bundled::Bundled;
-use mote_text::by_value::entry_text;
-use mote_text::line::LineBuf;
 use mote_types::app::App;
 use mote_types::entry::Entry;
 use mote_types::event::{Event, Origin, Payload, Pid, Stimulus};
@@ -66,9 +64,7 @@ fn check_turn(rt: &impl Abort, application: &mut Bundled, line: &str) {
         stimulus,
         call,
     };
-    let mut shown = LineBuf::new();
-    entry_text(&entry, &mut shown);
-    check_text(rt, shown.as_slice(), line);
+    check(rt, &entry, line);
 }
 
 /// The application of this name takes these turns, one behind the other. A bar parts their lines.

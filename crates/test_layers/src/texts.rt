@@ -3,11 +3,10 @@
 ghost use Rattle.std.specs.Prelude.{◌<◌};
 
 use arrayvec::ArrayVec;
-use mote_text::by_value::entry_text;
-use mote_text::line::{LineBuf, OutputBuffer};
+use mote_text::line::OutputBuffer;
 use mote_text::lines::{Lines, Taken};
 use mote_text::script::{BadLine, End, read_input};
-use mote_text::transcript::final_text;
+use mote_text::transcript::{final_text, push_entry};
 use mote_types::call::Call;
 use mote_types::entry::{Entry, Input, Note};
 use mote_types::event::{Event, Origin, Payload, Pid, Stimulus};
@@ -261,12 +260,13 @@ pub(crate) fn check_text(rt: &impl Abort, line: &[u8], text: &str) {
     assert_eq!(rt; line, text.as_bytes(), "{text:?}");
 }
 
-/// The buffer holds another line before.
-fn check(rt: &impl Abort, entry: Entry, text: &str) {
-    let mut line = LineBuf::new();
-    let _ = line.try_extend_from_slice(b"> tick 1\n");
-    entry_text(&entry, &mut line);
-    check_text(rt, line.as_slice(), text);
+/// Looks at the line of an entry, which is put behind another one.
+pub(crate) fn check(rt: &impl Abort, entry: &Entry, text: &str) {
+    let mut shown = OutputBuffer::new();
+    shown.push(b"> tick 1\n");
+    push_entry(entry, &mut shown);
+    let line = shown.as_slice().strip_prefix(b"> tick 1\n").unwrap_or(b"");
+    check_text(rt, line, text);
 }
 
 /// Those that runs have are in `scenario`.
@@ -282,15 +282,15 @@ fn lines_of_entries_that_no_run_has(rt: HostRuntime) {
         stimulus: Stimulus::Event(event),
         call: Call::Wait,
     };
-    check(&rt, polled, "4 poll 129 x62 -> wait\n");
+    check(&rt, &polled, "4 poll 129 x62 -> wait\n");
     let told = Entry::Turn {
         pid: Pid(19),
         origin: Origin::Answer,
         stimulus: Stimulus::Answer(Reply::Wide(18_446_744_073_709_551_615)),
         call: Call::Wait,
     };
-    check(&rt, told, "19 answer wide 18446744073709551615 -> wait\n");
-    check(&rt, Entry::Note(Note::Sent(bytes(b""))), "note sent -\n");
+    check(&rt, &told, "19 answer wide 18446744073709551615 -> wait\n");
+    check(&rt, &Entry::Note(Note::Sent(bytes(b""))), "note sent -\n");
 }
 
 fn check_end(rt: &impl Abort, end: End, text: &str) {

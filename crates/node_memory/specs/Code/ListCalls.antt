@@ -1,7 +1,17 @@
--- The calls on the lists of a pool, and the list that a block is in.
-use Rattle.std.specs.Prelude.{Bool, true, false, Option, Some}
+-- The calls on a pool or on its lists, and the list that a block is in.
+use Rattle.std.specs.Prelude.{ℕ, Bool, true, false, Option, Some, None}
 use Rattle.mote_types.specs.declared.call.Call.{Call}
+use Rattle.node_memory.specs.declared.parts.Part.{Part}
+use Rattle.node_memory.specs.Parts.{part_called}
 use Rattle.memb_core.specs.declared.list_name.ListName.{ListName}
+
+abbrev pub pool_in_part : Option Part → Option ℕ
+pool_in_part (Some (Part.Pool k)) = Some k
+pool_in_part _ = None
+
+-- the pool that a call is on, or on one of whose lists
+abbrev pub pool_called : Call → Option ℕ
+pool_called call = pool_in_part (part_called call)
 
 -- the calls that tell of a list, and change none
 abbrev pub tells_of_list : Call → Bool

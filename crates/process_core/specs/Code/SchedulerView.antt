@@ -1,18 +1,19 @@
 -- What contracts see of the code's scheduler.
 use Rattle.std.specs.Prelude.{ℕ, Bool, not, ◌&&◌, is_some, Option, Some, None}
 use Rattle.mote_types.specs.declared.event.Pid.{Pid}
+use Rattle.mote_types.specs.declared.event.Stimulus.{Stimulus}
 use Rattle.process_core.specs.declared.job.Job as answer
 use Rattle.process_core.specs.Agenda.{Job}
 use Rattle.process_core.specs.Scheduler.{Scheduler}
 use Rattle.process_core.specs.Idle.{is_idle}
 
--- the scheduler, and what `next` has just asked of the layer above
+-- the scheduler, and what `next_to` has just asked of the layer above
 pub record SchedulerView : Type 0 where
   -- an expiry of a callback timer carries its arming number
   pub state : Scheduler ℕ
-  -- the process whose turn it is: `next` gave it a stimulus, and its call isn't in yet
+  -- the process whose turn it is: `next_to` gave it a stimulus, and its call isn't in yet
   pub turn : Option Pid
-  -- the callback timer whose expiry `next` has just answered
+  -- the callback timer whose expiry `next_to` has just answered
   pub callback : Option (Pid × ℕ)
 
 -- a scheduler that awaits nothing
@@ -23,20 +24,25 @@ awaiting_nothing s = record { state = s; turn = None; callback = None }
 abbrev pub is_at_rest : SchedulerView → Bool
 is_at_rest view = not (is_some view.turn) && is_idle view.state
 
--- the job in the code's terms, and in those of the agenda
-abbrev pub job_of : answer.Job → Job ℕ
-job_of (answer.Job.Give pid origin stimulus) = Job.TakeTurn pid.0 origin stimulus
-job_of (answer.Job.Serve pid event) = Job.Serve pid.0 event
-job_of (answer.Job.Callback pid number arming) = Job.CallBack pid.0 number arming
-job_of answer.Job.Round = Job.Round
-job_of answer.Job.Rest = Job.Rest
+-- a kernel process is given the event that the place holds. The place holds one wherever Serve is answered
+abbrev pub served : Pid → Stimulus → Job ℕ
+served pid (Stimulus.Event event) = Job.Serve pid.0 event
+served pid _ = Job.Rest
+
+-- the job of the agenda that an answer and the place that was lent stand for
+abbrev pub job_of : answer.Job → Stimulus → Job ℕ
+job_of (answer.Job.TakeTurn pid origin) told = Job.TakeTurn pid.0 origin told
+job_of (answer.Job.Serve pid) told = served pid told
+job_of (answer.Job.CallBack pid number arming) told = Job.CallBack pid.0 number arming
+job_of answer.Job.Round told = Job.Round
+job_of answer.Job.Rest told = Job.Rest
 
 -- whose turn it is after this job
 abbrev pub turn_of : answer.Job → Option Pid
-turn_of (answer.Job.Give pid origin stimulus) = Some pid
+turn_of (answer.Job.TakeTurn pid origin) = Some pid
 turn_of _ = None
 
 -- the callback timer whose expiry this job is
 abbrev pub callback_of : answer.Job → Option (Pid × ℕ)
-callback_of (answer.Job.Callback pid number arming) = Some (pid, number)
+callback_of (answer.Job.CallBack pid number arming) = Some (pid, number)
 callback_of _ = None

@@ -1,4 +1,4 @@
--- Why `next` ends: the open work weighs more than what is left of it after one step that is no job.
+-- Why `next_to` ends: the open work weighs more than what is left of it after one step that is no job.
 use Rattle.std.specs.Prelude.{ℕ, ◌+◌, ◌*◌, true, false, List, [], ◌∷◌, length, drop, reverse, if◌then◌else◌}
 use Rattle.process_core.specs.declared.open_work.Base.{Base}
 use Rattle.process_core.specs.declared.open_work.Continuation.{Continuation}

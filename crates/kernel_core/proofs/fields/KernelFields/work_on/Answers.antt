@@ -6,13 +6,13 @@ use Rattle.kernel_core.proofs.fields.KernelFields.work_on.Goals as goal
 
 pub returns-then-begin_turn-clause-awaits : goal.returns-then-begin_turn-clause-awaits
 returns-then-begin_turn-clause-awaits c =
-    λ is answers. job_makes (then_job (c.job.invariant.so_far answers) (c.in-Give.ensures.reached answers)) (c.begin_turn.ensures.begins (search rules) _)
+    λ is answers. job_makes (then_job (c.job.invariant.so_far answers) (c.in-TakeTurn.ensures.reached answers)) (c.begin_turn.ensures.begins (search rules) _)
 
-pub returns-in-Give-clause-goes : goal.returns-in-Give-clause-goes
-returns-in-Give-clause-goes c =
+pub returns-in-TakeTurn-clause-goes : goal.returns-in-TakeTurn-clause-goes
+returns-in-TakeTurn-clause-goes c =
     λ is answers.
-    job_makes (then_job (c.job.invariant.so_far answers) (c.in-Give.ensures.reached answers))
-    (c.begin_turn.ensures.halts (search rules) (answers c.in-Give.pid.0 c.next_job.new.told))
+    job_makes (then_job (c.job.invariant.so_far answers) (c.in-TakeTurn.ensures.reached answers))
+    (c.begin_turn.ensures.halts (search rules) (answers c.in-TakeTurn.pid.0 c.next_job.new.told))
 
 pub job-preserved-in-Serve : goal.job-preserved-in-Serve
 job-preserved-in-Serve c = record {
@@ -28,17 +28,17 @@ either : {X : Type 0} (b : Bool) → (b ≡ true → X) → (b ≡ false → X) 
 either true if_true if_false = if_true refl
 either false if_true if_false = if_false refl
 
-pub job-preserved-in-Callback : goal.job-preserved-in-Callback
-job-preserved-in-Callback c =
-    either (is_cancelled c.next_job.new.self.timers.armings c.in-Callback.pid.0 c.in-Callback.number c.in-Callback.arming)
+pub job-preserved-in-CallBack : goal.job-preserved-in-CallBack
+job-preserved-in-CallBack c =
+    either (is_cancelled c.next_job.new.self.timers.armings c.in-CallBack.pid.0 c.in-CallBack.number c.in-CallBack.arming)
     (λ cancelled. rw (c.expire.ensures.cancelled cancelled) record {
       found = search rules;
-      so_far = λ answers. job_silently (then_job (c.job.invariant.so_far answers) (c.in-Callback.ensures.reached answers)) (search (cancelled, rules));
+      so_far = λ answers. job_silently (then_job (c.job.invariant.so_far answers) (c.in-CallBack.ensures.reached answers)) (search (cancelled, rules));
       present = search rules;
     })
     (λ counts. rw (c.expire.ensures.given counts) record {
       found = search rules;
-      so_far = λ answers. job_silently (then_job (c.job.invariant.so_far answers) (c.in-Callback.ensures.reached answers)) (search (counts, rules));
+      so_far = λ answers. job_silently (then_job (c.job.invariant.so_far answers) (c.in-CallBack.ensures.reached answers)) (search (counts, rules));
       present = search rules;
     })
 
@@ -64,12 +64,19 @@ job-preserved c = record {
       omega (arith, same, paid.1, c.job.invariant.present);
 }
 
-pub job-smaller-in-Callback : goal.job-smaller-in-Callback
-job-smaller-in-Callback c =
+pub job-smaller-in-CallBack : goal.job-smaller-in-CallBack
+job-smaller-in-CallBack c =
     let bound = present c.args.self.now.scheduler.state in
-    let paid = c.in-Callback.ensures.paid bound c.job.invariant.present in
-    let cons = costs-cons bound (Item.Give c.in-Callback.pid.0 Origin.Callback (Stimulus.Callback c.in-Callback.number)) c.next_job.new.self.scheduler.state.agenda in
+    let paid = c.in-CallBack.ensures.paid bound c.job.invariant.present in
+    let cons = costs-cons bound (Item.Give c.in-CallBack.pid.0 Origin.Callback (Stimulus.Callback c.in-CallBack.number)) c.next_job.new.self.scheduler.state.agenda in
     let same : c.next_job.new.self.work ≡ c.job.self.work = search rules in
-    either (is_cancelled c.next_job.new.self.timers.armings c.in-Callback.pid.0 c.in-Callback.number c.in-Callback.arming)
+    either (is_cancelled c.next_job.new.self.timers.armings c.in-CallBack.pid.0 c.in-CallBack.number c.in-CallBack.arming)
     (λ cancelled. rw (c.expire.ensures.cancelled cancelled, same) (omega (arith, paid.0)))
     (λ counts. rw (c.expire.ensures.given counts, cons, same) (omega (arith, paid.0)))
+
+pub job-smaller-in-Serve : goal.job-smaller-in-Serve
+job-smaller-in-Serve c =
+    let bound = present c.args.self.now.scheduler.state in
+    let paid = c.in-Serve.ensures.served _ refl bound c.job.invariant.present in
+    let same : c.serve_told.new.self.work ≡ c.job.self.work = search rules in
+    rw (c.serve_told.ensures.kept.agenda, same) (omega (arith, paid))

@@ -1,9 +1,9 @@
-use Rattle.process_core.proofs.Lemmas.{Some, scheduler_behind, scheduler_of, IsInOrder, ComesTo, job_of, job_told, HoldsEvent, behind_is_all, applications_from_comes_to, idle_from_rest, served_below, nothing_shown, yields_after}
+use Rattle.process_core.proofs.Lemmas.{Some, scheduler_behind, scheduler_of, IsInOrder, ComesTo, job_of, HoldsEvent, behind_is_all, applications_from_comes_to, idle_from_rest, served_below, nothing_shown, yields_after}
 use Rattle.process_core.proofs.scheduler.Scheduler.next_to.Goals as goal
 use Rattle.process_core.proofs.scheduler.Scheduler.next_to.Goals.{in-Some, in-None}
 
 -- either what came first led to the job, or the work behind it
-comes_to : (c : goal.After-each_is_once) → ComesTo c.args.self.now.state (job_of (job_told c.match-take_front.ready c.match-take_front.told)) (scheduler_of c.match-take_front.self-inside.fields)
+comes_to : (c : goal.After-each_is_once) → ComesTo c.args.self.now.state (job_of c.match-take_front.ready c.match-take_front.told) (scheduler_of c.match-take_front.self-inside.fields)
 comes_to c =
     rw (← c.self.view_is)
     (elim c.match-take_front.branch [
@@ -12,7 +12,7 @@ comes_to c =
           (rw (behind_is_all c.take_front.new.self (Some w.in-Some.ready) w.in-Some.ensures.front) at w.in-Some.ensures.yields)
       | in-None w ↦
           rw (w.told-is, w.ready-is, w.self-inside-is)
-          (yields_after (scheduler_of c.self.inside.fields) (scheduler_behind c.take_front.new.self) (Some (job_of (job_told w.work_on-ready.result w.work_on-ready.new.told)))
+          (yields_after (scheduler_of c.self.inside.fields) (scheduler_behind c.take_front.new.self) (Some (job_of w.work_on-ready.result w.work_on-ready.new.told))
           (scheduler_of w.work_on-ready.new.self) w.in-None.ensures.yields
           (rw (behind_is_all w.work_on-ready.new.self (Some w.work_on-ready.result) w.work_on-ready.ensures.front) at w.work_on-ready.ensures.yields))
     ])
@@ -46,7 +46,7 @@ returns-clause-job c = comes_to c
 
 pub returns-clause-applications : goal.returns-clause-applications
 returns-clause-applications c =
-    applications_from_comes_to c.args.self.now.state (job_of (job_told c.match-take_front.ready c.match-take_front.told)) (scheduler_of c.match-take_front.self-inside.fields) (comes_to c)
+    applications_from_comes_to c.args.self.now.state (job_of c.match-take_front.ready c.match-take_front.told) (scheduler_of c.match-take_front.self-inside.fields) (comes_to c)
 
 pub returns-clause-standing : goal.returns-clause-standing
 returns-clause-standing c =

@@ -1,4 +1,4 @@
-use Rattle.process_core.proofs.Lemmas.{◌≡◌, [], drop, length, sym, ap, arith, Some, job_of, job_told, scheduler_behind, from_marked, polls_yield, polls_end, first_and_rest, none_first, length-from_marked, if_none}
+use Rattle.process_core.proofs.Lemmas.{◌≡◌, [], drop, length, sym, ap, arith, Some, job_of, scheduler_behind, from_marked, polls_yield, polls_end, first_and_rest, none_first, length-from_marked, if_none}
 use Rattle.process_core.proofs.scheduler_fields.SchedulerFields.resume_below.Goals as goal
 
 pub returns-in-Some-clause-yields : goal.returns-in-Some-clause-yields
@@ -18,7 +18,7 @@ pub returns-in-Nothing-clause-yields : goal.returns-in-Nothing-clause-yields
 returns-in-Nothing-clause-yields c =
     let none = none_first (from_marked c.args.self.now.processes c.args.self.now.polls) (sym c.in_default.ensures.next) in
     let over : c.next_marked.new.self ≡ [] = rw none at c.in_default.ensures.behind in
-    polls_end c.args.self.now (Some (job_of (job_told c.begin_round.result c.args.told.now))) (scheduler_behind c.begin_round.new.self) c.requires.bare none
+    polls_end c.args.self.now (Some (job_of c.begin_round.result c.args.told.now)) (scheduler_behind c.begin_round.new.self) c.requires.bare none
     (rw over at (c.begin_round.ensures.yields c.args.told.now))
 
 pub returns-in-Boot-clause-yields : goal.returns-in-Boot-clause-yields
