@@ -210,6 +210,11 @@ one_byte_too_many (inl first) = omega (arith, first.1)
 one_byte_too_many (inr (inl second)) = omega (arith, second.1)
 one_byte_too_many (inr (inr last)) = omega (arith, last.0)
 
+past_the_end_of_all : IsFree 0 two_rows 10 7 4 → ⊥
+past_the_end_of_all (inl first) = omega (arith, first.1)
+past_the_end_of_all (inr (inl second)) = omega (arith, second.1)
+past_the_end_of_all (inr (inr last)) = omega (arith, last.1)
+
 reaches_into_the_first : IsFree 0 two_rows 10 1 2 → ⊥
 reaches_into_the_first (inl first) = omega (arith, first.1)
 reaches_into_the_first (inr (inl second)) = omega (arith, second.0)
