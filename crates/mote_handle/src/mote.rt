@@ -6,10 +6,10 @@ ghost use Rattle.mote_handle.specs.declared.open_mote.OpenMote.{OpenMote as Held
 ghost use Rattle.mote_handle.specs.Owned.{mote_owns};
 
 use crate::open_mote::OpenMote;
+use crate::unboxed::Unboxed;
 use std::alloc::Global;
 use std::marker::Model;
 use std::{mem, ptr};
-use unboxed::Unboxed;
 
 /// What an open mote has, on the heap; or nothing: then it is closed, as it is with all bytes 0.
 ///

@@ -35,7 +35,7 @@ use Rattle.std_heap.proofs.Global.TheLaws as global_laws
 use Rattle.std_heap.specs.contracts.GlobalAllocator.TheImpl.{ghosts}
 use Rattle.mote_handle.specs.Owned.{chunk}
 use Rattle.mote_handle.specs.contracts.open_mote.OpenMote as held
-use Rattle.unboxed.proofs.Parts.{Parts, parts_val, parts_good, put}
+use Rattle.mote_handle.proofs.Parts.{Parts, parts_val, parts_good, put}
 use Rattle.mote_handle.specs.contracts.mote.Mote.{the_row as Handle}
 use Rattle.mote_handle.proofs.Words.{mote_val, seen, by_state}
 use Rattle.core.proofs.atomic.Steps.{Ptr-Good}

@@ -24,7 +24,7 @@ use Rattle.std_heap.specs.contracts.Global as global
 use Rattle.std_heap.proofs.Global.TheLaws as global_laws
 use Rattle.std_heap.specs.contracts.GlobalAllocator.TheImpl.{ghosts}
 use Rattle.mote_handle.specs.contracts.open_mote.OpenMote as held
-use Rattle.unboxed.proofs.Parts.{Parts, parts_val, parts_good, taken}
+use Rattle.mote_handle.proofs.Parts.{Parts, parts_val, parts_good, taken}
 use Rattle.mote_handle.proofs.Words.{mote_val, made}
 use Rattle.mote_handle.specs.contracts.mote.Mote.of.{ended, clauses}
 use Rattle.mote_handle.specs.contracts.mote.Mote.of.Key.{name as #self}

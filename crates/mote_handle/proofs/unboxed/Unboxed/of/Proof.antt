@@ -34,11 +34,11 @@ use Rattle.std_alloc.proofs.BoxSteps.Steps.{box_out, box_in}
 use Rattle.std.proofs.raw_atomic.Walks.{proved_at, leaves}
 use Rattle.std_alloc.specs.contracts.boxed.Box.into_raw_with_allocator as callee
 use Rattle.std_alloc.proofs.boxed.Box.into_raw_with_allocator.Met.{met}
-use Rattle.unboxed.proofs.Parts.{parts_val, parts_good, put}
-use Rattle.unboxed.specs.contracts.Unboxed.of.{ended, clauses}
-use Rattle.unboxed.specs.contracts.Unboxed.of.Key.{name as #self}
-use Rattle.unboxed.proofs.Unboxed.of.Statement.{statement}
-use Rattle.unboxed.proofs.Unboxed.of.Code as code
+use Rattle.mote_handle.proofs.Parts.{parts_val, parts_good, put}
+use Rattle.mote_handle.specs.contracts.unboxed.Unboxed.of.{ended, clauses}
+use Rattle.mote_handle.specs.contracts.unboxed.Unboxed.of.Key.{name as #self}
+use Rattle.mote_handle.proofs.unboxed.Unboxed.of.Statement.{statement}
+use Rattle.mote_handle.proofs.unboxed.Unboxed.of.Code as code
 
 pub of_spec : {M : Type 1} → statement M
 of_spec 𝓤 𝓛 𝓜 𝓡 wired X Z LX LZ g d dd dx allocates drops glue =

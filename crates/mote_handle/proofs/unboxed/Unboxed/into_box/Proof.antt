@@ -33,11 +33,11 @@ use Rattle.std_alloc.proofs.BoxSteps.Steps.{box_out, box_in}
 use Rattle.std.proofs.raw_atomic.Walks.{proved_at, leaves}
 use Rattle.std_alloc.specs.contracts.boxed.Box.from_raw as callee
 use Rattle.std_alloc.proofs.boxed.Box.from_raw.Met.{met}
-use Rattle.unboxed.proofs.Parts.{Parts, parts_val, parts_good, taken}
-use Rattle.unboxed.specs.contracts.Unboxed.into_box.{ended, clauses}
-use Rattle.unboxed.specs.contracts.Unboxed.into_box.Key.{name as #self}
-use Rattle.unboxed.proofs.Unboxed.into_box.Statement.{statement}
-use Rattle.unboxed.proofs.Unboxed.into_box.Code as code
+use Rattle.mote_handle.proofs.Parts.{Parts, parts_val, parts_good, taken}
+use Rattle.mote_handle.specs.contracts.unboxed.Unboxed.into_box.{ended, clauses}
+use Rattle.mote_handle.specs.contracts.unboxed.Unboxed.into_box.Key.{name as #self}
+use Rattle.mote_handle.proofs.unboxed.Unboxed.into_box.Statement.{statement}
+use Rattle.mote_handle.proofs.unboxed.Unboxed.into_box.Code as code
 
 pub into_box_spec : {M : Type 1} → statement M
 into_box_spec 𝓤 𝓛 𝓜 𝓡 wired X Z LX LZ g d dd allocates drops =

@@ -1,5 +1,4 @@
 //! A box taken apart into its pointer and its allocator, so that the pointer can be kept where no box can.
-#![tactic(auto)]
 
 ghost use Rattle.std.specs.Prelude.{◌≡◌};
 ghost use Rattle.std_alloc.specs.Box.Ownership.{box_owns};

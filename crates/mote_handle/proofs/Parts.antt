@@ -25,7 +25,7 @@ use Rattle.core.proofs.alloc.Calls.{Al, handle_tells}
 use Rattle.core.proofs.cell.Inside.{Good}
 use Rattle.std_alloc.specs.Box.Ownership.{box_owns}
 use Rattle.std_alloc.proofs.ResultValues.{and_tt}
-use Rattle.unboxed.specs.contracts.Unboxed as unboxed
+use Rattle.mote_handle.specs.contracts.unboxed.Unboxed as unboxed
 
 -- a pointer and the handle of an allocator
 abbrev pub parts_val : ℕ → ℕ → Val → Val
