@@ -30,7 +30,8 @@ pub(crate) fn parts_of<'a>(alloc: Global, text: &'a str) -> Result<Vec<Part<'a>>
     let line = line_ends_in(text).saturating_sub(line_ends_in(runs));
     let parts = named_parts(alloc, line.saturating_add(1), runs)?;
     for (index, part) in parts.iter().enumerate() {
-        look_at_name(&parts.as_slice()[..index], *part)?;
+        let above = parts.as_slice().get(..index);
+        look_at_name(above.unwrap_or(&[]), *part)?;
     }
     Ok(parts)
 }

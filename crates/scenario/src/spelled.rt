@@ -30,15 +30,14 @@ fn may_have(line: &str) -> bool {
         || line.starts_with(|c: char| c.is_ascii_digit())
 }
 
-/// The line that is repeated, and what stands in front of it.
-fn repeated(line: &str) -> (&str, &str) {
-    let behind = match line.strip_prefix("times ") {
-        Some(rest) => rest.split_once(' '),
-        None => None,
+/// The count of a line that is repeated, where it is, and that line.
+fn repeated(line: &str) -> (Option<&str>, &str) {
+    let Some(rest) = line.strip_prefix("times ") else {
+        return (None, line);
     };
-    match behind {
-        Some((_, repeated)) => line.split_at(line.len().saturating_sub(repeated.len())),
-        None => ("", line),
+    match rest.split_once(' ') {
+        Some((count, repeated)) => (Some(count), repeated),
+        None => (None, line),
     }
 }
 
@@ -47,19 +46,28 @@ fn repeated(line: &str) -> (&str, &str) {
 pub(crate) fn plain_text(alloc: Global, text: &str) -> Result<String, AllocError> {
     let mut plain = String::new(alloc);
     for line in text.split_inclusive('\n') {
-        let (front, line) = repeated(line);
-        plain.push_str(front)?;
-        let unquoted = if may_have(line) {
-            unquoted(alloc, line)?
-        } else {
-            None
-        };
-        match unquoted {
-            Some(unquoted) => push_numbered(alloc, &mut plain, unquoted.as_str())?,
-            None => plain.push_str(line)?,
+        let (count, line) = repeated(line);
+        if let Some(count) = count {
+            plain.push_str("times ")?;
+            plain.push_str(count)?;
+            plain.push(' ')?;
         }
+        push_plain(alloc, &mut plain, line)?;
     }
     Ok(plain)
+}
+
+/// Appends a line so.
+fn push_plain(alloc: Global, plain: &mut String, line: &str) -> Result<(), AllocError> {
+    let unquoted = if may_have(line) {
+        unquoted(alloc, line)?
+    } else {
+        None
+    };
+    match unquoted {
+        Some(unquoted) => push_numbered(alloc, plain, unquoted.as_str()),
+        None => plain.push_str(line),
+    }
 }
 
 /// A line with hex in the place of each text in quotes. None where a quote has no end, or an escape no form.
