@@ -118,13 +118,16 @@ fn command<'a>(alloc: Global) -> Result<Command<'a>, AllocError> {
         "write",
         "Puts the transcripts in their places in the files, in place of those that differ",
     )
-    .conflicts_with_all(&["all", "thorough", "json"])?;
+    .conflicts_with("all")?
+    .conflicts_with("thorough")?
+    .conflicts_with("json")?;
     let json = flag(
         alloc,
         "json",
         "Runs nothing, and writes what each run is given and is to write, as a line of JSON",
     )
-    .conflicts_with_all(&["all", "thorough"])?;
+    .conflicts_with("all")?
+    .conflicts_with("thorough")?;
     let thorough = flag(
         alloc,
         "thorough",

@@ -2,7 +2,7 @@
 
 ghost use Rattle.std.specs.Prelude.{◌<◌};
 
-use crate::program::Acts;
+use crate::program::{Acts, Program};
 use crate::scenario::Scenario;
 use mote_kit::fault::MoteFault;
 use mote_kit::mote::run_boxes;
@@ -61,7 +61,8 @@ pub(crate) fn outcome_of(
 ) -> Result<Outcome, AllocError> {
     let mut boxes: Vec<Box<dyn App>> = Vec::new(alloc);
     for program in mem::replace(&mut scenario.programs, Vec::new(alloc)) {
-        match program.acts {
+        let Program { acts, .. } = program;
+        match acts {
             Acts::ByName(application) => boxes.push(Box::new(alloc, application)?)?,
             Acts::ByRows(rows) => boxes.push(Box::new(alloc, Reactions::new(rows))?)?,
         }
@@ -156,21 +157,27 @@ fn is_shown<R: AllocGlobal + Print>(
             println!(rt; "{name}: {difference}")?;
             Ok(false)
         }
-        Err(_) => tell_changes(rt, name, scenario, outcome, tells_all),
+        Err(_) => tell_changes(
+            rt,
+            name,
+            scenario.transcript.as_str(),
+            outcome.text(),
+            tells_all,
+        ),
     }
 }
 
 /// Tells the differences of two transcripts, or the first of them. Answers whether there are none, since a line of the one
 /// may stand for any lines.
-fn tell_changes<R: AllocGlobal + Print>(
+fn tell_changes<'x, R: AllocGlobal + Print>(
     rt: &R,
     name: &str,
-    scenario: &Scenario<'_>,
-    outcome: &Outcome,
+    wanted: &'x str,
+    found: &'x str,
     tells_all: bool,
 ) -> io::Result<bool> {
-    let wanted = lines_of(rt.alloc(), scenario.transcript.as_str())?;
-    let found = lines_of(rt.alloc(), outcome.text())?;
+    let wanted = lines_of(rt.alloc(), wanted)?;
+    let found = lines_of(rt.alloc(), found)?;
     if fits(wanted.as_slice(), found.as_slice()) {
         return Ok(true);
     }
