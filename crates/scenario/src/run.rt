@@ -157,13 +157,11 @@ fn is_shown<R: AllocGlobal + Print>(
             println!(rt; "{name}: {difference}")?;
             Ok(false)
         }
-        Err(_) => tell_changes(
-            rt,
-            name,
-            scenario.transcript.as_str(),
-            outcome.text(),
-            tells_all,
-        ),
+        Err(_) => {
+            let wanted = lines_of(rt.alloc(), scenario.transcript.as_str())?;
+            let found = lines_of(rt.alloc(), outcome.text())?;
+            tell_changes(rt, name, wanted.as_slice(), found.as_slice(), tells_all)
+        }
     }
 }
 
@@ -172,16 +170,14 @@ fn is_shown<R: AllocGlobal + Print>(
 fn tell_changes<'x, R: AllocGlobal + Print>(
     rt: &R,
     name: &str,
-    wanted: &'x str,
-    found: &'x str,
+    wanted: &'x [&'x str],
+    found: &'x [&'x str],
     tells_all: bool,
 ) -> io::Result<bool> {
-    let wanted = lines_of(rt.alloc(), wanted)?;
-    let found = lines_of(rt.alloc(), found)?;
-    if fits(wanted.as_slice(), found.as_slice()) {
+    if fits(wanted, found) {
         return Ok(true);
     }
-    for change in changes(rt.alloc(), wanted.as_slice(), found.as_slice())? {
+    for change in changes(rt.alloc(), wanted, found)? {
         println!(rt; "{name}: {change}")?;
         if !tells_all {
             break;
