@@ -20,6 +20,11 @@ The lines of a file:
                   or clock-watcher, which asks for the clock at every turn
   calls CALL, ..  one more application, which makes these calls, 128 at most,
                   and then waits; '3 clock' is three calls
+  rows            one more application, which does what the rows below say:
+  on STIMULUS: CALL, ..
+                  the calls that answer an event (136, TIMER 0, line, frame),
+                  callback, refused or any; 'repeat' as the last one begins
+                  anew, and 'told' as a call's last word is what was told last
   mmem N, heap N, quota N, header N
                   sizes in bytes, as the options of mote
   quiet           the transcript is a quiet one
@@ -31,15 +36,32 @@ The lines of a file:
   ends END        how the run ends: finished, halted, too long, bad line N or
                   bad sizes; else as the transcript's last line shows
   times N LINE    a line of the script or the transcript, N times
-  4 ..., > ...    and all else that mote writes: the transcript
+  4 ..., > ...    and all else that mote writes: the transcript, in which a
+                  line ... stands for any lines
+  \"hi\", INIT      may stand for hex digits, and for the number of an event
 
 Exit status:
   0   each run came out as its file says, or was written
   1   some run did not, or came to no end
   2   a file has no form: nothing was run
-  6   standard output can't be written
+  6   standard output, or a file, can't be written
   64  the words are no use
   70  memory was refused";
+
+/// What is to be done with files.
+#[derive(Clone, Copy, Drop)]
+pub(crate) struct Wish {
+    /// Each run is carried out in pieces too.
+    pub(crate) thorough: bool,
+    /// Each difference is told.
+    pub(crate) tells_all: bool,
+    /// Transcripts are put in place.
+    pub(crate) writes: bool,
+    /// What the files say is written, and nothing is run.
+    pub(crate) records: bool,
+    /// There are several files.
+    pub(crate) of_several: bool,
+}
 
 /// What the words ask for.
 #[derive(Drop)]
@@ -64,10 +86,24 @@ impl<'a> Request<'a> {
         self.matches.get_strs("FILE")
     }
 
-    /// Whether each run is carried out in pieces too.
-    pub(crate) fn is_thorough(&self) -> bool {
-        self.matches.get_flag("thorough")
+    /// What is to be done with so many files.
+    pub(crate) fn wish(&self, files: usize) -> Wish {
+        Wish {
+            thorough: self.matches.get_flag("thorough"),
+            tells_all: self.matches.get_flag("all"),
+            writes: self.matches.get_flag("write"),
+            records: self.matches.get_flag("json"),
+            of_several: files > 1,
+        }
     }
+}
+
+/// An option that takes no word.
+fn flag<'a>(alloc: Global, name: &'a str, help: &'a str) -> Arg<'a> {
+    Arg::new(alloc, name)
+        .long(name)
+        .action(ArgAction::SetTrue)
+        .help(help)
 }
 
 /// The command line as the parser is told it.
@@ -76,16 +112,34 @@ fn command<'a>(alloc: Global) -> Result<Command<'a>, AllocError> {
         .num_args(1..)
         .required(true)
         .help("Files that tell of runs");
-    let thorough = Arg::new(alloc, "thorough")
-        .long("thorough")
-        .action(ArgAction::SetTrue)
-        .help(
-            "Carries out each run with a transcript in fifteen kinds of pieces too, and walks over its lines",
-        );
+    let all = flag(alloc, "all", "Shows every difference");
+    let write = flag(
+        alloc,
+        "write",
+        "Puts the transcripts in their places in the files, in place of those that differ",
+    )
+    .conflicts_with("all")?
+    .conflicts_with("thorough")?
+    .conflicts_with("json")?;
+    let json = flag(
+        alloc,
+        "json",
+        "Runs nothing, and writes what each run is given and is to write, as a line of JSON",
+    )
+    .conflicts_with("all")?
+    .conflicts_with("thorough")?;
+    let thorough = flag(
+        alloc,
+        "thorough",
+        "Carries out each run with a transcript in fifteen kinds of pieces too, and walks over its lines",
+    );
     Command::new(alloc, "scenario")
         .version(VERSION)
         .about(ABOUT)
         .after_help(AFTER_HELP)
+        .arg(write)?
+        .arg(all)?
         .arg(thorough)?
+        .arg(json)?
         .arg(files)
 }

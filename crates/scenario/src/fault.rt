@@ -1,6 +1,7 @@
 //! Why a line of a file has no form.
 
 use call_lists::CallFault;
+use reaction_rows::RowFault;
 use std::alloc::{AllocError, AllocFailed};
 use thiserror::Error;
 
@@ -12,8 +13,18 @@ pub(crate) enum Fault<'a> {
     /// Words name no application, no call or no number.
     #[error(transparent)]
     Call(#[from] CallFault<'a>),
+    #[error(transparent)]
+    Row(#[from] RowFault<'a>),
+    #[error("a row stands below a line rows, or below another row")]
+    NoRows,
+    #[error("the row's stimulus has a row above")]
+    TwoRows,
+    #[error("{0} takes no word")]
+    TooManyWords(&'a str),
     #[error("{0} is no line of a script")]
     NoScriptLine(&'a str),
+    #[error("{0} is no line of a transcript")]
+    NoTranscriptLine(&'a str),
     #[error("a text has at most 255 bytes")]
     LongText,
     #[error("{0} is no clock")]
@@ -27,12 +38,45 @@ pub(crate) enum Fault<'a> {
     ScriptHasEnded,
     #[error("no end of a run: {0}")]
     NoEnd(&'a str),
-    #[error("quiet takes no word")]
-    QuietWithWords,
+    #[error("{0} stands there twice")]
+    Twice(&'a str),
+    #[error("{name} takes a multiple of 4 from {least} to 65536")]
+    BadSize { name: &'static str, least: u32 },
+    #[error("header takes 16 or 8")]
+    BadHeader,
+    #[error("mmem has no room for a quota of each application and one of the frames")]
+    QuotasExceed,
+    #[error("a run has at most 16 applications")]
+    TooManyApplications,
     #[error("a line above the first run")]
     AboveTheFirstRun,
+    #[error("a run has no name")]
+    NoName,
+    #[error("two runs have the name {0}")]
+    SameName(&'a str),
+    /// What is wrong with the letters of the line.
+    #[error("{0}")]
+    Flaw(&'static str),
     #[error("out of memory")]
     OutOfMemory,
+}
+
+impl Fault<'_> {
+    /// Whether words are at fault that a slip of a letter may have spoilt.
+    pub(crate) fn is_of_words(&self) -> bool {
+        matches!(
+            self,
+            Fault::UnknownWord(_)
+                | Fault::Call(_)
+                | Fault::Row(_)
+                | Fault::TooManyWords(_)
+                | Fault::NoScriptLine(_)
+                | Fault::NoTranscriptLine(_)
+                | Fault::NoClock(_)
+                | Fault::NoEnd(_)
+                | Fault::AboveTheFirstRun
+        )
+    }
 }
 
 impl From<AllocError> for Fault<'_> {

@@ -2,10 +2,14 @@
 
 ghost use Rattle.std.specs.Prelude.{◌<◌};
 
+use crate::command_line::Wish;
 use crate::fault::Fault;
+use crate::flaw::flaw_of;
 use crate::parts::{Part, parts_of};
-use crate::run::{WHOLE, Widths, comes_out, keeps_laws, outcome_of};
+use crate::record::record_of;
+use crate::run::{WHOLE, Way, Widths, comes_out, outcome_of};
 use crate::scenario::{Misread, Scenario};
+use crate::spelled::plain_text;
 use std::alloc::{AllocError, Global};
 use std::rt::Files;
 use std::{fs, io};
@@ -13,8 +17,10 @@ use std::{fs, io};
 /// A file that was read.
 #[derive(Drop)]
 pub(crate) struct ScenarioFile<'a> {
-    path: &'a str,
-    text: String,
+    pub(crate) path: &'a str,
+    pub(crate) text: String,
+    /// The text with numbers and hex in the place of names and quotes, line by line.
+    plain: String,
 }
 
 /// What a file's runs came to.
@@ -46,7 +52,10 @@ impl<'a> ScenarioFile<'a> {
         path: &'a str,
     ) -> io::Result<Option<Self>> {
         match fs::read_to_string(rt, path) {
-            Ok(text) => Ok(Some(ScenarioFile { path, text })),
+            Ok(text) => {
+                let plain = plain_text(rt.alloc(), text.as_str())?;
+                Ok(Some(ScenarioFile { path, text, plain }))
+            }
             Err(error) if error.kind() == io::ErrorKind::OutOfMemory => Err(error),
             Err(error) => {
                 let _ = eprintln!(rt; "scenario: {path}: {}", reason(error.kind()));
@@ -55,9 +64,14 @@ impl<'a> ScenarioFile<'a> {
         }
     }
 
+    /// The parts of the file. One that has a form has parts.
+    pub(crate) fn parts(&self, alloc: Global) -> Result<Vec<Part<'_>>, Misread<'_>> {
+        parts_of(alloc, self.plain.as_str())
+    }
+
     /// Whether each line has a form. Where one has none, the first is told on standard error.
     pub(crate) fn has_form<R: AllocGlobal + Eprint>(&self, rt: &R) -> Result<bool, AllocError> {
-        let Err(misread) = look(rt.alloc(), self.text.as_str()) else {
+        let Err(misread) = self.look(rt.alloc()) else {
             return Ok(true);
         };
         if matches!(misread.fault, Fault::OutOfMemory) {
@@ -65,28 +79,51 @@ impl<'a> ScenarioFile<'a> {
         }
         let _ = eprintln!(rt;
             "scenario: {}: line {}: {}",
-            self.path, misread.line, misread.fault
+            self.path,
+            misread.line,
+            self.sooner_seen(misread)
         );
         Ok(false)
     }
-}
 
-/// Looks whether each line of a file has a form.
-fn look(alloc: Global, text: &str) -> Result<(), Misread<'_>> {
-    for part in parts_of(alloc, text)? {
-        Scenario::of(alloc, part)?;
+    /// Looks whether each line has a form.
+    fn look(&self, alloc: Global) -> Result<(), Misread<'_>> {
+        for part in self.parts(alloc)? {
+            Scenario::of(alloc, part)?;
+        }
+        Ok(())
     }
-    Ok(())
-}
 
-impl ScenarioFile<'_> {
+    /// A fault of a line, or of its letters, where something is wrong with those.
+    fn sooner_seen<'b>(&self, misread: Misread<'b>) -> Fault<'b> {
+        let line = self.plain.split('\n').nth(misread.line.saturating_sub(1));
+        match flaw_of(line.unwrap_or("")) {
+            Some(flaw) if misread.fault.is_of_words() => Fault::Flaw(flaw),
+            _ => misread.fault,
+        }
+    }
+
+    /// Writes what the file says of its runs, as JSON, a line for each.
+    pub(crate) fn write_records<R: AllocGlobal + Print>(&self, rt: &R) -> io::Result<()> {
+        let Ok(parts) = self.parts(rt.alloc()) else {
+            return Ok(());
+        };
+        for part in parts {
+            if let Ok(scenario) = Scenario::of(rt.alloc(), part) {
+                let record = record_of(rt.alloc(), self.path, part.name, scenario)?;
+                println!(rt; "{}", record.as_str())?;
+            }
+        }
+        Ok(())
+    }
+
     /// Carries out all runs of the file, and tells what came of them. Answers whether all came out as the file says.
     pub(crate) fn carry_out<R: AllocGlobal + Print + Eprint>(
         &self,
         rt: &R,
-        thorough: bool,
+        wish: Wish,
     ) -> io::Result<bool> {
-        let Ok(parts) = parts_of(rt.alloc(), self.text.as_str()) else {
+        let Ok(parts) = self.parts(rt.alloc()) else {
             return Ok(false);
         };
         let mut count = Count {
@@ -95,10 +132,15 @@ impl ScenarioFile<'_> {
             in_pieces: 0,
             endless: 0,
         };
+        let mut title = if wish.of_several {
+            Some(self.path)
+        } else {
+            None
+        };
         for part in parts {
-            self.carry_part_out(rt, part, thorough, &mut count)?;
+            self.carry_part_out(rt, part, wish, &mut title, &mut count)?;
         }
-        self.tell(rt, thorough, &count)
+        self.tell(rt, wish.thorough, &count)
     }
 
     /// How a run is called in what is told of it.
@@ -113,7 +155,8 @@ impl ScenarioFile<'_> {
         &self,
         rt: &R,
         part: Part<'_>,
-        thorough: bool,
+        wish: Wish,
+        title: &mut Option<&str>,
         count: &mut Count,
     ) -> io::Result<()> {
         let Ok(mut scenario) = Scenario::of(rt.alloc(), part) else {
@@ -121,15 +164,22 @@ impl ScenarioFile<'_> {
         };
         let name = self.name_of(rt.alloc(), part)?;
         if !scenario.is_told() {
+            if let Some(path) = title.take() {
+                println!(rt; "# {path}")?;
+            }
             let has_ended = show(rt, part.name, name.as_str(), &mut scenario)?;
             count.endless = count.endless.saturating_add(u32::from(!has_ended));
             return Ok(());
         }
         count.told = count.told.saturating_add(1);
-        let keeps = !thorough || keeps_laws(rt, name.as_str(), &scenario)?;
-        let comes = comes_out(rt, name.as_str(), scenario, WHOLE)?;
-        count.as_told = count.as_told.saturating_add(u32::from(keeps && comes));
-        if thorough {
+        let way = Way {
+            widths: WHOLE,
+            tells_all: wish.tells_all,
+            walks: wish.thorough,
+        };
+        let comes = comes_out(rt, name.as_str(), scenario, way)?;
+        count.as_told = count.as_told.saturating_add(u32::from(comes));
+        if wish.thorough {
             let held = count_cuts(rt, name.as_str(), part)?;
             count.in_pieces = count.in_pieces.saturating_add(held);
         }
@@ -169,7 +219,7 @@ fn show<R: AllocGlobal + Print + Eprint>(
     if let Some(title) = title {
         println!(rt; "== {title}")?;
     }
-    rt.print(str::from_utf8(outcome.transcript.as_slice()).unwrap_or(""))?;
+    rt.print(outcome.text())?;
     if !outcome.has_ended {
         let _ = eprintln!(rt; "scenario: {name}: {}", outcome.end);
     }
@@ -189,7 +239,12 @@ fn count_sinks<R: AllocGlobal + Print>(
     let mut held = 0u32;
     for taken in [1, 5, usize::MAX] {
         if let Ok(scenario) = Scenario::of(rt.alloc(), part) {
-            let comes = comes_out(rt, name, scenario, Widths { given, taken })?;
+            let way = Way {
+                widths: Widths { given, taken },
+                tells_all: false,
+                walks: false,
+            };
+            let comes = comes_out(rt, name, scenario, way)?;
             held = held.saturating_add(u32::from(comes));
         }
     }

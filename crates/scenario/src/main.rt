@@ -5,21 +5,28 @@
 mod command_line;
 mod fault;
 mod files;
+mod flaw;
 mod inputs;
 mod parts;
+mod program;
+mod record;
 mod run;
 mod scenario;
+mod sizes;
+mod spelled;
 mod status;
+mod writing;
 
 use clap::Error;
 use clap::error::ErrorKind;
-use command_line::Request;
+use command_line::{Request, Wish};
 use files::ScenarioFile;
 use status::Status;
 use std::alloc::{AllocError, Global};
 use std::process::ExitCode;
 use std::rt::Files;
 use std::{env, io};
+use writing::write_in_place;
 
 /// Reads the files of these paths, and looks whether all have a form. Those that have none are told on standard error, and
 /// there are no files then.
@@ -41,23 +48,46 @@ fn read_files<'a, R: AllocGlobal + Files + Eprint>(
     Ok(if have_form { Some(files) } else { None })
 }
 
-/// Carries out what the files of these paths tell.
+/// Does with the files of these paths what is wished.
 fn run_files<R: AllocGlobal + Files + Print + Eprint>(
     rt: &R,
     paths: &[&str],
-    thorough: bool,
+    wish: Wish,
 ) -> io::Result<Status> {
     let Some(files) = read_files(rt, paths)? else {
         return Ok(Status::NoForm);
     };
+    if wish.writes {
+        return write_files(rt, files.as_slice());
+    }
     let mut are_as_told = true;
     for file in files {
-        are_as_told = file.carry_out(rt, thorough)? && are_as_told;
+        if wish.records {
+            file.write_records(rt)?;
+        } else {
+            are_as_told = file.carry_out(rt, wish)? && are_as_told;
+        }
     }
     Ok(if are_as_told {
         Status::AsTold
     } else {
         Status::Differs
+    })
+}
+
+/// Puts the transcripts in their places in all files.
+fn write_files<R: AllocGlobal + Files + Print + Eprint>(
+    rt: &R,
+    files: &[ScenarioFile<'_>],
+) -> io::Result<Status> {
+    let mut are_written = true;
+    for file in files {
+        are_written = write_in_place(rt, file)? && are_written;
+    }
+    Ok(if are_written {
+        Status::AsTold
+    } else {
+        Status::NotWritten
     })
 }
 
@@ -107,7 +137,7 @@ fn work<R: AllocGlobal + env::Env + Files + Print + Eprint>(rt: &R) -> io::Resul
     let texts = texts_of(rt.alloc(), words.as_slice())?;
     match Request::of(rt.alloc(), texts.as_slice()) {
         Ok(request) => match request.paths() {
-            Some(paths) => run_files(rt, paths, request.is_thorough()),
+            Some(paths) => run_files(rt, paths, request.wish(paths.len())),
             None => Ok(Status::Words),
         },
         Err(error) => tell_parser_text(rt, error),

@@ -21,14 +21,19 @@ pub(crate) struct Part<'a> {
 ///
 /// # Errors
 ///
-/// A line above the first run that is neither empty nor a comment.
+/// A line above the first run that is neither empty nor a comment, and a run with no name, or with one that another has.
 pub(crate) fn parts_of<'a>(alloc: Global, text: &'a str) -> Result<Vec<Part<'a>>, Misread<'a>> {
     let Some((above, runs)) = parted(text) else {
         return Ok(whole_part(alloc, text)?);
     };
     look_above(above)?;
     let line = line_ends_in(text).saturating_sub(line_ends_in(runs));
-    Ok(named_parts(alloc, line.saturating_add(1), runs)?)
+    let parts = named_parts(alloc, line.saturating_add(1), runs)?;
+    for (index, part) in parts.iter().enumerate() {
+        let above = parts.as_slice().get(..index);
+        look_at_name(above.unwrap_or(&[]), *part)?;
+    }
+    Ok(parts)
 }
 
 /// A text with no heads is one run.
@@ -74,7 +79,7 @@ fn line_ends_in(text: &str) -> usize {
 
 /// Above the first run a file has comments and empty lines alone.
 fn look_above(text: &str) -> Result<(), Misread<'_>> {
-    for (index, line) in text.lines().enumerate() {
+    for (index, line) in text.split('\n').enumerate() {
         if !line.is_empty() && !line.starts_with('#') {
             return Err(Misread {
                 line: index.saturating_add(1),
@@ -83,4 +88,20 @@ fn look_above(text: &str) -> Result<(), Misread<'_>> {
         }
     }
     Ok(())
+}
+
+/// A run has a name that none of those above has.
+fn look_at_name<'a>(above: &[Part<'a>], part: Part<'a>) -> Result<(), Misread<'a>> {
+    let name = part.name.unwrap_or("");
+    let fault = if name.trim().is_empty() {
+        Fault::NoName
+    } else if above.iter().any(|other| other.name == part.name) {
+        Fault::SameName(name)
+    } else {
+        return Ok(());
+    };
+    Err(Misread {
+        line: part.first_line.saturating_sub(1),
+        fault,
+    })
 }

@@ -2,6 +2,7 @@
 
 ghost use Rattle.std.specs.Prelude.{◌<◌};
 
+use crate::program::{Acts, Program};
 use crate::scenario::Scenario;
 use mote_kit::fault::MoteFault;
 use mote_kit::mote::run_boxes;
@@ -9,9 +10,10 @@ use mote_kit::script::Script;
 use mote_kit::transcript::Transcript;
 use mote_run::End;
 use mote_types::app::App;
+use reaction_rows::Reactions;
 use std::alloc::{AllocError, Global};
 use std::{io, mem};
-use text_difference::compare;
+use text_difference::{changes, compare, fits};
 use transcript_walks::are_laws_kept;
 
 /// How a run ended, in words.
@@ -58,8 +60,12 @@ pub(crate) fn outcome_of(
     widths: Widths,
 ) -> Result<Outcome, AllocError> {
     let mut boxes: Vec<Box<dyn App>> = Vec::new(alloc);
-    for application in mem::replace(&mut scenario.applications, Vec::new(alloc)) {
-        boxes.push(Box::new(alloc, application)?)?;
+    for program in mem::replace(&mut scenario.programs, Vec::new(alloc)) {
+        let Program { acts, .. } = program;
+        match acts {
+            Acts::ByName(application) => boxes.push(Box::new(alloc, application)?)?,
+            Acts::ByRows(rows) => boxes.push(Box::new(alloc, Reactions::new(rows))?)?,
+        }
     }
     let script = scenario.script();
     let reads = script.len().div_ceil(widths.given.min(READ_LIMIT)) as u64;
@@ -69,7 +75,7 @@ pub(crate) fn outcome_of(
     let mut sink = Transcript::new(alloc).in_pieces_of(widths.taken);
     let ran = run_boxes(
         alloc,
-        scenario.sizes,
+        scenario.sizes(),
         boxes.as_mut_slice(),
         &mut source,
         &mut sink,
@@ -87,47 +93,118 @@ pub(crate) fn outcome_of(
     })
 }
 
-/// Whether a run comes out as its file says. Where it does not, the first line is told that differs, and how it ended,
-/// where that differs.
-pub(crate) fn comes_out<R: AllocGlobal + Print>(
-    rt: &R,
-    name: &str,
-    mut scenario: Scenario<'_>,
-    widths: Widths,
-) -> io::Result<bool> {
-    let outcome = outcome_of(rt.alloc(), &mut scenario, widths)?;
-    let is_same = outcome.end.as_str() == scenario.end();
-    if !is_same {
-        println!(rt;
-            "{name}: ended with: {}, and not: {}",
-            outcome.end,
-            scenario.end()
-        )?;
+/// How a run is compared with what its file says.
+#[derive(Clone, Copy, Drop)]
+pub(crate) struct Way {
+    pub(crate) widths: Widths,
+    /// Whether each difference is told, or the first.
+    pub(crate) tells_all: bool,
+    /// Whether plain walks over the transcript are to hold, too.
+    pub(crate) walks: bool,
+}
+
+impl Outcome {
+    pub(crate) fn text(&self) -> &str {
+        str::from_utf8(self.transcript.as_slice()).unwrap_or("")
     }
-    let wanted = scenario.transcript.as_bytes();
-    match compare(wanted, outcome.transcript.as_slice()) {
-        Ok(()) => Ok(is_same),
-        Err(difference) => {
-            println!(rt; "{name}: {difference}")?;
-            Ok(false)
+
+    /// Whether the run ended as its file says.
+    pub(crate) fn ended_as_told(&self, scenario: &Scenario<'_>) -> bool {
+        match scenario.end() {
+            Some(end) => self.end.as_str() == end,
+            None => true,
         }
     }
 }
 
-/// Whether the transcript that a file has for a run shows of memory, events and timers what every run is to show. Where it
-/// does not, that is told.
-pub(crate) fn keeps_laws<R: AllocGlobal + Print>(
+/// Whether a run comes out as its file says. Where it does not, it is told what differs.
+pub(crate) fn comes_out<R: AllocGlobal + Print>(
+    rt: &R,
+    name: &str,
+    mut scenario: Scenario<'_>,
+    way: Way,
+) -> io::Result<bool> {
+    let applications = scenario.programs.len();
+    let outcome = outcome_of(rt.alloc(), &mut scenario, way.widths)?;
+    let is_same = outcome.ended_as_told(&scenario);
+    if !is_same {
+        println!(rt;
+            "{name}: ended with: {}, and not: {}",
+            outcome.end,
+            scenario.end().unwrap_or("")
+        )?;
+    }
+    let keeps = !way.walks || keeps_laws(rt, name, applications, scenario.quiet, outcome.text())?;
+    let shows = is_shown(rt, name, &scenario, &outcome, way.tells_all)?;
+    Ok(is_same && keeps && shows)
+}
+
+/// Whether the transcript is the one that the file tells. Where it is not, the lines are told that differ.
+fn is_shown<R: AllocGlobal + Print>(
     rt: &R,
     name: &str,
     scenario: &Scenario<'_>,
+    outcome: &Outcome,
+    tells_all: bool,
+) -> io::Result<bool> {
+    let difference = compare(
+        scenario.transcript.as_bytes(),
+        outcome.transcript.as_slice(),
+    );
+    match difference {
+        Ok(()) => Ok(true),
+        Err(difference) if !scenario.has_gaps && !tells_all => {
+            println!(rt; "{name}: {difference}")?;
+            Ok(false)
+        }
+        Err(_) => {
+            let wanted = lines_of(rt.alloc(), scenario.transcript.as_str())?;
+            let found = lines_of(rt.alloc(), outcome.text())?;
+            tell_changes(rt, name, wanted.as_slice(), found.as_slice(), tells_all)
+        }
+    }
+}
+
+/// Tells the differences of two transcripts, or the first of them. Answers whether there are none, since a line of the one
+/// may stand for any lines.
+fn tell_changes<'x, R: AllocGlobal + Print>(
+    rt: &R,
+    name: &str,
+    wanted: &'x [&'x str],
+    found: &'x [&'x str],
+    tells_all: bool,
+) -> io::Result<bool> {
+    if fits(wanted, found) {
+        return Ok(true);
+    }
+    for change in changes(rt.alloc(), wanted, found)? {
+        println!(rt; "{name}: {change}")?;
+        if !tells_all {
+            break;
+        }
+    }
+    Ok(false)
+}
+
+/// The lines of a transcript.
+pub(crate) fn lines_of(alloc: Global, text: &str) -> Result<Vec<&str>, AllocError> {
+    let mut lines = Vec::new(alloc);
+    for line in text.lines() {
+        lines.push(line)?;
+    }
+    Ok(lines)
+}
+
+/// Whether a transcript shows of memory, events and timers what every run is to show. Where it does not, that is told.
+fn keeps_laws<R: AllocGlobal + Print>(
+    rt: &R,
+    name: &str,
+    applications: usize,
+    quiet: bool,
+    transcript: &str,
 ) -> io::Result<bool> {
     // a quiet transcript has no turns to walk over
-    let are_kept = scenario.quiet
-        || are_laws_kept(
-            rt.alloc(),
-            scenario.applications.len(),
-            scenario.transcript.as_str(),
-        )?;
+    let are_kept = quiet || are_laws_kept(rt.alloc(), applications, transcript)?;
     if !are_kept {
         println!(rt; "{name}: a law of memory, events or timers is broken")?;
     }

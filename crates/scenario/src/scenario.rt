@@ -3,24 +3,44 @@
 use crate::fault::Fault;
 use crate::inputs::{Inputs, push_lines};
 use crate::parts::Part;
-use call_lists::{Application, number_of};
-use mote_kit::mote::DEFAULT_SIZES;
+use crate::program::Program;
+use crate::sizes::{Given, GivenSizes, are_few};
+use call_lists::number_of;
 use node_memory::Sizes;
 use std::alloc::{AllocError, Global};
+use text_difference::GAP;
+use transcript_lines::line::read_line;
 
 /// How often a line may be repeated.
 const MOST_TIMES: u32 = 1_000_000;
 
+/// How a run ends that never begins.
+pub(crate) const BAD_SIZES: &str = "bad sizes";
+
+/// A line of a file that tells of the transcript.
+#[derive(Clone, Copy, Drop)]
+pub(crate) struct ToldLine {
+    /// Its number.
+    pub(crate) line: usize,
+    /// How many bytes of the transcript it makes.
+    pub(crate) size: usize,
+}
+
 /// What is run, and what is to come of it.
 #[derive(Drop)]
 pub(crate) struct Scenario<'a> {
-    pub(crate) sizes: Sizes,
-    pub(crate) applications: Vec<Application>,
-    inputs: Inputs,
+    sizes: GivenSizes,
+    pub(crate) programs: Vec<Program<'a>>,
+    pub(crate) inputs: Inputs,
     pub(crate) quiet: bool,
-    /// How the run ends, where the file says so apart from the transcript.
-    end: Option<&'a str>,
+    /// How the run ends, where the file says so apart from the transcript, and the number of that line.
+    pub(crate) end: Option<(&'a str, usize)>,
     pub(crate) transcript: String,
+    pub(crate) told: Vec<ToldLine>,
+    /// Whether some line of the transcript stands for any lines.
+    pub(crate) has_gaps: bool,
+    /// The number of the last line that is neither empty nor a comment, else of the one above the first.
+    pub(crate) last_line: usize,
 }
 
 /// A line of a file that has no form.
@@ -41,29 +61,45 @@ impl From<AllocError> for Misread<'_> {
 }
 
 impl<'a> Scenario<'a> {
-    /// The run that a part of a file tells of.
-    ///
-    /// # Errors
-    ///
-    /// The first of its lines that has no form.
-    pub(crate) fn of(alloc: Global, part: Part<'a>) -> Result<Self, Misread<'a>> {
-        let mut scenario = Scenario {
-            sizes: DEFAULT_SIZES,
-            applications: Vec::new(alloc),
+    fn new(alloc: Global, last_line: usize) -> Self {
+        Scenario {
+            sizes: GivenSizes::none(),
+            programs: Vec::new(alloc),
             inputs: Inputs::new(alloc),
             quiet: false,
             end: None,
             transcript: String::new(alloc),
-        };
-        for (index, line) in part.lines.lines().enumerate() {
-            if let Err(fault) = scenario.read_line(alloc, line) {
+            told: Vec::new(alloc),
+            has_gaps: false,
+            last_line,
+        }
+    }
+
+    /// The run that a part of a file tells of.
+    ///
+    /// # Errors
+    ///
+    /// The first of its lines that has no form; else the line of a size with which no mote boots, where the file doesn't say
+    /// that none does.
+    pub(crate) fn of(alloc: Global, part: Part<'a>) -> Result<Self, Misread<'a>> {
+        let mut scenario = Scenario::new(alloc, part.first_line.saturating_sub(1));
+        for (index, line) in part.lines.split('\n').enumerate() {
+            let number = part.first_line.saturating_add(index);
+            if let Err(fault) = scenario.take_line(alloc, number, line) {
                 return Err(Misread {
-                    line: part.first_line.saturating_add(index),
+                    line: number,
                     fault,
                 });
             }
         }
+        if let Some((line, fault)) = scenario.fault_of_sizes() {
+            return Err(Misread { line, fault });
+        }
         Ok(scenario)
+    }
+
+    pub(crate) fn sizes(&self) -> Sizes {
+        self.sizes.sizes()
     }
 
     pub(crate) fn script(&self) -> &[u8] {
@@ -75,69 +111,119 @@ impl<'a> Scenario<'a> {
         self.end.is_some() || !self.transcript.is_empty()
     }
 
-    /// How the run is to end: as the file says, else as the transcript's last line does.
-    pub(crate) fn end(&self) -> &str {
+    /// How the run is to end: as the file says, else as the transcript's last line does. None where that stands for any lines.
+    pub(crate) fn end(&self) -> Option<&str> {
         match self.end {
-            Some(end) => end,
+            Some((end, _)) => Some(end),
             None => end_shown(self.transcript.as_str()),
         }
     }
 
-    fn read_line(&mut self, alloc: Global, line: &'a str) -> Result<(), Fault<'a>> {
+    /// The line by which no mote boots, where the file doesn't say so.
+    fn fault_of_sizes(&self) -> Option<(usize, Fault<'a>)> {
+        if self.end() == Some(BAD_SIZES) {
+            return None;
+        }
+        if !are_few(self.programs.len()) {
+            let line = self.programs.get(16).map(|program| program.line);
+            return Some((line.unwrap_or(0), Fault::TooManyApplications));
+        }
+        self.sizes.fault(self.programs.len())
+    }
+
+    fn take_line(&mut self, alloc: Global, number: usize, line: &'a str) -> Result<(), Fault<'a>> {
+        if line.is_empty() || line.starts_with('#') {
+            return Ok(());
+        }
+        self.last_line = number;
         let (word, rest) = line.split_once(' ').unwrap_or((line, ""));
         match word {
-            "app" => self.push_application(Application::named(rest)?),
-            "calls" => self.push_application(Application::listed(rest)?),
+            "app" | "calls" | "rows" | "on" => self.take_application(alloc, number, line),
             "last" => self.inputs.end_with(rest),
             "at" => self.inputs.go_on_to(alloc, rest),
-            "times" => self.repeat(alloc, rest),
-            "mmem" | "heap" | "quota" | "header" => self.set_size(word, rest),
-            "quiet" | "ends" => self.set_outcome(word, rest),
-            _ if line.is_empty() || line.starts_with('#') => Ok(()),
-            _ => self.append(alloc, 1, line),
+            "times" => self.repeat(alloc, number, rest),
+            "mmem" | "heap" | "quota" | "header" => {
+                let size = number_of(rest, 0, u32::MAX)?;
+                self.sizes.take(word, Given { size, line: number })
+            }
+            "quiet" | "ends" => self.set_outcome(number, word, rest),
+            "==" => Err(Fault::NoName),
+            _ if line == GAP => self.push_gap(number),
+            _ => self.append(alloc, number, 1, line),
         }
     }
 
-    fn push_application(&mut self, application: Application) -> Result<(), Fault<'a>> {
-        self.applications.push(application)?;
-        Ok(())
-    }
-
-    fn set_size(&mut self, word: &str, rest: &'a str) -> Result<(), Fault<'a>> {
-        let number = number_of(rest, 0, u32::MAX)?;
-        match word {
-            "mmem" => self.sizes.mmem = number,
-            "heap" => self.sizes.heap = number,
-            "quota" => self.sizes.quota = Some(number),
-            _ => self.sizes.header = number,
+    /// Takes the line of an application, or a row of the last one.
+    fn take_application(
+        &mut self,
+        alloc: Global,
+        number: usize,
+        line: &'a str,
+    ) -> Result<(), Fault<'a>> {
+        if let Some(row) = line.strip_prefix("on ") {
+            let last = self.programs.len().checked_sub(1).ok_or(Fault::NoRows)?;
+            if last < self.programs.len() {
+                return self.programs[last].take_row(alloc, line, row);
+            }
         }
+        self.programs.push(Program::of(alloc, number, line)?)?;
         Ok(())
     }
 
-    fn set_outcome(&mut self, word: &str, rest: &'a str) -> Result<(), Fault<'a>> {
+    fn set_outcome(
+        &mut self,
+        number: usize,
+        word: &'a str,
+        rest: &'a str,
+    ) -> Result<(), Fault<'a>> {
         match word {
-            "quiet" if rest.is_empty() => self.quiet = true,
-            "ends" if is_end(rest) => self.end = Some(rest),
-            "quiet" => return Err(Fault::QuietWithWords),
+            "quiet" if !rest.is_empty() => return Err(Fault::TooManyWords(word)),
+            "quiet" if self.quiet => return Err(Fault::Twice(word)),
+            "quiet" => self.quiet = true,
+            _ if self.end.is_some() => return Err(Fault::Twice(word)),
+            _ if is_end(rest) => self.end = Some((rest, number)),
             _ => return Err(Fault::NoEnd(rest)),
         }
         Ok(())
     }
 
     /// Appends a line as often as the number in front of it says.
-    fn repeat(&mut self, alloc: Global, text: &'a str) -> Result<(), Fault<'a>> {
+    fn repeat(&mut self, alloc: Global, number: usize, text: &'a str) -> Result<(), Fault<'a>> {
         let (count, line) = text.split_once(' ').unwrap_or((text, ""));
         let count = number_of(count, 1, MOST_TIMES)?;
-        self.append(alloc, count, line)
+        self.append(alloc, number, count, line)
     }
 
     /// Appends a line so often, to the transcript or to the script.
-    fn append(&mut self, alloc: Global, count: u32, line: &'a str) -> Result<(), Fault<'a>> {
-        if is_of_transcript(line) {
-            push_lines(&mut self.transcript, count, line)?;
-            return Ok(());
+    fn append(
+        &mut self,
+        alloc: Global,
+        number: usize,
+        count: u32,
+        line: &'a str,
+    ) -> Result<(), Fault<'a>> {
+        if !is_of_transcript(line) {
+            return self.inputs.read_line(alloc, count, line);
         }
-        self.inputs.read_line(alloc, count, line)
+        if read_line(line).is_none() {
+            return Err(Fault::NoTranscriptLine(line));
+        }
+        self.push_told(number, count, line)
+    }
+
+    fn push_gap(&mut self, number: usize) -> Result<(), Fault<'a>> {
+        self.has_gaps = true;
+        self.push_told(number, 1, GAP)
+    }
+
+    fn push_told(&mut self, number: usize, count: u32, line: &str) -> Result<(), Fault<'a>> {
+        let begin = self.transcript.len();
+        push_lines(&mut self.transcript, count, line)?;
+        self.told.push(ToldLine {
+            line: number,
+            size: self.transcript.len().saturating_sub(begin),
+        })?;
+        Ok(())
     }
 }
 
@@ -152,16 +238,17 @@ fn is_of_transcript(line: &str) -> bool {
 fn is_end(text: &str) -> bool {
     match text.strip_prefix("bad line ") {
         Some(number) => number_of(number, 1, u32::MAX).is_ok(),
-        None => matches!(text, "finished" | "halted" | "too long" | "bad sizes"),
+        None => matches!(text, "finished" | "halted" | "too long" | BAD_SIZES),
     }
 }
 
-/// How the run of a transcript ended, by its last line.
-fn end_shown(transcript: &str) -> &str {
+/// How the run of a transcript ended, by its last line. None where that stands for any lines.
+fn end_shown(transcript: &str) -> Option<&str> {
     match transcript.lines().last() {
-        Some("halt") => "halted",
-        Some("too long") => "too long",
-        Some(line) if line.starts_with("bad line ") => line,
-        _ => "finished",
+        Some("halt") => Some("halted"),
+        Some("too long") => Some("too long"),
+        Some(GAP) => None,
+        Some(line) if line.starts_with("bad line ") => Some(line),
+        _ => Some("finished"),
     }
 }

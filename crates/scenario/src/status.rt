@@ -10,6 +10,8 @@ pub(crate) enum Status {
     /// A file has no form or can't be read, and nothing was run.
     NoForm,
     Write,
+    /// A file can't be written in its place, and the reason was told.
+    NotWritten,
     NotText,
     /// The parser refuses the words.
     Words,
@@ -23,7 +25,7 @@ impl Status {
             Status::AsTold => 0,
             Status::Differs => 1,
             Status::NoForm => 2,
-            Status::Write => 6,
+            Status::Write | Status::NotWritten => 6,
             Status::NotText | Status::Words => 64,
             Status::OutOfMemory => 70,
         }
@@ -35,7 +37,11 @@ impl Status {
             Status::Write => Some("write failed"),
             Status::NotText => Some("a word is not text"),
             Status::OutOfMemory => Some("out of memory"),
-            Status::AsTold | Status::Differs | Status::NoForm | Status::Words => None,
+            Status::AsTold
+            | Status::Differs
+            | Status::NoForm
+            | Status::NotWritten
+            | Status::Words => None,
         }
     }
 }

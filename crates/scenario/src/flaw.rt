@@ -1,0 +1,68 @@
+//! What is wrong with the letters of a line that has no form.
+
+/// What is wrong with the spaces within a line, as a person would look for it.
+fn flaw_of_spaces(line: &str) -> Option<&'static str> {
+    if line.contains("  ") {
+        Some("two spaces stand side by side")
+    } else if line.ends_with(' ') {
+        Some("the line ends with a space")
+    } else {
+        None
+    }
+}
+
+/// What is wrong with the commas of a list of calls.
+fn flaw_of_commas(line: &str) -> Option<&'static str> {
+    if !line.starts_with("calls ") && !line.starts_with("on ") {
+        None
+    } else if line.trim_end().ends_with(',') {
+        Some("no call stands behind the last comma")
+    } else if line.contains(" ,") {
+        Some("a space stands in front of a comma")
+    } else if line
+        .split(',')
+        .skip(1)
+        .any(|behind| !behind.starts_with(' '))
+    {
+        Some("no space stands behind a comma")
+    } else {
+        None
+    }
+}
+
+/// What is wrong with bytes that are hard to see.
+fn flaw_of_bytes(line: &str) -> Option<&'static str> {
+    if line.starts_with('\u{feff}') {
+        Some("the file begins with a byte order mark")
+    } else if line.contains('\0') {
+        Some("there is a byte 0 in the line")
+    } else if line.ends_with('\r') {
+        Some("the line ends with byte 13, as lines of Windows do")
+    } else if line.starts_with(' ') {
+        Some("the line begins with a space")
+    } else if line.contains('\t') {
+        Some("there is a tab in the line")
+    } else {
+        None
+    }
+}
+
+/// That a quote is left, for which no hex could be put: it has no end, holds another escape, or stands elsewhere.
+fn flaw_of_quotes(line: &str) -> Option<&'static str> {
+    if line.contains('"') {
+        Some(
+            "quotes hold a text with \\n for byte 10, \\\" and \\\\, and stand where hex digits do",
+        )
+    } else {
+        None
+    }
+}
+
+/// What is wrong with the letters of a line of no form, from which a person finds the mistake sooner than from its words. Hex
+/// stands in the line for all quotes that have a form.
+pub(crate) fn flaw_of(line: &str) -> Option<&'static str> {
+    flaw_of_bytes(line)
+        .or(flaw_of_quotes(line))
+        .or(flaw_of_commas(line))
+        .or(flaw_of_spaces(line))
+}

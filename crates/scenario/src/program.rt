@@ -1,0 +1,70 @@
+//! The applications of a run.
+
+use crate::fault::Fault;
+use call_lists::Application;
+use reaction_rows::{Row, row_of};
+use std::alloc::Global;
+
+/// What an application does.
+#[derive(Drop)]
+pub(crate) enum Acts {
+    /// As its name or its list of calls says.
+    ByName(Application),
+    /// As its rows say.
+    ByRows(Vec<Row>),
+}
+
+/// An application of a run.
+#[derive(Drop)]
+pub(crate) struct Program<'a> {
+    /// The number of its line.
+    pub(crate) line: usize,
+    /// The lines that tell of it.
+    pub(crate) text: Vec<&'a str>,
+    pub(crate) acts: Acts,
+}
+
+impl<'a> Program<'a> {
+    /// The application of a line that begins with `app`, `calls` or `rows`.
+    pub(crate) fn of(alloc: Global, number: usize, line: &'a str) -> Result<Self, Fault<'a>> {
+        let (word, rest) = line.split_once(' ').unwrap_or((line, ""));
+        let acts = match word {
+            "app" => Acts::ByName(Application::named(rest)?),
+            "calls" => Acts::ByName(Application::listed(rest)?),
+            "rows" if rest.is_empty() => Acts::ByRows(Vec::new(alloc)),
+            "rows" => return Err(Fault::TooManyWords(word)),
+            _ => return Err(Fault::UnknownWord(word)),
+        };
+        let mut text = Vec::new(alloc);
+        text.push(line)?;
+        Ok(Program {
+            line: number,
+            text,
+            acts,
+        })
+    }
+
+    /// Takes one more row, the line of which begins with `on`.
+    ///
+    /// # Errors
+    ///
+    /// `NoRows` where the application has none, `TwoRows` where one has the same stimulus.
+    pub(crate) fn take_row(
+        &mut self,
+        alloc: Global,
+        line: &'a str,
+        text: &'a str,
+    ) -> Result<(), Fault<'a>> {
+        let Acts::ByRows(rows) = &mut self.acts else {
+            return Err(Fault::NoRows);
+        };
+        let row = row_of(alloc, text)?;
+        let trigger = row.trigger();
+        if rows.iter().any(|above| above.trigger() == trigger) {
+            return Err(Fault::TwoRows);
+        }
+        rows.push(row)?;
+        self.text.push(line)?;
+        Ok(())
+    }
+}
