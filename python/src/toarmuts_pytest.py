@@ -52,11 +52,13 @@ class ScenarioFile(pytest.File):
 
     def collect(self) -> Iterator[pytest.Item]:
         """Its runs."""
-        from toarmuts.errors import BadScenario
+        from toarmuts.errors import BadScenario, NotInPython
         from toarmuts.scenario import read_scenarios
 
         try:
             scenarios = read_scenarios(self.path.read_text(encoding="utf-8"))
+        except NotInPython as fault:
+            pytest.skip(f"{self.path.name}: {fault}", allow_module_level=True)
         except (BadScenario, UnicodeDecodeError) as fault:
             raise self.CollectError(f"{self.path}: {fault}") from None
         for scenario in scenarios:

@@ -4,6 +4,7 @@ import sys
 
 import pytest
 from common import ROOT
+from toarmuts import read_scenarios
 
 FAILING = ("== one\napp hello\n4 synch 129 - -> print 68690a\n4 answer done -> exit\n\n"
            "== two\ntick 1\n\n== three\ntick 1\n> tick 1\nends halted\n")
@@ -28,6 +29,19 @@ def test_a_file_of_no_form_is_told(tmp_path):
     (tmp_path / "bad.runs").write_text("== one\ntock 5\n")
     done = run_pytest(tmp_path)
     assert done.returncode == 2 and "bad.runs: line 2: unknown word tock" in done.stdout
+
+
+@pytest.mark.parametrize("line", ["rows", "on INIT: wait", "...", "4 synch INIT - -> wait", '4 answer done -> print "hi"', 'calls print "hi"',
+                                  'serial "hi"', '> serial "hi"', 'times 2 > serial "hi"'])
+def test_what_the_program_alone_reads_is_skipped(tmp_path, line):
+    (tmp_path / "rows.scenario").write_text(f"== one\napp hello\n{line}\n")
+    done = run_pytest(tmp_path, "-rs")
+    assert "1 skipped" in done.stdout and "line 3: rows, ..., names of events and quotes are read by ./scenario alone" in done.stdout
+
+
+def test_a_quote_in_a_comment_or_a_text_is_read():
+    scenario = read_scenarios('# "rows"\napp hello\ntext "hi"\nscript "hi"\n')[0]
+    assert scenario.script == 'serial 226869220a\n"hi"\n'
 
 
 def test_pages_of_failing_runs(tmp_path):

@@ -19,7 +19,7 @@ from .calls import __all__ as _calls
 from .coverage import Cell, Coverage, coverage_of
 from .difference import Difference, first_difference
 from .errors import (ApplicationError, BadCall, BadInput, BadScenario, BadSizes, BadTranscript, LibraryError, MoteError, NoApplication,
-                     NoPicture, OutOfMemory, Reason, RunEnded, ToarmutsError, TooManyApplications, WrongType)
+                     NoPicture, NotInPython, OutOfMemory, Reason, RunEnded, ToarmutsError, TooManyApplications, WrongType)
 from .mote import Mote
 from .numbers import EventCode, Origin, Refusal, ReplyKind
 from .options import Options
@@ -35,7 +35,7 @@ __version__ = "0.1.0"
 __all__ = [
     "Answer", "Application", "ApplicationError", "ApplicationLike", "BadCall", "BadInput", "BadScenario", "BadSizes", "BadTranscript",
     "Call", "CallList", "Callback", "Cell", "Coverage", "Difference", "End", "Ending", "Entry", "Event", "EventCode", "Input", "InputKind",
-    "LibraryError", "Mote", "MoteError", "NoApplication", "NoPicture", "Note", "NoteKind", "Options", "Origin", "OutOfMemory", "Payload",
+    "LibraryError", "Mote", "MoteError", "NoApplication", "NoPicture", "NotInPython", "Note", "NoteKind", "Options", "Origin", "OutOfMemory", "Payload",
     "RULES", "Reason", "Refusal", "ReplyKind", "Rules", "Run", "RunEnded", "Scenario", "Script", "Stats", "Status", "Stimulus", "Table",
     "ToarmutsError", "TooManyApplications", "Transcript", "Turn", "Turns", "WrongType", "coverage_of", "first_difference", "read_scenarios", "run",
 ]

@@ -120,6 +120,10 @@ class BadScenario(ToarmutsError, ValueError):
     """A file of no form (docs/scenarios.md), or a run that no such file can tell."""
 
 
+class NotInPython(BadScenario):
+    """What the program `scenario` alone reads: rows that react, ``...``, names of events and texts in quotes."""
+
+
 class BadTranscript(ToarmutsError, ValueError):
     """A line that is no line of a transcript."""
 

@@ -10,7 +10,7 @@ from .applications import ApplicationLike
 from .call import MOST_CALLS, Call, read_calls
 from .calls import Wait
 from .difference import Difference, first_difference
-from .errors import BadCall, BadScenario, BadSizes, TooManyApplications, WrongType
+from .errors import BadCall, BadScenario, BadSizes, NotInPython, TooManyApplications, WrongType
 from .options import Options
 from .rules import FIRST_PROCESS, RULES
 from .runs import Run, run
@@ -23,6 +23,8 @@ MOST_TEXT = 255
 BAD_SIZES = "bad sizes"
 _OF_TRANSCRIPT = re.compile(r"[0-9]|(?:>|note|halt|bad|too)(?: |\Z)")
 _ENDS = ("finished", "halted", "too long", BAD_SIZES)
+# Rows, gaps, names of events and texts in quotes, where only `./scenario` has them.
+_OF_PROGRAM = re.compile(r'(?:rows|on .*|\.\.\.)\Z|(?:calls|serial|frame|[0-9]+|>|times [0-9]+) .*"|[0-9]+ (?:synch|event) [A-Z]')
 
 
 @dataclass(frozen=True)
@@ -95,6 +97,8 @@ class Scenario:
     def read_line(self, line: str) -> None:
         """Takes a line of a file; BadCall or BadScenario tells why it has no form."""
         word, _, rest = line.partition(" ")
+        if _OF_PROGRAM.match(line):
+            raise NotInPython("rows, ..., names of events and quotes are read by ./scenario alone")
         if word in ("app", "calls"):
             self._read_application(word, rest)
         elif word == "last":
@@ -203,7 +207,7 @@ def read_scenarios(text: str) -> list[Scenario]:
             except BadCall as fault:
                 raise BadScenario(f"line {number}: {fault.reason}") from None
             except BadScenario as fault:
-                raise BadScenario(f"line {number}: {fault}") from None
+                raise type(fault)(f"line {number}: {fault}") from None
         made.append(scenario)
     return made
 
