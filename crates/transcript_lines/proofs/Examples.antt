@@ -1,5 +1,5 @@
 -- What lines say, and what they don't, at small values.
-use Rattle.std.proofs.Common.{◌≡◌, ℕ, true, false, codes, Some, None, refl}
+use Rattle.std.proofs.Common.{◌≡◌, true, false, codes, Some, None, refl}
 use Rattle.std.specs.Fmt.{digits}
 use Rattle.transcript_lines.specs.declared.line.Ending.{Ending}
 use Rattle.transcript_lines.specs.declared.line.Input.{Input}
@@ -7,6 +7,8 @@ use Rattle.transcript_lines.specs.declared.line.Line.{Line}
 use Rattle.transcript_lines.specs.declared.line.Note.{Note}
 use Rattle.transcript_lines.specs.declared.turn.Origin.{Origin}
 use Rattle.transcript_lines.specs.Lines.{line_text, ticks_in, ticks_of}
+use Rattle.transcript_lines.specs.Quiet.{ends_script, shows_call}
+use Rattle.transcript_lines.specs.Turns.{is_call, is_reply, is_stimulus, memory_forms, plain_forms, pool_forms}
 use Rattle.transcript_lines.specs.Words.{is_bytes, is_payload, read_number}
 
 nine : ticks_in (codes "> tick 9") ≡ Some 9
@@ -68,3 +70,43 @@ bad_line = refl
 a_tick : line_text (Line.Input (Input.Tick 10)) ≡ codes "> tick 10"
 unfolding digits
 a_tick = refl
+
+a_call : is_call (codes "timer-set 0 10") ≡ true
+unfolding plain_forms memory_forms pool_forms
+a_call = refl
+
+too_few_words : is_call (codes "timer-set 0") ≡ false
+unfolding plain_forms memory_forms pool_forms
+too_few_words = refl
+
+no_such_call : is_call (codes "timer") ≡ false
+unfolding plain_forms memory_forms pool_forms
+no_such_call = refl
+
+two_spaces : is_call (codes "poll  4") ≡ false
+unfolding plain_forms memory_forms pool_forms
+two_spaces = refl
+
+a_reply : is_reply (codes "flag true") ≡ true
+a_reply = refl
+
+no_flag : is_reply (codes "flag 1") ≡ false
+no_flag = refl
+
+an_event : is_stimulus Origin.Event (codes "138 x0a") ≡ true
+an_event = refl
+
+no_event : is_stimulus Origin.Callback (codes "138 x0a") ≡ false
+no_event = refl
+
+a_print : shows_call (codes "print 6f") ≡ true
+a_print = refl
+
+a_wait : shows_call (codes "wait") ≡ false
+a_wait = refl
+
+a_bad_line : ends_script (codes "bad line 7") ≡ true
+a_bad_line = refl
+
+a_halt : ends_script (codes "halt") ≡ false
+a_halt = refl

@@ -1,3 +1,4 @@
 mod Examples
 pub mod Numbers
 pub mod Told
+pub mod Words

@@ -1,6 +1,5 @@
 -- A number is read exactly as it is written.
-use Rattle.std.proofs.Common.{◌≡◌, ◌∙◌, ◌<◌, ◌^◌, Bool, true, false, not, ◌&&◌, ◌||◌, ℕ, List, ◌++◌, length, get_or, decimal, nat_lt, Result, Ok, Err, Option, Some, None, refl, sym, ap, arith, rules, lt-ltb}
-use Rattle.std.proofs.lemmas.Bool.{le-ltb}
+use Rattle.std.proofs.Common.{◌≡◌, ◌∙◌, ◌<◌, ◌^◌, Bool, true, false, ◌&&◌, ℕ, List, ◌++◌, length, get_or, decimal, nat_lt, Result, Ok, Err, Some, None, refl, sym, ap, arith, rules, lt-ltb}
 use Rattle.std.proofs.lemmas.Bool.Decides.{nat_tests}
 use Rattle.std.proofs.lemmas.Fmt.{decimal-digits_value}
 use Rattle.std.proofs.lemmas.Str.Parse.{IsNumeralModel, numerals_by_value, parse_digits}

@@ -1,5 +1,5 @@
 -- A turn's line by its parts.
-use Rattle.std.proofs.Common.{◌≡◌, ◌∙◌, ℕ, List, [], ◌∷◌, ◌++◌, append_assoc, codes, decimal, refl}
+use Rattle.std.proofs.Common.{◌≡◌, ℕ, List, ◌∷◌, ◌++◌, append_assoc, codes}
 
 pub turn_parts : (line told call pid behind origin stimulus number word : List ℕ) → line ≡ told ++ (codes " -> " ++ call) → told ≡ pid ++ 32 ∷ behind → behind ≡ origin ++ 32 ∷ stimulus
     → pid ≡ number → origin ≡ word → line ≡ number ++ codes " " ++ word ++ codes " " ++ stimulus ++ codes " -> " ++ call

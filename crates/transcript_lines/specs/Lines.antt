@@ -1,5 +1,5 @@
 -- The lines of a transcript, and how each says what it tells.
-use Rattle.std.specs.Prelude.{ℕ, List, ◌++◌, length, take, drop, codes, decimal, bytes_eq, Option, Some, None, option_and_then, unwrap_or, if◌then◌else◌}
+use Rattle.std.specs.Prelude.{ℕ, List, ◌++◌, length, take, drop, codes, decimal, bytes_eq, Option, Some, None, option_and_then, option_map, unwrap_or, if◌then◌else◌}
 use Rattle.transcript_lines.specs.declared.line.Ending.{Ending}
 use Rattle.transcript_lines.specs.declared.line.Input.{Input}
 use Rattle.transcript_lines.specs.declared.line.Line.{Line}
@@ -41,11 +41,20 @@ line_text (Line.Turn turn) = turn_text turn
 line_text (Line.Note note) = codes "note " ++ note_text note
 line_text (Line.Ending ending) = ending_text ending
 
--- ---- the clock
+-- ---- what a line begins with
 
 -- what stands behind the word that the line begins with
 abbrev pub behind : List ℕ → List ℕ → Option (List ℕ)
 behind word line = if bytes_eq (take (length word) line) word then Some (drop (length word) line) else None
+
+-- how a run ended, as a line says it
+abbrev pub ending_in : List ℕ → Option Ending
+ending_in line =
+    if bytes_eq line (codes "halt") then Some Ending.Halt
+    else if bytes_eq line (codes "too long") then Some Ending.TooLong
+    else option_map (λ number. Ending.BadLine number) (option_and_then read_number (behind (codes "bad line ") line))
+
+-- ---- the clock
 
 -- by how many ticks the clock goes on at a line `> tick N`
 abbrev pub ticks_in : List ℕ → Option ℕ

@@ -1,10 +1,12 @@
 //! The forms of the words of a line.
 
-ghost use Rattle.std.specs.Prelude.{◌≡◌, ◌++◌};
+ghost use Rattle.std.specs.Prelude.{◌≡◌, ◌∷◌, ◌++◌};
 ghost use Rattle.std.specs.Char.{is_ascii_digit};
 ghost use Rattle.std.specs.List.{list_all};
 ghost use Rattle.transcript_lines.specs.Words as spec;
-ghost use Rattle.transcript_lines.specs.Code.{behind_word};
+ghost use Rattle.transcript_lines.specs.Turns as turns;
+ghost use Rattle.transcript_lines.specs.Turns.{words};
+ghost use Rattle.transcript_lines.specs.Code.{behind_word, words_in};
 
 /// What a word may be.
 #[derive(Clone, Copy, Drop)]
@@ -92,23 +94,27 @@ fn is_payload(word: &str) -> bool
 }
 
 /// Whether the words have these forms, one space between each two; without a text there are no words.
-pub(crate) fn have_forms(text: Option<&str>, forms: &[Form]) -> bool {
-    let Some(text) = text else {
-        return forms.is_empty();
-    };
-    let mut words = text.split(' ');
+pub(crate) fn have_forms(text: Option<&str>, forms: &[Form]) -> bool
+    ensures { result ≡ turns.have_forms forms.now (words_in text.entry) }
+{
+    let mut left = text;
     for form in forms {
-        match words.next() {
-            Some(word) if form.allows(word) => {}
-            _ => return false,
+        let Some(words) = left else {
+            return false;
+        };
+        let (word, rest) = first_word(words);
+        if !form.allows(word) {
+            return false;
         }
+        left = rest;
     }
-    words.next().is_none()
+    left.is_none()
 }
 
 /// A text's first word, and what stands behind the space.
 pub(crate) fn first_word(text: &str) -> (&str, Option<&str>)
-    ensures { text.now ≡ result.0.now ++ behind_word result.1 }
+    ensures whole { text.now ≡ result.0.now ++ behind_word result.1 }
+    ensures first { words text.now ≡ result.0.now ∷ words_in result.1 }
 {
     match text.split_once(' ') {
         Some((word, rest)) => (word, Some(rest)),

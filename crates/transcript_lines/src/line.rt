@@ -1,8 +1,9 @@
 //! The lines of a transcript.
 
-ghost use Rattle.std.specs.Prelude.{◌≡◌, codes, option_and_then, IfSome};
-ghost use Rattle.transcript_lines.specs.Lines.{behind, ending_text, input_text, line_text, note_text, ticks_by, ticks_in, ticks_told};
-ghost use Rattle.transcript_lines.specs.Words.{read_number};
+ghost use Rattle.std.specs.Prelude.{◌≡◌, true, codes, option_and_then, IfSome};
+ghost use Rattle.transcript_lines.specs.Forms.{is_input, is_line, is_note};
+ghost use Rattle.transcript_lines.specs.Lines.{behind, ending_in, ending_text, input_text, line_text, note_text, ticks_by, ticks_in, ticks_told};
+ghost use Rattle.transcript_lines.specs.Words.{is_bytes, read_number};
 
 use crate::forms::{is_bytes, number};
 use crate::turn::{Turn, read_turn};
@@ -49,13 +50,14 @@ pub enum Line<'a> {
 
 /// The digits of bytes, where the word is such.
 fn digits_in(word: &str) -> Option<&str>
-    ensures { IfSome result (λ digits. digits.now ≡ word.now) }
+    ensures { IfSome result (λ digits. (digits.now ≡ word.now) × (is_bytes word.now ≡ true)) }
 {
     if is_bytes(word) { Some(word) } else { None }
 }
 
 fn read_input(text: &str) -> Option<Input<'_>>
     ensures told { IfSome result (λ input. text.now ≡ input_text input) }
+    ensures form { IfSome result (λ input. is_input input ≡ true) }
     ensures ticks { option_and_then ticks_by result ≡ option_and_then read_number (behind (codes "tick ") text.now) }
 {
     if let Some(ticks) = text.strip_prefix("tick ") {
@@ -68,7 +70,8 @@ fn read_input(text: &str) -> Option<Input<'_>>
 }
 
 fn read_note(text: &str) -> Option<Note<'_>>
-    ensures { IfSome result (λ note. text.now ≡ note_text note) }
+    ensures told { IfSome result (λ note. text.now ≡ note_text note) }
+    ensures form { IfSome result (λ note. is_note note ≡ true) }
 {
     match text.strip_prefix("lost ") {
         Some(word) => Some(Note::Lost(number(word)?)),
@@ -76,8 +79,9 @@ fn read_note(text: &str) -> Option<Note<'_>>
     }
 }
 
-fn read_ending(line: &str) -> Option<Ending>
-    ensures { IfSome result (λ ending. line.now ≡ ending_text ending) }
+pub(crate) fn read_ending(line: &str) -> Option<Ending>
+    ensures told { IfSome result (λ ending. line.now ≡ ending_text ending) }
+    ensures whole { result ≡ ending_in line.now }
 {
     match line {
         "halt" => Some(Ending::Halt),
@@ -90,8 +94,10 @@ fn read_ending(line: &str) -> Option<Ending>
 }
 
 /// What a line tells, without its line end: all that stands there. `None` where it is no line of a transcript.
+#[tactic(auto, unfolding(crate::specs::Forms::is_line))]
 pub fn read_line(line: &str) -> Option<Line<'_>>
     ensures told { IfSome result (λ told. line.now ≡ line_text told) }
+    ensures form { IfSome result (λ told. is_line told ≡ true) }
     ensures ticks { option_and_then ticks_told result ≡ ticks_in line.now }
 {
     if let Some(text) = line.strip_prefix("> ") {

@@ -1,7 +1,9 @@
 //! The turns that lines tell.
 
-ghost use Rattle.std.specs.Prelude.{◌≡◌, ◌≤◌, ◌<◌, IfSome};
+ghost use Rattle.std.specs.Prelude.{◌≡◌, ◌≤◌, ◌<◌, true, IfSome};
+ghost use Rattle.transcript_lines.specs.Code.{words_in};
 ghost use Rattle.transcript_lines.specs.Lines.{origin_text, turn_text};
+ghost use Rattle.transcript_lines.specs.Turns as spec;
 
 use crate::forms::{Form, first_word, have_forms, number};
 
@@ -45,10 +47,12 @@ fn origin_of(word: &str) -> Option<Origin>
 }
 
 /// Whether the words are an answer.
-fn is_reply(text: &str) -> bool {
+fn is_reply(text: &str) -> bool
+    ensures { result ≡ spec.is_reply text.now }
+{
     let (word, rest) = first_word(text);
     match word {
-        "done" => rest.is_none(),
+        "done" => have_forms(rest, &[]),
         "refused" | "num" | "wide" => have_forms(rest, &[Form::Number]),
         "flag" => have_forms(rest, &[Form::Flag]),
         "bytes" => have_forms(rest, &[Form::Bytes]),
@@ -58,7 +62,9 @@ fn is_reply(text: &str) -> bool {
 }
 
 /// Whether the words are a stimulus of that origin.
-fn is_stimulus(origin: Origin, text: &str) -> bool {
+fn is_stimulus(origin: Origin, text: &str) -> bool
+    ensures { result ≡ spec.is_stimulus origin text.now }
+{
     match origin {
         Origin::Event | Origin::Synch => have_forms(Some(text), &[Form::Number, Form::Payload]),
         Origin::Poll => text == "130 -",
@@ -68,9 +74,12 @@ fn is_stimulus(origin: Origin, text: &str) -> bool {
 }
 
 /// Whether the words are a call on processes, events, timers or the serial line.
-fn is_plain_call(word: &str, rest: Option<&str>) -> bool {
+#[tactic(auto, unfolding(crate::specs::Turns::plain_forms))]
+fn is_plain_call(word: &str, rest: Option<&str>) -> bool
+    ensures { result ≡ spec.have_forms_of (spec.plain_forms word.now) (words_in rest.entry) }
+{
     match word {
-        "wait" | "exit" | "clock" | "alloc-event" => rest.is_none(),
+        "wait" | "exit" | "clock" | "alloc-event" => have_forms(rest, &[]),
         "poll"
         | "start"
         | "kill"
@@ -89,10 +98,13 @@ fn is_plain_call(word: &str, rest: Option<&str>) -> bool {
 }
 
 /// Whether the words are a call on managed memory, the heap or frames.
-fn is_memory_call(word: &str, rest: Option<&str>) -> bool {
+#[tactic(auto, unfolding(crate::specs::Turns::memory_forms))]
+fn is_memory_call(word: &str, rest: Option<&str>) -> bool
+    ensures { result ≡ spec.have_forms_of (spec.memory_forms word.now) (words_in rest.entry) }
+{
     match word {
         "mmem-avail" | "heap-stats" | "packet-open" | "packet-done" | "packet-count" => {
-            rest.is_none()
+            have_forms(rest, &[])
         }
         "mmem-free" | "heap-free" | "packet-send" => have_forms(rest, &[Form::Number]),
         "mmem-alloc" | "mmem-copy" | "heap-alloc" | "heap-realloc" | "packet-read" => {
@@ -107,7 +119,10 @@ fn is_memory_call(word: &str, rest: Option<&str>) -> bool {
 }
 
 /// Whether the words are a call on pools and their lists.
-fn is_pool_call(word: &str, rest: Option<&str>) -> bool {
+#[tactic(auto, unfolding(crate::specs::Turns::pool_forms))]
+fn is_pool_call(word: &str, rest: Option<&str>) -> bool
+    ensures { result ≡ spec.have_forms_of (spec.pool_forms word.now) (words_in rest.entry) }
+{
     match word {
         "memb-alloc" | "memb-num-free" | "list-pop" | "list-chop" | "list-head" | "list-length" =>
             have_forms(rest, &[Form::Number]),
@@ -127,15 +142,19 @@ fn is_pool_call(word: &str, rest: Option<&str>) -> bool {
 }
 
 /// Whether the words are a call.
-fn is_call(text: &str) -> bool {
+fn is_call(text: &str) -> bool
+    ensures { result ≡ spec.is_call text.now }
+{
     let (word, rest) = first_word(text);
     is_plain_call(word, rest) || is_memory_call(word, rest) || is_pool_call(word, rest)
 }
 
 /// The turn that a line tells, if it tells one: a process from 4 to 19, what it was told, and its call.
+#[tactic(auto, unfolding(crate::specs::Turns::is_turn))]
 pub fn read_turn(line: &str) -> Option<Turn<'_>>
     ensures process { IfSome result (λ turn. (4 ≤ turn.pid) × (turn.pid < 20)) }
     ensures told { IfSome result (λ turn. line.now ≡ turn_text turn) }
+    ensures form { IfSome result (λ turn. spec.is_turn turn ≡ true) }
 {
     let (told, call) = line.split_once(" -> ")?;
     let (pid, told) = told.split_once(' ')?;
