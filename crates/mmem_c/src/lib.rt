@@ -106,6 +106,7 @@ pub extern "C" fn toarmuts_mmem_place(blocks: &[Block], capacity: usize, handle:
     ensures block { result < capacity → (buffer : List ℕ) → length buffer ≡ capacity →
         IsSomeAnd (length_of (process_of handle) (handle_of handle) (stored blocks.now buffer)) (λ len.
         (result + len ≤ capacity) × (block_of (process_of handle) (handle_of handle) (stored blocks.now buffer) ≡ Some (range_of result len buffer))) }
+    ensures inside { result < capacity → IsSomeAnd (place_in (places_told blocks.now) handle) (λ place. (result ≡ place.at) × (place.at + up4 place.len ≤ capacity)) }
     ensures none { result ≡ capacity → IsTable blocks.now capacity → (buffer : List ℕ) →
         block_of (process_of handle) (handle_of handle) (stored blocks.now buffer) ≡ None }
     ensures outside { result ≡ capacity → (place : Place) → place_in (places_told blocks.now) handle ≡ Some place → capacity < place.at + up4 place.len }
