@@ -71,9 +71,7 @@ impl Inputs {
 
     /// Appends the ticks that are left up to this clock, and nothing where it stands there.
     pub(crate) fn go_on_to<'a>(&mut self, alloc: Global, word: &'a str) -> Result<(), Fault<'a>> {
-        let Ok(clock) = word.parse::<u64>() else {
-            return Err(Fault::NoClock(word));
-        };
+        let clock = clock_in(word).ok_or(Fault::NoClock(word))?;
         let Some(left) = clock.checked_sub(self.clock) else {
             return Err(Fault::ClockIsPast(self.clock));
         };
@@ -83,6 +81,14 @@ impl Inputs {
             Err(_) => Err(Fault::ClockIsFar),
         }
     }
+}
+
+/// The clock that a word is: a number with no sign and no needless 0 in front.
+fn clock_in(word: &str) -> Option<u64> {
+    if word.starts_with('+') || word.len() > 1 && word.starts_with('0') {
+        return None;
+    }
+    word.parse::<u64>().ok()
 }
 
 /// The input that a line of a script is, if it is one.
