@@ -1,6 +1,6 @@
 -- Examples: which calls texts make, and which they don't; what has which name; what is no number.
 use Rattle.std.proofs.Common.{◌≡◌, ◌∙◌, ◌<◌, ◌≤◌, ℕ, zero, suc, false, List, [], ◌∷◌, ◌++◌, inl, inr, refl, sym, ap, subst, drop, codes, get_or, replicate, Some, arith}
-use Rattle.std.proofs.lemmas.List.Elements.{All-cons, All-nil, All-replicate}
+use Rattle.std.proofs.lemmas.List.Elements.{All-cons, All-head, All-nil, All-replicate}
 use Rattle.std.specs.Char.{is_ascii_digit}
 use Rattle.std.specs.Fmt.{digits}
 use Rattle.std.specs.List.{join_by}
@@ -15,7 +15,7 @@ use Rattle.mote_types.specs.declared.event.Payload.{Payload}
 use denote.Ref.{Bor}
 use Rattle.call_lists.specs.Applications.{IsNamed}
 use Rattle.call_lists.specs.Calls.{AreMade, AreOfParts, AreWaits, IsCall, IsListOf, hex_lowered}
-use Rattle.call_lists.specs.Faults.{IsNoCall, IsNoList, IsNoName, IsNoNumber, LiesOutside}
+use Rattle.call_lists.specs.Faults.{IsNoCall, IsNoList, IsNoName, IsNoNumber, LiesOutside, TellsNoName}
 use Rattle.call_lists.specs.Ranges.{ArePossible, IsByte, IsChunk, IsPayload, IsPossible, IsWide}
 use Rattle.call_lists.specs.declared.applications.Application.{Application}
 use Rattle.call_lists.specs.declared.fault.CallFault.{CallFault}
@@ -79,6 +79,36 @@ list =
       are_waits = All-cons (λ call. call ≡ Call.Wait) Call.Wait [] refl (All-nil (λ call. call ≡ Call.Wait));
     }
 
+-- a part is one call, however often
+no_two_calls : AreMade (codes "2 clock") (Call.Clock ∷ Call.Exit ∷ []) → ⊥
+unfolding digits
+no_two_calls (inl once) = let two : ◌≡◌ {A = ℕ} 2 1 = once.0 in absurd (omega arith)
+no_two_calls (inr numbered) =
+    let rest : codes "clock" ≡ numbered.0 = ap (drop 2) numbered.2 in
+    let letters_differ : ◌≡◌ {A = ℕ} 99 101 = ap (λ text. get_or text 0 0) (rest ∙ numbered.3.1.0.1) in
+    absurd (omega arith)
+
+-- and the calls are those of the parts
+no_clock_of_exit : (first others : List Call) → Call.Clock ∷ [] ≡ first ++ others → AreMade (codes "exit") first → ⊥
+unfolding digits
+no_clock_of_exit [] others same (inl once) = let zero_is_one : ◌≡◌ {A = ℕ} 0 1 = once.0 in absurd (omega arith)
+no_clock_of_exit [] others same (inr numbered) = absurd (omega (arith, numbered.1))
+no_clock_of_exit (call ∷ []) others same (inl once) =
+    let same_call : Call.Clock ≡ call = ap (λ calls. get_or calls 0 Call.Wait) same in
+    let is : IsCall (codes "exit") Call.Clock = subst (IsCall (codes "exit")) (sym same_call) once.1.0 in
+    let letters_differ : ◌≡◌ {A = ℕ} 101 99 = ap (λ text. get_or text 0 0) is.1 in
+    absurd (omega arith)
+no_clock_of_exit (call ∷ []) others same (inr numbered) =
+    let letters_differ : ◌≡◌ {A = ℕ} 101 49 = ap (λ text. get_or text 0 0) numbered.2 in
+    absurd (omega arith)
+no_clock_of_exit (call ∷ second ∷ calls) others same made = absurd (cc)
+
+another_part : AreOfParts (codes "exit" ∷ []) (Call.Clock ∷ []) → ⊥
+another_part is = no_clock_of_exit is.0 is.1 is.2 is.3
+
+no_wait : AreWaits (Call.Exit ∷ []) → ⊥
+no_wait are = cc (All-head (λ call. call ≡ Call.Wait) Call.Exit [] are)
+
 -- no call is made 0 times
 not_at_all : AreMade (codes "0 clock") [] → ⊥
 not_at_all (inl once) = let none : ◌≡◌ {A = ℕ} 0 1 = once.0 in absurd (omega arith)
@@ -138,6 +168,15 @@ another_bound told is = let bounds_differ : ◌≡◌ {A = ℕ} 1 0 = is.1 in ab
 
 another_fault : (word : List ℕ) → IsNoNumber word 0 255 CallFault.TooManyCalls → ⊥
 another_fault word is = is
+
+another_name_is_told : (told : Bor (List ℕ)) → told.now ≡ codes "nobody" → TellsNoName (codes "somebody") (CallFault.NoApplication told) → ⊥
+another_name_is_told told is tells = let letters_differ : ◌≡◌ {A = ℕ} 110 115 = ap (λ text. get_or text 0 0) (sym is ∙ tells.0) in absurd (omega arith)
+
+a_name_is_told : (told : Bor (List ℕ)) → TellsNoName (codes "hello") (CallFault.NoApplication told) → ⊥
+a_name_is_told told tells = cc tells.1.0
+
+no_name_is_told : TellsNoName (codes "nobody") CallFault.TooManyCalls → ⊥
+no_name_is_told tells = tells
 
 -- ---- the calls that there are, and what is refused
 
@@ -201,6 +240,9 @@ packets = (tt, ((wide, byte), (tt, (tt, (byte, tt)))))
 
 no_byte : IsPossible (Call.Kill 256) → ⊥
 no_byte is = let over : 256 < 256 = is in absurd (omega arith)
+
+none_of_a_list : ArePossible (Call.Wait ∷ Call.Kill 256 ∷ []) → ⊥
+none_of_a_list are = no_byte are.1.0
 
 no_place : IsPossible (Call.PacketRead 4294967296 1) → ⊥
 no_place is = let over : 4294967296 < 4294967296 = is.0 in absurd (omega arith)

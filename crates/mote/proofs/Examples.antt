@@ -1,5 +1,5 @@
 -- Worked examples: names of applications, the configuration that is named, and what the program may come to on words.
-use Rattle.std.proofs.Common.{◌≡◌, ◌⊎◌, ◌∙◌, ℕ, List, true, false, [], ◌∷◌, codes, refl, subst, ap, arith, inl, inr, Some, None, Ok, Err, find, length}
+use Rattle.std.proofs.Common.{◌≡◌, ◌⊎◌, ◌∙◌, ℕ, List, true, false, [], ◌∷◌, codes, refl, subst, ap, arith, inl, inr, Some, None, Result, Ok, Err, find, length}
 use denote.Ref.{Bor}
 use Rattle.kernel_core.specs.Machine.{is_bootable}
 use Rattle.mote.proofs.Common.{named, named_in, config_of, applications_of, is_unknown, End, Failure, IsOutcome, Refuses}
@@ -7,7 +7,7 @@ use Rattle.mote.specs.CommandLine.{IsRunFailure, IsStatusFor, NamesMote}
 use Rattle.mote_words.specs.CommandLine.{AsksForText, NamesApplications}
 use Rattle.mote.proofs.Common.{HasRunNamed, bundled_says, says_of}
 use Rattle.mote_apps.specs.declared.bundled.Bundled.{Bundled}
-use Rattle.mote_run.specs.RunText.{Exchange}
+use Rattle.mote_run.specs.RunText.{Exchange, HasRunTo}
 use Rattle.mote_run.specs.Trace.{RunPromise}
 use Rattle.mote_run.specs.declared.run.RunFault.{RunFault}
 use Rattle.mote_words.specs.declared.words.Named.{Named}
@@ -87,6 +87,14 @@ module _ (words : List (List ℕ)) (exchange : Exchange) (names : NamesMote word
 
   keeps_it_where_reading_failed : HasRunNamed words (Err Failure.Read) exchange → RunPromise (config_of asked) (says_of bundled_says asked.applications.items) asked.quiet (Err RunFault.Read) exchange
   keeps_it_where_reading_failed has = has.promise names
+
+  keeps_it_where_writing_failed : HasRunNamed words (Err Failure.Write) exchange → RunPromise (config_of asked) (says_of bundled_says asked.applications.items) asked.quiet (Err RunFault.Write) exchange
+  keeps_it_where_writing_failed has = has.promise names
+
+-- whatever they name, what was written is what such a run comes to
+is_of_what_is_named : (words : List (List ℕ)) (outcome : Result End Failure) (exchange : Exchange) → HasRunNamed words outcome exchange
+    → HasRunTo (config_of (named_in named words)) (says_of bundled_says (named_in named words).applications.items) (named_in named words).quiet Failure.Read outcome exchange
+is_of_what_is_named words outcome exchange has = has.ran
 
 -- a run that was begun fails for devices and for memory, and for nothing else
 no_run_with_bad_sizes : IsRunFailure Failure.BadSizes → ⊥

@@ -4,3 +4,4 @@ pub mod Histories
 pub mod Keeping
 pub mod Leading
 pub mod Promise
+mod StepExamples

@@ -1,5 +1,5 @@
 -- Worked examples: statuses, and what is told.
-use Rattle.std.proofs.Common.{◌≡◌, ◌++◌, ℕ, List, codes, refl, ap, inl, inr}
+use Rattle.std.proofs.Common.{◌≡◌, ◌∙◌, ◌++◌, ℕ, List, codes, refl, ap, arith, inl, inr}
 use Rattle.std.specs.Prelude.{Some, None, Ok, Err}
 use denote.Ref.{Bor}
 use Rattle.mote_text.specs.declared.script.End.{End}
@@ -78,8 +78,16 @@ not_shown text = record { shown = Err Failure.Write; is_shown = inr refl; is_sta
 shown : (text : ParserText) → IsStatusOf (Err (Failure.Request text)) 0
 shown text = record { shown = Err (Failure.Request text); is_shown = inl refl; is_status = refl }
 
+-- and it is no run
+no_run : (text : ParserText) → IsShown (Err (Failure.Request text)) (Ok End.Finished) → ⊥
+no_run text (inl is) = absurd (cc)
+no_run text (inr is) = absurd (cc)
+
 halt_stays : IsShown (Ok End.Halted) (Err Failure.Write) → ⊥
 halt_stays is = absurd (cc)
+
+halt_has_its_status : IsStatusOf (Ok End.Halted) 0 → ⊥
+halt_has_its_status is = let zero_is_three : ◌≡◌ {A = ℕ} 0 3 = is.is_status ∙ ap status_of_outcome is.is_shown in absurd (omega arith)
 
 -- what words and sizes are refused with is told under the same names
 same_names : (text : ParserText) (name : Bor (List ℕ)) → (failure_in_words (Refusal.Words text) ≡ Failure.Words text) × (failure_in_words (Refusal.NoApplication name) ≡ Failure.NoApplication name)

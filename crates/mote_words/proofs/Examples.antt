@@ -65,13 +65,26 @@ sixteen_names refused = let over : 16 < 16 = refused.1 in absurd (omega arith)
 unknown_before_many : RefusesNames table (codes "hullo" ∷ replicate 16 (codes "echo")) Refusal.TooManyApplications → ⊥
 unknown_before_many refused = absurd (cc)
 
+-- and for nothing else
+no_other_reason : RefusesNames table (codes "hullo" ∷ []) Refusal.OutOfMemory → ⊥
+no_other_reason refused = refused
+
 -- What words are refused with: a text that they ask for is no mistake, and no name counts where there is one.
 module _ (words : List (List ℕ)) where
   a_mistake : (text : ParserText) → Refuses table words (Refusal.Words text) → is_request (kind_of text.error) ≡ true → ⊥
   a_mistake text refused asked = absurd (cc)
 
+  a_mistake_that_was_found : (text : ParserText) → Refuses table words (Refusal.Words text) → errors_in words ≡ [] → ⊥
+  a_mistake_that_was_found text refused none = rw none at refused.0
+
   a_text : (text : ParserText) → Refuses table words (Refusal.Request text) → AsksForText words
   a_text text refused = (kind_of text.error, refused.0, refused.1)
+
+  no_text_where_none_is_asked_for : AsksForText words → errors_in words ≡ [] → ⊥
+  no_text_where_none_is_asked_for asks none = rw none at asks.1
+
+  no_text_for_a_mistake : (asks : AsksForText words) → asks.0 ≡ ErrorKind.UnknownArgument → ⊥
+  no_text_for_a_mistake asks is = let request : false ≡ true = subst (λ kind. is_request kind ≡ true) is asks.2 in absurd (cc)
 
   found_before_names : (name : Bor (List ℕ)) → Refuses table words (Refusal.NoApplication name) → errors_in words ≡ []
   found_before_names name refused = refused.0

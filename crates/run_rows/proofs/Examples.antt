@@ -1,8 +1,10 @@
 -- Lines between two clocks, and lines that are there again, at small values.
 use Rattle.std.proofs.Common.{◌≡◌, ◌<◌, ◌≤◌, ℕ, List, [], ◌∷◌, codes, refl, arith}
+use Rattle.run_rows.specs.declared.row.Row.{Row}
+use Rattle.run_rows.specs.declared.row.Show.{Show}
 use Rattle.run_rows.specs.declared.rows.Shown.{Shown}
 use Rattle.run_rows.specs.Clocks.{LieBetween, clock_at}
-use Rattle.run_rows.specs.Rows.{AreAgain, text_at}
+use Rattle.run_rows.specs.Rows.{AreAgain, Cover, IsPlain, IsTrueRow, text_at}
 
 abbrev lines : List (List ℕ)
 lines = codes "4 synch 129 - -> wait" ∷ codes "> tick 5" ∷ codes "> serial 61" ∷ codes "> tick 4" ∷ []
@@ -33,3 +35,23 @@ none_behind is = let more : 9 < 9 = is.behind 3 (omega arith) (omega arith) in a
 -- a line that differs is not there again
 not_again : AreAgain lines 1 1 2 → ⊥
 not_again is = let same = is 1 (omega arith) (omega arith) in cc
+
+-- each line stands in one row
+abbrev row : ℕ → ℕ → Row
+row first count = record { first = first; count = count; show = Show.Lines }
+
+one_left_out : Cover 0 (row 0 1 ∷ row 2 1 ∷ []) 3 → ⊥
+one_left_out covered = let second_is_third : ◌≡◌ {A = ℕ} 2 1 = covered.2.0 in absurd (omega arith)
+
+none_in_a_row : Cover 0 (row 0 0 ∷ []) 0 → ⊥
+none_in_a_row covered = let some : 0 < 0 = covered.1 in absurd (omega arith)
+
+too_few : Cover 0 (row 0 1 ∷ []) 2 → ⊥
+too_few covered = let one_is_two : ◌≡◌ {A = ℕ} 1 2 = covered.2 in absurd (omega arith)
+
+folded : IsPlain (row 0 2) → ⊥
+folded plain = let two_is_one : ◌≡◌ {A = ℕ} 2 1 = plain.0 in absurd (omega arith)
+
+-- so no row shows it as such
+no_true_row : IsTrueRow lines (record { first = 1; count = 1; show = Show.Again 1 }) → ⊥
+no_true_row is = not_again is

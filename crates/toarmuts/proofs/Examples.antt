@@ -1,5 +1,5 @@
 -- Worked examples: what lines and numbers come to, and that of two reasons the first is told.
-use Rattle.std.proofs.Common.{◌≡◌, ◌∙◌, ◌++◌, ◌==◌, ◌||◌, ◌⊎◌, ℕ, zero, suc, Bool, true, false, List, [], ◌∷◌, codes, refl, sym, ap, subst, arith, get_or, inl, inr, length, length-append, replicate, Some, None}
+use Rattle.std.proofs.Common.{◌≡◌, ◌<◌, ◌≤◌, ◌∙◌, ◌++◌, ◌==◌, ◌||◌, ◌⊎◌, ℕ, zero, suc, Bool, true, false, List, [], ◌∷◌, codes, refl, sym, ap, subst, arith, get_or, inl, inr, length, length-append, replicate, Some, None}
 use Rattle.std.proofs.lemmas.Grind.{common_steps}
 use Rattle.std.proofs.lemmas.List.{append-nil}
 use Rattle.std.proofs.lemmas.List.Elements.{All-cons, All-nil, All-replicate}
@@ -9,9 +9,10 @@ use Rattle.call_lists.specs.Ranges.{ArePossible}
 use Rattle.mote_text.specs.Code.EntryLines.{spaced}
 use Rattle.mote_types.specs.declared.call.Call.{Call}
 use Rattle.mote_text.specs.declared.script.End.{End}
-use Rattle.toarmuts.proofs.Common.{Application, AreOfLines, HasCalls, HasNoCalls, HasRun, IsLineReason, IsOfLine, LineReason, Refuses, Refusal, lines}
+use Rattle.kernel_core.specs.Machine.{is_bootable}
+use Rattle.toarmuts.proofs.Common.{Application, AreOfLines, HasCalls, HasNoCalls, HasRun, IsLineReason, IsOfLine, IsRunText, LineReason, Refuses, Refusal, application_says, config_of, lines, says_of}
 use Rattle.node_memory.specs.declared.sizes.Sizes.{Sizes}
-use Rattle.toarmuts.specs.Answers.{HasBadSizes, HasNoReason, IsRefusalOf, IsRunOf, IsTooLongFor, line_of, refusal_application, refusal_call, refusal_line, refusal_reason, refusal_status, status_of}
+use Rattle.toarmuts.specs.Answers.{AreRefused, HasBadSizes, HasNoReason, IsRefusalOf, IsRefusedLine, IsRunOf, IsTooLongFor, line_of, refusal_application, refusal_call, refusal_line, refusal_reason, refusal_status, status_of}
 use Rattle.toarmuts.specs.Configurations.{is_quiet, sizes_of}
 use Rattle.toarmuts.specs.Reasons.{HasCallsAlone, HasNoCallAt, IsBehindPart, IsCallPart, IsNoApplication, IsNoCallPart, IsOnePart, size_reason, with_commas}
 use Rattle.toarmuts.specs.declared.configuration.Configuration.{Configuration}
@@ -78,6 +79,11 @@ module _ (configuration : Configuration) (text script out : List ℕ) where
     of_end End.Finished status same has = absurd (omega (arith, status))
     of_end End.Halted status same has = absurd (omega (arith, status))
     of_end End.TooLong status same has = absurd (omega (arith, status))
+
+  -- the text is that of these applications' run
+  text_is_of_the_run : (end : End) → (has : HasRun configuration text script out end)
+      → IsRunText (config_of (sizes_of configuration) (length has.applications)) (says_of application_says has.applications) (is_quiet configuration) script out end
+  text_is_of_the_run end has = has.is_text
 
   -- there is room for a text that just fits
   just_fits : (size : ℕ) → IsTooLongFor size configuration text script size → ⊥
@@ -260,6 +266,19 @@ no_list_of_no_calls is = alone is.before is.last is.is_text is.is_call where
   alone ([] ∷ parts) last has call = absurd (cc)
   alone ((byte ∷ part) ∷ parts) last has call = absurd (cc)
 
+-- a line behind sixteen is not looked at, and before that there are not too many
+no_seventeenth : (line : List ℕ) (reason : LineReason) → IsRefusedLine line 16 (Refusal.NoApplication 16 reason) → ⊥
+no_seventeenth line reason is = let among : 16 < 16 = is.1 in absurd (omega arith)
+
+no_sixteenth_too_many : (line : List ℕ) → IsRefusedLine line 15 Refusal.TooManyApplications → ⊥
+no_sixteenth_too_many line is = let many : 16 ≤ 15 = is in absurd (omega arith)
+
+no_text_of_a_line : (line : List ℕ) (count : ℕ) → IsRefusedLine line count Refusal.NotText → ⊥
+no_text_of_a_line line count is = is
+
+no_text_of_lines : (all : List (List ℕ)) → AreRefused all Refusal.NotText → ⊥
+no_text_of_lines all are = are
+
 -- What was refused, by its numbers.
 
 numbers_of_a_name : (refusal_status (Refusal.NoApplication 1 LineReason.NoName) ≡ 17) × (refusal_line (Refusal.NoApplication 1 LineReason.NoName) ≡ 2)
@@ -302,6 +321,17 @@ module _ (configuration : Configuration) (text : List ℕ) where
     of_refusal Refusal.TooManyApplications status reason refused = absurd (omega (arith, status))
     of_refusal Refusal.OutOfMemory status reason refused = absurd (omega (arith, status))
 
+  -- where sizes are bad no line and no application is told
+  sizes_have_no_place : (line reason application call : ℕ) → IsRefusalOf configuration text 19 line reason application call → (line ≡ 0) × (application ≡ 0) × (call ≡ 0)
+  sizes_have_no_place line reason application call is = of_refusal is.refusal is.is_status is.is_line is.is_application is.is_call where
+    of_refusal : (refusal : Refusal) → 19 ≡ refusal_status refusal → line ≡ refusal_line refusal → application ≡ refusal_application refusal → call ≡ refusal_call refusal
+        → (line ≡ 0) × (application ≡ 0) × (call ≡ 0)
+    of_refusal (Refusal.BadSizes why) status is_line is_application is_call = (is_line, is_application, is_call)
+    of_refusal Refusal.NotText status is_line is_application is_call = absurd (omega (arith, status))
+    of_refusal (Refusal.NoApplication number why) status is_line is_application is_call = absurd (omega (arith, status))
+    of_refusal Refusal.TooManyApplications status is_line is_application is_call = absurd (omega (arith, status))
+    of_refusal Refusal.OutOfMemory status is_line is_application is_call = absurd (omega (arith, status))
+
   -- Of two reasons the first is told: what is no text has no lines.
   no_text_first : (reason : SizeReason) → Refuses configuration text Refusal.NotText → Refuses configuration text (Refusal.BadSizes reason) → ⊥
   no_text_first reason no_text refused = no_text refused.0
@@ -317,6 +347,13 @@ module _ (configuration : Configuration) (text : List ℕ) where
       → (applications : List Application) × AreOfLines refused.1.before applications
   first_of_names number reason refused = refused.1.are_named
 
+  -- the number is that of the line, which names none
+  number_is_of_line : (number : ℕ) (reason : LineReason) → (refused : Refuses configuration text (Refusal.NoApplication number reason)) → number ≡ length refused.1.before
+  number_is_of_line number reason refused = refused.1.is_number
+
+  line_names_none : (number : ℕ) (reason : LineReason) → (refused : Refuses configuration text (Refusal.NoApplication number reason)) → IsNoApplication refused.1.line
+  line_names_none number reason refused = refused.1.is_none
+
   -- a seventeenth line is not looked at
   no_seventeenth_name : (reason : LineReason) → Refuses configuration text (Refusal.NoApplication 16 reason) → ⊥
   no_seventeenth_name reason refused = let among = refused.1.is_among in absurd (omega (arith, among))
@@ -331,6 +368,14 @@ module _ (configuration : Configuration) (text : List ℕ) where
       let size = ap length many.1.is_line in
       let grown = length-append many.1.before (many.1.line ∷ many.1.behind) in
       absurd (omega (arith, size, grown, many.1.are_full, bad.1.are_few))
+
+  -- lines that are too many name applications up to there
+  many_are_named : (refused : Refuses configuration text Refusal.TooManyApplications) → (applications : List Application) × AreOfLines refused.1.before applications
+  many_are_named refused = refused.1.are_named
+
+  -- with good sizes a mote boots
+  sizes_are_really_bad : (reason : SizeReason) → Refuses configuration text (Refusal.BadSizes reason) → is_bootable (config_of (sizes_of configuration) (length (lines text))) ≡ false
+  sizes_are_really_bad reason refused = refused.1.is_bad
 
   sizes_only_of_applications : (reason : SizeReason) → Refuses configuration text (Refusal.BadSizes reason) → (applications : List Application) × AreOfLines (lines text) applications
   sizes_only_of_applications reason refused = refused.1.are_named

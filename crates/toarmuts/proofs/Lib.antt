@@ -3,4 +3,5 @@ mod LineEnds
 mod Parts
 mod ReadLines
 mod SizeReasons
+mod StepExamples
 pub mod Common
