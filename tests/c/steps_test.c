@@ -72,7 +72,8 @@ check_order(void)
                   toarmuts_clock(&mote, &clock) == TOARMUTS_CLOSED && clock == 9 && toarmuts_close(&mote) == TOARMUTS_CLOSED);
   check("many applications", toarmuts_open(&defaults, 17, &mote) == TOARMUTS_BAD_SIZES &&
                              toarmuts_open(&defaults, 256, &mote) == TOARMUTS_BAD_SIZES);
-  check("open", toarmuts_open(&defaults, 1, &mote) == TOARMUTS_DONE && toarmuts_open(&defaults, 1, &mote) == TOARMUTS_IS_OPEN);
+  check("open", toarmuts_open(&defaults, 1, &mote) == TOARMUTS_DONE && mote.is_open &&
+                toarmuts_open(&defaults, 1, &mote) == TOARMUTS_IS_OPEN && mote.is_open);
   check("boot", toarmuts_answer(&mote, &wait) == TOARMUTS_NO_TURN && toarmuts_answer(&mote, &none) == TOARMUTS_NO_TURN &&
                 feed(&mote, "tick 1") == TOARMUTS_NOT_AT_REST && toarmuts_line(&mote, line, 8, &length) == TOARMUTS_NO_LINE);
   check("turn", toarmuts_next(&mote, &step, &turn) == TOARMUTS_DONE && step == TOARMUTS_TURN && turn.process == 4 &&
@@ -92,7 +93,7 @@ check_order(void)
   check("tick", feed(&mote, "tick 5") == TOARMUTS_DONE && feed(&mote, "tick 5") == TOARMUTS_NOT_AT_REST &&
                 toarmuts_next(&mote, &step, &turn) == TOARMUTS_DONE && step == TOARMUTS_ENTRY && line_is(&mote, "> tick 5") &&
                 toarmuts_clock(&mote, &clock) == TOARMUTS_DONE && clock == 5);
-  check("close", toarmuts_close(&mote) == TOARMUTS_DONE && toarmuts_close(&mote) == TOARMUTS_CLOSED);
+  check("close", toarmuts_close(&mote) == TOARMUTS_DONE && !mote.is_open && toarmuts_close(&mote) == TOARMUTS_CLOSED);
 }
 
 /* Opens a mote with one application that answers these calls, one at each turn, and answers what it is told behind the last. */
@@ -136,9 +137,12 @@ check_turns(void)
   calls[0] = (struct toarmuts_call){TOARMUTS_CALL_IS_RUNNING, {4}, 0, 0, 0, {0}};
   turn = told_behind(calls, 1, "");
   check("flag", turn.reply == TOARMUTS_REPLY_FLAG && turn.number == 1);
-  calls[0].kind = TOARMUTS_CALL_HEAP_STATS;
-  turn = told_behind(calls, 1, "");
-  check("stats", turn.reply == TOARMUTS_REPLY_STATS && turn.stats.available == 4096 && turn.stats.allocated == 0 && turn.number == 0);
+  calls[0] = (struct toarmuts_call){TOARMUTS_CALL_HEAP_ALLOC, {0, 20}, 0, 0, 0, {0}};
+  calls[1] = (struct toarmuts_call){TOARMUTS_CALL_HEAP_ALLOC, {1, 4}, 0, 0, 0, {0}};
+  calls[2].kind = TOARMUTS_CALL_HEAP_STATS;
+  turn = told_behind(calls, 3, "");
+  check("stats", turn.reply == TOARMUTS_REPLY_STATS && turn.number == 0 && turn.stats.allocated == 24 && turn.stats.overhead == 32 &&
+                 turn.stats.available == 4040 && turn.stats.footprint == 56 && turn.stats.chunks == 2);
   calls[0] = (struct toarmuts_call){TOARMUTS_CALL_MMEM_ALLOC, {1, 6}, 0, 0, 0, {0}};
   calls[1] = (struct toarmuts_call){TOARMUTS_CALL_MMEM_WRITE, {1, 2}, 0, 0, 2, {0x68, 0x69}};
   calls[2] = (struct toarmuts_call){TOARMUTS_CALL_MMEM_READ, {1, 1, 4}, 0, 0, 0, {0}};

@@ -144,6 +144,7 @@ heapmem_calloc(size_t nmemb, size_t size)
   return heapmem_zone_calloc(HEAPMEM_ZONE_GENERAL, nmemb, size);
 }
 
+/* The rows have rounded sizes, so a block's bytes from its size to there are made 0 here: where it grows later, 0 follows. */
 void *
 heapmem_realloc(void *ptr, size_t size)
 {
@@ -167,6 +168,7 @@ heapmem_realloc(void *ptr, size_t size)
   *zone_at(place) = zone;
   note_taken(zone, old, wanted);
   note_footprint();
+  memset(toarmuts_heap_memory.bytes + place + size, 0, wanted - size);
   return toarmuts_heap_memory.bytes + place;
 }
 

@@ -73,9 +73,33 @@ check_wrong_arguments(void)
   check("a block of no bytes", a == heap() && heapmem_free(a));
 }
 
+/* A block of 16 bytes, all 7, that shrinks and grows again: the first bytes stay, and what it lost comes back as 0. */
+static void
+check_grown_again(void)
+{
+  static const size_t larger[] = {16, 32, 200};
+  for(size_t i = 0; i < sizeof larger / sizeof *larger; i++) {
+    unsigned char *a = heapmem_alloc(16);
+    memset(a, 7, 16);
+    check("shrunk and grown where it is", heapmem_realloc(a, 5) == a && heapmem_realloc(a, larger[i]) == a && a[4] == 7);
+    bool is_zero = true;
+    for(size_t at = 5; at < larger[i]; at++) {
+      is_zero = is_zero && a[at] == 0;
+    }
+    check("what it lost comes back as 0", is_zero && heapmem_free(a));
+  }
+  unsigned char *a = heapmem_alloc(30), *b = heapmem_alloc(1);
+  memset(a, 7, 30);
+  unsigned char *moved = heapmem_realloc(heapmem_realloc(a, 20), 40);
+  check("the same where it moves", moved != a && moved[19] == 7 && moved[20] == 0 && moved[29] == 0 && moved[39] == 0);
+  check("all given back", heapmem_free(b) && heapmem_free(moved));
+}
+
 static void
 check_zones(void)
 {
+  unsigned char *some = heapmem_alloc(SIZE / 2);
+  check("no more than what is left", heapmem_zone_register("large", SIZE / 2 + 1) == HEAPMEM_ZONE_INVALID && heapmem_free(some));
   heapmem_zone_t one = heapmem_zone_register("one", 64);
   check("a known name", heapmem_zone_register("one", 16) == HEAPMEM_ZONE_INVALID &&
                           heapmem_zone_register("general", 16) == HEAPMEM_ZONE_INVALID);
@@ -236,8 +260,14 @@ resizes_as_in_model(int block, size_t size)
   give(place, units, block);
   model[block].pointer = pointer;
   model[block].size = size;
-  return pointer == heap() + 16 * place && refilled(block, old < size ? old : size);
+  if(size > old) {
+    memset(model[block].bytes + old, 0, size - old);
+  }
+  return pointer == heap() + 16 * place && refilled(block, size);
 }
+
+/* The greatest footprint so far. */
+static size_t greatest;
 
 static bool
 has_the_bytes(void)
@@ -253,9 +283,10 @@ has_the_bytes(void)
   for(size_t i = 0; i < UNITS; i++) {
     taken_units += whose[i] != NOBODY;
   }
+  greatest = 16 * footprint_in_model() > greatest ? 16 * footprint_in_model() : greatest;
   heapmem_stats(&stats);
   return stats.allocated == 16 * taken_units && stats.available == SIZE - stats.allocated &&
-         stats.footprint == 16 * footprint_in_model() && stats.chunks == chunks && stats.max_footprint >= stats.footprint;
+         stats.footprint == 16 * footprint_in_model() && stats.chunks == chunks && stats.max_footprint == greatest;
 }
 
 static bool
@@ -281,6 +312,9 @@ static void
 check_random_calls(void)
 {
   bool holds = true;
+  heapmem_stats_t stats;
+  heapmem_stats(&stats);
+  greatest = stats.max_footprint;
   give(0, UNITS, NOBODY);
   for(int i = 0; i < RANDOM_CALLS && holds; i++) {
     holds = is_as_in_model() && has_the_bytes();
@@ -370,6 +404,7 @@ main(void)
 {
   check_worked_calls();
   check_wrong_arguments();
+  check_grown_again();
   check_random_calls();
   check_zones();
   check_any_table();

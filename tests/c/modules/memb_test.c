@@ -25,6 +25,7 @@ check_worked_calls(void)
   check("lowest first", a == memory && b == memory + 1 && c == memory + 2);
   check("none is left", memb_alloc(&pool) == NULL && memb_numfree(&pool) == 0);
   b->port = 7;
+  memset(b->name, 7, sizeof b->name);
   check("given back", memb_free(&pool, b) == 0 && memb_numfree(&pool) == 1);
   check("given back twice", memb_free(&pool, b) == -1);
   check("within a block", memb_free(&pool, (char *)a + 1) == -1);
@@ -32,7 +33,7 @@ check_worked_calls(void)
   check("no pointer", memb_free(&pool, NULL) == -1 && !memb_inmemb(&pool, NULL));
   check("in the pool", memb_inmemb(&pool, (char *)c + sizeof *c - 1) && !memb_inmemb(&pool, memory + 3));
   struct connection *d = memb_alloc(&pool);
-  check("the lowest again, and 0", d == b && d->port == 0);
+  check("the lowest again, and 0", d == b && d->port == 0 && d->name[0] == 0 && d->name[sizeof d->name - 1] == 0);
   memset(pool.mem, 7, 3 * sizeof *memory);
   memb_init(&pool);
   check("all unused, and 0", memb_numfree(&pool) == 3 && a->port == 0 && c->name[sizeof c->name - 1] == 0);

@@ -23,6 +23,7 @@ check_worked_calls(void)
   struct mmem first, second, third;
   double *numbers;
   mmem_init();
+  first.next = &second;
   check("two blocks", mmem_alloc(&first, 100) == 1 && mmem_alloc(&second, 40) == 1);
   check("one behind the other", (char *)MMEM_PTR(&second) == (char *)MMEM_PTR(&first) + 112);
   check("sizes", first.size == 100 && second.size == 40 && first.next == NULL);
@@ -64,6 +65,22 @@ check_wrong_arguments(void)
   check("spoilt rows", mmem_alloc(&other, 4) == 0);
   toarmuts_mmem_memory.rows[0] = row;
   check("mended rows", mmem_alloc(&other, 4) == 1);
+  mmem_init();
+}
+
+/* A block takes 16 bytes at least. */
+static void
+check_many_blocks(void)
+{
+  static struct mmem small[SIZE / 16 + 1];
+  bool holds = true;
+  mmem_init();
+  for(size_t i = 0; i < SIZE / 16; i++) {
+    holds = holds && mmem_alloc(&small[i], 1) == 1;
+  }
+  check("as many as there is room for", holds && mmem_alloc(&small[SIZE / 16], 1) == 0);
+  mmem_free(&small[3]);
+  check("and another in the place of one", mmem_alloc(&small[SIZE / 16], 16) == 1 && mmem_alloc(&small[3], 1) == 0);
   mmem_init();
 }
 
@@ -142,6 +159,7 @@ main(void)
 {
   check_worked_calls();
   check_wrong_arguments();
+  check_many_blocks();
   check_random_calls();
   return told();
 }

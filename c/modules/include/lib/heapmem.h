@@ -49,7 +49,8 @@ void *heapmem_calloc(size_t nmemb, size_t size);
 void *heapmem_zone_calloc(heapmem_zone_t zone, size_t nmemb, size_t size);
 
 /*
- * Resizes a block, in its zone: its first bytes stay, as many as both sizes have. It may move; then the old pointer is no block's.
+ * Resizes a block, in its zone: its first bytes stay, as many as both sizes have, and further ones are 0. It may move; then the old
+ * pointer is no block's.
  * NULL, and nothing changes, where there is no place for it, or the pointer is no block's. A NULL pointer: as heapmem_alloc(size).
  * A size of 0: as heapmem_free(ptr), and NULL.
  */
