@@ -45,11 +45,23 @@ read_size(struct toarmuts_configuration *configuration, const char *option, cons
   return true;
 }
 
+/* An option stands once, as for mote. */
+static void
+check_once(char **first, char **option)
+{
+  for(char **before = first; before < option; before++) {
+    if(**option == '-' && strcmp(*before, *option) == 0) {
+      give_up(STATUS_BAD_WORDS, "%s is given twice", *option);
+    }
+  }
+}
+
 static struct words
 read_words(char **word)
 {
   struct words words = {.configuration = TOARMUTS_DEFAULTS};
-  for(; *word != NULL; word++) {
+  for(char **first = word; *word != NULL; word++) {
+    check_once(first, word);
     if(strcmp(*word, "--quiet") == 0) {
       words.configuration.quiet = 1;
     } else if(strcmp(*word, "--text") == 0) {

@@ -8,6 +8,8 @@
 #include <stdbool.h>
 #include <stddef.h>
 
+#include "sys/cc.h"
+
 typedef struct heapmem_stats {
   size_t allocated;
   size_t overhead;
@@ -31,5 +33,12 @@ bool heapmem_free(void *ptr);
 
 /* Tells of the whole heap. */
 void heapmem_stats(heapmem_stats_t *stats);
+
+typedef unsigned char heapmem_zone_t;
+
+CC_REFUSED("the mote's heap has no zones: use heapmem_alloc") heapmem_zone_t heapmem_zone_register(const char *name, size_t zone_size);
+CC_REFUSED("the mote's heap has no zones: use heapmem_alloc") void *heapmem_zone_alloc(heapmem_zone_t zone, size_t size);
+CC_REFUSED("the mote's heap has no zones: use heapmem_calloc")
+void *heapmem_zone_calloc(heapmem_zone_t zone, size_t nmemb, size_t size);
 
 #endif
