@@ -1,10 +1,11 @@
 """pytest carries out scenarios: each run of a ``*.scenario`` or ``*.runs`` file that says what is to come of it is a test.
 
-    pytest examples crates/scenario/data
-    pytest --toarmuts-pages FOLDER ..        writes a page in HTML of each run that comes out otherwise
-    pytest --toarmuts-coverage ..            tells at the end which calls, refusals and events were reached
+    python -m pytest examples crates/scenario/data
+    python -m pytest --toarmuts-pages FOLDER ..        writes a page in HTML of each run that comes out otherwise
+    python -m pytest --toarmuts-coverage ..            tells at the end which calls, refusals and events were reached
 
-It stands apart from the package, so that pytest loads that only where such a file is met.
+The pytest is that of the Python that has the package. This module stands apart from the package, so that pytest loads that only where
+such a file is met.
 """
 from __future__ import annotations
 
@@ -56,7 +57,7 @@ class ScenarioFile(pytest.File):
         from toarmuts.scenario import read_scenarios
 
         try:
-            scenarios = read_scenarios(self.path.read_text(encoding="utf-8"))
+            scenarios = read_scenarios(self.path.read_bytes().decode("utf-8"))
         except NotInPython as fault:
             pytest.skip(f"{self.path.name}: {fault}", allow_module_level=True)
         except (BadScenario, UnicodeDecodeError) as fault:

@@ -1,4 +1,8 @@
 """What is wrong with arguments is told: the exception, and which size, application, call or input it is."""
+import concurrent.futures
+import copy
+import multiprocessing
+import pickle
 import random
 import re
 
@@ -30,6 +34,10 @@ class NeedsMore:
 def waits():
     while True:
         yield Wait()
+
+
+def read(text):
+    return lambda: toarmuts.read_scenarios(text)
 
 
 def run(*arguments, **options):
@@ -64,6 +72,8 @@ WRONG = [
     (run([NeedsMore]), NoApplication, "application 1 (process 4): NeedsMore() raised TypeError: NeedsMore.__init__() missing 1 required"),
     (lambda: Table({256: [Wait()]}), WrongType, "a table's row is for an event code, 0 to 255, or for 'callback', not for 256"),
     (lambda: Table({"timer": [Wait()]}), WrongType, "a table's row is for an event code, 0 to 255, or for 'callback', not for 'timer'"),
+    (lambda: Table(None), WrongType, "a table is made of a dict, with a list of calls for each event, not of NoneType"),
+    (lambda: Table([(129, [Wait()])]), WrongType, "a table is made of a dict, with a list of calls for each event, not of list"),
     (lambda: Table({129: Wait()}), WrongType, "a table's row is a list of calls, not Wait"),
     (lambda: Table({129: [Wait()], 136: [Wait]}), WrongType, "a table's row has calls, and not the class Wait: Wait(..) is meant"),
     (run(["hello"] * 17), TooManyApplications, "17 applications; a mote has at most 16"),
@@ -116,11 +126,30 @@ WRONG = [
     (lambda: Post(4, 140, 2**32), BadCall, "post: payload is 4294967296; 0 to 4,294,967,295 is allowed"),
     (lambda: Call(), WrongType, "Call is no call itself"),
     (lambda: Call.parse(5), WrongType, "the words of a call are to be a str, not int"),
+    (lambda: Call.parse([]), WrongType, "the words of a call are to be a str, not list"),
+    (lambda: Call.parse(""), BadCall, "'': no call ''"),
+    (lambda: Call.parse("wait\n"), BadCall, "'wait\\n': no call 'wait\\n'"),
     (lambda: Call.parse("print 0"), BadCall, "'print 0': 0 is no hex of at most 64 bytes"),
     (lambda: Call.parse("kill 4 5"), BadCall, "'kill 4 5': more words than the call takes: 5"),
     # Transcripts and scenarios.
     (lambda: Transcript(5), WrongType, "a transcript is to be a str or bytes, not int"),
     (lambda: list(Transcript("> tick 1\n4 nowhere 5 -> wait\n")), BadTranscript, "line 2 is no line of a transcript: 4 nowhere 5 -> wait"),
+    (read("mmem 8\nmmem 8\n"), BadScenario, "line 2: mmem stands there twice"),
+    (read("quiet\ntick 1\nquiet\n"), BadScenario, "line 3: quiet stands there twice"),
+    (read("ends halted\nends halted\n"), BadScenario, "line 2: ends stands there twice"),
+    (read("== one\ntick 1\n== two\n== one\n"), BadScenario, "line 4: two runs have the name one"),
+    (read("== \n"), BadScenario, "line 1: a run has no name"), (read("==\n"), BadScenario, "line 1: a run has no name"),
+    (read("app hello\r\n"), BadScenario, "line 1: the line ends with byte 13, as lines of Windows do"),
+    (read("\ufeffapp hello\n"), BadScenario, "line 1: the file begins with a byte order mark"),
+    (read("app hel\0lo\n"), BadScenario, "line 1: there is a byte 0 in the line"),
+    (read("#\n app hello\n"), BadScenario, "line 2: the line begins with a space"),
+    (read("app\thello\n"), BadScenario, "line 1: there is a tab in the line"),
+    (read("calls wait,wait\n"), BadScenario, "line 1: no space stands behind a comma"),
+    (read("calls wait , wait\n"), BadScenario, "line 1: a space stands in front of a comma"),
+    (read("calls wait, \n"), BadScenario, "line 1: no call stands behind the last comma"),
+    (read("at 5\nat 3\n"), BadScenario, "line 2: the clock stands at 5 already"),
+    (read("at 007\n"), BadScenario, "line 1: 007 is no clock"),
+    (read("at +7\n"), BadScenario, "line 1: +7 is no clock"),
     (lambda: toarmuts.read_scenarios("tock 5\n"), BadScenario, "line 1: unknown word tock"),
     (lambda: toarmuts.read_scenarios(b"tick 5\n"), WrongType, "scenarios are read from the text of a file, a str, not bytes"),
     (lambda: toarmuts.run([]).scenario(name="a\nb"), BadScenario, "a run's name has no line end: 'a\\nb'"),
@@ -138,6 +167,11 @@ WRONG = [
     (lambda: Mote().tick(-1), BadInput, "tick -1: 0 to 4,294,967,295 is allowed"),
     (lambda: Mote().frame(b""), BadInput, "frame of 0 bytes: 1 to 127 are allowed"),
     (lambda: Mote().feed("tick 01"), BadInput, "'tick 01' is no line of a script"),
+    (lambda: toarmuts.run(["hello"]).printed("4"), WrongType, "a process is to be an int or None, not str"),
+    (lambda: toarmuts.run(["hello"]).entries.turns(True), WrongType, "a process is to be an int or None, not bool"),
+    (lambda: copy.copy(Mote()), toarmuts.MoteError, "a mote in hand can't be copied or pickled; its run, `so_far()`, can"),
+    (lambda: copy.deepcopy(Mote()), toarmuts.MoteError, "a mote in hand can't be copied or pickled"),
+    (lambda: pickle.dumps(Mote()), toarmuts.MoteError, "a mote in hand can't be copied or pickled"),
     (lambda: Mote().answer(Wait()), toarmuts.MoteError, "no turn awaits a call"),
     (lambda: Mote().answer("wait"), WrongType, "answer takes a Call, not str"),
 ]
@@ -274,6 +308,33 @@ def test_lines_have_no_form_exactly_where_the_library_finds_none():
         assert (status == 2) == (not has_form(line)), line
         none += status == 2
     assert none > 300
+
+
+@pytest.mark.parametrize("make", [
+    run([], mmem=5), run(["hello", "calls wait, kill"]), run(["hello"] * 17), run(["hello"], 5), run([lambda: (1 // 0 for _ in [0])]),
+    lambda: toarmuts.run([], "frob\n").check(), lambda: TimerSet(0, 2**32), lambda: Call.parse("frob"), lambda: Mote().feed("frob"),
+    lambda: Mote().answer(Wait()), lambda: toarmuts.read_scenarios("frob"), lambda: list(Transcript("frob")),
+])
+def test_what_is_raised_can_be_pickled(make):
+    """It comes out of a pickle as it was, whatever its class is made of."""
+    with pytest.raises(toarmuts.ToarmutsError) as told:
+        make()
+    again = pickle.loads(pickle.dumps(told.value))
+    assert (type(again), str(again), again.args) == (type(told.value), str(told.value), told.value.args)
+    assert {name: str(member) for name, member in vars(again).items()} == {name: str(member) for name, member in vars(told.value).items()}
+
+
+def raises(mmem):
+    """What a worker does in another process."""
+    return toarmuts.run(["hello"], mmem=mmem).status
+
+
+def test_what_is_raised_in_another_process_is_told_here():
+    with concurrent.futures.ProcessPoolExecutor(1, multiprocessing.get_context("fork")) as pool:
+        assert pool.submit(raises, 8).result(timeout=60) == 0
+        with pytest.raises(BadSizes) as told:
+            pool.submit(raises, 6).result(timeout=60)
+    assert (told.value.size, told.value.why) == ("mmem", Reason.MMEM)
 
 
 def test_calls_cannot_be_changed():

@@ -4,7 +4,9 @@ import sys
 
 import pytest
 from common import ROOT
+import toarmuts
 from toarmuts import read_scenarios
+from toarmuts.scenario import read_file
 
 FAILING = ("== one\napp hello\n4 synch 129 - -> print 68690a\n4 answer done -> exit\n\n"
            "== two\ntick 1\n\n== three\ntick 1\n> tick 1\nends halted\n")
@@ -29,6 +31,17 @@ def test_a_file_of_no_form_is_told(tmp_path):
     (tmp_path / "bad.runs").write_text("== one\ntock 5\n")
     done = run_pytest(tmp_path)
     assert done.returncode == 2 and "bad.runs: line 2: unknown word tock" in done.stdout
+
+
+def test_byte_13_of_a_script_is_read_and_of_a_file_refused(tmp_path):
+    """Neither is taken for a line end of its own."""
+    run = toarmuts.run(["hello"], "tick 1\r\n")
+    (tmp_path / "a.scenario").write_bytes(run.scenario().encode())
+    assert [scenario.carry_out().fault for scenario in read_file(tmp_path / "a.scenario")] == [None]
+    assert run_pytest(tmp_path, "a.scenario").returncode == 0
+    (tmp_path / "b.scenario").write_bytes(b"app hello\r\n4 synch 129 - -> print 68690a\r\n")
+    done = run_pytest(tmp_path, "b.scenario")
+    assert done.returncode == 2 and "b.scenario: line 1: the line ends with byte 13, as lines of Windows do" in done.stdout
 
 
 @pytest.mark.parametrize("line", ["rows", "on INIT: wait", "...", "4 synch INIT - -> wait", '4 answer done -> print "hi"', 'calls print "hi"',

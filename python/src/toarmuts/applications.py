@@ -97,6 +97,8 @@ class Table:
     """
 
     def __init__(self, rows: Mapping[int | str, Sequence[Call]]) -> None:
+        if not isinstance(rows, Mapping):
+            raise WrongType(f"a table is made of a dict, with a list of calls for each event, not of {type(rows).__name__}")
         self.rows = {key: _check_row(key, calls) for key, calls in rows.items()}
         self._left: list[Call] = []
 

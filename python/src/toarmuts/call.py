@@ -178,7 +178,7 @@ class Call:
         Traceback (most recent call last):
         toarmuts.errors.BadCall: 'timer-set 0 x': x is no number from 0 to 4294967295
         """
-        known = Call._parsed.get(text)
+        known = Call._parsed.get(text) if isinstance(text, str) else None
         if known is not None:
             return known
         made = _parse(text)
@@ -193,7 +193,7 @@ def _parse(text: str) -> Call:
     word, *rest = text.split(" ")
     kind = Call.by_word.get(word)
     if kind is None:
-        raise BadCall(f"no call {word}", text)
+        raise BadCall(f"no call {word if word and word.isprintable() else repr(word)}", text)
     names = kind.rule.arguments
     try:
         arguments = [_read_argument(name, argument) for name, argument in zip(names, rest)]

@@ -38,7 +38,17 @@ class Reason(enum.IntEnum):
 
 
 class ToarmutsError(Exception):
-    """Anything that this package refuses."""
+    """Anything that this package refuses. Like other exceptions it can be pickled, as it is where a process hands it to another one."""
+
+    def __reduce__(self) -> "tuple[object, ...]":
+        return _made_again, (type(self), self.args, self.__dict__)
+
+
+def _made_again(kind: type[ToarmutsError], told: "tuple[object, ...]", members: "dict[str, object]") -> ToarmutsError:
+    """The exception with this message and these members, whatever its class wants to be made of."""
+    error = kind.__new__(kind, *told)
+    error.__dict__.update(members)
+    return error
 
 
 class WrongType(ToarmutsError, TypeError):

@@ -50,6 +50,9 @@ class Mote:
         self.booted = self._do(self._stepper.work)
         """The entries of the boot."""
 
+    def __reduce__(self) -> str:
+        raise MoteError("a mote in hand can't be copied or pickled; its run, `so_far()`, can")
+
     def _do(self, work: Callable[[], None]) -> Transcript:
         """Carries something out, and answers the entries that it made."""
         if not self._lock.acquire(blocking=False):

@@ -23,6 +23,12 @@ MOST_TEXT = 255
 BAD_SIZES = "bad sizes"
 _OF_TRANSCRIPT = re.compile(r"[0-9]|(?:>|note|halt|bad|too)(?: |\Z)")
 _ENDS = ("finished", "halted", "too long", BAD_SIZES)
+# What is hard to see in a line of no form, and what is wrong with the commas of a list.
+_FLAWS = tuple((re.compile(form), words) for form, words in (
+    ("\\A\ufeff", "the file begins with a byte order mark"), ("\0", "there is a byte 0 in the line"),
+    (r"\r\Z", "the line ends with byte 13, as lines of Windows do"), (r"\A ", "the line begins with a space"),
+    (r"\t", "there is a tab in the line"), (r"\Acalls .*,\s*\Z", "no call stands behind the last comma"),
+    (r"\Acalls .* ,", "a space stands in front of a comma"), (r"\Acalls .*,[^ ]", "no space stands behind a comma")))
 # Rows, gaps, names of events and texts in quotes, where only `./scenario` has them.
 _OF_PROGRAM = re.compile(r'(?:rows|on .*|\.\.\.)\Z|(?:calls|serial|frame|[0-9]+|>|times [0-9]+) .*"|[0-9]+ (?:synch|event) [A-Z]')
 
@@ -111,7 +117,10 @@ class Scenario:
             count, _, repeated = rest.partition(" ")
             self._append(read_number(count, MOST_TIMES, 1), repeated)
         elif word in RULES.sizes:
+            self._refuse_twice(word, word in self.sizes)
             self.sizes[word] = read_number(rest, 2**32 - 1)
+        elif word == "==":
+            raise _BadPlace("a run has no name")
         elif word in ("quiet", "ends"):
             self._set_outcome(word, rest)
         elif line and not line.startswith("#"):
@@ -125,24 +134,30 @@ class Scenario:
         else:
             raise BadScenario(f"no application {rest}")
 
+    def _refuse_twice(self, word: str, stands: bool) -> None:
+        if stands:
+            raise _BadPlace(f"{word} stands there twice")
+
     def _set_outcome(self, word: str, rest: str) -> None:
         if word == "quiet":
             if rest:
                 raise BadScenario("quiet takes no word")
+            self._refuse_twice(word, self.quiet)
             self.quiet = True
         elif rest in _ENDS or re.fullmatch(r"bad line [1-9][0-9]*", rest):
+            self._refuse_twice(word, self.end is not None)
             self.end = rest
         else:
             raise BadScenario(f"no end of a run: {rest}")
 
     def _go_on_to(self, word: str) -> None:
-        if not re.fullmatch(r"[0-9]{1,20}", word):
+        if not re.fullmatch(r"0|[1-9][0-9]{0,19}", word):
             raise BadScenario(f"{word} is no clock")
         left = int(word) - self.clock
         if left < 0:
-            raise BadScenario(f"the clock stands at {self.clock} already")
+            raise _BadPlace(f"the clock stands at {self.clock} already")
         if left >= 2**32:
-            raise BadScenario("the clock goes on by at most 4294967295 ticks at once")
+            raise _BadPlace("the clock goes on by at most 4294967295 ticks at once")
         if left:
             self._push(1, f"tick {left}")
 
@@ -156,7 +171,7 @@ class Scenario:
             self._push(count, rest)
         elif word == "text":
             if len(rest.encode()) > MOST_TEXT:
-                raise BadScenario("a text has at most 255 bytes")
+                raise _BadPlace("a text has at most 255 bytes")
             self._push(count, f"serial {rest.encode().hex()}0a")
         elif word not in ("tick", "serial", "frame"):
             raise BadScenario(f"unknown word {word}")
@@ -172,7 +187,16 @@ class Scenario:
 
     def _refuse_behind_last(self) -> None:
         if self.has_ended:
-            raise BadScenario("the script has ended with its last line")
+            raise _BadPlace("the script has ended with its last line")
+
+
+class _BadPlace(BadScenario):
+    """The words of a line have a form, and it can't stand there."""
+
+
+def _flaw_of(line: str) -> str | None:
+    """What is hard to see in a line of no form."""
+    return next((words for form, words in _FLAWS if form.search(line)), None)
 
 
 def _parts(text: str) -> Iterator[tuple[str | None, int, list[str]]]:
@@ -185,7 +209,12 @@ def _parts(text: str) -> Iterator[tuple[str | None, int, list[str]]]:
     for place, line in enumerate(lines[:heads[0]]):
         if line and not line.startswith("#"):
             raise BadScenario(f"line {place + 1}: a line above the first run")
+    names = set()
     for head, behind in zip(heads, [*heads[1:], len(lines)]):
+        name = lines[head][3:]
+        if not name or name in names:
+            raise BadScenario(f"line {head + 1}: {f'two runs have the name {name}' if name else 'a run has no name'}")
+        names.add(name)
         yield lines[head][3:], head + 2, lines[head + 1:behind]
 
 
@@ -204,10 +233,11 @@ def read_scenarios(text: str) -> list[Scenario]:
         for number, line in enumerate(lines, first_line):
             try:
                 scenario.read_line(line)
-            except BadCall as fault:
-                raise BadScenario(f"line {number}: {fault.reason}") from None
-            except BadScenario as fault:
-                raise type(fault)(f"line {number}: {fault}") from None
+            except (NotInPython, _BadPlace) as fault:
+                raise (NotInPython if isinstance(fault, NotInPython) else BadScenario)(f"line {number}: {fault}") from None
+            except (BadCall, BadScenario) as fault:
+                words = fault.reason if isinstance(fault, BadCall) else str(fault)
+                raise BadScenario(f"line {number}: {_flaw_of(line) or words}") from None
         made.append(scenario)
     return made
 
@@ -215,7 +245,7 @@ def read_scenarios(text: str) -> list[Scenario]:
 def read_file(path: Union[str, pathlib.Path]) -> list[Scenario]:
     """The runs of a file."""
     try:
-        text = pathlib.Path(path).read_text(encoding="utf-8")
+        text = pathlib.Path(path).read_bytes().decode("utf-8")
     except UnicodeDecodeError:
         raise BadScenario(f"{path}: not text") from None
     try:

@@ -299,6 +299,8 @@ class Transcript(Sequence[Entry]):
 
     def turns(self, process: int | None = None) -> list[Turn]:
         """The turns, of one process or of all."""
+        if process is not None and (isinstance(process, bool) or not isinstance(process, int)):
+            raise WrongType(f"a process is to be an int or None, not {type(process).__name__}")
         return [entry for entry in self._all() if isinstance(entry, Turn) and (process is None or entry.process == process)]
 
     def inputs(self) -> list[Input]:
