@@ -9,12 +9,12 @@ use Rattle.heapmem_c.specs.Heaps.{heap_of, IsTable, front, with_new, with_resize
 use Rattle.heapmem_c.specs.Answers.{outcome_numbered, AllocTold, FreeTold, ReallocTold, StatsTold}
 use Rattle.heapmem_c.specs.Code.Rows.{with_row, without_row, next_place, IsFree, HasNoPlace, BeginsAt, BeginBelow}
 
-abbrev row : ℕ → ℕ → ℕ → Row
-row place room size = record { place = place; room = room; size = size }
+abbrev block_row : ℕ → ℕ → ℕ → Row
+block_row place room size = record { place = place; room = room; size = size }
 
 -- of 10 bytes the first two and those from 4 to 6
 abbrev small : HeapStore
-small = heap_of (row 0 2 1 ∷ row 4 3 3 ∷ []) (1 ∷ 2 ∷ 3 ∷ 4 ∷ 5 ∷ 6 ∷ 7 ∷ 8 ∷ 9 ∷ 10 ∷ [])
+small = heap_of (block_row 0 2 1 ∷ block_row 4 3 3 ∷ []) (1 ∷ 2 ∷ 3 ∷ 4 ∷ 5 ∷ 6 ∷ 7 ∷ 8 ∷ 9 ∷ 10 ∷ [])
 
 is_heap : small
     ≡ record {
@@ -24,33 +24,33 @@ is_heap : small
     }
 is_heap = refl
 
-is_table : IsTable (row 0 2 1 ∷ row 4 3 3 ∷ []) 10
+is_table : IsTable (block_row 0 2 1 ∷ block_row 4 3 3 ∷ []) 10
 is_table = (omega arith, omega arith, omega arith, (omega arith, omega arith, omega arith, omega arith))
 
 no_blocks : IsTable [] 0
 no_blocks = omega arith
 
-sharing_a_byte : IsTable (row 0 5 1 ∷ row 4 3 3 ∷ []) 10 → ⊥
+sharing_a_byte : IsTable (block_row 0 5 1 ∷ block_row 4 3 3 ∷ []) 10 → ⊥
 sharing_a_byte lie = omega (arith, lie.3.0)
 
-higher_one_first : IsTable (row 4 3 3 ∷ row 0 2 1 ∷ []) 10 → ⊥
+higher_one_first : IsTable (block_row 4 3 3 ∷ block_row 0 2 1 ∷ []) 10 → ⊥
 higher_one_first lie = omega (arith, lie.3.0)
 
-past_the_end : IsTable (row 0 2 1 ∷ row 4 3 3 ∷ []) 6 → ⊥
+past_the_end : IsTable (block_row 0 2 1 ∷ block_row 4 3 3 ∷ []) 6 → ⊥
 past_the_end lie = omega (arith, lie.3.3)
 
-more_bytes_than_room : IsTable (row 0 2 3 ∷ []) 10 → ⊥
+more_bytes_than_room : IsTable (block_row 0 2 3 ∷ []) 10 → ⊥
 more_bytes_than_room lie = omega (arith, lie.2)
 
-no_room_at_all : IsTable (row 0 0 0 ∷ []) 10 → ⊥
+no_room_at_all : IsTable (block_row 0 0 0 ∷ []) 10 → ⊥
 no_room_at_all lie = omega (arith, lie.1)
 
-all_but_the_last : front (row 0 2 1 ∷ row 4 3 3 ∷ []) ≡ row 0 2 1 ∷ []
+all_but_the_last : front (block_row 0 2 1 ∷ block_row 4 3 3 ∷ []) ≡ block_row 0 2 1 ∷ []
 all_but_the_last = refl
 
 -- 160 bytes: gaps of 48 and 32 bytes, and 16 above the last block
 abbrev heap : HeapStore
-heap = heap_of (row 48 16 16 ∷ row 96 48 48 ∷ []) (zeros 160)
+heap = heap_of (block_row 48 16 16 ∷ block_row 96 48 48 ∷ []) (zeros 160)
 
 shortest_that_is_long_enough : place 20 heap ≡ Some (record { at = 64; room = 32 })
 shortest_that_is_long_enough = refl
@@ -75,12 +75,15 @@ grown_into_a_gap = refl
 moved_nowhere : new_place (record { at = 48; room = 16 }) 49 heap ≡ None
 moved_nowhere = refl
 
-new_block : with_new (record { at = 0; room = 4 }) 2 (heap_of (row 8 2 2 ∷ []) (1 ∷ 1 ∷ 1 ∷ 1 ∷ 1 ∷ 1 ∷ 1 ∷ 1 ∷ 1 ∷ 1 ∷ [])) ≡ heap_of (row 0 4 2 ∷ row 8 2 2 ∷ []) (0 ∷ 0 ∷ 1 ∷ 1 ∷ 1 ∷ 1 ∷ 1 ∷ 1 ∷ 1 ∷ 1 ∷ [])
+new_block : with_new (record { at = 0; room = 4 }) 2
+    (heap_of (block_row 8 2 2 ∷ []) (1 ∷ 1 ∷ 1 ∷ 1 ∷ 1 ∷ 1 ∷ 1 ∷ 1 ∷ 1 ∷ 1 ∷ []))
+    ≡ heap_of (block_row 0 4 2 ∷ block_row 8 2 2 ∷ []) (0 ∷ 0 ∷ 1 ∷ 1 ∷ 1 ∷ 1 ∷ 1 ∷ 1 ∷ 1 ∷ 1 ∷ [])
 new_block = refl
 
 -- a block of one byte that is moved to 4 and has three then
-resized_block : with_resized (record { at = 4; room = 4 }) 3 (record { name = 0; at = 0; room = 2; bytes = 7 ∷ [] }) (heap_of (row 0 2 1 ∷ []) (7 ∷ 8 ∷ 9 ∷ 9 ∷ 9 ∷ 9 ∷ 9 ∷ 9 ∷ []))
-    ≡ heap_of (row 4 4 3 ∷ []) (7 ∷ 8 ∷ 9 ∷ 9 ∷ 7 ∷ 0 ∷ 0 ∷ 9 ∷ [])
+resized_block : with_resized (record { at = 4; room = 4 }) 3 (record { name = 0; at = 0; room = 2; bytes = 7 ∷ [] })
+    (heap_of (block_row 0 2 1 ∷ []) (7 ∷ 8 ∷ 9 ∷ 9 ∷ 9 ∷ 9 ∷ 9 ∷ 9 ∷ []))
+    ≡ heap_of (block_row 4 4 3 ∷ []) (7 ∷ 8 ∷ 9 ∷ 9 ∷ 7 ∷ 0 ∷ 0 ∷ 9 ∷ [])
 resized_block = refl
 
 numbers : map outcome_numbered (0 ∷ 1 ∷ 2 ∷ 3 ∷ 4 ∷ [])
@@ -92,10 +95,10 @@ no_such_number = refl
 
 -- A row that is none, and the same behind a sound one; a heap of 4 bytes whose block has all of them
 abbrev spoilt : List Row
-spoilt = row 0 0 0 ∷ []
+spoilt = block_row 0 0 0 ∷ []
 
 abbrev full : List Row
-full = row 0 4 1 ∷ []
+full = block_row 0 4 1 ∷ []
 
 -- of several reasons one alone is told
 no_row_is_told_first : AllocTold Outcome.NoTable 1 [] (zeros 4) → ⊥
@@ -108,19 +111,19 @@ a_row_is_there told = omega (arith, told)
 no_rows_but_the_spare_one : AllocTold Outcome.NoTable 1 spoilt (zeros 4) → ⊥
 no_rows_but_the_spare_one told = told.1 (omega arith)
 
-refused_where_there_is_room : AllocTold Outcome.NoRoom 4 (row 0 0 0 ∷ []) (zeros 16) → ⊥
+refused_where_there_is_room : AllocTold Outcome.NoRoom 4 (block_row 0 0 0 ∷ []) (zeros 16) → ⊥
 refused_where_there_is_room told = absurd (let none = told.2 in cc)
 
 no_room_without_a_row : AllocTold Outcome.NoRoom 4 [] [] → ⊥
 no_room_without_a_row told = omega (arith, told.0)
 
-no_room_in_no_table : AllocTold Outcome.NoRoom 4 (row 0 0 0 ∷ spoilt) [] → ⊥
+no_room_in_no_table : AllocTold Outcome.NoRoom 4 (block_row 0 0 0 ∷ spoilt) [] → ⊥
 no_room_in_no_table told = omega (arith, told.1.1)
 
 given_without_a_row : AllocTold Outcome.Done 4 [] (zeros 16) → ⊥
 given_without_a_row told = omega (arith, told.0)
 
-given_in_no_table : AllocTold Outcome.Done 4 (row 0 0 0 ∷ spoilt) (zeros 16) → ⊥
+given_in_no_table : AllocTold Outcome.Done 4 (block_row 0 0 0 ∷ spoilt) (zeros 16) → ⊥
 given_in_no_table told = omega (arith, told.1.1)
 
 given_where_there_is_no_room : AllocTold Outcome.Done 9 spoilt (zeros 8) → ⊥
@@ -129,7 +132,7 @@ given_where_there_is_no_room told = absurd (let some = told.2 in cc)
 given_as_no_block : AllocTold Outcome.NoBlock 4 spoilt (zeros 16) → ⊥
 given_as_no_block told = told
 
-freed_where_no_block_begins : FreeTold Outcome.Done 1 (row 0 2 1 ∷ []) (zeros 4) → ⊥
+freed_where_no_block_begins : FreeTold Outcome.Done 1 (block_row 0 2 1 ∷ []) (zeros 4) → ⊥
 freed_where_no_block_begins told = absurd (let some = told.1 in cc)
 
 freed_in_no_table : FreeTold Outcome.Done 0 spoilt (zeros 4) → ⊥
@@ -150,7 +153,7 @@ freed_as_no_room told = told
 freed_as_no_row : FreeTold Outcome.NoRow 0 full (zeros 4) → ⊥
 freed_as_no_row told = told
 
-resized_where_no_block_begins : ReallocTold Outcome.Done 1 4 (row 0 2 1 ∷ []) (zeros 4) → ⊥
+resized_where_no_block_begins : ReallocTold Outcome.Done 1 4 (block_row 0 2 1 ∷ []) (zeros 4) → ⊥
 resized_where_no_block_begins told = told.1
 
 resized_in_no_table : ReallocTold Outcome.Done 0 0 spoilt (zeros 4) → ⊥
@@ -159,7 +162,7 @@ resized_in_no_table told = omega (arith, told.0.1)
 resized_where_there_is_no_room : ReallocTold Outcome.Done 0 5 full (zeros 4) → ⊥
 resized_where_there_is_no_room told = absurd (let some = told.1 in cc)
 
-not_resized_where_there_is_room : ReallocTold Outcome.NoRoom 0 4 (row 0 8 1 ∷ []) (zeros 16) → ⊥
+not_resized_where_there_is_room : ReallocTold Outcome.NoRoom 0 4 (block_row 0 8 1 ∷ []) (zeros 16) → ⊥
 not_resized_where_there_is_room told = absurd (let none = told.1 in cc)
 
 not_resized_in_no_table : ReallocTold Outcome.NoRoom 0 5 spoilt (zeros 4) → ⊥
@@ -180,7 +183,7 @@ not_resized_in_a_table told = told (omega arith, omega arith, omega arith, omega
 resized_as_no_row : ReallocTold Outcome.NoRow 0 5 full (zeros 4) → ⊥
 resized_as_no_row told = told
 
-figures_of_no_table : StatsTold Outcome.Done (row 0 0 0 ∷ []) (zeros 4) → ⊥
+figures_of_no_table : StatsTold Outcome.Done (block_row 0 0 0 ∷ []) (zeros 4) → ⊥
 figures_of_no_table told = omega (arith, told.1)
 
 no_figures_of_a_table : StatsTold Outcome.NoTable full (zeros 4) → ⊥
@@ -197,7 +200,7 @@ figures_as_no_row told = told
 
 -- rows with blocks from 0 to 2 and from 4 to 7
 abbrev two_rows : List Row
-two_rows = row 0 2 1 ∷ row 4 3 3 ∷ []
+two_rows = block_row 0 2 1 ∷ block_row 4 3 3 ∷ []
 
 between_them : IsFree 0 two_rows 10 2 2
 between_them = inr (inl (omega arith, omega arith))
@@ -220,10 +223,10 @@ reaches_into_the_first (inl first) = omega (arith, first.1)
 reaches_into_the_first (inr (inl second)) = omega (arith, second.0)
 reaches_into_the_first (inr (inr last)) = omega (arith, last.0)
 
-put_between : with_row (row 2 1 1) two_rows ≡ row 0 2 1 ∷ row 2 1 1 ∷ row 4 3 3 ∷ []
+put_between : with_row (block_row 2 1 1) two_rows ≡ block_row 0 2 1 ∷ block_row 2 1 1 ∷ block_row 4 3 3 ∷ []
 put_between = refl
 
-first_taken_out : without_row 0 two_rows ≡ row 4 3 3 ∷ []
+first_taken_out : without_row 0 two_rows ≡ block_row 4 3 3 ∷ []
 first_taken_out = refl
 
 next_behind_the_first : next_place 0 two_rows 10 ≡ 4

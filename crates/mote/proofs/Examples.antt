@@ -85,10 +85,12 @@ module _ (words : List (List ℕ)) (exchange : Exchange) (names : NamesMote word
   keeps_the_promise : (end : End) → HasRunNamed words (Ok end) exchange → RunPromise (config_of asked) (says_of bundled_says asked.applications.items) asked.quiet (Ok end) exchange
   keeps_the_promise end has = has.promise names
 
-  keeps_it_where_reading_failed : HasRunNamed words (Err Failure.Read) exchange → RunPromise (config_of asked) (says_of bundled_says asked.applications.items) asked.quiet (Err RunFault.Read) exchange
+  keeps_it_where_reading_failed : HasRunNamed words (Err Failure.Read) exchange
+      → RunPromise (config_of asked) (says_of bundled_says asked.applications.items) asked.quiet (Err RunFault.Read) exchange
   keeps_it_where_reading_failed has = has.promise names
 
-  keeps_it_where_writing_failed : HasRunNamed words (Err Failure.Write) exchange → RunPromise (config_of asked) (says_of bundled_says asked.applications.items) asked.quiet (Err RunFault.Write) exchange
+  keeps_it_where_writing_failed : HasRunNamed words (Err Failure.Write) exchange
+      → RunPromise (config_of asked) (says_of bundled_says asked.applications.items) asked.quiet (Err RunFault.Write) exchange
   keeps_it_where_writing_failed has = has.promise names
 
 -- whatever they name, what was written is what such a run comes to

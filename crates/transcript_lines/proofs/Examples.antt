@@ -1,15 +1,18 @@
 -- What lines say, and what they don't, at small values.
-use Rattle.std.proofs.Common.{◌≡◌, true, false, codes, Some, None, refl}
+use Rattle.std.proofs.Common.{◌≡◌, ℕ, List, true, false, codes, Some, None, refl, ap}
 use Rattle.std.specs.Fmt.{digits}
 use Rattle.transcript_lines.specs.declared.line.Ending.{Ending}
 use Rattle.transcript_lines.specs.declared.line.Input.{Input}
 use Rattle.transcript_lines.specs.declared.line.Line.{Line}
 use Rattle.transcript_lines.specs.declared.line.Note.{Note}
 use Rattle.transcript_lines.specs.declared.turn.Origin.{Origin}
+use Rattle.transcript_lines.specs.declared.turn.Turn.{Turn}
+use Rattle.transcript_lines.specs.Forms.{is_line}
 use Rattle.transcript_lines.specs.Lines.{line_text, ticks_in, ticks_of}
 use Rattle.transcript_lines.specs.Quiet.{ends_script, shows_call}
-use Rattle.transcript_lines.specs.Turns.{is_call, is_reply, is_stimulus, memory_forms, plain_forms, pool_forms}
+use Rattle.transcript_lines.specs.Turns.{is_call, is_reply, is_stimulus, is_turn, memory_forms, plain_forms, pool_forms}
 use Rattle.transcript_lines.specs.Words.{is_bytes, is_payload, read_number}
+use denote.Ref.{Bor}
 
 nine : ticks_in (codes "> tick 9") ≡ Some 9
 nine = refl
@@ -110,3 +113,21 @@ a_bad_line = refl
 
 a_halt : ends_script (codes "halt") ≡ false
 a_halt = refl
+
+-- bytes come in as pairs of digits, and an end is always one
+half_a_byte_of_a_line : (digits : Bor (List ℕ)) → digits.now ≡ codes "0" → is_line (Line.Input (Input.Serial digits)) ≡ false
+unfolding is_line
+half_a_byte_of_a_line digits half = ap is_bytes half
+
+a_byte_sent : (digits : Bor (List ℕ)) → digits.now ≡ codes "0a" → is_line (Line.Note (Note.Sent digits)) ≡ true
+unfolding is_line
+a_byte_sent digits whole = ap is_bytes whole
+
+an_end : is_line (Line.Ending Ending.Halt) ≡ true
+unfolding is_line
+an_end = refl
+
+-- 19 is the last process
+no_process : (turn : Turn) → turn.pid ≡ 20 → is_turn turn ≡ false
+unfolding is_turn
+no_process turn is = cc
