@@ -34,9 +34,10 @@ __version__ = "0.1.0"
 
 __all__ = [
     "Answer", "Application", "ApplicationError", "ApplicationLike", "BadCall", "BadInput", "BadScenario", "BadSizes", "BadTranscript",
-    "Call", "CallList", "Callback", "Cell", "Coverage", "Difference", "End", "Ending", "Entry", "Event", "EventCode", "Input", "InputKind",
-    "LibraryError", "Mote", "MoteError", "NoApplication", "NoPicture", "NotInPython", "Note", "NoteKind", "Options", "Origin", "OutOfMemory", "Payload",
-    "RULES", "Reason", "Refusal", "ReplyKind", "Rules", "Run", "RunEnded", "Scenario", "Script", "Stats", "Status", "Stimulus", "Table",
-    "ToarmutsError", "TooManyApplications", "Transcript", "Turn", "Turns", "WrongType", "coverage_of", "first_difference", "read_scenarios", "run",
+    "Call", "CallList", "Callback", "Cell", "Coverage", "Difference", "End", "Ending", "Entry", "Event", "EventCode", "Input",
+    "InputKind", "LibraryError", "Mote", "MoteError", "NoApplication", "NoPicture", "NotInPython", "Note", "NoteKind", "Options",
+    "Origin", "OutOfMemory", "Payload", "RULES", "Reason", "Refusal", "ReplyKind", "Rules", "Run", "RunEnded", "Scenario", "Script",
+    "Stats", "Status", "Stimulus", "Table", "ToarmutsError", "TooManyApplications", "Transcript", "Turn", "Turns", "WrongType",
+    "coverage_of", "first_difference", "read_scenarios", "run",
 ]
 __all__ += _calls

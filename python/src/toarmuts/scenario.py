@@ -209,13 +209,13 @@ def _parts(text: str) -> Iterator[tuple[str | None, int, list[str]]]:
     for place, line in enumerate(lines[:heads[0]]):
         if line and not line.startswith("#"):
             raise BadScenario(f"line {place + 1}: a line above the first run")
-    names = set()
+    names: set[str] = set()
     for head, behind in zip(heads, [*heads[1:], len(lines)]):
         name = lines[head][3:]
         if not name or name in names:
             raise BadScenario(f"line {head + 1}: {f'two runs have the name {name}' if name else 'a run has no name'}")
         names.add(name)
-        yield lines[head][3:], head + 2, lines[head + 1:behind]
+        yield name, head + 2, lines[head + 1:behind]
 
 
 def read_scenarios(text: str) -> list[Scenario]:
