@@ -1,3 +1,4 @@
+pub mod Appending
 pub mod CallWords
 pub mod EntryLines
 pub mod HexDigits

@@ -1,9 +1,10 @@
 //! The words of a call: an arrow, its own word, and behind it its arguments, a space in front of each.
 #![tactic(auto, unfolding(crate::specs::Code::EntryLines::spaced))]
 
-ghost use Rattle.std.specs.Prelude.{◌≡◌, ◌≤◌, ◌+◌, ◌++◌, [], ◌∷◌, length, take, codes, decimal};
+ghost use Rattle.std.specs.Prelude.{◌≡◌, ◌≤◌, [], ◌∷◌, length, take, codes, decimal};
 ghost use Rattle.mote_text.specs.EntryText.{hex, payload_word, call_words};
 ghost use Rattle.mote_text.specs.Code.EntryLines.{spaced};
+ghost use Rattle.mote_text.specs.Code.Appending.{HasRoom, Appends};
 ghost use Rattle.mote_text.specs.Code.CallWords.{argument_words};
 
 use crate::line::{OutputBuffer, push_hex, push_number};
@@ -74,26 +75,24 @@ fn word_of(call: &Call) -> (&'static [u8; 16], usize)
 
 /// Appends the number of what a call is on.
 fn push_name(line: &mut OutputBuffer, name: u8)
-    requires { length line.old.items + 21 ≤ 4096 }
-    ensures text { line.new.items ≡ line.old.items ++ spaced (decimal name ∷ []) }
-    ensures length { length line.new.items ≤ length line.old.items + 21 }
+    requires { HasRoom line.old 21 }
+    ensures { Appends line.old line.new 21 (spaced (decimal name ∷ [])) }
 {
     push_number(line, u64::from(name));
 }
 
 fn push_pair(line: &mut OutputBuffer, first: u8, second: u8)
-    requires { length line.old.items + 42 ≤ 4096 }
-    ensures text { line.new.items ≡ line.old.items ++ spaced (decimal first ∷ decimal second ∷ []) }
-    ensures length { length line.new.items ≤ length line.old.items + 42 }
+    requires { HasRoom line.old 42 }
+    ensures { Appends line.old line.new 42 (spaced (decimal first ∷ decimal second ∷ [])) }
 {
     push_name(line, first);
     push_name(line, second);
 }
 
 fn push_triple(line: &mut OutputBuffer, first: u8, second: u8, third: u8)
-    requires { length line.old.items + 63 ≤ 4096 }
-    ensures text { line.new.items ≡ line.old.items ++ spaced (decimal first ∷ decimal second ∷ decimal third ∷ []) }
-    ensures length { length line.new.items ≤ length line.old.items + 63 }
+    requires { HasRoom line.old 63 }
+    ensures { Appends line.old line.new 63
+        (spaced (decimal first ∷ decimal second ∷ decimal third ∷ [])) }
 {
     push_pair(line, first, second);
     push_name(line, third);
@@ -101,9 +100,8 @@ fn push_triple(line: &mut OutputBuffer, first: u8, second: u8, third: u8)
 
 /// Appends a thing, and a length, an interval, or a place in it.
 fn push_sized(line: &mut OutputBuffer, name: u8, size: u32)
-    requires { length line.old.items + 42 ≤ 4096 }
-    ensures text { line.new.items ≡ line.old.items ++ spaced (decimal name ∷ decimal size ∷ []) }
-    ensures length { length line.new.items ≤ length line.old.items + 42 }
+    requires { HasRoom line.old 42 }
+    ensures { Appends line.old line.new 42 (spaced (decimal name ∷ decimal size ∷ [])) }
 {
     push_name(line, name);
     push_number(line, u64::from(size));
@@ -111,9 +109,8 @@ fn push_sized(line: &mut OutputBuffer, name: u8, size: u32)
 
 /// Appends where a call reads, and how many bytes.
 fn push_span(line: &mut OutputBuffer, at: u32, len: u8)
-    requires { length line.old.items + 42 ≤ 4096 }
-    ensures text { line.new.items ≡ line.old.items ++ spaced (decimal at ∷ decimal len ∷ []) }
-    ensures length { length line.new.items ≤ length line.old.items + 42 }
+    requires { HasRoom line.old 42 }
+    ensures { Appends line.old line.new 42 (spaced (decimal at ∷ decimal len ∷ [])) }
 {
     push_number(line, u64::from(at));
     push_name(line, len);
@@ -121,9 +118,8 @@ fn push_span(line: &mut OutputBuffer, at: u32, len: u8)
 
 /// Appends where a call writes, and what.
 fn push_chunk(line: &mut OutputBuffer, at: u32, chunk: &Chunk)
-    requires { length line.old.items + 151 ≤ 4096 }
-    ensures text { line.new.items ≡ line.old.items ++ spaced (decimal at ∷ hex chunk.now.items ∷ []) }
-    ensures length { length line.new.items ≤ length line.old.items + 151 }
+    requires { HasRoom line.old 151 }
+    ensures { Appends line.old line.new 151 (spaced (decimal at ∷ hex chunk.now.items ∷ [])) }
 {
     push_number(line, u64::from(at));
     push_hex(line, chunk.as_slice());
@@ -131,9 +127,9 @@ fn push_chunk(line: &mut OutputBuffer, at: u32, chunk: &Chunk)
 
 /// Appends the code of an event, and what it carries.
 fn push_event(line: &mut OutputBuffer, code: u8, payload: &Payload)
-    requires { length line.old.items + 277 ≤ 4096 }
-    ensures text { line.new.items ≡ line.old.items ++ spaced (decimal code ∷ payload_word payload.now ∷ []) }
-    ensures length { length line.new.items ≤ length line.old.items + 277 }
+    requires { HasRoom line.old 277 }
+    ensures { Appends line.old line.new 277
+        (spaced (decimal code ∷ payload_word payload.now ∷ [])) }
 {
     push_name(line, code);
     push_payload(line, payload);
@@ -141,9 +137,8 @@ fn push_event(line: &mut OutputBuffer, code: u8, payload: &Payload)
 
 /// Appends the arguments of a read.
 fn push_read(line: &mut OutputBuffer, name: u8, at: u32, len: u8)
-    requires { length line.old.items + 63 ≤ 4096 }
-    ensures text { line.new.items ≡ line.old.items ++ spaced (decimal name ∷ decimal at ∷ decimal len ∷ []) }
-    ensures length { length line.new.items ≤ length line.old.items + 63 }
+    requires { HasRoom line.old 63 }
+    ensures { Appends line.old line.new 63 (spaced (decimal name ∷ decimal at ∷ decimal len ∷ [])) }
 {
     push_name(line, name);
     push_span(line, at, len);
@@ -151,9 +146,9 @@ fn push_read(line: &mut OutputBuffer, name: u8, at: u32, len: u8)
 
 /// Appends the arguments of a write.
 fn push_write(line: &mut OutputBuffer, name: u8, at: u32, chunk: &Chunk)
-    requires { length line.old.items + 172 ≤ 4096 }
-    ensures text { line.new.items ≡ line.old.items ++ spaced (decimal name ∷ decimal at ∷ hex chunk.now.items ∷ []) }
-    ensures length { length line.new.items ≤ length line.old.items + 172 }
+    requires { HasRoom line.old 172 }
+    ensures { Appends line.old line.new 172
+        (spaced (decimal name ∷ decimal at ∷ hex chunk.now.items ∷ [])) }
 {
     push_name(line, name);
     push_chunk(line, at, chunk);
@@ -161,10 +156,9 @@ fn push_write(line: &mut OutputBuffer, name: u8, at: u32, chunk: &Chunk)
 
 /// Appends the arguments of a read from a pool's block.
 fn push_pool_read(line: &mut OutputBuffer, pool: u8, block: u8, at: u32, len: u8)
-    requires { length line.old.items + 84 ≤ 4096 }
-    ensures text { line.new.items ≡ line.old.items ++
-        spaced (decimal pool ∷ decimal block ∷ decimal at ∷ decimal len ∷ []) }
-    ensures length { length line.new.items ≤ length line.old.items + 84 }
+    requires { HasRoom line.old 84 }
+    ensures { Appends line.old line.new 84
+        (spaced (decimal pool ∷ decimal block ∷ decimal at ∷ decimal len ∷ [])) }
 {
     push_pair(line, pool, block);
     push_span(line, at, len);
@@ -172,10 +166,9 @@ fn push_pool_read(line: &mut OutputBuffer, pool: u8, block: u8, at: u32, len: u8
 
 /// Appends the arguments of a write into a pool's block.
 fn push_pool_write(line: &mut OutputBuffer, pool: u8, block: u8, at: u32, chunk: &Chunk)
-    requires { length line.old.items + 193 ≤ 4096 }
-    ensures text { line.new.items ≡ line.old.items ++
-        spaced (decimal pool ∷ decimal block ∷ decimal at ∷ hex chunk.now.items ∷ []) }
-    ensures length { length line.new.items ≤ length line.old.items + 193 }
+    requires { HasRoom line.old 193 }
+    ensures { Appends line.old line.new 193
+        (spaced (decimal pool ∷ decimal block ∷ decimal at ∷ hex chunk.now.items ∷ [])) }
 {
     push_pair(line, pool, block);
     push_chunk(line, at, chunk);
@@ -183,10 +176,9 @@ fn push_pool_write(line: &mut OutputBuffer, pool: u8, block: u8, at: u32, chunk:
 
 /// Appends the arguments of a post to one process.
 fn push_post(line: &mut OutputBuffer, process: u8, code: u8, payload: &Payload)
-    requires { length line.old.items + 298 ≤ 4096 }
-    ensures text { line.new.items ≡ line.old.items ++
-        spaced (decimal process ∷ decimal code ∷ payload_word payload.now ∷ []) }
-    ensures length { length line.new.items ≤ length line.old.items + 298 }
+    requires { HasRoom line.old 298 }
+    ensures { Appends line.old line.new 298
+        (spaced (decimal process ∷ decimal code ∷ payload_word payload.now ∷ [])) }
 {
     push_name(line, process);
     push_event(line, code, payload);
@@ -195,9 +187,8 @@ fn push_post(line: &mut OutputBuffer, process: u8, code: u8, payload: &Payload)
 /// Appends a call's arguments.
 #[tactic(auto, using(crate::proofs::Spaced::spaced_none))]
 fn push_arguments(line: &mut OutputBuffer, call: &Call)
-    requires { length line.old.items + 298 ≤ 4096 }
-    ensures text { line.new.items ≡ line.old.items ++ spaced (argument_words call.now) }
-    ensures length { length line.new.items ≤ length line.old.items + 298 }
+    requires { HasRoom line.old 298 }
+    ensures { Appends line.old line.new 298 (spaced (argument_words call.now)) }
 {
     match *call {
         Call::AllocEvent
@@ -262,9 +253,8 @@ fn push_arguments(line: &mut OutputBuffer, call: &Call)
 
 /// Appends an arrow and what a process called, at most 315 bytes.
 pub(crate) fn push_call(line: &mut OutputBuffer, call: &Call)
-    requires { length line.old.items + 315 ≤ 4096 }
-    ensures text { line.new.items ≡ line.old.items ++ spaced (codes "->" ∷ call_words call.now) }
-    ensures length { length line.new.items ≤ length line.old.items + 315 }
+    requires { HasRoom line.old 315 }
+    ensures { Appends line.old line.new 315 (spaced (codes "->" ∷ call_words call.now)) }
 {
     line.push(b" -> ");
     let (block, len) = word_of(call);

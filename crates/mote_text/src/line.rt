@@ -6,6 +6,7 @@ ghost use Rattle.std.specs.Char.{to_ascii_lowercase};
 ghost use Rattle.hex.specs.Hex.{encode_lower};
 ghost use Rattle.mote_text.specs.EntryText.{hex};
 ghost use Rattle.mote_text.specs.Code.EntryLines.{spaced};
+ghost use Rattle.mote_text.specs.Code.Appending.{HasRoom, Appends};
 
 use crate::hex_digits::DigitPairs;
 use itoa::Buffer;
@@ -73,7 +74,7 @@ impl TextBuffer {
     /// Appends these bytes.
     #[inline(always)]
     pub fn push(&mut self, bytes: &[u8])
-        requires { length self.old.items + length bytes.now ≤ 4096 }
+        requires { HasRoom self.old (length bytes.now) }
         ensures { self.new.items ≡ self.old.items ++ bytes.now }
     {
         let end = self.len + bytes.len();
@@ -85,7 +86,7 @@ impl TextBuffer {
     #[inline(always)]
     fn push_front(&mut self, block: &[u8; 16], len: usize)
         requires few { len ≤ 16 }
-        requires room { length self.old.items + 16 ≤ 4096 }
+        requires room { HasRoom self.old 16 }
         ensures text { self.new.items ≡ self.old.items ++ take len block.now }
         ensures length { length self.new.items ≡ length self.old.items + len }
     {
@@ -97,7 +98,7 @@ impl TextBuffer {
     /// Appends these bytes, each letter in lower case.
     #[inline]
     pub(crate) fn push_in_lower_case(&mut self, bytes: &[u8])
-        requires { length self.old.items + length bytes.now ≤ 4096 }
+        requires { HasRoom self.old (length bytes.now) }
         ensures { self.new.items ≡ self.old.items ++ map to_ascii_lowercase bytes.now }
     {
         let end = self.len + bytes.len();
@@ -110,7 +111,7 @@ impl TextBuffer {
     /// Appends two lower case hex digits for each byte.
     #[inline]
     fn push_digits(&mut self, bytes: &[u8], digits: &DigitPairs)
-        requires { length self.old.items + 2 * length bytes.now ≤ 4096 }
+        requires { HasRoom self.old (2 * length bytes.now) }
         ensures text { self.new.items ≡ self.old.items ++ encode_lower bytes.now }
         ensures length { length self.new.items ≡ length self.old.items + 2 * length bytes.now }
     {
@@ -172,7 +173,7 @@ impl OutputBuffer {
     /// Appends these bytes.
     #[inline(always)]
     pub fn push(&mut self, bytes: &[u8])
-        requires { length self.old.items + length bytes.now ≤ 4096 }
+        requires { HasRoom self.old (length bytes.now) }
         ensures { self.new.items ≡ self.old.items ++ bytes.now }
     {
         self.text.push(bytes);
@@ -182,7 +183,7 @@ impl OutputBuffer {
     #[inline(always)]
     pub(crate) fn push_front(&mut self, block: &[u8; 16], len: usize)
         requires few { len ≤ 16 }
-        requires room { length self.old.items + 16 ≤ 4096 }
+        requires room { HasRoom self.old 16 }
         ensures text { self.new.items ≡ self.old.items ++ take len block.now }
         ensures length { length self.new.items ≡ length self.old.items + len }
     {
@@ -192,7 +193,7 @@ impl OutputBuffer {
     /// Appends two lower case hex digits for each byte.
     #[inline]
     pub(crate) fn push_digits(&mut self, bytes: &[u8])
-        requires { length self.old.items + 2 * length bytes.now ≤ 4096 }
+        requires { HasRoom self.old (2 * length bytes.now) }
         ensures text { self.new.items ≡ self.old.items ++ encode_lower bytes.now }
         ensures length { length self.new.items ≡ length self.old.items + 2 * length bytes.now }
     {
@@ -203,7 +204,7 @@ impl OutputBuffer {
 /// Appends this word.
 #[inline(always)]
 pub(crate) fn push_word(line: &mut OutputBuffer, word: &str)
-    requires { length line.old.items + 1 + length word.now ≤ 4096 }
+    requires { HasRoom line.old (1 + length word.now) }
     ensures text { line.new.items ≡ line.old.items ++ spaced (word.now ∷ []) }
     ensures length { length line.new.items ≡ length line.old.items + 1 + length word.now }
 {
@@ -215,7 +216,7 @@ pub(crate) fn push_word(line: &mut OutputBuffer, word: &str)
 #[inline(always)]
 #[tactic(auto, using(std::proofs::lemmas::Fmt::decimal_digit))]
 pub(crate) fn push_decimal(line: &mut OutputBuffer, n: u64)
-    requires { length line.old.items + 20 ≤ 4096 }
+    requires { HasRoom line.old 20 }
     ensures text { line.new.items ≡ line.old.items ++ decimal n }
     ensures length { length line.new.items ≤ length line.old.items + 20 }
 {
@@ -241,7 +242,7 @@ fn digit(n: u64) -> u8
 #[tactic(auto, using(std::proofs::lemmas::Fmt::decimal_digit, std::proofs::lemmas::Fmt::decimal_step))]
 fn push_digits_of(line: &mut OutputBuffer, n: u64)
     requires some { 10 ≤ n }
-    requires room { length line.old.items + 20 ≤ 4096 }
+    requires room { HasRoom line.old 20 }
     ensures text { line.new.items ≡ line.old.items ++ decimal n }
     ensures length { length line.new.items ≤ length line.old.items + 20 }
 {
@@ -258,7 +259,7 @@ fn push_digits_of(line: &mut OutputBuffer, n: u64)
 /// Appends this number in decimal, however many digits it has.
 #[inline(never)]
 fn push_long_decimal(line: &mut OutputBuffer, n: u64)
-    requires { length line.old.items + 20 ≤ 4096 }
+    requires { HasRoom line.old 20 }
     ensures text { line.new.items ≡ line.old.items ++ decimal n }
     ensures length { length line.new.items ≤ length line.old.items + 20 }
 {
@@ -268,9 +269,8 @@ fn push_long_decimal(line: &mut OutputBuffer, n: u64)
 /// Appends this number in decimal: at most 20 digits.
 #[inline]
 pub(crate) fn push_number(line: &mut OutputBuffer, n: u64)
-    requires { length line.old.items + 21 ≤ 4096 }
-    ensures text { line.new.items ≡ line.old.items ++ spaced (decimal n ∷ []) }
-    ensures length { length line.new.items ≤ length line.old.items + 21 }
+    requires { HasRoom line.old 21 }
+    ensures { Appends line.old line.new 21 (spaced (decimal n ∷ [])) }
 {
     line.push(b" ");
     push_decimal(line, n);
@@ -279,9 +279,8 @@ pub(crate) fn push_number(line: &mut OutputBuffer, n: u64)
 /// Appends these bytes in hex, or a dash where there are none.
 pub(crate) fn push_hex(line: &mut OutputBuffer, bytes: &[u8])
     requires few { length bytes.now ≤ 256 }
-    requires room { length line.old.items + 2 + 2 * length bytes.now ≤ 4096 }
-    ensures text { line.new.items ≡ line.old.items ++ spaced (hex bytes.now ∷ []) }
-    ensures length { length line.new.items ≤ length line.old.items + 2 + 2 * length bytes.now }
+    requires room { HasRoom line.old (2 + 2 * length bytes.now) }
+    ensures { Appends line.old line.new (2 + 2 * length bytes.now) (spaced (hex bytes.now ∷ [])) }
 {
     if bytes.is_empty() {
         push_word(line, "-");
@@ -293,9 +292,9 @@ pub(crate) fn push_hex(line: &mut OutputBuffer, bytes: &[u8])
 
 /// Appends this word, and a number.
 pub(crate) fn push_numbered(line: &mut OutputBuffer, word: &str, n: u64)
-    requires { length line.old.items + 22 + length word.now ≤ 4096 }
-    ensures text { line.new.items ≡ line.old.items ++ spaced (word.now ∷ decimal n ∷ []) }
-    ensures length { length line.new.items ≤ length line.old.items + 22 + length word.now }
+    requires { HasRoom line.old (22 + length word.now) }
+    ensures { Appends line.old line.new (22 + length word.now)
+        (spaced (word.now ∷ decimal n ∷ [])) }
 {
     push_word(line, word);
     push_number(line, n);
@@ -304,9 +303,9 @@ pub(crate) fn push_numbered(line: &mut OutputBuffer, word: &str, n: u64)
 /// Appends this word, and bytes.
 pub(crate) fn push_shown(line: &mut OutputBuffer, word: &str, bytes: &[u8])
     requires few { length bytes.now ≤ 256 }
-    requires room { length line.old.items + 3 + length word.now + 2 * length bytes.now ≤ 4096 }
-    ensures text { line.new.items ≡ line.old.items ++ spaced (word.now ∷ hex bytes.now ∷ []) }
-    ensures length { length line.new.items ≤ length line.old.items + 3 + length word.now + 2 * length bytes.now }
+    requires room { HasRoom line.old (3 + length word.now + 2 * length bytes.now) }
+    ensures { Appends line.old line.new (3 + length word.now + 2 * length bytes.now)
+        (spaced (word.now ∷ hex bytes.now ∷ [])) }
 {
     push_word(line, word);
     push_hex(line, bytes);

@@ -6,6 +6,7 @@ ghost use Rattle.mote_types.specs.declared.entry.Entry.{Entry as Made};
 ghost use Rattle.mote_types.specs.declared.entry.Input.{Input as Handed};
 ghost use Rattle.mote_text.specs.EntryText.{entry_line};
 ghost use Rattle.mote_text.specs.Code.EntryLines.{entry_line_limit, spaced};
+ghost use Rattle.mote_text.specs.Code.Appending.{HasRoom};
 ghost use Rattle.mote_text.specs.Script.{read_line};
 ghost use Rattle.mote_text.specs.Transcript.{final_line, is_shown, prints_or_sends};
 
@@ -24,7 +25,7 @@ use mote_types::event::{Origin, Pid, Stimulus};
 #[inline(always)]
 #[tactic(auto, unfolding(crate::specs::EntryText::entry_line, crate::specs::EntryText::line_of, crate::specs::Code::EntryLines::spaced))]
 pub fn push_input_line(input: &Input, line: &mut OutputBuffer)
-    requires { length line.old.items + entry_line_limit ≤ 4096 }
+    requires { HasRoom line.old entry_line_limit }
     ensures text { line.new.items ≡ line.old.items ++ entry_line (Made.Input input.now) }
     ensures length { length line.new.items ≤ length line.old.items + entry_line_limit }
 {
@@ -44,7 +45,7 @@ pub fn push_turn_line(
     call: &Call,
     line: &mut OutputBuffer,
 )
-    requires { length line.old.items + entry_line_limit ≤ 4096 }
+    requires { HasRoom line.old entry_line_limit }
     ensures text { line.new.items ≡ line.old.items ++ entry_line (Made.Turn pid origin stimulus.now call.now) }
     ensures length { length line.new.items ≤ length line.old.items + entry_line_limit }
 {
@@ -60,7 +61,7 @@ pub fn push_turn_line(
 /// Source: the transcript format is this project's profile.
 #[tactic(auto, unfolding(crate::specs::EntryText::entry_line, crate::specs::EntryText::line_of, crate::specs::Code::EntryLines::spaced))]
 pub fn push_entry(entry: &Entry, line: &mut OutputBuffer)
-    requires { length line.old.items + entry_line_limit ≤ 4096 }
+    requires { HasRoom line.old entry_line_limit }
     ensures text { line.new.items ≡ line.old.items ++ entry_line entry.now }
     ensures length { length line.new.items ≤ length line.old.items + entry_line_limit }
 {
@@ -100,7 +101,7 @@ pub fn said_text(script_line: &[u8], line: &mut TextBuffer)
 /// Source: the transcript format is this project's profile.
 #[tactic(auto, unfolding(crate::specs::EntryText::line_of, crate::specs::Code::EntryLines::spaced))]
 pub fn push_final_line(end: End, line: &mut OutputBuffer)
-    requires { length line.old.items + entry_line_limit ≤ 4096 }
+    requires { HasRoom line.old entry_line_limit }
     ensures text { line.new.items ≡ line.old.items ++ final_line end }
     ensures length { length line.new.items ≤ length line.old.items + entry_line_limit }
 {

@@ -1,10 +1,11 @@
 //! The words of an entry: each function appends its words to a line, a space in front of each.
 #![tactic(auto, unfolding(crate::specs::Code::EntryLines::spaced))]
 
-ghost use Rattle.std.specs.Prelude.{◌≡◌, ◌≤◌, ◌+◌, ◌++◌, [], ◌∷◌, length, codes, decimal};
+ghost use Rattle.std.specs.Prelude.{◌+◌, [], ◌∷◌, length, codes, decimal};
 ghost use Rattle.mote_types.specs.Codes.{refusal_number};
 ghost use Rattle.mote_text.specs.EntryText.{hex, flag_word, payload_word, origin_word, stats_words, reply_words, stimulus_words, input_words, note_words};
 ghost use Rattle.mote_text.specs.Code.EntryLines.{spaced};
+ghost use Rattle.mote_text.specs.Code.Appending.{HasRoom, Appends};
 
 use crate::line::{OutputBuffer, push_number, push_numbered, push_shown, push_word};
 use mote_types::entry::{Input, Note};
@@ -13,9 +14,8 @@ use mote_types::refusal::Refusal;
 use mote_types::reply::{HeapStats, Reply};
 
 pub(crate) fn push_payload(line: &mut OutputBuffer, payload: &Payload)
-    requires { length line.old.items + 256 ≤ 4096 }
-    ensures text { line.new.items ≡ line.old.items ++ spaced (payload_word payload.now ∷ []) }
-    ensures length { length line.new.items ≤ length line.old.items + 256 }
+    requires { HasRoom line.old 256 }
+    ensures { Appends line.old line.new 256 (spaced (payload_word payload.now ∷ [])) }
 {
     match payload {
         Payload::Empty => push_word(line, "-"),
@@ -28,9 +28,8 @@ pub(crate) fn push_payload(line: &mut OutputBuffer, payload: &Payload)
 }
 
 pub(crate) fn push_origin(line: &mut OutputBuffer, origin: Origin)
-    requires { length line.old.items + 9 ≤ 4096 }
-    ensures text { line.new.items ≡ line.old.items ++ spaced (origin_word origin ∷ []) }
-    ensures length { length line.new.items ≤ length line.old.items + 9 }
+    requires { HasRoom line.old 9 }
+    ensures { Appends line.old line.new 9 (spaced (origin_word origin ∷ [])) }
 {
     match origin {
         Origin::Event => push_word(line, "event"),
@@ -43,26 +42,24 @@ pub(crate) fn push_origin(line: &mut OutputBuffer, origin: Origin)
 
 /// Appends this word, and the number of a refusal.
 fn push_refusal(line: &mut OutputBuffer, word: &str, refusal: Refusal)
-    requires { length line.old.items + 22 + length word.now ≤ 4096 }
-    ensures text { line.new.items ≡ line.old.items ++ spaced (word.now ∷ decimal (refusal_number refusal) ∷ []) }
-    ensures length { length line.new.items ≤ length line.old.items + 22 + length word.now }
+    requires { HasRoom line.old (22 + length word.now) }
+    ensures { Appends line.old line.new (22 + length word.now)
+        (spaced (word.now ∷ decimal (refusal_number refusal) ∷ [])) }
 {
     push_numbered(line, word, u64::from(refusal.number()));
 }
 
 fn push_flag(line: &mut OutputBuffer, flag: bool)
-    requires { length line.old.items + 11 ≤ 4096 }
-    ensures text { line.new.items ≡ line.old.items ++ spaced (codes "flag" ∷ flag_word flag ∷ []) }
-    ensures length { length line.new.items ≤ length line.old.items + 11 }
+    requires { HasRoom line.old 11 }
+    ensures { Appends line.old line.new 11 (spaced (codes "flag" ∷ flag_word flag ∷ [])) }
 {
     push_word(line, "flag");
     push_word(line, if flag { "true" } else { "false" });
 }
 
 fn push_stats(line: &mut OutputBuffer, stats: &HeapStats)
-    requires { length line.old.items + 111 ≤ 4096 }
-    ensures text { line.new.items ≡ line.old.items ++ spaced (stats_words stats.now) }
-    ensures length { length line.new.items ≤ length line.old.items + 111 }
+    requires { HasRoom line.old 111 }
+    ensures { Appends line.old line.new 111 (spaced (stats_words stats.now)) }
 {
     push_word(line, "stats");
     push_number(line, u64::from(stats.allocated));
@@ -73,9 +70,8 @@ fn push_stats(line: &mut OutputBuffer, stats: &HeapStats)
 }
 
 fn push_reply(line: &mut OutputBuffer, reply: &Reply)
-    requires { length line.old.items + 136 ≤ 4096 }
-    ensures text { line.new.items ≡ line.old.items ++ spaced (reply_words reply.now) }
-    ensures length { length line.new.items ≤ length line.old.items + 136 }
+    requires { HasRoom line.old 136 }
+    ensures { Appends line.old line.new 136 (spaced (reply_words reply.now)) }
 {
     match reply {
         Reply::Done => push_word(line, "done"),
@@ -90,9 +86,8 @@ fn push_reply(line: &mut OutputBuffer, reply: &Reply)
 
 /// Appends what a process was told, at most 277 bytes.
 pub(crate) fn push_stimulus(line: &mut OutputBuffer, stimulus: &Stimulus)
-    requires { length line.old.items + 277 ≤ 4096 }
-    ensures text { line.new.items ≡ line.old.items ++ spaced (stimulus_words stimulus.now) }
-    ensures length { length line.new.items ≤ length line.old.items + 277 }
+    requires { HasRoom line.old 277 }
+    ensures { Appends line.old line.new 277 (spaced (stimulus_words stimulus.now)) }
 {
     match stimulus {
         Stimulus::Event(event) => {
@@ -108,9 +103,8 @@ pub(crate) fn push_stimulus(line: &mut OutputBuffer, stimulus: &Stimulus)
 // Most inputs are ticks, whose words are soon written: a call would cost half as much again.
 #[inline(always)]
 pub(crate) fn push_input(line: &mut OutputBuffer, input: &Input)
-    requires { length line.old.items + 521 ≤ 4096 }
-    ensures text { line.new.items ≡ line.old.items ++ spaced (input_words input.now) }
-    ensures length { length line.new.items ≤ length line.old.items + 521 }
+    requires { HasRoom line.old 521 }
+    ensures { Appends line.old line.new 521 (spaced (input_words input.now)) }
 {
     match input {
         Input::Tick(n) => push_numbered(line, "tick", u64::from(*n)),
@@ -121,9 +115,8 @@ pub(crate) fn push_input(line: &mut OutputBuffer, input: &Input)
 
 /// Appends a note, at most 261 bytes.
 pub(crate) fn push_note(line: &mut OutputBuffer, note: &Note)
-    requires { length line.old.items + 261 ≤ 4096 }
-    ensures text { line.new.items ≡ line.old.items ++ spaced (note_words note.now) }
-    ensures length { length line.new.items ≤ length line.old.items + 261 }
+    requires { HasRoom line.old 261 }
+    ensures { Appends line.old line.new 261 (spaced (note_words note.now)) }
 {
     match note {
         Note::Lost(refusal) => push_refusal(line, "lost", *refusal),

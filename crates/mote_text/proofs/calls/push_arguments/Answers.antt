@@ -4,7 +4,7 @@ use Rattle.mote_text.specs.Code.CallWords.{argument_words}
 use Rattle.mote_text.proofs.Spaced.{spaced_none}
 use Rattle.mote_text.proofs.calls.push_arguments.Goals as goal
 
-pub returns-in-AllocEvent-clause-text : goal.returns-in-AllocEvent-clause-text
-returns-in-AllocEvent-clause-text c =
+pub returns-in-AllocEvent : goal.returns-in-AllocEvent
+returns-in-AllocEvent c =
     let none : argument_words c.args.call.now ≡ [] = grind (arith, common_steps) in
-    rw none (rw spaced_none (rw (append-nil c.args.line.now.items) refl))
+    record { text = rw none (rw spaced_none (rw (append-nil c.args.line.now.items) refl)); few = omega arith }
