@@ -1,5 +1,5 @@
 -- The words and the lemmas that the answers here cite, passed on from one place. Declares nothing.
-pub use Rattle.heap_core.proofs.Words.{AreFreed, ArePlaced, BeginsLive, Block, ChangesOnly, Chunk, Contents, Free, FreedLinked, HeapStore, IfSome, IsLaidOut, IsSome, IsSomeAnd, Joins, KeepsFreed, KeepsToSpan, LeavesGap, LinkChanged, LinkedTo, List, LiveIn, None, Option, Place, Region, Some, Stands, Tell, [], allocated, ap, arith, at_place, best_gap, block_in_chunk, block_of, bytes_given, bytes_in_chunk, changes_only, cond-false, cond-true, contents, drop, false≢true, filter, find, find_block, footprint, free_from, freed, front_gap, gap_below, gap_count, gap_from, gap_of, gaps, gaps_among, has_name, heap_of, if◌then◌else◌, inl, inr, is_a_name, is_named, laid, last_of, le-leb, least_room, leb, length, length-range, length-replicate, length_of, link_in, linked_of, live_place, lt-leb, lt-ltb, map, ne_eqb, not, number_in, number_of, option_map, option_or, overwritten, owner_in, place, place_in, place_in_chunk, place_of, placed, reallocated, refl, resized, room_in_place, room_taken, rules, size_in, slice_range, slice_set, store_of, subst, sym, take, top_gap, top_place, true, unnamed, with_block, with_bytes, without_block, without_place, word_at, written, zeros, ℕ, ◌++◌, ◌+◌, ◌-◌, ◌<◌, ◌∙◌, ◌∷◌, ◌≡◌, ◌≢◌, ◌≤◌, ◌⊎◌}
+pub use Rattle.heap_core.proofs.Words.{AreFreed, ArePlaced, BeginsLive, Block, ChangesOnly, Chunk, Contents, Free, FreedLinked, HeapStore, IfSome, IsLaidOut, IsLink, IsSome, IsSomeAnd, Joins, KeepsFreed, KeepsToSpan, LeavesGap, LinkChanged, LinkedTo, List, LiveIn, None, Option, Place, Region, Some, Stands, Tell, [], allocated, ap, arith, at_place, best_gap, block_in_chunk, block_of, bytes_given, bytes_in_chunk, changes_only, cond-false, cond-true, contents, drop, false≢true, filter, find, find_block, footprint, free_from, freed, front_gap, gap_below, gap_count, gap_from, gap_of, gaps, gaps_among, has_name, heap_of, if◌then◌else◌, inl, inr, is_a_name, is_named, laid, last_of, le-leb, least_room, leb, length, length-range, length-replicate, length_of, link_in, linked_of, live_place, lt-leb, lt-ltb, map, ne_eqb, not, number_in, number_of, option_map, option_or, overwritten, owner_in, place, place_in, place_in_chunk, place_of, placed, reallocated, refl, resized, room_in_place, room_taken, rules, size_in, slice_range, slice_set, store_of, subst, sym, take, top_gap, top_place, true, unnamed, with_block, with_bytes, without_block, without_place, word_at, written, zeros, ℕ, ◌++◌, ◌+◌, ◌-◌, ◌<◌, ◌∙◌, ◌∷◌, ◌≡◌, ◌≢◌, ◌≤◌, ◌⊎◌}
 unfoldable pub use Rattle.heap_core.proofs.Words.{block_at, chunk_at, chunks_behind, chunks_between, chunks_of, gaps_from_place, shortest}
 pub use Rattle.heap_core.proofs.Bodies.{block_bytes, blocks_lie_apart, body_spliced, live_blocks, live_without_place, range_fits, same_chunks, same_unnamed, without_place_is}
 pub use Rattle.heap_core.proofs.Callers.{KeepsToSpan-then}

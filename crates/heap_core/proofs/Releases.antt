@@ -1,5 +1,5 @@
 -- A block that is taken away, and the gaps beside it.
-use Rattle.heap_core.proofs.Words.{◌≡◌, ◌≢◌, ℕ, ◌+◌, ◌-◌, ◌%◌, ◌≤◌, ◌⊎◌, inl, inr, List, [], ◌∷◌, ◌++◌, length, refl, sym, ap, ◌∙◌, subst, arith, All, Option, Some, None, fold, filter, append_assoc, length-append, filter-append, All-nil, All-cons, eq-eqb, ChangesOnly, Chunk, Region, shortest, chunk_at, Tell, BeginsLive, AreJoined, with_chunk, blocks_in, chunks_of, HasChunks, gaps_among, LinkedTo, LiveIn, gap_count, Cleared, free_behind, free_from, gap_of, front_gap, rules, Stands, chunks_before, chunks_behind}
+use Rattle.heap_core.proofs.Words.{◌≡◌, ◌≢◌, ℕ, ◌+◌, ◌-◌, ◌%◌, ◌≤◌, ◌⊎◌, inl, inr, List, [], ◌∷◌, ◌++◌, length, refl, sym, ap, ◌∙◌, subst, arith, All, Option, Some, None, fold, filter, append_assoc, length-append, filter-append, All-nil, All-cons, eq-eqb, ChangesOnly, Chunk, Region, shortest, chunk_at, Tell, BeginsLive, AreJoined, with_chunk, blocks_in, chunks_of, HasChunks, gaps_among, LinkedTo, LiveIn, gap_count, Cleared, free_behind, free_from, gap_of, front_gap, rules, ReachesWithGaps}
 use Rattle.heap_core.proofs.Lists.{gaps_append, gaps_counted, count_some, count_none, gap_first, live_first, link_gap}
 use Rattle.heap_core.proofs.ChunkHeaders.{In, in_of, in_without, in_skip, stands_of, place_told, told_le, blocks_append, owner_cases, changes_more, blocks_between, elsewhere, filter_elsewhere, Spliced, spliced, joined_behind, whole_at, Around, ended, around, before_is, behind_is, chunk_of}
 use Rattle.heap_core.proofs.Gaps.{none_in_front}
@@ -211,25 +211,24 @@ pub record Sides (heap : Region) (chunk : Chunk) (from end : ℕ) : Type 0 where
   pub high : chunk.at + chunk.len ≤ end
   pub most : end ≤ heap.footprint
 
-module _ (heap : Region) (B : List ℕ) (has : HasChunks heap B) (chunk : Chunk) (stands : Stands chunk (chunks_of heap B)) (live : chunk.owner ≢ None) (from end : ℕ)
-    (begins : from ≡ free_from (chunks_before heap B chunk.at)) (ends : end ≡ chunk.at + chunk.len + front_gap (chunks_behind heap B (chunk.at + chunk.len))) where
+module _ {heap : Region} {B : List ℕ} (has : HasChunks heap B) {chunk : Chunk} {from end : ℕ} (reach : ReachesWithGaps heap B chunk from end) where
   a : Around heap.header B heap.span.at heap.footprint chunk (chunks_of heap B)
-  a = around heap B chunk has stands
+  a = around heap B chunk has reach.live.stands
 
   from_is : from ≡ free_from a.before
-  from_is = begins ∙ ap free_from (before_is heap B chunk a)
+  from_is = reach.begins ∙ ap free_from (before_is heap B chunk a)
 
   end_is : end ≡ chunk.at + chunk.len + front_gap a.behind
-  end_is = ends ∙ ap (λ l. chunk.at + chunk.len + front_gap l) (behind_is heap B chunk a)
+  end_is = reach.ends ∙ ap (λ l. chunk.at + chunk.len + front_gap l) (behind_is heap B chunk a)
 
   pub sides : Sides heap chunk from end
-  sides = search (rules, a, from_is, from_below, end_is, end_below)
+  sides = search (rules, a, reach.live, from_is, from_below, end_is, end_below)
 
   pub into_top : (new : Region) (link : Option ℕ) → new.span ≡ heap.span → new.header ≡ heap.header → new.footprint ≡ from → new.gaps ≡ length (gaps_among (chunks_of heap B)) → end ≡ heap.footprint → Cleared heap new B B chunk from end link link
   into_top new link span header top count last =
       subst (λ p. Cleared heap new B B chunk p end link link) (sym from_is)
       (subst (λ q. Cleared heap new B B chunk (free_from a.before) q link link) (sym end_is)
-      (cleared_top heap B has chunk a live new link span header (top ∙ from_is) count (sym end_is ∙ last)))
+      (cleared_top heap B has chunk a reach.live.live new link span header (top ∙ from_is) count (sym end_is ∙ last)))
 
   pub into_gap : (new : Region) (B' : List ℕ) (link : Option ℕ) → new.span ≡ heap.span → new.header ≡ heap.header → new.footprint ≡ heap.footprint → new.gaps ≡ length (gaps_among (chunks_of heap B)) + 1
       → chunk_at B' heap.span.at from ≡ chunk_of from (end - from) None 0 link → ChangesOnly (heap.span.at + from) 12 B B' → end ≢ heap.footprint → Cleared heap new B B' chunk from end (Some from) link
@@ -239,4 +238,4 @@ module _ (heap : Region) (B : List ℕ) (has : HasChunks heap B) (chunk : Chunk)
       subst (λ k. chunk_at B' heap.span.at k ≡ chunk_of k (q - k) None 0 link) from_is (told ∙ ap (λ k. chunk_of from (k - from) None 0 link) end_is) in
       subst (λ k. Cleared heap new B B' chunk k end (Some k) link) (sym from_is)
       (subst (λ k. Cleared heap new B B' chunk p k (Some p) link) (sym end_is)
-      (cleared_gap heap B has chunk a live new B' link span header top count told' (subst (λ k. ChangesOnly (heap.span.at + k) 12 B B') from_is changes) (λ e. more (end_is ∙ e))))
+      (cleared_gap heap B has chunk a reach.live.live new B' link span header top count told' (subst (λ k. ChangesOnly (heap.span.at + k) 12 B B') from_is changes) (λ e. more (end_is ∙ e))))

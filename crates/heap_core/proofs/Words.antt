@@ -23,7 +23,7 @@ pub use Rattle.heap_core.specs.Chunks.{AreJoined, BeginsLive, FREED, IsWhole, Te
 unfoldable pub use Rattle.heap_core.specs.Chunks.{chunk_at, shortest}
 pub use Rattle.heap_core.specs.Code.Holes.{Fits, Free, Hole, Laid, Leaves}
 pub use Rattle.heap_core.specs.Code.Joins.{Aside, Joins}
-pub use Rattle.heap_core.specs.Code.Links.{Cleared, Exchanged, Follow, KeepsFreed, LinkChanged, Relinked, chunks_along, gap_below, gap_count, gap_from, higher, last_of, lower}
+pub use Rattle.heap_core.specs.Code.Links.{Cleared, Exchanged, Follow, IsDivided, IsLink, KeepsFreed, LinkChanged, ReachesWithGaps, Relinked, chunks_along, gap_below, gap_count, gap_from, higher, last_of, lower}
 unfoldable pub use Rattle.heap_core.specs.Code.Links.{gaps_from_place}
 pub use Rattle.heap_core.specs.Code.FreeBytes.{GapAt, IsWholeRoom, LeavesGap, free_behind, free_from, front_gap, gap_of, laid}
 pub use Rattle.heap_core.specs.Code.Owners.{Owned, is_owner, owned_by}

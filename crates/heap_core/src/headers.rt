@@ -30,6 +30,7 @@ fn word_in(bytes: &[u8], at: usize) -> u32
 
 impl Region {
     ghost use Rattle.heap_core.specs.HeapBytes.{IsWithin};
+    ghost use Rattle.heap_core.specs.Code.Links.{IsLink};
 
     /// The chunk at a place, as its header tells it.
     pub(crate) fn chunk_at(&self, arena: &Arena, at: u32) -> Chunk
@@ -114,7 +115,7 @@ impl Region {
         requires inside { chunk.at + 12 ≤ self.now.span.len }
         requires owner { IfSome chunk.owner (λ name. name ≤ 272) }
         requires size { chunk.size < 65536 }
-        requires link { IfSome chunk.link (λ place. place < 65536) }
+        requires link { IsLink chunk.link }
         requires live { is_a_name chunk.owner ≡ true → chunk.link ≡ None }
         ensures chunk { chunk_at arena.new.bytes self.now.span.at chunk.at ≡ chunk }
         ensures others { ChangesOnly (self.now.span.at + chunk.at) 12 arena.old.bytes arena.new.bytes }
@@ -146,7 +147,7 @@ impl Region {
         requires inside { gap.at + 12 ≤ self.now.span.len }
         requires told { chunk_at arena.old.bytes self.now.span.at gap.at ≡ gap }
         requires free { gap.owner ≡ None }
-        requires link { IfSome link (λ place. place < 65536) }
+        requires link { IsLink link }
         ensures chunk { chunk_at arena.new.bytes self.now.span.at gap.at ≡ record gap { link = link } }
         ensures others { ChangesOnly (self.now.span.at + gap.at) 12 arena.old.bytes arena.new.bytes }
         ensures carved { arena.new.carved ≡ arena.old.carved }

@@ -1,8 +1,8 @@
 //! The chunk of a name, and walks over the chunks, from the lowest on.
 
-ghost use Rattle.std.specs.Prelude.{◌≡◌, ◌≢◌, ◌≤◌, ◌<◌, ◌+◌, find, Some, None, IsSome};
+ghost use Rattle.std.specs.Prelude.{◌≡◌, ◌≤◌, ◌<◌, ◌+◌, find, Some, None, IsSome};
 ghost use Rattle.heap_core.specs.HeapStore.{stats_of, find_block, best_gap, gaps, place, room_in_place};
-ghost use Rattle.heap_core.specs.FreeList.{Stands, LinkedTo, gaps_among};
+ghost use Rattle.heap_core.specs.FreeList.{Stands, LiveIn, LinkedTo, gaps_among};
 ghost use Rattle.heap_core.specs.Code.ChunkRanges.{chunks_before, chunks_behind};
 ghost use Rattle.heap_core.specs.Code.FreeBytes.{free_from, front_gap};
 ghost use Rattle.heap_core.specs.Code.Owners.{owned_by, Owned};
@@ -156,8 +156,7 @@ impl Region {
     ) -> Option<u32>
         requires chunks { HasChunks self.now arena.now.bytes }
         requires linked { LinkedTo self.now.lowest (chunks_of self.now arena.now.bytes) None }
-        requires stands { Stands chunk (chunks_of self.now arena.now.bytes) }
-        requires live { chunk.owner ≢ None }
+        requires live { LiveIn chunk (chunks_of self.now arena.now.bytes) }
         requires end { end ≡ chunk.at + chunk.len + front_gap (chunks_behind self.now arena.now.bytes (chunk.at + chunk.len)) }
         requires next { next ≡ gap_from chunk.at (gaps_among (chunks_of self.now arena.now.bytes)) }
         ensures { result ≡ gap_from end (gaps_among (chunks_of self.now arena.now.bytes)) }
@@ -172,8 +171,7 @@ impl Region {
     /// The room that a live chunk has once it is resized to `n` bytes where it is. `None` where it can't be.
     pub(crate) fn room_in_place(&self, arena: &Arena, chunk: Chunk, n: u32) -> Option<u32>
         requires chunks { HasChunks self.now arena.now.bytes }
-        requires stands { Stands chunk (chunks_of self.now arena.now.bytes) }
-        requires live { chunk.owner ≢ None }
+        requires live { LiveIn chunk (chunks_of self.now arena.now.bytes) }
         ensures { result ≡ room_in_place (place_in_chunk self.now.header chunk) n (store_of self.now arena.now.bytes) }
     {
         let least = least_room(self.header, n);

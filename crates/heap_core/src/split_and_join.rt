@@ -5,9 +5,7 @@ ghost use Rattle.std.specs.Option.{option_map};
 ghost use Rattle.mote_types.specs.Bytes.{resized};
 ghost use Rattle.heap_core.specs.HeapStore.{place, with_block, block_at, room_in_place};
 ghost use Rattle.heap_core.specs.Chunks.{is_a_name};
-ghost use Rattle.heap_core.specs.FreeList.{Stands, LiveIn, LinkedTo, gaps_among, GapsLinked, FreedLinked};
-ghost use Rattle.heap_core.specs.Code.ChunkRanges.{chunks_before, chunks_behind};
-ghost use Rattle.heap_core.specs.Code.FreeBytes.{free_from, front_gap};
+ghost use Rattle.heap_core.specs.FreeList.{Stands, LiveIn, LinkedTo, gaps_among, FreedLinked};
 ghost use Rattle.heap_core.specs.Code.Owners.{Owned};
 ghost use Rattle.heap_core.specs.Code.PlacedBlocks.{bytes_given, without_place, place_in_chunk, at_place, bytes_in_chunk};
 
@@ -18,7 +16,7 @@ use arena_core::Arena;
 impl Region {
     ghost use Rattle.heap_core.specs.declared.chunk.Chunk.{Chunk as OfChunks};
     ghost use Rattle.heap_core.specs.Layout.{chunks_of, store_of, HasChunks};
-    ghost use Rattle.heap_core.specs.Code.Links.{gap_count, gap_below, gap_from, LinkChanged, Cleared, KeepsFreed};
+    ghost use Rattle.heap_core.specs.Code.Links.{gap_count, gap_below, gap_from, LinkChanged, Cleared, IsDivided, IsLink, KeepsFreed, ReachesWithGaps};
     ghost use Rattle.heap_core.specs.Code.Holes.{Hole, Fits, Laid, Free};
     ghost use Rattle.heap_core.specs.HeapBytes.{heap_of, KeepsToSpan};
     ghost use Rattle.heap_core.specs.Code.Joins.{Changed, Aside, Joins};
@@ -29,12 +27,12 @@ impl Region {
     fn lay(&mut self, arena: &mut Arena, live: Chunk, end: u32, link: Option<u32>) -> Option<u32>
         requires hole { Hole self.old arena.old.bytes live.at end }
         requires fits { Fits self.old live end }
-        requires link { IfSome link (λ place. place < 65536) }
+        requires link { IsLink link }
         requires few { self.old.gaps < 65535 }
         ensures laid { (hole : Hole self.old arena.old.bytes live.at end) → Laid self.old self.new arena.old.bytes arena.new.bytes live hole.before hole.behind result link }
         ensures kept { KeepsFreed self.old self.new }
         ensures lowest { self.new.lowest ≡ self.old.lowest }
-        ensures first { IfSome result (λ place. place < 65536) }
+        ensures first { IsLink result }
         ensures rest { KeepsToSpan self.old self.new arena.old arena.new }
     {
         let next = live.at + live.len;
@@ -72,7 +70,7 @@ impl Region {
     )
         requires chunks { HasChunks self.old arena.old.bytes }
         requires before { IfSome before (λ gap. Stands gap (chunks_of self.old arena.old.bytes) × (gap.owner ≡ None)) }
-        requires first { IfSome first (λ place. place < 65536) }
+        requires first { IsLink first }
         ensures relinked { LinkChanged self.old self.new arena.old.bytes arena.new.bytes before first }
         ensures kept { KeepsFreed self.old self.new }
         ensures rest { KeepsToSpan self.old self.new arena.old arena.new }
@@ -117,14 +115,12 @@ impl Region {
         n: u32,
         source: Option<Chunk>,
     )
-        requires chunks { HasChunks self.old arena.old.bytes }
+        requires divided { IsDivided self.old arena.old.bytes }
         requires place { place n (store_of self.old arena.old.bytes) ≡ Some target }
         requires name { name < 272 }
         requires some { 1 ≤ n }
         requires source { IfSome source (λ other. LiveIn other (chunks_of self.old arena.old.bytes)) }
-        requires gaps { GapsLinked self.old arena.old.bytes }
-        ensures gaps { GapsLinked self.new arena.new.bytes }
-        ensures chunks { HasChunks self.new arena.new.bytes }
+        ensures divided { IsDivided self.new arena.new.bytes }
         ensures block { store_of self.new arena.new.bytes ≡ with_block (block_at target name (resized n (bytes_given self.old.header arena.old.bytes self.old.span.at source))) (store_of self.old arena.old.bytes) }
         ensures stands { (other : OfChunks) → LiveIn other (chunks_of self.old arena.old.bytes) → LiveIn other (chunks_of self.new arena.new.bytes) }
         ensures kept { KeepsFreed self.old self.new }
@@ -156,17 +152,14 @@ impl Region {
         link: Option<u32>,
     ) -> Option<u32>
         requires chunks { HasChunks self.old arena.old.bytes }
-        requires stands { Stands chunk (chunks_of self.old arena.old.bytes) }
-        requires live { chunk.owner ≢ None }
-        requires from { from ≡ free_from (chunks_before self.old arena.old.bytes chunk.at) }
-        requires end { end ≡ chunk.at + chunk.len + front_gap (chunks_behind self.old arena.old.bytes (chunk.at + chunk.len)) }
-        requires link { IfSome link (λ place. place < 65536) }
+        requires reach { ReachesWithGaps self.old arena.old.bytes chunk from end }
+        requires link { IsLink link }
         requires count { self.old.gaps ≡ length (gaps_among (chunks_of self.old arena.old.bytes)) }
         requires few { self.old.gaps < 65535 }
         ensures cleared { Cleared self.old self.new arena.old.bytes arena.new.bytes chunk from end result link }
         ensures kept { KeepsFreed self.old self.new }
         ensures lowest { self.new.lowest ≡ self.old.lowest }
-        ensures first { IfSome result (λ place. place < 65536) }
+        ensures first { IsLink result }
         ensures begins { end ≢ self.old.footprint → result ≡ Some from }
         ensures rest { KeepsToSpan self.old self.new arena.old arena.new }
     {
@@ -199,15 +192,11 @@ impl Region {
         link: Option<u32>,
         below: Option<Chunk>,
     )
-        requires chunks { HasChunks self.old arena.old.bytes }
-        requires stands { Stands chunk (chunks_of self.old arena.old.bytes) }
-        requires live { chunk.owner ≢ None }
-        requires from { from ≡ free_from (chunks_before self.old arena.old.bytes chunk.at) }
-        requires end { end ≡ chunk.at + chunk.len + front_gap (chunks_behind self.old arena.old.bytes (chunk.at + chunk.len)) }
+        requires divided { IsDivided self.old arena.old.bytes }
+        requires reach { ReachesWithGaps self.old arena.old.bytes chunk from end }
         requires link { link ≡ gap_from end (gaps_among (chunks_of self.old arena.old.bytes)) }
         requires below { below ≡ gap_below chunk.at (gaps_among (chunks_of self.old arena.old.bytes)) }
-        requires gaps { GapsLinked self.old arena.old.bytes }
-        requires small { IfSome link (λ place. place < 65536) }
+        requires small { IsLink link }
         requires few { self.old.gaps < 65535 }
         ensures chunks { HasChunks self.new arena.new.bytes }
         ensures count { self.new.gaps ≡ length (gaps_among (chunks_of self.new arena.new.bytes)) + (gap_count (chunk.at - from) + gap_count (end - (chunk.at + chunk.len))) }
@@ -229,10 +218,8 @@ impl Region {
 
     /// Makes a chunk a gap, and joins it with the gaps beside it.
     fn release(&mut self, arena: &mut Arena, chunk: Chunk)
-        requires chunks { HasChunks self.old arena.old.bytes }
-        requires stands { Stands chunk (chunks_of self.old arena.old.bytes) }
-        requires live { chunk.owner ≢ None }
-        requires gaps { GapsLinked self.old arena.old.bytes }
+        requires divided { IsDivided self.old arena.old.bytes }
+        requires live { LiveIn chunk (chunks_of self.old arena.old.bytes) }
         ensures { Changed self.old self.new arena.old arena.new chunk.at (without_place chunk.at (store_of self.old arena.old.bytes)) }
     {
         let beside = self.gaps_beside(arena, chunk.at);
@@ -247,8 +234,7 @@ impl Region {
     /// Joins the chunks that were freed with the gaps beside them, the newest first.
     #[inline(always)]
     pub(crate) fn join(&mut self, arena: &mut Arena)
-        requires chunks { HasChunks self.old arena.old.bytes }
-        requires gaps { GapsLinked self.old arena.old.bytes }
+        requires divided { IsDivided self.old arena.old.bytes }
         requires freed { FreedLinked self.old arena.old.bytes }
         ensures joins { Joins self.old self.new arena.old arena.new }
         ensures none { self.new.freed ≡ 0 }
@@ -263,10 +249,9 @@ impl Region {
 
     /// Sets a live chunk aside as freed: it is linked to the one that was freed before it, and joined later.
     pub(crate) fn set_aside(&mut self, arena: &mut Arena, chunk: Chunk)
-        requires chunks { HasChunks self.old arena.old.bytes }
+        requires divided { IsDivided self.old arena.old.bytes }
         requires stands { Stands chunk (chunks_of self.old arena.old.bytes) }
         requires live { is_a_name chunk.owner ≡ true }
-        requires gaps { GapsLinked self.old arena.old.bytes }
         requires freed { FreedLinked self.old arena.old.bytes }
         ensures aside { Aside self.old self.new arena.old.bytes arena.new.bytes chunk }
         ensures places { self.new.places ≡ self.old.places }
@@ -287,11 +272,10 @@ impl Region {
 
     /// Gives a name's chunk `n` bytes in the room that it has: the first ones stay, and zeros follow. No gap changes.
     fn refill(&self, arena: &mut Arena, chunk: Chunk, name: u32, n: u32)
-        requires chunks { HasChunks self.now arena.old.bytes }
+        requires divided { IsDivided self.now arena.old.bytes }
         requires owned { Owned name chunk (chunks_of self.now arena.old.bytes) }
         requires name { name < 272 }
         requires fits { self.now.header + n ≤ chunk.len }
-        requires gaps { GapsLinked self.now arena.old.bytes }
         ensures { Changed self.now self.now arena.old arena.new chunk.at (with_block (block_at (place_in_chunk self.now.header chunk) name (resized n (bytes_in_chunk self.now.header arena.old.bytes self.now.span.at chunk))) (without_place chunk.at (store_of self.now arena.old.bytes))) }
     {
         let live = Chunk {
@@ -308,12 +292,11 @@ impl Region {
     /// Gives a name's chunk another room where it is, and `n` bytes: the first ones stay, and zeros follow. What is left of its
     /// bytes and of the gap behind it becomes a gap.
     pub(crate) fn resize(&mut self, arena: &mut Arena, chunk: Chunk, name: u32, room: u32, n: u32)
-        requires chunks { HasChunks self.old arena.old.bytes }
+        requires divided { IsDivided self.old arena.old.bytes }
         requires owned { Owned name chunk (chunks_of self.old arena.old.bytes) }
         requires name { name < 272 }
         requires some { 1 ≤ n }
         requires room { room_in_place (place_in_chunk self.old.header chunk) n (store_of self.old arena.old.bytes) ≡ Some room }
-        requires gaps { GapsLinked self.old arena.old.bytes }
         ensures { Changed self.old self.new arena.old arena.new chunk.at (with_block (block_at (at_place chunk.at room) name (resized n (bytes_in_chunk self.old.header arena.old.bytes self.old.span.at chunk))) (without_place chunk.at (store_of self.old arena.old.bytes))) }
     {
         if self.header + room == chunk.len {
@@ -346,19 +329,17 @@ impl Region {
         name: u32,
         n: u32,
     ) -> Option<u32>
-        requires chunks { HasChunks self.old arena.old.bytes }
+        requires divided { IsDivided self.old arena.old.bytes }
         requires owned { Owned name chunk (chunks_of self.old arena.old.bytes) }
         requires name { name < 272 }
         requires some { 1 ≤ n }
-        requires gaps { GapsLinked self.old arena.old.bytes }
         requires freed { FreedLinked self.old arena.old.bytes }
         requires joined { self.old.freed ≡ 0 }
         ensures at { result ≡ option_map (λ target. target.at) (place n (store_of self.old arena.old.bytes)) }
         ensures refused { IfNone result (place n (store_of self.old arena.old.bytes) ≡ None) }
         ensures unchanged { IfNone result ((self.new ≡ self.old) × (arena.new ≡ arena.old)) }
         ensures block { OnSome result (option_map (λ target. with_block (block_at target name (resized n (bytes_in_chunk self.old.header arena.old.bytes self.old.span.at chunk))) (without_place chunk.at (store_of self.old arena.old.bytes))) (place n (store_of self.old arena.old.bytes)) ≡ Some (heap_of self.new arena.new.bytes)) }
-        ensures chunks { OnSome result (HasChunks self.new arena.new.bytes) }
-        ensures gaps { OnSome result (GapsLinked self.new arena.new.bytes) }
+        ensures divided { OnSome result (IsDivided self.new arena.new.bytes) }
         ensures freed { OnSome result (FreedLinked self.new arena.new.bytes) }
         ensures places { self.new.places ≡ self.old.places }
         ensures rest { KeepsToSpan self.old self.new arena.old arena.new }

@@ -62,14 +62,14 @@ returns c =
           ∙ ap (λ name. Some (put target name)) (sym c.number_of-name.ensures.number)
           ∙ ap Some (sym (is k ∙ ap (λ bytes. with_block (block_at target name bytes) old) (resized_none n))));
       laid_out = record {
-        chunks = has_same c.put_block.new.self _ c.put_block.new.arena.bytes refl refl refl c.put_block.ensures.chunks;
+        chunks = has_same c.put_block.new.self _ c.put_block.new.arena.bytes refl refl refl c.put_block.ensures.divided.chunks;
         named = λ other. subst (λ (h : HeapStore). count other h.blocks ≤ 1) (sym (is k)) (named_with other (block_at target name bytes) old.blocks (count_none name old.blocks absent) (laid.named other));
         places =
             subst (λ places. ArePlaced (slice_set places name (Some target.at)) mid) (sym (c.put_block.ensures.kept.places ∙ c.join.ensures.joins.places))
             (placed_more was.places old mid target name bytes c.number_of-name.ensures.within absent (is k) laid.places);
-        gaps = record { linked = c.put_block.ensures.gaps.linked; count = c.put_block.ensures.gaps.count };
+        gaps = record { linked = c.put_block.ensures.divided.gaps.linked; count = c.put_block.ensures.divided.gaps.count };
         freed = record { list = f.list; linked = f.linked; count = f.count; all = f.all };
       };
-      linked = linked_is c.put_block.new.self c.put_block.new.arena.bytes c.put_block.ensures.chunks c.put_block.ensures.gaps (freed k) (none k);
+      linked = linked_is c.put_block.new.self c.put_block.new.arena.bytes c.put_block.ensures.divided.chunks c.put_block.ensures.divided.gaps (freed k) (none k);
       rest = search rules;
     }

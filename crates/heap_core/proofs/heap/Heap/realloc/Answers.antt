@@ -4,10 +4,6 @@ use Rattle.heap_core.proofs.ChunkHeaders.{elsewhere as by_place}
 use Rattle.heap_core.proofs.heap.Heap.realloc.Goals as goal
 use Rattle.heap_core.proofs.heap.Heap.realloc.Goals.{After-live_chunk-chunk}
 
-elim_none : (o : Option Place) → None ≡ option_map (λ (target : Place). target.at) o → o ≡ None
-elim_none None e = refl
-elim_none (Some target) e = absurd (cc)
-
 -- the heap was joined, and the block's chunk found
 module _ (c : After-live_chunk-chunk) where
   abbrev heap : Region
@@ -83,14 +79,14 @@ returns-in_default c =
       unchanged = search rules;
       block = told k (Some new) (moved k new (sym c.room_in_place.ensures ∙ c.in_default.is) c.in_ok-at.ensures.block);
       laid_out = record {
-        chunks = has_same c.relocate.new.self _ c.relocate.new.arena.bytes refl refl refl m.chunks;
+        chunks = has_same c.relocate.new.self _ c.relocate.new.arena.bytes refl refl refl m.divided.chunks;
         named = named k new (moved k new (sym c.room_in_place.ensures ∙ c.in_default.is) m.block);
         places =
             subst (λ places. ArePlaced (slice_set places name (Some c.in_ok-at.at)) new) (sym c.relocate.ensures.places)
             (placed_moved heap.places store new (place c.args.n store) c.in_ok-at.at name bytes c.number_of-name.ensures.within (sym m.at)
             (ap (λ rest. option_map (λ (target : Place). with_block (block_at target name bytes) rest) (place c.args.n store)) (sym (left k)) ∙ m.block)
             (stored heap B (joined k)).places);
-        gaps = record { linked = m.gaps.linked; count = m.gaps.count };
+        gaps = record { linked = m.divided.gaps.linked; count = m.divided.gaps.count };
         freed = record { list = m.freed.list; linked = m.freed.linked; count = m.freed.count; all = m.freed.all };
       };
       rest = search rules;
@@ -125,6 +121,6 @@ returns c =
 pub returns-in_err-at-clause-refused : goal.returns-in_err-at-clause-refused
 returns-in_err-at-clause-refused c =
     let k = (goal.at.returns-in_err-at-clause-refused c).After-live_chunk-chunk in let heap = c.join.new.self in let B = c.join.new.arena.bytes in let store = store_of heap B in
-    let is = told k None (nowhere heap B store c.live_chunk-chunk.result c.args.key.0.0 c.args.key.1 c.number_of-name.result c.args.n (left k) c.number_of-name.ensures.number (found k) (sym c.room_in_place.ensures ∙ c.in_default.is) (elim_none (place c.args.n store) c.in_err-at.ensures.at)) in
+    let is = told k None (nowhere heap B store c.live_chunk-chunk.result c.args.key.0.0 c.args.key.1 c.number_of-name.result c.args.n (left k) c.number_of-name.ensures.number (found k) (sym c.room_in_place.ensures ∙ c.in_default.is) c.in_err-at.ensures.refused) in
     let e = c.from_residual.ensures in
     (λ _. is, λ _. rw e (search rules))

@@ -13,10 +13,11 @@ unfolding chunks_of
 release-requires c =
     let i = c.loop-self.invariant in
     record {
-      chunks = has_same c.loop-self.self _ c.loop-self.arena.bytes refl refl refl c.loop-self.invariant.chunks;
-      stands = (newest_is c.loop-self.self c.loop-self.arena.bytes i.chunks i.freed c.in-Some.at c.chunk_at-chunk.result c.in-Some.is c.chunk_at-chunk.ensures).live.stands;
-      live = (newest_is c.loop-self.self c.loop-self.arena.bytes i.chunks i.freed c.in-Some.at c.chunk_at-chunk.result c.in-Some.is c.chunk_at-chunk.ensures).live.live;
-      gaps = record { linked = c.loop-self.invariant.gaps.linked; count = c.loop-self.invariant.gaps.count };
+      divided = record {
+        chunks = has_same c.loop-self.self _ c.loop-self.arena.bytes refl refl refl i.chunks;
+        gaps = record { linked = i.gaps.linked; count = i.gaps.count };
+      };
+      live = (newest_is c.loop-self.self c.loop-self.arena.bytes i.chunks i.freed c.in-Some.at c.chunk_at-chunk.result c.in-Some.is c.chunk_at-chunk.ensures).live;
     }
 
 pub loop-self-preserved : goal.loop-self-preserved

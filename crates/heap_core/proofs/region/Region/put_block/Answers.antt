@@ -1,4 +1,4 @@
-use Rattle.heap_core.proofs.Lemmas.{rules, ◌≢◌, ◌+◌, ◌-◌, ◌≤◌, ◌<◌, ◌⊎◌, inl, inr, refl, sym, ◌∙◌, subst, arith, IfSome, resized, chunks_of, store_of, LiveIn, gap_count, bytes_given, Room, Put, into, put, free_room, gap_from_small, gaps_few, kept_then, if_some, inside, has_same}
+use Rattle.heap_core.proofs.Lemmas.{rules, ◌≢◌, ◌+◌, ◌-◌, ◌≤◌, ◌⊎◌, inl, inr, refl, sym, ◌∙◌, subst, arith, IsLink, resized, chunks_of, store_of, LiveIn, gap_count, bytes_given, Room, Put, into, put, free_room, gap_from_small, gaps_few, kept_then, if_some, inside, has_same}
 use Rattle.heap_core.proofs.region.Region.put_block.Goals as goal
 use Rattle.heap_core.proofs.region.Region.put_block.Goals.{After-free_end-end, After-lay-first}
 
@@ -6,7 +6,7 @@ pub give_bytes-requires-clause-source : goal.give_bytes-requires-clause-source
 give_bytes-requires-clause-source c =
     let heap = c.args.self.now in let B = c.args.arena.now.bytes in
     if_some (λ other. LiveIn other (chunks_of heap B)) (λ other. other.at + heap.header + other.size ≤ heap.span.len) c.args.source c.requires.source
-    (λ other h. omega (arith, inside heap.header B heap.span.at heap.footprint other (chunks_of heap B) c.requires.chunks.told h, heap.inside))
+    (λ other h. omega (arith, inside heap.header B heap.span.at heap.footprint other (chunks_of heap B) c.requires.divided.chunks.told h, heap.inside))
 
 pub give_bytes-requires-clause-apart : goal.give_bytes-requires-clause-apart
 give_bytes-requires-clause-apart c =
@@ -25,7 +25,7 @@ laid : (c : After-lay-first)
 laid c =
     let heap = c.args.self.now in let B = c.args.arena.now.bytes in let name = c.args.name in let B1 = c.give_bytes.new.arena.bytes in let changes = c.give_bytes.ensures.others in
     let r = free_room heap B c.args.target c.free_end-end.result.at c.args.n c.free_end-end.ensures.free c.free_end-end.ensures.room in
-    put heap B _ _ _ _ _ r name B1 changes c.requires.chunks c.requires.gaps c.lay-first.new.self c.lay-first.new.arena.bytes c.gaps_beside-beside.result.below c.lay-first.result c.free_end-end.result.link
+    put heap B _ _ _ _ _ r name B1 changes c.requires.divided.chunks c.requires.divided.gaps c.lay-first.new.self c.lay-first.new.arena.bytes c.gaps_beside-beside.result.below c.lay-first.result c.free_end-end.result.link
     (c.lay-first.ensures.laid (into heap B _ _ _ _ _ r name B1 changes)) c.gaps_beside-beside.ensures.below c.free_end-end.ensures.link
 
 pub lay-first-requires : goal.lay-first-requires
@@ -34,9 +34,9 @@ lay-first-requires c =
     record {
       hole = into c.args.self.now c.args.arena.now.bytes _ _ _ _ _ (room (goal.at.lay-first-requires c).After-free_end-end) c.args.name c.give_bytes.new.arena.bytes c.give_bytes.ensures.others;
       fits = search rules;
-      link = subst (λ o. IfSome o (λ place. place < 65536)) (sym c.free_end-end.ensures.link)
-          (gap_from_small heap.header c.args.arena.now.bytes heap.span.at c.free_end-end.result.at heap.footprint 65536 (chunks_of heap c.args.arena.now.bytes) c.requires.chunks.told (omega (arith, heap.inside, heap.small)));
-      few = omega (arith, gaps_few heap c.args.arena.now.bytes c.requires.chunks c.requires.gaps.linked, c.requires.gaps.count, heap.inside, heap.small);
+      link = subst (λ o. IsLink o) (sym c.free_end-end.ensures.link)
+          (gap_from_small heap.header c.args.arena.now.bytes heap.span.at c.free_end-end.result.at heap.footprint 65536 (chunks_of heap c.args.arena.now.bytes) c.requires.divided.chunks.told (omega (arith, heap.inside, heap.small)));
+      few = omega (arith, gaps_few heap c.args.arena.now.bytes c.requires.divided.chunks c.requires.divided.gaps.linked, c.requires.divided.gaps.count, heap.inside, heap.small);
     }
 
 pub link_below-requires-clause-chunks : goal.link_below-requires-clause-chunks
@@ -54,8 +54,10 @@ returns c =
     let l = laid (goal.at.returns c).After-lay-first in let heap = c.args.self.now in
     let k = kept_then c.args.self.now c.lay-first.new.self c.link_below.new.self c.lay-first.ensures.kept c.link_below.ensures.kept in
     record {
-      gaps = record { linked = l.linked c.link_below.new.self c.link_below.new.arena.bytes c.lay-first.ensures.lowest c.link_below.ensures.relinked.linked; count = omega (arith, c.link_below.ensures.relinked.gaps, c.link_below.ensures.relinked.count, l.count, c.gap_count.ensures) };
-      chunks = has_same c.link_below.new.self _ c.link_below.new.arena.bytes refl refl refl c.link_below.ensures.relinked.chunks;
+      divided = record {
+        chunks = has_same c.link_below.new.self _ c.link_below.new.arena.bytes refl refl refl c.link_below.ensures.relinked.chunks;
+        gaps = record { linked = l.linked c.link_below.new.self c.link_below.new.arena.bytes c.lay-first.ensures.lowest c.link_below.ensures.relinked.linked; count = omega (arith, c.link_below.ensures.relinked.gaps, c.link_below.ensures.relinked.count, l.count, c.gap_count.ensures) };
+      };
       block = c.link_below.ensures.relinked.block
           ∙ (laid (goal.at.returns c).After-lay-first).block (resized c.args.n (bytes_given c.args.self.now.header c.args.arena.now.bytes c.args.self.now.span.at c.args.source)) c.give_bytes.ensures.bytes;
       stands = λ other h. let far : other.at ≢ c.args.target.at = λ e. elim (c.free_end-end.ensures.free.apart other h) [ inl low ↦ absurd (omega (arith, e, low, heap.header_least)) | inr high ↦ absurd (omega (arith, e, high, heap.header_least)) ] in c.link_below.ensures.relinked.stands other ((laid (goal.at.returns c).After-lay-first).kept other h far);

@@ -5,17 +5,16 @@ use Rattle.heap_core.proofs.region.Region.relocate.Goals as goal
 pub put_block-requires-clause-source : goal.put_block-requires-clause-source
 put_block-requires-clause-source c =
     let heap = c.args.self.now in let o = c.requires.owned in
-    record { stands = o.stands; live = is_live heap c.args.arena.now.bytes c.requires.chunks c.args.chunk c.args.name o.stands o.owner }
+    record { stands = o.stands; live = is_live heap c.args.arena.now.bytes c.requires.divided.chunks c.args.chunk c.args.name o.stands o.owner }
 
 pub set_aside-requires : goal.set_aside-requires
 set_aside-requires c =
     let heap = c.args.self.now in let o = c.requires.owned in let B = c.args.arena.now.bytes in let xs = (store_of heap B).blocks in
     let block : Block = block_at c.in_ok-target.target c.args.name (resized c.args.n (bytes_in_chunk heap.header B heap.span.at c.args.chunk)) in
     record {
-      chunks = search rules;
-      stands = (c.put_block.ensures.stands c.args.chunk (record { stands = o.stands; live = is_live heap c.args.arena.now.bytes c.requires.chunks c.args.chunk c.args.name o.stands o.owner })).stands;
+      divided = search rules;
+      stands = (c.put_block.ensures.stands c.args.chunk (record { stands = o.stands; live = is_live heap c.args.arena.now.bytes c.requires.divided.chunks c.args.chunk c.args.name o.stands o.owner })).stands;
       live = ap is_a_name c.requires.owned.owner ∙ lt-ltb c.args.name 272 c.requires.name;
-      gaps = search rules;
       freed = freed_none heap c.put_block.new.self B c.put_block.new.arena.bytes c.requires.freed c.requires.joined c.put_block.ensures.kept
           (ap (λ (h : HeapStore). length (unnamed h.blocks)) c.put_block.ensures.block ∙ placed_unnamed block xs (lt-ltb c.args.name 272 c.requires.name) ∙ c.requires.freed.all ∙ c.requires.joined);
     }
@@ -25,8 +24,8 @@ returns-clause-block c =
     let heap = c.args.self.now in let B = c.args.arena.now.bytes in let b = heap.span.at in let chunk = c.args.chunk in let n = c.args.n in let xs = (store_of heap B).blocks in
     let target = c.in_ok-target.target in let mid = c.put_block.new.self in let M = c.put_block.new.arena.bytes in
     let block : Block = block_at target c.args.name (resized n (bytes_in_chunk heap.header B b chunk)) in
-    let live : LiveIn chunk (chunks_of heap B) = record { stands = c.requires.owned.stands; live = is_live heap B c.requires.chunks chunk c.args.name c.requires.owned.stands c.requires.owned.owner } in
-    let far = elsewhere_placed heap B c.requires.chunks n target c.requires.some chunk live (sym c.in_ok-target.ensures) in
+    let live : LiveIn chunk (chunks_of heap B) = record { stands = c.requires.owned.stands; live = is_live heap B c.requires.divided.chunks chunk c.args.name c.requires.owned.stands c.requires.owned.owner } in
+    let far = elsewhere_placed heap B c.requires.divided.chunks n target c.requires.some chunk live (sym c.in_ok-target.ensures) in
     let stays : elsewhere chunk.at block ≡ true = ap not (ne_eqb target.at chunk.at far) in
     let none : length (unnamed (store_of mid M).blocks) ≡ 0 =
     ap (λ (h : HeapStore). length (unnamed h.blocks)) c.put_block.ensures.block ∙ placed_unnamed block xs (lt-ltb c.args.name 272 c.requires.name) ∙ c.requires.freed.all ∙ c.requires.joined in
@@ -37,7 +36,7 @@ returns-clause-block c =
     ∙ ap (λ size. let h : HeapStore = record { size = size; header = mid.header; blocks = filter (elsewhere chunk.at) (placed block xs) } in h) (ap (λ (h : HeapStore). h.size) c.put_block.ensures.block)
     ∙ ap (λ header. let h : HeapStore = record { size = heap.span.len; header = header; blocks = filter (elsewhere chunk.at) (placed block xs) } in h) (ap (λ (h : HeapStore). h.header) c.put_block.ensures.block)
     ∙ ap (λ blocks. let h : HeapStore = record { size = heap.span.len; header = heap.header; blocks = blocks } in h)
-    (filter_placed (elsewhere chunk.at) heap.footprint block xs stays (blocks_ascending heap.header B b 0 heap.footprint (chunks_of heap B) c.requires.chunks.told))))
+    (filter_placed (elsewhere chunk.at) heap.footprint block xs stays (blocks_ascending heap.header B b 0 heap.footprint (chunks_of heap B) c.requires.divided.chunks.told))))
 
 pub returns-clause-places : goal.returns-clause-places
 returns-clause-places c = c.set_aside.ensures.places ∙ c.put_block.ensures.kept.places

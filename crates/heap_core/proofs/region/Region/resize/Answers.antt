@@ -1,4 +1,4 @@
-use Rattle.heap_core.proofs.Lemmas.{ℕ, List, ◌+◌, ◌-◌, ◌≡◌, ◌<◌, refl, sym, ap, subst, chunks_behind, front_gap, with_block, block_at, without_place, ◌∙◌, arith, IfSome, filter, resized, Chunk, Region, Block, KeepsToSpan, chunks_of, store_of, gap_count, at_place, bytes_in_chunk, elsewhere, KeepsToSpan-then, Room, Put, fits, into, put, own, own_end, own_room, gap_from_small, gaps_few, kept_then, has_same, changes_more}
+use Rattle.heap_core.proofs.Lemmas.{ℕ, List, ◌+◌, ◌-◌, ◌≡◌, refl, sym, ap, subst, chunks_behind, front_gap, with_block, block_at, without_place, ◌∙◌, arith, IsLink, filter, resized, Chunk, Region, Block, KeepsToSpan, chunks_of, store_of, gap_count, at_place, bytes_in_chunk, elsewhere, KeepsToSpan-then, Room, Put, fits, into, put, own, own_end, own_room, gap_from_small, gaps_few, kept_then, has_same, changes_more}
 use Rattle.heap_core.proofs.region.Region.resize.Goals as goal
 use Rattle.heap_core.proofs.region.Region.resize.Goals.{After-gap_behind-gap, After-lay-first}
 
@@ -8,7 +8,7 @@ blocks heap B chunk = filter (elsewhere chunk.at) (store_of heap B).blocks
 -- the bytes that the block has once it is resized
 room : (c : After-gap_behind-gap)
     → Room c.args.self.now c.args.arena.now.bytes (at_place c.args.chunk.at c.args.room) (c.args.chunk.at + c.args.chunk.len + c.gap_behind-gap.result) c.args.n (gap_count c.gap_behind-gap.result) (blocks c.args.self.now c.args.arena.now.bytes c.args.chunk)
-room c = own_room c.args.self.now c.args.arena.now.bytes c.requires.chunks c.args.chunk c.args.name c.requires.owned c.gap_behind-gap.result c.gap_behind-gap.ensures c.args.n c.args.room c.requires.some c.requires.room
+room c = own_room c.args.self.now c.args.arena.now.bytes c.requires.divided.chunks c.args.chunk c.args.name c.requires.owned c.gap_behind-gap.result c.gap_behind-gap.ensures c.args.n c.args.room c.requires.some c.requires.room
 
 -- it was laid there
 laid : (c : After-lay-first)
@@ -16,21 +16,21 @@ laid : (c : After-lay-first)
     c.gaps_beside-beside.result.below c.lay-first.result
 laid c =
     let heap = c.args.self.now in let B = c.args.arena.now.bytes in let name = c.args.name in let B1 = c.clear.new.arena.bytes in let changes = c.clear.ensures.others in
-    let r = own_room heap B c.requires.chunks c.args.chunk name c.requires.owned c.gap_behind-gap.result c.gap_behind-gap.ensures c.args.n c.args.room c.requires.some c.requires.room in
-    put heap B _ _ _ _ _ r name B1 changes c.requires.chunks c.requires.gaps c.lay-first.new.self c.lay-first.new.arena.bytes c.gaps_beside-beside.result.below c.lay-first.result c.link_behind-link.result
+    let r = own_room heap B c.requires.divided.chunks c.args.chunk name c.requires.owned c.gap_behind-gap.result c.gap_behind-gap.ensures c.args.n c.args.room c.requires.some c.requires.room in
+    put heap B _ _ _ _ _ r name B1 changes c.requires.divided.chunks c.requires.divided.gaps c.lay-first.new.self c.lay-first.new.arena.bytes c.gaps_beside-beside.result.below c.lay-first.result c.link_behind-link.result
     (c.lay-first.ensures.laid (into heap B _ _ _ _ _ r name B1 changes)) c.gaps_beside-beside.ensures.below c.link_behind-link.ensures
 
 pub overflow_add-self : goal.overflow_add-self
 overflow_add-self c =
     let heap = c.args.self.now in let B = c.args.arena.now.bytes in let chunk = c.args.chunk in
-    let r = own_room heap B c.requires.chunks chunk c.args.name c.requires.owned (front_gap (chunks_behind heap B (chunk.at + chunk.len))) refl c.args.n c.args.room c.requires.some c.requires.room in
+    let r = own_room heap B c.requires.divided.chunks chunk c.args.name c.requires.owned (front_gap (chunks_behind heap B (chunk.at + chunk.len))) refl c.args.n c.args.room c.requires.some c.requires.room in
     omega (arith, r.inside, heap.small)
 
 -- the room stays
 pub refill-requires-clause-fits : goal.refill-requires-clause-fits
 refill-requires-clause-fits c =
     let heap = c.args.self.now in let B = c.args.arena.now.bytes in let chunk = c.args.chunk in
-    let r = own_room heap B c.requires.chunks chunk c.args.name c.requires.owned (front_gap (chunks_behind heap B (chunk.at + chunk.len))) refl c.args.n c.args.room c.requires.some c.requires.room in
+    let r = own_room heap B c.requires.divided.chunks chunk c.args.name c.requires.owned (front_gap (chunks_behind heap B (chunk.at + chunk.len))) refl c.args.n c.args.room c.requires.some c.requires.room in
     omega (arith, r.enough, c.if-self-room.true)
 
 pub returns-then-self-room : goal.returns-then-self-room
@@ -51,12 +51,12 @@ returns-then-self-room c =
 pub overflow_add-end : goal.overflow_add-end
 overflow_add-end c =
     let heap = c.args.self.now in
-    omega (arith, (own heap c.args.arena.now.bytes c.requires.chunks c.args.chunk c.args.name c.requires.owned).fits, heap.inside, heap.small)
+    omega (arith, (own heap c.args.arena.now.bytes c.requires.divided.chunks c.args.chunk c.args.name c.requires.owned).fits, heap.inside, heap.small)
 
 pub overflow_add-end-2 : goal.overflow_add-end-2
 overflow_add-end-2 c =
     let heap = c.args.self.now in
-    omega (arith, own_end heap c.args.arena.now.bytes c.requires.chunks c.args.chunk c.args.name c.requires.owned c.gap_behind-gap.result c.gap_behind-gap.ensures, heap.inside, heap.small)
+    omega (arith, own_end heap c.args.arena.now.bytes c.requires.divided.chunks c.args.chunk c.args.name c.requires.owned c.gap_behind-gap.result c.gap_behind-gap.ensures, heap.inside, heap.small)
 
 pub overflow_add-live : goal.overflow_add-live
 overflow_add-live c = let heap = c.args.self.now in omega (arith, (room (goal.at.overflow_add-live c).After-gap_behind-gap).inside, heap.small)
@@ -66,7 +66,7 @@ clear-requires-clause-inside c = let r = room (goal.at.clear-requires-clause-ins
 
 pub clear-requires-clause-before : goal.clear-requires-clause-before
 clear-requires-clause-before c =
-    let heap = c.args.self.now in let a = own heap c.args.arena.now.bytes c.requires.chunks c.args.chunk c.args.name c.requires.owned in
+    let heap = c.args.self.now in let a = own heap c.args.arena.now.bytes c.requires.divided.chunks c.args.chunk c.args.name c.requires.owned in
     omega (arith, a.fits, a.enough, heap.inside)
 
 pub lay-first-requires : goal.lay-first-requires
@@ -75,9 +75,9 @@ lay-first-requires c =
     record {
       hole = into c.args.self.now c.args.arena.now.bytes _ _ _ _ _ (room (goal.at.lay-first-requires c).After-gap_behind-gap) c.args.name c.clear.new.arena.bytes c.clear.ensures.others;
       fits = fits c.args.self.now c.args.arena.now.bytes _ _ _ _ _ (room (goal.at.lay-first-requires c).After-gap_behind-gap) c.args.name c.requires.name;
-      link = subst (λ o. IfSome o (λ place. place < 65536)) (sym c.link_behind-link.ensures)
-          (gap_from_small heap.header c.args.arena.now.bytes heap.span.at (c.args.chunk.at + c.args.chunk.len + c.gap_behind-gap.result) heap.footprint 65536 (chunks_of heap c.args.arena.now.bytes) c.requires.chunks.told (omega (arith, heap.inside, heap.small)));
-      few = omega (arith, gaps_few heap c.args.arena.now.bytes c.requires.chunks c.requires.gaps.linked, c.requires.gaps.count, heap.inside, heap.small);
+      link = subst (λ o. IsLink o) (sym c.link_behind-link.ensures)
+          (gap_from_small heap.header c.args.arena.now.bytes heap.span.at (c.args.chunk.at + c.args.chunk.len + c.gap_behind-gap.result) heap.footprint 65536 (chunks_of heap c.args.arena.now.bytes) c.requires.divided.chunks.told (omega (arith, heap.inside, heap.small)));
+      few = omega (arith, gaps_few heap c.args.arena.now.bytes c.requires.divided.chunks c.requires.divided.gaps.linked, c.requires.divided.gaps.count, heap.inside, heap.small);
     }
 
 pub link_below-requires-clause-chunks : goal.link_below-requires-clause-chunks

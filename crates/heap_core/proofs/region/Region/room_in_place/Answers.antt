@@ -5,20 +5,20 @@ use Rattle.heap_core.proofs.region.Region.room_in_place.Goals.{After-least_room-
 chosen : (c : After-least_room-least) → room_in_place (place_in_chunk c.args.self.now.header c.args.chunk) c.args.n (store_of c.args.self.now c.args.arena.now.bytes)
     ≡ choice (least_room c.args.self.now.header c.args.n) (c.args.chunk.len - c.args.self.now.header) (c.args.chunk.at + c.args.chunk.len) c.args.self.now.footprint (c.args.self.now.span.len - c.args.self.now.footprint) (front_gap (chunks_behind c.args.self.now c.args.arena.now.bytes (c.args.chunk.at + c.args.chunk.len)))
 chosen c =
-    let heap = c.args.self.now in let B = c.args.arena.now.bytes in let chunk = c.args.chunk in let a = around heap B chunk c.requires.chunks c.requires.stands in
-    room_is heap B chunk c.args.n a c.requires.chunks c.requires.live
+    let heap = c.args.self.now in let B = c.args.arena.now.bytes in let chunk = c.args.chunk in let a = around heap B chunk c.requires.chunks c.requires.live.stands in
+    room_is heap B chunk c.args.n a c.requires.chunks c.requires.live.live
     ∙ ap (λ l. choice (least_room heap.header c.args.n) (chunk.len - heap.header) (chunk.at + chunk.len) heap.footprint (heap.span.len - heap.footprint) (front_gap l)) (sym (behind_is heap B chunk a))
 
 high : (c : After-least_room-least) → c.args.chunk.at + c.args.chunk.len + front_gap (chunks_behind c.args.self.now c.args.arena.now.bytes (c.args.chunk.at + c.args.chunk.len)) ≤ c.args.self.now.footprint
 high c =
-    let heap = c.args.self.now in let B = c.args.arena.now.bytes in let a = around heap B c.args.chunk c.requires.chunks c.requires.stands in
-    omega (arith, end_below heap B c.requires.chunks c.args.chunk a c.requires.live, ap front_gap (behind_is heap B c.args.chunk a))
+    let heap = c.args.self.now in let B = c.args.arena.now.bytes in let a = around heap B c.args.chunk c.requires.chunks c.requires.live.stands in
+    omega (arith, end_below heap B c.requires.chunks c.args.chunk a c.requires.live.live, ap front_gap (behind_is heap B c.args.chunk a))
 
 pub overflow_sub-room : goal.overflow_sub-room
-overflow_sub-room c = omega (arith, (around c.args.self.now c.args.arena.now.bytes c.args.chunk c.requires.chunks c.requires.stands).enough)
+overflow_sub-room c = omega (arith, (around c.args.self.now c.args.arena.now.bytes c.args.chunk c.requires.chunks c.requires.live.stands).enough)
 
 pub overflow_add-chunk : goal.overflow_add-chunk
-overflow_add-chunk c = let heap = c.args.self.now in omega (arith, (around heap c.args.arena.now.bytes c.args.chunk c.requires.chunks c.requires.stands).fits, heap.inside, heap.small)
+overflow_add-chunk c = let heap = c.args.self.now in omega (arith, (around heap c.args.arena.now.bytes c.args.chunk c.requires.chunks c.requires.live.stands).fits, heap.inside, heap.small)
 
 pub returns-then-least-most : goal.returns-then-least-most
 returns-then-least-most c =
