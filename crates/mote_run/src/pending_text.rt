@@ -1,7 +1,8 @@
 //! Text that is due: gathered first, and written in pieces.
 
-ghost use Rattle.std.specs.Prelude.{◌≡◌, ◌<◌, ◌≤◌, ◌+◌, ◌-◌, ◌^◌, ◌++◌, ◌∷◌, [], ℕ, List, length, OnErr, OnOk};
+ghost use Rattle.std.specs.Prelude.{◌≡◌, ◌<◌, ◌≤◌, ◌-◌, ◌^◌, ◌++◌, ◌∷◌, [], ℕ, List, length, OnErr, OnOk};
 ghost use Rattle.mote_types.specs.declared.entry.Entry.{Entry as MadeEntry};
+ghost use Rattle.mote_text.specs.Code.Appending.{HasRoom};
 ghost use Rattle.mote_text.specs.Code.EntryLines.{entry_line_limit};
 ghost use Rattle.mote_text.specs.Transcript.{final_line};
 ghost use Rattle.kernel_core.specs.Code.Steps.{entry_of};
@@ -55,7 +56,7 @@ impl PendingText {
         requires some { room ≤ 4_096 }
         requires countable { K.failure_count sink.old < 2 ^ 64 - 1 }
         ensures written { OnOk result (K.is_named → WritesOn (K.given sink.old) self.old.text.items (K.given sink.new) self.new.text.items []) }
-        ensures room { OnOk result (length self.new.text.items + room ≤ 4_096) }
+        ensures room { OnOk result (HasRoom self.new.text room) }
         ensures cut_off { OnErr result (K.is_named → (lost : List ℕ) × WritesOn (K.given sink.old) self.old.text.items (K.given sink.new) lost []) }
         ensures failures { CountsFailure result (K.failure_count sink.old) (K.failure_count sink.new) }
     {
@@ -69,7 +70,7 @@ impl PendingText {
     // Out of the way of turns, which most entries are.
     #[inline(never)]
     pub fn put_entry(&mut self, entry: &Entry, quiet: bool)
-        requires { length self.old.text.items + entry_line_limit ≤ 4_096 }
+        requires { HasRoom self.old.text entry_line_limit }
         ensures { self.new.text.items ≡ self.old.text.items ++ lines quiet (entry.now ∷ []) }
     {
         if is_shown(entry, quiet) {
@@ -79,7 +80,7 @@ impl PendingText {
 
     /// Puts the line of a turn behind it, if it is shown.
     pub fn put_turn(&mut self, turn: &Turn, quiet: bool)
-        requires { length self.old.text.items + entry_line_limit ≤ 4_096 }
+        requires { HasRoom self.old.text entry_line_limit }
         ensures { self.new.text.items ≡ self.old.text.items ++ lines quiet (entry_of turn.now ∷ []) }
     {
         if is_turn_shown(&turn.call, quiet) {
@@ -95,8 +96,8 @@ impl PendingText {
 
     /// Puts the line of an input that was handed in behind it, if it is shown. That of a frame is at hand.
     pub fn put_input(&mut self, line_input: &LineInput, quiet: bool)
-        requires room { length self.old.text.items + entry_line_limit ≤ 4_096 }
-        requires frame_room { length self.old.text.items + length line_input.now.frame_line.items ≤ 4_096 }
+        requires room { HasRoom self.old.text entry_line_limit }
+        requires frame_room { HasRoom self.old.text (length line_input.now.frame_line.items) }
         requires frame { HasFrameLine line_input.now }
         ensures { self.new.text.items ≡ self.old.text.items ++ lines quiet (MadeEntry.Input line_input.now.input ∷ []) }
     {

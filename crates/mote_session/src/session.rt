@@ -1,8 +1,9 @@
 //! A mote asked step by step.
 
-ghost use Rattle.std.specs.Prelude.{◌≡◌, ◌≢◌, ◌≤◌, ◌+◌, ◌++◌, ◌↔◌, None, Some, false, true, length, IfErr, IfOk, IfSome, IfNone, IsErrOf, IsSomeAnd};
+ghost use Rattle.std.specs.Prelude.{◌≡◌, ◌≢◌, ◌≤◌, ◌+◌, ◌++◌, ◌↔◌, None, Some, false, true, IfErr, IfOk, IfSome, IfNone, IsErrOf, IsSomeAnd};
 ghost use Rattle.mote_types.specs.declared.entry.Entry.{Entry as MadeEntry};
 ghost use Rattle.mote_text.specs.EntryText.{entry_line};
+ghost use Rattle.mote_text.specs.Code.Appending.{HasRoom};
 ghost use Rattle.mote_text.specs.Code.EntryLines.{entry_line_limit};
 ghost use Rattle.mote_text.specs.Script.{read_line};
 ghost use Rattle.kernel_core.specs.Calls.{after_call};
@@ -381,7 +382,7 @@ impl Session {
     ///
     /// `NoLine` exactly where no entry was made, or the last turn awaits its call.
     pub fn push_line(&self, line: &mut OutputBuffer) -> Result<(), SessionRefusal>
-        requires { length line.old.items + entry_line_limit ≤ 4096 }
+        requires { HasRoom line.old entry_line_limit }
         ensures pushed { IfOk result (λ _. IsSomeAnd self.now.last (λ entry. line.new.items ≡ line.old.items ++ entry_line entry)) }
         ensures refused { IfErr result (λ refusal. (refusal ≡ SessionRefusal.NoLine) × (self.now.last ≡ None) × (line.new ≡ line.old)) }
     {

@@ -1,4 +1,4 @@
-use Rattle.std.proofs.Common.{take, length, arith, refl, sym}
+use Rattle.std.proofs.Common.{take, arith, refl, sym}
 use Rattle.mote_run.proofs.Common.{Taken, length-take}
 use Rattle.mote_run.proofs.reader.Reader.take.Goals as goal
 
