@@ -6,7 +6,7 @@ unfoldable pub use Rattle.kernel_core.specs.Code.Cost.{costs}
 pub use Rattle.kernel_core.specs.Code.Cost.{IsPaid, cost, present, round_cost, starts}
 pub use Rattle.kernel_core.specs.Code.Draws.{HasQueueableEvents, IsQueueable, IsQueueableJob, drawn_in_all, draws, draws_of_event, draws_of_job}
 pub use Rattle.kernel_core.specs.Code.Steps.{GoesSilently, GoesToRest, MakesEntry, Silently}
-pub use Rattle.kernel_core.specs.Code.View.{ComesToJob, HoldsFrames, IsInOrder, IsServed, entries_left_in, is_cancelled, machine_of, no_pending_entries, pending_items}
+pub use Rattle.kernel_core.specs.Code.View.{ComesToJob, HoldsFrames, IsAtWork, IsInOrder, IsServed, entries_left_in, is_cancelled, machine_of, no_pending_entries, pending_items}
 pub use Rattle.kernel_core.specs.Expiries.{cancelled_if, expiries_cancelled}
 pub use Rattle.kernel_core.specs.KernelProcesses.{serve}
 pub use Rattle.kernel_core.specs.Machine.{Machine, booted, free_places, mark, scheduled, shown_first, sizes_of, with_serial, with_timers}

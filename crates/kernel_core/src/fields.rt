@@ -6,7 +6,7 @@ ghost use Rattle.mote_types.specs.declared.call.Call.{Call as ToldCall};
 ghost use Rattle.mote_types.specs.declared.event.Pid.{Pid as Process};
 ghost use Rattle.mote_types.specs.declared.event.Stimulus.{Stimulus as ToldStimulus};
 ghost use Rattle.node_memory.specs.Placed.{last_owner};
-ghost use Rattle.kernel_core.specs.Code.View.{HoldsFrames, machine_of, no_pending_entries, entries_left_in, IsInOrder};
+ghost use Rattle.kernel_core.specs.Code.View.{HoldsFrames, machine_of, no_pending_entries, entries_left_in, IsAtWork, IsInOrder};
 ghost use Rattle.process_core.specs.declared.job.Job as ready;
 ghost use Rattle.process_core.specs.Code.SchedulerView.{job_of, turn_of, callback_of};
 ghost use Rattle.process_core.specs.Processes.{numbers};
@@ -81,9 +81,7 @@ impl KernelFields {
 
     /// Whether a round begins. Else the run is halted, and the entry of that is put into `other`.
     pub fn begin_round(&mut self, other: &mut Entry) -> bool
-        requires order { IsInOrder self.old }
-        requires running { self.old.halted ≡ false }
-        requires nothing_shown { self.old.pending ≡ no_pending_entries }
+        requires at_work { IsAtWork self.old }
         ensures begins { result ≡ true → within_limit (machine_of self.old) (silent (with_more_work (machine_of self.old))) ≡ silent (machine_of self.new) }
         ensures halts { result ≡ false → within_limit (machine_of self.old) (silent (with_more_work (machine_of self.old))) ≡ (machine_of self.new, Some other.new) }
         ensures order { IsInOrder self.new }
@@ -102,9 +100,7 @@ impl KernelFields {
 
     /// The next thing that is to be done, which is taken from the agenda. What a process is told then is put into `told`.
     pub fn next_job(&mut self, told: &mut Stimulus) -> Job
-        requires order { IsInOrder self.old }
-        requires running { self.old.halted ≡ false }
-        requires nothing_shown { self.old.pending ≡ no_pending_entries }
+        requires at_work { IsAtWork self.old }
         ensures reached { (answers : Answers) → ComesToJob self.old.timers.armings answers (machine_of self.old) (job_of result told.new) (machine_of self.new) }
         ensures paid { (bound : ℕ) → present self.old.scheduler.state ≤ bound →
             IsPaid bound (Some (job_of result told.new)) (costs bound self.old.scheduler.state.agenda) (costs bound self.new.scheduler.state.agenda)

@@ -1,7 +1,7 @@
 //! A round in which nothing is done but that etimer looks for due timers, and finds none.
 
 ghost use Rattle.std.specs.Prelude.{◌≡◌, ◌≤◌, ◌<◌, ◌+◌, ◌^◌, true, false};
-ghost use Rattle.kernel_core.specs.Code.View.{machine_of, no_pending_entries, IsInOrder};
+ghost use Rattle.kernel_core.specs.Code.View.{machine_of, IsAtWork, IsInOrder};
 ghost use Rattle.kernel_core.specs.Code.IdleRound.{has_idle_round, is_idle_tick, RestsAfter};
 ghost use Rattle.kernel_core.specs.Conditions.{ticks_of};
 ghost use Rattle.kernel_core.specs.Run.{Answers, is_at_rest};
@@ -16,9 +16,7 @@ impl KernelFields {
     /// Else nothing is done.
     #[inline]
     pub fn pass_idle_round(&mut self) -> bool
-        requires order { IsInOrder self.old }
-        requires running { self.old.halted ≡ false }
-        requires nothing_shown { self.old.pending ≡ no_pending_entries }
+        requires at_work { IsAtWork self.old }
         ensures value { result ≡ has_idle_round (machine_of self.old) }
         ensures passed { result ≡ true → (answers : Answers) → GoesToRest answers (machine_of self.old) (machine_of self.new) }
         ensures order { IsInOrder self.new }
@@ -41,10 +39,8 @@ impl KernelFields {
     /// polled, and there is rest. Else nothing is done.
     #[inline]
     pub fn accept_idle_tick(&mut self, input: &Input) -> bool
-        requires order { IsInOrder self.old }
+        requires at_work { IsAtWork self.old }
         requires rest { is_at_rest (machine_of self.old) ≡ true }
-        requires shown { self.old.pending ≡ no_pending_entries }
-        requires running { self.old.halted ≡ false }
         requires clock { self.old.clock + ticks_of input.now ≤ 2 ^ 62 }
         requires few { self.old.inputs < 2 ^ 40 }
         ensures value { result ≡ is_idle_tick input.now (machine_of self.old) }

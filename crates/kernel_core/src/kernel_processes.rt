@@ -1,13 +1,13 @@
 //! What the kernel's own processes do with an event.
 
-ghost use Rattle.std.specs.Prelude.{◌≡◌, ◌≤◌, ◌<◌, ◌+◌, ◌^◌, ℕ, Bool, false, IfSome, Some};
+ghost use Rattle.std.specs.Prelude.{◌≡◌, ◌≤◌, ◌<◌, ◌+◌, ◌^◌, ℕ, Bool, IfSome, Some};
 ghost use Rattle.std.specs.Option.{option_map};
 ghost use Rattle.mote_types.specs.declared.event.Pid as pid;
 ghost use Rattle.kernel_core.specs.Code.Carrying.{job_carrying};
 ghost use Rattle.process_core.specs.Code.SchedulerView.{served};
 ghost use Rattle.kernel_core.specs.Code.Cost.{present};
 ghost use Rattle.kernel_core.specs.Code.Draws.{HasQueueableEvents, drawn_in_all, draws_of_event, draws_of_job};
-ghost use Rattle.kernel_core.specs.Code.View.{entries_left_in, machine_of, no_pending_entries, IsInOrder, IsServed};
+ghost use Rattle.kernel_core.specs.Code.View.{entries_left_in, machine_of, IsAtWork, IsInOrder, IsServed};
 ghost use Rattle.kernel_core.specs.Code.IdleReceivers.{idle_receivers_passed, is_wait};
 ghost use Rattle.kernel_core.specs.Run.{Answers, job_done, silent};
 ghost use Rattle.kernel_core.specs.Code.Steps.{GoesSilently};
@@ -66,9 +66,7 @@ impl KernelFields {
     /// After a wait, those of the kernel's processes that are to be given a broadcast next are passed at once, where none of
     /// them does anything with it. They are the last receivers, so they seldom come next after another call.
     pub fn pass_idle_receivers(&mut self, last: &Call)
-        requires order { IsInOrder self.old }
-        requires running { self.old.halted ≡ false }
-        requires nothing_shown { self.old.pending ≡ no_pending_entries }
+        requires at_work { IsAtWork self.old }
         ensures value { self.new ≡ record self.old {
           scheduler = record self.old.scheduler { state = idle_receivers_passed last.now self.old.scheduler.state };
         } }

@@ -1,10 +1,10 @@
 //! Work until an application is to take a turn, another entry is made, or nothing is left to be done.
 
-ghost use Rattle.std.specs.Prelude.{◌≡◌, ◌≢◌, ◌≤◌, ◌+◌, ℕ, [], false};
+ghost use Rattle.std.specs.Prelude.{◌≡◌, ◌≢◌, ◌≤◌, ◌+◌, ℕ, []};
 ghost use Rattle.std.specs.List.{list_any};
 ghost use Rattle.mote_types.specs.Entries.{is_halt};
 ghost use Rattle.kernel_core.specs.Code.OpenTurns.{AwaitsCall, IsMidTurn};
-ghost use Rattle.kernel_core.specs.Code.View.{entries_left_in, machine_of, mote_of, no_pending_entries, IsInOrder};
+ghost use Rattle.kernel_core.specs.Code.View.{entries_left_in, machine_of, mote_of, IsAtWork, IsInOrder};
 ghost use Rattle.kernel_core.specs.Conditions.{TakesEntry};
 ghost use Rattle.kernel_core.specs.Run.{Answers, heard};
 ghost use Rattle.kernel_core.specs.Code.Steps.{GoesOn, made as made_by, stepped};
@@ -19,9 +19,7 @@ impl KernelFields {
     /// Does one job after the other, until a turn begins, which is put into `turn` but for its call, until another entry is
     /// made, which is put into `other`, or until there is rest.
     pub fn work_on(&mut self, turn: &mut Turn, other: &mut Entry) -> StepOutcome
-        requires order { IsInOrder self.old }
-        requires running { self.old.halted ≡ false }
-        requires nothing_shown { self.old.pending ≡ no_pending_entries }
+        requires at_work { IsAtWork self.old }
         ensures awaits { result ≡ StepOutcome.Turn → (answers : Answers) →
             AwaitsCall answers (machine_of self.old) turn.new.pid turn.new.origin turn.new.stimulus (machine_of self.new) }
         ensures open { result ≡ StepOutcome.Turn → IsMidTurn turn.new.pid self.new }

@@ -90,6 +90,12 @@ pub record IsInOrder (k : KernelFields) : Type 0 where
   -- a turn draws a number, or ends a process whose callback timers then get four
   pub draws : drawn_in_all k ≤ 1 + 8 * (10000 * k.inputs + k.work)
 
+-- at work between two turns, and all that was to be shown is shown
+pub record IsAtWork (k : KernelFields) : Type 0 where
+  pub order : IsInOrder k
+  pub running : k.halted ≡ false
+  pub shown : k.pending ≡ no_pending_entries
+
 -- an application has the turn, and all that was to be shown is shown
 pub record IsAtTurn (pid : Pid) (k : KernelFields) : Type 0 where
   pub turn : k.scheduler.turn ≡ Some pid

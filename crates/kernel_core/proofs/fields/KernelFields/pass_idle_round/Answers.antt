@@ -9,4 +9,4 @@ returns-clause-passed c = λ done. λ answers.
     let none : is_some (first_due k.clock k.timers.timers) ≡ false = sym c.any_due.ensures.answer ∙ c.if-any_due.false in
     let room : (k.work == work_limit) ≡ false = grind (arith, nat_tests, c.if-self-eq-WORK_LIMIT.false) in
     let lone : IsLonePoll 0 k.scheduler.state = c.polls_alone.ensures.round c.if-not-polls_alone.false in
-    rw (c.unmark.ensures, c.any_due.ensures.kept) (idle_round answers k c.requires.running c.requires.nothing_shown room none lone)
+    rw (c.unmark.ensures, c.any_due.ensures.kept) (idle_round answers k c.requires.at_work.running c.requires.at_work.shown room none lone)

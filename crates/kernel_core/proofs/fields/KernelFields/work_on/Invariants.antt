@@ -1,13 +1,11 @@
-use Rattle.std.proofs.Common.{◌≡◌, ◌≤◌, ◌*◌, ◌-◌, ◌+◌, false}
-use Rattle.kernel_core.proofs.Common.{machine_of, no_pending_entries, entries_left_in, IsInOrder, Answers, work_limit, GoesSilently, present, costs, round_cost}
+use Rattle.std.proofs.Common.{◌≡◌, ◌≤◌, ◌*◌, ◌-◌, ◌+◌}
+use Rattle.kernel_core.proofs.Common.{machine_of, entries_left_in, IsAtWork, Answers, work_limit, GoesSilently, present, costs, round_cost}
 use Rattle.kernel_core.proofs.fields.KernelFields.work_on.Given as goal
 
 abbrev pub invariant-job : goal.invariant-job
 invariant-job l = record {
   found : record {
-    order : IsInOrder l.self;
-    running : l.self.halted ≡ false;
-    nothing_shown : l.self.pending ≡ no_pending_entries;
+    at_work : IsAtWork l.self;
     inputs : l.self.inputs ≡ l.fn.self.inputs;
     applications : l.self.scheduler.state.applications ≡ l.fn.self.scheduler.state.applications;
     clock : l.self.clock ≡ l.fn.self.clock;
