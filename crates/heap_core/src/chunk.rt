@@ -2,10 +2,11 @@
 
 ghost use Rattle.std.specs.Prelude.{◌≡◌, ◌≤◌, ◌<◌, IfSome, is_none};
 ghost use Rattle.std.specs.Option.{option_map_or};
-ghost use Rattle.mote_types.specs.Rounding.{up4};
 ghost use Rattle.heap_core.specs.HeapStore.{least_room, room_taken, shorter};
 ghost use Rattle.heap_core.specs.Chunks.{number_in, owner_in, size_in, is_a_name};
 ghost use Rattle.heap_core.specs.Code.Links.{gap_count};
+
+use mote_types::rounding::rounded;
 
 /// The owner of a chunk that was freed and is not joined yet. No name has that number.
 pub(crate) const FREED: u32 = 272;
@@ -51,13 +52,6 @@ pub struct FreeEnd {
     pub at: u32,
     /// The place of the lowest gap from there on.
     pub link: Option<u32>,
-}
-
-/// The least multiple of 4 not below `n`.
-pub(crate) fn rounded(n: u32) -> u64
-    ensures { result ≡ up4 n }
-{
-    (n as u64 + 3) / 4 * 4
 }
 
 /// The room that a block of `n` bytes needs behind a header of that length.

@@ -9,12 +9,13 @@ ghost use Rattle.mmem_core.specs.ManagedStore.{empty_store, block_of, unused, fr
 ghost use Rattle.mmem_core.specs.Conditions.{IsManagedSize, length_of};
 
 use crate::order::Order;
-use crate::place::{Place, rounded};
+use crate::place::Place;
 use crate::quotas::Quotas;
 use arena_core::{Arena, Span};
 use mote_types::block_name::{Key, NAMES, number_of};
 use mote_types::event::Pid;
 use mote_types::refusal::Refusal;
+use mote_types::rounding::rounded;
 use std::marker::Model;
 
 /// How many processes have names: process 3 and the applications.

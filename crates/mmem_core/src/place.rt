@@ -1,24 +1,17 @@
 //! Where a block lies, and how it moves.
 
 ghost use Rattle.std.specs.Prelude.{◌≡◌, ◌+◌, ◌≤◌, length, slice_range, Some};
-ghost use Rattle.mote_types.specs.Rounding.{up4};
 ghost use Rattle.arena_core.specs.Contents.{contents};
 ghost use Rattle.arena_core.specs.Written.{written};
 
 use arena_core::{Arena, Span};
+use mote_types::rounding::rounded;
 
 /// Where a block lies: so many bytes from the span's start, and how long it is. It takes its length rounded up.
 #[derive(Clone, Copy, Drop)]
 pub struct Place {
     pub at: u32,
     pub len: u32,
-}
-
-/// The least multiple of 4 not below `n`.
-pub fn rounded(n: u32) -> u64
-    ensures { result ≡ up4 n }
-{
-    (n as u64 + 3) / 4 * 4
 }
 
 impl Place {

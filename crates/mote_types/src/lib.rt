@@ -11,3 +11,4 @@ pub mod event;
 pub mod fault;
 pub mod refusal;
 pub mod reply;
+pub mod rounding;
