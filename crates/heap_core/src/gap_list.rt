@@ -2,8 +2,8 @@
 
 ghost use Rattle.std.specs.Prelude.{◌≡◌};
 ghost use Rattle.std.specs.Option.{option_map};
-ghost use Rattle.heap_core.specs.FreeList.{gaps_among, LinkedTo};
-ghost use Rattle.heap_core.specs.Code.Links.{gap_below, gap_from};
+ghost use Rattle.heap_core.specs.FreeList.{gaps_among};
+ghost use Rattle.heap_core.specs.Code.Links.{HasGapList, gap_below, gap_from};
 
 use crate::chunk::{Chunk, number_in, word_of};
 use crate::region::Region;
@@ -19,13 +19,12 @@ pub struct Beside {
 }
 
 impl Region {
-    ghost use Rattle.heap_core.specs.Layout.{chunks_of, HasChunks};
+    ghost use Rattle.heap_core.specs.Layout.{chunks_of};
     ghost use Rattle.std.specs.Prelude.{None};
 
     /// The gaps beside a place.
     pub(crate) fn gaps_beside(&self, arena: &Arena, at: u32) -> Beside
-        requires chunks { HasChunks self.now arena.now.bytes }
-        requires linked { LinkedTo self.now.lowest (chunks_of self.now arena.now.bytes) None }
+        requires gaps { HasGapList self.now arena.now.bytes }
         ensures below { result.below ≡ gap_below at (gaps_among (chunks_of self.now arena.now.bytes)) }
         ensures next { result.next ≡ gap_from at (gaps_among (chunks_of self.now arena.now.bytes)) }
     {
@@ -45,8 +44,7 @@ impl Region {
         at: u32,
         known: Option<Chunk>,
     ) -> Option<Chunk>
-        requires chunks { HasChunks self.now arena.now.bytes }
-        requires linked { LinkedTo self.now.lowest (chunks_of self.now arena.now.bytes) None }
+        requires gaps { HasGapList self.now arena.now.bytes }
         requires known { known ≡ gap_below at (gaps_among (chunks_of self.now arena.now.bytes)) }
         ensures { result ≡ gap_below place (gaps_among (chunks_of self.now arena.now.bytes)) }
     {
@@ -59,8 +57,7 @@ impl Region {
 
     /// Where the highest gap below a place begins, and the lowest one from there on. No gap above that one is looked at.
     fn places_beside(&self, arena: &Arena, at: u32) -> (Option<u32>, Option<u32>)
-        requires chunks { HasChunks self.now arena.now.bytes }
-        requires linked { LinkedTo self.now.lowest (chunks_of self.now arena.now.bytes) None }
+        requires gaps { HasGapList self.now arena.now.bytes }
         ensures below { result.0 ≡ option_map (λ gap. gap.at) (gap_below at (gaps_among (chunks_of self.now arena.now.bytes))) }
         ensures next { result.1 ≡ gap_from at (gaps_among (chunks_of self.now arena.now.bytes)) }
     {

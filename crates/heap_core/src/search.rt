@@ -2,7 +2,7 @@
 
 ghost use Rattle.std.specs.Prelude.{◌≡◌, ◌≤◌, ◌<◌, ◌+◌, find, Some, None, IsSome};
 ghost use Rattle.heap_core.specs.HeapStore.{stats_of, find_block, best_gap, gaps, place, room_in_place};
-ghost use Rattle.heap_core.specs.FreeList.{Stands, LiveIn, LinkedTo, gaps_among};
+ghost use Rattle.heap_core.specs.FreeList.{Stands, LiveIn, gaps_among};
 ghost use Rattle.heap_core.specs.Code.ChunkRanges.{chunks_before, chunks_behind};
 ghost use Rattle.heap_core.specs.Code.FreeBytes.{free_from, front_gap};
 ghost use Rattle.heap_core.specs.Code.Owners.{owned_by, Owned};
@@ -17,7 +17,7 @@ use mote_types::reply::HeapStats;
 
 impl Region {
     ghost use Rattle.heap_core.specs.Layout.{chunks_of, store_of, HasChunks};
-    ghost use Rattle.heap_core.specs.Code.Links.{gap_below, gap_from};
+    ghost use Rattle.heap_core.specs.Code.Links.{HasGapList, gap_below, gap_from};
     ghost use Rattle.heap_core.specs.HeapBytes.{heap_of, IsLaidOut};
 
     /// The chunk of a name's block.
@@ -45,8 +45,7 @@ impl Region {
     /// The shortest gap below the top gap that has `need` bytes, the lowest on a tie. No gap above one that fits exactly is
     /// looked at.
     pub(crate) fn best_gap(&self, arena: &Arena, need: u64) -> Option<Gap>
-        requires chunks { HasChunks self.now arena.now.bytes }
-        requires linked { LinkedTo self.now.lowest (chunks_of self.now arena.now.bytes) None }
+        requires gaps { HasGapList self.now arena.now.bytes }
         ensures { result ≡ best_gap need (gaps (store_of self.now arena.now.bytes)) }
     {
         let bytes = self.bytes(arena);
@@ -98,8 +97,7 @@ impl Region {
 
     /// Where a block of `n` bytes goes.
     pub(crate) fn place(&self, arena: &Arena, n: u32) -> Option<Place>
-        requires chunks { HasChunks self.now arena.now.bytes }
-        requires linked { LinkedTo self.now.lowest (chunks_of self.now arena.now.bytes) None }
+        requires gaps { HasGapList self.now arena.now.bytes }
         ensures { result ≡ place n (store_of self.now arena.now.bytes) }
     {
         let room = least_room(self.header, n);
@@ -119,8 +117,7 @@ impl Region {
 
     /// Where the free bytes begin that end where a chunk begins. `below` is the highest gap below it.
     pub(crate) fn free_before(&self, arena: &Arena, chunk: Chunk, below: Option<Chunk>) -> u32
-        requires chunks { HasChunks self.now arena.now.bytes }
-        requires linked { LinkedTo self.now.lowest (chunks_of self.now arena.now.bytes) None }
+        requires gaps { HasGapList self.now arena.now.bytes }
         requires stands { Stands chunk (chunks_of self.now arena.now.bytes) }
         requires below { below ≡ gap_below chunk.at (gaps_among (chunks_of self.now arena.now.bytes)) }
         ensures { result ≡ free_from (chunks_before self.now arena.now.bytes chunk.at) }
@@ -154,8 +151,7 @@ impl Region {
         end: u32,
         next: Option<u32>,
     ) -> Option<u32>
-        requires chunks { HasChunks self.now arena.now.bytes }
-        requires linked { LinkedTo self.now.lowest (chunks_of self.now arena.now.bytes) None }
+        requires gaps { HasGapList self.now arena.now.bytes }
         requires live { LiveIn chunk (chunks_of self.now arena.now.bytes) }
         requires end { end ≡ chunk.at + chunk.len + front_gap (chunks_behind self.now arena.now.bytes (chunk.at + chunk.len)) }
         requires next { next ≡ gap_from chunk.at (gaps_among (chunks_of self.now arena.now.bytes)) }

@@ -16,7 +16,7 @@ use arena_core::Arena;
 impl Region {
     ghost use Rattle.heap_core.specs.declared.chunk.Chunk.{Chunk as OfChunks};
     ghost use Rattle.heap_core.specs.Layout.{chunks_of, store_of, HasChunks};
-    ghost use Rattle.heap_core.specs.Code.Links.{gap_count, gap_below, gap_from, LinkChanged, Cleared, IsDivided, IsLink, KeepsFreed, ReachesWithGaps};
+    ghost use Rattle.heap_core.specs.Code.Links.{gap_count, gap_below, gap_from, LinkChanged, Cleared, HasGapList, IsDivided, IsLink, KeepsFreed, ReachesWithGaps};
     ghost use Rattle.heap_core.specs.Code.Holes.{Hole, Fits, Laid, Free};
     ghost use Rattle.heap_core.specs.HeapBytes.{heap_of, KeepsToSpan};
     ghost use Rattle.heap_core.specs.Code.Joins.{Changed, Aside, Joins};
@@ -83,8 +83,7 @@ impl Region {
 
     /// Where the bytes end that are free from a place on that was found for a block, and which gap comes next.
     fn free_end(&self, arena: &Arena, target: Place, n: u32) -> FreeEnd
-        requires chunks { HasChunks self.now arena.now.bytes }
-        requires linked { LinkedTo self.now.lowest (chunks_of self.now arena.now.bytes) None }
+        requires gaps { HasGapList self.now arena.now.bytes }
         requires place { place n (store_of self.now arena.now.bytes) ≡ Some target }
         requires some { 1 ≤ n }
         ensures free { Free self.now arena.now.bytes target result.at }

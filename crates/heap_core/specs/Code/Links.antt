@@ -91,6 +91,11 @@ pub record Cleared (old new : Region) (bytes new_bytes : List ℕ) (chunk : Chun
   pub others : (other : Chunk) → LiveIn other (chunks_of old bytes) → other.at ≢ chunk.at → LiveIn other (chunks_of new new_bytes)
   pub exchanged : Exchanged old new bytes new_bytes from end first link
 
+-- the headers tell chunks, and the gaps among them are linked
+pub record HasGapList (heap : Region) (bytes : List ℕ) : Type 0 where
+  pub chunks : HasChunks heap bytes
+  pub linked : LinkedTo heap.lowest (chunks_of heap bytes) None
+
 -- the headers tell chunks, and the gaps among them are linked and counted
 pub record IsDivided (heap : Region) (bytes : List ℕ) : Type 0 where
   pub chunks : HasChunks heap bytes

@@ -6,7 +6,7 @@ use Rattle.heap_core.proofs.region.Region.best_gap.Goals.{then-len-need+else-len
 pub loop-next-init : goal.loop-next-init
 loop-next-init c =
     subst (λ o. Searched c.args.self.now c.args.arena.now.bytes c.args.need None o) (sym c.index_word-next.ensures)
-    (search_begun c.args.self.now c.args.arena.now.bytes c.args.need c.requires.chunks c.requires.linked)
+    (search_begun c.args.self.now c.args.arena.now.bytes c.args.need c.requires.gaps.chunks c.requires.gaps.linked)
 
 pub len_told-len-requires-clause-inside : goal.len_told-len-requires-clause-inside
 len_told-len-requires-clause-inside c =

@@ -7,21 +7,21 @@ pub returns-then-target-self : goal.returns-then-target-self
 returns-then-target-self c =
     let heap = c.args.self.now in let B = c.args.arena.now.bytes in let target = c.args.target in
     record {
-      free = elim (place_cases heap B c.requires.chunks c.args.n target c.requires.some c.requires.place) [
-        | inl top ↦ free_top heap B c.requires.chunks target top.at top.fits top.whole
+      free = elim (place_cases heap B c.requires.gaps.chunks c.args.n target c.requires.some c.requires.place) [
+        | inl top ↦ free_top heap B c.requires.gaps.chunks target top.at top.fits top.whole
         | inr low ↦ absurd (omega (arith, low.below, c.if-target-self.true))
       ];
       along = search rules;
-      link = sym (above_all heap B c.requires.chunks c.requires.linked) ∙ ap (λ at. gap_from at (gaps_among (chunks_of heap B))) (sym c.if-target-self.true);
-      room = elim (place_cases c.args.self.now c.args.arena.now.bytes c.requires.chunks c.args.n c.args.target c.requires.some c.requires.place) [ inl top ↦ top.room | inr low ↦ low.room ];
+      link = sym (above_all heap B c.requires.gaps.chunks c.requires.gaps.linked) ∙ ap (λ at. gap_from at (gaps_among (chunks_of heap B))) (sym c.if-target-self.true);
+      room = elim (place_cases c.args.self.now c.args.arena.now.bytes c.requires.gaps.chunks c.args.n c.args.target c.requires.some c.requires.place) [ inl top ↦ top.room | inr low ↦ low.room ];
     }
 
 -- the gap that the place is in
 found : (c : Else-target-self) → GapAt c.args.self.now.header c.args.target.at (c.args.self.now.header + c.args.target.room) (chunks_of c.args.self.now c.args.arena.now.bytes)
-found c = elim (place_cases c.args.self.now c.args.arena.now.bytes c.requires.chunks c.args.n c.args.target c.requires.some c.requires.place) [ inl top ↦ absurd (c.if-target-self.false top.at) | inr low ↦ low.gap ]
+found c = elim (place_cases c.args.self.now c.args.arena.now.bytes c.requires.gaps.chunks c.args.n c.args.target c.requires.some c.requires.place) [ inl top ↦ absurd (c.if-target-self.false top.at) | inr low ↦ low.gap ]
 
 around_it : (c : Else-target-self) → Around c.args.self.now.header c.args.arena.now.bytes c.args.self.now.span.at c.args.self.now.footprint (found c).gap (chunks_of c.args.self.now c.args.arena.now.bytes)
-around_it c = around c.args.self.now c.args.arena.now.bytes (found c).gap c.requires.chunks (found c).stands
+around_it c = around c.args.self.now c.args.arena.now.bytes (found c).gap c.requires.gaps.chunks (found c).stands
 
 gap_is : (c : Else-target-self) → chunk_at c.args.arena.now.bytes c.args.self.now.span.at c.args.target.at ≡ (found c).gap
 gap_is c = ap (chunk_at c.args.arena.now.bytes c.args.self.now.span.at) (sym (found c).at) ∙ (around_it c).here
@@ -52,17 +52,17 @@ returns c =
     let k = (goal.at.returns c).Else-target-self in let g = found k in let a = around_it k in
     let len : c.len_at.result ≡ g.gap.len = c.len_at.ensures ∙ ap (λ (chunk : Chunk). chunk.len) (gap_is k) in
     record {
-      free = elim (place_cases heap B c.requires.chunks c.args.n target c.requires.some c.requires.place) [
+      free = elim (place_cases heap B c.requires.gaps.chunks c.args.n target c.requires.some c.requires.place) [
         | inl top ↦ absurd (c.if-target-self.false top.at)
         | inr low ↦
-            let same : c.len_at.result ≡ low.gap.gap.len = c.len_at.ensures ∙ ap (λ (chunk : Chunk). chunk.len) (ap (chunk_at B heap.span.at) (sym low.gap.at) ∙ (around heap B low.gap.gap c.requires.chunks low.gap.stands).here) in
-            subst (λ len. Free heap B target (target.at + len)) (sym same) (free_gap heap B c.requires.chunks target low.gap low.whole)
+            let same : c.len_at.result ≡ low.gap.gap.len = c.len_at.ensures ∙ ap (λ (chunk : Chunk). chunk.len) (ap (chunk_at B heap.span.at) (sym low.gap.at) ∙ (around heap B low.gap.gap c.requires.gaps.chunks low.gap.stands).here) in
+            subst (λ len. Free heap B target (target.at + len)) (sym same) (free_gap heap B c.requires.gaps.chunks target low.gap low.whole)
       ];
       along = search rules;
       link = c.link_at.ensures
           ∙ ap (λ (chunk : Chunk). chunk.link) (gap_is k)
-          ∙ behind_gap heap B c.requires.chunks c.requires.linked g.gap a g.free
+          ∙ behind_gap heap B c.requires.gaps.chunks c.requires.gaps.linked g.gap a g.free
           ∙ ap (λ at. gap_from (at + g.gap.len) (gaps_among (chunks_of heap B))) g.at
           ∙ ap (λ len. gap_from (target.at + len) (gaps_among (chunks_of heap B))) (sym len);
-      room = elim (place_cases heap B c.requires.chunks c.args.n target c.requires.some c.requires.place) [ inl top ↦ top.room | inr low ↦ low.room ];
+      room = elim (place_cases heap B c.requires.gaps.chunks c.args.n target c.requires.some c.requires.place) [ inl top ↦ top.room | inr low ↦ low.room ];
     }

@@ -3,12 +3,12 @@ use Rattle.heap_core.proofs.region.Region.places_beside.Goals as goal
 use Rattle.heap_core.proofs.region.Region.places_beside.Goals.{After-next_word-below}
 
 pub word_of-next-requires : goal.word_of-next-requires
-word_of-next-requires c = lowest_small c.args.self.now c.args.arena.now.bytes c.args.self.now.lowest refl c.requires.chunks c.requires.linked
+word_of-next-requires c = lowest_small c.args.self.now c.args.arena.now.bytes c.args.self.now.lowest refl c.requires.gaps.chunks c.requires.gaps.linked
 
 pub loop-next-init : goal.loop-next-init
 loop-next-init c = (
   subst (λ o. Walked c.args.self.now c.args.arena.now.bytes c.args.at None o) (sym c.word_of-next.ensures.number)
-      (walk_begun c.args.self.now c.args.arena.now.bytes c.args.at c.requires.chunks c.requires.linked),
+      (walk_begun c.args.self.now c.args.arena.now.bytes c.args.at c.requires.gaps.chunks c.requires.gaps.linked),
   omega arith,
   omega arith,
 )
