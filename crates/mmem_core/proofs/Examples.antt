@@ -1,5 +1,5 @@
 -- What it comes to that a call keeps to its span, and that it counts the bytes that it moves.
-use Rattle.mmem_core.proofs.Words.{◌≡◌, ◌+◌, ◌-◌, ◌^◌, ◌≤◌, ℕ, List, [], ◌∷◌, Option, Some, None, refl, sym, subst, arith, Span, Contents, HandleTable, KeepsToSpan, CountsMoved, Place}
+use Rattle.mmem_core.proofs.Words.{◌≡◌, ◌+◌, ◌≤◌, ℕ, [], ◌∷◌, Some, None, refl, sym, subst, arith, Span, Contents, HandleTable, KeepsToSpan, CountsMoved}
 
 -- a span that was handed out stays handed out: what is carved later lies behind it
 stays_handed_out : (old new : HandleTable) (before after : Contents) → KeepsToSpan old new before after → old.span.at + old.span.len ≤ before.carved → new.span.at + new.span.len ≤ after.carved
