@@ -29,7 +29,7 @@ is_cancelling _ = false
 
 queue_stays : (call : Call) (q : ℕ) (m : Machine) → is_posting call ≡ false → is_cancelling call ≡ false
     → (after_call call q m).scheduler.events ≡ m.scheduler.events
-queue_stays call q m p c = grind (arith, p, c)
+queue_stays call q m p c = grind (arith, nat_tests)
 
 module _ (P : List (Queued Bool) → Type 0) (q : ℕ) (m : Machine) (h : P m.scheduler.events) where
   accepted : (o : Option Refusal) (after : Machine) → (o ≡ None → P after.scheduler.events) → P (refused_or o q m after).scheduler.events
@@ -45,22 +45,15 @@ module _ (P : List (Queued Bool) → Type 0) (q : ℕ) (m : Machine) (h : P m.sc
   unposted-queue cancelled (Call.CallbackStop c) n =
       accepted (callback_refusal c) (answer_done q (expiries_cancelled (is_callback_timer q c) (with_timers (stop_timer (callback_timer q c) m.timers) m)))
       (λ none. cancelled (is_callback_timer q c) m.scheduler.events h)
-  unposted-queue cancelled call n = other call n (grind arith)
-    where
-      other : (call : Call) → is_posting call ≡ false → is_cancelling call ≡ false → P (after_call call q m).scheduler.events
-      other call p c = subst P (sym (queue_stays call q m p c)) h
+  unposted-queue cancelled call n = grind (arith, nat_tests)
 
   kept-queue : KeptByCalls P → (call : Call) → P (after_call call q m).scheduler.events
-  kept-queue kept (Call.Post r code payload) =
-      accepted (post_call_refusal m r code) (answer_done q (with_event (Queued.To r (event_of code payload)) m))
-      (λ none. kept.posted (Queued.To r (event_of code payload)) m.scheduler.events (grind (arith, nat_tests, none)) h)
-  kept-queue kept (Call.Broadcast code payload) =
-      accepted (broadcast_call_refusal m code) (answer_done q (with_event (Queued.ToAll (event_of code payload)) m))
-      (λ none. kept.posted (Queued.ToAll (event_of code payload)) m.scheduler.events (grind (arith, nat_tests, none)) h)
+  kept-queue kept (Call.Post r code payload) = grind (arith, nat_tests)
+  kept-queue kept (Call.Broadcast code payload) = grind (arith, nat_tests)
   kept-queue kept call = unposted-queue kept.cancelled call (grind arith)
 
 pub kept_by_call : {P : List (Queued Bool) → Type 0} → KeptByCalls P → (call : Call) (q : ℕ) (m : Machine) → P m.scheduler.events → P (after_call call q m).scheduler.events
-kept_by_call {P = P} kept call q m h = kept-queue P q m h kept call
+kept_by_call {P = P} kept call q m h = grind (arith, nat_tests, kept-queue)
 
 -- where it posts nothing
 pub kept_unposted : {P : List (Queued Bool) → Type 0} → ((test : ℕ → ℕ → Bool) (events : List (Queued Bool)) → P events → P (map (cancelled_if test) events))

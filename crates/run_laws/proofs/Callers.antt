@@ -45,10 +45,10 @@ module _ (p : ℕ) (few : p ≤ 19) where
 
   -- an entry that is no turn
   same_handle : (X : List Entry) (e : Entry) → is_turn e ≡ false → handle_after (X ++ e ∷ []) ≡ handle_after X
-  same_handle X e n = fold-append sent_by None X (e ∷ []) ∙ grind (arith, n)
+  same_handle X e n = grind (arith, nat_tests, fold-append)
 
   same_told : (X : List Entry) (e : Entry) → is_turn e ≡ false → told_after (X ++ e ∷ []) ≡ told_after X
-  same_told X e n = fold-append (told (accepted managed_after) p) at_first X (e ∷ []) ∙ grind (arith, n)
+  same_told X e n = grind (arith, nat_tests, fold-append, accepted)
 
   quiet_entries : (entries : List Entry) (handle : Option ℕ) → list_any is_turn_entry entries ≡ false → fold sent_by handle entries ≡ handle
   quiet_entries [] handle e = refl
@@ -64,11 +64,11 @@ module _ (p : ℕ) (few : p ≤ 19) where
 
   -- where nothing is being sent, anything may be in front
   shown_none : (handle : Option ℕ) (blocks : Blocks) (entry : Entry) → handle ≡ None → Shown handle blocks entry
-  shown_none handle blocks entry e = grind (arith, nat_tests, e)
+  shown_none handle blocks entry e = grind (arith, nat_tests)
 
   front_none : (handle : Option ℕ) (blocks : Blocks) (agenda : List Item) → handle ≡ None → FrontOf handle blocks agenda
   front_none handle blocks (Item.Turn q origin stimulus ∷ items) e = tt
-  front_none handle blocks (Item.Show entry ∷ items) e = (shown_none handle blocks entry e, front_none handle blocks items e)
+  front_none handle blocks (Item.Show entry ∷ items) e = grind (arith, nat_tests, front_none handle blocks items e)
   front_none handle blocks _ e = e
 
   quiet_front : (handle : Option ℕ) (blocks : Blocks) (item : Item) (items : List Item) → is_quiet_item item ≡ true → FrontOf handle blocks (item ∷ items) → handle ≡ None
@@ -87,8 +87,8 @@ module _ (p : ℕ) (few : p ≤ 19) where
   sent_turn : (b : Bool) (m : Machine) (X : List Entry) (items : List Item) (q : ℕ) (origin : Origin) (stimulus : Stimulus) (call : Call) → (q == p) ≡ b
       → ToldOf (facing (Item.Turn q origin stimulus ∷ items) m) X
       → FrontAfter (X ++ turn_entry q origin stimulus call ∷ []) (after_call call q (with_more_work (facing items m))).scheduler.agenda
-  sent_turn false m X items q origin stimulus call e h = grind (arith, nat_tests, e, fold-append, front_none)
-  sent_turn true m X items q origin stimulus call e h = grind (arith, nat_tests, e, h.now.is_fit, due, fold-append, told, after_send)
+  sent_turn false m X items q origin stimulus call e h = grind (arith, nat_tests, fold-append, front_none)
+  sent_turn true m X items q origin stimulus call e h = grind (arith, nat_tests, fold-append, after_send)
 
   record Sending (m : Machine) (X : List Entry) : Type 0 where
     holds : ToldOf m X
@@ -100,10 +100,10 @@ module _ (p : ℕ) (few : p ≤ 19) where
     none : handle_after X ≡ None
 
   front-other : (X : List Entry) (e : Entry) (agenda : List Item) → is_turn e ≡ false → FrontAfter X agenda → FrontAfter (X ++ e ∷ []) agenda
-  front-other X e agenda n h = rw (same_handle X e n, same_told X e n) h
+  front-other X e agenda n h = grind (arith, nat_tests, same_handle, same_told)
 
   other_shown : (handle : Option ℕ) (blocks : Blocks) (e : Entry) → is_note e ≡ false → Shown handle blocks e
-  other_shown handle blocks e n = grind (arith, nat_tests, n)
+  other_shown handle blocks e n = grind (arith, nat_tests)
 
   base : Cases ToldOf ToldOf (WellTold (accepted managed_after) (KindLaw managed_kind) (HasBlocks managed_store p) p at_first)
   base = told_cases (accepted managed_after) (KindLaw managed_kind) (HasBlocks managed_store p) p (own-laws managed_store managed-keeps p few) at_first
@@ -194,7 +194,7 @@ plain-leads sends (Item.Show entry ∷ items) h = grind (arith, h, plain-leads s
 plain-leads sends (item ∷ items) h = h
 
 plain-farewells : (p : ℕ) (s : Scheduler Bool) (rest agenda : List Item) → all_plain (rest ++ agenda) ≡ true → all_plain ((farewells p s ++ rest) ++ agenda) ≡ true
-plain-farewells p s rest agenda h = grind (arith, nat_tests, told, all-mapped, append_assoc, all-append)
+plain-farewells p s rest agenda h = grind (arith, nat_tests, all-mapped, append_assoc, all-append)
 
 after_call-leads : (call : Call) (p : ℕ) (m : Machine) → all_plain m.scheduler.agenda ≡ true
     → leads (is_send call) (after_call call p m).scheduler.agenda ≡ true
@@ -220,7 +220,7 @@ Plain m X = all_plain m.scheduler.agenda ≡ true
 
 after_item-leads : (sends : Bool) (item : Item) (items : List Item) (s : Scheduler Bool) → is_quiet_item item ≡ true → leads sends (item ∷ items) ≡ true
     → all_plain (after_item item (with_agenda items s)).agenda ≡ true
-after_item-leads sends item items s n h = grind (arith, nat_tests, n, h, all-mapped, all-append, all-delivered)
+after_item-leads sends item items s n h = grind (arith, nat_tests, all-mapped, all-append, all-delivered)
 
 -- an entry that is no turn
 led-other : (X : List Entry) (e : Entry) (agenda : List Item) → is_turn e ≡ false → leads (sends_all X) agenda ≡ true → leads (sends_all (X ++ e ∷ [])) agenda ≡ true
@@ -269,14 +269,14 @@ sender-cons entry entries s =
     }
 
 quiet-cons : (sends : Bool) (entry : Entry) (entries : List Entry) → is_turn_entry entry ≡ false → Found sends entries → Found sends (entry ∷ entries)
-quiet-cons sends entry entries e is = grind (arith, nat_tests, e, sender-cons)
+quiet-cons sends entry entries e is = grind (arith, nat_tests, sender-cons)
 
 turn-cons : (pid : Pid) (origin : Origin) (stimulus : Stimulus) (call : Call) (later : List Entry) (sends : Bool)
     → Found (is_send call) later → Found sends (Entry.Turn pid origin stimulus call ∷ later)
-turn-cons pid origin stimulus call later sends (inr s) = inr (sender-cons (Entry.Turn pid origin stimulus call) later s)
+turn-cons pid origin stimulus call later sends (inr s) = grind (arith, nat_tests, sender-cons)
 turn-cons pid origin stimulus (Call.PacketSend h) later sends (inl f) =
     inr (record { earlier = []; p = pid.0; h = h; origin = origin; stimulus = stimulus; between = later; no_turn = f.1; split = refl })
-turn-cons pid origin stimulus call later sends (inl f) = absurd (grind (arith, f))
+turn-cons pid origin stimulus call later sends (inl f) = grind (arith, nat_tests)
 
 found : (entries : List Entry) (sends : Bool) → fold sends_after sends entries ≡ true → Found sends entries
 found [] sends e = inl (e, refl)

@@ -43,7 +43,7 @@ module _ (R : Machine → Machine → Type 0) (q : ℕ) (event : Event) (changes
 
   -- it may be marked to look again
   again : (old m : Machine) (test : Bool) (n : ℕ) → R old m → R old (if test then mark n m else m)
-  again old m test n h = either old test (mark n m) m (changes.chained old m (mark n m) h (changes.marked n m)) h
+  again old m test n h = grind (arith, nat_tests)
 
   first_due-changes : (m : Machine) → R m (post_first_due m)
   first_due-changes m = grind (arith, nat_tests)
@@ -76,7 +76,7 @@ module _ (R : Machine → Machine → Type 0) (q : ℕ) (event : Event) (changes
       told false e = changes.same m
 
   ctimer-changes : (m : Machine) → R m (ctimer event m)
-  ctimer-changes m = grind (arith, nat_tests, either)
+  ctimer-changes m = grind (arith, nat_tests)
 
   serial_line-changes : (m : Machine) → R m (serial_line event m)
   serial_line-changes m =
@@ -94,4 +94,4 @@ module _ (R : Machine → Machine → Type 0) (q : ℕ) (event : Event) (changes
   serve-changes m = grind (arith, nat_tests, etimer-changes, either, ctimer-changes, serial_line-changes, packet-changes)
 
 pub of_changes : {R : Machine → Machine → Type 0} {q : ℕ} {event : Event} → Changes R q event → (m : Machine) → R m (serve q event m)
-of_changes {R = R} {q = q} {event = event} changes m = serve-changes R q event changes m
+of_changes {R = R} {q = q} {event = event} changes m = grind (arith, nat_tests, serve-changes)

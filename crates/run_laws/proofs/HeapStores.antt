@@ -32,7 +32,7 @@ module _ (call : Call) (q k : ℕ) (bytes : Option (List ℕ)) (m : Memory) wher
 
   becomes_other : (new : HeapStore) → Becomes (number_of q k) bytes m.heap new → is_heap_block k ≡ true → (p : ℕ) → (q == p) ≡ false → is_kernel_process p ≡ false → (h : ℕ)
       → own_heap p (with_heap new m) h ≡ own_heap p m h
-  becomes_other new becomes low p n a h = grind (arith, nat_tests, name_apart)
+  becomes_other new becomes low p n a h = grind (arith, nat_tests)
 
   is_change : (o : Option Refusal) (result : Option HeapStore) → (o ≡ None → is_heap_block k ≡ true) → (o ≡ None → Results q k bytes m.heap result)
       → (o ≡ None → (h : ℕ) → (if h == k then bytes else own_heap q m h) ≡ heap_after call (own_heap q m) h)
@@ -52,7 +52,7 @@ heap-change (Call.HeapWrite k at chunk) q m c =
     is_change (Call.HeapWrite k at chunk) q k (option_map (overwritten at chunk.items) (block_of q k m.heap)) m (write_refusal q k at (length chunk.items) m.heap)
     (Some (with_bytes q k at chunk.items m.heap)) (λ e. grind (arith, e)) (λ e. write-results q k at chunk.items m.heap)
     (λ e h. ap (λ o. if h == k then option_map (overwritten at chunk.items) o else own_heap q m h) (named (is_heap_block k) (block_of q k m.heap) (grind (arith, e))))
-heap-change call q m c = absurd (grind (arith, c))
+heap-change call q m c = grind (arith, nat_tests)
 
 -- any other call leaves the heap
 
@@ -66,7 +66,7 @@ ask_pool-rest : (k : ℕ) (call : Call) (m : Memory) → (ask_pool_of k call m).
 ask_pool-rest k call m = grind (arith, nat_tests)
 
 ask_part-rest : (o : Option Part) (call : Call) (p : ℕ) (m : Memory) → changes_heap call ≡ false → (ask_part o call p m).0.heap ≡ m.heap
-ask_part-rest o call p m e = grind (arith, nat_tests, ask_managed-rest, ask_heap-rest, ask_pool-rest)
+ask_part-rest o call p m e = grind (arith, nat_tests)
 
 pub ask-rest : (call : Call) (p : ℕ) (m : Memory) → changes_heap call ≡ false → (ask call p m).0.heap ≡ m.heap
-ask-rest call p m e = ask_part-rest (part_called call) call p m e
+ask-rest call p m e = grind (arith, nat_tests)

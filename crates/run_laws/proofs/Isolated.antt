@@ -18,22 +18,22 @@ pub record IsAlone (bytes p : ℕ) (s : Memory) : Type 0 where
 -- p has the same blocks in a memory under a quota
 module _ (quota p : ℕ) (m s : Memory) (limit : m.managed.quota ≡ Some quota) (alone : IsAlone quota p s) (own : (h : ℕ) → own_blocks p m h ≡ own_blocks p s h) where
   same_block : (h : ℕ) → is_handle h ≡ true → block_of p h m.managed ≡ block_of p h s.managed
-  same_block h e = grind (arith, e, own h)
+  same_block h e = grind (arith, nat_tests)
 
   same_taken : taken_by p m.managed ≡ taken_by p s.managed
-  same_taken = grind (arith, nat_tests, same_blocks)
+  same_taken = grind (arith, nat_tests)
 
   same_free : free p m.managed ≡ free p s.managed
   same_free = grind (arith, nat_tests)
 
   pub same-reply : (call : Call) → is_managed_call call ≡ true → as_over_quota (ask call p s).1 ≡ (ask call p m).1
-  same-reply (Call.MmemAlloc h n) e = grind (arith, nat_tests, same_block h, same_free, limit, alone.unlimited)
-  same-reply (Call.MmemFree h) e = grind (arith, nat_tests, same_block h)
-  same-reply (Call.MmemWrite h at chunk) e = grind (arith, nat_tests, same_block h)
-  same-reply (Call.MmemRead h at len) e = grind (arith, nat_tests, same_block h)
-  same-reply (Call.MmemCopy source target) e = grind (arith, nat_tests, same_block source, same_block target)
+  same-reply (Call.MmemAlloc h n) e = grind (arith, nat_tests)
+  same-reply (Call.MmemFree h) e = grind (arith, nat_tests)
+  same-reply (Call.MmemWrite h at chunk) e = grind (arith, nat_tests)
+  same-reply (Call.MmemRead h at len) e = grind (arith, nat_tests)
+  same-reply (Call.MmemCopy source target) e = grind (arith, nat_tests)
   same-reply Call.MmemAvail e = grind (arith, same_free)
-  same-reply call e = absurd (grind (arith, e))
+  same-reply call e = grind (arith, nat_tests)
 
 -- after a call of p it is still so
 pub record StaysAlone (bytes p : ℕ) (call : Call) (s : Memory) : Type 0 where
@@ -80,7 +80,7 @@ alone-at-first bytes p =
 -- a call on managed memory is told what memory answers
 told-managed : (call : Call) (p : ℕ) (m : Machine) → is_managed_call call ≡ true
     → due (marks p (after_call call p m).scheduler.agenda) ≡ Some (ask call p m.memory).1
-told-managed call p m e = told-reply call p m (grind (arith, e))
+told-managed call p m e = grind (arith, nat_tests)
 
 -- the quota stays
 call-quota : (call : Call) (q : ℕ) (m : Machine) → (after_call call q m).memory.managed.quota ≡ m.memory.managed.quota
@@ -107,7 +107,7 @@ module _ (quota p : ℕ) where
 
   still-like : (m : Memory) (frames : List Frame) (s new : Memory) (left : List Frame) → IsLikeOwn m frames s → HasBlocks managed_store p new left (own_blocks p s)
       → new.managed.quota ≡ m.managed.quota → IsLikeOwn new left s
-  still-like m frames s new left rel has e = record { has = has; limit = e ∙ rel.limit; alone = rel.alone }
+  still-like m frames s new left rel has e = grind (arith, nat_tests)
 
   module _ (few : p ≤ 19) where
     abbrev blocks_laws : Laws (accepted managed_after) (KindLaw managed_kind) (HasBlocks managed_store p) p
@@ -172,7 +172,7 @@ module _ (quota p : ℕ) where
       → WellTold own_after AsAlone IsLikeOwn p (told own_after p t (Entry.Turn pid origin stimulus call)) later
       → RepliedAfter (told own_after p t (Entry.Turn pid origin stimulus call)) (clock + 0) later
       → RepliedAfter t clock (Entry.Turn pid origin stimulus call ∷ later)
-  replied-turn false pid origin stimulus call later clock t e h rest = grind (arith, nat_tests, e, told)
+  replied-turn false pid origin stimulus call later clock t e h rest = grind (arith, nat_tests)
   replied-turn true pid origin stimulus call later clock t e h rest =
       let s = answered own_after t.last (reply_of stimulus) t.now in
       let new : Knowledge Memory = record { now = s; last = Some call } in
@@ -185,9 +185,7 @@ module _ (quota p : ℕ) where
 
   replied : (entries : List Entry) (clock : ℕ) (t : Knowledge Memory) → WellTold own_after AsAlone IsLikeOwn p t entries → RepliedAfter t clock entries
   replied [] clock t h = refl
-  replied (Entry.Turn pid origin stimulus call ∷ later) clock t h =
-      replied-turn (pid.0 == p) pid origin stimulus call later clock t refl h.1
-      (replied later (clock + 0) (told own_after p t (Entry.Turn pid origin stimulus call)) h.1)
+  replied (Entry.Turn pid origin stimulus call ∷ later) clock t h = grind (arith, nat_tests, replied-turn, replied later (clock + 0) (told own_after p t (Entry.Turn pid origin stimulus call)) h.1)
   replied (entry ∷ later) clock t h = replied later (clock + ticks_in entry) t h.1
 
   -- at boot neither memory has a block

@@ -73,7 +73,7 @@ state_of-with_state p state (x ∷ xs) h = grind (arith, state_of-with_state p s
 
 pub state_of-with_same : (p q : ℕ) (state : State) (list : List Process) → (q == p) ≡ true → is_on_list (state_of p list) ≡ true
     → state_of p (with_state q state list) ≡ state
-state_of-with_same p q state list e h = let same : q ≡ p = grind (arith, nat_tests) in rw same (state_of-with_state p state list h)
+state_of-with_same p q state list e h = grind (arith, nat_tests, state_of-with_state)
 
 pub state_of-with_other : (p q : ℕ) (state : State) (list : List Process) → (q == p) ≡ false
     → state_of p (with_state q state list) ≡ state_of p list
@@ -111,7 +111,7 @@ pub record Kept (p : ℕ) (before : List Item) (list : List Process) (s : Schedu
 -- p's state and marks are as they were
 stays : (p : ℕ) (before : List Item) (list : List Process) (s : Scheduler Bool) → fit (idle p list) (marks p before) ≡ true
     → state_of p s.processes ≡ state_of p list → marks p s.agenda ≡ marks p before → Kept p before list s
-stays p before list s h e f = record { is_fit = rw (e, f) h; same_due = ap due f }
+stays p before list s h e f = grind (arith, nat_tests)
 
 abbrev pub is_turn_item : Item → Bool
 is_turn_item (Item.Turn p origin stimulus) = true
@@ -120,17 +120,14 @@ is_turn_item _ = false
 pub after_item-kept : (p : ℕ) (item : Item) (s : Scheduler Bool) → is_turn_item item ≡ false
     → fit (idle p s.processes) (marks p (item ∷ s.agenda)) ≡ true
     → Kept p (item ∷ s.agenda) s.processes (after_item item s)
-after_item-kept p (Item.Give q origin stimulus) s n h =
-    record { is_fit = grind (arith, nat_tests, fit-idle, due-only, state_of-with_state, state_of-with_other); same_due = grind (arith, nat_tests, fit-idle, due-only) }
+after_item-kept p (Item.Give q origin stimulus) s n h = grind (arith, nat_tests, fit-idle, due-only, state_of-with_state, state_of-with_other)
 after_item-kept p (Item.Turn q origin stimulus) s n h = absurd (grind arith)
 after_item-kept p (Item.GiveExit q) s n h =
     record { is_fit = grind (arith, nat_tests, state_of-with_same p q State.Ending s.processes, state_of-with_other p q State.Ending s.processes); same_due = grind (arith, nat_tests) }
-after_item-kept p (Item.Remove q) s n h = record { is_fit = grind (arith, nat_tests, fit-only, state_of-without, state_of-without_other); same_due = grind (arith, nat_tests, due-only) }
-after_item-kept p Item.Polls s n h =
-    record { is_fit = grind (arith, marks-polls p (numbers s.processes) s.agenda); same_due = grind (arith, marks-polls p (numbers s.processes) s.agenda) }
-after_item-kept p Item.Deliver s n h =
-    stays p (Item.Deliver ∷ s.agenda) s.processes (after_item Item.Deliver s) h refl (marks-delivery p (numbers s.processes) (first_event s) s.agenda)
-after_item-kept p item s n h = record { is_fit = grind (arith, nat_tests, state_of-with_mark); same_due = grind (arith, nat_tests) }
+after_item-kept p (Item.Remove q) s n h = grind (arith, nat_tests, fit-only, state_of-without, state_of-without_other, due-only)
+after_item-kept p Item.Polls s n h = grind (arith, nat_tests, marks-polls)
+after_item-kept p Item.Deliver s n h = grind (arith, nat_tests, stays, marks-delivery)
+after_item-kept p item s n h = grind (arith, nat_tests, state_of-with_mark)
 
 -- What a call leaves for the caller and for others.
 
@@ -141,7 +138,7 @@ marks-farewells o p s rest agenda =
 
 pub after_call-fit : (call : Call) (p : ℕ) (m : Machine) → idle p m.scheduler.processes ≡ false → only_removes (marks p m.scheduler.agenda) ≡ true
     → fit (idle p (after_call call p m).scheduler.processes) (marks p (after_call call p m).scheduler.agenda) ≡ true
-after_call-fit Call.Wait p m n h = grind (arith, nat_tests, fit-only)
+after_call-fit Call.Wait p m n h = grind (arith, nat_tests)
 after_call-fit Call.Exit p m n h = grind (arith, nat_tests, fit-only, marks-farewells)
 after_call-fit (Call.Kill q) p m n h = grind (arith, nat_tests, state_of-with_other, marks-farewells)
 after_call-fit (Call.PostSynch q code payload) p m n h = grind (arith, nat_tests)
@@ -150,10 +147,9 @@ after_call-fit call p m n h = grind (arith, nat_tests, state_of-with_mark)
 
 pub after_call-others : (call : Call) (o p : ℕ) (m : Machine) → (p == o) ≡ false → fit (idle o m.scheduler.processes) (marks o m.scheduler.agenda) ≡ true
     → Kept o m.scheduler.agenda m.scheduler.processes (after_call call p m).scheduler
-after_call-others Call.Wait o p m n h =
-    record { is_fit = grind (arith, nat_tests, state_of-with_other o p State.Running m.scheduler.processes); same_due = grind (arith, nat_tests) }
-after_call-others Call.Exit o p m n h = grind (arith, nat_tests, state_of-with_other o p State.Leaving m.scheduler.processes, marks-farewells o p m.scheduler (Item.Remove p ∷ []) m.scheduler.agenda, state_of-with_other, marks-farewells)
-after_call-others (Call.Kill q) o p m n h = grind (arith, nat_tests, fit-idle, state_of-with_same o q State.Leaving m.scheduler.processes, state_of-with_other o q State.Leaving m.scheduler.processes, marks-farewells o q m.scheduler, due-only, state_of-with_same, state_of-with_other, marks-farewells)
-after_call-others (Call.PostSynch q code payload) o p m n h = record { is_fit = grind (arith, nat_tests); same_due = grind (arith, nat_tests) }
-after_call-others (Call.Start q) o p m n h = record { is_fit = grind (arith, nat_tests); same_due = grind (arith, nat_tests) }
-after_call-others call o p m n h = record { is_fit = grind (arith, nat_tests, state_of-with_mark); same_due = grind (arith, nat_tests) }
+after_call-others Call.Wait o p m n h = grind (arith, nat_tests, state_of-with_other)
+after_call-others Call.Exit o p m n h = grind (arith, nat_tests, state_of-with_other, marks-farewells)
+after_call-others (Call.Kill q) o p m n h = grind (arith, nat_tests, fit-idle, state_of-with_same, state_of-with_other, marks-farewells, due-only)
+after_call-others (Call.PostSynch q code payload) o p m n h = grind (arith, nat_tests)
+after_call-others (Call.Start q) o p m n h = grind (arith, nat_tests)
+after_call-others call o p m n h = grind (arith, nat_tests, state_of-with_mark)

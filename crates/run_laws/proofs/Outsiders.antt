@@ -42,10 +42,10 @@ module _ (p : ℕ) (high : nat_le 4 p ≡ true) where
 
   -- the rest of the agenda
   without_item : (item : Item) (items : List Item) (s : Scheduler Bool) → IsOut (with_agenda (item ∷ items) s) → IsOut (with_agenda items s)
-  without_item item items s h = record { stranger = h.stranger; absent = h.absent; agenda = grind (arith, h.agenda) }
+  without_item item items s h = grind (arith, nat_tests)
 
   after_item-out : (item : Item) (items : List Item) (s : Scheduler Bool) → IsOut (with_agenda (item ∷ items) s) → IsOut (after_item item (with_agenda items s))
-  after_item-out item items s h = grind (arith, nat_tests, h.agenda, after_item-applications, after_item-agenda, without_item, state_of-with_other, state_of-without, state_of-without_other, state_of-with_mark)
+  after_item-out item items s h = grind (arith, nat_tests, after_item-applications, after_item-agenda, without_item, state_of-with_other, state_of-without, state_of-without_other, state_of-with_mark)
 
   -- a call
 
@@ -62,7 +62,7 @@ module _ (p : ℕ) (high : nat_le 4 p ≡ true) where
 
   -- these items in front
   in_front-out : (xs : List Item) (s : Scheduler Bool) → list_all keeps_out xs ≡ true → IsOut s → IsOut (in_front xs s)
-  in_front-out xs s k h = record { stranger = h.stranger; absent = h.absent; agenda = all-append keeps_out xs s.agenda k h.agenda }
+  in_front-out xs s k h = grind (arith, nat_tests, all-append)
 
   served-out : (q : ℕ) (event : Event) (m : Machine) → IsOut m.scheduler → IsOut (serve q event m).scheduler
   served-out q event m h = grind (arith, nat_tests, serve-untouched)
@@ -104,10 +104,10 @@ module _ (p : ℕ) (high : nat_le 4 p ≡ true) where
 
   starts-out : (n from : ℕ) → from + n ≤ p → list_all keeps_out (map (λ q. Item.Start q) (range_with_len from n)) ≡ true
   starts-out zero from h = refl
-  starts-out (suc n) from h = grind (arith, nat_tests, h, starts-out n (from + 1) (omega (arith, h)))
+  starts-out (suc n) from h = grind (arith, nat_tests, starts-out n (from + 1) (omega (arith, h)))
 
   boot-out : (c : Config) → is_application c.apps p ≡ false → IsOut (at_start c).machine.scheduler
-  boot-out c out = grind (arith, nat_tests, out, starts-out)
+  boot-out c out = grind (arith, nat_tests, starts-out)
 
   run-out : (c : Config) (says : Applications) (inputs : List Input) (after : Running) → Runs says (at_start c) inputs after
       → is_application c.apps p ≡ false → AtEach IsOthers after.entries

@@ -12,7 +12,7 @@ asks : (call : Call) (p : ℕ) (m : Machine) → is_memory_call call ≡ true �
 asks call p m e = grind (arith, nat_tests)
 
 pub told-reply : (call : Call) (p : ℕ) (m : Machine) → is_memory_call call ≡ true → due (marks p (after_call call p m).scheduler.agenda) ≡ Some (ask call p m.memory).1
-told-reply call p m e = grind (arith, nat_tests, due, asks)
+told-reply call p m e = grind (arith, nat_tests)
 
 pub one_reply : (o : Option Reply) (a b : Reply) → o ≡ Some a → o ≡ Some b → a ≡ b
 one_reply o a b e f = cc
@@ -35,14 +35,14 @@ pub record IsSound (m : Memory) (frames : List Frame) : Type 0 where
 
 front_low : (frames : List Frame) (slot : ℕ) → are_slots frames ≡ true → option_map (λ (frame : Frame). frame.slot) (slice_get frames 0) ≡ Some slot → nat_le slot 15 ≡ true
 front_low [] slot h e = absurd (cc)
-front_low (frame ∷ frames) slot h e = let same : frame.slot ≡ slot = cc in grind (arith, h, same)
+front_low (frame ∷ frames) slot h e = grind (arith, nat_tests)
 
 fewer_slots : (frames : List Frame) → are_slots frames ≡ true → are_slots (drop 1 frames) ≡ true
-fewer_slots frames h = grind (arith, nat_tests, h)
+fewer_slots frames h = grind (arith, nat_tests)
 
 more_slots : (frames : List Frame) (slot len : ℕ) → slot ≤ 15 → are_slots frames ≡ true → are_slots (frames ++ record { slot = slot; len = len } ∷ []) ≡ true
 more_slots [] slot len low h = grind (arith, nat_tests)
-more_slots (frame ∷ frames) slot len low h = grind (arith, nat_tests, h, more_slots frames slot len low)
+more_slots (frame ∷ frames) slot len low h = grind (arith, nat_tests, more_slots frames slot len low)
 
 call-sound : (call : Call) (q : ℕ) (m : Machine) → IsSound m.memory m.packets.frames → IsSound (after_call call q m).memory (after_call call q m).packets.frames
 call-sound call q m h =
@@ -91,7 +91,7 @@ module _ (store : Store) (keeps : Keeps store) (p : ℕ) (few : p ≤ 19) where
       → due (marks p (after_call call p m).scheduler.agenda) ≡ reply
       → store.blocks p (after_call call p m).memory ≡ answered (accepted store.change) (Some call) reply (store.blocks p m.memory)
   own-after call m true reply e k sound d = grind (arith, nat_tests, told-reply, asks)
-  own-after call m false reply e k sound d = left-after call p m (rw e refl) k sound ∙ sym (plain-answer call reply (store.blocks p m.memory) e)
+  own-after call m false reply e k sound d = grind (arith, nat_tests, left-after, sound, plain-answer)
 
   call-has : (call : Call) (m : Machine) (blocks : Blocks) (reply : Option Reply) → HasBlocks store p m.memory m.packets.frames blocks
       → due (marks p (after_call call p m).scheduler.agenda) ≡ reply

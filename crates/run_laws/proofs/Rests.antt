@@ -74,41 +74,40 @@ one_less work unit h n = grind (arith, nat_tests, suc-mul (10000 - (work + 1)) u
 module _ (bound : ℕ) where
   limit-falls : (left : ℕ) (m : Machine) (step : StepMade) → m.work ≤ 10000 → ((m.work == 10000) ≡ false → Falls bound left m step.0)
       → Falls bound left m (within_limit m step).0
-  limit-falls left m step w h = grind (arith, nat_tests, measure)
+  limit-falls left m step w h = grind (arith, nat_tests)
 
   call-falls : (old : ℕ) (call : Call) (p : ℕ) (m : Machine) → m.work ≤ 10000 → (m.work == 10000) ≡ false → length m.scheduler.processes ≤ bound
       → costs bound m.scheduler.agenda + 1 ≤ old
       → Falls bound ((10000 - m.work) * suc (round_cost bound) + old) m (after_call call p (with_more_work m))
   unfolding measure
-  call-falls old call p m w n few paid = grind (arith, nat_tests, paid, call-work, call-starts, call-costs, one_less, measure)
+  call-falls old call p m w n few paid = grind (arith, nat_tests, call-work, call-starts, call-costs, one_less, measure)
 
   round-falls : (old : ℕ) (m : Machine) → m.work ≤ 10000 → (m.work == 10000) ≡ false → costs bound m.scheduler.agenda ≤ round_cost bound
       → Falls bound ((10000 - m.work) * suc (round_cost bound) + old) m (with_more_work m)
   unfolding measure
-  round-falls old m w n paid = grind (arith, nat_tests, paid, one_less, measure)
+  round-falls old m w n paid = grind (arith, nat_tests, one_less, measure)
 
   -- the machine is the same but for less on its agenda
   quiet-falls : (old : ℕ) (m new : Machine) → m.work ≤ 10000 → new.work ≡ m.work → present new.scheduler ≤ present m.scheduler
       → costs bound new.scheduler.agenda + 1 ≤ old → Falls bound ((10000 - m.work) * suc (round_cost bound) + old) m new
   unfolding measure
-  quiet-falls old m new w same few less = grind (arith, nat_tests, few, less, measure)
+  quiet-falls old m new w same few less = grind (arith, nat_tests)
 
   -- a job that was worth so much, and is done
   job-falls : (answers : Answers) (next : Option (Job Bool)) (m : Machine) (old : ℕ) → length m.scheduler.processes ≤ bound → m.work ≤ 10000 → is_rest next ≡ false
       → IsPaid bound next old (costs bound m.scheduler.agenda)
       → Falls bound ((10000 - m.work) * suc (round_cost bound) + old) m (job_done answers next m).0
-  job-falls answers (Some (Job.TakeTurn p origin stimulus)) m old h w r paid =
-      limit-falls _ m (turn_taken p origin stimulus (answers p stimulus) m) w (λ n. call-falls old (answers p stimulus) p m w n h paid)
-  job-falls answers (Some (Job.Serve p event)) m old h w r paid = grind (arith, nat_tests, serve-untouched, paid, quiet-falls)
-  job-falls answers (Some (Job.CallBack p c true)) m old h w r paid = quiet-falls old m m w refl (omega arith) (omega arith)
+  job-falls answers (Some (Job.TakeTurn p origin stimulus)) m old h w r paid = grind (arith, nat_tests, limit-falls, call-falls)
+  job-falls answers (Some (Job.Serve p event)) m old h w r paid = grind (arith, nat_tests, serve-untouched, quiet-falls)
+  job-falls answers (Some (Job.CallBack p c true)) m old h w r paid = grind (arith, nat_tests, quiet-falls)
   job-falls answers (Some (Job.CallBack p c false)) m old h w r paid =
       let given : Machine = scheduled (in_front (Item.Give p Origin.Callback (Stimulus.Callback c) ∷ [])) m in
       let less : costs bound given.scheduler.agenda + 1 ≤ old = rw (costs-cons bound) (omega arith) in
       quiet-falls old m given w refl (omega arith) less
-  job-falls answers (Some (Job.ShowEntry entry)) m old h w r paid = quiet-falls old m m w refl (omega arith) paid
+  job-falls answers (Some (Job.ShowEntry entry)) m old h w r paid = grind (arith, nat_tests, quiet-falls)
   job-falls answers (Some Job.Round) m old h w r paid = limit-falls _ m (silent (with_more_work m)) w (λ n. round-falls old m w n paid)
   job-falls answers (Some Job.Rest) m old h w r paid = absurd (cc)
-  job-falls answers None m old h w r paid = quiet-falls old m m w refl (omega arith) paid
+  job-falls answers None m old h w r paid = grind (arith, nat_tests, quiet-falls)
 
   step-falls : (answers : Answers) (m : Machine) → m.work ≤ 10000 → reserve m ≤ bound → is_still m ≡ false → Falls bound (measure bound m) m (one_step answers m).0
   unfolding measure
@@ -135,14 +134,14 @@ module _ (bound : ℕ) where
 -- the run
 
 rests_here : (says : Applications) (r : Running) → is_still r.machine ≡ true → (new : Running) × ComesToRest says r new
-rests_here says r still = (r, (0, refl, still))
+rests_here says r still = grind (arith, nat_tests)
 
 rests_later : (says : Applications) (r : Running) → (new : Running) × ComesToRest says (after_step says r) new → (new : Running) × ComesToRest says r new
 rests_later says r (new, (n, goes, still)) = (new, (suc n, goes, still))
 
 rests_within : (says : Applications) (bound fuel : ℕ) (r : Running) → r.machine.work ≤ 10000 → reserve r.machine ≤ bound → measure bound r.machine + 1 ≤ fuel
     → (new : Running) × ComesToRest says r new
-rests_within says bound zero r w few h = absurd (omega (arith, h))
+rests_within says bound zero r w few h = grind (arith, nat_tests)
 rests_within says bound (suc fuel) r w few h = go (is_still r.machine) refl (λ work few less. rests_within says bound fuel (after_step says r) work few less)
   where
     later : Running
@@ -191,4 +190,4 @@ runs_on says (input ∷ inputs) r w = joined (rests says r w) (λ rested. runs_o
         (next.0, (rested, rests, next.1, next.2))
 
 pub run_of : (config : Config) (says : Applications) (inputs : List Input) → (after : Running) × Runs says (at_start config) inputs after
-run_of config says inputs = runs_on says inputs (at_start config) (omega arith)
+run_of config says inputs = grind (arith, nat_tests, runs_on)

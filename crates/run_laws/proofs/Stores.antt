@@ -20,7 +20,7 @@ put_other q k p h block m n a low = grind (arith, nat_tests, get_or-set_other, n
 -- 272 names have places
 pub put_own : (p k h : ℕ) (block : Option (List ℕ)) (m : Memory) → p ≤ 19 → is_kernel_process p ≡ false → length m.managed.blocks ≡ 272 → is_handle k ≡ true
     → own_blocks p (with_managed (with_block p k block m.managed) m) h ≡ (if h == k then block else own_blocks p m h)
-put_own p k h block m few a size low = grind (arith, nat_tests, low, get_or-set_same, get_or-set_other)
+put_own p k h block m few a size low = grind (arith, nat_tests, get_or-set_same, get_or-set_other)
 
 put_total : (p k : ℕ) (block : Option (List ℕ)) (m : Memory) → p ≤ 19 → is_kernel_process p ≡ false → length m.managed.blocks ≡ 272 → is_handle k ≡ true
     → sum_by size_of (with_block p k block m.managed).blocks + taken_by p m.managed ≡ sum_by size_of m.managed.blocks + taken_by p (with_block p k block m.managed)
@@ -46,11 +46,11 @@ ask_heap-rest : (call : Call) (p : ℕ) (m : Memory) → (ask_heap call p m).0.m
 ask_heap-rest call p m = grind (arith, nat_tests)
 
 ask_part-rest : (o : Option Part) (call : Call) (p : ℕ) (m : Memory) → changes_managed call ≡ false → (ask_part o call p m).0.managed ≡ m.managed
-ask_part-rest o call p m e = grind (arith, nat_tests, ask_managed-rest, ask_heap-rest, ask_pool-rest)
+ask_part-rest o call p m e = grind (arith, nat_tests)
 
 -- any other call leaves managed memory
 pub ask-rest : (call : Call) (p : ℕ) (m : Memory) → changes_managed call ≡ false → (ask call p m).0.managed ≡ m.managed
-ask-rest call p m e = ask_part-rest (part_called call) call p m e
+ask-rest call p m e = grind (arith, nat_tests)
 
 -- managed memory itself stays, whatever its blocks are
 pub record HasShape (old new : Memory) : Type 0 where
@@ -109,7 +109,7 @@ managed-change (Call.MmemCopy source target) q m c =
         ap (λ o. if h == target then o else own_blocks q m h)
         (live_block (is_handle target) (block_of q target m.managed) (overwritten 0 (bytes_of q source m.managed)) (grind (arith, e)) live
         ∙ live_source (is_handle source) (block_of q source m.managed) (own_blocks q m target) from_named from_live)
-managed-change call q m c = absurd (grind (arith, c))
+managed-change call q m c = grind (arith, nat_tests)
 
 -- every call on memory keeps its shape
 pub ask-shape : (call : Call) (q : ℕ) (m : Memory) → HasShape m (ask call q m).0

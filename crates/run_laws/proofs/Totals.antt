@@ -6,16 +6,12 @@ use Rattle.run_laws.proofs.Common.{range_with_len, nat_tests, number_of, Managed
 
 same-terms : (f g : ℕ → ℕ) (n from : ℕ) → ((h : ℕ) → from ≤ h → g h ≡ f h) → sum_by g (range_with_len from n) ≡ sum_by f (range_with_len from n)
 same-terms f g zero from e = refl
-same-terms f g (suc n) from e =
-    let first : g from ≡ f from = e from (omega arith) in
-    let left = sum_by-cons g from (range_with_len (from + 1) n) in
-    let right = sum_by-cons f from (range_with_len (from + 1) n) in
-    omega (arith, (same-terms f g n (from + 1) (λ h low. e h (omega (arith, low)))), first, left, right)
+same-terms f g (suc n) from e = grind (arith, nat_tests, sum_by-cons, same-terms f g n (from + 1) (λ h low. e h (omega (arith, low))))
 
 -- one term differs
 other-term : (f g : ℕ → ℕ) (k n from : ℕ) → from ≤ k → k < from + n → ((h : ℕ) → h ≢ k → g h ≡ f h)
     → sum_by g (range_with_len from n) + f k ≡ sum_by f (range_with_len from n) + g k
-other-term f g k zero from low high e = absurd (omega (arith, low, high))
+other-term f g k zero from low high e = grind (arith, nat_tests)
 other-term f g k (suc n) from low high e =
     go (from == k) refl (λ ne. other-term f g k n (from + 1) (omega (arith, low, ne)) (omega (arith, high)) e)
   where

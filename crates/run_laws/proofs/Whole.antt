@@ -59,7 +59,7 @@ module _ {S : Type 0} (next : Call → Reply → S → S) (Law : S → Call → 
   -- the same marks, state and memory
   pub same-now : (t : Knowledge S) (old new : Machine) → Now t old → fit (idle p new.scheduler.processes) (marks p new.scheduler.agenda) ≡ true
       → due (marks p new.scheduler.agenda) ≡ due (marks p old.scheduler.agenda) → new.memory ≡ old.memory → new.packets.frames ≡ old.packets.frames → Now t new
-  same-now t old new h f d e g = record { is_fit = f; law = rw d h.law; rel = rw (d, e, g) h.rel }
+  same-now t old new h f d e g = grind (arith, nat_tests)
 
   -- an item that is no turn
   pub carried-now : (item : Item) (items : List Item) (t : Knowledge S) (m : Machine) → is_turn_item item ≡ false → Now t (facing (item ∷ items) m) → Now t (carried item items m)
@@ -68,7 +68,7 @@ module _ {S : Type 0} (next : Call → Reply → S → S) (Law : S → Call → 
       same-now t (facing (item ∷ items) m) (carried item items m) h kept.is_fit kept.same_due refl refl
 
   pub called_back-now : (q c : ℕ) (t : Knowledge S) (m : Machine) → Now t m → Now t (scheduled (in_front (Item.Give q Origin.Callback (Stimulus.Callback c) ∷ [])) m)
-  called_back-now q c t m h = grind (arith, nat_tests, h.is_fit, same-now)
+  called_back-now q c t m h = grind (arith, nat_tests)
 
   -- what a turn tells, and leaves
   pub record Turned (t : Knowledge S) (entry : Entry) (m : Machine) : Type 0 where
@@ -82,7 +82,7 @@ module _ {S : Type 0} (next : Call → Reply → S → S) (Law : S → Call → 
         → due (marks p (after_call call p m).scheduler.agenda) ≡ reply
         → LawAt Law (Some call) s reply × Rel (after_call call p m).memory (after_call call p m).packets.frames (answered next (Some call) reply s)
     after-self call m s (Some reply) k n h rel e = laws.self call m s reply k rel h e
-    after-self call m s None k n h rel e = (tt, laws.silent call m s k rel e)
+    after-self call m s None k n h rel e = grind (arith, nat_tests)
 
     turn-self : (call : Call) (origin : Origin) (stimulus : Stimulus) (items : List Item) (t : Knowledge S) (m : Machine)
         → Now t (facing (Item.Turn p origin stimulus ∷ items) m)
@@ -135,7 +135,7 @@ found test (n ∷ ns) slot h e = grind (arith, nat_tests, found test ns slot (gr
 
 slot_low : (packets : PacketQueue) (slot : ℕ) → free_slot packets ≡ Some slot → slot ≤ 15
 unfolding free_slot
-slot_low packets slot e = found (λ slot. not (is_held packets slot)) (0 ∷ 1 ∷ 2 ∷ 3 ∷ 4 ∷ 5 ∷ 6 ∷ 7 ∷ []) slot refl e
+slot_low packets slot e = grind (arith, nat_tests)
 
 module _ {S : Type 0} (next : Call → Reply → S → S) (Law : S → Call → Reply → Type 0) (Rel : Memory → List Frame → S → Type 0) (p : ℕ) where
   abbrev pub WellTold : Knowledge S → List Entry → Type 0
@@ -157,13 +157,13 @@ module _ {S : Type 0} (next : Call → Reply → S → S) (Law : S → Call → 
 
   -- an entry that is no turn tells it nothing
   told-other : (start : Knowledge S) (X : List Entry) (e : Entry) → is_turn e ≡ false → told_all next p start (X ++ e ∷ []) ≡ told_all next p start X
-  told-other start X e n = fold-append (told next p) start X (e ∷ []) ∙ grind (arith, n)
+  told-other start X e n = grind (arith, nat_tests, fold-append)
 
   well-more : (start : Knowledge S) (X : List Entry) (e : Entry) → WellTold start X → Fine Law p (told_all next p start X) e → WellTold start (X ++ e ∷ [])
-  well-more start X e h k = well-append start X (e ∷ []) h (k, tt)
+  well-more start X e h k = grind (arith, nat_tests, well-append)
 
   well-other : (start : Knowledge S) (X : List Entry) (e : Entry) → is_turn e ≡ false → WellTold start X → WellTold start (X ++ e ∷ [])
-  well-other start X e n h = grind (arith, nat_tests, n, well-more)
+  well-other start X e n h = grind (arith, nat_tests, well-more)
 
   not_turn : (item : Item) → is_quiet_item item ≡ true → is_turn_item item ≡ false
   not_turn item n = grind (arith, n)
@@ -243,7 +243,7 @@ module _ {S : Type 0} (next : Call → Reply → S → S) (Law : S → Call → 
   pub law-of : (later : List Entry) (t : Knowledge S) (call : Call) (reply : Reply) → t.last ≡ Some call → reply_in p later ≡ Some reply → WellTold t later
       → Law t.now call reply
   law-of [] t call reply e r h = absurd (grind arith)
-  law-of (Entry.Turn pid origin stimulus other ∷ later) t call reply e r h = grind (arith, nat_tests, r, told, (law-of later t call reply e))
+  law-of (Entry.Turn pid origin stimulus other ∷ later) t call reply e r h = grind (arith, nat_tests, law-of later t call reply e)
   law-of (entry ∷ later) t call reply e r h = law-of later t call reply e r h.1
 
   pub call-law : (start : Knowledge S) (X before : List Entry) (origin : Origin) (stimulus : Stimulus) (call : Call) (reply : Reply)

@@ -24,7 +24,7 @@ pub call-front : (P : List Item → Bool) (call : Call) (q : ℕ) (m : Machine) 
     → ((r : ℕ) (items : List Item) → P items ≡ true → P (Item.Start r ∷ items) ≡ true)
     → ((note : Note) (items : List Item) → P items ≡ true → P (Item.Show (Entry.Note note) ∷ items) ≡ true)
     → P (after_call call q m).scheduler.agenda ≡ true
-call-front P call q m h turn give start show = grind (arith, turn, give, start, show)
+call-front P call q m h turn give start show = grind (arith, nat_tests)
 
 -- what is said to those that stay
 pub farewells-plain : (stimulus : Stimulus) (ns : List ℕ) → list_all is_plain (map (λ n. Item.Give n Origin.Synch stimulus) ns) ≡ true
@@ -43,7 +43,7 @@ no_answer p q stimulus = grind arith
 
 farewells-waits : (p : ℕ) (stimulus : Stimulus) (ns : List ℕ) → waits p (map (λ n. Item.Give n Origin.Synch stimulus) ns) ≡ []
 farewells-waits p stimulus [] = refl
-farewells-waits p stimulus (n ∷ ns) = rw (no_synch p n stimulus) (farewells-waits p stimulus ns)
+farewells-waits p stimulus (n ∷ ns) = grind (arith, nat_tests, farewells-waits p stimulus ns)
 
 abbrev pub told_all : ℕ → Scheduler Bool → List Item
 told_all q s = map (λ n. Item.Give n Origin.Synch (of_event (number_event EXITED q))) (numbers (without q s.processes))
@@ -67,7 +67,7 @@ after-ordered (Call.Kill r) q m h = go (kill_refusal m.scheduler r)
         let f : list_all is_plain (told_all r m.scheduler) ≡ true = farewells-plain (of_event (number_event EXITED r)) (numbers (without r m.scheduler.processes)) in
         let xs : List Item = Item.GiveExit r ∷ Item.Remove r ∷ Item.Turn q Origin.Answer (Stimulus.Answer Reply.Done) ∷ [] in
         rw (append_assoc (told_all r m.scheduler) xs m.scheduler.agenda) (ordered-append (told_all r m.scheduler) (xs ++ m.scheduler.agenda) f h)
-after-ordered call q m h = grind (arith, nat_tests, call-front)
+after-ordered call q m h = grind (arith, nat_tests)
 
 -- the events
 
@@ -94,7 +94,7 @@ after-waits p (Call.Kill r) q m = go (kill_refusal m.scheduler r)
           farewells-waits p (of_event (number_event EXITED r)) (numbers (without r m.scheduler.processes)),
           no_answer p q (Stimulus.Answer Reply.Done),
         ) refl
-after-waits p call q m = grind (arith, no_answer, no_synch)
+after-waits p call q m = grind (arith, nat_tests)
 
 after-queued_other : (p : ℕ) (call : Call) (q : ℕ) (m : Machine) → is_posting call ≡ false
     → queued p (after_call call q m).scheduler.events ≡ queued p m.scheduler.events
@@ -183,7 +183,7 @@ pub after-stands : (p : ℕ) (call : Call) (q : ℕ) (origin : Origin) (stimulus
     → ends_in p (Entry.Turn (record { 0 = q }) origin stimulus call) ≡ false
     → holds p (seats p m.scheduler.processes) (Item.Turn q origin stimulus ∷ m.scheduler.agenda) ≡ true
     → stands p (after_call call q m).scheduler ≡ true
-after-stands p Call.Wait q origin stimulus m n h = grind (arith, nat_tests, state_of-seats q m.scheduler.processes, n, state_of-seats, turn_other-holds, flip, seats-with_state)
+after-stands p Call.Wait q origin stimulus m n h = grind (arith, nat_tests, state_of-seats, turn_other-holds, flip, seats-with_state)
 after-stands p Call.Exit q origin stimulus m n h = go (is_ending (state_in m.scheduler q))
   where
     go : (b : Bool) → stands p (if b then m.scheduler else in_front (farewells q m.scheduler ++ Item.Remove q ∷ []) (put_in_state q State.Leaving m.scheduler)) ≡ true

@@ -17,10 +17,10 @@ record StepKind (m : Machine) (step : StepMade) : Type 0 where
   inputs : list_any is_input (option_to_list step.1) ≡ false
 
 limit_kind : (m after : Machine) (step : StepMade) → m.is_halted ≡ false → StepKind m step → StepKind m (within_limit after step)
-limit_kind m after step live h = grind (arith, nat_tests, live)
+limit_kind m after step live h = grind (arith, nat_tests)
 
 silent_kind : (m after : Machine) → m.is_halted ≡ false → after.is_halted ≡ false → StepKind m (silent after)
-silent_kind m after live still = record { halts = grind (arith, live, still); inputs = refl }
+silent_kind m after live still = grind (arith, nat_tests)
 
 -- where only notes are shown
 abbrev pub ShowsNotes : Machine → Type 0
@@ -28,19 +28,18 @@ ShowsNotes m = (entry : Entry) → job m.scheduler ≡ Some (Job.ShowEntry entry
 
 job_kind : (answers : Answers) (next : Option (Job Bool)) (m after : Machine) → m.is_halted ≡ false → after.is_halted ≡ false
     → ((entry : Entry) → next ≡ Some (Job.ShowEntry entry) → is_note entry ≡ true) → StepKind m (job_done answers next after)
-job_kind answers None m after live still note = silent_kind m after live still
-job_kind answers (Some Job.Rest) m after live still note = silent_kind m after live still
-job_kind answers (Some Job.Round) m after live still note = limit_kind m after _ live (silent_kind m (record after { work = after.work + 1 }) live still)
+job_kind answers None m after live still note = grind (arith, nat_tests)
+job_kind answers (Some Job.Rest) m after live still note = grind (arith, nat_tests)
+job_kind answers (Some Job.Round) m after live still note = grind (arith, nat_tests)
 job_kind answers (Some (Job.ShowEntry entry)) m after live still note = shown entry (note entry refl)
   where
     shown : (entry : Entry) → is_note entry ≡ true → StepKind m (after, Some entry)
     shown (Entry.Note n) k = record { halts = grind (arith, live, still); inputs = refl }
     shown _ k = absurd (grind (arith, k))
-job_kind answers (Some (Job.CallBack q c false)) m after live still note = silent_kind m _ live still
-job_kind answers (Some (Job.CallBack q c true)) m after live still note = silent_kind m after live still
-job_kind answers (Some (Job.Serve q event)) m after live still note =
-    silent_kind m (serve q event after) live ((serve-untouched q event after).halted ∙ still)
-job_kind answers (Some (Job.TakeTurn q origin stimulus)) m after live still note = grind (arith, nat_tests, limit_kind)
+job_kind answers (Some (Job.CallBack q c false)) m after live still note = grind (arith, nat_tests)
+job_kind answers (Some (Job.CallBack q c true)) m after live still note = grind (arith, nat_tests)
+job_kind answers (Some (Job.Serve q event)) m after live still note = grind (arith, nat_tests, silent_kind, serve-untouched)
+job_kind answers (Some (Job.TakeTurn q origin stimulus)) m after live still note = grind (arith, nat_tests)
 
 step_kind : (answers : Answers) (m : Machine) → m.is_halted ≡ false → ShowsNotes m → StepKind m (one_step answers m)
 step_kind answers m live notes = go m.is_halted live
@@ -70,24 +69,24 @@ not_nil (x ∷ xs) a ys e = cc
 last_split : {A : Type 0} (X before later : List A) (e : A) → before ++ later ≡ X ++ e ∷ []
     → (before ≡ X ++ e ∷ []) ⊎ ((rest : List A) × (before ++ rest ≡ X))
 last_split X [] later e h = inr (X, refl)
-last_split [] (b ∷ []) later e h = inl (ap (λ x. x ∷ []) (heads h))
-last_split [] (b ∷ c ∷ cs) later e h = absurd (not_nil [] c (cs ++ later) (tails h))
-last_split {A = A} (x ∷ xs) (b ∷ bs) later e h = grind (arith, nat_tests, tails, heads, (last_split xs bs later e (tails h)))
+last_split [] (b ∷ []) later e h = grind (arith, nat_tests)
+last_split [] (b ∷ c ∷ cs) later e h = grind (arith, nat_tests)
+last_split {A = A} (x ∷ xs) (b ∷ bs) later e h = grind (arith, nat_tests, last_split xs bs later e (tails h))
 
 mid_split : {A : Type 0} (X before later : List A) (a e : A) → before ++ a ∷ later ≡ X ++ e ∷ []
     → ((before ≡ X) × (a ≡ e)) ⊎ ((rest : List A) × (before ++ a ∷ rest ≡ X))
-mid_split [] [] later a e h = inl (refl, heads h)
-mid_split (x ∷ xs) [] later a e h = inr (xs, ap (λ y. y ∷ xs) (heads h))
-mid_split [] (b ∷ bs) later a e h = absurd (not_nil bs a later (tails h))
-mid_split {A = A} (x ∷ xs) (b ∷ bs) later a e h = grind (arith, nat_tests, tails, heads, (mid_split xs bs later a e (tails h)))
+mid_split [] [] later a e h = grind (arith, nat_tests)
+mid_split (x ∷ xs) [] later a e h = grind (arith, nat_tests)
+mid_split [] (b ∷ bs) later a e h = grind (arith, nat_tests, not_nil, tails)
+mid_split {A = A} (x ∷ xs) (b ∷ bs) later a e h = grind (arith, nat_tests, mid_split xs bs later a e (tails h))
 
 prefixes-more : (P : List Entry → Type 0) (X : List Entry) (o : Option Entry) → Prefixes P X → P (X ++ option_to_list o) → Prefixes P (X ++ option_to_list o)
-prefixes-more P X None all new = λ before later e. all before later (e ∙ append-nil X)
+prefixes-more P X None all new = grind (arith, nat_tests, append-nil)
 prefixes-more P X (Some entry) all new = grind (arith, nat_tests, last_split)
 
 inputs-more : (Q : List Entry → Type 0) (X : List Entry) (o : Option Entry) → BeforeInputs Q X → list_any is_input (option_to_list o) ≡ false → BeforeInputs Q (X ++ option_to_list o)
-inputs-more Q X None all n = λ before later input e. all before later input (e ∙ append-nil X)
-inputs-more Q X (Some entry) all n = grind (arith, nat_tests, n, mid_split)
+inputs-more Q X None all n = grind (arith, nat_tests, append-nil)
+inputs-more Q X (Some entry) all n = grind (arith, nat_tests, mid_split)
 
 inputs-fed : (Q : List Entry → Type 0) (X : List Entry) (fed : Input) → BeforeInputs Q X → Q X → BeforeInputs Q (X ++ Entry.Input fed ∷ [])
 inputs-fed Q X fed all here = grind (arith, nat_tests, mid_split)
@@ -97,7 +96,7 @@ abbrev pub AtEach : (List Entry → Entry → Type 0) → List Entry → Type 0
 AtEach R X = (before later : List Entry) (e : Entry) → before ++ e ∷ later ≡ X → R before e
 
 pub each-none : (R : List Entry → Entry → Type 0) → AtEach R []
-each-none R = λ before later e h. absurd (not_nil before e later h)
+each-none R = grind (arith, nat_tests, not_nil)
 
 pub each-more : (R : List Entry → Entry → Type 0) (X : List Entry) (e : Entry) → AtEach R X → R X e → AtEach R (X ++ e ∷ [])
 each-more R X e all new = grind (arith, nat_tests, mid_split)
@@ -147,7 +146,7 @@ module _ (I : Machine → List Entry → Type 0) (P Q : List Entry → Type 0) (
   -- a halted machine stays as it is
   halted-step : (says : Applications) (r : Running) → Good I P Q r → (b : Bool) → b ≡ true
       → Good I P Q (gone_on r.entries (if b then silent r.machine else job_done (answers_after says r.entries) (job r.machine.scheduler) (scheduled after_front r.machine)))
-  halted-step says r g true e = subst (λ (X : List Entry). Good I P Q (record { machine = r.machine; entries = X })) (sym (append-nil r.entries)) g
+  halted-step says r g true e = grind (arith, nat_tests, append-nil)
   halted-step says r g false e = absurd (cc)
 
   good-step : (says : Applications) (r : Running) → Good I P Q r → Good I P Q (after_step says r)
@@ -166,7 +165,7 @@ abbrev after_fed : Running → Input → Running
 after_fed r input = record { machine = effect input (record r.machine { work = 0 }); entries = r.entries ++ Entry.Input input ∷ [] }
 
 fed_first : (says : Applications) (r : Running) (input : Input) → r.machine.is_halted ≡ false → after_step says (with_input input r) ≡ after_fed r input
-fed_first says r input live = grind (arith, nat_tests, effect-live)
+fed_first says r input live = grind (arith, nat_tests)
 
 -- the run
 
@@ -192,7 +191,7 @@ module _ (I : Machine → List Entry → Type 0) (P Q : List Entry → Type 0) (
   good-leads says r g new (n, goes, still) = subst (λ (x : Running). Good I P Q x) goes (good-steps I P Q law says n r g)
 
   rested-holds : (r : Running) → Good I P Q r → is_still r.machine ≡ true → r.machine.is_halted ≡ false → Q r.entries
-  rested-holds r g still live = rest r.machine r.entries (grind (arith, still, live)) (g.holds live)
+  rested-holds r g still live = grind (arith, nat_tests)
 
   fed-leads : (says : Applications) (r : Running) (input : Input) → Good I P Q r → is_still r.machine ≡ true → r.machine.is_halted ≡ false → Leads says (with_input input r)
   fed-leads says r input g still live new (zero, goes, quiet) = grind (arith, nat_tests)
@@ -207,7 +206,7 @@ module _ (I : Machine → List Entry → Type 0) (P Q : List Entry → Type 0) (
 
   on-input : (says : Applications) (input : Input) (rested new : Running) → Ended rested → (rested.machine.is_halted ≡ true → new ≡ rested)
       → (Leads says (with_input input rested) → rested.machine.is_halted ≡ false → Ended new) → (b : Bool) → rested.machine.is_halted ≡ b → Ended new
-  on-input says input rested new h stop go true e = subst (λ (x : Running). Ended x) (sym (stop e)) h
+  on-input says input rested new h stop go true e = grind (arith, nat_tests)
   on-input says input rested new h stop go false e = go (fed-leads says rested input h.good h.still e) e
 
   run-ended : (says : Applications) (inputs : List Input) (old new : Running) → Runs says old inputs new → Leads says old → Ended new

@@ -53,14 +53,14 @@ module _ (I J : Machine → List Entry → Type 0) (P : List Entry → Type 0) (
   silent_kept X m i h = grind (arith, nat_tests, append-nil)
 
   free_kept : (X : List Entry) (m : Machine) → P X → J m X → Kept I P X (silent m)
-  free_kept X m i h = silent_kept X m i (cases.free m X h)
+  free_kept X m i h = grind (arith, nat_tests, silent_kept)
 
   limit_kept : (X : List Entry) (m : Machine) (step : StepMade) → P X → Kept I P X step → Kept I P X (within_limit m step)
   limit_kept X m step i h = grind (arith, nat_tests)
 
   quiet_kept : (X : List Entry) (item : Item) (items : List Item) (m : Machine) → is_quiet_item item ≡ true → is_served item ≡ false → P X
       → I (facing (item ∷ items) m) X → Kept I P X (silent (carried item items m))
-  quiet_kept X item items m n s i h = free_kept X (carried item items m) i (cases.carried m X item items n s h)
+  quiet_kept X item items m n s i h = grind (arith, nat_tests, free_kept)
 
   give_kept : (X : List Entry) (answers : Answers) (q : ℕ) (origin : Origin) (stimulus : Stimulus) (items : List Item) (m : Machine) → P X
       → I (facing (Item.Give q origin stimulus ∷ items) m) X
@@ -80,7 +80,7 @@ module _ (I J : Machine → List Entry → Type 0) (P : List Entry → Type 0) (
   deliver_kept X answers event m i h = grind (arith, nat_tests, free_kept)
 
   at_agenda : (X : List Entry) (agenda : List Item) (m : Machine) → m.scheduler.agenda ≡ agenda → I m X → I (facing agenda m) X
-  at_agenda X agenda m e h = subst (λ a. I (facing a m) X) e h
+  at_agenda X agenda m e h = grind (arith, nat_tests)
 
   round_kept : (X : List Entry) (answers : Answers) (m : Machine) (b : Bool) → m.scheduler.agenda ≡ [] → P X → I m X
       → Kept I P X (job_done answers (Some (if b then Job.Round else Job.Rest)) (record m { scheduler = if b then in_front (Item.Polls ∷ Item.Deliver ∷ []) m.scheduler else m.scheduler }))
@@ -108,9 +108,9 @@ module _ (I J : Machine → List Entry → Type 0) (P : List Entry → Type 0) (
 
   shows_notes : (X : List Entry) (agenda : List Item) (m : Machine) → m.scheduler.agenda ≡ agenda → I m X → (entry : Entry)
       → job_at agenda m.scheduler ≡ Some (Job.ShowEntry entry) → is_note entry ≡ true
-  shows_notes X [] m e h entry f = absurd (grind (arith, f))
+  shows_notes X [] m e h entry f = grind (arith, nat_tests)
   shows_notes X (Item.Show shown ∷ items) m e h entry f = grind (arith, nat_tests, at_agenda X (Item.Show shown ∷ items) m e h)
-  shows_notes X (item ∷ items) m e h entry f = absurd (grind (arith, f))
+  shows_notes X (item ∷ items) m e h entry f = grind (arith, nat_tests)
 
   cases_law : Law I P
   cases_law =
@@ -122,4 +122,4 @@ module _ (I J : Machine → List Entry → Type 0) (P : List Entry → Type 0) (
       }
 
 pub law_of : (I J : Machine → List Entry → Type 0) (P : List Entry → Type 0) → Cases I J P → Law I P
-law_of I J P cases = cases_law I J P cases
+law_of I J P cases = grind (arith, nat_tests, cases_law)

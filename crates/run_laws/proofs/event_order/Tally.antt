@@ -32,11 +32,11 @@ pub reply_or-none : (p : ℕ) (later : List Entry) → reply_or None (heard p la
 reply_or-none p later = grind (arith, nat_tests)
 
 accepted_or-none : (p : ℕ) (entry : Entry) (later : List Entry) → accepted_or nothing_known p entry later ≡ accepted_event p entry later
-accepted_or-none p entry later = grind (arith, nat_tests, reply_or-none)
+accepted_or-none p entry later = grind (arith, nat_tests)
 
 pub accepted_with-none : (p : ℕ) (X : List Entry) → accepted_with nothing_known p X ≡ accepted_events p X
 accepted_with-none p [] = refl
-accepted_with-none p (entry ∷ later) = rw (accepted_or-none p entry later, accepted_with-none p later)
+accepted_with-none p (entry ∷ later) = grind (arith, nat_tests, accepted_with-none p later)
 
 -- one more turn
 pub heard-turn : (r : ℕ) (X : List Entry) (pid : Pid) (origin : Origin) (stimulus : Stimulus) (call : Call)
@@ -83,9 +83,9 @@ accepted_or-other known p _ X e h = refl
 
 pub accepted-other : (known : Known) (p : ℕ) (X : List Entry) (e : Entry) → is_turn e ≡ false
     → accepted_with known p (X ++ e ∷ []) ≡ accepted_with known p X
-accepted-other known p [] (Entry.Turn pid origin stimulus call) h = absurd (grind (arith, h))
+accepted-other known p [] (Entry.Turn pid origin stimulus call) h = grind (arith, nat_tests)
 accepted-other known p [] _ h = refl
-accepted-other known p (entry ∷ X) e h = rw (accepted_or-other known p entry X e h, accepted-other known p X e h)
+accepted-other known p (entry ∷ X) e h = grind (arith, nat_tests, accepted_or-other, accepted-other known p X e h)
 
 -- what was given, and whether p has ended
 abbrev pub given_in : ℕ → Entry → List Event
@@ -108,11 +108,11 @@ given_one p k e later turns = grind (arith, nat_tests)
 
 given-from : (p k : ℕ) (X : List Entry) (e : Entry)
     → filter_map given_turn (own_from p k (X ++ e ∷ [])) ≡ filter_map given_turn (own_from p k X) ++ given_in p e
-given-from p k [] e = given_one p k e [] [] ∙ append-nil (given_in p e)
-given-from p k (entry ∷ X) e = grind (arith, nat_tests, given_one, given-from p (k + ticks_in entry) X e)
+given-from p k [] e = grind (arith, nat_tests)
+given-from p k (entry ∷ X) e = grind (arith, nat_tests, given-from p (k + ticks_in entry) X e)
 
 pub given-more : (p : ℕ) (X : List Entry) (e : Entry) → given_events (X ++ e ∷ []) p ≡ given_events X p ++ given_in p e
-given-more p X e = given-from p 0 X e
+given-more p X e = grind (arith, nat_tests, given-from)
 
 ends_one : (p k : ℕ) (e : Entry) (later : List Entry) (turns : List OwnTurn)
     → list_any ends_turn (cons_option (own_turn p k e later) turns) ≡ (ends_in p e || list_any ends_turn turns)
@@ -128,11 +128,11 @@ or-false false = refl
 
 ended-from : (p k : ℕ) (X : List Entry) (e : Entry)
     → list_any ends_turn (own_from p k (X ++ e ∷ [])) ≡ (list_any ends_turn (own_from p k X) || ends_in p e)
-ended-from p k [] e = ends_one p k e [] [] ∙ or-false (ends_in p e)
+ended-from p k [] e = grind (arith, nat_tests)
 ended-from p k (entry ∷ X) e = grind (arith, nat_tests, ends_one, or-assoc, ended-from p (k + ticks_in entry) X e)
 
 pub ended-more : (p : ℕ) (X : List Entry) (e : Entry) → has_ended p (X ++ e ∷ []) ≡ (has_ended p X || ends_in p e)
-ended-more p X e = ended-from p 0 X e
+ended-more p X e = grind (arith, nat_tests, ended-from)
 
 -- In which order items lie on the agenda, and what it holds of one process.
 -- the order
@@ -264,7 +264,7 @@ placed-more p l item items h = grind (arith, nat_tests)
 
 pub placed-append : (p : ℕ) (l : List State) (xs items : List Item) → is_placed p l items ≡ true → is_placed p l (xs ++ items) ≡ true
 placed-append p l [] items h = h
-placed-append p l (x ∷ xs) items h = placed-more p l x (xs ++ items) (placed-append p l xs items h)
+placed-append p l (x ∷ xs) items h = grind (arith, nat_tests, placed-append p l xs items h)
 
 pub covered-append : (p : ℕ) (xs items : List Item) → list_all (λ item. not (is_remove p item)) xs ≡ true → is_covered p items ≡ true → is_covered p (xs ++ items) ≡ true
 covered-append p [] items n h = h

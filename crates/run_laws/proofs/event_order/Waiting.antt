@@ -7,11 +7,11 @@ use Rattle.run_laws.proofs.Changes.{Changes, of_changes, is_notice}
 
 pub waits-append : (p : ℕ) (xs ys : List Item) → waits p (xs ++ ys) ≡ waits p xs ++ waits p ys
 waits-append p [] ys = refl
-waits-append p (x ∷ xs) ys = rw (waits-append p xs ys) (sym (append_assoc (waiting_in p x) (waits p xs) (waits p ys)))
+waits-append p (x ∷ xs) ys = grind (arith, nat_tests, waits-append p xs ys)
 
 pub queued-append : (p : ℕ) (xs ys : List (Queued Bool)) → queued p (xs ++ ys) ≡ queued p xs ++ queued p ys
 queued-append p [] ys = refl
-queued-append p (x ∷ xs) ys = rw (queued-append p xs ys) (sym (append_assoc (queued_in p x) (queued p xs) (queued p ys)))
+queued-append p (x ∷ xs) ys = grind (arith, nat_tests, queued-append p xs ys)
 
 -- nothing below a Give of origin event concerns p's place
 walk-free : (p : ℕ) (items : List Item) → list_all is_walk items ≡ true
@@ -44,7 +44,7 @@ one-seat p l event h = grind (arith, nat_tests)
 delivered : (p : ℕ) (s : Scheduler Bool) (events : List (Queued Bool)) → holds p (seats p s.processes) (Item.Deliver ∷ []) ≡ true
     → waits p (delivery (numbers s.processes) (slice_get events 0)) ++ queued p (drop 1 events) ≡ queued p events
 delivered p s [] h = refl
-delivered p s (Queued.To q event ∷ events) h = ap (λ l. l ++ queued p events) (append-nil (queued_in p (Queued.To q event)))
+delivered p s (Queued.To q event ∷ events) h = grind (arith, nat_tests)
 delivered p s (Queued.ToAll event ∷ events) h =
     ap (λ l. l ++ queued p events) (waits-broadcast p event s.processes ∙ one-seat p (seats p s.processes) event h)
 delivered p s (Queued.Expiry q c x ∷ events) h = refl
@@ -61,18 +61,18 @@ no_exit p q stimulus = grind arith
 pub carried-waiting : (p : ℕ) (item : Item) (items : List Item) (s : Scheduler Bool) → is_silent item ≡ true → nat_le 4 p ≡ true
     → is_ordered (item ∷ items) ≡ true → stands p (with_agenda (item ∷ items) s) ≡ true
     → all_waiting p (after_item item (with_agenda items s)) ≡ all_waiting p (with_agenda (item ∷ items) s)
-carried-waiting p (Item.Start q) items s n a o h = grind (arith, nat_tests, no_synch)
+carried-waiting p (Item.Start q) items s n a o h = grind (arith, nat_tests)
 carried-waiting p (Item.Give q origin stimulus) items s n a o h = grind (arith, nat_tests, given-running)
-carried-waiting p (Item.GiveExit q) items s n a o h = rw (no_exit p q (of_event (plain_event EXIT))) refl
+carried-waiting p (Item.GiveExit q) items s n a o h = grind (arith, nat_tests)
 carried-waiting p Item.Polls items s n a o h = go (is_any_marked s.processes)
   where
     go : (b : Bool) → all_waiting p (if b then in_front (map (λ n. Item.PollOne n) (numbers s.processes)) (with_agenda items s) else with_agenda items s) ≡ all_waiting p (with_agenda items s)
     go true = rw (waits-append p (map (λ n. Item.PollOne n) (numbers s.processes)) items, waits-polls p (numbers s.processes)) refl
     go false = refl
 carried-waiting p (Item.PollOne q) items s n a o h = grind (arith, nat_tests)
-carried-waiting p Item.Deliver [] s n a o h = rw (append-nil (delivery (numbers s.processes) (first_event s))) (delivered p s s.events h)
-carried-waiting p Item.Deliver (item ∷ items) s n a o h = absurd (grind (arith, o))
-carried-waiting p (Item.Turn q origin stimulus) items s n a o h = absurd (grind (arith, n))
+carried-waiting p Item.Deliver [] s n a o h = grind (arith, nat_tests, append-nil, delivered)
+carried-waiting p Item.Deliver (item ∷ items) s n a o h = grind (arith, nat_tests)
+carried-waiting p (Item.Turn q origin stimulus) items s n a o h = grind (arith, nat_tests)
 carried-waiting p _ items s n a o h = refl
 
 -- The kernel's own processes leave every process's place and the events for applications as they are.
@@ -93,7 +93,7 @@ expiry-silent : (p : ℕ) (timer : Timer) → queued_in p (expiry_of timer) ≡ 
 expiry-silent p timer = grind (arith, nat_tests)
 
 notice-silent : (p : ℕ) (notice : Queued Bool) → nat_le 4 p ≡ true → is_notice notice ≡ true → queued_in p notice ≡ []
-notice-silent p notice h n = grind (arith, nat_tests, h, n)
+notice-silent p notice h n = grind (arith, nat_tests)
 
 pub serve-served : (p : ℕ) → nat_le 4 p ≡ true → (q : ℕ) (event : Event) (m : Machine) → Served p m (serve q event m)
 serve-served p a q event = of_changes changes

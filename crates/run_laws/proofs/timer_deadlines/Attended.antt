@@ -24,7 +24,7 @@ abbrev pub standing_of : ℕ → ℕ → Option Reply → List Entry → Standin
 standing_of p t k X = fold (standing_after t) fresh_standing (turns_or k p 0 X)
 
 pub standing-none : (X : List Entry) (p t : ℕ) → standing X p t ≡ standing_of p t None X
-standing-none X p t = rw (turns-none p 0 X) refl
+standing-none X p t = grind (arith, nat_tests, turns-none)
 
 pub standing-turn : (p t clock : ℕ) (k : Option Reply) (X : List Entry) (q : ℕ) (origin : Origin) (stimulus : Stimulus) (call : Call) → clock ≡ clock_after X
     → standing_of p t k (X ++ turn_entry q origin stimulus call ∷ [])
@@ -32,7 +32,7 @@ pub standing-turn : (p t clock : ℕ) (k : Option Reply) (X : List Entry) (q : �
 standing-turn p t clock k X q origin stimulus call e = grind (arith, nat_tests, turns-turn, fold-append)
 
 pub standing-other : (p t : ℕ) (k : Option Reply) (X : List Entry) (e : Entry) → is_turn e ≡ false → standing_of p t k (X ++ e ∷ []) ≡ standing_of p t k X
-standing-other p t k X e n = rw (turns-other k p 0 X e n) refl
+standing-other p t k X e n = grind (arith, nat_tests, turns-other)
 
 -- the ledger and the standing have one cell
 pub record Agree (ledger : Ledger) (st : Standing) : Type 0 where
@@ -58,7 +58,7 @@ pub record HeededFree (p t : ℕ) (m : Machine) (X : List Entry) : Type 0 where
   pub kept : has_ended p X ≡ false → is_doomed p m.scheduler.agenda ≡ false → (k : Option Reply) → Awaits p t m.timers (is_expected p t m.scheduler) (standing_of p t k X)
 
 pub heeded-free : (p t : ℕ) (m : Machine) (X : List Entry) → HeededFree p t m X → Heeded p t m X
-heeded-free p t m X h = record { farewell = h.farewell; kept = λ alive spared k front. h.kept alive spared k }
+heeded-free p t m X h = grind (arith, nat_tests)
 
 still_expected : (a w v g : Bool) → (w ≡ true → v ≡ true) → (a || (w || g)) ≡ true → (a || (v || g)) ≡ true
 still_expected a w v g more h = grind (arith, nat_tests)
@@ -164,7 +164,7 @@ Anything X = Unit {0}
 
 module _ (p t : ℕ) (low : nat_le 4 p ≡ true) (high : nat_lt p 20 ≡ true) where
   timely : Cases (Timely p t) (Free p t) (IsTimely p t)
-  timely = timely_cases p t low high
+  timely = grind (arith, nat_tests, timely_cases)
 
   sound : Cases (SoundOf p) (SoundFreeOf p) (IsInOrder p)
   sound = sound_cases p low
@@ -253,7 +253,7 @@ module _ (p t : ℕ) (low : nat_le 4 p ≡ true) (high : nat_lt p 20 ≡ true) w
 -- a timer on the list whose deadline came is one that is due
 due_listed : (p t clock : ℕ) (timers : Timers) (xs : List Timer) → is_due clock timers (own_timer p t) ≡ true → list_any (is_timer (own_timer p t)) xs ≡ true
     → list_any (is_due clock timers) xs ≡ true
-due_listed p t clock timers [] d h = absurd (grind (arith, h))
+due_listed p t clock timers [] d h = grind (arith, nat_tests)
 due_listed p t clock timers (x ∷ xs) d h = go (is_timer (own_timer p t) x) refl h (λ k. due_listed p t clock timers xs d k)
   where
     go : (b : Bool) → is_timer (own_timer p t) x ≡ b → (b || list_any (is_timer (own_timer p t)) xs) ≡ true
@@ -266,7 +266,7 @@ IsGivenAtRest p t X =
     has_ended p X ≡ false → (standing X p t).is_armed ≡ true → deadline (standing X p t).cell ≤ clock_after X → (standing X p t).was_given ≡ true
 
 rest-given : (p t : ℕ) (m : Machine) (X : List Entry) → is_at_rest m ≡ true → Attended p t m X → IsGivenAtRest p t X
-rest-given p t m X rest h = grind (arith, nat_tests, rest, standing-none, nothing_on, nothing_queued, rest-not_due, due_listed, agree-fold)
+rest-given p t m X rest h = grind (arith, nat_tests, standing-none, nothing_on, nothing_queued, rest-not_due, due_listed, agree-fold)
 
 -- boot
 

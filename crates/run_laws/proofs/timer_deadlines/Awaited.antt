@@ -44,7 +44,7 @@ abbrev pub Held : ℕ → ℕ → Bool → Machine → Type 0
 Held p t g m = (is_armed (event_timer p t) m.timers || (is_expected p t m.scheduler || g)) ≡ true
 
 posted-held : (p t : ℕ) (g : Bool) (event : Queued Bool) (m : Machine) → Held p t g m → Held p t g (with_event event m)
-posted-held p t g event m h = grind (arith, nat_tests, h, list_any-append (queues p t) m.scheduler.events (event ∷ []))
+posted-held p t g event m h = grind (arith, nat_tests, list_any-append)
 
 expired-held : (p t : ℕ) (g : Bool) (timer : Timer) (m : Machine) → Held p t g m → Held p t g (post_expiry (Some timer) m)
 expired-held p t g timer m h = grind (arith, nat_tests, that_timer, list_any-append, stopped-other, symm, posted-held)
@@ -55,13 +55,13 @@ kept-filter test keep (x ∷ xs) k = grind (arith, nat_tests, kept-filter test k
 
 filter-held : (p t : ℕ) (g : Bool) (keep : Timer → Bool) (m : Machine) → ((x : Timer) → is_timer (event_timer p t) x ≡ true → keep x ≡ true) → Held p t g m
     → Held p t g (record m { timers = record m.timers { armed = filter keep m.timers.armed } })
-filter-held p t g keep m k h = rw (kept-filter (is_timer (event_timer p t)) keep m.timers.armed k) h
+filter-held p t g keep m k h = grind (arith, nat_tests, kept-filter)
 
 spares-others : (p t n : ℕ) (x : Timer) → (n == p) ≡ false → is_timer (event_timer p t) x ≡ true → not (is_event_timer_of n x) ≡ true
-spares-others p t n x e h = grind (arith, nat_tests, e, h)
+spares-others p t n x e h = grind (arith, nat_tests)
 
 spares-events : (p t n : ℕ) (x : Timer) → is_timer (event_timer p t) x ≡ true → not (is_callback_timer_of n x) ≡ true
-spares-events p t n x h = grind (arith, nat_tests, h)
+spares-events p t n x h = grind (arith, nat_tests)
 
 pub queues-cancelled : (p t : ℕ) (test : ℕ → ℕ → Bool) (events : List (Queued Bool)) → list_any (queues p t) (map (cancelled_if test) events) ≡ list_any (queues p t) events
 queues-cancelled p t test [] = refl
@@ -71,7 +71,7 @@ pub cancelled-held : (p t : ℕ) (g : Bool) (test : ℕ → ℕ → Bool) (m : M
 cancelled-held p t g test m h = rw (queues-cancelled p t test m.scheduler.events) h
 
 exited-other : (p n : ℕ) (payload : Payload) → exited_application payload ≡ Some n → is_number p payload ≡ false → (n == p) ≡ false
-exited-other p n payload e f = grind (arith, nat_tests, e, f)
+exited-other p n payload e f = grind (arith, nat_tests)
 
 -- an event that is no farewell to p
 pub serve-held : (p t : ℕ) (g : Bool) (q : ℕ) (origin : Origin) (event : Event) (m : Machine) → is_farewell p (Item.Give q origin (of_event event)) ≡ false

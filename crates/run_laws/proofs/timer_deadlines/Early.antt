@@ -31,7 +31,7 @@ pub record Free (p t : ℕ) (m : Machine) (X : List Entry) : Type 0 where
   pub balanced : (k : Option Reply) → Balances p t m X k
 
 pub timely-free : (p t : ℕ) (m : Machine) (X : List Entry) → Free p t m X → Timely p t m X
-timely-free p t m X h = record { steady = h.steady; balanced = λ k front. h.balanced k }
+timely-free p t m X h = grind (arith, nat_tests)
 
 abbrev pub IsTimely : ℕ → ℕ → List Entry → Type 0
 IsTimely p t X = (timer_ledger p t None X).given ≤ ripe_at (clock_after X) (timer_ledger p t None X)
@@ -44,20 +44,20 @@ pub ledger-turn : (p t clock : ℕ) (k : Option Reply) (X : List Entry) (q : ℕ
 ledger-turn p t clock k X q origin stimulus call e = grind (arith, nat_tests, turns-turn, fold-append)
 
 pub ledger-other : (p t : ℕ) (k : Option Reply) (X : List Entry) (e : Entry) → is_turn e ≡ false → timer_ledger p t k (X ++ e ∷ []) ≡ timer_ledger p t k X
-ledger-other p t k X e n = rw (turns-other k p 0 X e n) refl
+ledger-other p t k X e n = grind (arith, nat_tests, turns-other)
 
 -- what is ripe stays ripe
 pub ripe-later : (n clock : ℕ) (ledger : Ledger) → ripe_at clock ledger ≤ ripe_at (clock + n) ledger
 ripe-later n clock ledger = grind (arith, nat_tests)
 
 pub timely-other : (p t : ℕ) (X : List Entry) (e : Entry) → is_turn e ≡ false → IsTimely p t X → IsTimely p t (X ++ e ∷ [])
-timely-other p t X e n h = grind (arith, nat_tests, h, ledger-other, clock-more, ripe-later)
+timely-other p t X e n h = grind (arith, nat_tests, ledger-other, clock-more, ripe-later)
 
 pub less-balanced : (p t clock v w : ℕ) (timers : Timers) (ledger : Ledger) → v ≤ w → Balanced p t timers clock w ledger → Balanced p t timers clock v ledger
-less-balanced p t clock v w timers ledger less b = record { cell = b.cell; named = b.named; set = b.set; count = omega (arith, less, b.count) }
+less-balanced p t clock v w timers ledger less b = grind (arith, nat_tests)
 
 pub later-balanced : (p t n w clock : ℕ) (timers : Timers) (ledger : Ledger) → Balanced p t timers clock w ledger → Balanced p t timers (clock + n) w ledger
-later-balanced p t n w clock timers ledger b = grind (arith, nat_tests, ripe-later n clock ledger, ripe-later)
+later-balanced p t n w clock timers ledger b = grind (arith, nat_tests)
 
 -- a turn
 
@@ -95,13 +95,13 @@ module _ (p t : ℕ) (low : nat_le 4 p ≡ true) (high : nat_lt p 20 ≡ true) w
 
   pub turn_early : (X : List Entry) (m : Machine) (items : List Item) (q : ℕ) (origin : Origin) (stimulus : Stimulus) (call : Call)
       → Timely p t (facing (Item.Turn q origin stimulus ∷ items) m) X → IsTimely p t (X ++ Entry.Turn (record { 0 = q }) origin stimulus call ∷ [])
-  turn_early X m items q origin stimulus call h = grind (arith, nat_tests, clock-more, facing, ledger-turn, turn-balanced, still_moves, turn_before)
+  turn_early X m items q origin stimulus call h = grind (arith, nat_tests, clock-more, ledger-turn, turn-balanced, still_moves, turn_before)
 
 -- No TIMER event comes early or twice.
 
 -- an item that is neither a turn nor shown: no reply is in front
 pub no_reply_front : (p : ℕ) (k : Option Reply) (item : Item) (items : List Item) → is_quiet_item item ≡ true → FrontIs p k (item ∷ items)
-no_reply_front p k item items n = grind (arith, nat_tests, n)
+no_reply_front p k item items n = grind (arith, nat_tests)
 
 free-carried : (p t : ℕ) (X : List Entry) (item : Item) (items : List Item) (m : Machine) → is_quiet_item item ≡ true
     → Timely p t (facing (item ∷ items) m) X → Free p t (carried item items m) X
@@ -126,7 +126,7 @@ effect-timers : (input : Input) (m : Machine) → (effect input m).timers ≡ m.
 effect-timers input m = grind (arith, nat_tests)
 
 effect-wait : (p t : ℕ) (input : Input) (m : Machine) → in_wait p t (effect input m) ≤ in_wait p t m
-effect-wait p t input m = effect-keeps (λ s. in_wait p t (record m { scheduler = s }) ≤ in_wait p t m) input m (omega arith) (λ q. omega arith) (λ refusal. omega arith)
+effect-wait p t input m = grind (arith, nat_tests)
 
 effect_timely : (p t : ℕ) (input : Input) (m : Machine) (X : List Entry) → Timely p t m X → Timely p t (effect input (record m { work = 0 })) (X ++ Entry.Input input ∷ [])
 effect_timely p t input m X h =
@@ -190,7 +190,7 @@ starts-count p t [] = refl
 starts-count p t (n ∷ ns) = omega (arith, starts-count p t ns)
 
 pub boot_steady : (c : Config) → Steady (at_start c).machine []
-boot_steady c = record { clock = refl; names = zero-names all_timers; plain = refl; regular = all-mapped is_regular (λ n. Item.Start n) (range_with_len 4 c.apps) (λ n. refl) }
+boot_steady c = grind (arith, nat_tests, zero-names, all-mapped)
 
 pub boot_timely : (p t : ℕ) (c : Config) → nat_le 4 p ≡ true → nat_lt p 20 ≡ true → Timely p t (at_start c).machine []
 boot_timely p t c low high =
@@ -207,7 +207,7 @@ boot_timely p t c low high =
 
 -- p is one of the 16 that have timers
 pub has_timers : (c : Config) (p : ℕ) → is_bootable c ≡ true → is_application c.apps p ≡ true → nat_lt p 20 ≡ true
-has_timers c p b a = grind (arith, nat_tests, b, a)
+has_timers c p b a = grind (arith, nat_tests)
 
 -- no TIMER event comes early or twice
 pub no_early_timer : (c : Config) (says : Applications) (inputs : List Input) (after : Running) → Runs says (at_start c) inputs after

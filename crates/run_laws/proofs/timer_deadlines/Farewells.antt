@@ -51,7 +51,7 @@ expiry-clean : (timer : Timer) → is_no_exited (expiry_of timer) ≡ true
 expiry-clean timer = grind (arith, nat_tests)
 
 notice-clean : (notice : Queued Bool) → is_notice notice ≡ true → is_no_exited notice ≡ true
-notice-clean notice n = grind (arith, nat_tests, n)
+notice-clean notice n = grind (arith, nat_tests)
 
 pub serve-events : (q : ℕ) (event : Event) (m : Machine) → Clean m → Clean (serve q event m)
 serve-events q event = of_changes changes
@@ -72,20 +72,20 @@ serve-events q event = of_changes changes
 -- an item
 
 no_farewell-given : (p q : ℕ) (origin : Origin) (event : Event) → (event.code == EXITED) ≡ false → is_farewell p (Item.Give q origin (of_event event)) ≡ false
-no_farewell-given p q origin event h = grind (arith, nat_tests, h)
+no_farewell-given p q origin event h = grind (arith, nat_tests)
 
 no_farewell-broadcast : (p : ℕ) (ns : List ℕ) (event : Event) → (event.code == EXITED) ≡ false → has_farewell p (delivery ns (to_all event)) ≡ false
 no_farewell-broadcast p [] event h = refl
-no_farewell-broadcast p (n ∷ ns) event h = grind (arith, no_farewell-given p n Origin.Event event h, no_farewell-broadcast p ns event h)
+no_farewell-broadcast p (n ∷ ns) event h = grind (arith, nat_tests, no_farewell-broadcast p ns event h)
 
 no_farewell-delivery : (p : ℕ) (ns : List ℕ) (events : List (Queued Bool)) → list_all is_no_exited events ≡ true → has_farewell p (delivery ns (slice_get events 0)) ≡ false
-no_farewell-delivery p ns (Queued.To q event ∷ events) h = grind (arith, no_farewell-given p q Origin.Event event (grind (arith, h)))
+no_farewell-delivery p ns (Queued.To q event ∷ events) h = grind (arith, nat_tests)
 no_farewell-delivery p ns (Queued.ToAll event ∷ events) h = no_farewell-broadcast p ns event (grind (arith, h))
 no_farewell-delivery p ns _ h = refl
 
 -- where p isn't doomed after, it wasn't before
 spared-before : (a b : Bool) → (a ≡ true → b ≡ true) → b ≡ false → a ≡ false
-spared-before true b h n = absurd (grind (arith, h refl, n))
+spared-before true b h n = grind (arith, nat_tests)
 spared-before false b h n = refl
 
 pub carried-doomed : (p : ℕ) (item : Item) (items : List Item) (s : Scheduler Bool) → is_quiet_item item ≡ true
@@ -94,18 +94,17 @@ carried-doomed p item items s n h = grind (arith, nat_tests, spared-before, carr
 
 pub carried-farewell : (p : ℕ) (item : Item) (items : List Item) (s : Scheduler Bool) → list_all is_no_exited s.events ≡ true
     → has_farewell p (item ∷ items) ≡ false → has_farewell p (after_item item (with_agenda items s)).agenda ≡ false
-carried-farewell p Item.Polls items s n h =
-    grind (arith, h, list_any-append (is_farewell p) (map (λ n. Item.PollOne n) (numbers s.processes)) items, none-mapped (is_farewell p) (λ n. Item.PollOne n) (numbers s.processes) (λ n. refl))
+carried-farewell p Item.Polls items s n h = grind (arith, nat_tests, list_any-append, none-mapped)
 carried-farewell p Item.Deliver items s n h =
     rw (list_any-append (is_farewell p) (delivery (numbers s.processes) (first_event s)) items, no_farewell-delivery p (numbers s.processes) s.events n) h
-carried-farewell p (Item.PollOne q) items s n h = grind (arith, h, no_farewell-given p q Origin.Poll (plain_event POLL) refl)
+carried-farewell p (Item.PollOne q) items s n h = grind (arith, nat_tests)
 carried-farewell p item items s n h = grind (arith, h)
 
 -- a turn
 
 no_farewell-others : (p r : ℕ) (ns : List ℕ) → (r == p) ≡ false → has_farewell p (map (λ n. Item.Give n Origin.Synch (of_event (number_event EXITED r))) ns) ≡ false
 no_farewell-others p r [] h = refl
-no_farewell-others p r (n ∷ ns) h = grind (arith, nat_tests, h, no_farewell-others p r ns h)
+no_farewell-others p r (n ∷ ns) h = grind (arith, nat_tests, no_farewell-others p r ns h)
 
 pub after-doomed : (p : ℕ) (call : Call) (q : ℕ) (m : Machine) → is_doomed p (after_call call q m).scheduler.agenda ≡ false → is_doomed p m.scheduler.agenda ≡ false
 after-doomed p call q m h = spared-before (is_doomed p m.scheduler.agenda) (is_doomed p (after_call call q m).scheduler.agenda) (after-any (dooms p) call q m) h
@@ -113,6 +112,6 @@ after-doomed p call q m h = spared-before (is_doomed p m.scheduler.agenda) (is_d
 -- only who ends, or is doomed, is said farewell
 pub after-farewell : (p : ℕ) (call : Call) (q : ℕ) (origin : Origin) (stimulus : Stimulus) (m : Machine) → ends_in p (turn_entry q origin stimulus call) ≡ false
     → is_doomed p (after_call call q m).scheduler.agenda ≡ false → has_farewell p m.scheduler.agenda ≡ false → has_farewell p (after_call call q m).scheduler.agenda ≡ false
-after-farewell p Call.Exit q origin stimulus m n d h = grind (arith, nat_tests, n, append_assoc, list_any-append, no_farewell-others)
+after-farewell p Call.Exit q origin stimulus m n d h = grind (arith, nat_tests, append_assoc, list_any-append, no_farewell-others)
 after-farewell p (Call.Kill r) q origin stimulus m n d h = grind (arith, nat_tests, append_assoc, list_any-append, no_farewell-others)
 after-farewell p call q origin stimulus m n d h = grind (arith, h)

@@ -5,7 +5,7 @@ use Rattle.run_laws.proofs.event_order.Items.{with_agenda}
 use Rattle.run_laws.proofs.event_order.After.{call-front}
 
 pub all-append : {A : Type 0} (test : A → Bool) (xs ys : List A) → list_all test xs ≡ true → list_all test ys ≡ true → list_all test (xs ++ ys) ≡ true
-all-append test xs ys h k = rw (list_all-append test xs ys, h) k
+all-append test xs ys h k = grind (arith, nat_tests, list_all-append)
 
 pub all-mapped : (test : Item → Bool) (f : ℕ → Item) (ns : List ℕ) → ((n : ℕ) → test (f n) ≡ true) → list_all test (map f ns) ≡ true
 all-mapped test f [] h = refl
@@ -18,19 +18,19 @@ none-mapped test f (n ∷ ns) h = rw (h n) (none-mapped test f ns h)
 -- what stands for a delivery
 pub all-delivered : (test : Item → Bool) (ns : List ℕ) (event : Option (Queued Bool)) → test Item.Polls ≡ true → ((n : ℕ) (stimulus : Stimulus) → test (Item.Give n Origin.Event stimulus) ≡ true)
     → list_all test (delivery ns event) ≡ true
-all-delivered test ns (Some (Queued.To q event)) p g = rw (g q (of_event event)) refl
-all-delivered test (n ∷ ns) (Some (Queued.ToAll event)) p g = rw (p, g n (of_event event)) (all-delivered test ns (Some (Queued.ToAll event)) p g)
+all-delivered test ns (Some (Queued.To q event)) p g = grind (arith, nat_tests)
+all-delivered test (n ∷ ns) (Some (Queued.ToAll event)) p g = grind (arith, nat_tests, all-delivered test ns (Some (Queued.ToAll event)) p g)
 all-delivered test ns _ p g = refl
 
 -- what waits in the queue
 
 pub all-more : (keep : Queued Bool → Bool) (xs : List (Queued Bool)) (event : Queued Bool) → keep event ≡ true → list_all keep xs ≡ true → list_all keep (xs ++ event ∷ []) ≡ true
-all-more keep xs event n h = all-append keep xs (event ∷ []) h (rw n refl)
+all-more keep xs event n h = grind (arith, nat_tests, all-append)
 
 pub all-cancelled : (keep : Queued Bool → Bool) (test : ℕ → ℕ → Bool) → ((event : Queued Bool) → keep (cancelled_if test event) ≡ keep event) → (events : List (Queued Bool))
     → list_all keep (map (cancelled_if test) events) ≡ list_all keep events
 all-cancelled keep test same [] = refl
-all-cancelled keep test same (event ∷ events) = rw (same event, all-cancelled keep test same events) refl
+all-cancelled keep test same (event ∷ events) = grind (arith, nat_tests, all-cancelled keep test same events)
 
 pub carried-queue : (keep : Queued Bool → Bool) (item : Item) (items : List Item) (s : Scheduler Bool) → list_all keep s.events ≡ true
     → list_all keep (after_item item (with_agenda items s)).events ≡ true
@@ -48,7 +48,7 @@ pub after-any : (test : Item → Bool) (call : Call) (q : ℕ) (m : Machine) →
     → list_any test (after_call call q m).scheduler.agenda ≡ true
 after-any test Call.Exit q m h = grind (arith, nat_tests, list_any-append)
 after-any test (Call.Kill r) q m h = grind (arith, nat_tests, list_any-append)
-after-any test call q m h = grind (arith, nat_tests, call-front)
+after-any test call q m h = grind (arith, nat_tests)
 
 -- the items that a call puts in front
 pub record Passes (test : Item → Bool) (q : ℕ) (s : Scheduler Bool) : Type 0 where

@@ -20,11 +20,11 @@ abbrev pub clock_from : ℕ → List Entry → ℕ
 clock_from clock entries = fold (λ clock entry. clock + ticks_in entry) clock entries
 
 turn-none : (p clock : ℕ) (entry : Entry) (later : List Entry) → own_turn_or None p clock entry later ≡ own_turn p clock entry later
-turn-none p clock entry later = grind (arith, nat_tests, reply_or-none)
+turn-none p clock entry later = grind (arith, nat_tests)
 
 pub turns-none : (p clock : ℕ) (X : List Entry) → turns_or None p clock X ≡ own_from p clock X
 turns-none p clock [] = refl
-turns-none p clock (entry ∷ later) = rw (turn-none p clock entry later, turns-none p (clock + ticks_in entry) later)
+turns-none p clock (entry ∷ later) = grind (arith, nat_tests, turns-none p (clock + ticks_in entry) later)
 
 abbrev pub told_reply : ℕ → ℕ → Stimulus → Option Reply → Option Reply
 told_reply p q stimulus k = if q == p then reply_of stimulus else k
@@ -54,9 +54,9 @@ turn-other k p clock (Entry.Turn other o s c) X e h = rw (heard-other p X e h)
 turn-other k p clock _ X e h = refl
 
 pub turns-other : (k : Option Reply) (p clock : ℕ) (X : List Entry) (e : Entry) → is_turn e ≡ false → turns_or k p clock (X ++ e ∷ []) ≡ turns_or k p clock X
-turns-other k p clock [] (Entry.Turn pid origin stimulus call) h = absurd (grind (arith, h))
+turns-other k p clock [] (Entry.Turn pid origin stimulus call) h = grind (arith, nat_tests)
 turns-other k p clock [] _ h = refl
-turns-other k p clock (entry ∷ X) e h = rw (turn-other k p clock entry X e h, turns-other k p (clock + ticks_in entry) X e h)
+turns-other k p clock (entry ∷ X) e h = grind (arith, nat_tests, turn-other, turns-other k p (clock + ticks_in entry) X e h)
 
 pub fold-append : {A B : Type 0} (f : B → A → B) (b : B) (xs ys : List A) → fold f b (xs ++ ys) ≡ fold f (fold f b xs) ys
 fold-append f b [] ys = refl
@@ -133,11 +133,11 @@ given_after t ledger turn = grind (arith, nat_tests)
 given-fold : (t : ℕ) (ledger : Ledger) (turns : List OwnTurn)
     → (fold (ledger_after t) ledger turns).given ≡ fold (λ n turn. n + one_if (is_timer_event t turn.stimulus)) ledger.given turns
 given-fold t ledger [] = refl
-given-fold t ledger (turn ∷ later) = given-fold t (ledger_after t ledger turn) later ∙ rw (given_after t ledger turn) refl
+given-fold t ledger (turn ∷ later) = grind (arith, nat_tests, given-fold t (ledger_after t ledger turn) later)
 
 -- the ledger tells both numbers
 pub timer_events-ledger : (X : List Entry) (p t : ℕ) → timer_events X p t ≡ (ledger_of t (turns_or None p 0 X)).given
-timer_events-ledger X p t = rw (turns-none p 0 X) (sym (given-fold t blank (own p X)))
+timer_events-ledger X p t = grind (arith, nat_tests, turns-none, given-fold)
 
 pub ripe_armings-ledger : (X : List Entry) (p t : ℕ) → ripe_armings X p t ≡ ripe_at (clock_after X) (ledger_of t (turns_or None p 0 X))
 ripe_armings-ledger X p t = grind (arith, nat_tests, turns-none, ripe-ledger)

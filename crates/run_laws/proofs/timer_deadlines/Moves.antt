@@ -58,20 +58,20 @@ pub record Moves (p t q clock : ℕ) (call : Call) (k : Option Reply) (old new :
 pub still_moves : (p t q clock : ℕ) (call : Call) (k : Option Reply) (old new : Timers) → is_moved_by p t q call k ≡ false
     → is_armed (own_timer p t) new ≡ is_armed (own_timer p t) old → (nat_le t 7 ≡ true → cell_of (own_timer p t) new ≡ cell_of (own_timer p t) old)
     → Moves p t q clock call k old new
-still_moves p t q clock call k old new n e f = grind (arith, nat_tests, n)
+still_moves p t q clock call k old new n e f = grind (arith, nat_tests)
 
 -- the reply to q's call, if q is p
 abbrev Knowledge : ℕ → ℕ → Option Reply → Reply → Type 0
 Knowledge p q k reply = (q == p) ≡ true → k ≡ Some reply
 
 same_timer : (p t q u : ℕ) → (q == p) ≡ true → (u == t) ≡ true → own_timer p t ≡ own_timer q u
-same_timer p t q u e f = let qp : q ≡ p = grind (arith, nat_tests, e) in let ut : u ≡ t = grind (arith, nat_tests, f) in rw (qp, ut) refl
+same_timer p t q u e f = grind (arith, nat_tests)
 
 -- an arming of timer u of q
 armed_moves : (p t q u clock : ℕ) (call : Call) (k : Option Reply) (cell : Cell) (old : Timers) → Setting p old → nat_le u 7 ≡ true → Knowledge p q k Reply.Done
     → arms t call ≡ (u == t) → stops t call ≡ false → ((u == t) ≡ true → cell ≡ cell_after t clock call (cell_of (own_timer q u) old))
     → Moves p t q clock call k old (armed_with (own_timer q u) cell old)
-armed_moves p t q u clock call k cell old s fits told arm stop value = grind (arith, nat_tests, arm, stop, fits, still_moves, armed-other, cell-armed_other, same_timer, cell-armed_own)
+armed_moves p t q u clock call k cell old s fits told arm stop value = grind (arith, nat_tests, still_moves, armed-other, cell-armed_other, same_timer, cell-armed_own)
 
 -- a stop of timer u of q
 stopped_moves : (p t q u clock : ℕ) (k : Option Reply) (old : Timers) → Knowledge p q k Reply.Done → Moves p t q clock (Call.TimerStop u) k old (stop_timer (own_timer q u) old)
@@ -112,14 +112,14 @@ by_refusal : (p t : ℕ) (call : Call) (q : ℕ) (k : Option Reply) (m after : M
 by_refusal p t call q k m after o front made = grind (arith, nat_tests)
 
 number_fits : (u : ℕ) → timer_refusal u ≡ None → nat_le u 7 ≡ true
-number_fits u h = grind (arith, nat_tests, h)
+number_fits u h = grind (arith, nat_tests)
 
 reset_fits : (q u : ℕ) (m : Machine) → reset_refusal q u m ≡ None → nat_le u 7 ≡ true
-reset_fits q u m h = grind (arith, nat_tests, h)
+reset_fits q u m h = grind (arith, nat_tests)
 
 -- a call that names no event timer
 unmoved_by : (p t q : ℕ) (call : Call) (k : Option Reply) → arms t call ≡ false → stops t call ≡ false → is_moved_by p t q call k ≡ false
-unmoved_by p t q call k a b = grind (arith, a, b)
+unmoved_by p t q call k a b = grind (arith, nat_tests)
 
 pub after-moves : (p t : ℕ) (call : Call) (q : ℕ) (k : Option Reply) (m : Machine) → Setting p m.timers → FrontIs p k (after_call call q m).scheduler.agenda
     → Moves p t q m.clock call k m.timers (after_call call q m).timers

@@ -19,7 +19,7 @@ pub record Steady (m : Machine) (X : List Entry) : Type 0 where
   pub regular : list_all is_regular m.scheduler.agenda ≡ true
 
 pub clock-more : (X : List Entry) (e : Entry) → clock_after (X ++ e ∷ []) ≡ clock_after X + ticks_in e
-clock-more X e = fold-append (λ clock entry. clock + ticks_in entry) 0 X (e ∷ [])
+clock-more X e = grind (arith, nat_tests, fold-append)
 
 -- an item
 
@@ -30,7 +30,7 @@ steady-carried item items m X h = grind (arith, nat_tests, carried-queue, carrie
 -- these items, which are no turns
 pub steady-front : (items : List Item) (m : Machine) (X : List Entry) → list_all is_regular (items ++ m.scheduler.agenda) ≡ true → Steady m X
     → Steady (scheduled (in_front items) m) X
-steady-front items m X r h = record { clock = h.clock; names = h.names; plain = h.plain; regular = r }
+steady-front items m X r h = grind (arith, nat_tests)
 
 -- a kernel process
 pub steady-serve : (q : ℕ) (event : Event) (m : Machine) (X : List Entry) → Steady m X → Steady (serve q event m) X
@@ -47,7 +47,7 @@ after-plain =
 
 pub steady-turn : (q : ℕ) (origin : Origin) (stimulus : Stimulus) (call : Call) (m : Machine) (X : List Entry) → nat_le 4 q ≡ true → Steady m X
     → Steady (after_call call q m) (X ++ Entry.Turn (record { 0 = q }) origin stimulus call ∷ [])
-steady-turn q origin stimulus call m X a h = grind (arith, nat_tests, after-clock, clock-more, after-names, kept_by_call after-plain call q m h.plain, after-regular)
+steady-turn q origin stimulus call m X a h = grind (arith, nat_tests, after-clock, clock-more, after-names, kept_by_call, after-plain, after-regular)
 
 -- an entry that is shown
 pub steady-shown : (note : Note) (m : Machine) (X : List Entry) → Steady m X → Steady m (X ++ Entry.Note note ∷ [])

@@ -80,7 +80,7 @@ listed clock timers timer [] e = cc
 listed clock timers timer (x ∷ xs) e = grind (arith, nat_tests, listed clock timers timer xs)
 
 pub that_timer : (p t : ℕ) (timer : Timer) → is_timer (event_timer p t) timer ≡ true → timer ≡ event_timer p t
-that_timer p t timer h = grind (arith, nat_tests, h)
+that_timer p t timer h = grind (arith, nat_tests)
 
 expiry_count : (p t : ℕ) (timer : Timer) → queued_one p t (expiry_of timer) ≡ one_if (is_timer (event_timer p t) timer)
 expiry_count p t timer = grind (arith, nat_tests)
@@ -129,10 +129,10 @@ post-fair : (p t : ℕ) (event : Queued Bool) (m : Machine) → queued_one p t e
 post-fair p t event m z n = grind (arith, nat_tests, all-more, count_events-more)
 
 notice-uncounted : (p t : ℕ) (notice : Queued Bool) → is_notice notice ≡ true → queued_one p t notice ≡ 0
-notice-uncounted p t notice n = grind (arith, nat_tests, n)
+notice-uncounted p t notice n = grind (arith, nat_tests)
 
 notice-plain : (notice : Queued Bool) → is_notice notice ≡ true → is_no_timer notice ≡ true
-notice-plain notice n = grind (arith, nat_tests, n)
+notice-plain notice n = grind (arith, nat_tests)
 
 pub count-cancelled : (p t : ℕ) (test : ℕ → ℕ → Bool) (events : List (Queued Bool)) → count_events p t (map (cancelled_if test) events) ≡ count_events p t events
 count-cancelled p t test [] = refl
@@ -172,17 +172,17 @@ polls-count p t [] = refl
 polls-count p t (n ∷ ns) = omega (arith, polls-count p t ns)
 
 no_timer : (p t q code n : ℕ) → (code == TIMER) ≡ false → timer_for p t q (of_event (number_event code n)) ≡ 0
-no_timer p t q code n h = grind (arith, nat_tests, h)
+no_timer p t q code n h = grind (arith, nat_tests)
 
 no_plain : (p t q code : ℕ) → (code == TIMER) ≡ false → timer_for p t q (of_event (plain_event code)) ≡ 0
-no_plain p t q code h = grind (arith, nat_tests, h)
+no_plain p t q code h = grind (arith, nat_tests)
 
 no_timer_event : (p t q : ℕ) (event : Event) → is_no_timer (Queued.ToAll event) ≡ true → timer_for p t q (of_event event) ≡ 0
-no_timer_event p t q event h = grind (arith, nat_tests, h)
+no_timer_event p t q event h = grind (arith, nat_tests)
 
 broadcast-count : (p t : ℕ) (ns : List ℕ) (event : Event) → is_no_timer (Queued.ToAll event) ≡ true → count_items p t (delivery ns (to_all event)) ≡ 0
 broadcast-count p t [] event h = refl
-broadcast-count p t (n ∷ ns) event h = omega (arith, broadcast-count p t ns event h, no_timer_event p t n event h)
+broadcast-count p t (n ∷ ns) event h = grind (arith, nat_tests, broadcast-count p t ns event h)
 
 abbrev all_count : ℕ → ℕ → Scheduler Bool → ℕ
 all_count p t s = count_items p t s.agenda + count_events p t s.events
@@ -196,13 +196,13 @@ carried-count p t item items s h = grind (arith, nat_tests, no_plain, count_item
 
 farewells-count : (p t q : ℕ) (ns : List ℕ) → count_items p t (map (λ n. Item.Give n Origin.Synch (of_event (number_event EXITED q))) ns) ≡ 0
 farewells-count p t q [] = refl
-farewells-count p t q (n ∷ ns) = omega (arith, farewells-count p t q ns, no_timer p t n EXITED q refl)
+farewells-count p t q (n ∷ ns) = grind (arith, nat_tests, farewells-count p t q ns)
 
 no_answer : (p t q : ℕ) (reply : Reply) → timer_for p t q (Stimulus.Answer reply) ≡ 0
 no_answer p t q reply = grind (arith, nat_tests)
 
 posted-uncounted : (p t : ℕ) (event : Queued Bool) → is_posted event ≡ true → queued_one p t event ≡ 0
-posted-uncounted p t event h = grind (arith, nat_tests, h)
+posted-uncounted p t event h = grind (arith, nat_tests)
 
 after-events_count : (p t n : ℕ) → KeptByCalls (λ events. count_events p t events ≡ n)
 after-events_count p t n =
@@ -212,13 +212,13 @@ after-events_count p t n =
     }
 
 free_code : (p t q code : ℕ) (payload : Payload) → is_reserved code ≡ false → timer_for p t q (of_event (record { code = code; payload = payload })) ≡ 0
-free_code p t q code payload h = grind (arith, nat_tests, h)
+free_code p t q code payload h = grind (arith, nat_tests)
 
 after-items_count : (p t : ℕ) (call : Call) (q : ℕ) (m : Machine) → count_items p t (after_call call q m).scheduler.agenda ≡ count_items p t m.scheduler.agenda
 after-items_count p t Call.Exit q m = grind (arith, nat_tests, count_items-append, farewells-count)
 after-items_count p t (Call.Kill r) q m = grind (arith, nat_tests, no_answer, count_items-append, farewells-count)
-after-items_count p t (Call.PostSynch r code payload) q m = grind (arith, no_answer, free_code)
-after-items_count p t call q m = grind (arith, no_answer, no_plain)
+after-items_count p t (Call.PostSynch r code payload) q m = grind (arith, nat_tests)
+after-items_count p t call q m = grind (arith, nat_tests)
 
 pub after-count : (p t : ℕ) (call : Call) (q : ℕ) (m : Machine) → in_wait p t (after_call call q m) ≡ in_wait p t m
 after-count p t call q m =
@@ -241,7 +241,7 @@ stopped_ledger g clock ledger = record (armed_ledger g clock ledger.cell ledger)
 
 pub stops-balanced : (p t g w clock : ℕ) (old new : Timers) (ledger : Ledger) → (nat_le t 7 ≡ true → cell_of (own_timer p t) new ≡ cell_of (own_timer p t) old) → is_armed (own_timer p t) new ≡ false
     → Balanced p t old clock (g + w) ledger → Balanced p t new clock w (stopped_ledger g clock ledger)
-stops-balanced p t g w clock old new ledger e f b = grind (arith, nat_tests, f)
+stops-balanced p t g w clock old new ledger e f b = grind (arith, nat_tests)
 
 -- any other turn
 abbrev pub kept_ledger : ℕ → Ledger → Ledger
@@ -249,7 +249,7 @@ kept_ledger g ledger = record ledger { given = ledger.given + g }
 
 pub keeps-balanced : (p t g w clock : ℕ) (old new : Timers) (ledger : Ledger) → (nat_le t 7 ≡ true → cell_of (own_timer p t) new ≡ cell_of (own_timer p t) old)
     → is_armed (own_timer p t) new ≡ is_armed (own_timer p t) old → Balanced p t old clock (g + w) ledger → Balanced p t new clock w (kept_ledger g ledger)
-keeps-balanced p t g w clock old new ledger e f b = grind (arith, nat_tests, b.count)
+keeps-balanced p t g w clock old new ledger e f b = grind (arith, nat_tests)
 
 -- the ledger of each kind of turn
 abbrev pub gift : ℕ → OwnTurn → ℕ
@@ -261,7 +261,7 @@ ledger-arms t ledger turn h = grind (arith, nat_tests)
 
 pub ledger-stops : (t : ℕ) (ledger : Ledger) (turn : OwnTurn) → is_done turn.reply ≡ true → arms t turn.call ≡ false → stops t turn.call ≡ true
     → ledger_after t ledger turn ≡ stopped_ledger (gift t turn) turn.clock ledger
-ledger-stops t ledger turn d a s = rw (d, a, s) refl
+ledger-stops t ledger turn d a s = grind (arith, nat_tests)
 
 pub ledger-keeps : (t : ℕ) (ledger : Ledger) (turn : OwnTurn) → is_arming_or_stop t turn ≡ false → ledger_after t ledger turn ≡ kept_ledger (gift t turn) ledger
 ledger-keeps t ledger turn h = rw h refl
@@ -269,7 +269,7 @@ ledger-keeps t ledger turn h = rw h refl
 -- another process's turn
 other_balanced : (p t g w clock : ℕ) (old new : Timers) (ledger : Ledger) → g ≡ 0 → (nat_le t 7 ≡ true → cell_of (own_timer p t) new ≡ cell_of (own_timer p t) old)
     → is_armed (own_timer p t) new ≡ is_armed (own_timer p t) old → Balanced p t old clock (g + w) ledger → Balanced p t new clock w ledger
-other_balanced p t g w clock old new ledger z e f b = grind (arith, nat_tests, b.count, z)
+other_balanced p t g w clock old new ledger z e f b = grind (arith, nat_tests)
 
 abbrev pub turn_of : ℕ → Stimulus → Origin → Call → Option Reply → OwnTurn
 turn_of clock stimulus origin call k = record { clock = clock; origin = origin; stimulus = stimulus; call = call; reply = k }

@@ -23,7 +23,7 @@ given-name timer cell named = grind (arith, nat_tests)
 
 with_cell-names : (timer : Timer) (cell : Cell) (cells : List NamedCell) → cell_names (with_cell timer cell cells) ≡ cell_names cells
 with_cell-names timer cell [] = refl
-with_cell-names timer cell (named ∷ cells) = rw (given-name timer cell named, with_cell-names timer cell cells) refl
+with_cell-names timer cell (named ∷ cells) = grind (arith, nat_tests, with_cell-names timer cell cells)
 
 -- an arming keeps the names
 pub armed-names : (timer : Timer) (cell : Cell) (timers : Timers) → cell_names (armed_with timer cell timers).cells ≡ cell_names timers.cells
@@ -48,7 +48,7 @@ under-other timer other cell (named ∷ cells) n = grind (arith, nat_tests, unde
 
 pub cell-armed_other : (timer other : Timer) (cell : Cell) (timers : Timers) → is_timer timer other ≡ false
     → cell_of timer (armed_with other cell timers) ≡ cell_of timer timers
-cell-armed_other timer other cell timers n = under-other timer other cell timers.cells n
+cell-armed_other timer other cell timers n = grind (arith, nat_tests, under-other)
 
 under-own : (timer : Timer) (cell : Cell) (cells : List NamedCell) → list_any (is_timer timer) (cell_names cells) ≡ true
     → cell_under timer (with_cell timer cell cells) ≡ cell
@@ -64,11 +64,11 @@ in_range from n p low high =
 
 event_timer-named : (p t : ℕ) → nat_le 4 p ≡ true → nat_lt p 20 ≡ true → nat_le t 7 ≡ true → list_any (is_timer (event_timer p t)) all_timers ≡ true
 unfolding all_timers
-event_timer-named p t a b c = grind (arith, nat_tests, a, b, c)
+event_timer-named p t a b c = grind (arith, nat_tests)
 
 pub cell-armed_own : (p t : ℕ) (cell : Cell) (timers : Timers) → cell_names timers.cells ≡ all_timers → nat_le 4 p ≡ true → nat_lt p 20 ≡ true → nat_le t 7 ≡ true
     → cell_of (event_timer p t) (armed_with (event_timer p t) cell timers) ≡ cell
-cell-armed_own p t cell timers l a b c = under-own (event_timer p t) cell timers.cells (rw l (event_timer-named p t a b c))
+cell-armed_own p t cell timers l a b c = grind (arith, nat_tests, under-own, event_timer-named)
 
 -- the list
 
@@ -83,4 +83,4 @@ stopped-own timer (x ∷ xs) = grind (arith, nat_tests, stopped-own timer xs)
 pub stopped-other : (timer other : Timer) (armed : List Timer) → is_timer other timer ≡ false
     → list_any (is_timer timer) (filter (λ x. not (is_timer other x)) armed) ≡ list_any (is_timer timer) armed
 stopped-other timer other [] n = refl
-stopped-other timer other (x ∷ xs) n = grind (arith, nat_tests, symm, stopped-other timer other xs n)
+stopped-other timer other (x ∷ xs) n = grind (arith, nat_tests, stopped-other timer other xs n)

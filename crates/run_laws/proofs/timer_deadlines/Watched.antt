@@ -38,19 +38,19 @@ marks-with_state q state (x ∷ xs) = grind (arith, nat_tests, marks-with_state 
 
 pub marks-with_mark : (q : ℕ) (list : List Process) → is_marked 0 list ≡ true → is_marked 0 (with_mark q true list) ≡ true
 marks-with_mark q [] h = h
-marks-with_mark q (x ∷ xs) h = grind (arith, nat_tests, h, marks-with_mark q xs)
+marks-with_mark q (x ∷ xs) h = grind (arith, nat_tests, marks-with_mark q xs)
 
 pub marks-other : (q : ℕ) (mark : Bool) (list : List Process) → (q == 0) ≡ false → is_marked 0 (with_mark q mark list) ≡ is_marked 0 list
 marks-other q mark [] n = refl
-marks-other q mark (x ∷ xs) n = grind (arith, nat_tests, n, marks-other q mark xs n)
+marks-other q mark (x ∷ xs) n = grind (arith, nat_tests, marks-other q mark xs n)
 
 pub marks-without : (q : ℕ) (list : List Process) → (q == 0) ≡ false → is_marked 0 (without q list) ≡ is_marked 0 list
 marks-without q [] n = refl
-marks-without q (x ∷ xs) n = grind (arith, nat_tests, n, marks-without q xs n)
+marks-without q (x ∷ xs) n = grind (arith, nat_tests, marks-without q xs n)
 
 pub marks-home : (list : List Process) → is_home list ≡ true → is_marked 0 (with_mark 0 true list) ≡ true
 marks-home [] h = h
-marks-home (x ∷ xs) h = grind (arith, nat_tests, h, marks-home xs)
+marks-home (x ∷ xs) h = grind (arith, nat_tests, marks-home xs)
 
 pub home-with_state : (q : ℕ) (state : State) (list : List Process) → is_home (with_state q state list) ≡ is_home list
 home-with_state q state [] = refl
@@ -62,13 +62,13 @@ home-with_mark q mark (x ∷ xs) = grind (arith, nat_tests, home-with_mark q mar
 
 pub home-without : (q : ℕ) (list : List Process) → (q == 0) ≡ false → is_home (without q list) ≡ is_home list
 home-without q [] n = refl
-home-without q (x ∷ xs) n = grind (arith, nat_tests, n, home-without q xs n)
+home-without q (x ∷ xs) n = grind (arith, nat_tests, home-without q xs n)
 
 -- an item
 
 carried-home : (item : Item) (items : List Item) (s : Scheduler Bool) → is_regular item ≡ true → is_home s.processes ≡ true
     → is_home (after_item item (with_agenda items s)).processes ≡ true
-carried-home item items s r h = grind (arith, nat_tests, r, h, home-with_state, home-with_mark, home-without)
+carried-home item items s r h = grind (arith, nat_tests, home-with_state, home-with_mark, home-without)
 
 pub watched-carried : (item : Item) (items : List Item) (m : Machine) → is_quiet_item item ≡ true → is_served item ≡ false → is_regular item ≡ true
     → Watched (facing (item ∷ items) m) → Watched (carried item items m)
@@ -76,7 +76,7 @@ watched-carried item items m n k r h = grind (arith, nat_tests, carried-home, ma
 
 -- these items in front
 pub watched-front : (xs : List Item) (m : Machine) → Watched m → Watched (scheduled (in_front xs) m)
-watched-front xs m h = record { home = h.home; due = λ d. grind (arith, h.due d, list_any-append is_etimer_poll xs m.scheduler.agenda) }
+watched-front xs m h = grind (arith, nat_tests, list_any-append)
 
 -- a kernel process
 
@@ -109,7 +109,7 @@ lesser old new e less marks home h = grind (arith, nat_tests)
 
 pub alike : (old new : Machine) → new.scheduler.agenda ≡ old.scheduler.agenda → new.scheduler.processes ≡ old.scheduler.processes → new.timers ≡ old.timers → new.clock ≡ old.clock
     → Watched old → Watched new
-alike old new a b c d h = lesser old new a (λ k. rw (c, d) at k) (λ k. rw b k) (λ k. rw b k) h
+alike old new a b c d h = grind (arith, nat_tests)
 
 pub marked_too : (q : ℕ) (m : Machine) → Watched m → Watched (mark q m)
 marked_too q m h = grind (arith, nat_tests, lesser, marks-with_mark, home-with_mark)
@@ -120,7 +120,7 @@ dropped keep m h = grind (arith, nat_tests, lesser, any-filter)
 
 -- an item that isn't etimer's POLL is gone
 pub without_item : (item : Item) (items : List Item) (m : Machine) → is_etimer_poll item ≡ false → Watched (facing (item ∷ items) m) → Watched (facing items m)
-without_item item items m n h = record { home = h.home; due = λ d. grind (arith, n, h.due d) }
+without_item item items m n h = grind (arith, nat_tests)
 
 changes-watched : (q : ℕ) (event : Event) → Changes (λ old new. Watched old → Watched new) q event
 changes-watched q event =
@@ -190,7 +190,7 @@ watched-turn items q origin stimulus call m after a b c h =
 
 -- a change of the memory and of the work
 idle : (m after : Machine) → after.scheduler ≡ m.scheduler → after.timers ≡ m.timers → after.clock ≡ m.clock → Watched m → Watched after
-idle m after a b c h = alike m after (ap (λ s. s.agenda) a) (ap (λ s. s.processes) a) b c h
+idle m after a b c h = grind (arith, nat_tests)
 
 -- an input
 pub watched-input : (input : Input) (m : Machine) → Watched m → Watched (effect input (record m { work = 0 }))
@@ -198,7 +198,7 @@ watched-input input m h = grind (arith, nat_tests, home-with_mark, marks-home, i
 
 -- boot
 pub watched-boot : (c : Config) → Watched (at_start c).machine
-watched-boot c = record { home = refl; due = λ d. absurd (grind (arith, d)) }
+watched-boot c = grind (arith, nat_tests)
 
 -- at rest no timer is due
 unmarked : (list : List Process) → is_any_marked list ≡ false → is_marked 0 list ≡ false
