@@ -5,7 +5,7 @@ use Rattle.run_laws.specs.Sent.{Sender, IsSent, EverySent}
 use Rattle.run_laws.proofs.Outsiders.{turns-low}
 use Rattle.run_laws.proofs.Arrivals.{serve-untouched, effect-keeps}
 use Rattle.run_laws.proofs.event_order.Items.{with_agenda, facing}
-use Rattle.run_laws.proofs.event_order.Runs.{AtEach, each-more, at_each}
+use Rattle.run_laws.proofs.event_order.Runs.{Ran, AtEach, each-more, at_each}
 use Rattle.run_laws.proofs.event_order.Tally.{is_note, is_turn}
 use Rattle.run_laws.proofs.event_order.Steps.{Cases, law_of, is_quiet_item, turn_entry}
 use Rattle.run_laws.proofs.timer_deadlines.Fronts.{all-append, all-mapped, all-delivered}
@@ -133,12 +133,12 @@ module _ (p : ℕ) (few : p ≤ 19) where
             };
       }
 
-  run-sent : (c : Config) (says : Applications) (inputs : List Input) (after : Running) → Runs says (at_start c) inputs after → AtEach ShownBehind after.entries
-  run-sent c says inputs after runs =
-      at_each Sending ShownBehind (law_of Sending Silent (AtEach ShownBehind) sending_cases) c says inputs after runs
+  run-sent : (run : Ran) → AtEach ShownBehind run.after.entries
+  run-sent run =
+      at_each ShownBehind (law_of sending_cases) run
       (record {
-        holds = boot-holds (accepted managed_after) (KindLaw managed_kind) (HasBlocks managed_store p) p at_first c (boot-has managed_store managed-keeps p c);
-        front = front_none None no_blocks (booted c).scheduler.agenda refl;
+        holds = boot-holds (accepted managed_after) (KindLaw managed_kind) (HasBlocks managed_store p) p at_first run.config (boot-has managed_store managed-keeps p run.config);
+        front = front_none None no_blocks (booted run.config).scheduler.agenda refl;
       })
 
   sent-block : (X before between later : List Entry) (h : ℕ) (origin : Origin) (stimulus : Stimulus) (bytes : ArrayVec ℕ)
@@ -162,9 +162,9 @@ SendsBehind X =
     → (up_to_call before p origin stimulus (Call.PacketSend h) ++ between) ++ Entry.Note (Note.Sent bytes) ∷ later ≡ X
     → managed_block (up_to_call before p origin stimulus (Call.PacketSend h) ++ between) p h ≡ Some bytes.items
 
-pub sends-behind : (c : Config) (says : Applications) (inputs : List Input) (after : Running) → Runs says (at_start c) inputs after → SendsBehind after.entries
-sends-behind c says inputs after runs before between later p h origin stimulus bytes few quiet split =
-    sent-block p few after.entries before between later h origin stimulus bytes (run-sent p few c says inputs after runs) quiet split
+pub sends-behind : (run : Ran) → SendsBehind run.after.entries
+sends-behind run before between later p h origin stimulus bytes few quiet split =
+    sent-block p few run.after.entries before between later h origin stimulus bytes (run-sent p few run) quiet split
 
 -- Every note comes behind its sender.
 
@@ -247,9 +247,9 @@ led_cases =
           (effect-keeps (λ s. leads (sends_all X) s.agenda ≡ true) input woken h (λ q. h) (λ refusal. h));
     }
 
-led : (c : Config) (says : Applications) (inputs : List Input) (after : Running) → Runs says (at_start c) inputs after → AtEach Sends after.entries
-led c says inputs after runs =
-    at_each Led Sends (law_of Led Plain (AtEach Sends) led_cases) c says inputs after runs (plain-leads false (booted c).scheduler.agenda (all-mapped is_plain (λ q. Item.Start q) (range_with_len 4 c.apps) (λ q. refl)))
+led : (run : Ran) → AtEach Sends run.after.entries
+led run =
+    at_each Sends (law_of led_cases) run (plain-leads false (booted run.config).scheduler.agenda (all-mapped is_plain (λ q. Item.Start q) (range_with_len 4 run.config.apps) (λ q. refl)))
 
 -- no turn yet, after one that sends; or one of these
 abbrev Found : Bool → List Entry → Type 0
@@ -283,23 +283,23 @@ found [] sends e = inl (e, refl)
 found (Entry.Turn pid origin stimulus call ∷ later) sends e = turn-cons pid origin stimulus call later sends (found later (is_send call) e)
 found (entry ∷ later) sends e = quiet-cons sends entry later refl (found later sends e)
 
-pub every-sent : (c : Config) (says : Applications) (inputs : List Input) (after : Running) → Runs says (at_start c) inputs after
-    → is_bootable c ≡ true → EverySent after.entries
-every-sent c says inputs after runs boots before later bytes split =
-    of_found (found before false (led c says inputs after runs before later (Entry.Note (Note.Sent bytes)) split refl))
+pub every-sent : (run : Ran)
+    → is_bootable run.config ≡ true → EverySent run.after.entries
+every-sent run boots before later bytes split =
+    of_found (found before false (led run before later (Entry.Note (Note.Sent bytes)) split refl))
   where
     of_found : Found false before → IsSent before bytes
     of_found (inl f) = absurd (grind (arith, f))
     of_found (inr s) =
         let rest = Entry.Note (Note.Sent bytes) ∷ later in
         let turn = Entry.Turn (record { 0 = s.p }) s.origin s.stimulus (Call.PacketSend s.h) in
-        let at : (up_to_call s.earlier s.p s.origin s.stimulus (Call.PacketSend s.h) ++ s.between) ++ rest ≡ after.entries =
+        let at : (up_to_call s.earlier s.p s.origin s.stimulus (Call.PacketSend s.h) ++ s.between) ++ rest ≡ run.after.entries =
         ap (λ (es : List Entry). es ++ rest) s.split ∙ split in
-        let turn_at : s.earlier ++ turn ∷ (s.between ++ rest) ≡ after.entries =
+        let turn_at : s.earlier ++ turn ∷ (s.between ++ rest) ≡ run.after.entries =
         sym (append_assoc s.earlier (turn ∷ []) (s.between ++ rest)) ∙ (sym (append_assoc (s.earlier ++ turn ∷ []) s.between rest) ∙ at) in
-        let few : s.p ≤ 19 = turns-low c says inputs after runs boots s.earlier (s.between ++ rest) s.p s.origin s.stimulus (Call.PacketSend s.h) turn_at in
+        let few : s.p ≤ 19 = turns-low run boots s.earlier (s.between ++ rest) s.p s.origin s.stimulus (Call.PacketSend s.h) turn_at in
         record {
           sender = s;
           block = subst (λ (es : List Entry). managed_block es s.p s.h ≡ Some bytes.items) s.split
-              (sends-behind c says inputs after runs s.earlier s.between later s.p s.h s.origin s.stimulus bytes few s.no_turn at);
+              (sends-behind run s.earlier s.between later s.p s.h s.origin s.stimulus bytes few s.no_turn at);
         }

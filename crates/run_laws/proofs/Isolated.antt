@@ -1,6 +1,7 @@
 -- A memory that nobody else uses answers a process as a shared one does under a quota.
 use Rattle.std.proofs.Common.{◌≡◌, ℕ, ◌≤◌, Bool, true, false, length, refl, ◌∙◌, sym, ap, arith, Some, None, if◌then◌else◌, sum_by, zero, suc, ◌+◌, List, [], ◌∷◌, ◌++◌, subst, cond, append-nil, Option, ◌==◌, map, filter_map, take}
 use Rattle.run_laws.proofs.Common.{nat_tests, Call, number_of, block_of, size_of, taken_by, Memory, is_handle, ask, is_kernel_process, Blocks, no_blocks, managed_after, as_over_quota, is_managed_call, private_memory, sum_by-replicate, free, handles, Reply, Origin, Pid, Stimulus, Entry, Input, Applications, Frame, is_application, Config, Machine, booted, is_bootable, after_call, Running, Runs, at_start, IsAnsweredAlone, managed_kind, OwnTurn, own_from, reply_in, reply_of, is_done, ticks_in, managed_answer, replies_from, AreAnsweredAlike}
+use Rattle.run_laws.proofs.event_order.Runs.{Ran}
 use Rattle.run_laws.proofs.KindLaws.{accepted, same_blocks, KindLaw}
 use Rattle.run_laws.proofs.Managed.{all_same, managed-keeps}
 use Rattle.run_laws.proofs.Stores.{own_blocks, changes_managed, ask-rest, ask-shape, managed-change, managed_store}
@@ -199,19 +200,19 @@ module _ (quota p : ℕ) where
 
 -- the run
 
-pub alone-so-far : (c : Config) (says : Applications) (inputs : List Input) (after : Running) → Runs says (at_start c) inputs after
-    → is_bootable c ≡ true → (quota p : ℕ) (before later : List Entry) → c.quota ≡ Some quota → is_application c.apps p ≡ true
-    → before ++ later ≡ after.entries → IsAnsweredAlone quota p before
-alone-so-far c says inputs after runs boots quota p before later e named split =
+pub alone-so-far : (run : Ran)
+    → is_bootable run.config ≡ true → (quota p : ℕ) (before later : List Entry) → run.config.quota ≡ Some quota → is_application run.config.apps p ≡ true
+    → before ++ later ≡ run.after.entries → IsAnsweredAlone quota p before
+alone-so-far run boots quota p before later e named split =
     let few : p ≤ 19 = grind (arith, nat_tests, boots, named) in
     let start : Knowledge Memory = record { now = private_memory quota; last = None } in
-    let well = run-told (own_after quota p) (AsAlone quota p) (IsLikeOwn quota p) p (isolated-laws quota p few) start c says inputs after runs (boot-like quota p c e) before later split in
+    let well = run-told (own_after quota p) (AsAlone quota p) (IsLikeOwn quota p) p (isolated-laws quota p few) start run (boot-like quota p run.config e) before later split in
     replied quota p before 0 start well
 
-pub all-alone : (c : Config) (says : Applications) (inputs : List Input) (after : Running) → Runs says (at_start c) inputs after
-    → is_bootable c ≡ true → (quota p : ℕ) → c.quota ≡ Some quota → is_application c.apps p ≡ true → IsAnsweredAlone quota p after.entries
-all-alone c says inputs after runs boots quota p e named =
-    alone-so-far c says inputs after runs boots quota p after.entries [] e named (append-nil after.entries)
+pub all-alone : (run : Ran)
+    → is_bootable run.config ≡ true → (quota p : ℕ) → run.config.quota ≡ Some quota → is_application run.config.apps p ≡ true → IsAnsweredAlone quota p run.after.entries
+all-alone run boots quota p e named =
+    alone-so-far run boots quota p run.after.entries [] e named (append-nil run.after.entries)
 
 -- two transcripts
 

@@ -3,7 +3,7 @@ use Rattle.std.proofs.Common.{◌≡◌, ℕ, zero, suc, ◌+◌, ◌≤◌, Boo
 use Rattle.run_laws.proofs.Common.{list_all, range_with_len, nat_tests, Call, Origin, Stimulus, Entry, Input, Event, Applications, State, Item, state_of, is_application, Scheduler, after_item, in_front, Config, Machine, is_bootable, after_call, effect, serve, Running, Runs, with_more_work, at_start}
 use Rattle.run_laws.proofs.Arrivals.{effect-keeps, serve-untouched}
 use Rattle.run_laws.proofs.event_order.Items.{with_agenda, facing}
-use Rattle.run_laws.proofs.event_order.Runs.{AtEach, each-more, at_each}
+use Rattle.run_laws.proofs.event_order.Runs.{Ran, AtEach, each-more, at_each}
 use Rattle.run_laws.proofs.event_order.Tally.{is_note, is_turn}
 use Rattle.run_laws.proofs.event_order.Steps.{Cases, law_of, turn_entry}
 use Rattle.run_laws.proofs.timer_deadlines.Fronts.{all-append, all-mapped, all-delivered, after-all}
@@ -109,21 +109,21 @@ module _ (p : ℕ) (high : nat_le 4 p ≡ true) where
   boot-out : (c : Config) → is_application c.apps p ≡ false → IsOut (at_start c).machine.scheduler
   boot-out c out = grind (arith, nat_tests, starts-out)
 
-  run-out : (c : Config) (says : Applications) (inputs : List Input) (after : Running) → Runs says (at_start c) inputs after
-      → is_application c.apps p ≡ false → AtEach IsOthers after.entries
-  run-out c says inputs after runs out = at_each Out IsOthers (law_of Out Out (AtEach IsOthers) out_cases) c says inputs after runs (boot-out c out)
+  run-out : (run : Ran)
+      → is_application run.config.apps p ≡ false → AtEach IsOthers run.after.entries
+  run-out run out = at_each IsOthers (law_of out_cases) run (boot-out run.config out)
 
 -- so each turn is one of the processes 4 to 19, where the mote boots
-pub turns-low : (c : Config) (says : Applications) (inputs : List Input) (after : Running) → Runs says (at_start c) inputs after → is_bootable c ≡ true
+pub turns-low : (run : Ran) → is_bootable run.config ≡ true
     → (before later : List Entry) (p : ℕ) (origin : Origin) (stimulus : Stimulus) (call : Call)
-    → before ++ Entry.Turn (record { 0 = p }) origin stimulus call ∷ later ≡ after.entries → p ≤ 19
-turns-low c says inputs after runs boots before later p origin stimulus call split = go (nat_le p 19) refl
+    → before ++ Entry.Turn (record { 0 = p }) origin stimulus call ∷ later ≡ run.after.entries → p ≤ 19
+turns-low run boots before later p origin stimulus call split = go (nat_le p 19) refl
   where
     go : (b : Bool) → nat_le p 19 ≡ b → p ≤ 19
     go true e = grind (arith, nat_tests, e)
     go false e =
         let high : nat_le 4 p ≡ true = grind (arith, nat_tests, e) in
-        let out : is_application c.apps p ≡ false = grind (arith, nat_tests, boots, e) in
+        let out : is_application run.config.apps p ≡ false = grind (arith, nat_tests, boots, e) in
         let entry = Entry.Turn (record { 0 = p }) origin stimulus call in
-        let other : is_others p high entry ≡ true = run-out p high c says inputs after runs out before later entry split in
+        let other : is_others p high entry ≡ true = run-out p high run out before later entry split in
         absurd (grind (arith, nat_tests, other))

@@ -1,6 +1,7 @@
 -- The blocks of a process are what its own calls make of them: through each call, and so in every run.
 use Rattle.std.proofs.Common.{◌≡◌, ℕ, ◌≤◌, Bool, true, false, ◌&&◌, List, [], ◌∷◌, ◌++◌, length, refl, ◌∙◌, sym, arith, subst, append-nil, Option, Some, None, ◌==◌, nat_le, drop, slice_get}
 use Rattle.run_laws.proofs.Common.{list_all, nat_tests, Call, Reply, Input, Entry, Applications, number_of, Frame, front_slot, with_block, Memory, with_managed, ask, is_kernel_process, Config, Machine, booted, after_call, Running, Runs, at_start, Blocks, no_blocks, own, up_to_call, option_map, length-set, frame_dropped, is_memory_call, asked_of_memory, over_accepted, AreOwn}
+use Rattle.run_laws.proofs.event_order.Runs.{Ran}
 use Rattle.run_laws.proofs.Marks.{marks, due}
 use Rattle.run_laws.proofs.KindLaws.{KindLaw, Store, IsChange, EveryCall, accepted, at_first, blocks-told, every-own}
 use Rattle.run_laws.proofs.Stores.{ask-shape}
@@ -121,14 +122,14 @@ boot-has store keeps p c = record { sound = record { size = refl; slots = refl }
 
 -- the run
 
-every-call : (store : Store) → Keeps store → (c : Config) (says : Applications) (inputs : List Input) (after : Running) → Runs says (at_start c) inputs after
-    → EveryCall store.kind after.entries
-every-call store keeps c says inputs after runs before p origin stimulus call reply few has =
+every-call : (store : Store) → Keeps store → (run : Ran)
+    → EveryCall store.kind run.after.entries
+every-call store keeps run before p origin stimulus call reply few has =
     let so_far = up_to_call before p origin stimulus call in
-    let well = run-told (accepted store.change) (KindLaw store.kind) (HasBlocks store p) p (own-laws store keeps p few) at_first c says inputs after runs (boot-has store keeps p c) after.entries [] (append-nil after.entries) in
-    let law = call-law (accepted store.change) (KindLaw store.kind) (HasBlocks store p) p at_first after.entries before origin stimulus call reply well has in
+    let well = run-told (accepted store.change) (KindLaw store.kind) (HasBlocks store p) p (own-laws store keeps p few) at_first run (boot-has store keeps p run.config) run.after.entries [] (append-nil run.after.entries) in
+    let law = call-law (accepted store.change) (KindLaw store.kind) (HasBlocks store p) p at_first run.after.entries before origin stimulus call reply well has in
     subst (λ (blocks : Blocks). KindLaw store.kind blocks call reply) (sym (blocks-told store.change p so_far) ∙ keeps.told p so_far) law
 
-pub are-own : (store : Store) → Keeps store → (c : Config) (says : Applications) (inputs : List Input) (after : Running) → Runs says (at_start c) inputs after
-    → AreOwn store.kind after.entries
-are-own store keeps c says inputs after runs = every-own store.kind after.entries (every-call store keeps c says inputs after runs)
+pub are-own : (store : Store) → Keeps store → (run : Ran)
+    → AreOwn store.kind run.after.entries
+are-own store keeps run = every-own store.kind run.after.entries (every-call store keeps run)

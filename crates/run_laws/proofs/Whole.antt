@@ -5,7 +5,7 @@ use Rattle.run_laws.proofs.Marks.{marks, fit, due, idle, only_removes, is_turn_i
 use Rattle.run_laws.proofs.Arrivals.{serve-untouched, effect-keeps}
 use Rattle.run_laws.proofs.event_order.Items.{with_agenda, facing}
 use Rattle.run_laws.proofs.event_order.Steps.{carried, turn_entry, Cases, law_of, kernel_carried, is_quiet_item}
-use Rattle.run_laws.proofs.event_order.Runs.{Prefixes, at_prefixes}
+use Rattle.run_laws.proofs.event_order.Runs.{Ran, Prefixes, at_prefixes}
 use Rattle.run_laws.proofs.event_order.Tally.{is_turn}
 use Rattle.run_laws.proofs.timer_deadlines.Fronts.{all-mapped}
 use Rattle.run_laws.proofs.timer_deadlines.Regular.{is_regular, carried-regular, after-regular}
@@ -234,10 +234,9 @@ module _ {S : Type 0} (next : Call → Reply → S → S) (Law : S → Call → 
   pub boot-holds : (start : Knowledge S) (c : Config) → Rel (booted c).memory [] start.now → Holds start (at_start c).machine []
   boot-holds start c rel = grind (arith, nat_tests, marks-starts, all-mapped)
 
-  pub run-told : Laws next Law Rel p → (start : Knowledge S) (c : Config) (says : Applications) (inputs : List Input) (after : Running)
-      → Runs says (at_start c) inputs after → Rel (booted c).memory [] start.now → Prefixes (WellTold start) after.entries
-  run-told laws start c says inputs after runs rel =
-      at_prefixes (Holds start) (WellTold start) (law_of (Holds start) (Holds start) (WellTold start) (told_cases laws start)) c says inputs after runs (boot-holds start c rel) tt
+  pub run-told : Laws next Law Rel p → (start : Knowledge S) (run : Ran) → Rel (booted run.config).memory [] start.now → Prefixes (WellTold start) run.after.entries
+  run-told laws start run rel =
+      at_prefixes (law_of (told_cases laws start)) run (boot-holds start run.config rel) tt
 
   -- the first answer behind a call is what the law says
   pub law-of : (later : List Entry) (t : Knowledge S) (call : Call) (reply : Reply) → t.last ≡ Some call → reply_in p later ≡ Some reply → WellTold t later

@@ -5,6 +5,17 @@ use Rattle.mote_types.specs.Entries.{is_halt}
 use Rattle.run_laws.proofs.event_order.Tally.{is_note}
 use Rattle.run_laws.proofs.Arrivals.{serve-untouched}
 
+-- a run of a mote from boot
+pub record Ran : Type 0 where
+  pub config : Config
+  pub says : Applications
+  pub inputs : List Input
+  pub after : Running
+  pub runs : Runs says (at_start config) inputs after
+
+abbrev pub ran : (config : Config) (says : Applications) (inputs : List Input) (after : Running) → Runs says (at_start config) inputs after → Ran
+ran config says inputs after runs = record { config = config; says = says; inputs = inputs; after = after; runs = runs }
+
 -- what a step shows
 
 abbrev pub is_input : Entry → Bool
@@ -228,35 +239,35 @@ module _ (I : Machine → List Entry → Type 0) (P Q : List Entry → Type 0) (
       start [] later e = none
       start (b ∷ bs) later e = absurd (not_nil [] b (bs ++ later) e)
 
-  run-good : (c : Config) (says : Applications) (inputs : List Input) (after : Running) → Runs says (at_start c) inputs after → I (at_start c).machine [] → P [] → Ended after
-  run-good c says inputs after runs first none = run-ended says inputs (at_start c) after runs (good-leads says (at_start c) (good-start c first none))
+  run-good : (run : Ran) → I (at_start run.config).machine [] → P [] → Ended run.after
+  run-good run first none = run-ended run.says run.inputs (at_start run.config) run.after run.runs (good-leads run.says (at_start run.config) (good-start run.config first none))
 
   -- what follows at rest holds wherever the run rests
-  pub at_rest : (c : Config) (says : Applications) (inputs : List Input) (after : Running) → Runs says (at_start c) inputs after → I (at_start c).machine [] → P []
-      → (before : List Entry) → IsAtRest after.entries before → Q before
-  at_rest c says inputs after runs first none before place = go before place
+  pub at_rest : (run : Ran) → I (at_start run.config).machine [] → P []
+      → (before : List Entry) → IsAtRest run.after.entries before → Q before
+  at_rest run first none before place = go before place
     where
-      ended : Ended after
-      ended = run-good c says inputs after runs first none
+      ended : Ended run.after
+      ended = run-good run first none
 
-      not_halted : (b : Bool) → (b ≡ true → list_any is_halt after.entries ≡ true) → list_any is_halt after.entries ≡ false → b ≡ false
+      not_halted : (b : Bool) → (b ≡ true → list_any is_halt run.after.entries ≡ true) → list_any is_halt run.after.entries ≡ false → b ≡ false
       not_halted true h n = absurd (grind (arith, n, h refl))
       not_halted false h n = refl
 
-      go : (before : List Entry) → IsAtRest after.entries before → Q before
+      go : (before : List Entry) → IsAtRest run.after.entries before → Q before
       go _ (IsAtRest.before_input before later input e) = ended.good.inputs before later input e
-      go _ (IsAtRest.at_end n) = rested-holds after ended.good ended.still (not_halted after.machine.is_halted ended.good.halts n)
+      go _ (IsAtRest.at_end n) = rested-holds run.after ended.good ended.still (not_halted run.after.machine.is_halted ended.good.halts n)
 
 -- P holds at each prefix
-pub at_prefixes : (I : Machine → List Entry → Type 0) (P : List Entry → Type 0) → Law I P
-    → (c : Config) (says : Applications) (inputs : List Input) (after : Running) → Runs says (at_start c) inputs after
-    → I (at_start c).machine [] → P [] → Prefixes P after.entries
-at_prefixes I P law c says inputs after runs first none =
-    (run-good I P (λ _. Unit {0}) law (λ m X e h. tt) c says inputs after runs first none).good.prefixes
+pub at_prefixes : {I : Machine → List Entry → Type 0} {P : List Entry → Type 0} → Law I P
+    → (run : Ran)
+    → I (at_start run.config).machine [] → P [] → Prefixes P run.after.entries
+at_prefixes {I = I} {P = P} law run first none =
+    (run-good I P (λ _. Unit {0}) law (λ m X e h. tt) run first none).good.prefixes
 
 -- R holds of each entry
-pub at_each : (I : Machine → List Entry → Type 0) (R : List Entry → Entry → Type 0) → Law I (AtEach R)
-    → (c : Config) (says : Applications) (inputs : List Input) (after : Running) → Runs says (at_start c) inputs after
-    → I (at_start c).machine [] → AtEach R after.entries
-at_each I R law c says inputs after runs first =
-    at_prefixes I (AtEach R) law c says inputs after runs first (each-none R) after.entries [] (append-nil after.entries)
+pub at_each : {I : Machine → List Entry → Type 0} (R : List Entry → Entry → Type 0) → Law I (AtEach R)
+    → (run : Ran)
+    → I (at_start run.config).machine [] → AtEach R run.after.entries
+at_each R law run first =
+    at_prefixes law run first (each-none R) run.after.entries [] (append-nil run.after.entries)

@@ -7,7 +7,7 @@ use Rattle.run_laws.proofs.event_order.Waiting.{all_waiting, carried-waiting, se
 use Rattle.run_laws.proofs.Arrivals.{serve-untouched, effect-keeps}
 use Rattle.run_laws.proofs.event_order.Steps.{is_quiet_item, Cases, law_of, kernel_carried}
 use Rattle.run_laws.proofs.event_order.After.{after-ordered, after-stands, after-waits, after-queued}
-use Rattle.run_laws.proofs.event_order.Runs.{Law, at_prefixes, at_rest}
+use Rattle.run_laws.proofs.event_order.Runs.{Ran, Law, at_prefixes, at_rest}
 
 -- The events accepted for p are those given and those that wait. The reply in front counts as made; which replies those
 -- get that are further down makes no difference.
@@ -224,16 +224,16 @@ sound_cases p a =
     }
 
 order_law : (p : ℕ) → nat_le 4 p ≡ true → Law (SoundOf p) (IsInOrder p)
-order_law p a = law_of (SoundOf p) (SoundFreeOf p) (IsInOrder p) (sound_cases p a)
+order_law p a = law_of (sound_cases p a)
 
-module _ (c : Config) (says : Applications) (inputs : List Input) (after : Running) (runs : Runs says (at_start c) inputs after) (p : ℕ) (a : is_application c.apps p ≡ true) where
+module _ (run : Ran) (p : ℕ) (a : is_application run.config.apps p ≡ true) where
   -- the events given to an application are a prefix of those accepted for it
-  pub in_order : InOrderFor p after.entries
+  pub in_order : InOrderFor p run.after.entries
   in_order =
-      at_prefixes (SoundOf p) (IsInOrder p) (order_law p (grind (arith, a))) c says inputs after runs (boot-sound p c a) (λ alive. ([], refl))
+      at_prefixes (order_law p (grind (arith, a))) run (boot-sound p run.config a) (λ alive. ([], refl))
 
   -- and at rest all of them
-  pub no_lost_event : NoLostEventFor p after.entries
+  pub no_lost_event : NoLostEventFor p run.after.entries
   no_lost_event =
       at_rest (SoundOf p) (IsInOrder p) (IsAllGiven p) (order_law p (grind (arith, a))) (λ m X rest s. rest_given p X m.scheduler (grind (arith, rest)) s)
-      c says inputs after runs (boot-sound p c a) (λ alive. ([], refl))
+      run (boot-sound p run.config a) (λ alive. ([], refl))

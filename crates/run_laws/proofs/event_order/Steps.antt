@@ -121,5 +121,5 @@ module _ (I J : Machine → List Entry → Type 0) (P : List Entry → Type 0) (
         shown = λ input X i. cases.other X (Entry.Input input) refl refl i;
       }
 
-pub law_of : (I J : Machine → List Entry → Type 0) (P : List Entry → Type 0) → Cases I J P → Law I P
-law_of I J P cases = grind (arith, nat_tests, cases_law)
+pub law_of : {I J : Machine → List Entry → Type 0} {P : List Entry → Type 0} → Cases I J P → Law I P
+law_of {I} {J} {P} cases = cases_law I J P cases

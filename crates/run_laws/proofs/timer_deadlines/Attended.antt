@@ -14,7 +14,7 @@ use Rattle.run_laws.proofs.timer_deadlines.Farewells.{is_no_exited, is_doomed, h
 use Rattle.run_laws.proofs.timer_deadlines.Awaited.{is_expected, gives, queues, carried-expected, serve-held, Awaits, standing_then, after-expected, turn-awaits}
 use Rattle.run_laws.proofs.timer_deadlines.Fronts.{none-mapped, carried-queue}
 use Rattle.run_laws.proofs.timer_deadlines.Timed.{that_timer}
-use Rattle.run_laws.proofs.event_order.Runs.{at_rest}
+use Rattle.run_laws.proofs.event_order.Runs.{Ran, at_rest}
 use Rattle.run_laws.proofs.timer_deadlines.Watched.{Watched, without_item, watched-carried, watched-front, watched-serve, watched-turn, watched-input, watched-boot, rest-not_due}
 
 abbrev pub fresh_standing : Standing
@@ -281,10 +281,10 @@ boot-attended p t c high a =
     }
 
 -- no timer is lost
-pub no_lost_timer : (c : Config) (says : Applications) (inputs : List Input) (after : Running) → Runs says (at_start c) inputs after
-    → (p : ℕ) → is_bootable c ≡ true → is_application c.apps p ≡ true → NoLostTimerFor p after.entries
-no_lost_timer c says inputs after runs p b a before t place =
+pub no_lost_timer : (run : Ran)
+    → (p : ℕ) → is_bootable run.config ≡ true → is_application run.config.apps p ≡ true → NoLostTimerFor p run.after.entries
+no_lost_timer run p b a before t place =
     let low : nat_le 4 p ≡ true = grind (arith, a) in
-    let high : nat_lt p 20 ≡ true = has_timers c p b a in
-    at_rest (Attended p t) Anything (IsGivenAtRest p t) (law_of (Attended p t) (AttendedFree p t) Anything (attended_cases p t low high)) (rest-given p t)
-    c says inputs after runs (boot-attended p t c high a) tt before place
+    let high : nat_lt p 20 ≡ true = has_timers run.config p b a in
+    at_rest (Attended p t) Anything (IsGivenAtRest p t) (law_of (attended_cases p t low high)) (rest-given p t)
+    run (boot-attended p t run.config high a) tt before place

@@ -11,7 +11,7 @@ use Rattle.run_laws.proofs.timer_deadlines.Steady.{Steady, clock-more, steady-tu
 use Rattle.run_laws.proofs.Arrivals.{effect-keeps}
 use Rattle.run_laws.proofs.timer_deadlines.Timing.{zero-cells, zero-names}
 use Rattle.run_laws.proofs.timer_deadlines.Fronts.{all-mapped}
-use Rattle.run_laws.proofs.event_order.Runs.{at_prefixes}
+use Rattle.run_laws.proofs.event_order.Runs.{Ran, at_prefixes}
 use Rattle.run_laws.proofs.event_order.Steps.{Cases, law_of, is_quiet_item, carried, kernel_carried}
 
 abbrev pub timer_ledger : ℕ → ℕ → Option Reply → List Entry → Ledger
@@ -210,11 +210,11 @@ pub has_timers : (c : Config) (p : ℕ) → is_bootable c ≡ true → is_applic
 has_timers c p b a = grind (arith, nat_tests)
 
 -- no TIMER event comes early or twice
-pub no_early_timer : (c : Config) (says : Applications) (inputs : List Input) (after : Running) → Runs says (at_start c) inputs after
-    → (p : ℕ) → is_bootable c ≡ true → is_application c.apps p ≡ true → NoEarlyTimerFor p after.entries
-no_early_timer c says inputs after runs p b a before later t e =
+pub no_early_timer : (run : Ran)
+    → (p : ℕ) → is_bootable run.config ≡ true → is_application run.config.apps p ≡ true → NoEarlyTimerFor p run.after.entries
+no_early_timer run p b a before later t e =
     let low : nat_le 4 p ≡ true = grind (arith, a) in
-    let high : nat_lt p 20 ≡ true = has_timers c p b a in
+    let high : nat_lt p 20 ≡ true = has_timers run.config p b a in
     let h : IsTimely p t before =
-    at_prefixes (Timely p t) (IsTimely p t) (law_of (Timely p t) (Free p t) (IsTimely p t) (timely_cases p t low high)) c says inputs after runs (boot_timely p t c low high) (omega arith) before later e in
+    at_prefixes (law_of (timely_cases p t low high)) run (boot_timely p t run.config low high) (omega arith) before later e in
     rw (timer_events-ledger before p t, ripe_armings-ledger before p t) h

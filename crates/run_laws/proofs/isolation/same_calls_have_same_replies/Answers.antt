@@ -1,3 +1,4 @@
+use Rattle.run_laws.proofs.event_order.Runs.{ran}
 use Rattle.run_laws.proofs.isolation.same_calls_have_same_replies.Goals as goal
 use Rattle.run_laws.proofs.Isolated.{all-alone, alone-alike}
 
@@ -5,6 +6,6 @@ pub returns : goal.returns
 returns c = record {
   alike = λ one other says tells inputs others first second quota p runs boots limited named also_runs also_boots also_limited also_named.
       alone-alike quota p first.entries second.entries
-      (all-alone one says inputs first runs boots quota p limited named)
-      (all-alone other tells others second also_runs also_boots quota p also_limited also_named);
+      (all-alone (ran one says inputs first runs) boots quota p limited named)
+      (all-alone (ran other tells others second also_runs) also_boots quota p also_limited also_named);
 }
