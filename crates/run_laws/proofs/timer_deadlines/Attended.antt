@@ -1,5 +1,6 @@
 -- While p goes on, an armed timer of p is on the list, or its TIMER event waits or was given.
 -- where the timer stands, if the reply to p's last call is k unless the entries show it
+use Rattle.run_laws.proofs.timer_deadlines.Timing.{OwnTimer, own_timer}
 use Rattle.std.proofs.Common.{◌≡◌, ℕ, Bool, true, false, ◌&&◌, ◌||◌, List, [], ◌∷◌, ◌++◌, refl, arith, Option, None, fold, ◌==◌, nat_le, ◌≤◌, subst, nat_lt}
 use Rattle.run_laws.proofs.Common.{list_all, list_any, nat_tests, Call, Reply, Stimulus, Event, Origin, Entry, Item, of_event, zero_cell, is_armed, Machine, after_call, serve, OwnTurn, has_ended, clock_after, Standing, standing_after, standing, is_timer_event, with_more_work, range_with_len, Input, Applications, Timer, is_timer, Timers, is_due, deadline, Config, is_bootable, effect, Running, Runs, is_at_rest, at_start, is_application, NoLostTimerFor}
 use Rattle.run_laws.proofs.event_order.Tally.{is_turn, ended-more, ends_in}
@@ -7,7 +8,7 @@ use Rattle.run_laws.proofs.event_order.Items.{with_agenda, facing}
 use Rattle.run_laws.proofs.timer_deadlines.Ledgers.{Ledger, ledger_after, turns_or, told_reply, told-front, turns-turn, turns-other, turns-none, fold-append}
 use Rattle.run_laws.proofs.event_order.Sound.{Sound, SoundFree, IsInOrder, sound-free, SoundOf, SoundFreeOf, sound_cases, boot-sound, nothing_on, nothing_queued}
 use Rattle.run_laws.proofs.Arrivals.{serve-untouched, effect-keeps}
-use Rattle.run_laws.proofs.timer_deadlines.Moves.{own_timer, FrontIs, Setting, after-moves}
+use Rattle.run_laws.proofs.timer_deadlines.Moves.{FrontIs, Setting, after-moves}
 use Rattle.run_laws.proofs.timer_deadlines.Early.{no_reply_front, turn_setting, Timely, Free, IsTimely, timely-free, timely_cases, boot_timely, has_timers}
 use Rattle.run_laws.proofs.event_order.Steps.{is_quiet_item, carried, turn_entry, Cases, law_of, kernel_carried}
 use Rattle.run_laws.proofs.timer_deadlines.Farewells.{is_no_exited, is_doomed, has_farewell, is_farewell, carried-doomed, carried-farewell, after-doomed, after-farewell, after-events, serve-events}
@@ -20,19 +21,19 @@ use Rattle.run_laws.proofs.timer_deadlines.Watched.{Watched, without_item, watch
 abbrev pub fresh_standing : Standing
 fresh_standing = record { cell = zero_cell; is_armed = false; was_given = false }
 
-abbrev pub standing_of : ℕ → ℕ → Option Reply → List Entry → Standing
-standing_of p t k X = fold (standing_after t) fresh_standing (turns_or k p 0 X)
+abbrev pub standing_of : OwnTimer → Option Reply → List Entry → Standing
+standing_of o k X = fold (standing_after o.t) fresh_standing (turns_or k o.p 0 X)
 
-pub standing-none : (X : List Entry) (p t : ℕ) → standing X p t ≡ standing_of p t None X
-standing-none X p t = grind (arith, nat_tests, turns-none)
+pub standing-none : (X : List Entry) (o : OwnTimer) → standing X o.p o.t ≡ standing_of o None X
+standing-none X o = grind (arith, nat_tests, turns-none)
 
-pub standing-turn : (p t clock : ℕ) (k : Option Reply) (X : List Entry) (q : ℕ) (origin : Origin) (stimulus : Stimulus) (call : Call) → clock ≡ clock_after X
-    → standing_of p t k (X ++ turn_entry q origin stimulus call ∷ [])
-    ≡ standing_then (q == p) t clock stimulus origin call k (standing_of p t (told_reply p q stimulus k) X)
-standing-turn p t clock k X q origin stimulus call e = grind (arith, nat_tests, turns-turn, fold-append)
+pub standing-turn : (o : OwnTimer) (clock : ℕ) (k : Option Reply) (X : List Entry) (q : ℕ) (origin : Origin) (stimulus : Stimulus) (call : Call) → clock ≡ clock_after X
+    → standing_of o k (X ++ turn_entry q origin stimulus call ∷ [])
+    ≡ standing_then (q == o.p) o.t clock stimulus origin call k (standing_of o (told_reply o.p q stimulus k) X)
+standing-turn o clock k X q origin stimulus call e = grind (arith, nat_tests, turns-turn, fold-append)
 
-pub standing-other : (p t : ℕ) (k : Option Reply) (X : List Entry) (e : Entry) → is_turn e ≡ false → standing_of p t k (X ++ e ∷ []) ≡ standing_of p t k X
-standing-other p t k X e n = grind (arith, nat_tests, turns-other)
+pub standing-other : (o : OwnTimer) (k : Option Reply) (X : List Entry) (e : Entry) → is_turn e ≡ false → standing_of o k (X ++ e ∷ []) ≡ standing_of o k X
+standing-other o k X e n = grind (arith, nat_tests, turns-other)
 
 -- the ledger and the standing have one cell
 pub record Agree (ledger : Ledger) (st : Standing) : Type 0 where
@@ -47,68 +48,68 @@ agree-fold t ledger st (turn ∷ turns) h = agree-fold t (ledger_after t ledger 
 
 -- what is said of p, and what it waits for
 
-pub record Heeded (p t : ℕ) (m : Machine) (X : List Entry) : Type 0 where
-  pub farewell : has_ended p X ≡ false → is_doomed p m.scheduler.agenda ≡ false → has_farewell p m.scheduler.agenda ≡ false
-  pub kept : has_ended p X ≡ false → is_doomed p m.scheduler.agenda ≡ false → (k : Option Reply) → FrontIs p k m.scheduler.agenda
-      → Awaits p t m.timers (is_expected p t m.scheduler) (standing_of p t k X)
+pub record Heeded (o : OwnTimer) (m : Machine) (X : List Entry) : Type 0 where
+  pub farewell : has_ended o.p X ≡ false → is_doomed o.p m.scheduler.agenda ≡ false → has_farewell o.p m.scheduler.agenda ≡ false
+  pub kept : has_ended o.p X ≡ false → is_doomed o.p m.scheduler.agenda ≡ false → (k : Option Reply) → FrontIs o.p k m.scheduler.agenda
+      → Awaits o m.timers (is_expected o m.scheduler) (standing_of o k X)
 
 -- no reply is in front
-pub record HeededFree (p t : ℕ) (m : Machine) (X : List Entry) : Type 0 where
-  pub farewell : has_ended p X ≡ false → is_doomed p m.scheduler.agenda ≡ false → has_farewell p m.scheduler.agenda ≡ false
-  pub kept : has_ended p X ≡ false → is_doomed p m.scheduler.agenda ≡ false → (k : Option Reply) → Awaits p t m.timers (is_expected p t m.scheduler) (standing_of p t k X)
+pub record HeededFree (o : OwnTimer) (m : Machine) (X : List Entry) : Type 0 where
+  pub farewell : has_ended o.p X ≡ false → is_doomed o.p m.scheduler.agenda ≡ false → has_farewell o.p m.scheduler.agenda ≡ false
+  pub kept : has_ended o.p X ≡ false → is_doomed o.p m.scheduler.agenda ≡ false → (k : Option Reply) → Awaits o m.timers (is_expected o m.scheduler) (standing_of o k X)
 
-pub heeded-free : (p t : ℕ) (m : Machine) (X : List Entry) → HeededFree p t m X → Heeded p t m X
-heeded-free p t m X h = grind (arith, nat_tests)
+pub heeded-free : (o : OwnTimer) (m : Machine) (X : List Entry) → HeededFree o m X → Heeded o m X
+heeded-free o m X h = grind (arith, nat_tests)
 
 still_expected : (a w v g : Bool) → (w ≡ true → v ≡ true) → (a || (w || g)) ≡ true → (a || (v || g)) ≡ true
 still_expected a w v g more h = grind (arith, nat_tests)
 
 -- an item
-pub heeded-carried : (p t : ℕ) (X : List Entry) (item : Item) (items : List Item) (m : Machine) → nat_le 4 p ≡ true → is_quiet_item item ≡ true
-    → Sound p (with_agenda (item ∷ items) m.scheduler) X → list_all is_no_exited m.scheduler.events ≡ true
-    → Heeded p t (facing (item ∷ items) m) X → HeededFree p t (carried item items m) X
-heeded-carried p t X item items m a n sound clean h =
+pub heeded-carried : (o : OwnTimer) (X : List Entry) (item : Item) (items : List Item) (m : Machine) → nat_le 4 o.p ≡ true → is_quiet_item item ≡ true
+    → Sound o.p (with_agenda (item ∷ items) m.scheduler) X → list_all is_no_exited m.scheduler.events ≡ true
+    → Heeded o (facing (item ∷ items) m) X → HeededFree o (carried item items m) X
+heeded-carried o X item items m a n sound clean h =
     record {
-      farewell = λ alive spared. carried-farewell p item items m.scheduler clean (h.farewell alive (carried-doomed p item items m.scheduler n spared));
+      farewell = λ alive spared. carried-farewell o.p item items m.scheduler clean (h.farewell alive (carried-doomed o.p item items m.scheduler n spared));
       kept = λ alive spared k armed.
-          let before = h.kept alive (carried-doomed p item items m.scheduler n spared) k (no_reply_front p k item items n) armed in
-          still_expected (is_armed (own_timer p t) m.timers) (is_expected p t (with_agenda (item ∷ items) m.scheduler)) (is_expected p t (carried item items m).scheduler)
-          (standing_of p t k X).was_given (carried-expected p t item items m.scheduler a n sound.ordered (sound.place alive)) before;
+          let before = h.kept alive (carried-doomed o.p item items m.scheduler n spared) k (no_reply_front o.p k item items n) armed in
+          still_expected (is_armed (own_timer o) m.timers) (is_expected o (with_agenda (item ∷ items) m.scheduler)) (is_expected o (carried item items m).scheduler)
+          (standing_of o k X).was_given (carried-expected o item items m.scheduler a n sound.ordered (sound.place alive)) before;
     }
 
 -- a kernel process is told the event
-pub heeded-serve : (p t : ℕ) (X : List Entry) (q : ℕ) (origin : Origin) (event : Event) (items : List Item) (m : Machine)
-    → Heeded p t (facing (Item.Give q origin (of_event event) ∷ items) m) X → HeededFree p t (facing items m) X → HeededFree p t (serve q event (facing items m)) X
-heeded-serve p t X q origin event items m old h =
+pub heeded-serve : (o : OwnTimer) (X : List Entry) (q : ℕ) (origin : Origin) (event : Event) (items : List Item) (m : Machine)
+    → Heeded o (facing (Item.Give q origin (of_event event) ∷ items) m) X → HeededFree o (facing items m) X → HeededFree o (serve q event (facing items m)) X
+heeded-serve o X q origin event items m old h =
     let n : Machine = facing items m in
     let same : (serve q event n).scheduler.agenda ≡ items = (serve-untouched q event n).agenda in
     record {
       farewell = λ alive spared. rw same (h.farewell alive (rw same at spared));
       kept = λ alive spared k armed.
-          let none : is_farewell p (Item.Give q origin (of_event event)) ≡ false = grind (arith, old.farewell alive (rw same at spared)) in
-          serve-held p t (standing_of p t k X).was_given q origin event n none (h.kept alive (rw same at spared) k armed);
+          let none : is_farewell o.p (Item.Give q origin (of_event event)) ≡ false = grind (arith, old.farewell alive (rw same at spared)) in
+          serve-held o (standing_of o k X).was_given q origin event n none (h.kept alive (rw same at spared) k armed);
     }
 
 -- a turn
 regroup : (a g w v st : Bool) → (a || (((g || w) || v) || st)) ≡ true → (a || ((g || (w || v)) || st)) ≡ true
 regroup a g w v st h = grind (arith, nat_tests)
 
-pub heeded-turn : (p t : ℕ) (X : List Entry) (m : Machine) (items : List Item) (q : ℕ) (origin : Origin) (stimulus : Stimulus) (call : Call) → m.clock ≡ clock_after X → Setting p m.timers
-    → Heeded p t (facing (Item.Turn q origin stimulus ∷ items) m) X
-    → Heeded p t (after_call call q (with_more_work (facing items m))) (X ++ turn_entry q origin stimulus call ∷ [])
-heeded-turn p t X m items q origin stimulus call clock setting h =
+pub heeded-turn : (o : OwnTimer) (X : List Entry) (m : Machine) (items : List Item) (q : ℕ) (origin : Origin) (stimulus : Stimulus) (call : Call) → m.clock ≡ clock_after X → Setting o.p m.timers
+    → Heeded o (facing (Item.Turn q origin stimulus ∷ items) m) X
+    → Heeded o (after_call call q (with_more_work (facing items m))) (X ++ turn_entry q origin stimulus call ∷ [])
+heeded-turn o X m items q origin stimulus call clock setting h =
     record {
-      farewell = λ alive spared. after-farewell p call q origin stimulus on (goes_on alive) spared (h.farewell (was_alive alive) (was_spared alive spared));
+      farewell = λ alive spared. after-farewell o.p call q origin stimulus on (goes_on alive) spared (h.farewell (was_alive alive) (was_spared alive spared));
       kept = λ alive spared k front.
-          let st : Standing = standing_of p t (told_reply p q stimulus k) X in
-          let w : Bool = is_expected p t on.scheduler in
-          let before : Awaits p t m.timers ((q == p && is_timer_event t stimulus) || w) st =
+          let st : Standing = standing_of o (told_reply o.p q stimulus k) X in
+          let w : Bool = is_expected o on.scheduler in
+          let before : Awaits o m.timers ((q == o.p && is_timer_event o.t stimulus) || w) st =
           λ armed.
-          regroup (is_armed (own_timer p t) m.timers) (q == p && is_timer_event t stimulus) (list_any (gives p t) items) (list_any (queues p t) m.scheduler.events) st.was_given
-          (h.kept (was_alive alive) (was_spared alive spared) (told_reply p q stimulus k) (told-front p q stimulus k) armed) in
-          rw (standing-turn p t m.clock k X q origin stimulus call clock)
-          (turn-awaits p t q m.clock stimulus origin call k m.timers (after_call call q on).timers w (is_expected p t (after_call call q on).scheduler) st
-          (after-moves p t call q k on setting front) (after-expected p t call q on) before);
+          regroup (is_armed (own_timer o) m.timers) (q == o.p && is_timer_event o.t stimulus) (list_any (gives o) items) (list_any (queues o) m.scheduler.events) st.was_given
+          (h.kept (was_alive alive) (was_spared alive spared) (told_reply o.p q stimulus k) (told-front o.p q stimulus k) armed) in
+          rw (standing-turn o m.clock k X q origin stimulus call clock)
+          (turn-awaits o q m.clock stimulus origin call k m.timers (after_call call q on).timers w (is_expected o (after_call call q on).scheduler) st
+          (after-moves o call q k on setting front) (after-expected o call q on) before);
     }
   where
     on : Machine
@@ -117,30 +118,30 @@ heeded-turn p t X m items q origin stimulus call clock setting h =
     e : Entry
     e = turn_entry q origin stimulus call
 
-    was_alive : has_ended p (X ++ e ∷ []) ≡ false → has_ended p X ≡ false
-    was_alive alive = grind (arith, alive, ended-more p X e)
+    was_alive : has_ended o.p (X ++ e ∷ []) ≡ false → has_ended o.p X ≡ false
+    was_alive alive = grind (arith, alive, ended-more o.p X e)
 
-    goes_on : has_ended p (X ++ e ∷ []) ≡ false → ends_in p e ≡ false
-    goes_on alive = grind (arith, alive, ended-more p X e)
+    goes_on : has_ended o.p (X ++ e ∷ []) ≡ false → ends_in o.p e ≡ false
+    goes_on alive = grind (arith, alive, ended-more o.p X e)
 
-    was_spared : has_ended p (X ++ e ∷ []) ≡ false → is_doomed p (after_call call q on).scheduler.agenda ≡ false → is_doomed p (Item.Turn q origin stimulus ∷ items) ≡ false
-    was_spared alive spared = let rest : is_doomed p items ≡ false = after-doomed p call q on spared in grind (arith, nat_tests, rest, goes_on alive)
+    was_spared : has_ended o.p (X ++ e ∷ []) ≡ false → is_doomed o.p (after_call call q on).scheduler.agenda ≡ false → is_doomed o.p (Item.Turn q origin stimulus ∷ items) ≡ false
+    was_spared alive spared = let rest : is_doomed o.p items ≡ false = after-doomed o.p call q on spared in grind (arith, nat_tests, rest, goes_on alive)
 
 -- an entry that is no turn, where nothing of this changes
-pub heeded-other : (p t : ℕ) (X : List Entry) (e : Entry) (old new : Machine) → is_turn e ≡ false
-    → (is_doomed p new.scheduler.agenda ≡ false → is_doomed p old.scheduler.agenda ≡ false)
-    → has_farewell p new.scheduler.agenda ≡ has_farewell p old.scheduler.agenda
-    → ((k : Option Reply) → FrontIs p k new.scheduler.agenda → FrontIs p k old.scheduler.agenda)
-    → is_expected p t new.scheduler ≡ is_expected p t old.scheduler → new.timers ≡ old.timers
-    → Heeded p t old X → Heeded p t new (X ++ e ∷ [])
-heeded-other p t X e old new n doomed farewell front expected timers h =
+pub heeded-other : (o : OwnTimer) (X : List Entry) (e : Entry) (old new : Machine) → is_turn e ≡ false
+    → (is_doomed o.p new.scheduler.agenda ≡ false → is_doomed o.p old.scheduler.agenda ≡ false)
+    → has_farewell o.p new.scheduler.agenda ≡ has_farewell o.p old.scheduler.agenda
+    → ((k : Option Reply) → FrontIs o.p k new.scheduler.agenda → FrontIs o.p k old.scheduler.agenda)
+    → is_expected o new.scheduler ≡ is_expected o old.scheduler → new.timers ≡ old.timers
+    → Heeded o old X → Heeded o new (X ++ e ∷ [])
+heeded-other o X e old new n doomed farewell front expected timers h =
     record {
       farewell = λ alive spared. rw farewell (h.farewell (was_alive alive) (doomed spared));
-      kept = λ alive spared k f. rw (standing-other p t k X e n, expected, timers) (h.kept (was_alive alive) (doomed spared) k (front k f));
+      kept = λ alive spared k f. rw (standing-other o k X e n, expected, timers) (h.kept (was_alive alive) (doomed spared) k (front k f));
     }
   where
-    was_alive : has_ended p (X ++ e ∷ []) ≡ false → has_ended p X ≡ false
-    was_alive alive = grind (arith, alive, ended-more p X e)
+    was_alive : has_ended o.p (X ++ e ∷ []) ≡ false → has_ended o.p X ≡ false
+    was_alive alive = grind (arith, alive, ended-more o.p X e)
 
 -- No timer is lost.
 
@@ -152,37 +153,37 @@ pub record AttendedBy (Timed Ordered Told : Type 0) (m : Machine) : Type 0 where
   pub clean : list_all is_no_exited m.scheduler.events ≡ true
   pub heeded : Told
 
-abbrev Attended : ℕ → ℕ → Machine → List Entry → Type 0
-Attended p t m X = AttendedBy (Timely p t m X) (Sound p m.scheduler X) (Heeded p t m X) m
+abbrev Attended : OwnTimer → Machine → List Entry → Type 0
+Attended o m X = AttendedBy (Timely o m X) (Sound o.p m.scheduler X) (Heeded o m X) m
 
-abbrev AttendedFree : ℕ → ℕ → Machine → List Entry → Type 0
-AttendedFree p t m X = AttendedBy (Free p t m X) (SoundFree p m.scheduler X) (HeededFree p t m X) m
+abbrev AttendedFree : OwnTimer → Machine → List Entry → Type 0
+AttendedFree o m X = AttendedBy (Free o m X) (SoundFree o.p m.scheduler X) (HeededFree o m X) m
 
 -- nothing of this speaks of the entries
 abbrev Anything : List Entry → Type 0
 Anything X = Unit {0}
 
-module _ (p t : ℕ) (low : nat_le 4 p ≡ true) (high : nat_lt p 20 ≡ true) where
-  timely : Cases (Timely p t) (Free p t) (IsTimely p t)
+module _ (o : OwnTimer) (low : nat_le 4 o.p ≡ true) (high : nat_lt o.p 20 ≡ true) where
+  timely : Cases (Timely o) (Free o) (IsTimely o)
   timely = grind (arith, nat_tests, timely_cases)
 
-  sound : Cases (SoundOf p) (SoundFreeOf p) (IsInOrder p)
-  sound = sound_cases p low
+  sound : Cases (SoundOf o.p) (SoundFreeOf o.p) (IsInOrder o.p)
+  sound = sound_cases o.p low
 
-  heeded-input : (input : Input) (m : Machine) (X : List Entry) → Heeded p t m X → Heeded p t (effect input (record m { work = 0 })) (X ++ Entry.Input input ∷ [])
+  heeded-input : (input : Input) (m : Machine) (X : List Entry) → Heeded o m X → Heeded o (effect input (record m { work = 0 })) (X ++ Entry.Input input ∷ [])
   heeded-input input m X h = grind (arith, nat_tests, heeded-other, effect-keeps)
 
-  attended_cases : Cases (Attended p t) (AttendedFree p t) Anything
+  attended_cases : Cases (Attended o) (AttendedFree o) Anything
   attended_cases =
       record {
         notes = λ m X entry items h. timely.notes m X entry items h.timely;
         free = λ m X h.
             record {
-              timely = timely-free p t m X h.timely;
-              sound = sound-free p m.scheduler X h.sound;
+              timely = timely-free o m X h.timely;
+              sound = sound-free o.p m.scheduler X h.sound;
               watched = h.watched;
               clean = h.clean;
-              heeded = heeded-free p t m X h.heeded;
+              heeded = heeded-free o m X h.heeded;
             };
         carried = λ m X item items n s h.
             record {
@@ -190,18 +191,18 @@ module _ (p t : ℕ) (low : nat_le 4 p ≡ true) (high : nat_lt p 20 ≡ true) w
               sound = sound.carried m X item items n s h.sound;
               watched = watched-carried item items m n s (grind (arith, h.timely.steady.regular)) h.watched;
               clean = carried-queue is_no_exited item items m.scheduler h.clean;
-              heeded = heeded-carried p t X item items m low n h.sound h.clean h.heeded;
+              heeded = heeded-carried o X item items m low n h.sound h.clean h.heeded;
             };
         served = λ m X q origin event items k h.
-            let gone : HeededFree p t (facing items m) X =
-            subst (λ n. HeededFree p t n X) (kernel_carried q origin (Stimulus.Event event) items m k)
-            (heeded-carried p t X (Item.Give q origin (Stimulus.Event event)) items m low refl h.sound h.clean h.heeded) in
+            let gone : HeededFree o (facing items m) X =
+            subst (λ n. HeededFree o n X) (kernel_carried q origin (Stimulus.Event event) items m k)
+            (heeded-carried o X (Item.Give q origin (Stimulus.Event event)) items m low refl h.sound h.clean h.heeded) in
             record {
               timely = timely.served m X q origin event items k h.timely;
               sound = sound.served m X q origin event items k h.sound;
               watched = watched-serve q origin event items m h.watched;
               clean = serve-events q event (facing items m) h.clean;
-              heeded = heeded-serve p t X q origin event items m h.heeded gone;
+              heeded = heeded-serve o X q origin event items m h.heeded gone;
             };
         called_back = λ m X q c h.
             record {
@@ -225,7 +226,7 @@ module _ (p t : ℕ) (low : nat_le 4 p ≡ true) (high : nat_lt p 20 ≡ true) w
               sound = sound.turn m X items q origin stimulus call h.sound;
               watched = watched-turn items q origin stimulus call m (with_more_work (facing items m)) refl refl refl h.watched;
               clean = after-events call q (with_more_work (facing items m)) h.clean;
-              heeded = heeded-turn p t X m items q origin stimulus call h.timely.steady.clock (turn_setting p t low high X m items q origin stimulus h.timely) h.heeded;
+              heeded = heeded-turn o X m items q origin stimulus call h.timely.steady.clock (turn_setting o low high X m items q origin stimulus h.timely) h.heeded;
             };
         told = λ m X items q origin stimulus call h i. tt;
         shown = λ m X items note h.
@@ -234,7 +235,7 @@ module _ (p t : ℕ) (low : nat_le 4 p ≡ true) (high : nat_lt p 20 ≡ true) w
               sound = sound.shown m X items note h.sound;
               watched = without_item (Item.Show (Entry.Note note)) items m refl h.watched;
               clean = h.clean;
-              heeded = heeded-other p t X (Entry.Note note) (facing (Item.Show (Entry.Note note) ∷ items) m) (facing items m) refl (λ d. d) refl (λ k f. f) refl refl h.heeded;
+              heeded = heeded-other o X (Entry.Note note) (facing (Item.Show (Entry.Note note) ∷ items) m) (facing items m) refl (λ d. d) refl (λ k f. f) refl refl h.heeded;
             };
         noted = λ m X items note h i. tt;
         other = λ X e n k i. tt;
@@ -251,40 +252,41 @@ module _ (p t : ℕ) (low : nat_le 4 p ≡ true) (high : nat_lt p 20 ≡ true) w
 -- at rest
 
 -- a timer on the list whose deadline came is one that is due
-due_listed : (p t clock : ℕ) (timers : Timers) (xs : List Timer) → is_due clock timers (own_timer p t) ≡ true → list_any (is_timer (own_timer p t)) xs ≡ true
+due_listed : (o : OwnTimer) (clock : ℕ) (timers : Timers) (xs : List Timer) → is_due clock timers (own_timer o) ≡ true → list_any (is_timer (own_timer o)) xs ≡ true
     → list_any (is_due clock timers) xs ≡ true
-due_listed p t clock timers [] d h = grind (arith, nat_tests)
-due_listed p t clock timers (x ∷ xs) d h = go (is_timer (own_timer p t) x) refl h (λ k. due_listed p t clock timers xs d k)
+due_listed o clock timers [] d h = grind (arith, nat_tests)
+due_listed o clock timers (x ∷ xs) d h = go (is_timer (own_timer o) x) refl h (λ k. due_listed o clock timers xs d k)
   where
-    go : (b : Bool) → is_timer (own_timer p t) x ≡ b → (b || list_any (is_timer (own_timer p t)) xs) ≡ true
-        → (list_any (is_timer (own_timer p t)) xs ≡ true → list_any (is_due clock timers) xs ≡ true) → (is_due clock timers x || list_any (is_due clock timers) xs) ≡ true
-    go true e k more = let same : x ≡ own_timer p t = that_timer p t x e in let due : is_due clock timers x ≡ true = rw same d in rw due refl
+    go : (b : Bool) → is_timer (own_timer o) x ≡ b → (b || list_any (is_timer (own_timer o)) xs) ≡ true
+        → (list_any (is_timer (own_timer o)) xs ≡ true → list_any (is_due clock timers) xs ≡ true) → (is_due clock timers x || list_any (is_due clock timers) xs) ≡ true
+    go true e k more = let same : x ≡ own_timer o = that_timer o x e in let due : is_due clock timers x ≡ true = rw same d in rw due refl
     go false e k more = let rest : list_any (is_due clock timers) xs ≡ true = more k in grind (arith, rest)
 
-abbrev pub IsGivenAtRest : ℕ → ℕ → List Entry → Type 0
-IsGivenAtRest p t X =
-    has_ended p X ≡ false → (standing X p t).is_armed ≡ true → deadline (standing X p t).cell ≤ clock_after X → (standing X p t).was_given ≡ true
+abbrev pub IsGivenAtRest : OwnTimer → List Entry → Type 0
+IsGivenAtRest o X =
+    has_ended o.p X ≡ false → (standing X o.p o.t).is_armed ≡ true → deadline (standing X o.p o.t).cell ≤ clock_after X → (standing X o.p o.t).was_given ≡ true
 
-rest-given : (p t : ℕ) (m : Machine) (X : List Entry) → is_at_rest m ≡ true → Attended p t m X → IsGivenAtRest p t X
-rest-given p t m X rest h = grind (arith, nat_tests, standing-none, nothing_on, nothing_queued, rest-not_due, due_listed, agree-fold)
+rest-given : (o : OwnTimer) (m : Machine) (X : List Entry) → is_at_rest m ≡ true → Attended o m X → IsGivenAtRest o X
+rest-given o m X rest h = grind (arith, nat_tests, standing-none, nothing_on, nothing_queued, rest-not_due, due_listed, agree-fold)
 
 -- boot
 
-boot-attended : (p t : ℕ) (c : Config) → nat_lt p 20 ≡ true → is_application c.apps p ≡ true → Attended p t (at_start c).machine []
-boot-attended p t c high a =
+boot-attended : (o : OwnTimer) (c : Config) → nat_lt o.p 20 ≡ true → is_application c.apps o.p ≡ true → Attended o (at_start c).machine []
+boot-attended o c high a =
     record {
-      timely = boot_timely p t c (grind (arith, a)) high;
-      sound = boot-sound p c a;
+      timely = boot_timely o c (grind (arith, a)) high;
+      sound = boot-sound o.p c a;
       watched = watched-boot c;
       clean = refl;
-      heeded = record { farewell = λ alive spared. none-mapped (is_farewell p) (λ n. Item.Start n) (range_with_len 4 c.apps) (λ n. refl); kept = λ alive spared k front armed. absurd (grind (arith, armed)) };
+      heeded = record { farewell = λ alive spared. none-mapped (is_farewell o.p) (λ n. Item.Start n) (range_with_len 4 c.apps) (λ n. refl); kept = λ alive spared k front armed. absurd (grind (arith, armed)) };
     }
 
 -- no timer is lost
 pub no_lost_timer : (run : Ran)
     → (p : ℕ) → is_bootable run.config ≡ true → is_application run.config.apps p ≡ true → NoLostTimerFor p run.after.entries
 no_lost_timer run p b a before t place =
+    let o : OwnTimer = record { p = p; t = t } in
     let low : nat_le 4 p ≡ true = grind (arith, a) in
     let high : nat_lt p 20 ≡ true = has_timers run.config p b a in
-    at_rest (Attended p t) Anything (IsGivenAtRest p t) (law_of (attended_cases p t low high)) (rest-given p t)
-    run (boot-attended p t run.config high a) tt before place
+    at_rest (Attended o) Anything (IsGivenAtRest o) (law_of (attended_cases o low high)) (rest-given o)
+    run (boot-attended o run.config high a) tt before place

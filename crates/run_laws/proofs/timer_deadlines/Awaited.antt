@@ -6,92 +6,92 @@ use Rattle.run_laws.proofs.Changes.{Changes, of_changes}
 use Rattle.run_laws.proofs.event_order.Tally.{is_from_queue, is_ordered, stands}
 use Rattle.run_laws.proofs.event_order.Items.{with_agenda}
 use Rattle.run_laws.proofs.event_order.Waiting.{given-running}
-use Rattle.run_laws.proofs.timer_deadlines.Timing.{stopped-other, symm}
+use Rattle.run_laws.proofs.timer_deadlines.Timing.{OwnTimer, own_timer, stopped-other, symm}
 use Rattle.run_laws.proofs.timer_deadlines.Fronts.{carried-any, after-any}
 use Rattle.run_laws.proofs.timer_deadlines.Timed.{that_timer, turn_of}
 use Rattle.run_laws.proofs.timer_deadlines.Farewells.{is_farewell}
 use Rattle.run_laws.proofs.event_order.Steps.{is_quiet_item}
-use Rattle.run_laws.proofs.timer_deadlines.Moves.{own_timer, Moves}
+use Rattle.run_laws.proofs.timer_deadlines.Moves.{Moves}
 
 -- a TIMER event of timer t waits for p
-abbrev pub gives : ℕ → ℕ → Item → Bool
-gives p t (Item.Give q origin stimulus) = is_from_queue origin && (q == p && is_timer_event t stimulus)
-gives p t (Item.Turn q origin stimulus) = q == p && is_timer_event t stimulus
-gives p t _ = false
+abbrev pub gives : OwnTimer → Item → Bool
+gives o (Item.Give q origin stimulus) = is_from_queue origin && (q == o.p && is_timer_event o.t stimulus)
+gives o (Item.Turn q origin stimulus) = q == o.p && is_timer_event o.t stimulus
+gives o _ = false
 
-abbrev pub queues : ℕ → ℕ → Queued Bool → Bool
-queues p t (Queued.To q event) = q == p && is_timer_event t (of_event event)
-queues p t _ = false
+abbrev pub queues : OwnTimer → Queued Bool → Bool
+queues o (Queued.To q event) = q == o.p && is_timer_event o.t (of_event event)
+queues o _ = false
 
-abbrev pub is_expected : ℕ → ℕ → Scheduler Bool → Bool
-is_expected p t s = list_any (gives p t) s.agenda || list_any (queues p t) s.events
+abbrev pub is_expected : OwnTimer → Scheduler Bool → Bool
+is_expected o s = list_any (gives o) s.agenda || list_any (queues o) s.events
 
 -- an item
 
-delivered-expected : (p t : ℕ) (ns : List ℕ) (items : List Item) (events : List (Queued Bool)) → (list_any (gives p t) items || list_any (queues p t) events) ≡ true
-    → (list_any (gives p t) (delivery ns (slice_get events 0) ++ items) || list_any (queues p t) (drop 1 events)) ≡ true
-delivered-expected p t ns items events h = grind (arith, nat_tests, list_any-append)
+delivered-expected : (o : OwnTimer) (ns : List ℕ) (items : List Item) (events : List (Queued Bool)) → (list_any (gives o) items || list_any (queues o) events) ≡ true
+    → (list_any (gives o) (delivery ns (slice_get events 0) ++ items) || list_any (queues o) (drop 1 events)) ≡ true
+delivered-expected o ns items events h = grind (arith, nat_tests, list_any-append)
 
-pub carried-expected : (p t : ℕ) (item : Item) (items : List Item) (s : Scheduler Bool) → nat_le 4 p ≡ true → is_quiet_item item ≡ true
-    → is_ordered (item ∷ items) ≡ true → stands p (with_agenda (item ∷ items) s) ≡ true
-    → is_expected p t (with_agenda (item ∷ items) s) ≡ true → is_expected p t (after_item item (with_agenda items s)) ≡ true
-carried-expected p t item items s a n o k h = grind (arith, nat_tests, carried-any, delivered-expected, given-running)
+pub carried-expected : (o : OwnTimer) (item : Item) (items : List Item) (s : Scheduler Bool) → nat_le 4 o.p ≡ true → is_quiet_item item ≡ true
+    → is_ordered (item ∷ items) ≡ true → stands o.p (with_agenda (item ∷ items) s) ≡ true
+    → is_expected o (with_agenda (item ∷ items) s) ≡ true → is_expected o (after_item item (with_agenda items s)) ≡ true
+carried-expected o item items s a n is k h = grind (arith, nat_tests, carried-any, delivered-expected, given-running)
 
 -- a kernel process
 
 -- the timer is on the list, or its event waits, or g
-abbrev pub Held : ℕ → ℕ → Bool → Machine → Type 0
-Held p t g m = (is_armed (event_timer p t) m.timers || (is_expected p t m.scheduler || g)) ≡ true
+abbrev pub Held : OwnTimer → Bool → Machine → Type 0
+Held o g m = (is_armed (own_timer o) m.timers || (is_expected o m.scheduler || g)) ≡ true
 
-posted-held : (p t : ℕ) (g : Bool) (event : Queued Bool) (m : Machine) → Held p t g m → Held p t g (with_event event m)
-posted-held p t g event m h = grind (arith, nat_tests, list_any-append)
+posted-held : (o : OwnTimer) (g : Bool) (event : Queued Bool) (m : Machine) → Held o g m → Held o g (with_event event m)
+posted-held o g event m h = grind (arith, nat_tests, list_any-append)
 
-expired-held : (p t : ℕ) (g : Bool) (timer : Timer) (m : Machine) → Held p t g m → Held p t g (post_expiry (Some timer) m)
-expired-held p t g timer m h = grind (arith, nat_tests, that_timer, list_any-append, stopped-other, symm, posted-held)
+expired-held : (o : OwnTimer) (g : Bool) (timer : Timer) (m : Machine) → Held o g m → Held o g (post_expiry (Some timer) m)
+expired-held o g timer m h = grind (arith, nat_tests, that_timer, list_any-append, stopped-other, symm, posted-held)
 
 kept-filter : (test keep : Timer → Bool) (xs : List Timer) → ((x : Timer) → test x ≡ true → keep x ≡ true) → list_any test (filter keep xs) ≡ list_any test xs
 kept-filter test keep [] k = refl
 kept-filter test keep (x ∷ xs) k = grind (arith, nat_tests, kept-filter test keep xs k)
 
-filter-held : (p t : ℕ) (g : Bool) (keep : Timer → Bool) (m : Machine) → ((x : Timer) → is_timer (event_timer p t) x ≡ true → keep x ≡ true) → Held p t g m
-    → Held p t g (record m { timers = record m.timers { armed = filter keep m.timers.armed } })
-filter-held p t g keep m k h = grind (arith, nat_tests, kept-filter)
+filter-held : (o : OwnTimer) (g : Bool) (keep : Timer → Bool) (m : Machine) → ((x : Timer) → is_timer (own_timer o) x ≡ true → keep x ≡ true) → Held o g m
+    → Held o g (record m { timers = record m.timers { armed = filter keep m.timers.armed } })
+filter-held o g keep m k h = grind (arith, nat_tests, kept-filter)
 
-spares-others : (p t n : ℕ) (x : Timer) → (n == p) ≡ false → is_timer (event_timer p t) x ≡ true → not (is_event_timer_of n x) ≡ true
-spares-others p t n x e h = grind (arith, nat_tests)
+spares-others : (o : OwnTimer) (n : ℕ) (x : Timer) → (n == o.p) ≡ false → is_timer (own_timer o) x ≡ true → not (is_event_timer_of n x) ≡ true
+spares-others o n x e h = grind (arith, nat_tests)
 
-spares-events : (p t n : ℕ) (x : Timer) → is_timer (event_timer p t) x ≡ true → not (is_callback_timer_of n x) ≡ true
-spares-events p t n x h = grind (arith, nat_tests)
+spares-events : (o : OwnTimer) (n : ℕ) (x : Timer) → is_timer (own_timer o) x ≡ true → not (is_callback_timer_of n x) ≡ true
+spares-events o n x h = grind (arith, nat_tests)
 
-pub queues-cancelled : (p t : ℕ) (test : ℕ → ℕ → Bool) (events : List (Queued Bool)) → list_any (queues p t) (map (cancelled_if test) events) ≡ list_any (queues p t) events
-queues-cancelled p t test [] = refl
-queues-cancelled p t test (item ∷ events) = grind (arith, nat_tests, queues-cancelled p t test events)
+pub queues-cancelled : (o : OwnTimer) (test : ℕ → ℕ → Bool) (events : List (Queued Bool)) → list_any (queues o) (map (cancelled_if test) events) ≡ list_any (queues o) events
+queues-cancelled o test [] = refl
+queues-cancelled o test (item ∷ events) = grind (arith, nat_tests, queues-cancelled o test events)
 
-pub cancelled-held : (p t : ℕ) (g : Bool) (test : ℕ → ℕ → Bool) (m : Machine) → Held p t g m → Held p t g (expiries_cancelled test m)
-cancelled-held p t g test m h = rw (queues-cancelled p t test m.scheduler.events) h
+pub cancelled-held : (o : OwnTimer) (g : Bool) (test : ℕ → ℕ → Bool) (m : Machine) → Held o g m → Held o g (expiries_cancelled test m)
+cancelled-held o g test m h = rw (queues-cancelled o test m.scheduler.events) h
 
 exited-other : (p n : ℕ) (payload : Payload) → exited_application payload ≡ Some n → is_number p payload ≡ false → (n == p) ≡ false
 exited-other p n payload e f = grind (arith, nat_tests)
 
 -- an event that is no farewell to p
-pub serve-held : (p t : ℕ) (g : Bool) (q : ℕ) (origin : Origin) (event : Event) (m : Machine) → is_farewell p (Item.Give q origin (of_event event)) ≡ false
-    → Held p t g m → Held p t g (serve q event m)
-serve-held p t g q origin event m none = of_changes changes m
+pub serve-held : (o : OwnTimer) (g : Bool) (q : ℕ) (origin : Origin) (event : Event) (m : Machine) → is_farewell o.p (Item.Give q origin (of_event event)) ≡ false
+    → Held o g m → Held o g (serve q event m)
+serve-held o g q origin event m none = of_changes changes m
   where
-    other : (n : ℕ) → (q == 0) ≡ true → (event.code == EXITED) ≡ true → exited_application event.payload ≡ Some n → (n == p) ≡ false
-    other n z k e = exited-other p n event.payload e (grind (arith, none, z, k))
+    other : (n : ℕ) → (q == 0) ≡ true → (event.code == EXITED) ≡ true → exited_application event.payload ≡ Some n → (n == o.p) ≡ false
+    other n z k e = exited-other o.p n event.payload e (grind (arith, none, z, k))
 
-    changes : Changes (λ old new. Held p t g old → Held p t g new) q event
+    changes : Changes (λ old new. Held o g old → Held o g new) q event
     changes =
         record {
           same = λ m h. h;
           chained = λ a b c f g h. g (f h);
-          expired = λ timer m e. expired-held p t g timer m;
-          timers_gone = λ n m z k e. filter-held p t g (λ timer. not (is_event_timer_of n timer)) m (λ x. spares-others p t n x (other n z k e));
+          expired = λ timer m e. expired-held o g timer m;
+          timers_gone = λ n m z k e. filter-held o g (λ timer. not (is_event_timer_of n timer)) m (λ x. spares-others o n x (other n z k e));
           callbacks_gone = λ n m h.
               let a : Machine = with_timers (without_callback_timers n m.timers) m in
-              cancelled-held p t g (λ x c. x == n) a (filter-held p t g (λ timer. not (is_callback_timer_of n timer)) m (spares-events p t n) h);
-          posted = λ notice m n. posted-held p t g notice m;
+              cancelled-held o g (λ x c. x == n) a (filter-held o g (λ timer. not (is_callback_timer_of n timer)) m (spares-events o n) h);
+          posted = λ notice m n. posted-held o g notice m;
           devices = λ serial is_waiting packets m e h. h;
           marked = λ n m h. h;
         }
@@ -99,49 +99,49 @@ serve-held p t g q origin event m none = of_changes changes m
 -- After each turn an armed timer is on the list, or its TIMER event waits, or one was given.
 -- what waits goes on waiting
 
-after-queues : (p t : ℕ) → KeptByCalls (λ events. list_any (queues p t) events ≡ true)
-after-queues p t =
+after-queues : (o : OwnTimer) → KeptByCalls (λ events. list_any (queues o) events ≡ true)
+after-queues o =
     record {
-      posted = λ event events posted h. grind (arith, h, list_any-append (queues p t) events);
-      cancelled = λ test events h. rw (queues-cancelled p t test events) h;
+      posted = λ event events posted h. grind (arith, h, list_any-append (queues o) events);
+      cancelled = λ test events h. rw (queues-cancelled o test events) h;
     }
 
-pub after-expected : (p t : ℕ) (call : Call) (q : ℕ) (m : Machine) → is_expected p t m.scheduler ≡ true → is_expected p t (after_call call q m).scheduler ≡ true
-after-expected p t call q m h = go (list_any (gives p t) m.scheduler.agenda) refl h
+pub after-expected : (o : OwnTimer) (call : Call) (q : ℕ) (m : Machine) → is_expected o m.scheduler ≡ true → is_expected o (after_call call q m).scheduler ≡ true
+after-expected o call q m h = go (list_any (gives o) m.scheduler.agenda) refl h
   where
-    go : (b : Bool) → list_any (gives p t) m.scheduler.agenda ≡ b → (b || list_any (queues p t) m.scheduler.events) ≡ true → is_expected p t (after_call call q m).scheduler ≡ true
-    go true e k = rw (after-any (gives p t) call q m e) refl
-    go false e k = grind (arith, kept_by_call (after-queues p t) call q m k)
+    go : (b : Bool) → list_any (gives o) m.scheduler.agenda ≡ b → (b || list_any (queues o) m.scheduler.events) ≡ true → is_expected o (after_call call q m).scheduler ≡ true
+    go true e k = rw (after-any (gives o) call q m e) refl
+    go false e k = grind (arith, kept_by_call (after-queues o) call q m k)
 
 -- the standing of the timer
 
 -- its last arming is followed by a TIMER event, or one waits, or it is on the list
-abbrev pub Awaits : ℕ → ℕ → Timers → Bool → Standing → Type 0
-Awaits p t timers waits st = st.is_armed ≡ true → (is_armed (own_timer p t) timers || (waits || st.was_given)) ≡ true
+abbrev pub Awaits : OwnTimer → Timers → Bool → Standing → Type 0
+Awaits o timers waits st = st.is_armed ≡ true → (is_armed (own_timer o) timers || (waits || st.was_given)) ≡ true
 
 abbrev pub standing_then : Bool → ℕ → ℕ → Stimulus → Origin → Call → Option Reply → Standing → Standing
 standing_then same t clock stimulus origin call k st = if same then standing_after t st (turn_of clock stimulus origin call k) else st
 
 -- a turn of q that was told the stimulus
-pub turn-awaits : (p t q clock : ℕ) (stimulus : Stimulus) (origin : Origin) (call : Call) (k : Option Reply) (old new : Timers) (w v : Bool) (st : Standing)
-    → Moves p t q clock call k old new → (w ≡ true → v ≡ true) → Awaits p t old ((q == p && is_timer_event t stimulus) || w) st
-    → Awaits p t new v (standing_then (q == p) t clock stimulus origin call k st)
-turn-awaits p t q clock stimulus origin call k old new w v st moves more h =
-    go (q == p) (is_done k) (arms t call) (stops t call) refl refl refl refl moves.kept moves.set h
+pub turn-awaits : (o : OwnTimer) (q clock : ℕ) (stimulus : Stimulus) (origin : Origin) (call : Call) (k : Option Reply) (old new : Timers) (w v : Bool) (st : Standing)
+    → Moves o q clock call k old new → (w ≡ true → v ≡ true) → Awaits o old ((q == o.p && is_timer_event o.t stimulus) || w) st
+    → Awaits o new v (standing_then (q == o.p) o.t clock stimulus origin call k st)
+turn-awaits o q clock stimulus origin call k old new w v st moves more h =
+    go (q == o.p) (is_done k) (arms o.t call) (stops o.t call) refl refl refl refl moves.kept moves.set h
   where
-    go : (same d a s : Bool) → (q == p) ≡ same → is_done k ≡ d → arms t call ≡ a → stops t call ≡ s
-        → ((same && (d && (a || s))) ≡ false → is_armed (own_timer p t) new ≡ is_armed (own_timer p t) old)
-        → ((same && (d && a)) ≡ true → is_armed (own_timer p t) new ≡ true)
-        → Awaits p t old ((same && is_timer_event t stimulus) || w) st
-        → Awaits p t new v (standing_then same t clock stimulus origin call k st)
+    go : (same d a s : Bool) → (q == o.p) ≡ same → is_done k ≡ d → arms o.t call ≡ a → stops o.t call ≡ s
+        → ((same && (d && (a || s))) ≡ false → is_armed (own_timer o) new ≡ is_armed (own_timer o) old)
+        → ((same && (d && a)) ≡ true → is_armed (own_timer o) new ≡ true)
+        → Awaits o old ((same && is_timer_event o.t stimulus) || w) st
+        → Awaits o new v (standing_then same o.t clock stimulus origin call k st)
     go false d a s e f g i stays sets h = λ armed. grind (arith, stays refl, more, h armed)
     go true true true s e f g i stays sets h = λ armed. rw (sets refl) refl
     go true true false true e f g i stays sets h = λ armed. absurd (grind (arith, armed, f, g, i))
     go true true false false e f g i stays sets h = λ armed. last (grind (arith, armed, f, g, i))
       where
-        last : st.is_armed ≡ true → (is_armed (own_timer p t) new || (v || (standing_after t st (turn_of clock stimulus origin call k)).was_given)) ≡ true
+        last : st.is_armed ≡ true → (is_armed (own_timer o) new || (v || (standing_after o.t st (turn_of clock stimulus origin call k)).was_given)) ≡ true
         last armed = grind (arith, f, g, i, stays refl, more, h armed)
     go true false a s e f g i stays sets h = λ armed. last (grind (arith, armed, f))
       where
-        last : st.is_armed ≡ true → (is_armed (own_timer p t) new || (v || (standing_after t st (turn_of clock stimulus origin call k)).was_given)) ≡ true
+        last : st.is_armed ≡ true → (is_armed (own_timer o) new || (v || (standing_after o.t st (turn_of clock stimulus origin call k)).was_given)) ≡ true
         last armed = grind (arith, f, stays refl, more, h armed)

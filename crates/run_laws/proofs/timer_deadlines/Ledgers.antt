@@ -1,4 +1,5 @@
 -- Timer t of p by the turns of p, from the first on.
+use Rattle.run_laws.proofs.timer_deadlines.Timing.{OwnTimer, own_timer}
 use Rattle.run_laws.proofs.Common.{nat_tests, cons_option, option_map_or, Call, Reply, Stimulus, Origin, Pid, Entry, Cell, zero_cell, deadline, heard, is_done, OwnTurn, own, own_from, own_turn, reply_of, ticks_in, clock_after, arms, stops, cell_after, is_arming, is_arming_or_stop, ripe_armings, is_timer_event, timer_events, cell_at, stood_until, ripe_from}
 use Rattle.std.proofs.Common.{◌≡◌, ℕ, ◌+◌, Bool, true, false, ◌&&◌, ◌||◌, List, [], ◌∷◌, ◌++◌, refl, ◌∙◌, sym, arith, Option, Some, None, option_to_list, fold, find, if◌then◌else◌, ◌==◌, nat_le}
 use Rattle.run_laws.proofs.event_order.Tally.{reply_or, reply_or-none, heard-turn, heard-other, is_turn, cons_option-append, cons_option-nil}
@@ -136,8 +137,8 @@ given-fold t ledger [] = refl
 given-fold t ledger (turn ∷ later) = grind (arith, nat_tests, given-fold t (ledger_after t ledger turn) later)
 
 -- the ledger tells both numbers
-pub timer_events-ledger : (X : List Entry) (p t : ℕ) → timer_events X p t ≡ (ledger_of t (turns_or None p 0 X)).given
-timer_events-ledger X p t = grind (arith, nat_tests, turns-none, given-fold)
+pub timer_events-ledger : (X : List Entry) (o : OwnTimer) → timer_events X o.p o.t ≡ (ledger_of o.t (turns_or None o.p 0 X)).given
+timer_events-ledger X o = grind (arith, nat_tests, turns-none, given-fold)
 
-pub ripe_armings-ledger : (X : List Entry) (p t : ℕ) → ripe_armings X p t ≡ ripe_at (clock_after X) (ledger_of t (turns_or None p 0 X))
-ripe_armings-ledger X p t = grind (arith, nat_tests, turns-none, ripe-ledger)
+pub ripe_armings-ledger : (X : List Entry) (o : OwnTimer) → ripe_armings X o.p o.t ≡ ripe_at (clock_after X) (ledger_of o.t (turns_or None o.p 0 X))
+ripe_armings-ledger X o = grind (arith, nat_tests, turns-none, ripe-ledger)

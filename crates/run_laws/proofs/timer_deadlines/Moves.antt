@@ -2,10 +2,7 @@
 use Rattle.std.proofs.Common.{◌≡◌, ℕ, ◌+◌, Bool, true, false, ◌&&◌, ◌||◌, List, ◌∷◌, refl, subst, arith, Option, Some, None, ◌==◌, nat_le, nat_lt}
 use Rattle.run_laws.proofs.Common.{nat_tests, Call, Reply, Refusal, Item, Timer, Cell, all_timers, event_timer, callback_timer, is_timer, Timers, cell_of, is_armed, armed_with, set_timer, stop_timer, restart_timer, reset_timer, Machine, with_timers, mark, expiries_cancelled, after_call, answer_done, refused_or, is_callback_timer, reply_of, is_done, arms, stops, cell_after}
 use Rattle.kernel_core.specs.Calls.{timer_refusal, callback_refusal, reset_refusal}
-use Rattle.run_laws.proofs.timer_deadlines.Timing.{cell_names, armed-names, cell-armed_own, cell-armed_other, armed-other, stopped-own, stopped-other}
-
-abbrev pub own_timer : ℕ → ℕ → Timer
-own_timer p t = event_timer p t
+use Rattle.run_laws.proofs.timer_deadlines.Timing.{OwnTimer, own_timer, cell_names, armed-names, cell-armed_own, cell-armed_other, armed-other, stopped-own, stopped-other}
 
 -- the reply that p is given next is k, if p is in front
 abbrev pub FrontIs : ℕ → Option Reply → List Item → Type 0
@@ -40,62 +37,62 @@ pub record Setting (p : ℕ) (timers : Timers) : Type 0 where
   pub names : cell_names timers.cells ≡ all_timers
 
 -- the call of q with reply k arms timer t of p
-abbrev pub is_set_by : ℕ → ℕ → ℕ → Call → Option Reply → Bool
-is_set_by p t q call k = q == p && (is_done k && arms t call)
+abbrev pub is_set_by : OwnTimer → ℕ → Call → Option Reply → Bool
+is_set_by o q call k = q == o.p && (is_done k && arms o.t call)
 
-abbrev pub is_moved_by : ℕ → ℕ → ℕ → Call → Option Reply → Bool
-is_moved_by p t q call k = q == p && (is_done k && (arms t call || stops t call))
+abbrev pub is_moved_by : OwnTimer → ℕ → Call → Option Reply → Bool
+is_moved_by o q call k = q == o.p && (is_done k && (arms o.t call || stops o.t call))
 
-pub record Moves (p t q clock : ℕ) (call : Call) (k : Option Reply) (old new : Timers) : Type 0 where
-  pub kept : is_moved_by p t q call k ≡ false → is_armed (own_timer p t) new ≡ is_armed (own_timer p t) old
-  pub kept_cell : is_set_by p t q call k ≡ false → nat_le t 7 ≡ true → cell_of (own_timer p t) new ≡ cell_of (own_timer p t) old
-  pub set : is_set_by p t q call k ≡ true → is_armed (own_timer p t) new ≡ true
-  pub set_cell : is_set_by p t q call k ≡ true → cell_of (own_timer p t) new ≡ cell_after t clock call (cell_of (own_timer p t) old)
-  pub named : is_set_by p t q call k ≡ true → nat_le t 7 ≡ true
-  pub unset : (q == p && (is_done k && stops t call)) ≡ true → is_armed (own_timer p t) new ≡ false
+pub record Moves (o : OwnTimer) (q clock : ℕ) (call : Call) (k : Option Reply) (old new : Timers) : Type 0 where
+  pub kept : is_moved_by o q call k ≡ false → is_armed (own_timer o) new ≡ is_armed (own_timer o) old
+  pub kept_cell : is_set_by o q call k ≡ false → nat_le o.t 7 ≡ true → cell_of (own_timer o) new ≡ cell_of (own_timer o) old
+  pub set : is_set_by o q call k ≡ true → is_armed (own_timer o) new ≡ true
+  pub set_cell : is_set_by o q call k ≡ true → cell_of (own_timer o) new ≡ cell_after o.t clock call (cell_of (own_timer o) old)
+  pub named : is_set_by o q call k ≡ true → nat_le o.t 7 ≡ true
+  pub unset : (q == o.p && (is_done k && stops o.t call)) ≡ true → is_armed (own_timer o) new ≡ false
 
 -- a call that neither arms nor stops it
-pub still_moves : (p t q clock : ℕ) (call : Call) (k : Option Reply) (old new : Timers) → is_moved_by p t q call k ≡ false
-    → is_armed (own_timer p t) new ≡ is_armed (own_timer p t) old → (nat_le t 7 ≡ true → cell_of (own_timer p t) new ≡ cell_of (own_timer p t) old)
-    → Moves p t q clock call k old new
-still_moves p t q clock call k old new n e f = grind (arith, nat_tests)
+pub still_moves : (o : OwnTimer) (q clock : ℕ) (call : Call) (k : Option Reply) (old new : Timers) → is_moved_by o q call k ≡ false
+    → is_armed (own_timer o) new ≡ is_armed (own_timer o) old → (nat_le o.t 7 ≡ true → cell_of (own_timer o) new ≡ cell_of (own_timer o) old)
+    → Moves o q clock call k old new
+still_moves o q clock call k old new n e f = grind (arith, nat_tests)
 
 -- the reply to q's call, if q is p
 abbrev Knowledge : ℕ → ℕ → Option Reply → Reply → Type 0
 Knowledge p q k reply = (q == p) ≡ true → k ≡ Some reply
 
-same_timer : (p t q u : ℕ) → (q == p) ≡ true → (u == t) ≡ true → own_timer p t ≡ own_timer q u
-same_timer p t q u e f = grind (arith, nat_tests)
+same_timer : (o : OwnTimer) (q u : ℕ) → (q == o.p) ≡ true → (u == o.t) ≡ true → own_timer o ≡ event_timer q u
+same_timer o q u e f = grind (arith, nat_tests)
 
 -- an arming of timer u of q
-armed_moves : (p t q u clock : ℕ) (call : Call) (k : Option Reply) (cell : Cell) (old : Timers) → Setting p old → nat_le u 7 ≡ true → Knowledge p q k Reply.Done
-    → arms t call ≡ (u == t) → stops t call ≡ false → ((u == t) ≡ true → cell ≡ cell_after t clock call (cell_of (own_timer q u) old))
-    → Moves p t q clock call k old (armed_with (own_timer q u) cell old)
-armed_moves p t q u clock call k cell old s fits told arm stop value = grind (arith, nat_tests, still_moves, armed-other, cell-armed_other, same_timer, cell-armed_own)
+armed_moves : (o : OwnTimer) (q u clock : ℕ) (call : Call) (k : Option Reply) (cell : Cell) (old : Timers) → Setting o.p old → nat_le u 7 ≡ true → Knowledge o.p q k Reply.Done
+    → arms o.t call ≡ (u == o.t) → stops o.t call ≡ false → ((u == o.t) ≡ true → cell ≡ cell_after o.t clock call (cell_of (event_timer q u) old))
+    → Moves o q clock call k old (armed_with (event_timer q u) cell old)
+armed_moves o q u clock call k cell old s fits told arm stop value = grind (arith, nat_tests, still_moves, armed-other, cell-armed_other, same_timer, cell-armed_own)
 
 -- a stop of timer u of q
-stopped_moves : (p t q u clock : ℕ) (k : Option Reply) (old : Timers) → Knowledge p q k Reply.Done → Moves p t q clock (Call.TimerStop u) k old (stop_timer (own_timer q u) old)
-stopped_moves p t q u clock k old told = go (q == p) (u == t) refl refl
+stopped_moves : (o : OwnTimer) (q u clock : ℕ) (k : Option Reply) (old : Timers) → Knowledge o.p q k Reply.Done → Moves o q clock (Call.TimerStop u) k old (stop_timer (event_timer q u) old)
+stopped_moves o q u clock k old told = go (q == o.p) (u == o.t) refl refl
   where
     call : Call
     call = Call.TimerStop u
 
     new : Timers
-    new = stop_timer (own_timer q u) old
+    new = stop_timer (event_timer q u) old
 
-    other : (p == q && t == u) ≡ false → Moves p t q clock call k old new
+    other : (o.p == q && o.t == u) ≡ false → Moves o q clock call k old new
     other ne =
-        let n : is_timer (own_timer q u) (own_timer p t) ≡ false = grind (arith, nat_tests, ne) in
-        let unmoved : is_moved_by p t q call k ≡ false = grind (arith, nat_tests, ne) in
-        still_moves p t q clock call k old new unmoved (stopped-other (own_timer p t) (own_timer q u) old.armed n) (λ number. refl)
+        let n : is_timer (event_timer q u) (own_timer o) ≡ false = grind (arith, nat_tests, ne) in
+        let unmoved : is_moved_by o q call k ≡ false = grind (arith, nat_tests, ne) in
+        still_moves o q clock call k old new unmoved (stopped-other (own_timer o) (event_timer q u) old.armed n) (λ number. refl)
 
-    go : (same this : Bool) → (q == p) ≡ same → (u == t) ≡ this → Moves p t q clock call k old new
+    go : (same this : Bool) → (q == o.p) ≡ same → (u == o.t) ≡ this → Moves o q clock call k old new
     go false this e f = other (grind (arith, nat_tests, e))
     go true false e f = other (grind (arith, nat_tests, f))
     go true true e f =
         let answer_done : is_done k ≡ true = rw (told e) refl in
-        let off : is_armed (own_timer p t) new ≡ false =
-        subst (λ x. is_armed (own_timer p t) (stop_timer x old) ≡ false) (same_timer p t q u e f) (stopped-own (own_timer p t) old.armed) in
+        let off : is_armed (own_timer o) new ≡ false =
+        subst (λ x. is_armed (own_timer o) (stop_timer x old) ≡ false) (same_timer o q u e f) (stopped-own (own_timer o) old.armed) in
         record {
           kept = λ h. absurd (grind (arith, h, e, answer_done, f));
           kept_cell = λ h number. refl;
@@ -106,10 +103,10 @@ stopped_moves p t q u clock k old told = go (q == p) (u == t) refl refl
         }
 
 -- a call that may be refused
-by_refusal : (p t : ℕ) (call : Call) (q : ℕ) (k : Option Reply) (m after : Machine) (o : Option Refusal) → FrontIs p k (refused_or o q m (answer_done q after)).scheduler.agenda
-    → (o ≡ None → Knowledge p q k Reply.Done → Moves p t q m.clock call k m.timers after.timers)
-    → Moves p t q m.clock call k m.timers (refused_or o q m (answer_done q after)).timers
-by_refusal p t call q k m after o front made = grind (arith, nat_tests)
+by_refusal : (o : OwnTimer) (call : Call) (q : ℕ) (k : Option Reply) (m after : Machine) (refused : Option Refusal) → FrontIs o.p k (refused_or refused q m (answer_done q after)).scheduler.agenda
+    → (refused ≡ None → Knowledge o.p q k Reply.Done → Moves o q m.clock call k m.timers after.timers)
+    → Moves o q m.clock call k m.timers (refused_or refused q m (answer_done q after)).timers
+by_refusal o call q k m after refused front made = grind (arith, nat_tests)
 
 number_fits : (u : ℕ) → timer_refusal u ≡ None → nat_le u 7 ≡ true
 number_fits u h = grind (arith, nat_tests)
@@ -118,31 +115,31 @@ reset_fits : (q u : ℕ) (m : Machine) → reset_refusal q u m ≡ None → nat_
 reset_fits q u m h = grind (arith, nat_tests)
 
 -- a call that names no event timer
-unmoved_by : (p t q : ℕ) (call : Call) (k : Option Reply) → arms t call ≡ false → stops t call ≡ false → is_moved_by p t q call k ≡ false
-unmoved_by p t q call k a b = grind (arith, nat_tests)
+unmoved_by : (o : OwnTimer) (q : ℕ) (call : Call) (k : Option Reply) → arms o.t call ≡ false → stops o.t call ≡ false → is_moved_by o q call k ≡ false
+unmoved_by o q call k a b = grind (arith, nat_tests)
 
-pub after-moves : (p t : ℕ) (call : Call) (q : ℕ) (k : Option Reply) (m : Machine) → Setting p m.timers → FrontIs p k (after_call call q m).scheduler.agenda
-    → Moves p t q m.clock call k m.timers (after_call call q m).timers
-after-moves p t (Call.TimerSet u interval) q k m s front =
-    by_refusal p t (Call.TimerSet u interval) q k m (mark 0 (with_timers (set_timer m.clock (event_timer q u) interval m.timers) m)) (timer_refusal u) front
-    (λ e told. armed_moves p t q u m.clock (Call.TimerSet u interval) k (record { start = m.clock; interval = interval }) m.timers s (number_fits u e) told refl refl (λ this. rw this refl))
-after-moves p t (Call.TimerRestart u) q k m s front =
-    by_refusal p t (Call.TimerRestart u) q k m (mark 0 (with_timers (restart_timer m.clock (event_timer q u) m.timers) m)) (timer_refusal u) front
+pub after-moves : (o : OwnTimer) (call : Call) (q : ℕ) (k : Option Reply) (m : Machine) → Setting o.p m.timers → FrontIs o.p k (after_call call q m).scheduler.agenda
+    → Moves o q m.clock call k m.timers (after_call call q m).timers
+after-moves o (Call.TimerSet u interval) q k m s front =
+    by_refusal o (Call.TimerSet u interval) q k m (mark 0 (with_timers (set_timer m.clock (event_timer q u) interval m.timers) m)) (timer_refusal u) front
+    (λ e told. armed_moves o q u m.clock (Call.TimerSet u interval) k (record { start = m.clock; interval = interval }) m.timers s (number_fits u e) told refl refl (λ this. rw this refl))
+after-moves o (Call.TimerRestart u) q k m s front =
+    by_refusal o (Call.TimerRestart u) q k m (mark 0 (with_timers (restart_timer m.clock (event_timer q u) m.timers) m)) (timer_refusal u) front
     (λ e told.
-    armed_moves p t q u m.clock (Call.TimerRestart u) k (record (cell_of (event_timer q u) m.timers) { start = m.clock }) m.timers s (number_fits u e) told refl refl
+    armed_moves o q u m.clock (Call.TimerRestart u) k (record (cell_of (event_timer q u) m.timers) { start = m.clock }) m.timers s (number_fits u e) told refl refl
     (λ this. rw this refl))
-after-moves p t (Call.TimerReset u) q k m s front =
+after-moves o (Call.TimerReset u) q k m s front =
     let cell : Cell = cell_of (event_timer q u) m.timers in
-    by_refusal p t (Call.TimerReset u) q k m (mark 0 (with_timers (reset_timer (event_timer q u) m.timers) m)) (reset_refusal q u m) front
+    by_refusal o (Call.TimerReset u) q k m (mark 0 (with_timers (reset_timer (event_timer q u) m.timers) m)) (reset_refusal q u m) front
     (λ e told.
-    armed_moves p t q u m.clock (Call.TimerReset u) k (record cell { start = cell.start + cell.interval }) m.timers s (reset_fits q u m e) told refl refl (λ this. rw this refl))
-after-moves p t (Call.TimerStop u) q k m s front =
-    by_refusal p t (Call.TimerStop u) q k m (with_timers (stop_timer (event_timer q u) m.timers) m) (timer_refusal u) front (λ e told. stopped_moves p t q u m.clock k m.timers told)
-after-moves p t (Call.CallbackSet c interval) q k m s front = grind (arith, nat_tests, by_refusal, still_moves, unmoved_by, armed-other, cell-armed_other)
-after-moves p t (Call.CallbackStop c) q k m s front =
+    armed_moves o q u m.clock (Call.TimerReset u) k (record cell { start = cell.start + cell.interval }) m.timers s (reset_fits q u m e) told refl refl (λ this. rw this refl))
+after-moves o (Call.TimerStop u) q k m s front =
+    by_refusal o (Call.TimerStop u) q k m (with_timers (stop_timer (event_timer q u) m.timers) m) (timer_refusal u) front (λ e told. stopped_moves o q u m.clock k m.timers told)
+after-moves o (Call.CallbackSet c interval) q k m s front = grind (arith, nat_tests, by_refusal, still_moves, unmoved_by, armed-other, cell-armed_other)
+after-moves o (Call.CallbackStop c) q k m s front =
     let timer : Timer = callback_timer q c in
-    by_refusal p t (Call.CallbackStop c) q k m (expiries_cancelled (is_callback_timer q c) (with_timers (stop_timer timer m.timers) m)) (callback_refusal c) front
+    by_refusal o (Call.CallbackStop c) q k m (expiries_cancelled (is_callback_timer q c) (with_timers (stop_timer timer m.timers) m)) (callback_refusal c) front
     (λ e told.
-    still_moves p t q m.clock (Call.CallbackStop c) k m.timers (stop_timer timer m.timers) (unmoved_by p t q (Call.CallbackStop c) k refl refl)
-    (stopped-other (own_timer p t) timer m.timers.armed refl) (λ number. refl))
-after-moves p t call q k m s front = grind (arith, nat_tests, after-timers, still_moves)
+    still_moves o q m.clock (Call.CallbackStop c) k m.timers (stop_timer timer m.timers) (unmoved_by o q (Call.CallbackStop c) k refl refl)
+    (stopped-other (own_timer o) timer m.timers.armed refl) (λ number. refl))
+after-moves o call q k m s front = grind (arith, nat_tests, after-timers, still_moves)

@@ -34,7 +34,7 @@ steady-front items m X r h = grind (arith, nat_tests)
 
 -- a kernel process
 pub steady-serve : (q : ℕ) (event : Event) (m : Machine) (X : List Entry) → Steady m X → Steady (serve q event m) X
-steady-serve q event m X h = grind (arith, nat_tests, serve-fair 0 0 q event m, serve-untouched q event m)
+steady-serve q event m X h = grind (arith, nat_tests, serve-fair (record { p = 0; t = 0 }) q event m, serve-untouched q event m)
 
 -- a turn
 

@@ -4,6 +4,14 @@ use Rattle.run_laws.proofs.Common.{list_any, range_with_len, nat_tests, Timer, C
 use Rattle.std.proofs.lemmas.Bool.{eq-eqb}
 use Rattle.std.proofs.lemmas.List.FromFn.{length-range_with_len, get_or-range_with_len}
 
+-- timer t of process p
+pub record OwnTimer : Type 0 where
+  pub p : ℕ
+  pub t : ℕ
+
+abbrev pub own_timer : OwnTimer → Timer
+own_timer o = event_timer o.p o.t
+
 -- names
 
 same_timer : (timer : Timer) → is_timer timer timer ≡ true
@@ -62,13 +70,13 @@ in_range from n p low high =
     list_any_at (λ k. k == p) (range_with_len from n) (p - from) 0 (omega (arith, length-range_with_len from n))
     (eq-eqb _ p (get_or-range_with_len from n (p - from) 0 (omega arith) ∙ omega arith))
 
-event_timer-named : (p t : ℕ) → nat_le 4 p ≡ true → nat_lt p 20 ≡ true → nat_le t 7 ≡ true → list_any (is_timer (event_timer p t)) all_timers ≡ true
+event_timer-named : (o : OwnTimer) → nat_le 4 o.p ≡ true → nat_lt o.p 20 ≡ true → nat_le o.t 7 ≡ true → list_any (is_timer (own_timer o)) all_timers ≡ true
 unfolding all_timers
-event_timer-named p t a b c = grind (arith, nat_tests)
+event_timer-named o a b c = grind (arith, nat_tests)
 
-pub cell-armed_own : (p t : ℕ) (cell : Cell) (timers : Timers) → cell_names timers.cells ≡ all_timers → nat_le 4 p ≡ true → nat_lt p 20 ≡ true → nat_le t 7 ≡ true
-    → cell_of (event_timer p t) (armed_with (event_timer p t) cell timers) ≡ cell
-cell-armed_own p t cell timers l a b c = grind (arith, nat_tests, under-own, event_timer-named)
+pub cell-armed_own : (o : OwnTimer) (cell : Cell) (timers : Timers) → cell_names timers.cells ≡ all_timers → nat_le 4 o.p ≡ true → nat_lt o.p 20 ≡ true → nat_le o.t 7 ≡ true
+    → cell_of (own_timer o) (armed_with (own_timer o) cell timers) ≡ cell
+cell-armed_own o cell timers l a b c = grind (arith, nat_tests, under-own, event_timer-named)
 
 -- the list
 
