@@ -7,7 +7,7 @@ use Rattle.run_laws.proofs.Marks.{state_of-with_mark}
 -- what holds of the scheduler, and outlasts both
 pub effect-keeps : (P : Scheduler Bool → Type 0) (input : Input) (m : Machine) → P m.scheduler → ((q : ℕ) → P (marked q m.scheduler))
     → ((refusal : Refusal) → P (in_front (Item.Show (Entry.Note (Note.Lost refusal)) ∷ []) m.scheduler)) → P (effect input m).scheduler
-effect-keeps P input m h marks shows = grind (arith, nat_tests)
+effect-keeps = grind (arith, nat_tests)
 
 -- What a call or a kernel process leaves as it was.
 

@@ -121,7 +121,7 @@ abbrev last_answered : Call → Call → Reply → List Entry
 last_answered made call reply = started 19 made ∷ told 19 Reply.Done call ∷ told 19 reply Call.Wait ∷ []
 
 last_has_answered : (made call : Call) (reply : Reply) → HasCall (last_answered made call reply) (started 19 made ∷ []) 19 Origin.Answer (Stimulus.Answer Reply.Done) call reply
-last_has_answered made call reply = grind (arith, nat_tests)
+last_has_answered = grind (arith, nat_tests)
 
 last_misread : BlocksAreOwn (last_answered (Call.MmemAlloc 0 2) (Call.MmemRead 0 0 2) (Reply.Bytes nines)) → ⊥
 last_misread laws =

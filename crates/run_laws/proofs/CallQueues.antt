@@ -29,7 +29,7 @@ is_cancelling _ = false
 
 queue_stays : (call : Call) (q : ℕ) (m : Machine) → is_posting call ≡ false → is_cancelling call ≡ false
     → (after_call call q m).scheduler.events ≡ m.scheduler.events
-queue_stays call q m p c = grind (arith, nat_tests)
+queue_stays = grind (arith, nat_tests)
 
 module _ (P : List (Queued Bool) → Type 0) (q : ℕ) (m : Machine) (h : P m.scheduler.events) where
   accepted : (o : Option Refusal) (after : Machine) → (o ≡ None → P after.scheduler.events) → P (refused_or o q m after).scheduler.events
@@ -53,7 +53,7 @@ module _ (P : List (Queued Bool) → Type 0) (q : ℕ) (m : Machine) (h : P m.sc
   kept-queue kept call = unposted-queue kept.cancelled call (grind arith)
 
 pub kept_by_call : {P : List (Queued Bool) → Type 0} → KeptByCalls P → (call : Call) (q : ℕ) (m : Machine) → P m.scheduler.events → P (after_call call q m).scheduler.events
-kept_by_call {P = P} kept call q m h = grind (arith, nat_tests, kept-queue)
+kept_by_call {P = P} = grind (arith, nat_tests, kept-queue)
 
 -- where it posts nothing
 pub kept_unposted : {P : List (Queued Bool) → Type 0} → ((test : ℕ → ℕ → Bool) (events : List (Queued Bool)) → P events → P (map (cancelled_if test) events))

@@ -45,10 +45,10 @@ module _ (p : ℕ) (few : p ≤ 19) where
 
   -- an entry that is no turn
   same_handle : (X : List Entry) (e : Entry) → is_turn e ≡ false → handle_after (X ++ e ∷ []) ≡ handle_after X
-  same_handle X e n = grind (arith, nat_tests, fold-append)
+  same_handle = grind (arith, nat_tests, fold-append)
 
   same_told : (X : List Entry) (e : Entry) → is_turn e ≡ false → told_after (X ++ e ∷ []) ≡ told_after X
-  same_told X e n = grind (arith, nat_tests, fold-append, accepted)
+  same_told = grind (arith, nat_tests, fold-append, accepted)
 
   quiet_entries : (entries : List Entry) (handle : Option ℕ) → list_any is_turn_entry entries ≡ false → fold sent_by handle entries ≡ handle
   quiet_entries [] handle e = refl
@@ -64,7 +64,7 @@ module _ (p : ℕ) (few : p ≤ 19) where
 
   -- where nothing is being sent, anything may be in front
   shown_none : (handle : Option ℕ) (blocks : Blocks) (entry : Entry) → handle ≡ None → Shown handle blocks entry
-  shown_none handle blocks entry e = grind (arith, nat_tests)
+  shown_none = grind (arith, nat_tests)
 
   front_none : (handle : Option ℕ) (blocks : Blocks) (agenda : List Item) → handle ≡ None → FrontOf handle blocks agenda
   front_none handle blocks (Item.Turn q origin stimulus ∷ items) e = tt
@@ -72,11 +72,11 @@ module _ (p : ℕ) (few : p ≤ 19) where
   front_none handle blocks _ e = e
 
   quiet_front : (handle : Option ℕ) (blocks : Blocks) (item : Item) (items : List Item) → is_quiet_item item ≡ true → FrontOf handle blocks (item ∷ items) → handle ≡ None
-  quiet_front handle blocks item items n f = grind (arith, nat_tests)
+  quiet_front = grind (arith, nat_tests)
 
   after_send : (call : Call) (handle : Option ℕ) (blocks : Blocks) (m : Machine) → handle ≡ handle_in call → own_blocks p m.memory ≡ blocks
       → FrontOf handle blocks (after_call call p m).scheduler.agenda
-  after_send call handle blocks m e rel = grind (arith, nat_tests, front_none)
+  after_send = grind (arith, nat_tests, front_none)
 
   abbrev ToldOf : Machine → List Entry → Type 0
   ToldOf m X = Holds (accepted managed_after) (KindLaw managed_kind) (HasBlocks managed_store p) p at_first m X
@@ -100,10 +100,10 @@ module _ (p : ℕ) (few : p ≤ 19) where
     none : handle_after X ≡ None
 
   front-other : (X : List Entry) (e : Entry) (agenda : List Item) → is_turn e ≡ false → FrontAfter X agenda → FrontAfter (X ++ e ∷ []) agenda
-  front-other X e agenda n h = grind (arith, nat_tests, same_handle, same_told)
+  front-other = grind (arith, nat_tests, same_handle, same_told)
 
   other_shown : (handle : Option ℕ) (blocks : Blocks) (e : Entry) → is_note e ≡ false → Shown handle blocks e
-  other_shown handle blocks e n = grind (arith, nat_tests)
+  other_shown = grind (arith, nat_tests)
 
   base : Cases ToldOf ToldOf (WellTold (accepted managed_after) (KindLaw managed_kind) (HasBlocks managed_store p) p at_first)
   base = told_cases (accepted managed_after) (KindLaw managed_kind) (HasBlocks managed_store p) p (own-laws managed_store managed-keeps p few) at_first
@@ -194,11 +194,11 @@ plain-leads sends (Item.Show entry ∷ items) h = grind (arith, h, plain-leads s
 plain-leads sends (item ∷ items) h = h
 
 plain-farewells : (p : ℕ) (s : Scheduler Bool) (rest agenda : List Item) → all_plain (rest ++ agenda) ≡ true → all_plain ((farewells p s ++ rest) ++ agenda) ≡ true
-plain-farewells p s rest agenda h = grind (arith, nat_tests, all-mapped, append_assoc, all-append)
+plain-farewells = grind (arith, nat_tests, all-mapped, append_assoc, all-append)
 
 after_call-leads : (call : Call) (p : ℕ) (m : Machine) → all_plain m.scheduler.agenda ≡ true
     → leads (is_send call) (after_call call p m).scheduler.agenda ≡ true
-after_call-leads call p m h = grind (arith, nat_tests, plain-leads, plain-farewells)
+after_call-leads = grind (arith, nat_tests, plain-leads, plain-farewells)
 
 abbrev sends_after : Bool → Entry → Bool
 sends_after sends (Entry.Turn pid origin stimulus call) = is_send call
@@ -220,11 +220,11 @@ Plain m X = all_plain m.scheduler.agenda ≡ true
 
 after_item-leads : (sends : Bool) (item : Item) (items : List Item) (s : Scheduler Bool) → is_quiet_item item ≡ true → leads sends (item ∷ items) ≡ true
     → all_plain (after_item item (with_agenda items s)).agenda ≡ true
-after_item-leads sends item items s n h = grind (arith, nat_tests, all-mapped, all-append, all-delivered)
+after_item-leads = grind (arith, nat_tests, all-mapped, all-append, all-delivered)
 
 -- an entry that is no turn
 led-other : (X : List Entry) (e : Entry) (agenda : List Item) → is_turn e ≡ false → leads (sends_all X) agenda ≡ true → leads (sends_all (X ++ e ∷ [])) agenda ≡ true
-led-other X e agenda n h = grind (arith, nat_tests, fold-append)
+led-other = grind (arith, nat_tests, fold-append)
 
 led_cases : Cases Led Plain (AtEach Sends)
 led_cases =
@@ -269,7 +269,7 @@ sender-cons entry entries s =
     }
 
 quiet-cons : (sends : Bool) (entry : Entry) (entries : List Entry) → is_turn_entry entry ≡ false → Found sends entries → Found sends (entry ∷ entries)
-quiet-cons sends entry entries e is = grind (arith, nat_tests, sender-cons)
+quiet-cons = grind (arith, nat_tests, sender-cons)
 
 turn-cons : (pid : Pid) (origin : Origin) (stimulus : Stimulus) (call : Call) (later : List Entry) (sends : Bool)
     → Found (is_send call) later → Found sends (Entry.Turn pid origin stimulus call ∷ later)

@@ -43,10 +43,10 @@ module _ (R : Machine → Machine → Type 0) (q : ℕ) (event : Event) (changes
 
   -- it may be marked to look again
   again : (old m : Machine) (test : Bool) (n : ℕ) → R old m → R old (if test then mark n m else m)
-  again old m test n h = grind (arith, nat_tests)
+  again = grind (arith, nat_tests)
 
   first_due-changes : (m : Machine) → R m (post_first_due m)
-  first_due-changes m = grind (arith, nat_tests)
+  first_due-changes = grind (arith, nat_tests)
 
   -- a notice after a change of the devices
   noticed : (notice : Queued Bool) (serial : SerialLine) (is_waiting : Bool) (packets : PacketQueue) (m : Machine) → is_notice notice ≡ true
@@ -56,10 +56,10 @@ module _ (R : Machine → Machine → Type 0) (q : ℕ) (event : Event) (changes
       changes.chained m a (with_event notice a) (changes.devices serial is_waiting packets m e) (changes.posted notice a n)
 
   line-changes : (m : Machine) → R m (serve_line m)
-  line-changes m = grind (arith, nat_tests, either, noticed)
+  line-changes = grind (arith, nat_tests, either, noticed)
 
   next-changes : (m : Machine) → R m (announce_next m)
-  next-changes m = grind (arith, nat_tests, noticed)
+  next-changes = grind (arith, nat_tests, noticed)
 
   etimer-changes : (m : Machine) → (q == 0) ≡ true → R m (etimer event m)
   etimer-changes m z =
@@ -76,7 +76,7 @@ module _ (R : Machine → Machine → Type 0) (q : ℕ) (event : Event) (changes
       told false e = changes.same m
 
   ctimer-changes : (m : Machine) → R m (ctimer event m)
-  ctimer-changes m = grind (arith, nat_tests)
+  ctimer-changes = grind (arith, nat_tests)
 
   serial_line-changes : (m : Machine) → R m (serial_line event m)
   serial_line-changes m =
@@ -88,10 +88,10 @@ module _ (R : Machine → Machine → Type 0) (q : ℕ) (event : Event) (changes
       emptied x = repeated serve_line line-changes (suc (line_count x.serial)) x
 
   packet-changes : (m : Machine) → R m (packet event m)
-  packet-changes m = grind (arith, nat_tests, either, again, repeated, next-changes)
+  packet-changes = grind (arith, nat_tests, either, again, repeated, next-changes)
 
   serve-changes : (m : Machine) → R m (serve q event m)
-  serve-changes m = grind (arith, nat_tests, etimer-changes, either, ctimer-changes, serial_line-changes, packet-changes)
+  serve-changes = grind (arith, nat_tests, etimer-changes, either, ctimer-changes, serial_line-changes, packet-changes)
 
 pub of_changes : {R : Machine → Machine → Type 0} {q : ℕ} {event : Event} → Changes R q event → (m : Machine) → R m (serve q event m)
-of_changes {R = R} {q = q} {event = event} changes m = grind (arith, nat_tests, serve-changes)
+of_changes {R = R} {q = q} {event = event} = grind (arith, nat_tests, serve-changes)

@@ -7,13 +7,13 @@ use Rattle.run_laws.proofs.KindLaws.{KindLaw, nothing, same_blocks}
 use Rattle.run_laws.proofs.OwnBlocks.{Keeps, told-reply, one_reply}
 
 read-law : (b at len p : ℕ) (m : Memory) → KindLaw heap_kind (own_heap p m) (Call.HeapRead b at len) (ask (Call.HeapRead b at len) p m).1
-read-law b at len p m = grind (arith, nat_tests)
+read-law = grind (arith, nat_tests)
 
 free-law : (b p : ℕ) (m : Memory) → KindLaw heap_kind (own_heap p m) (Call.HeapFree b) (ask (Call.HeapFree b) p m).1
-free-law b p m = grind (arith, nat_tests)
+free-law = grind (arith, nat_tests)
 
 write-law : (b at : ℕ) (chunk : ArrayVec ℕ) (p : ℕ) (m : Memory) → KindLaw heap_kind (own_heap p m) (Call.HeapWrite b at chunk) (ask (Call.HeapWrite b at chunk) p m).1
-write-law b at chunk p m = grind (arith, nat_tests)
+write-law = grind (arith, nat_tests)
 
 -- whether or not there is a place
 alloc-law : (result : Option HeapStore) (b n p : ℕ) (m : Memory)
@@ -22,14 +22,14 @@ alloc-law result b n p m = grind (arith, nat_tests)
 
 realloc-law : (result : Option HeapStore) (b n p : ℕ) (m : Memory)
     → KindLaw heap_kind (own_heap p m) (Call.HeapRealloc b n) (unless_refused (realloc_refusal p b n m.heap) m (done_or_no_room result m)).1
-realloc-law result b n p m = grind (arith, nat_tests)
+realloc-law = grind (arith, nat_tests)
 
 heap-law : (call : Call) (p : ℕ) (m : Machine) (reply : Reply)
     → due (marks p (after_call call p m).scheduler.agenda) ≡ Some reply → KindLaw heap_kind (own_heap p m.memory) call reply
-heap-law call p m reply e = grind (arith, nat_tests, one_reply, told-reply, read-law, alloc-law, realloc-law, free-law, write-law, nothing)
+heap-law = grind (arith, nat_tests, one_reply, told-reply, read-law, alloc-law, realloc-law, free-law, write-law, nothing)
 
 heap-boot : (p : ℕ) (c : Config) → own_heap p (booted c).memory ≡ no_blocks
-heap-boot p c = grind (arith, nat_tests)
+heap-boot = grind (arith, nat_tests)
 
 pub heap-keeps : Keeps heap_store
 heap-keeps = grind (arith, nat_tests, heap-law, heap-change, same_blocks, ask-rest, heap-boot)

@@ -28,16 +28,16 @@ heap_store = record { kind = heap_kind; change = heap_after; changes = changes_h
 module _ (call : Call) (q k : ℕ) (bytes : Option (List ℕ)) (m : Memory) where
   becomes_own : (new : HeapStore) → Becomes (number_of q k) bytes m.heap new → is_heap_block k ≡ true → (h : ℕ)
       → own_heap q (with_heap new m) h ≡ (if h == k then bytes else own_heap q m h)
-  becomes_own new becomes low h = grind (arith, nat_tests)
+  becomes_own = grind (arith, nat_tests)
 
   becomes_other : (new : HeapStore) → Becomes (number_of q k) bytes m.heap new → is_heap_block k ≡ true → (p : ℕ) → (q == p) ≡ false → is_kernel_process p ≡ false → (h : ℕ)
       → own_heap p (with_heap new m) h ≡ own_heap p m h
-  becomes_other new becomes low p n a h = grind (arith, nat_tests)
+  becomes_other = grind (arith, nat_tests)
 
   is_change : (o : Option Refusal) (result : Option HeapStore) → (o ≡ None → is_heap_block k ≡ true) → (o ≡ None → Results q k bytes m.heap result)
       → (o ≡ None → (h : ℕ) → (if h == k then bytes else own_heap q m h) ≡ heap_after call (own_heap q m) h)
       → IsChange heap_store call q m (unless_refused o m (done_or_no_room result m))
-  is_change o result low results made = grind (arith, nat_tests, same_blocks, becomes_own, becomes_other)
+  is_change = grind (arith, nat_tests, same_blocks, becomes_own, becomes_other)
 
 pub heap-change : (call : Call) (q : ℕ) (m : Memory) → changes_heap call ≡ true → IsChange heap_store call q m (ask call q m)
 heap-change (Call.HeapAlloc k n) q m c =
@@ -57,16 +57,16 @@ heap-change call q m c = grind (arith, nat_tests)
 -- any other call leaves the heap
 
 ask_managed-rest : (call : Call) (p : ℕ) (m : Memory) → (ask_managed call p m).0.heap ≡ m.heap
-ask_managed-rest call p m = grind (arith, nat_tests)
+ask_managed-rest = grind (arith, nat_tests)
 
 ask_heap-rest : (call : Call) (p : ℕ) (m : Memory) → changes_heap call ≡ false → (ask_heap call p m).0.heap ≡ m.heap
-ask_heap-rest call p m e = grind (arith, nat_tests)
+ask_heap-rest = grind (arith, nat_tests)
 
 ask_pool-rest : (k : ℕ) (call : Call) (m : Memory) → (ask_pool_of k call m).0.heap ≡ m.heap
-ask_pool-rest k call m = grind (arith, nat_tests)
+ask_pool-rest = grind (arith, nat_tests)
 
 ask_part-rest : (o : Option Part) (call : Call) (p : ℕ) (m : Memory) → changes_heap call ≡ false → (ask_part o call p m).0.heap ≡ m.heap
-ask_part-rest o call p m e = grind (arith, nat_tests)
+ask_part-rest = grind (arith, nat_tests)
 
 pub ask-rest : (call : Call) (p : ℕ) (m : Memory) → changes_heap call ≡ false → (ask call p m).0.heap ≡ m.heap
-ask-rest call p m e = grind (arith, nat_tests)
+ask-rest = grind (arith, nat_tests)

@@ -19,7 +19,7 @@ pub record IsAlone (bytes p : ℕ) (s : Memory) : Type 0 where
 -- p has the same blocks in a memory under a quota
 module _ (quota p : ℕ) (m s : Memory) (limit : m.managed.quota ≡ Some quota) (alone : IsAlone quota p s) (own : (h : ℕ) → own_blocks p m h ≡ own_blocks p s h) where
   same_block : (h : ℕ) → is_handle h ≡ true → block_of p h m.managed ≡ block_of p h s.managed
-  same_block h e = grind (arith, nat_tests)
+  same_block = grind (arith, nat_tests)
 
   same_taken : taken_by p m.managed ≡ taken_by p s.managed
   same_taken = grind (arith, nat_tests)
@@ -81,7 +81,7 @@ alone-at-first bytes p =
 -- a call on managed memory is told what memory answers
 told-managed : (call : Call) (p : ℕ) (m : Machine) → is_managed_call call ≡ true
     → due (marks p (after_call call p m).scheduler.agenda) ≡ Some (ask call p m.memory).1
-told-managed call p m e = grind (arith, nat_tests)
+told-managed = grind (arith, nat_tests)
 
 -- the quota stays
 call-quota : (call : Call) (q : ℕ) (m : Machine) → (after_call call q m).memory.managed.quota ≡ m.memory.managed.quota
@@ -89,7 +89,7 @@ call-quota call q m =
     each-call (λ x frames. x.managed.quota ≡ m.memory.managed.quota) q m refl (λ slot e. refl) call (ask-shape call q m.memory).quota
 
 done-alike : (reply : Reply) → is_done (Some (as_over_quota reply)) ≡ is_done (Some reply)
-done-alike reply = grind arith
+done-alike = grind arith
 
 module _ (quota p : ℕ) where
   -- a memory of p's own, after a call
@@ -108,7 +108,7 @@ module _ (quota p : ℕ) where
 
   still-like : (m : Memory) (frames : List Frame) (s new : Memory) (left : List Frame) → IsLikeOwn m frames s → HasBlocks managed_store p new left (own_blocks p s)
       → new.managed.quota ≡ m.managed.quota → IsLikeOwn new left s
-  still-like m frames s new left rel has e = grind (arith, nat_tests)
+  still-like = grind (arith, nat_tests)
 
   module _ (few : p ≤ 19) where
     abbrev blocks_laws : Laws (accepted managed_after) (KindLaw managed_kind) (HasBlocks managed_store p) p
@@ -155,7 +155,7 @@ module _ (quota p : ℕ) where
   -- one turn more, in front
   one-more : (turn : OwnTurn) (turns : List OwnTurn) (s : Memory) → LawAt AsAlone (Some turn.call) s turn.reply
       → Replied turns (answered own_after (Some turn.call) turn.reply s) → Replied (turn ∷ turns) s
-  one-more turn turns s law later = grind (arith, nat_tests)
+  one-more = grind (arith, nat_tests)
 
   law-at : (later : List Entry) (t : Knowledge Memory) → WellTold own_after AsAlone IsLikeOwn p t later → LawAt AsAlone t.last t.now (reply_in p later)
   law-at later t h = go t.last (reply_in p later) refl refl
@@ -223,4 +223,4 @@ replies-take p (suc n) [] memory = refl
 replies-take p (suc n) (call ∷ calls) memory = grind (arith, nat_tests, replies-take p n calls (ask call p memory).0)
 
 pub alone-alike : (quota p : ℕ) (X Y : List Entry) → IsAnsweredAlone quota p X → IsAnsweredAlone quota p Y → AreAnsweredAlike p X Y
-alone-alike quota p X Y one other = grind (arith, nat_tests, replies-take)
+alone-alike = grind (arith, nat_tests, replies-take)

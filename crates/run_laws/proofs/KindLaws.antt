@@ -15,13 +15,13 @@ pub record KindLaw (kind : Kind) (blocks : Blocks) (call : Call) (reply : Reply)
 -- a call that names no block
 pub nothing : (kind : Kind) (blocks : Blocks) (call : Call) (reply : Reply) → kind.needs call ≡ [] → kind.makes call ≡ [] → kind.reads call ≡ None
     → KindLaw kind blocks call reply
-nothing kind blocks call reply needs makes reads = grind (arith, nat_tests)
+nothing = grind (arith, nat_tests)
 
 abbrev pub accepted : (Call → Blocks → Blocks) → Call → Reply → Blocks → Blocks
 accepted change call reply blocks = if is_done (Some reply) then change call blocks else blocks
 
 pub same_blocks : (f g : Blocks) → ((h : ℕ) → f h ≡ g h) → f ≡ g
-same_blocks f g e = grind (arith, nat_tests)
+same_blocks = grind (arith, nat_tests)
 
 -- a kind of memory: what accepted calls make of its blocks, which calls those are, and a process's blocks in it
 pub record Store : Type 0 where
@@ -55,7 +55,7 @@ module _ (change : Call → Blocks → Blocks) (p : ℕ) where
   own-told (entry ∷ later) clock last b = own-told later (clock + ticks_in entry) last b
 
   pub blocks-told : (entries : List Entry) → over_accepted change (own p entries) ≡ (told_all (accepted change) p at_first entries).now
-  blocks-told entries = grind (arith, nat_tests, own-told)
+  blocks-told = grind (arith, nat_tests, own-told)
 
 -- every answered call is as the law says, of the caller's blocks by its own turns
 abbrev pub EveryCall : Kind → List Entry → Type 0

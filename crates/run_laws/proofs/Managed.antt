@@ -7,27 +7,27 @@ use Rattle.run_laws.proofs.Stores.{own_blocks, managed_store, managed-change, as
 use Rattle.run_laws.proofs.OwnBlocks.{Keeps, told-reply, one_reply}
 
 read-law : (h at len p : ℕ) (m : Memory) → KindLaw managed_kind (own_blocks p m) (Call.MmemRead h at len) (ask (Call.MmemRead h at len) p m).1
-read-law h at len p m = grind (arith, nat_tests)
+read-law = grind (arith, nat_tests)
 
 alloc-law : (h n p : ℕ) (m : Memory) → KindLaw managed_kind (own_blocks p m) (Call.MmemAlloc h n) (ask (Call.MmemAlloc h n) p m).1
-alloc-law h n p m = grind (arith, nat_tests)
+alloc-law = grind (arith, nat_tests)
 
 free-law : (h p : ℕ) (m : Memory) → KindLaw managed_kind (own_blocks p m) (Call.MmemFree h) (ask (Call.MmemFree h) p m).1
-free-law h p m = grind (arith, nat_tests)
+free-law = grind (arith, nat_tests)
 
 write-law : (h at : ℕ) (chunk : ArrayVec ℕ) (p : ℕ) (m : Memory) → KindLaw managed_kind (own_blocks p m) (Call.MmemWrite h at chunk) (ask (Call.MmemWrite h at chunk) p m).1
-write-law h at chunk p m = grind (arith, nat_tests)
+write-law = grind (arith, nat_tests)
 
 copy-law : (source target p : ℕ) (m : Memory) → KindLaw managed_kind (own_blocks p m) (Call.MmemCopy source target) (ask (Call.MmemCopy source target) p m).1
-copy-law source target p m = grind (arith, nat_tests)
+copy-law = grind (arith, nat_tests)
 
 send-law : (h p : ℕ) (m : Machine) (reply : Reply) → due (marks p (after_call (Call.PacketSend h) p m).scheduler.agenda) ≡ Some reply
     → KindLaw managed_kind (own_blocks p m.memory) (Call.PacketSend h) reply
-send-law h p m reply e = grind (arith, nat_tests)
+send-law = grind (arith, nat_tests)
 
 managed-law : (call : Call) (p : ℕ) (m : Machine) (reply : Reply)
     → due (marks p (after_call call p m).scheduler.agenda) ≡ Some reply → KindLaw managed_kind (own_blocks p m.memory) call reply
-managed-law call p m reply e = grind (arith, nat_tests, one_reply, told-reply, read-law, alloc-law, free-law, write-law, copy-law, send-law, nothing)
+managed-law = grind (arith, nat_tests, one_reply, told-reply, read-law, alloc-law, free-law, write-law, copy-law, send-law, nothing)
 
 -- at boot no block is live
 pub all_same : {A : Type 0} (d : A) (n i : ℕ) → get_or (replicate n d) i d ≡ d

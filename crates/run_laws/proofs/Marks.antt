@@ -73,7 +73,7 @@ state_of-with_state p state (x ∷ xs) h = grind (arith, state_of-with_state p s
 
 pub state_of-with_same : (p q : ℕ) (state : State) (list : List Process) → (q == p) ≡ true → is_on_list (state_of p list) ≡ true
     → state_of p (with_state q state list) ≡ state
-state_of-with_same p q state list e h = grind (arith, nat_tests, state_of-with_state)
+state_of-with_same = grind (arith, nat_tests, state_of-with_state)
 
 pub state_of-with_other : (p q : ℕ) (state : State) (list : List Process) → (q == p) ≡ false
     → state_of p (with_state q state list) ≡ state_of p list
@@ -93,13 +93,13 @@ state_of-without_other p q [] h = refl
 state_of-without_other p q (x ∷ xs) h = grind (arith, nat_tests, state_of-without_other p q xs)
 
 pub fit-only : (b : Bool) (ms : List Mark) → only_removes ms ≡ true → fit b ms ≡ true
-fit-only b ms h = grind (arith, nat_tests)
+fit-only = grind (arith, nat_tests)
 
 pub fit-idle : (ms : List Mark) → fit true ms ≡ true → only_removes ms ≡ true
-fit-idle ms h = grind (arith, nat_tests)
+fit-idle = grind (arith, nat_tests)
 
 pub due-only : (ms : List Mark) → only_removes ms ≡ true → due ms ≡ None
-due-only ms h = grind (arith, nat_tests)
+due-only = grind (arith, nat_tests)
 
 -- what stays of the agenda for p
 pub record Kept (p : ℕ) (before : List Item) (list : List Process) (s : Scheduler Bool) : Type 0 where
@@ -111,7 +111,7 @@ pub record Kept (p : ℕ) (before : List Item) (list : List Process) (s : Schedu
 -- p's state and marks are as they were
 stays : (p : ℕ) (before : List Item) (list : List Process) (s : Scheduler Bool) → fit (idle p list) (marks p before) ≡ true
     → state_of p s.processes ≡ state_of p list → marks p s.agenda ≡ marks p before → Kept p before list s
-stays p before list s h e f = grind (arith, nat_tests)
+stays = grind (arith, nat_tests)
 
 abbrev pub is_turn_item : Item → Bool
 is_turn_item (Item.Turn p origin stimulus) = true

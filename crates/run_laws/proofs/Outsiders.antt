@@ -35,17 +35,17 @@ module _ (p : ℕ) (high : nat_le 4 p ≡ true) where
 
   after_item-agenda : (item : Item) (items : List Item) (s : Scheduler Bool) → keeps_out item ≡ true → state_of p s.processes ≡ State.Absent
       → list_all keeps_out items ≡ true → list_all keeps_out (after_item item (with_agenda items s)).agenda ≡ true
-  after_item-agenda item items s k h i = grind (arith, nat_tests, all-mapped, all-append, all-delivered)
+  after_item-agenda = grind (arith, nat_tests, all-mapped, all-append, all-delivered)
 
   after_item-applications : (item : Item) (s : Scheduler Bool) → (after_item item s).applications ≡ s.applications
-  after_item-applications item s = grind arith
+  after_item-applications = grind arith
 
   -- the rest of the agenda
   without_item : (item : Item) (items : List Item) (s : Scheduler Bool) → IsOut (with_agenda (item ∷ items) s) → IsOut (with_agenda items s)
-  without_item item items s h = grind (arith, nat_tests)
+  without_item = grind (arith, nat_tests)
 
   after_item-out : (item : Item) (items : List Item) (s : Scheduler Bool) → IsOut (with_agenda (item ∷ items) s) → IsOut (after_item item (with_agenda items s))
-  after_item-out item items s h = grind (arith, nat_tests, after_item-applications, after_item-agenda, without_item, state_of-with_other, state_of-without, state_of-without_other, state_of-with_mark)
+  after_item-out = grind (arith, nat_tests, after_item-applications, after_item-agenda, without_item, state_of-with_other, state_of-without, state_of-without_other, state_of-with_mark)
 
   -- a call
 
@@ -53,22 +53,22 @@ module _ (p : ℕ) (high : nat_le 4 p ≡ true) where
   call-applications call q m = grind arith
 
   not_named : (s : Scheduler Bool) (r : ℕ) → is_application s.applications p ≡ false → is_application s.applications r ≡ true → not (r == p) ≡ true
-  not_named s r out named = grind (arith, nat_tests)
+  not_named = grind (arith, nat_tests)
 
   call-out : (call : Call) (q : ℕ) (m : Machine) → (q == p) ≡ false → IsOut m.scheduler → IsOut (after_call call q m).scheduler
-  call-out call q m other h = grind (arith, nat_tests, call-applications, after-all, not_named, state_of-with_other, state_of-with_mark)
+  call-out = grind (arith, nat_tests, call-applications, after-all, not_named, state_of-with_other, state_of-with_mark)
 
   -- a step
 
   -- these items in front
   in_front-out : (xs : List Item) (s : Scheduler Bool) → list_all keeps_out xs ≡ true → IsOut s → IsOut (in_front xs s)
-  in_front-out xs s k h = grind (arith, nat_tests, all-append)
+  in_front-out = grind (arith, nat_tests, all-append)
 
   served-out : (q : ℕ) (event : Event) (m : Machine) → IsOut m.scheduler → IsOut (serve q event m).scheduler
-  served-out q event m h = grind (arith, nat_tests, serve-untouched)
+  served-out = grind (arith, nat_tests, serve-untouched)
 
   effect-out : (input : Input) (m : Machine) → IsOut m.scheduler → IsOut (effect input m).scheduler
-  effect-out input m h = grind (arith, nat_tests, effect-keeps, state_of-with_mark, in_front-out)
+  effect-out = grind (arith, nat_tests, effect-keeps, state_of-with_mark, in_front-out)
 
   -- the run
 
@@ -107,7 +107,7 @@ module _ (p : ℕ) (high : nat_le 4 p ≡ true) where
   starts-out (suc n) from h = grind (arith, nat_tests, starts-out n (from + 1) (omega (arith, h)))
 
   boot-out : (c : Config) → is_application c.apps p ≡ false → IsOut (at_start c).machine.scheduler
-  boot-out c out = grind (arith, nat_tests, starts-out)
+  boot-out = grind (arith, nat_tests, starts-out)
 
   run-out : (run : Ran)
       → is_application run.config.apps p ≡ false → AtEach IsOthers run.after.entries

@@ -10,10 +10,10 @@ use Rattle.run_laws.proofs.Whole.{Laws, answered, run-told, call-law}
 -- what memory answers is told next
 
 asks : (call : Call) (p : ℕ) (m : Machine) → is_memory_call call ≡ true → after_call call p m ≡ asked_of_memory call p m
-asks call p m e = grind (arith, nat_tests)
+asks = grind (arith, nat_tests)
 
 pub told-reply : (call : Call) (p : ℕ) (m : Machine) → is_memory_call call ≡ true → due (marks p (after_call call p m).scheduler.agenda) ≡ Some (ask call p m.memory).1
-told-reply call p m e = grind (arith, nat_tests)
+told-reply = grind (arith, nat_tests)
 
 pub one_reply : (o : Option Reply) (a b : Reply) → o ≡ Some a → o ≡ Some b → a ≡ b
 one_reply o a b e f = cc
@@ -23,7 +23,7 @@ one_reply o a b e f = cc
 -- what holds as it is, of what memory answers, and where the front frame is dropped, holds after each call
 module _ (P : Memory → List Frame → Type 0) (q : ℕ) (m : Machine) (same : P m.memory m.packets.frames) (dropped : (slot : ℕ) → front_slot m.packets ≡ Some slot → P (frame_dropped slot m.memory) (drop 1 m.packets.frames)) where
   pub each-call : (call : Call) → P (ask call q m.memory).0 m.packets.frames → P (after_call call q m).memory (after_call call q m).packets.frames
-  each-call call asked = grind (arith, nat_tests)
+  each-call = grind (arith, nat_tests)
 
 -- 272 names have places, and frames lie under names of process 3
 
@@ -39,7 +39,7 @@ front_low [] slot h e = absurd (cc)
 front_low (frame ∷ frames) slot h e = grind (arith, nat_tests)
 
 fewer_slots : (frames : List Frame) → are_slots frames ≡ true → are_slots (drop 1 frames) ≡ true
-fewer_slots frames h = grind (arith, nat_tests)
+fewer_slots = grind (arith, nat_tests)
 
 more_slots : (frames : List Frame) (slot len : ℕ) → slot ≤ 15 → are_slots frames ≡ true → are_slots (frames ++ record { slot = slot; len = len } ∷ []) ≡ true
 more_slots [] slot len low h = grind (arith, nat_tests)
@@ -86,7 +86,7 @@ module _ (store : Store) (keeps : Keeps store) (p : ℕ) (few : p ≤ 19) where
       go false e other = keeps.rest call q p m.memory e
 
   plain-answer : (call : Call) (reply : Option Reply) (blocks : Blocks) → store.changes call ≡ false → answered (accepted store.change) (Some call) reply blocks ≡ blocks
-  plain-answer call reply blocks e = grind (arith, nat_tests)
+  plain-answer = grind (arith, nat_tests)
 
   own-after : (call : Call) (m : Machine) (b : Bool) (reply : Option Reply) → store.changes call ≡ b → is_kernel_process p ≡ false → IsSound m.memory m.packets.frames
       → due (marks p (after_call call p m).scheduler.agenda) ≡ reply
@@ -97,7 +97,7 @@ module _ (store : Store) (keeps : Keeps store) (p : ℕ) (few : p ≤ 19) where
   call-has : (call : Call) (m : Machine) (blocks : Blocks) (reply : Option Reply) → HasBlocks store p m.memory m.packets.frames blocks
       → due (marks p (after_call call p m).scheduler.agenda) ≡ reply
       → HasBlocks store p (after_call call p m).memory (after_call call p m).packets.frames (answered (accepted store.change) (Some call) reply blocks)
-  call-has call m blocks reply has d = grind (arith, nat_tests, call-sound, own-after)
+  call-has = grind (arith, nat_tests, call-sound, own-after)
 
   pub own-laws : Laws (accepted store.change) (KindLaw store.kind) (HasBlocks store p) p
   own-laws =

@@ -40,7 +40,7 @@ module _ (bound : ℕ) where
   -- a call puts little on the agenda
   call-costs : (call : Call) (p : ℕ) (m : Machine) → length m.scheduler.processes ≤ bound
       → costs bound (after_call call p m).scheduler.agenda ≤ costs bound m.scheduler.agenda + 2 * bound + 4
-  call-costs call p m h = grind (arith, nat_tests, costs-append, costs-cons, costs-nil, costs-farewells)
+  call-costs = grind (arith, nat_tests, costs-append, costs-cons, costs-nil, costs-farewells)
 
 -- a step
 
@@ -51,7 +51,7 @@ is_rest _ = false
 
 -- the job is Rest only where nothing is left to be done
 job_at-works : (agenda : List Item) (s : Scheduler Bool) → (is_empty agenda && not (wants_round s)) ≡ false → is_rest (job_at agenda s) ≡ false
-job_at-works agenda s h = grind (arith, nat_tests)
+job_at-works = grind (arith, nat_tests)
 
 -- how many processes there can be on the list before the next input
 abbrev reserve : Machine → ℕ
@@ -69,29 +69,29 @@ record Falls (bound left : ℕ) (old new : Machine) : Type 0 where
 
 -- what is left where one unit of work more was done
 one_less : (work unit : ℕ) → work ≤ 10000 → (work == 10000) ≡ false → (10000 - work) * unit ≡ (10000 - (work + 1)) * unit + unit
-one_less work unit h n = grind (arith, nat_tests, suc-mul (10000 - (work + 1)) unit)
+one_less work unit = grind (arith, nat_tests, suc-mul (10000 - (work + 1)) unit)
 
 module _ (bound : ℕ) where
   limit-falls : (left : ℕ) (m : Machine) (step : StepMade) → m.work ≤ 10000 → ((m.work == 10000) ≡ false → Falls bound left m step.0)
       → Falls bound left m (within_limit m step).0
-  limit-falls left m step w h = grind (arith, nat_tests)
+  limit-falls = grind (arith, nat_tests)
 
   call-falls : (old : ℕ) (call : Call) (p : ℕ) (m : Machine) → m.work ≤ 10000 → (m.work == 10000) ≡ false → length m.scheduler.processes ≤ bound
       → costs bound m.scheduler.agenda + 1 ≤ old
       → Falls bound ((10000 - m.work) * suc (round_cost bound) + old) m (after_call call p (with_more_work m))
   unfolding measure
-  call-falls old call p m w n few paid = grind (arith, nat_tests, call-work, call-starts, call-costs, one_less, measure)
+  call-falls = grind (arith, nat_tests, call-work, call-starts, call-costs, one_less, measure)
 
   round-falls : (old : ℕ) (m : Machine) → m.work ≤ 10000 → (m.work == 10000) ≡ false → costs bound m.scheduler.agenda ≤ round_cost bound
       → Falls bound ((10000 - m.work) * suc (round_cost bound) + old) m (with_more_work m)
   unfolding measure
-  round-falls old m w n paid = grind (arith, nat_tests, one_less, measure)
+  round-falls = grind (arith, nat_tests, one_less, measure)
 
   -- the machine is the same but for less on its agenda
   quiet-falls : (old : ℕ) (m new : Machine) → m.work ≤ 10000 → new.work ≡ m.work → present new.scheduler ≤ present m.scheduler
       → costs bound new.scheduler.agenda + 1 ≤ old → Falls bound ((10000 - m.work) * suc (round_cost bound) + old) m new
   unfolding measure
-  quiet-falls old m new w same few less = grind (arith, nat_tests)
+  quiet-falls = grind (arith, nat_tests)
 
   -- a job that was worth so much, and is done
   job-falls : (answers : Answers) (next : Option (Job Bool)) (m : Machine) (old : ℕ) → length m.scheduler.processes ≤ bound → m.work ≤ 10000 → is_rest next ≡ false
@@ -134,7 +134,7 @@ module _ (bound : ℕ) where
 -- the run
 
 rests_here : (says : Applications) (r : Running) → is_still r.machine ≡ true → (new : Running) × ComesToRest says r new
-rests_here says r still = grind (arith, nat_tests)
+rests_here = grind (arith, nat_tests)
 
 rests_later : (says : Applications) (r : Running) → (new : Running) × ComesToRest says (after_step says r) new → (new : Running) × ComesToRest says r new
 rests_later says r (new, (n, goes, still)) = (new, (suc n, goes, still))
@@ -166,7 +166,7 @@ rests says r w = rests_within says (reserve r.machine) (measure (reserve r.machi
 
 -- the work of an input begins at 0
 fed-work : (input : Input) (m : Machine) → (fed input m).work ≡ 0
-fed-work input m = grind arith
+fed-work = grind arith
 
 -- where the mote was halted nothing follows, else what the machine makes of the next inputs
 goes_on : (says : Applications) (input : Input) (inputs : List Input) (rested : Running) → (after : Running) × Runs says (with_input input rested) inputs after
@@ -190,4 +190,4 @@ runs_on says (input ∷ inputs) r w = joined (rests says r w) (λ rested. runs_o
         (next.0, (rested, rests, next.1, next.2))
 
 pub run_of : (config : Config) (says : Applications) (inputs : List Input) → (after : Running) × Runs says (at_start config) inputs after
-run_of config says inputs = grind (arith, nat_tests, runs_on)
+run_of = grind (arith, nat_tests, runs_on)

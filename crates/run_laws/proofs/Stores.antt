@@ -11,20 +11,20 @@ own_blocks p m h = if is_handle h then block_of p h m.managed else None
 
 -- blocks of different names have different places
 pub name_apart : (q k p h : ℕ) → (q == p) ≡ false → is_kernel_process p ≡ false → is_handle k ≡ true → is_handle h ≡ true → number_of p h ≢ number_of q k
-name_apart q k p h n a low high e = grind (arith, nat_tests)
+name_apart = grind (arith, nat_tests)
 
 pub put_other : (q k p h : ℕ) (block : Option (List ℕ)) (m : Memory) → (q == p) ≡ false → is_kernel_process p ≡ false → is_handle k ≡ true
     → own_blocks p (with_managed (with_block q k block m.managed) m) h ≡ own_blocks p m h
-put_other q k p h block m n a low = grind (arith, nat_tests, get_or-set_other, name_apart)
+put_other = grind (arith, nat_tests, get_or-set_other, name_apart)
 
 -- 272 names have places
 pub put_own : (p k h : ℕ) (block : Option (List ℕ)) (m : Memory) → p ≤ 19 → is_kernel_process p ≡ false → length m.managed.blocks ≡ 272 → is_handle k ≡ true
     → own_blocks p (with_managed (with_block p k block m.managed) m) h ≡ (if h == k then block else own_blocks p m h)
-put_own p k h block m few a size low = grind (arith, nat_tests, get_or-set_same, get_or-set_other)
+put_own = grind (arith, nat_tests, get_or-set_same, get_or-set_other)
 
 put_total : (p k : ℕ) (block : Option (List ℕ)) (m : Memory) → p ≤ 19 → is_kernel_process p ≡ false → length m.managed.blocks ≡ 272 → is_handle k ≡ true
     → sum_by size_of (with_block p k block m.managed).blocks + taken_by p m.managed ≡ sum_by size_of m.managed.blocks + taken_by p (with_block p k block m.managed)
-put_total p k block m few a size low = grind (arith, nat_tests, total-put)
+put_total = grind (arith, nat_tests, total-put)
 
 -- a call on memory
 
@@ -37,20 +37,20 @@ changes_managed (Call.MmemCopy source target) = true
 changes_managed _ = false
 
 ask_managed-rest : (call : Call) (p : ℕ) (m : Memory) → changes_managed call ≡ false → (ask_managed call p m).0.managed ≡ m.managed
-ask_managed-rest call p m e = grind (arith, nat_tests)
+ask_managed-rest = grind (arith, nat_tests)
 
 ask_pool-rest : (k : ℕ) (call : Call) (m : Memory) → (ask_pool_of k call m).0.managed ≡ m.managed
-ask_pool-rest k call m = grind (arith, nat_tests)
+ask_pool-rest = grind (arith, nat_tests)
 
 ask_heap-rest : (call : Call) (p : ℕ) (m : Memory) → (ask_heap call p m).0.managed ≡ m.managed
-ask_heap-rest call p m = grind (arith, nat_tests)
+ask_heap-rest = grind (arith, nat_tests)
 
 ask_part-rest : (o : Option Part) (call : Call) (p : ℕ) (m : Memory) → changes_managed call ≡ false → (ask_part o call p m).0.managed ≡ m.managed
-ask_part-rest o call p m e = grind (arith, nat_tests)
+ask_part-rest = grind (arith, nat_tests)
 
 -- any other call leaves managed memory
 pub ask-rest : (call : Call) (p : ℕ) (m : Memory) → changes_managed call ≡ false → (ask call p m).0.managed ≡ m.managed
-ask-rest call p m e = grind (arith, nat_tests)
+ask-rest = grind (arith, nat_tests)
 
 -- managed memory itself stays, whatever its blocks are
 pub record HasShape (old new : Memory) : Type 0 where
@@ -78,12 +78,12 @@ module _ (call : Call) (q k : ℕ) (block : Option (List ℕ)) (m : Memory) wher
 
 -- the bytes of a live block
 live_block : (b : Bool) (o : Option (List ℕ)) (f : List ℕ → List ℕ) → b ≡ true → is_some o ≡ true → Some (f (unwrap_or o [])) ≡ option_map f (if b then o else None)
-live_block b o f e l = grind (arith, nat_tests)
+live_block = grind (arith, nat_tests)
 
 -- the source's bytes
 live_source : (b : Bool) (o : Option (List ℕ)) (target : Option (List ℕ)) → b ≡ true → is_some o ≡ true
     → option_map (overwritten 0 (unwrap_or o [])) target ≡ copied (if b then o else None) target
-live_source b o target e l = grind (arith, nat_tests)
+live_source = grind (arith, nat_tests)
 
 pub managed-change : (call : Call) (q : ℕ) (m : Memory) → changes_managed call ≡ true → IsManagedChange call q m (ask call q m)
 managed-change (Call.MmemAlloc k n) q m c = is_change (Call.MmemAlloc k n) q k (Some (zeros n)) m (alloc_refusal q k n m.managed) (λ e. grind (arith, e)) (λ e h. refl)
@@ -113,4 +113,4 @@ managed-change call q m c = grind (arith, nat_tests)
 
 -- every call on memory keeps its shape
 pub ask-shape : (call : Call) (q : ℕ) (m : Memory) → HasShape m (ask call q m).0
-ask-shape call q m = grind (arith, nat_tests, managed-change, ask-rest)
+ask-shape = grind (arith, nat_tests, managed-change, ask-rest)

@@ -59,7 +59,7 @@ module _ {S : Type 0} (next : Call → Reply → S → S) (Law : S → Call → 
   -- the same marks, state and memory
   pub same-now : (t : Knowledge S) (old new : Machine) → Now t old → fit (idle p new.scheduler.processes) (marks p new.scheduler.agenda) ≡ true
       → due (marks p new.scheduler.agenda) ≡ due (marks p old.scheduler.agenda) → new.memory ≡ old.memory → new.packets.frames ≡ old.packets.frames → Now t new
-  same-now t old new h f d e g = grind (arith, nat_tests)
+  same-now = grind (arith, nat_tests)
 
   -- an item that is no turn
   pub carried-now : (item : Item) (items : List Item) (t : Knowledge S) (m : Machine) → is_turn_item item ≡ false → Now t (facing (item ∷ items) m) → Now t (carried item items m)
@@ -68,7 +68,7 @@ module _ {S : Type 0} (next : Call → Reply → S → S) (Law : S → Call → 
       same-now t (facing (item ∷ items) m) (carried item items m) h kept.is_fit kept.same_due refl refl
 
   pub called_back-now : (q c : ℕ) (t : Knowledge S) (m : Machine) → Now t m → Now t (scheduled (in_front (Item.Give q Origin.Callback (Stimulus.Callback c) ∷ [])) m)
-  called_back-now q c t m h = grind (arith, nat_tests)
+  called_back-now = grind (arith, nat_tests)
 
   -- what a turn tells, and leaves
   pub record Turned (t : Knowledge S) (entry : Entry) (m : Machine) : Type 0 where
@@ -135,7 +135,7 @@ found test (n ∷ ns) slot h e = grind (arith, nat_tests, found test ns slot (gr
 
 slot_low : (packets : PacketQueue) (slot : ℕ) → free_slot packets ≡ Some slot → slot ≤ 15
 unfolding free_slot
-slot_low packets slot e = grind (arith, nat_tests)
+slot_low = grind (arith, nat_tests)
 
 module _ {S : Type 0} (next : Call → Reply → S → S) (Law : S → Call → Reply → Type 0) (Rel : Memory → List Frame → S → Type 0) (p : ℕ) where
   abbrev pub WellTold : Knowledge S → List Entry → Type 0
@@ -157,13 +157,13 @@ module _ {S : Type 0} (next : Call → Reply → S → S) (Law : S → Call → 
 
   -- an entry that is no turn tells it nothing
   told-other : (start : Knowledge S) (X : List Entry) (e : Entry) → is_turn e ≡ false → told_all next p start (X ++ e ∷ []) ≡ told_all next p start X
-  told-other start X e n = grind (arith, nat_tests, fold-append)
+  told-other = grind (arith, nat_tests, fold-append)
 
   well-more : (start : Knowledge S) (X : List Entry) (e : Entry) → WellTold start X → Fine Law p (told_all next p start X) e → WellTold start (X ++ e ∷ [])
-  well-more start X e h k = grind (arith, nat_tests, well-append)
+  well-more = grind (arith, nat_tests, well-append)
 
   well-other : (start : Knowledge S) (X : List Entry) (e : Entry) → is_turn e ≡ false → WellTold start X → WellTold start (X ++ e ∷ [])
-  well-other start X e n h = grind (arith, nat_tests, well-more)
+  well-other = grind (arith, nat_tests, well-more)
 
   not_turn : (item : Item) → is_quiet_item item ≡ true → is_turn_item item ≡ false
   not_turn item n = grind (arith, n)
@@ -174,7 +174,7 @@ module _ {S : Type 0} (next : Call → Reply → S → S) (Law : S → Call → 
       record { regular = carried-regular item items m.scheduler h.regular; now = carried-now next Law Rel p item items (told_all next p start X) m n h.now }
 
   served-holds : (start : Knowledge S) (q : ℕ) (event : Event) (m : Machine) (X : List Entry) → Holds start m X → Holds start (serve q event m) X
-  served-holds start q event m X h = grind (arith, nat_tests, serve-untouched)
+  served-holds = grind (arith, nat_tests, serve-untouched)
 
   turned : Laws next Law Rel p → (start : Knowledge S) (m : Machine) (X : List Entry) (items : List Item) (q : ℕ) (origin : Origin) (stimulus : Stimulus) (call : Call)
       → Holds start (facing (Item.Turn q origin stimulus ∷ items) m) X
@@ -195,18 +195,18 @@ module _ {S : Type 0} (next : Call → Reply → S → S) (Law : S → Call → 
 
   shown-holds : (start : Knowledge S) (m : Machine) (X : List Entry) (items : List Item) (note : Note) → Holds start (facing (Item.Show (Entry.Note note) ∷ items) m) X
       → Holds start (facing items m) (X ++ Entry.Note note ∷ [])
-  shown-holds start m X items note h = grind (arith, nat_tests, carried-holds, told-other)
+  shown-holds = grind (arith, nat_tests, carried-holds, told-other)
 
   record Alike (old new : Scheduler Bool) : Type 0 where
     marks_are : marks p new.agenda ≡ marks p old.agenda
     state : state_of p new.processes ≡ state_of p old.processes
 
   effect-alike : (input : Input) (m : Machine) → Alike m.scheduler (effect input m).scheduler
-  effect-alike input m = grind (arith, nat_tests, effect-keeps, state_of-with_mark)
+  effect-alike = grind (arith, nat_tests, effect-keeps, state_of-with_mark)
 
   input-holds : Laws next Law Rel p → (start : Knowledge S) (input : Input) (m : Machine) (X : List Entry) → Holds start m X
       → Holds start (effect input (record m { work = 0 })) (X ++ Entry.Input input ∷ [])
-  input-holds laws start input m X h = grind (arith, nat_tests, effect-alike, effect-keeps, told-other, slot_low)
+  input-holds = grind (arith, nat_tests, effect-alike, effect-keeps, told-other, slot_low)
 
   pub told_cases : Laws next Law Rel p → (start : Knowledge S) → Cases (Holds start) (Holds start) (WellTold start)
   told_cases laws start =
@@ -232,7 +232,7 @@ module _ {S : Type 0} (next : Call → Reply → S → S) (Law : S → Call → 
   marks-starts (suc n) from = marks-starts n (from + 1)
 
   pub boot-holds : (start : Knowledge S) (c : Config) → Rel (booted c).memory [] start.now → Holds start (at_start c).machine []
-  boot-holds start c rel = grind (arith, nat_tests, marks-starts, all-mapped)
+  boot-holds = grind (arith, nat_tests, marks-starts, all-mapped)
 
   pub run-told : Laws next Law Rel p → (start : Knowledge S) (run : Ran) → Rel (booted run.config).memory [] start.now → Prefixes (WellTold start) run.after.entries
   run-told laws start run rel =
@@ -248,4 +248,4 @@ module _ {S : Type 0} (next : Call → Reply → S → S) (Law : S → Call → 
   pub call-law : (start : Knowledge S) (X before : List Entry) (origin : Origin) (stimulus : Stimulus) (call : Call) (reply : Reply)
       → WellTold start X → HasCall X before p origin stimulus call reply
       → Law (told_all next p start (up_to_call before p origin stimulus call)).now call reply
-  call-law start X before origin stimulus call reply well has = grind (arith, nat_tests, append_assoc, well-after, fold-append, law-of)
+  call-law = grind (arith, nat_tests, append_assoc, well-after, fold-append, law-of)

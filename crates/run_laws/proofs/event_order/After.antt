@@ -15,7 +15,7 @@ is_plain_call _ = true
 
 call-seats : (p : ℕ) (call : Call) (q : ℕ) (m : Machine) → is_plain_call call ≡ true
     → seats p (after_call call q m).scheduler.processes ≡ seats p m.scheduler.processes
-call-seats p call q m h = grind (arith, seats-with_mark)
+call-seats = grind (arith, seats-with_mark)
 
 -- such a call puts its answer in front, or that below one more item
 pub call-front : (P : List Item → Bool) (call : Call) (q : ℕ) (m : Machine) → is_plain_call call ≡ true
@@ -24,7 +24,7 @@ pub call-front : (P : List Item → Bool) (call : Call) (q : ℕ) (m : Machine) 
     → ((r : ℕ) (items : List Item) → P items ≡ true → P (Item.Start r ∷ items) ≡ true)
     → ((note : Note) (items : List Item) → P items ≡ true → P (Item.Show (Entry.Note note) ∷ items) ≡ true)
     → P (after_call call q m).scheduler.agenda ≡ true
-call-front P call q m h turn give start show = grind (arith, nat_tests)
+call-front = grind (arith, nat_tests)
 
 -- what is said to those that stay
 pub farewells-plain : (stimulus : Stimulus) (ns : List ℕ) → list_all is_plain (map (λ n. Item.Give n Origin.Synch stimulus) ns) ≡ true
@@ -36,10 +36,10 @@ farewells-quiet p stimulus [] = refl
 farewells-quiet p stimulus (n ∷ ns) = farewells-quiet p stimulus ns
 
 no_synch : (p q : ℕ) (stimulus : Stimulus) → waiting_in p (Item.Give q Origin.Synch stimulus) ≡ []
-no_synch p q stimulus = grind arith
+no_synch = grind arith
 
 no_answer : (p q : ℕ) (stimulus : Stimulus) → waiting_in p (Item.Turn q Origin.Answer stimulus) ≡ []
-no_answer p q stimulus = grind arith
+no_answer = grind arith
 
 farewells-waits : (p : ℕ) (stimulus : Stimulus) (ns : List ℕ) → waits p (map (λ n. Item.Give n Origin.Synch stimulus) ns) ≡ []
 farewells-waits p stimulus [] = refl
@@ -102,13 +102,13 @@ after-queued_other p call q m n =
     kept_unposted {P = λ events. queued p events ≡ queued p m.scheduler.events} (λ test events h. rw (queued-cancelled p test events) h) call q m n refl
 
 no_event : (p : ℕ) (call : Call) → is_posting call ≡ false → event_for p call ≡ None
-no_event p call h = grind arith
+no_event = grind arith
 
 nothing_own : (known : Known) (p q : ℕ) (call : Call) → event_for p call ≡ None → own_event known p q call ≡ []
-nothing_own known p q call h = grind (arith, nat_tests)
+nothing_own = grind (arith, nat_tests)
 
 posted_plain : (code : ℕ) (payload : Payload) → is_reserved code ≡ false → posted_for (event_of code payload) ≡ event_of code payload ∷ []
-posted_plain code payload h = grind (arith, nat_tests)
+posted_plain = grind (arith, nat_tests)
 
 -- how a post is refused
 abbrev post_outcome : Bool → Bool → Bool → Option Refusal
@@ -155,29 +155,29 @@ after-queued known p call q m = other call (grind arith)
 -- a turn that isn't p's EXIT can be another one
 swap : (p q : ℕ) (origin other : Origin) (stimulus next : Stimulus) (l : List State) (items : List Item) → (q == p && is_event_of_code EXIT stimulus) ≡ false
     → holds p l (Item.Turn q origin stimulus ∷ items) ≡ true → holds p l (Item.Turn q other next ∷ items) ≡ true
-swap p q origin other stimulus next l items n h = grind (arith, nat_tests)
+swap = grind (arith, nat_tests)
 
 -- another process's turn says nothing of p
 turn_other-holds : (p q : ℕ) (origin : Origin) (stimulus : Stimulus) (l : List State) (items : List Item) → (q == p) ≡ false
     → holds p l (Item.Turn q origin stimulus ∷ items) ≡ true → holds p l items ≡ true
-turn_other-holds p q origin stimulus l items n h = grind (arith, nat_tests)
+turn_other-holds = grind (arith, nat_tests)
 
 -- p is killed
 killed-holds : (p r : ℕ) (l : List State) (xs items : List Item) → (p == r) ≡ true → list_all (is_quiet p) xs ≡ true
     → holds p l items ≡ true → holds p (put State.Leaving l) (xs ++ Item.GiveExit r ∷ Item.Remove r ∷ items) ≡ true
-killed-holds p r l xs items e n h = grind (arith, nat_tests, holds-append)
+killed-holds = grind (arith, nat_tests, holds-append)
 
 -- another one is killed
 left-holds : (p r : ℕ) (l : List State) (xs items : List Item) → (p == r) ≡ false → list_all (is_quiet p) xs ≡ true
     → holds p l items ≡ true → holds p l (xs ++ Item.GiveExit r ∷ Item.Remove r ∷ items) ≡ true
-left-holds p r l xs items e n h = grind (arith, nat_tests, holds-append)
+left-holds = grind (arith, nat_tests, holds-append)
 
 exited-holds : (p q : ℕ) (l : List State) (xs items : List Item) → (p == q) ≡ false → list_all (is_quiet p) xs ≡ true
     → holds p l items ≡ true → holds p l (xs ++ Item.Remove q ∷ items) ≡ true
-exited-holds p q l xs items e n h = grind (arith, nat_tests, holds-append)
+exited-holds = grind (arith, nat_tests, holds-append)
 
 flip : (p q : ℕ) (b : Bool) → (p == q) ≡ b → (q == p) ≡ b
-flip p q b e = grind (arith, nat_tests)
+flip = grind (arith, nat_tests)
 
 pub after-stands : (p : ℕ) (call : Call) (q : ℕ) (origin : Origin) (stimulus : Stimulus) (m : Machine)
     → ends_in p (Entry.Turn (record { 0 = q }) origin stimulus call) ≡ false

@@ -16,7 +16,7 @@ polls-plain (n ∷ ns) = polls-plain ns
 
 pub carried-ordered : (item : Item) (items : List Item) (s : Scheduler Bool) → is_ordered (item ∷ items) ≡ true
     → is_ordered (after_item item (with_agenda items s)).agenda ≡ true
-carried-ordered item items s h = grind (arith, nat_tests, append-nil, ordered-walk, delivery-ordered, ordered-append, polls-plain)
+carried-ordered = grind (arith, nat_tests, append-nil, ordered-walk, delivery-ordered, ordered-append, polls-plain)
 
 -- the items that are no turns
 abbrev pub is_silent : Item → Bool
@@ -40,7 +40,7 @@ abbrev pub is_quiet : ℕ → Item → Bool
 is_quiet p item = not (is_remove p item)
 
 pub holds-append : (p : ℕ) (l : List State) (xs items : List Item) → list_all (is_quiet p) xs ≡ true → holds p l items ≡ true → holds p l (xs ++ items) ≡ true
-holds-append p l xs items n h = grind (arith, nat_tests, placed-append, covered-append)
+holds-append = grind (arith, nat_tests, placed-append, covered-append)
 
 quiet-polls : (p : ℕ) (ns : List ℕ) → list_all (is_quiet p) (map (λ n. Item.PollOne n) ns) ≡ true
 quiet-polls p [] = refl

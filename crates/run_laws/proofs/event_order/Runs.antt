@@ -28,10 +28,10 @@ record StepKind (m : Machine) (step : StepMade) : Type 0 where
   inputs : list_any is_input (option_to_list step.1) ≡ false
 
 limit_kind : (m after : Machine) (step : StepMade) → m.is_halted ≡ false → StepKind m step → StepKind m (within_limit after step)
-limit_kind m after step live h = grind (arith, nat_tests)
+limit_kind = grind (arith, nat_tests)
 
 silent_kind : (m after : Machine) → m.is_halted ≡ false → after.is_halted ≡ false → StepKind m (silent after)
-silent_kind m after live still = grind (arith, nat_tests)
+silent_kind = grind (arith, nat_tests)
 
 -- where only notes are shown
 abbrev pub ShowsNotes : Machine → Type 0
@@ -100,17 +100,17 @@ inputs-more Q X None all n = grind (arith, nat_tests, append-nil)
 inputs-more Q X (Some entry) all n = grind (arith, nat_tests, mid_split)
 
 inputs-fed : (Q : List Entry → Type 0) (X : List Entry) (fed : Input) → BeforeInputs Q X → Q X → BeforeInputs Q (X ++ Entry.Input fed ∷ [])
-inputs-fed Q X fed all here = grind (arith, nat_tests, mid_split)
+inputs-fed = grind (arith, nat_tests, mid_split)
 
 -- R holds of each entry, behind those before it
 abbrev pub AtEach : (List Entry → Entry → Type 0) → List Entry → Type 0
 AtEach R X = (before later : List Entry) (e : Entry) → before ++ e ∷ later ≡ X → R before e
 
 pub each-none : (R : List Entry → Entry → Type 0) → AtEach R []
-each-none R = grind (arith, nat_tests, not_nil)
+each-none = grind (arith, nat_tests, not_nil)
 
 pub each-more : (R : List Entry → Entry → Type 0) (X : List Entry) (e : Entry) → AtEach R X → R X e → AtEach R (X ++ e ∷ [])
-each-more R X e all new = grind (arith, nat_tests, mid_split)
+each-more = grind (arith, nat_tests, mid_split)
 
 -- what is kept
 
@@ -161,7 +161,7 @@ module _ (I : Machine → List Entry → Type 0) (P Q : List Entry → Type 0) (
   halted-step says r g false e = absurd (cc)
 
   good-step : (says : Applications) (r : Running) → Good I P Q r → Good I P Q (after_step says r)
-  good-step says r g = grind (arith, nat_tests, halted-step, live-step)
+  good-step = grind (arith, nat_tests, halted-step, live-step)
 
   good-steps : (says : Applications) (n : ℕ) (r : Running) → Good I P Q r → Good I P Q (after_steps says n r)
   good-steps says zero r g = g
@@ -170,13 +170,13 @@ module _ (I : Machine → List Entry → Type 0) (P Q : List Entry → Type 0) (
 -- an input at rest
 
 effect-live : (input : Input) (m : Machine) → (effect input m).is_halted ≡ m.is_halted
-effect-live input m = grind (arith, nat_tests)
+effect-live = grind (arith, nat_tests)
 
 abbrev after_fed : Running → Input → Running
 after_fed r input = record { machine = effect input (record r.machine { work = 0 }); entries = r.entries ++ Entry.Input input ∷ [] }
 
 fed_first : (says : Applications) (r : Running) (input : Input) → r.machine.is_halted ≡ false → after_step says (with_input input r) ≡ after_fed r input
-fed_first says r input live = grind (arith, nat_tests)
+fed_first = grind (arith, nat_tests)
 
 -- the run
 
@@ -202,7 +202,7 @@ module _ (I : Machine → List Entry → Type 0) (P Q : List Entry → Type 0) (
   good-leads says r g new (n, goes, still) = subst (λ (x : Running). Good I P Q x) goes (good-steps I P Q law says n r g)
 
   rested-holds : (r : Running) → Good I P Q r → is_still r.machine ≡ true → r.machine.is_halted ≡ false → Q r.entries
-  rested-holds r g still live = grind (arith, nat_tests)
+  rested-holds = grind (arith, nat_tests)
 
   fed-leads : (says : Applications) (r : Running) (input : Input) → Good I P Q r → is_still r.machine ≡ true → r.machine.is_halted ≡ false → Leads says (with_input input r)
   fed-leads says r input g still live new (zero, goes, quiet) = grind (arith, nat_tests)

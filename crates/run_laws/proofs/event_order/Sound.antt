@@ -38,21 +38,21 @@ order-other p X e n i = λ alive.
     no_given Entry.Halt n = refl
 
 no_given : (p : ℕ) (e : Entry) → is_turn e ≡ false → given_in p e ≡ []
-no_given p e n = grind (arith, nat_tests)
+no_given = grind (arith, nat_tests)
 
 still_alive : (p : ℕ) (X : List Entry) (e : Entry) → has_ended p (X ++ e ∷ []) ≡ false → has_ended p X ≡ false
-still_alive p X e alive = grind (arith, nat_tests, ended-more)
+still_alive = grind (arith, nat_tests, ended-more)
 
 not_ended_in : (p : ℕ) (X : List Entry) (e : Entry) → has_ended p (X ++ e ∷ []) ≡ false → ends_in p e ≡ false
-not_ended_in p X e alive = grind (arith, nat_tests, ended-more)
+not_ended_in = grind (arith, nat_tests, ended-more)
 
 pub sound-other : (p : ℕ) (X : List Entry) (e : Entry) (s : Scheduler Bool) → is_turn e ≡ false → Sound p s X → Sound p s (X ++ e ∷ [])
-sound-other p X e s n h = grind (arith, nat_tests, still_alive, given-more, no_given, append-nil, accepted-other)
+sound-other = grind (arith, nat_tests, still_alive, given-more, no_given, append-nil, accepted-other)
 
 -- a turn
 
 told_front : (q : ℕ) (stimulus : Stimulus) (known : Known) → told q stimulus known q ≡ reply_of stimulus
-told_front q stimulus known = grind (arith, nat_tests)
+told_front = grind (arith, nat_tests)
 
 pub turn_order : (p : ℕ) (X : List Entry) (s : Scheduler Bool) (items : List Item) (q : ℕ) (origin : Origin) (stimulus : Stimulus) (call : Call)
     → Sound p (with_agenda (Item.Turn q origin stimulus ∷ items) s) X → IsInOrder p (X ++ Entry.Turn (record { 0 = q }) origin stimulus call ∷ [])
@@ -103,25 +103,25 @@ pub record SoundFree (p : ℕ) (s : Scheduler Bool) (X : List Entry) : Type 0 wh
   pub tally : has_ended p X ≡ false → (known : Known) → accepted_with known p X ≡ given_events X p ++ all_waiting p s
 
 pub sound-free : (p : ℕ) (s : Scheduler Bool) (X : List Entry) → SoundFree p s X → Sound p s X
-sound-free p s X h = grind (arith, nat_tests)
+sound-free = grind (arith, nat_tests)
 
 -- an item that makes no entry
 
 no_reply_front : (known : Known) (item : Item) (items : List Item) → is_quiet_item item ≡ true → FrontAgrees known (item ∷ items)
-no_reply_front known item items n = grind (arith, nat_tests)
+no_reply_front = grind (arith, nat_tests)
 
 pub carried_sound : (p : ℕ) (X : List Entry) (item : Item) (items : List Item) (s : Scheduler Bool) → nat_le 4 p ≡ true → is_quiet_item item ≡ true
     → Sound p (with_agenda (item ∷ items) s) X → SoundFree p (after_item item (with_agenda items s)) X
-carried_sound p X item items s a n h = grind (arith, nat_tests, carried-ordered, carried-stands, carried-waiting, no_reply_front)
+carried_sound = grind (arith, nat_tests, carried-ordered, carried-stands, carried-waiting, no_reply_front)
 
 pub served_sound : (p : ℕ) (X : List Entry) (q : ℕ) (event : Event) (m : Machine) → nat_le 4 p ≡ true → SoundFree p m.scheduler X → SoundFree p (serve q event m).scheduler X
-served_sound p X q event m a h = grind (arith, nat_tests, serve-untouched q event m, serve-served p a q event m)
+served_sound p X q event m a = grind (arith, nat_tests, serve-untouched q event m, serve-served p a q event m)
 
 pub callback_sound : (p : ℕ) (X : List Entry) (q c : ℕ) (s : Scheduler Bool) → SoundFree p s X → SoundFree p (in_front (Item.Give q Origin.Callback (Stimulus.Callback c) ∷ []) s) X
-callback_sound p X q c s h = grind (arith, nat_tests)
+callback_sound = grind (arith, nat_tests)
 
 pub round_sound : (p : ℕ) (X : List Entry) (s : Scheduler Bool) → Sound p (with_agenda [] s) X → SoundFree p (with_agenda (Item.Polls ∷ Item.Deliver ∷ []) s) X
-round_sound p X s h = grind (arith, nat_tests)
+round_sound = grind (arith, nat_tests)
 
 pub shown_sound : (p : ℕ) (X : List Entry) (items : List Item) (note : Note) (s : Scheduler Bool) → Sound p (with_agenda (Item.Show (Entry.Note note) ∷ items) s) X
     → Sound p (with_agenda items s) (X ++ Entry.Note note ∷ [])
@@ -154,7 +154,7 @@ starts-all p zero from a b = grind (arith, nat_tests)
 starts-all p (suc n) from a b = grind (arith, nat_tests, starts-all p n (suc from))
 
 boot_seats : (p : ℕ) (c : Config) → nat_le 4 p ≡ true → seats p (at_boot {X = Bool} c.apps).processes ≡ []
-boot_seats p c a = grind (arith, nat_tests)
+boot_seats = grind (arith, nat_tests)
 
 pub boot-sound : (p : ℕ) (c : Config) → is_application c.apps p ≡ true → Sound p (at_start c).machine.scheduler []
 boot-sound p c a =
@@ -169,7 +169,7 @@ boot-sound p c a =
 -- an input
 
 pub effect-sound : (p : ℕ) (X : List Entry) (input : Input) (m : Machine) → Sound p m.scheduler X → Sound p (effect input m).scheduler X
-effect-sound p X input m h = grind (arith, nat_tests, effect-keeps, seats-with_mark)
+effect-sound = grind (arith, nat_tests, effect-keeps, seats-with_mark)
 
 -- at rest
 
@@ -179,7 +179,7 @@ IsAllGiven p X = has_ended p X ≡ false → given_events X p ≡ accepted_event
 
 -- at rest nothing waits
 pub nothing_on : (agenda : List Item) → is_empty agenda ≡ true → agenda ≡ []
-nothing_on agenda e = grind (arith, nat_tests)
+nothing_on = grind (arith, nat_tests)
 
 pub nothing_queued : (events : List (Queued Bool)) → nat_lt 0 (length events) ≡ false → events ≡ []
 nothing_queued [] e = refl

@@ -50,13 +50,13 @@ pub record Cases (I J : Machine → List Entry → Type 0) (P : List Entry → T
 
 module _ (I J : Machine → List Entry → Type 0) (P : List Entry → Type 0) (cases : Cases I J P) where
   silent_kept : (X : List Entry) (m : Machine) → P X → I m X → Kept I P X (silent m)
-  silent_kept X m i h = grind (arith, nat_tests, append-nil)
+  silent_kept = grind (arith, nat_tests, append-nil)
 
   free_kept : (X : List Entry) (m : Machine) → P X → J m X → Kept I P X (silent m)
-  free_kept X m i h = grind (arith, nat_tests, silent_kept)
+  free_kept = grind (arith, nat_tests, silent_kept)
 
   limit_kept : (X : List Entry) (m : Machine) (step : StepMade) → P X → Kept I P X step → Kept I P X (within_limit m step)
-  limit_kept X m step i h = grind (arith, nat_tests)
+  limit_kept = grind (arith, nat_tests)
 
   quiet_kept : (X : List Entry) (item : Item) (items : List Item) (m : Machine) → is_quiet_item item ≡ true → is_served item ≡ false → P X
       → I (facing (item ∷ items) m) X → Kept I P X (silent (carried item items m))
@@ -77,10 +77,10 @@ module _ (I J : Machine → List Entry → Type 0) (P : List Entry → Type 0) (
   give_kept X answers q origin (Stimulus.Callback c) items m i h = quiet_kept X (Item.Give q origin (Stimulus.Callback c)) items m refl refl i h
 
   deliver_kept : (X : List Entry) (answers : Answers) (event : Option (Queued Bool)) (m : Machine) → P X → J m X → Kept I P X (job_done answers (job_of_event event) m)
-  deliver_kept X answers event m i h = grind (arith, nat_tests, free_kept)
+  deliver_kept = grind (arith, nat_tests, free_kept)
 
   at_agenda : (X : List Entry) (agenda : List Item) (m : Machine) → m.scheduler.agenda ≡ agenda → I m X → I (facing agenda m) X
-  at_agenda X agenda m e h = grind (arith, nat_tests)
+  at_agenda = grind (arith, nat_tests)
 
   round_kept : (X : List Entry) (answers : Answers) (m : Machine) (b : Bool) → m.scheduler.agenda ≡ [] → P X → I m X
       → Kept I P X (job_done answers (Some (if b then Job.Round else Job.Rest)) (record m { scheduler = if b then in_front (Item.Polls ∷ Item.Deliver ∷ []) m.scheduler else m.scheduler }))
@@ -104,7 +104,7 @@ module _ (I J : Machine → List Entry → Type 0) (P : List Entry → Type 0) (
   step_kept X answers (item ∷ items) m e i h = quiet_kept X item items m refl refl i (at_agenda X (item ∷ items) m e h)
 
   one_step_kept : (answers : Answers) (m : Machine) (X : List Entry) → I m X → P X → Kept I P X (one_step answers m)
-  one_step_kept answers m X h i = grind (arith, nat_tests, silent_kept, step_kept)
+  one_step_kept = grind (arith, nat_tests, silent_kept, step_kept)
 
   shows_notes : (X : List Entry) (agenda : List Item) (m : Machine) → m.scheduler.agenda ≡ agenda → I m X → (entry : Entry)
       → job_at agenda m.scheduler ≡ Some (Job.ShowEntry entry) → is_note entry ≡ true

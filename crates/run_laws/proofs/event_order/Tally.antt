@@ -29,10 +29,10 @@ accepted_with known p (entry ∷ later) = cons_option (accepted_or known p entry
 
 -- with nothing known these are the accepted events
 pub reply_or-none : (p : ℕ) (later : List Entry) → reply_or None (heard p later) ≡ reply_in p later
-reply_or-none p later = grind (arith, nat_tests)
+reply_or-none = grind (arith, nat_tests)
 
 accepted_or-none : (p : ℕ) (entry : Entry) (later : List Entry) → accepted_or nothing_known p entry later ≡ accepted_event p entry later
-accepted_or-none p entry later = grind (arith, nat_tests)
+accepted_or-none = grind (arith, nat_tests)
 
 pub accepted_with-none : (p : ℕ) (X : List Entry) → accepted_with nothing_known p X ≡ accepted_events p X
 accepted_with-none p [] = refl
@@ -41,11 +41,11 @@ accepted_with-none p (entry ∷ later) = grind (arith, nat_tests, accepted_with-
 -- one more turn
 pub heard-turn : (r : ℕ) (X : List Entry) (pid : Pid) (origin : Origin) (stimulus : Stimulus) (call : Call)
     → heard r (X ++ Entry.Turn pid origin stimulus call ∷ []) ≡ heard r X ++ option_to_list (if pid.0 == r then Some stimulus else None)
-heard-turn r X pid origin stimulus call = grind (arith, nat_tests, filter_map-append)
+heard-turn = grind (arith, nat_tests, filter_map-append)
 
 reply_or-told : (known : Known) (r q : ℕ) (stimulus : Stimulus) (l : List Stimulus)
     → reply_or (known r) (l ++ option_to_list (if q == r then Some stimulus else None)) ≡ reply_or (told q stimulus known r) l
-reply_or-told known r q stimulus l = grind (arith, nat_tests)
+reply_or-told = grind (arith, nat_tests)
 
 accepted_or-turn : (known : Known) (p : ℕ) (entry : Entry) (X : List Entry) (pid : Pid) (origin : Origin) (stimulus : Stimulus) (call : Call)
     → accepted_or known p entry (X ++ Entry.Turn pid origin stimulus call ∷ []) ≡ accepted_or (told pid.0 stimulus known) p entry X
@@ -58,10 +58,10 @@ abbrev pub own_event : Known → ℕ → ℕ → Call → List Event
 own_event known p q call = option_to_list (if is_done (known q) then event_for p call else None)
 
 pub cons_option-append : {A : Type 0} (o : Option A) (xs ys : List A) → cons_option o (xs ++ ys) ≡ cons_option o xs ++ ys
-cons_option-append o xs ys = grind (arith, nat_tests)
+cons_option-append = grind (arith, nat_tests)
 
 pub cons_option-nil : {A : Type 0} (o : Option A) → cons_option o [] ≡ option_to_list o
-cons_option-nil o = grind (arith, nat_tests)
+cons_option-nil = grind (arith, nat_tests)
 
 pub accepted-turn : (known : Known) (p : ℕ) (X : List Entry) (pid : Pid) (origin : Origin) (stimulus : Stimulus) (call : Call)
     → accepted_with known p (X ++ Entry.Turn pid origin stimulus call ∷ []) ≡ accepted_with (told pid.0 stimulus known) p X ++ own_event known p pid.0 call
@@ -74,7 +74,7 @@ is_turn (Entry.Turn pid origin stimulus call) = true
 is_turn _ = false
 
 pub heard-other : (r : ℕ) (X : List Entry) (e : Entry) → is_turn e ≡ false → heard r (X ++ e ∷ []) ≡ heard r X
-heard-other r X e h = grind (arith, nat_tests, filter_map-append, append-nil)
+heard-other = grind (arith, nat_tests, filter_map-append, append-nil)
 
 accepted_or-other : (known : Known) (p : ℕ) (entry : Entry) (X : List Entry) (e : Entry) → is_turn e ≡ false
     → accepted_or known p entry (X ++ e ∷ []) ≡ accepted_or known p entry X
@@ -104,7 +104,7 @@ ends_turn turn = is_exit turn.call || is_event_of_code EXIT turn.stimulus
 
 given_one : (p k : ℕ) (e : Entry) (later : List Entry) (turns : List OwnTurn)
     → filter_map given_turn (cons_option (own_turn p k e later) turns) ≡ given_in p e ++ filter_map given_turn turns
-given_one p k e later turns = grind (arith, nat_tests)
+given_one = grind (arith, nat_tests)
 
 given-from : (p k : ℕ) (X : List Entry) (e : Entry)
     → filter_map given_turn (own_from p k (X ++ e ∷ [])) ≡ filter_map given_turn (own_from p k X) ++ given_in p e
@@ -112,11 +112,11 @@ given-from p k [] e = grind (arith, nat_tests)
 given-from p k (entry ∷ X) e = grind (arith, nat_tests, given-from p (k + ticks_in entry) X e)
 
 pub given-more : (p : ℕ) (X : List Entry) (e : Entry) → given_events (X ++ e ∷ []) p ≡ given_events X p ++ given_in p e
-given-more p X e = grind (arith, nat_tests, given-from)
+given-more = grind (arith, nat_tests, given-from)
 
 ends_one : (p k : ℕ) (e : Entry) (later : List Entry) (turns : List OwnTurn)
     → list_any ends_turn (cons_option (own_turn p k e later) turns) ≡ (ends_in p e || list_any ends_turn turns)
-ends_one p k e later turns = grind (arith, nat_tests)
+ends_one = grind (arith, nat_tests)
 
 or-assoc : (a b c : Bool) → (a || (b || c)) ≡ ((a || b) || c)
 or-assoc true b c = refl
@@ -132,7 +132,7 @@ ended-from p k [] e = grind (arith, nat_tests)
 ended-from p k (entry ∷ X) e = grind (arith, nat_tests, ends_one, or-assoc, ended-from p (k + ticks_in entry) X e)
 
 pub ended-more : (p : ℕ) (X : List Entry) (e : Entry) → has_ended p (X ++ e ∷ []) ≡ (has_ended p X || ends_in p e)
-ended-more p X e = grind (arith, nat_tests, ended-from)
+ended-more = grind (arith, nat_tests, ended-from)
 
 -- In which order items lie on the agenda, and what it holds of one process.
 -- the order
@@ -260,7 +260,7 @@ abbrev pub is_neutral : ℕ → Item → Bool
 is_neutral p item = not (is_start p item) && (not (is_turn_of p item) && (not (is_give_exit p item) && not (is_remove p item)))
 
 pub placed-more : (p : ℕ) (l : List State) (item : Item) (items : List Item) → is_placed p l items ≡ true → is_placed p l (item ∷ items) ≡ true
-placed-more p l item items h = grind (arith, nat_tests)
+placed-more = grind (arith, nat_tests)
 
 pub placed-append : (p : ℕ) (l : List State) (xs items : List Item) → is_placed p l items ≡ true → is_placed p l (xs ++ items) ≡ true
 placed-append p l [] items h = h

@@ -26,20 +26,20 @@ placed-running p l items w h = grind (arith, nat_tests, h, walk-free p items w, 
 pub given-running : (p q : ℕ) (stimulus : Stimulus) (items : List Item) (s : Scheduler Bool) → (q == p) ≡ true
     → is_ordered (Item.Give q Origin.Event stimulus ∷ items) ≡ true → stands p (with_agenda (Item.Give q Origin.Event stimulus ∷ items) s) ≡ true
     → is_running (state_in s q) ≡ true
-given-running p q stimulus items s e o h = grind (arith, nat_tests, placed-running, state_of-seats)
+given-running = grind (arith, nat_tests, placed-running, state_of-seats)
 
 -- a Give that finds nobody carries no event for p
 lost : (p q : ℕ) (origin : Origin) (stimulus : Stimulus) (items : List Item) (s : Scheduler Bool) → nat_le 4 p ≡ true
     → is_ordered (Item.Give q origin stimulus ∷ items) ≡ true → stands p (with_agenda (Item.Give q origin stimulus ∷ items) s) ≡ true
     → (not (is_kernel_process q) && is_running (state_in s q)) ≡ false → waiting_in p (Item.Give q origin stimulus) ≡ []
-lost p q origin stimulus items s a o h t = grind (arith, nat_tests, given-running)
+lost = grind (arith, nat_tests, given-running)
 
 waits-polls : (p : ℕ) (ns : List ℕ) → waits p (map (λ n. Item.PollOne n) ns) ≡ []
 waits-polls p [] = refl
 waits-polls p (n ∷ ns) = waits-polls p ns
 
 one-seat : (p : ℕ) (l : List State) (event : Event) → holds p l (Item.Deliver ∷ []) ≡ true → flat_map (λ _. posted_for event) l ≡ posted_for event
-one-seat p l event h = grind (arith, nat_tests)
+one-seat = grind (arith, nat_tests)
 
 delivered : (p : ℕ) (s : Scheduler Bool) (events : List (Queued Bool)) → holds p (seats p s.processes) (Item.Deliver ∷ []) ≡ true
     → waits p (delivery (numbers s.processes) (slice_get events 0)) ++ queued p (drop 1 events) ≡ queued p events
@@ -53,10 +53,10 @@ abbrev pub all_waiting : ℕ → Scheduler Bool → List Event
 all_waiting p s = waits p s.agenda ++ queued p s.events
 
 no_synch : (p q : ℕ) (stimulus : Stimulus) → waiting_in p (Item.Give q Origin.Synch stimulus) ≡ []
-no_synch p q stimulus = grind arith
+no_synch = grind arith
 
 no_exit : (p q : ℕ) (stimulus : Stimulus) → waiting_in p (Item.Turn q Origin.Synch stimulus) ≡ []
-no_exit p q stimulus = grind arith
+no_exit = grind arith
 
 pub carried-waiting : (p : ℕ) (item : Item) (items : List Item) (s : Scheduler Bool) → is_silent item ≡ true → nat_le 4 p ≡ true
     → is_ordered (item ∷ items) ≡ true → stands p (with_agenda (item ∷ items) s) ≡ true
@@ -90,10 +90,10 @@ queued-silent : (p : ℕ) (events : List (Queued Bool)) (event : Queued Bool) �
 queued-silent p events event h = rw (queued-append p events (event ∷ []), h) (append-nil (queued p events))
 
 expiry-silent : (p : ℕ) (timer : Timer) → queued_in p (expiry_of timer) ≡ []
-expiry-silent p timer = grind (arith, nat_tests)
+expiry-silent = grind (arith, nat_tests)
 
 notice-silent : (p : ℕ) (notice : Queued Bool) → nat_le 4 p ≡ true → is_notice notice ≡ true → queued_in p notice ≡ []
-notice-silent p notice h n = grind (arith, nat_tests)
+notice-silent = grind (arith, nat_tests)
 
 pub serve-served : (p : ℕ) → nat_le 4 p ≡ true → (q : ℕ) (event : Event) (m : Machine) → Served p m (serve q event m)
 serve-served p a q event = of_changes changes

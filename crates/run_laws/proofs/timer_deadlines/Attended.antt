@@ -25,22 +25,22 @@ abbrev pub standing_of : OwnTimer → Option Reply → List Entry → Standing
 standing_of o k X = fold (standing_after o.t) fresh_standing (turns_or k o.p 0 X)
 
 pub standing-none : (X : List Entry) (o : OwnTimer) → standing X o.p o.t ≡ standing_of o None X
-standing-none X o = grind (arith, nat_tests, turns-none)
+standing-none = grind (arith, nat_tests, turns-none)
 
 pub standing-turn : (o : OwnTimer) (clock : ℕ) (k : Option Reply) (X : List Entry) (q : ℕ) (origin : Origin) (stimulus : Stimulus) (call : Call) → clock ≡ clock_after X
     → standing_of o k (X ++ turn_entry q origin stimulus call ∷ [])
     ≡ standing_then (q == o.p) o.t clock stimulus origin call k (standing_of o (told_reply o.p q stimulus k) X)
-standing-turn o clock k X q origin stimulus call e = grind (arith, nat_tests, turns-turn, fold-append)
+standing-turn = grind (arith, nat_tests, turns-turn, fold-append)
 
 pub standing-other : (o : OwnTimer) (k : Option Reply) (X : List Entry) (e : Entry) → is_turn e ≡ false → standing_of o k (X ++ e ∷ []) ≡ standing_of o k X
-standing-other o k X e n = grind (arith, nat_tests, turns-other)
+standing-other = grind (arith, nat_tests, turns-other)
 
 -- the ledger and the standing have one cell
 pub record Agree (ledger : Ledger) (st : Standing) : Type 0 where
   pub cell : ledger.cell ≡ st.cell
 
 agree-step : (t : ℕ) (ledger : Ledger) (st : Standing) (turn : OwnTurn) → Agree ledger st → Agree (ledger_after t ledger turn) (standing_after t st turn)
-agree-step t ledger st turn h = grind (arith, nat_tests)
+agree-step = grind (arith, nat_tests)
 
 pub agree-fold : (t : ℕ) (ledger : Ledger) (st : Standing) (turns : List OwnTurn) → Agree ledger st → Agree (fold (ledger_after t) ledger turns) (fold (standing_after t) st turns)
 agree-fold t ledger st [] h = h
@@ -59,10 +59,10 @@ pub record HeededFree (o : OwnTimer) (m : Machine) (X : List Entry) : Type 0 whe
   pub kept : has_ended o.p X ≡ false → is_doomed o.p m.scheduler.agenda ≡ false → (k : Option Reply) → Awaits o m.timers (is_expected o m.scheduler) (standing_of o k X)
 
 pub heeded-free : (o : OwnTimer) (m : Machine) (X : List Entry) → HeededFree o m X → Heeded o m X
-heeded-free o m X h = grind (arith, nat_tests)
+heeded-free = grind (arith, nat_tests)
 
 still_expected : (a w v g : Bool) → (w ≡ true → v ≡ true) → (a || (w || g)) ≡ true → (a || (v || g)) ≡ true
-still_expected a w v g more h = grind (arith, nat_tests)
+still_expected = grind (arith, nat_tests)
 
 -- an item
 pub heeded-carried : (o : OwnTimer) (X : List Entry) (item : Item) (items : List Item) (m : Machine) → nat_le 4 o.p ≡ true → is_quiet_item item ≡ true
@@ -92,7 +92,7 @@ heeded-serve o X q origin event items m old h =
 
 -- a turn
 regroup : (a g w v st : Bool) → (a || (((g || w) || v) || st)) ≡ true → (a || ((g || (w || v)) || st)) ≡ true
-regroup a g w v st h = grind (arith, nat_tests)
+regroup = grind (arith, nat_tests)
 
 pub heeded-turn : (o : OwnTimer) (X : List Entry) (m : Machine) (items : List Item) (q : ℕ) (origin : Origin) (stimulus : Stimulus) (call : Call) → m.clock ≡ clock_after X → Setting o.p m.timers
     → Heeded o (facing (Item.Turn q origin stimulus ∷ items) m) X
@@ -171,7 +171,7 @@ module _ (o : OwnTimer) (low : nat_le 4 o.p ≡ true) (high : nat_lt o.p 20 ≡ 
   sound = sound_cases o.p low
 
   heeded-input : (input : Input) (m : Machine) (X : List Entry) → Heeded o m X → Heeded o (effect input (record m { work = 0 })) (X ++ Entry.Input input ∷ [])
-  heeded-input input m X h = grind (arith, nat_tests, heeded-other, effect-keeps)
+  heeded-input = grind (arith, nat_tests, heeded-other, effect-keeps)
 
   attended_cases : Cases (Attended o) (AttendedFree o) Anything
   attended_cases =
@@ -267,7 +267,7 @@ IsGivenAtRest o X =
     has_ended o.p X ≡ false → (standing X o.p o.t).is_armed ≡ true → deadline (standing X o.p o.t).cell ≤ clock_after X → (standing X o.p o.t).was_given ≡ true
 
 rest-given : (o : OwnTimer) (m : Machine) (X : List Entry) → is_at_rest m ≡ true → Attended o m X → IsGivenAtRest o X
-rest-given o m X rest h = grind (arith, nat_tests, standing-none, nothing_on, nothing_queued, rest-not_due, due_listed, agree-fold)
+rest-given = grind (arith, nat_tests, standing-none, nothing_on, nothing_queued, rest-not_due, due_listed, agree-fold)
 
 -- boot
 

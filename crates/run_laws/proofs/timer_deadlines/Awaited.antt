@@ -30,12 +30,12 @@ is_expected o s = list_any (gives o) s.agenda || list_any (queues o) s.events
 
 delivered-expected : (o : OwnTimer) (ns : List ℕ) (items : List Item) (events : List (Queued Bool)) → (list_any (gives o) items || list_any (queues o) events) ≡ true
     → (list_any (gives o) (delivery ns (slice_get events 0) ++ items) || list_any (queues o) (drop 1 events)) ≡ true
-delivered-expected o ns items events h = grind (arith, nat_tests, list_any-append)
+delivered-expected = grind (arith, nat_tests, list_any-append)
 
 pub carried-expected : (o : OwnTimer) (item : Item) (items : List Item) (s : Scheduler Bool) → nat_le 4 o.p ≡ true → is_quiet_item item ≡ true
     → is_ordered (item ∷ items) ≡ true → stands o.p (with_agenda (item ∷ items) s) ≡ true
     → is_expected o (with_agenda (item ∷ items) s) ≡ true → is_expected o (after_item item (with_agenda items s)) ≡ true
-carried-expected o item items s a n is k h = grind (arith, nat_tests, carried-any, delivered-expected, given-running)
+carried-expected = grind (arith, nat_tests, carried-any, delivered-expected, given-running)
 
 -- a kernel process
 
@@ -44,10 +44,10 @@ abbrev pub Held : OwnTimer → Bool → Machine → Type 0
 Held o g m = (is_armed (own_timer o) m.timers || (is_expected o m.scheduler || g)) ≡ true
 
 posted-held : (o : OwnTimer) (g : Bool) (event : Queued Bool) (m : Machine) → Held o g m → Held o g (with_event event m)
-posted-held o g event m h = grind (arith, nat_tests, list_any-append)
+posted-held = grind (arith, nat_tests, list_any-append)
 
 expired-held : (o : OwnTimer) (g : Bool) (timer : Timer) (m : Machine) → Held o g m → Held o g (post_expiry (Some timer) m)
-expired-held o g timer m h = grind (arith, nat_tests, that_timer, list_any-append, stopped-other, symm, posted-held)
+expired-held = grind (arith, nat_tests, that_timer, list_any-append, stopped-other, symm, posted-held)
 
 kept-filter : (test keep : Timer → Bool) (xs : List Timer) → ((x : Timer) → test x ≡ true → keep x ≡ true) → list_any test (filter keep xs) ≡ list_any test xs
 kept-filter test keep [] k = refl
@@ -55,13 +55,13 @@ kept-filter test keep (x ∷ xs) k = grind (arith, nat_tests, kept-filter test k
 
 filter-held : (o : OwnTimer) (g : Bool) (keep : Timer → Bool) (m : Machine) → ((x : Timer) → is_timer (own_timer o) x ≡ true → keep x ≡ true) → Held o g m
     → Held o g (record m { timers = record m.timers { armed = filter keep m.timers.armed } })
-filter-held o g keep m k h = grind (arith, nat_tests, kept-filter)
+filter-held = grind (arith, nat_tests, kept-filter)
 
 spares-others : (o : OwnTimer) (n : ℕ) (x : Timer) → (n == o.p) ≡ false → is_timer (own_timer o) x ≡ true → not (is_event_timer_of n x) ≡ true
-spares-others o n x e h = grind (arith, nat_tests)
+spares-others = grind (arith, nat_tests)
 
 spares-events : (o : OwnTimer) (n : ℕ) (x : Timer) → is_timer (own_timer o) x ≡ true → not (is_callback_timer_of n x) ≡ true
-spares-events o n x h = grind (arith, nat_tests)
+spares-events = grind (arith, nat_tests)
 
 pub queues-cancelled : (o : OwnTimer) (test : ℕ → ℕ → Bool) (events : List (Queued Bool)) → list_any (queues o) (map (cancelled_if test) events) ≡ list_any (queues o) events
 queues-cancelled o test [] = refl
@@ -71,7 +71,7 @@ pub cancelled-held : (o : OwnTimer) (g : Bool) (test : ℕ → ℕ → Bool) (m 
 cancelled-held o g test m h = rw (queues-cancelled o test m.scheduler.events) h
 
 exited-other : (p n : ℕ) (payload : Payload) → exited_application payload ≡ Some n → is_number p payload ≡ false → (n == p) ≡ false
-exited-other p n payload e f = grind (arith, nat_tests)
+exited-other = grind (arith, nat_tests)
 
 -- an event that is no farewell to p
 pub serve-held : (o : OwnTimer) (g : Bool) (q : ℕ) (origin : Origin) (event : Event) (m : Machine) → is_farewell o.p (Item.Give q origin (of_event event)) ≡ false

@@ -31,7 +31,7 @@ pub record Free (o : OwnTimer) (m : Machine) (X : List Entry) : Type 0 where
   pub balanced : (k : Option Reply) → Balances o m X k
 
 pub timely-free : (o : OwnTimer) (m : Machine) (X : List Entry) → Free o m X → Timely o m X
-timely-free o m X h = grind (arith, nat_tests)
+timely-free = grind (arith, nat_tests)
 
 abbrev pub IsTimely : OwnTimer → List Entry → Type 0
 IsTimely o X = (timer_ledger o None X).given ≤ ripe_at (clock_after X) (timer_ledger o None X)
@@ -41,23 +41,23 @@ IsTimely o X = (timer_ledger o None X).given ≤ ripe_at (clock_after X) (timer_
 pub ledger-turn : (o : OwnTimer) (clock : ℕ) (k : Option Reply) (X : List Entry) (q : ℕ) (origin : Origin) (stimulus : Stimulus) (call : Call) → clock ≡ clock_after X
     → timer_ledger o k (X ++ Entry.Turn (record { 0 = q }) origin stimulus call ∷ [])
     ≡ ledger_then (q == o.p) o.t clock stimulus origin call k (timer_ledger o (told_reply o.p q stimulus k) X)
-ledger-turn o clock k X q origin stimulus call e = grind (arith, nat_tests, turns-turn, fold-append)
+ledger-turn = grind (arith, nat_tests, turns-turn, fold-append)
 
 pub ledger-other : (o : OwnTimer) (k : Option Reply) (X : List Entry) (e : Entry) → is_turn e ≡ false → timer_ledger o k (X ++ e ∷ []) ≡ timer_ledger o k X
-ledger-other o k X e n = grind (arith, nat_tests, turns-other)
+ledger-other = grind (arith, nat_tests, turns-other)
 
 -- what is ripe stays ripe
 pub ripe-later : (n clock : ℕ) (ledger : Ledger) → ripe_at clock ledger ≤ ripe_at (clock + n) ledger
-ripe-later n clock ledger = grind (arith, nat_tests)
+ripe-later = grind (arith, nat_tests)
 
 pub timely-other : (o : OwnTimer) (X : List Entry) (e : Entry) → is_turn e ≡ false → IsTimely o X → IsTimely o (X ++ e ∷ [])
-timely-other o X e n h = grind (arith, nat_tests, ledger-other, clock-more, ripe-later)
+timely-other = grind (arith, nat_tests, ledger-other, clock-more, ripe-later)
 
 pub less-balanced : (o : OwnTimer) (clock v w : ℕ) (timers : Timers) (ledger : Ledger) → v ≤ w → Balanced o timers clock w ledger → Balanced o timers clock v ledger
-less-balanced o clock v w timers ledger less b = grind (arith, nat_tests)
+less-balanced = grind (arith, nat_tests)
 
 pub later-balanced : (o : OwnTimer) (n w clock : ℕ) (timers : Timers) (ledger : Ledger) → Balanced o timers clock w ledger → Balanced o timers (clock + n) w ledger
-later-balanced o n w clock timers ledger b = grind (arith, nat_tests)
+later-balanced = grind (arith, nat_tests)
 
 -- a turn
 
@@ -75,7 +75,7 @@ module _ (o : OwnTimer) (low : nat_le 4 o.p ≡ true) (high : nat_lt o.p 20 ≡ 
 
   pub turn_setting : (X : List Entry) (m : Machine) (items : List Item) (q : ℕ) (origin : Origin) (stimulus : Stimulus)
       → Timely o (facing (Item.Turn q origin stimulus ∷ items) m) X → Setting o.p m.timers
-  turn_setting X m items q origin stimulus h = grind (arith, nat_tests)
+  turn_setting = grind (arith, nat_tests)
 
   pub turn_timely : (X : List Entry) (m : Machine) (items : List Item) (q : ℕ) (origin : Origin) (stimulus : Stimulus) (call : Call)
       → Timely o (facing (Item.Turn q origin stimulus ∷ items) m) X
@@ -95,13 +95,13 @@ module _ (o : OwnTimer) (low : nat_le 4 o.p ≡ true) (high : nat_lt o.p 20 ≡ 
 
   pub turn_early : (X : List Entry) (m : Machine) (items : List Item) (q : ℕ) (origin : Origin) (stimulus : Stimulus) (call : Call)
       → Timely o (facing (Item.Turn q origin stimulus ∷ items) m) X → IsTimely o (X ++ Entry.Turn (record { 0 = q }) origin stimulus call ∷ [])
-  turn_early X m items q origin stimulus call h = grind (arith, nat_tests, clock-more, ledger-turn, turn-balanced, still_moves, turn_before)
+  turn_early = grind (arith, nat_tests, clock-more, ledger-turn, turn-balanced, still_moves, turn_before)
 
 -- No TIMER event comes early or twice.
 
 -- an item that is neither a turn nor shown: no reply is in front
 pub no_reply_front : (p : ℕ) (k : Option Reply) (item : Item) (items : List Item) → is_quiet_item item ≡ true → FrontIs p k (item ∷ items)
-no_reply_front p k item items n = grind (arith, nat_tests)
+no_reply_front = grind (arith, nat_tests)
 
 free-carried : (o : OwnTimer) (X : List Entry) (item : Item) (items : List Item) (m : Machine) → is_quiet_item item ≡ true
     → Timely o (facing (item ∷ items) m) X → Free o (carried item items m) X
@@ -114,19 +114,19 @@ free-carried o X item items m n h =
     }
 
 no_callback : (o : OwnTimer) (q c : ℕ) → count_items o (Item.Give q Origin.Callback (Stimulus.Callback c) ∷ []) ≡ 0
-no_callback o q c = grind (arith, nat_tests)
+no_callback = grind (arith, nat_tests)
 
 -- an input
 
 -- the clock goes on by its ticks, and no more TIMER events wait
 effect-clock : (input : Input) (m : Machine) → (effect input m).clock ≡ m.clock + ticks_in (Entry.Input input)
-effect-clock input m = grind (arith, nat_tests)
+effect-clock = grind (arith, nat_tests)
 
 effect-timers : (input : Input) (m : Machine) → (effect input m).timers ≡ m.timers
-effect-timers input m = grind (arith, nat_tests)
+effect-timers = grind (arith, nat_tests)
 
 effect-wait : (o : OwnTimer) (input : Input) (m : Machine) → in_wait o (effect input m) ≤ in_wait o m
-effect-wait o input m = grind (arith, nat_tests)
+effect-wait = grind (arith, nat_tests)
 
 effect_timely : (o : OwnTimer) (input : Input) (m : Machine) (X : List Entry) → Timely o m X → Timely o (effect input (record m { work = 0 })) (X ++ Entry.Input input ∷ [])
 effect_timely o input m X h =
@@ -190,7 +190,7 @@ starts-count o [] = refl
 starts-count o (n ∷ ns) = omega (arith, starts-count o ns)
 
 pub boot_steady : (c : Config) → Steady (at_start c).machine []
-boot_steady c = grind (arith, nat_tests, zero-names, all-mapped)
+boot_steady = grind (arith, nat_tests, zero-names, all-mapped)
 
 pub boot_timely : (o : OwnTimer) (c : Config) → nat_le 4 o.p ≡ true → nat_lt o.p 20 ≡ true → Timely o (at_start c).machine []
 boot_timely o c low high =
@@ -207,7 +207,7 @@ boot_timely o c low high =
 
 -- p is one of the 16 that have timers
 pub has_timers : (c : Config) (p : ℕ) → is_bootable c ≡ true → is_application c.apps p ≡ true → nat_lt p 20 ≡ true
-has_timers c p b a = grind (arith, nat_tests)
+has_timers = grind (arith, nat_tests)
 
 -- no TIMER event comes early or twice
 pub no_early_timer : (run : Ran)

@@ -48,10 +48,10 @@ abbrev Clean : Machine → Type 0
 Clean m = list_all is_no_exited m.scheduler.events ≡ true
 
 expiry-clean : (timer : Timer) → is_no_exited (expiry_of timer) ≡ true
-expiry-clean timer = grind (arith, nat_tests)
+expiry-clean = grind (arith, nat_tests)
 
 notice-clean : (notice : Queued Bool) → is_notice notice ≡ true → is_no_exited notice ≡ true
-notice-clean notice n = grind (arith, nat_tests)
+notice-clean = grind (arith, nat_tests)
 
 pub serve-events : (q : ℕ) (event : Event) (m : Machine) → Clean m → Clean (serve q event m)
 serve-events q event = of_changes changes
@@ -72,7 +72,7 @@ serve-events q event = of_changes changes
 -- an item
 
 no_farewell-given : (p q : ℕ) (origin : Origin) (event : Event) → (event.code == EXITED) ≡ false → is_farewell p (Item.Give q origin (of_event event)) ≡ false
-no_farewell-given p q origin event h = grind (arith, nat_tests)
+no_farewell-given = grind (arith, nat_tests)
 
 no_farewell-broadcast : (p : ℕ) (ns : List ℕ) (event : Event) → (event.code == EXITED) ≡ false → has_farewell p (delivery ns (to_all event)) ≡ false
 no_farewell-broadcast p [] event h = refl
@@ -90,7 +90,7 @@ spared-before false b h n = refl
 
 pub carried-doomed : (p : ℕ) (item : Item) (items : List Item) (s : Scheduler Bool) → is_quiet_item item ≡ true
     → is_doomed p (after_item item (with_agenda items s)).agenda ≡ false → is_doomed p (item ∷ items) ≡ false
-carried-doomed p item items s n h = grind (arith, nat_tests, spared-before, carried-any)
+carried-doomed = grind (arith, nat_tests, spared-before, carried-any)
 
 pub carried-farewell : (p : ℕ) (item : Item) (items : List Item) (s : Scheduler Bool) → list_all is_no_exited s.events ≡ true
     → has_farewell p (item ∷ items) ≡ false → has_farewell p (after_item item (with_agenda items s)).agenda ≡ false

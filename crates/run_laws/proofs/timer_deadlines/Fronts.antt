@@ -5,7 +5,7 @@ use Rattle.run_laws.proofs.event_order.Items.{with_agenda}
 use Rattle.run_laws.proofs.event_order.After.{call-front}
 
 pub all-append : {A : Type 0} (test : A → Bool) (xs ys : List A) → list_all test xs ≡ true → list_all test ys ≡ true → list_all test (xs ++ ys) ≡ true
-all-append test xs ys h k = grind (arith, nat_tests, list_all-append)
+all-append = grind (arith, nat_tests, list_all-append)
 
 pub all-mapped : (test : Item → Bool) (f : ℕ → Item) (ns : List ℕ) → ((n : ℕ) → test (f n) ≡ true) → list_all test (map f ns) ≡ true
 all-mapped test f [] h = refl
@@ -25,7 +25,7 @@ all-delivered test ns _ p g = refl
 -- what waits in the queue
 
 pub all-more : (keep : Queued Bool → Bool) (xs : List (Queued Bool)) (event : Queued Bool) → keep event ≡ true → list_all keep xs ≡ true → list_all keep (xs ++ event ∷ []) ≡ true
-all-more keep xs event n h = grind (arith, nat_tests, all-append)
+all-more = grind (arith, nat_tests, all-append)
 
 pub all-cancelled : (keep : Queued Bool → Bool) (test : ℕ → ℕ → Bool) → ((event : Queued Bool) → keep (cancelled_if test event) ≡ keep event) → (events : List (Queued Bool))
     → list_all keep (map (cancelled_if test) events) ≡ list_all keep events
@@ -34,13 +34,13 @@ all-cancelled keep test same (event ∷ events) = grind (arith, nat_tests, all-c
 
 pub carried-queue : (keep : Queued Bool → Bool) (item : Item) (items : List Item) (s : Scheduler Bool) → list_all keep s.events ≡ true
     → list_all keep (after_item item (with_agenda items s)).events ≡ true
-carried-queue keep item items s h = grind (arith, nat_tests)
+carried-queue = grind (arith, nat_tests)
 
 -- an item
 
 pub carried-any : (test : Item → Bool) (item : Item) (items : List Item) (s : Scheduler Bool) → list_any test items ≡ true
     → list_any test (after_item item (with_agenda items s)).agenda ≡ true
-carried-any test item items s h = grind (arith, nat_tests, list_any-append)
+carried-any = grind (arith, nat_tests, list_any-append)
 
 -- a call
 

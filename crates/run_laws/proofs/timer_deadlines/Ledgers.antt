@@ -21,7 +21,7 @@ abbrev pub clock_from : ℕ → List Entry → ℕ
 clock_from clock entries = fold (λ clock entry. clock + ticks_in entry) clock entries
 
 turn-none : (p clock : ℕ) (entry : Entry) (later : List Entry) → own_turn_or None p clock entry later ≡ own_turn p clock entry later
-turn-none p clock entry later = grind (arith, nat_tests)
+turn-none = grind (arith, nat_tests)
 
 pub turns-none : (p clock : ℕ) (X : List Entry) → turns_or None p clock X ≡ own_from p clock X
 turns-none p clock [] = refl
@@ -35,7 +35,7 @@ told-front p q stimulus k same = rw same refl
 
 reply-told : (k : Option Reply) (b : Bool) (stimulus : Stimulus) (l : List Stimulus)
     → reply_or k (l ++ option_to_list (if b then Some stimulus else None)) ≡ reply_or (if b then reply_of stimulus else k) l
-reply-told k b stimulus l = grind (arith, nat_tests)
+reply-told = grind (arith, nat_tests)
 
 turn-more : (k : Option Reply) (p clock : ℕ) (entry : Entry) (X : List Entry) (pid : Pid) (origin : Origin) (stimulus : Stimulus) (call : Call)
     → own_turn_or k p clock entry (X ++ Entry.Turn pid origin stimulus call ∷ []) ≡ own_turn_or (told_reply p pid.0 stimulus k) p clock entry X
@@ -129,7 +129,7 @@ ripe-ledger t clock ledger [] = omega arith
 ripe-ledger t clock ledger (turn ∷ later) = grind (arith, nat_tests, ripe-step, ripe-ledger t clock (ledger_after t ledger turn) later)
 
 given_after : (t : ℕ) (ledger : Ledger) (turn : OwnTurn) → (ledger_after t ledger turn).given ≡ ledger.given + one_if (is_timer_event t turn.stimulus)
-given_after t ledger turn = grind (arith, nat_tests)
+given_after = grind (arith, nat_tests)
 
 given-fold : (t : ℕ) (ledger : Ledger) (turns : List OwnTurn)
     → (fold (ledger_after t) ledger turns).given ≡ fold (λ n turn. n + one_if (is_timer_event t turn.stimulus)) ledger.given turns
@@ -138,7 +138,7 @@ given-fold t ledger (turn ∷ later) = grind (arith, nat_tests, given-fold t (le
 
 -- the ledger tells both numbers
 pub timer_events-ledger : (X : List Entry) (o : OwnTimer) → timer_events X o.p o.t ≡ (ledger_of o.t (turns_or None o.p 0 X)).given
-timer_events-ledger X o = grind (arith, nat_tests, turns-none, given-fold)
+timer_events-ledger = grind (arith, nat_tests, turns-none, given-fold)
 
 pub ripe_armings-ledger : (X : List Entry) (o : OwnTimer) → ripe_armings X o.p o.t ≡ ripe_at (clock_after X) (ledger_of o.t (turns_or None o.p 0 X))
-ripe_armings-ledger X o = grind (arith, nat_tests, turns-none, ripe-ledger)
+ripe_armings-ledger = grind (arith, nat_tests, turns-none, ripe-ledger)

@@ -28,7 +28,7 @@ pub after-clock : (call : Call) (q : ℕ) (m : Machine) → (after_call call q m
 after-clock call q m = grind arith
 
 pub after-names : (call : Call) (q : ℕ) (m : Machine) → cell_names (after_call call q m).timers.cells ≡ cell_names m.timers.cells
-after-names call q m = grind (arith, nat_tests, armed-names, after-timers)
+after-names = grind (arith, nat_tests, armed-names, after-timers)
 
 -- p's timers have cells
 pub record Setting (p : ℕ) (timers : Timers) : Type 0 where
@@ -55,20 +55,20 @@ pub record Moves (o : OwnTimer) (q clock : ℕ) (call : Call) (k : Option Reply)
 pub still_moves : (o : OwnTimer) (q clock : ℕ) (call : Call) (k : Option Reply) (old new : Timers) → is_moved_by o q call k ≡ false
     → is_armed (own_timer o) new ≡ is_armed (own_timer o) old → (nat_le o.t 7 ≡ true → cell_of (own_timer o) new ≡ cell_of (own_timer o) old)
     → Moves o q clock call k old new
-still_moves o q clock call k old new n e f = grind (arith, nat_tests)
+still_moves = grind (arith, nat_tests)
 
 -- the reply to q's call, if q is p
 abbrev Knowledge : ℕ → ℕ → Option Reply → Reply → Type 0
 Knowledge p q k reply = (q == p) ≡ true → k ≡ Some reply
 
 same_timer : (o : OwnTimer) (q u : ℕ) → (q == o.p) ≡ true → (u == o.t) ≡ true → own_timer o ≡ event_timer q u
-same_timer o q u e f = grind (arith, nat_tests)
+same_timer = grind (arith, nat_tests)
 
 -- an arming of timer u of q
 armed_moves : (o : OwnTimer) (q u clock : ℕ) (call : Call) (k : Option Reply) (cell : Cell) (old : Timers) → Setting o.p old → nat_le u 7 ≡ true → Knowledge o.p q k Reply.Done
     → arms o.t call ≡ (u == o.t) → stops o.t call ≡ false → ((u == o.t) ≡ true → cell ≡ cell_after o.t clock call (cell_of (event_timer q u) old))
     → Moves o q clock call k old (armed_with (event_timer q u) cell old)
-armed_moves o q u clock call k cell old s fits told arm stop value = grind (arith, nat_tests, still_moves, armed-other, cell-armed_other, same_timer, cell-armed_own)
+armed_moves = grind (arith, nat_tests, still_moves, armed-other, cell-armed_other, same_timer, cell-armed_own)
 
 -- a stop of timer u of q
 stopped_moves : (o : OwnTimer) (q u clock : ℕ) (k : Option Reply) (old : Timers) → Knowledge o.p q k Reply.Done → Moves o q clock (Call.TimerStop u) k old (stop_timer (event_timer q u) old)
@@ -106,17 +106,17 @@ stopped_moves o q u clock k old told = go (q == o.p) (u == o.t) refl refl
 by_refusal : (o : OwnTimer) (call : Call) (q : ℕ) (k : Option Reply) (m after : Machine) (refused : Option Refusal) → FrontIs o.p k (refused_or refused q m (answer_done q after)).scheduler.agenda
     → (refused ≡ None → Knowledge o.p q k Reply.Done → Moves o q m.clock call k m.timers after.timers)
     → Moves o q m.clock call k m.timers (refused_or refused q m (answer_done q after)).timers
-by_refusal o call q k m after refused front made = grind (arith, nat_tests)
+by_refusal = grind (arith, nat_tests)
 
 number_fits : (u : ℕ) → timer_refusal u ≡ None → nat_le u 7 ≡ true
-number_fits u h = grind (arith, nat_tests)
+number_fits = grind (arith, nat_tests)
 
 reset_fits : (q u : ℕ) (m : Machine) → reset_refusal q u m ≡ None → nat_le u 7 ≡ true
-reset_fits q u m h = grind (arith, nat_tests)
+reset_fits = grind (arith, nat_tests)
 
 -- a call that names no event timer
 unmoved_by : (o : OwnTimer) (q : ℕ) (call : Call) (k : Option Reply) → arms o.t call ≡ false → stops o.t call ≡ false → is_moved_by o q call k ≡ false
-unmoved_by o q call k a b = grind (arith, nat_tests)
+unmoved_by = grind (arith, nat_tests)
 
 pub after-moves : (o : OwnTimer) (call : Call) (q : ℕ) (k : Option Reply) (m : Machine) → Setting o.p m.timers → FrontIs o.p k (after_call call q m).scheduler.agenda
     → Moves o q m.clock call k m.timers (after_call call q m).timers

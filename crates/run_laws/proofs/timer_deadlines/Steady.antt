@@ -19,22 +19,22 @@ pub record Steady (m : Machine) (X : List Entry) : Type 0 where
   pub regular : list_all is_regular m.scheduler.agenda ≡ true
 
 pub clock-more : (X : List Entry) (e : Entry) → clock_after (X ++ e ∷ []) ≡ clock_after X + ticks_in e
-clock-more X e = grind (arith, nat_tests, fold-append)
+clock-more = grind (arith, nat_tests, fold-append)
 
 -- an item
 
 pub steady-carried : (item : Item) (items : List Item) (m : Machine) (X : List Entry) → Steady (facing (item ∷ items) m) X
     → Steady (record m { scheduler = after_item item (with_agenda items m.scheduler) }) X
-steady-carried item items m X h = grind (arith, nat_tests, carried-queue, carried-regular)
+steady-carried = grind (arith, nat_tests, carried-queue, carried-regular)
 
 -- these items, which are no turns
 pub steady-front : (items : List Item) (m : Machine) (X : List Entry) → list_all is_regular (items ++ m.scheduler.agenda) ≡ true → Steady m X
     → Steady (scheduled (in_front items) m) X
-steady-front items m X r h = grind (arith, nat_tests)
+steady-front = grind (arith, nat_tests)
 
 -- a kernel process
 pub steady-serve : (q : ℕ) (event : Event) (m : Machine) (X : List Entry) → Steady m X → Steady (serve q event m) X
-steady-serve q event m X h = grind (arith, nat_tests, serve-fair (record { p = 0; t = 0 }) q event m, serve-untouched q event m)
+steady-serve q event m = grind (arith, nat_tests, serve-fair (record { p = 0; t = 0 }) q event m, serve-untouched q event m)
 
 -- a turn
 
@@ -47,12 +47,12 @@ after-plain =
 
 pub steady-turn : (q : ℕ) (origin : Origin) (stimulus : Stimulus) (call : Call) (m : Machine) (X : List Entry) → nat_le 4 q ≡ true → Steady m X
     → Steady (after_call call q m) (X ++ Entry.Turn (record { 0 = q }) origin stimulus call ∷ [])
-steady-turn q origin stimulus call m X a h = grind (arith, nat_tests, after-clock, clock-more, after-names, kept_by_call, after-plain, after-regular)
+steady-turn = grind (arith, nat_tests, after-clock, clock-more, after-names, kept_by_call, after-plain, after-regular)
 
 -- an entry that is shown
 pub steady-shown : (note : Note) (m : Machine) (X : List Entry) → Steady m X → Steady m (X ++ Entry.Note note ∷ [])
-steady-shown note m X h = grind (arith, nat_tests, clock-more)
+steady-shown = grind (arith, nat_tests, clock-more)
 
 -- an input
 pub steady-input : (input : Input) (m : Machine) (X : List Entry) → Steady m X → Steady (effect input (record m { work = 0 })) (X ++ Entry.Input input ∷ [])
-steady-input input m X h = grind (arith, nat_tests, clock-more)
+steady-input = grind (arith, nat_tests, clock-more)

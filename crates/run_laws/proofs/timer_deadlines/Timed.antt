@@ -61,7 +61,7 @@ pub record Fair (o : OwnTimer) (old new : Machine) : Type 0 where
   pub balanced : (ledger : Ledger) → Balanced o old.timers old.clock (in_wait o old) ledger → Balanced o new.timers new.clock (in_wait o new) ledger
 
 fair-then : (o : OwnTimer) (a b c : Machine) → Fair o a b → Fair o b c → Fair o a c
-fair-then o a b c f g = grind (arith, nat_tests)
+fair-then = grind (arith, nat_tests)
 
 pub any-filter : (test keep : Timer → Bool) (xs : List Timer) → list_any test (filter keep xs) ≡ true → list_any test xs ≡ true
 any-filter test keep [] h = h
@@ -73,20 +73,20 @@ found clock timers timer [] e = cc
 found clock timers timer (x ∷ xs) e = grind (arith, nat_tests, found clock timers timer xs)
 
 pub itself : (timer : Timer) → is_timer timer timer ≡ true
-itself timer = grind (arith, nat_tests)
+itself = grind (arith, nat_tests)
 
 pub listed : (clock : ℕ) (timers : Timers) (timer : Timer) (xs : List Timer) → find (is_due clock timers) xs ≡ Some timer → list_any (is_timer timer) xs ≡ true
 listed clock timers timer [] e = cc
 listed clock timers timer (x ∷ xs) e = grind (arith, nat_tests, listed clock timers timer xs)
 
 pub that_timer : (o : OwnTimer) (timer : Timer) → is_timer (own_timer o) timer ≡ true → timer ≡ own_timer o
-that_timer o timer h = grind (arith, nat_tests)
+that_timer = grind (arith, nat_tests)
 
 expiry_count : (o : OwnTimer) (timer : Timer) → queued_one o (expiry_of timer) ≡ one_if (is_timer (own_timer o) timer)
-expiry_count o timer = grind (arith, nat_tests)
+expiry_count = grind (arith, nat_tests)
 
 expiry_plain : (timer : Timer) → is_no_timer (expiry_of timer) ≡ true
-expiry_plain timer = grind arith
+expiry_plain = grind arith
 
 -- a due timer of p is posted, and is off the list
 expired-fair : (o : OwnTimer) (timer : Timer) (m : Machine) → first_due m.clock m.timers ≡ Some timer → Fair o m (post_expiry (Some timer) m)
@@ -126,13 +126,13 @@ expired-fair o timer m e =
 -- the kernel's other processes
 
 post-fair : (o : OwnTimer) (event : Queued Bool) (m : Machine) → queued_one o event ≡ 0 → is_no_timer event ≡ true → Fair o m (with_event event m)
-post-fair o event m z n = grind (arith, nat_tests, all-more, count_events-more)
+post-fair = grind (arith, nat_tests, all-more, count_events-more)
 
 notice-uncounted : (o : OwnTimer) (notice : Queued Bool) → is_notice notice ≡ true → queued_one o notice ≡ 0
-notice-uncounted o notice n = grind (arith, nat_tests)
+notice-uncounted = grind (arith, nat_tests)
 
 notice-plain : (notice : Queued Bool) → is_notice notice ≡ true → is_no_timer notice ≡ true
-notice-plain notice n = grind (arith, nat_tests)
+notice-plain = grind (arith, nat_tests)
 
 pub count-cancelled : (o : OwnTimer) (test : ℕ → ℕ → Bool) (events : List (Queued Bool)) → count_events o (map (cancelled_if test) events) ≡ count_events o events
 count-cancelled o test [] = refl
@@ -142,7 +142,7 @@ pub plain-cancelled : (test : ℕ → ℕ → Bool) (events : List (Queued Bool)
 plain-cancelled test events = all-cancelled is_no_timer test (λ event. grind arith) events
 
 dropped-fair : (o : OwnTimer) (keep : Timer → Bool) (m : Machine) → Fair o m (record m { timers = record m.timers { armed = filter keep m.timers.armed } })
-dropped-fair o keep m = grind (arith, nat_tests, any-filter)
+dropped-fair = grind (arith, nat_tests, any-filter)
 
 cancelled-fair : (o : OwnTimer) (test : ℕ → ℕ → Bool) (m : Machine) → Fair o m (expiries_cancelled test m)
 cancelled-fair o test m = grind (arith, nat_tests, plain-cancelled test m.scheduler.events, count-cancelled o test m.scheduler.events)
@@ -172,13 +172,13 @@ polls-count o [] = refl
 polls-count o (n ∷ ns) = omega (arith, polls-count o ns)
 
 no_timer : (o : OwnTimer) (q code n : ℕ) → (code == TIMER) ≡ false → timer_for o q (of_event (number_event code n)) ≡ 0
-no_timer o q code n h = grind (arith, nat_tests)
+no_timer = grind (arith, nat_tests)
 
 no_plain : (o : OwnTimer) (q code : ℕ) → (code == TIMER) ≡ false → timer_for o q (of_event (plain_event code)) ≡ 0
-no_plain o q code h = grind (arith, nat_tests)
+no_plain = grind (arith, nat_tests)
 
 no_timer_event : (o : OwnTimer) (q : ℕ) (event : Event) → is_no_timer (Queued.ToAll event) ≡ true → timer_for o q (of_event event) ≡ 0
-no_timer_event o q event h = grind (arith, nat_tests)
+no_timer_event = grind (arith, nat_tests)
 
 broadcast-count : (o : OwnTimer) (ns : List ℕ) (event : Event) → is_no_timer (Queued.ToAll event) ≡ true → count_items o (delivery ns (to_all event)) ≡ 0
 broadcast-count o [] event h = refl
@@ -190,7 +190,7 @@ all_count o s = count_items o s.agenda + count_events o s.events
 -- an item adds none
 pub carried-count : (o : OwnTimer) (item : Item) (items : List Item) (s : Scheduler Bool) → list_all is_no_timer s.events ≡ true
     → all_count o (after_item item (with_agenda items s)) ≤ all_count o (with_agenda (item ∷ items) s)
-carried-count o item items s h = grind (arith, nat_tests, no_plain, count_items-append, polls-count, broadcast-count)
+carried-count = grind (arith, nat_tests, no_plain, count_items-append, polls-count, broadcast-count)
 
 -- a call adds none
 
@@ -199,10 +199,10 @@ farewells-count o q [] = refl
 farewells-count o q (n ∷ ns) = grind (arith, nat_tests, farewells-count o q ns)
 
 no_answer : (o : OwnTimer) (q : ℕ) (reply : Reply) → timer_for o q (Stimulus.Answer reply) ≡ 0
-no_answer o q reply = grind (arith, nat_tests)
+no_answer = grind (arith, nat_tests)
 
 posted-uncounted : (o : OwnTimer) (event : Queued Bool) → is_posted event ≡ true → queued_one o event ≡ 0
-posted-uncounted o event h = grind (arith, nat_tests)
+posted-uncounted = grind (arith, nat_tests)
 
 after-events_count : (o : OwnTimer) (n : ℕ) → KeptByCalls (λ events. count_events o events ≡ n)
 after-events_count o n =
@@ -212,7 +212,7 @@ after-events_count o n =
     }
 
 free_code : (o : OwnTimer) (q code : ℕ) (payload : Payload) → is_reserved code ≡ false → timer_for o q (of_event (record { code = code; payload = payload })) ≡ 0
-free_code o q code payload h = grind (arith, nat_tests)
+free_code = grind (arith, nat_tests)
 
 after-items_count : (o : OwnTimer) (call : Call) (q : ℕ) (m : Machine) → count_items o (after_call call q m).scheduler.agenda ≡ count_items o m.scheduler.agenda
 after-items_count o Call.Exit q m = grind (arith, nat_tests, count_items-append, farewells-count)
@@ -233,7 +233,7 @@ armed_ledger g clock cell ledger =
 
 pub arms-balanced : (o : OwnTimer) (g w clock : ℕ) (old new : Timers) (cell : Cell) (ledger : Ledger) → nat_le o.t 7 ≡ true → cell_of (own_timer o) new ≡ cell → is_armed (own_timer o) new ≡ true
     → Balanced o old clock (g + w) ledger → Balanced o new clock w (armed_ledger g clock cell ledger)
-arms-balanced o g w clock old new cell ledger n e f b = grind (arith, nat_tests)
+arms-balanced = grind (arith, nat_tests)
 
 -- a stop
 abbrev pub stopped_ledger : ℕ → ℕ → Ledger → Ledger
@@ -241,7 +241,7 @@ stopped_ledger g clock ledger = record (armed_ledger g clock ledger.cell ledger)
 
 pub stops-balanced : (o : OwnTimer) (g w clock : ℕ) (old new : Timers) (ledger : Ledger) → (nat_le o.t 7 ≡ true → cell_of (own_timer o) new ≡ cell_of (own_timer o) old) → is_armed (own_timer o) new ≡ false
     → Balanced o old clock (g + w) ledger → Balanced o new clock w (stopped_ledger g clock ledger)
-stops-balanced o g w clock old new ledger e f b = grind (arith, nat_tests)
+stops-balanced = grind (arith, nat_tests)
 
 -- any other turn
 abbrev pub kept_ledger : ℕ → Ledger → Ledger
@@ -249,7 +249,7 @@ kept_ledger g ledger = record ledger { given = ledger.given + g }
 
 pub keeps-balanced : (o : OwnTimer) (g w clock : ℕ) (old new : Timers) (ledger : Ledger) → (nat_le o.t 7 ≡ true → cell_of (own_timer o) new ≡ cell_of (own_timer o) old)
     → is_armed (own_timer o) new ≡ is_armed (own_timer o) old → Balanced o old clock (g + w) ledger → Balanced o new clock w (kept_ledger g ledger)
-keeps-balanced o g w clock old new ledger e f b = grind (arith, nat_tests)
+keeps-balanced = grind (arith, nat_tests)
 
 -- the ledger of each kind of turn
 abbrev pub gift : ℕ → OwnTurn → ℕ
@@ -257,11 +257,11 @@ gift t turn = one_if (is_timer_event t turn.stimulus)
 
 pub ledger-arms : (t : ℕ) (ledger : Ledger) (turn : OwnTurn) → is_arming t turn ≡ true
     → ledger_after t ledger turn ≡ armed_ledger (gift t turn) turn.clock (cell_after t turn.clock turn.call ledger.cell) ledger
-ledger-arms t ledger turn h = grind (arith, nat_tests)
+ledger-arms = grind (arith, nat_tests)
 
 pub ledger-stops : (t : ℕ) (ledger : Ledger) (turn : OwnTurn) → is_done turn.reply ≡ true → arms t turn.call ≡ false → stops t turn.call ≡ true
     → ledger_after t ledger turn ≡ stopped_ledger (gift t turn) turn.clock ledger
-ledger-stops t ledger turn d a s = grind (arith, nat_tests)
+ledger-stops = grind (arith, nat_tests)
 
 pub ledger-keeps : (t : ℕ) (ledger : Ledger) (turn : OwnTurn) → is_arming_or_stop t turn ≡ false → ledger_after t ledger turn ≡ kept_ledger (gift t turn) ledger
 ledger-keeps t ledger turn h = rw h refl
@@ -269,7 +269,7 @@ ledger-keeps t ledger turn h = rw h refl
 -- another process's turn
 other_balanced : (o : OwnTimer) (g w clock : ℕ) (old new : Timers) (ledger : Ledger) → g ≡ 0 → (nat_le o.t 7 ≡ true → cell_of (own_timer o) new ≡ cell_of (own_timer o) old)
     → is_armed (own_timer o) new ≡ is_armed (own_timer o) old → Balanced o old clock (g + w) ledger → Balanced o new clock w ledger
-other_balanced o g w clock old new ledger z e f b = grind (arith, nat_tests)
+other_balanced = grind (arith, nat_tests)
 
 abbrev pub turn_of : ℕ → Stimulus → Origin → Call → Option Reply → OwnTurn
 turn_of clock stimulus origin call k = record { clock = clock; origin = origin; stimulus = stimulus; call = call; reply = k }

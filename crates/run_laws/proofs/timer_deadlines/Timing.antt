@@ -15,10 +15,10 @@ own_timer o = event_timer o.p o.t
 -- names
 
 same_timer : (timer : Timer) → is_timer timer timer ≡ true
-same_timer timer = grind (arith, nat_tests)
+same_timer = grind (arith, nat_tests)
 
 pub symm : (a b : Timer) → is_timer a b ≡ is_timer b a
-symm a b = grind (arith, nat_tests)
+symm = grind (arith, nat_tests)
 
 -- cells
 
@@ -27,7 +27,7 @@ abbrev pub cell_names : List NamedCell → List Timer
 cell_names cells = map (λ named. named.timer) cells
 
 given-name : (timer : Timer) (cell : Cell) (named : NamedCell) → (given_cell timer cell named).timer ≡ named.timer
-given-name timer cell named = grind (arith, nat_tests)
+given-name = grind (arith, nat_tests)
 
 with_cell-names : (timer : Timer) (cell : Cell) (cells : List NamedCell) → cell_names (with_cell timer cell cells) ≡ cell_names cells
 with_cell-names timer cell [] = refl
@@ -56,7 +56,7 @@ under-other timer other cell (named ∷ cells) n = grind (arith, nat_tests, unde
 
 pub cell-armed_other : (timer other : Timer) (cell : Cell) (timers : Timers) → is_timer timer other ≡ false
     → cell_of timer (armed_with other cell timers) ≡ cell_of timer timers
-cell-armed_other timer other cell timers n = grind (arith, nat_tests, under-other)
+cell-armed_other = grind (arith, nat_tests, under-other)
 
 under-own : (timer : Timer) (cell : Cell) (cells : List NamedCell) → list_any (is_timer timer) (cell_names cells) ≡ true
     → cell_under timer (with_cell timer cell cells) ≡ cell
@@ -72,17 +72,17 @@ in_range from n p low high =
 
 event_timer-named : (o : OwnTimer) → nat_le 4 o.p ≡ true → nat_lt o.p 20 ≡ true → nat_le o.t 7 ≡ true → list_any (is_timer (own_timer o)) all_timers ≡ true
 unfolding all_timers
-event_timer-named o a b c = grind (arith, nat_tests)
+event_timer-named = grind (arith, nat_tests)
 
 pub cell-armed_own : (o : OwnTimer) (cell : Cell) (timers : Timers) → cell_names timers.cells ≡ all_timers → nat_le 4 o.p ≡ true → nat_lt o.p 20 ≡ true → nat_le o.t 7 ≡ true
     → cell_of (own_timer o) (armed_with (own_timer o) cell timers) ≡ cell
-cell-armed_own o cell timers l a b c = grind (arith, nat_tests, under-own, event_timer-named)
+cell-armed_own = grind (arith, nat_tests, under-own, event_timer-named)
 
 -- the list
 
 pub armed-other : (timer other : Timer) (cell : Cell) (timers : Timers) → is_timer timer other ≡ false
     → is_armed timer (armed_with other cell timers) ≡ is_armed timer timers
-armed-other timer other cell timers n = grind (arith, nat_tests)
+armed-other = grind (arith, nat_tests)
 
 pub stopped-own : (timer : Timer) (armed : List Timer) → list_any (is_timer timer) (filter (λ other. not (is_timer timer other)) armed) ≡ false
 stopped-own timer [] = refl

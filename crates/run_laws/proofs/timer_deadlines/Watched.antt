@@ -68,20 +68,20 @@ home-without q (x ∷ xs) n = grind (arith, nat_tests, home-without q xs n)
 
 carried-home : (item : Item) (items : List Item) (s : Scheduler Bool) → is_regular item ≡ true → is_home s.processes ≡ true
     → is_home (after_item item (with_agenda items s)).processes ≡ true
-carried-home item items s r h = grind (arith, nat_tests, home-with_state, home-with_mark, home-without)
+carried-home = grind (arith, nat_tests, home-with_state, home-with_mark, home-without)
 
 pub watched-carried : (item : Item) (items : List Item) (m : Machine) → is_quiet_item item ≡ true → is_served item ≡ false → is_regular item ≡ true
     → Watched (facing (item ∷ items) m) → Watched (carried item items m)
-watched-carried item items m n k r h = grind (arith, nat_tests, carried-home, marks-with_state, marks-without, carried-any, marks-other)
+watched-carried = grind (arith, nat_tests, carried-home, marks-with_state, marks-without, carried-any, marks-other)
 
 -- these items in front
 pub watched-front : (xs : List Item) (m : Machine) → Watched m → Watched (scheduled (in_front xs) m)
-watched-front xs m h = grind (arith, nat_tests, list_any-append)
+watched-front = grind (arith, nat_tests, list_any-append)
 
 -- a kernel process
 
 first_due-processes : (m : Machine) → (post_first_due m).scheduler.processes ≡ m.scheduler.processes
-first_due-processes m = grind arith
+first_due-processes = grind arith
 
 some-find : (test : Timer → Bool) (xs : List Timer) → is_some (find test xs) ≡ list_any test xs
 some-find test [] = refl
@@ -105,22 +105,22 @@ watched-due m home = go (is_any_due after) (some-find (is_due after.clock after.
 pub lesser : (old new : Machine) → new.scheduler.agenda ≡ old.scheduler.agenda → (is_timer_due new.clock new.timers ≡ true → is_timer_due old.clock old.timers ≡ true)
     → (is_marked 0 old.scheduler.processes ≡ true → is_marked 0 new.scheduler.processes ≡ true)
     → (is_home old.scheduler.processes ≡ true → is_home new.scheduler.processes ≡ true) → Watched old → Watched new
-lesser old new e less marks home h = grind (arith, nat_tests)
+lesser = grind (arith, nat_tests)
 
 pub alike : (old new : Machine) → new.scheduler.agenda ≡ old.scheduler.agenda → new.scheduler.processes ≡ old.scheduler.processes → new.timers ≡ old.timers → new.clock ≡ old.clock
     → Watched old → Watched new
-alike old new a b c d h = grind (arith, nat_tests)
+alike = grind (arith, nat_tests)
 
 pub marked_too : (q : ℕ) (m : Machine) → Watched m → Watched (mark q m)
-marked_too q m h = grind (arith, nat_tests, lesser, marks-with_mark, home-with_mark)
+marked_too = grind (arith, nat_tests, lesser, marks-with_mark, home-with_mark)
 
 -- timers leave the list
 pub dropped : (keep : Timer → Bool) (m : Machine) → Watched m → Watched (record m { timers = record m.timers { armed = filter keep m.timers.armed } })
-dropped keep m h = grind (arith, nat_tests, lesser, any-filter)
+dropped = grind (arith, nat_tests, lesser, any-filter)
 
 -- an item that isn't etimer's POLL is gone
 pub without_item : (item : Item) (items : List Item) (m : Machine) → is_etimer_poll item ≡ false → Watched (facing (item ∷ items) m) → Watched (facing items m)
-without_item item items m n h = grind (arith, nat_tests)
+without_item = grind (arith, nat_tests)
 
 changes-watched : (q : ℕ) (event : Event) → Changes (λ old new. Watched old → Watched new) q event
 changes-watched q event =
@@ -160,11 +160,11 @@ after-home call q m h = grind (arith, h, home-with_state, home-with_mark)
 
 -- a call that makes no more timers due
 fewer : (call : Call) (q : ℕ) (m : Machine) → Watched m → (is_timer_due m.clock (after_call call q m).timers ≡ true → is_timer_due m.clock m.timers ≡ true) → Watched (after_call call q m)
-fewer call q m h less = grind (arith, nat_tests, after-home, after-clock, after-marks, after-any)
+fewer = grind (arith, nat_tests, after-home, after-clock, after-marks, after-any)
 
 -- a call that is refused, or else marks etimer
 refused_or_marked : (q : ℕ) (o : Option Refusal) (m after : Machine) → Watched m → after.scheduler ≡ (mark 0 m).scheduler → Watched (refused_or o q m (answer_done q after))
-refused_or_marked q o m after h e = grind (arith, nat_tests, watched-front, home-with_mark, marks-home)
+refused_or_marked = grind (arith, nat_tests, watched-front, home-with_mark, marks-home)
 
 -- every call
 pub watched-after : (call : Call) (q : ℕ) (m : Machine) → Watched m → Watched (after_call call q m)
@@ -190,15 +190,15 @@ watched-turn items q origin stimulus call m after a b c h =
 
 -- a change of the memory and of the work
 idle : (m after : Machine) → after.scheduler ≡ m.scheduler → after.timers ≡ m.timers → after.clock ≡ m.clock → Watched m → Watched after
-idle m after a b c h = grind (arith, nat_tests)
+idle = grind (arith, nat_tests)
 
 -- an input
 pub watched-input : (input : Input) (m : Machine) → Watched m → Watched (effect input (record m { work = 0 }))
-watched-input input m h = grind (arith, nat_tests, home-with_mark, marks-home, idle, marked_too, watched-front)
+watched-input = grind (arith, nat_tests, home-with_mark, marks-home, idle, marked_too, watched-front)
 
 -- boot
 pub watched-boot : (c : Config) → Watched (at_start c).machine
-watched-boot c = grind (arith, nat_tests)
+watched-boot = grind (arith, nat_tests)
 
 -- at rest no timer is due
 unmarked : (list : List Process) → is_any_marked list ≡ false → is_marked 0 list ≡ false
@@ -206,4 +206,4 @@ unmarked [] h = refl
 unmarked (x ∷ xs) h = grind (arith, h, unmarked xs)
 
 pub rest-not_due : (m : Machine) → m.scheduler.agenda ≡ [] → is_any_marked m.scheduler.processes ≡ false → Watched m → is_timer_due m.clock m.timers ≡ false
-rest-not_due m e r h = grind (arith, nat_tests, unmarked)
+rest-not_due = grind (arith, nat_tests, unmarked)
