@@ -74,10 +74,6 @@ module _ (p : ℕ) (few : p ≤ 19) where
   quiet_front : (handle : Option ℕ) (blocks : Blocks) (item : Item) (items : List Item) → is_quiet_item item ≡ true → FrontOf handle blocks (item ∷ items) → handle ≡ None
   quiet_front = grind (arith, nat_tests)
 
-  after_send : (call : Call) (handle : Option ℕ) (blocks : Blocks) (m : Machine) → handle ≡ handle_in call → own_blocks p m.memory ≡ blocks
-      → FrontOf handle blocks (after_call call p m).scheduler.agenda
-  after_send = grind (arith, nat_tests, front_none)
-
   abbrev ToldOf : Machine → List Entry → Type 0
   ToldOf m X = Holds (accepted managed_after) (KindLaw managed_kind) (HasBlocks managed_store p) p at_first m X
 
@@ -88,7 +84,7 @@ module _ (p : ℕ) (few : p ≤ 19) where
       → ToldOf (facing (Item.Turn q origin stimulus ∷ items) m) X
       → FrontAfter (X ++ turn_entry q origin stimulus call ∷ []) (after_call call q (with_more_work (facing items m))).scheduler.agenda
   sent_turn false m X items q origin stimulus call e h = grind (arith, nat_tests, fold-append, front_none)
-  sent_turn true m X items q origin stimulus call e h = grind (arith, nat_tests, fold-append, after_send)
+  sent_turn true m X items q origin stimulus call e h = grind (arith, nat_tests, fold-append, front_none)
 
   record Sending (m : Machine) (X : List Entry) : Type 0 where
     holds : ToldOf m X
@@ -98,9 +94,6 @@ module _ (p : ℕ) (few : p ≤ 19) where
   record Silent (m : Machine) (X : List Entry) : Type 0 where
     holds : ToldOf m X
     none : handle_after X ≡ None
-
-  front-other : (X : List Entry) (e : Entry) (agenda : List Item) → is_turn e ≡ false → FrontAfter X agenda → FrontAfter (X ++ e ∷ []) agenda
-  front-other = grind (arith, nat_tests, same_handle, same_told)
 
   other_shown : (handle : Option ℕ) (blocks : Blocks) (e : Entry) → is_note e ≡ false → Shown handle blocks e
   other_shown = grind (arith, nat_tests)
@@ -121,15 +114,14 @@ module _ (p : ℕ) (few : p ≤ 19) where
         turn = λ m X items q origin stimulus call h.
             record { holds = base.turn m X items q origin stimulus call h.holds; front = sent_turn (q == p) m X items q origin stimulus call refl h.holds };
         told = λ m X items q origin stimulus call h i. each-more ShownBehind X (turn_entry q origin stimulus call) i tt;
-        shown = λ m X items note h. record { holds = base.shown m X items note h.holds; front = front-other X (Entry.Note note) items refl h.front.1 };
+        shown = λ m X items note h. record { holds = base.shown m X items note h.holds; front = grind (arith, nat_tests, same_handle, same_told, h.front.1) };
         noted = λ m X items note h i. each-more ShownBehind X (Entry.Note note) i h.front.0;
         other = λ X e n k i. each-more ShownBehind X e i (other_shown (handle_after X) (told_after X).now e k);
         input = λ input m X h.
             let woken : Machine = record m { work = 0 } in
             record {
               holds = base.input input m X h.holds;
-              front = front-other X (Entry.Input input) (effect input woken).scheduler.agenda refl
-                  (effect-keeps (λ s. FrontAfter X s.agenda) input woken h.front (λ q. h.front) (λ refusal. (tt, h.front)));
+              front = grind (arith, nat_tests, same_handle, same_told);
             };
       }
 
@@ -193,12 +185,9 @@ plain-leads sends [] h = refl
 plain-leads sends (Item.Show entry ∷ items) h = grind (arith, h, plain-leads sends items)
 plain-leads sends (item ∷ items) h = h
 
-plain-farewells : (p : ℕ) (s : Scheduler Bool) (rest agenda : List Item) → all_plain (rest ++ agenda) ≡ true → all_plain ((farewells p s ++ rest) ++ agenda) ≡ true
-plain-farewells = grind (arith, nat_tests, all-mapped, append_assoc, all-append)
-
 after_call-leads : (call : Call) (p : ℕ) (m : Machine) → all_plain m.scheduler.agenda ≡ true
     → leads (is_send call) (after_call call p m).scheduler.agenda ≡ true
-after_call-leads = grind (arith, nat_tests, plain-leads, plain-farewells)
+after_call-leads = grind (arith, nat_tests, plain-leads, all-mapped, append_assoc, all-append)
 
 abbrev sends_after : Bool → Entry → Bool
 sends_after sends (Entry.Turn pid origin stimulus call) = is_send call
@@ -222,10 +211,6 @@ after_item-leads : (sends : Bool) (item : Item) (items : List Item) (s : Schedul
     → all_plain (after_item item (with_agenda items s)).agenda ≡ true
 after_item-leads = grind (arith, nat_tests, all-mapped, all-append, all-delivered)
 
--- an entry that is no turn
-led-other : (X : List Entry) (e : Entry) (agenda : List Item) → is_turn e ≡ false → leads (sends_all X) agenda ≡ true → leads (sends_all (X ++ e ∷ [])) agenda ≡ true
-led-other = grind (arith, nat_tests, fold-append)
-
 led_cases : Cases Led Plain (AtEach Sends)
 led_cases =
     record {
@@ -238,13 +223,12 @@ led_cases =
       turn = λ m X items q origin stimulus call h.
           rw (fold-append sends_after false X (turn_entry q origin stimulus call ∷ [])) (after_call-leads call q (with_more_work (facing items m)) h);
       told = λ m X items q origin stimulus call h i. each-more Sends X (turn_entry q origin stimulus call) i (λ f. absurd (grind (arith, f)));
-      shown = λ m X items note h. led-other X (Entry.Note note) items refl (grind (arith, h));
+      shown = λ m X items note h. grind (arith, nat_tests, fold-append);
       noted = λ m X items note h i. each-more Sends X (Entry.Note note) i (λ f. grind (arith, h, f));
       other = λ X e n k i. each-more Sends X e i (λ f. absurd (grind (arith, k, f)));
       input = λ input m X h.
           let woken : Machine = record m { work = 0 } in
-          led-other X (Entry.Input input) (effect input woken).scheduler.agenda refl
-          (effect-keeps (λ s. leads (sends_all X) s.agenda ≡ true) input woken h (λ q. h) (λ refusal. h));
+          grind (arith, nat_tests, fold-append);
     }
 
 led : (run : Ran) → AtEach Sends run.after.entries

@@ -90,8 +90,5 @@ module _ (R : Machine → Machine → Type 0) (q : ℕ) (event : Event) (changes
   packet-changes : (m : Machine) → R m (packet event m)
   packet-changes = grind (arith, nat_tests, either, again, repeated, next-changes)
 
-  serve-changes : (m : Machine) → R m (serve q event m)
-  serve-changes = grind (arith, nat_tests, etimer-changes, either, ctimer-changes, serial_line-changes, packet-changes)
-
 pub of_changes : {R : Machine → Machine → Type 0} {q : ℕ} {event : Event} → Changes R q event → (m : Machine) → R m (serve q event m)
-of_changes {R = R} {q = q} {event = event} = grind (arith, nat_tests, serve-changes)
+of_changes {R = R} {q = q} {event = event} = grind (arith, nat_tests, etimer-changes, either, ctimer-changes, serial_line-changes, packet-changes)

@@ -28,8 +28,5 @@ heap-law : (call : Call) (p : ℕ) (m : Machine) (reply : Reply)
     → due (marks p (after_call call p m).scheduler.agenda) ≡ Some reply → KindLaw heap_kind (own_heap p m.memory) call reply
 heap-law = grind (arith, nat_tests, one_reply, told-reply, read-law, alloc-law, realloc-law, free-law, write-law, nothing)
 
-heap-boot : (p : ℕ) (c : Config) → own_heap p (booted c).memory ≡ no_blocks
-heap-boot = grind (arith, nat_tests)
-
 pub heap-keeps : Keeps heap_store
-heap-keeps = grind (arith, nat_tests, heap-law, heap-change, same_blocks, ask-rest, heap-boot)
+heap-keeps = grind (arith, nat_tests, heap-law, heap-change, same_blocks, ask-rest)

@@ -4,7 +4,6 @@ use Rattle.run_laws.proofs.Common.{nat_tests, Call, Refusal, number_of, zeros, o
 use Rattle.heap_core.specs.HeapStore.{block_of}
 use Rattle.node_memory.proofs.HeapBlocks.{Becomes, Results, alloc-results, realloc-results, free-results, write-results}
 use Rattle.run_laws.proofs.KindLaws.{Store, IsChange, same_blocks}
-use Rattle.run_laws.proofs.Stores.{name_apart}
 
 -- a process's blocks
 abbrev pub own_heap : ℕ → Memory → Blocks

@@ -24,16 +24,13 @@ module _ (quota p : ℕ) (m s : Memory) (limit : m.managed.quota ≡ Some quota)
   same_taken : taken_by p m.managed ≡ taken_by p s.managed
   same_taken = grind (arith, nat_tests)
 
-  same_free : free p m.managed ≡ free p s.managed
-  same_free = grind (arith, nat_tests)
-
   pub same-reply : (call : Call) → is_managed_call call ≡ true → as_over_quota (ask call p s).1 ≡ (ask call p m).1
   same-reply (Call.MmemAlloc h n) e = grind (arith, nat_tests)
   same-reply (Call.MmemFree h) e = grind (arith, nat_tests)
   same-reply (Call.MmemWrite h at chunk) e = grind (arith, nat_tests)
   same-reply (Call.MmemRead h at len) e = grind (arith, nat_tests)
   same-reply (Call.MmemCopy source target) e = grind (arith, nat_tests)
-  same-reply Call.MmemAvail e = grind (arith, same_free)
+  same-reply Call.MmemAvail e = grind (arith)
   same-reply call e = grind (arith, nat_tests)
 
 -- after a call of p it is still so
@@ -78,11 +75,6 @@ alone-at-first bytes p =
 
 -- Under a quota a process is answered by managed memory as by a memory of its own.
 
--- a call on managed memory is told what memory answers
-told-managed : (call : Call) (p : ℕ) (m : Machine) → is_managed_call call ≡ true
-    → due (marks p (after_call call p m).scheduler.agenda) ≡ Some (ask call p m.memory).1
-told-managed = grind (arith, nat_tests)
-
 -- the quota stays
 call-quota : (call : Call) (q : ℕ) (m : Machine) → (after_call call q m).memory.managed.quota ≡ m.memory.managed.quota
 call-quota call q m =
@@ -126,7 +118,7 @@ module _ (quota p : ℕ) where
         (λ g. absurd (grind (arith, f, g)), like)
     own-call call m s reply true f k rel has e =
         let stays = stays-alone quota p s few k rel.alone call in
-        let asked : (ask call p m.memory).1 ≡ reply = one_reply _ _ _ (told-managed call p m f) e in
+        let asked : (ask call p m.memory).1 ≡ reply = one_reply _ _ _ (grind (arith, nat_tests)) e in
         let alike : as_over_quota (ask call p s).1 ≡ reply = same-reply quota p m.memory s rel.limit rel.alone (λ h. ap (λ (b : Blocks). b h) (rel.has.own k)) call f ∙ asked in
         let both : is_done (Some (ask call p s).1) ≡ is_done (Some reply) = sym (done-alike (ask call p s).1) ∙ ap (λ (r : Reply). is_done (Some r)) alike in
         let own : own_blocks p (ask call p s).0 ≡ accepted managed_after call (ask call p s).1 (own_blocks p s) = same_blocks _ _ stays.own in

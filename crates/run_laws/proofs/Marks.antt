@@ -92,9 +92,6 @@ pub state_of-without_other : (p q : ℕ) (list : List Process) → (q == p) ≡ 
 state_of-without_other p q [] h = refl
 state_of-without_other p q (x ∷ xs) h = grind (arith, nat_tests, state_of-without_other p q xs)
 
-pub fit-only : (b : Bool) (ms : List Mark) → only_removes ms ≡ true → fit b ms ≡ true
-fit-only = grind (arith, nat_tests)
-
 pub fit-idle : (ms : List Mark) → fit true ms ≡ true → only_removes ms ≡ true
 fit-idle = grind (arith, nat_tests)
 
@@ -124,7 +121,7 @@ after_item-kept p (Item.Give q origin stimulus) s n h = grind (arith, nat_tests,
 after_item-kept p (Item.Turn q origin stimulus) s n h = absurd (grind arith)
 after_item-kept p (Item.GiveExit q) s n h =
     record { is_fit = grind (arith, nat_tests, state_of-with_same p q State.Ending s.processes, state_of-with_other p q State.Ending s.processes); same_due = grind (arith, nat_tests) }
-after_item-kept p (Item.Remove q) s n h = grind (arith, nat_tests, fit-only, state_of-without, state_of-without_other, due-only)
+after_item-kept p (Item.Remove q) s n h = grind (arith, nat_tests, state_of-without, state_of-without_other, due-only)
 after_item-kept p Item.Polls s n h = grind (arith, nat_tests, marks-polls)
 after_item-kept p Item.Deliver s n h = grind (arith, nat_tests, stays, marks-delivery)
 after_item-kept p item s n h = grind (arith, nat_tests, state_of-with_mark)
@@ -139,7 +136,7 @@ marks-farewells o p s rest agenda =
 pub after_call-fit : (call : Call) (p : ℕ) (m : Machine) → idle p m.scheduler.processes ≡ false → only_removes (marks p m.scheduler.agenda) ≡ true
     → fit (idle p (after_call call p m).scheduler.processes) (marks p (after_call call p m).scheduler.agenda) ≡ true
 after_call-fit Call.Wait p m n h = grind (arith, nat_tests)
-after_call-fit Call.Exit p m n h = grind (arith, nat_tests, fit-only, marks-farewells)
+after_call-fit Call.Exit p m n h = grind (arith, nat_tests, marks-farewells)
 after_call-fit (Call.Kill q) p m n h = grind (arith, nat_tests, state_of-with_other, marks-farewells)
 after_call-fit (Call.PostSynch q code payload) p m n h = grind (arith, nat_tests)
 after_call-fit (Call.Start q) p m n h = grind (arith, nat_tests)

@@ -33,10 +33,6 @@ module _ (p : ℕ) (high : nat_le 4 p ≡ true) where
 
   -- an item
 
-  after_item-agenda : (item : Item) (items : List Item) (s : Scheduler Bool) → keeps_out item ≡ true → state_of p s.processes ≡ State.Absent
-      → list_all keeps_out items ≡ true → list_all keeps_out (after_item item (with_agenda items s)).agenda ≡ true
-  after_item-agenda = grind (arith, nat_tests, all-mapped, all-append, all-delivered)
-
   after_item-applications : (item : Item) (s : Scheduler Bool) → (after_item item s).applications ≡ s.applications
   after_item-applications = grind arith
 
@@ -45,7 +41,7 @@ module _ (p : ℕ) (high : nat_le 4 p ≡ true) where
   without_item = grind (arith, nat_tests)
 
   after_item-out : (item : Item) (items : List Item) (s : Scheduler Bool) → IsOut (with_agenda (item ∷ items) s) → IsOut (after_item item (with_agenda items s))
-  after_item-out = grind (arith, nat_tests, after_item-applications, after_item-agenda, without_item, state_of-with_other, state_of-without, state_of-without_other, state_of-with_mark)
+  after_item-out = grind (arith, nat_tests, after_item-applications, all-mapped, all-append, all-delivered, without_item, state_of-with_other, state_of-without, state_of-without_other, state_of-with_mark)
 
   -- a call
 
@@ -54,9 +50,6 @@ module _ (p : ℕ) (high : nat_le 4 p ≡ true) where
 
   not_named : (s : Scheduler Bool) (r : ℕ) → is_application s.applications p ≡ false → is_application s.applications r ≡ true → not (r == p) ≡ true
   not_named = grind (arith, nat_tests)
-
-  call-out : (call : Call) (q : ℕ) (m : Machine) → (q == p) ≡ false → IsOut m.scheduler → IsOut (after_call call q m).scheduler
-  call-out = grind (arith, nat_tests, call-applications, after-all, not_named, state_of-with_other, state_of-with_mark)
 
   -- a step
 
@@ -94,7 +87,7 @@ module _ (p : ℕ) (high : nat_le 4 p ≡ true) where
         called_back = λ m X q c h. in_front-out (Item.Give q Origin.Callback (Stimulus.Callback c) ∷ []) m.scheduler refl h;
         round = λ m X h. record { stranger = h.stranger; absent = h.absent; agenda = refl };
         turn = λ m X items q origin stimulus call h.
-            call-out call q (with_more_work (facing items m)) (other_turn q origin stimulus items m h) (without_item (Item.Turn q origin stimulus) items m.scheduler h);
+            grind (arith, nat_tests, call-applications, after-all, not_named, state_of-with_other, state_of-with_mark);
         told = λ m X items q origin stimulus call h i. each-more IsOthers X (turn_entry q origin stimulus call) i (rw (other_turn q origin stimulus items m h) refl);
         shown = λ m X items note h. without_item (Item.Show (Entry.Note note)) items m.scheduler h;
         noted = λ m X items note h i. each-more IsOthers X (Entry.Note note) i refl;
@@ -106,12 +99,9 @@ module _ (p : ℕ) (high : nat_le 4 p ≡ true) where
   starts-out zero from h = refl
   starts-out (suc n) from h = grind (arith, nat_tests, starts-out n (from + 1) (omega (arith, h)))
 
-  boot-out : (c : Config) → is_application c.apps p ≡ false → IsOut (at_start c).machine.scheduler
-  boot-out = grind (arith, nat_tests, starts-out)
-
   run-out : (run : Ran)
       → is_application run.config.apps p ≡ false → AtEach IsOthers run.after.entries
-  run-out run out = at_each IsOthers (law_of out_cases) run (boot-out run.config out)
+  run-out run out = at_each IsOthers (law_of out_cases) run (grind (arith, nat_tests, starts-out))
 
 -- so each turn is one of the processes 4 to 19, where the mote boots
 pub turns-low : (run : Ran) → is_bootable run.config ≡ true

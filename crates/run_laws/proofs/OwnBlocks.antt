@@ -38,9 +38,6 @@ front_low : (frames : List Frame) (slot : ℕ) → are_slots frames ≡ true →
 front_low [] slot h e = absurd (cc)
 front_low (frame ∷ frames) slot h e = grind (arith, nat_tests)
 
-fewer_slots : (frames : List Frame) → are_slots frames ≡ true → are_slots (drop 1 frames) ≡ true
-fewer_slots = grind (arith, nat_tests)
-
 more_slots : (frames : List Frame) (slot len : ℕ) → slot ≤ 15 → are_slots frames ≡ true → are_slots (frames ++ record { slot = slot; len = len } ∷ []) ≡ true
 more_slots [] slot len low h = grind (arith, nat_tests)
 more_slots (frame ∷ frames) slot len low h = grind (arith, nat_tests, more_slots frames slot len low)
@@ -48,7 +45,7 @@ more_slots (frame ∷ frames) slot len low h = grind (arith, nat_tests, more_slo
 call-sound : (call : Call) (q : ℕ) (m : Machine) → IsSound m.memory m.packets.frames → IsSound (after_call call q m).memory (after_call call q m).packets.frames
 call-sound call q m h =
     each-call IsSound q m h
-    (λ slot e. record { size = length-set m.memory.managed.blocks (number_of 3 slot) None ∙ h.size; slots = fewer_slots m.packets.frames h.slots })
+    (λ slot e. record { size = length-set m.memory.managed.blocks (number_of 3 slot) None ∙ h.size; slots = grind (arith, nat_tests, h.slots) })
     call (record { size = (ask-shape call q m.memory).size ∙ h.size; slots = h.slots })
 
 -- A kind of memory where each call keeps what it should.
@@ -85,26 +82,18 @@ module _ (store : Store) (keeps : Keeps store) (p : ℕ) (few : p ≤ 19) where
       go true e other = (keeps.change call q m.memory e).others p other k
       go false e other = keeps.rest call q p m.memory e
 
-  plain-answer : (call : Call) (reply : Option Reply) (blocks : Blocks) → store.changes call ≡ false → answered (accepted store.change) (Some call) reply blocks ≡ blocks
-  plain-answer = grind (arith, nat_tests)
-
   own-after : (call : Call) (m : Machine) (b : Bool) (reply : Option Reply) → store.changes call ≡ b → is_kernel_process p ≡ false → IsSound m.memory m.packets.frames
       → due (marks p (after_call call p m).scheduler.agenda) ≡ reply
       → store.blocks p (after_call call p m).memory ≡ answered (accepted store.change) (Some call) reply (store.blocks p m.memory)
   own-after call m true reply e k sound d = grind (arith, nat_tests, told-reply, asks)
-  own-after call m false reply e k sound d = grind (arith, nat_tests, left-after, sound, plain-answer)
-
-  call-has : (call : Call) (m : Machine) (blocks : Blocks) (reply : Option Reply) → HasBlocks store p m.memory m.packets.frames blocks
-      → due (marks p (after_call call p m).scheduler.agenda) ≡ reply
-      → HasBlocks store p (after_call call p m).memory (after_call call p m).packets.frames (answered (accepted store.change) (Some call) reply blocks)
-  call-has = grind (arith, nat_tests, call-sound, own-after)
+  own-after call m false reply e k sound d = grind (arith, nat_tests, left-after, sound)
 
   pub own-laws : Laws (accepted store.change) (KindLaw store.kind) (HasBlocks store p) p
   own-laws =
       record {
         self = λ call m blocks reply k has rest e.
-            (subst (λ (b : Blocks). KindLaw store.kind b call reply) (has.own k) (keeps.law call p m reply e), call-has call m blocks (Some reply) has e);
-        silent = λ call m blocks k has e. call-has call m blocks None has e;
+            (subst (λ (b : Blocks). KindLaw store.kind b call reply) (has.own k) (keeps.law call p m reply e), (grind (arith, nat_tests, call-sound, own-after)));
+        silent = λ call m blocks k has e. grind (arith, nat_tests, call-sound, own-after);
         other = λ call q m blocks n has.
             record { sound = call-sound call q m has.sound; own = λ k. left-after call q m (grind (arith, n)) k has.sound ∙ has.own k };
         frame = λ slot len bytes memory frames blocks low has.

@@ -32,10 +32,6 @@ module _ (bound : ℕ) where
 
 -- a call
 
--- a call starts one process at most
-call-starts : (call : Call) (p : ℕ) (m : Machine) → present (after_call call p m).scheduler ≤ present m.scheduler + 1
-call-starts call p m = grind (arith, nat_tests, length-map, starts-append, starts-farewells p m.scheduler, starts-farewells)
-
 module _ (bound : ℕ) where
   -- a call puts little on the agenda
   call-costs : (call : Call) (p : ℕ) (m : Machine) → length m.scheduler.processes ≤ bound
@@ -48,10 +44,6 @@ module _ (bound : ℕ) where
 abbrev is_rest : Option (Job Bool) → Bool
 is_rest (Some Job.Rest) = true
 is_rest _ = false
-
--- the job is Rest only where nothing is left to be done
-job_at-works : (agenda : List Item) (s : Scheduler Bool) → (is_empty agenda && not (wants_round s)) ≡ false → is_rest (job_at agenda s) ≡ false
-job_at-works = grind (arith, nat_tests)
 
 -- how many processes there can be on the list before the next input
 abbrev reserve : Machine → ℕ
@@ -80,7 +72,7 @@ module _ (bound : ℕ) where
       → costs bound m.scheduler.agenda + 1 ≤ old
       → Falls bound ((10000 - m.work) * suc (round_cost bound) + old) m (after_call call p (with_more_work m))
   unfolding measure
-  call-falls = grind (arith, nat_tests, call-work, call-starts, call-costs, one_less, measure)
+  call-falls = grind (arith, nat_tests, call-work, length-map, starts-append, starts-farewells, call-costs, one_less, measure)
 
   round-falls : (old : ℕ) (m : Machine) → m.work ≤ 10000 → (m.work == 10000) ≡ false → costs bound m.scheduler.agenda ≤ round_cost bound
       → Falls bound ((10000 - m.work) * suc (round_cost bound) + old) m (with_more_work m)
@@ -117,7 +109,7 @@ module _ (bound : ℕ) where
       next = scheduled after_front m
 
       works : m.is_halted ≡ false → is_rest (job m.scheduler) ≡ false
-      works up = job_at-works m.scheduler.agenda m.scheduler (grind (arith, live, up))
+      works up = grind (arith, nat_tests, m.scheduler)
 
       fewer : present (after_front m.scheduler) ≤ present m.scheduler
       fewer = after_front-present m.scheduler

@@ -9,13 +9,9 @@ use Rattle.run_laws.proofs.Totals.{total-put}
 abbrev pub own_blocks : ℕ → Memory → Blocks
 own_blocks p m h = if is_handle h then block_of p h m.managed else None
 
--- blocks of different names have different places
-pub name_apart : (q k p h : ℕ) → (q == p) ≡ false → is_kernel_process p ≡ false → is_handle k ≡ true → is_handle h ≡ true → number_of p h ≢ number_of q k
-name_apart = grind (arith, nat_tests)
-
 pub put_other : (q k p h : ℕ) (block : Option (List ℕ)) (m : Memory) → (q == p) ≡ false → is_kernel_process p ≡ false → is_handle k ≡ true
     → own_blocks p (with_managed (with_block q k block m.managed) m) h ≡ own_blocks p m h
-put_other = grind (arith, nat_tests, get_or-set_other, name_apart)
+put_other = grind (arith, nat_tests, get_or-set_other)
 
 -- 272 names have places
 pub put_own : (p k h : ℕ) (block : Option (List ℕ)) (m : Memory) → p ≤ 19 → is_kernel_process p ≡ false → length m.managed.blocks ≡ 272 → is_handle k ≡ true
@@ -76,10 +72,6 @@ module _ (call : Call) (q k : ℕ) (block : Option (List ℕ)) (m : Memory) wher
       → IsManagedChange call q m (unless_refused o m (done (with_managed (with_block q k block m.managed) m)))
   is_change o low made = grind (arith, nat_tests, length-set, put_total, same_blocks, put_own, put_other)
 
--- the bytes of a live block
-live_block : (b : Bool) (o : Option (List ℕ)) (f : List ℕ → List ℕ) → b ≡ true → is_some o ≡ true → Some (f (unwrap_or o [])) ≡ option_map f (if b then o else None)
-live_block = grind (arith, nat_tests)
-
 -- the source's bytes
 live_source : (b : Bool) (o : Option (List ℕ)) (target : Option (List ℕ)) → b ≡ true → is_some o ≡ true
     → option_map (overwritten 0 (unwrap_or o [])) target ≡ copied (if b then o else None) target
@@ -96,7 +88,7 @@ managed-change (Call.MmemWrite k at chunk) q m c =
     made e h =
         let named : is_handle k ≡ true = grind (arith, e) in
         let live : is_some (block_of q k m.managed) ≡ true = grind (arith, e) in
-        ap (λ o. if h == k then o else own_blocks q m h) (live_block (is_handle k) (block_of q k m.managed) (overwritten at chunk.items) named live)
+        ap (λ o. if h == k then o else own_blocks q m h) (grind (arith, nat_tests))
 managed-change (Call.MmemCopy source target) q m c =
     is_change (Call.MmemCopy source target) q target (Some (overwritten 0 (bytes_of q source m.managed) (bytes_of q target m.managed))) m (copy_refusal q source target m.managed) (λ e. grind (arith, e)) made
   where
@@ -107,7 +99,7 @@ managed-change (Call.MmemCopy source target) q m c =
         let from_named : is_handle source ≡ true = grind (arith, e) in
         let from_live : is_some (block_of q source m.managed) ≡ true = grind (arith, e) in
         ap (λ o. if h == target then o else own_blocks q m h)
-        (live_block (is_handle target) (block_of q target m.managed) (overwritten 0 (bytes_of q source m.managed)) (grind (arith, e)) live
+        ((grind (arith, nat_tests))
         ∙ live_source (is_handle source) (block_of q source m.managed) (own_blocks q m target) from_named from_live)
 managed-change call q m c = grind (arith, nat_tests)
 

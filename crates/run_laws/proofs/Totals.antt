@@ -41,8 +41,5 @@ module _ (p k : ℕ) (block : Option (List ℕ)) (store : ManagedStore) (low : k
   abbrev after : ManagedStore
   after = with_block p k block store
 
-  taken-put : taken_by p after + size_of (block_of p k store) ≡ taken_by p store + size_of block
-  taken-put = grind (arith, nat_tests, get_or-set_same, get_or-set_other, other-term)
-
   pub total-put : sum_by size_of after.blocks + taken_by p store ≡ sum_by size_of store.blocks + taken_by p after
-  total-put = grind (arith, nat_tests, taken-put, sum_by-set)
+  total-put = grind (arith, nat_tests, get_or-set_same, get_or-set_other, other-term, sum_by-set)

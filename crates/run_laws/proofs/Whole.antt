@@ -7,8 +7,8 @@ use Rattle.run_laws.proofs.event_order.Items.{with_agenda, facing}
 use Rattle.run_laws.proofs.event_order.Steps.{carried, turn_entry, Cases, law_of, kernel_carried, is_quiet_item}
 use Rattle.run_laws.proofs.event_order.Runs.{Ran, Prefixes, at_prefixes}
 use Rattle.run_laws.proofs.event_order.Tally.{is_turn}
-use Rattle.run_laws.proofs.timer_deadlines.Fronts.{all-mapped}
-use Rattle.run_laws.proofs.timer_deadlines.Regular.{is_regular, carried-regular, after-regular}
+use Rattle.run_laws.proofs.timer_deadlines.Fronts.{after-all, all-mapped}
+use Rattle.run_laws.proofs.timer_deadlines.Regular.{is_regular, carried-regular}
 
 -- what a process knows, and its last call
 pub record Knowledge (S : Type 0) : Type 0 where
@@ -155,15 +155,8 @@ module _ {S : Type 0} (next : Call → Reply → S → S) (Law : S → Call → 
     pub regular : list_all is_regular m.scheduler.agenda ≡ true
     pub now : Now next Law Rel p (told_all next p start X) m
 
-  -- an entry that is no turn tells it nothing
-  told-other : (start : Knowledge S) (X : List Entry) (e : Entry) → is_turn e ≡ false → told_all next p start (X ++ e ∷ []) ≡ told_all next p start X
-  told-other = grind (arith, nat_tests, fold-append)
-
-  well-more : (start : Knowledge S) (X : List Entry) (e : Entry) → WellTold start X → Fine Law p (told_all next p start X) e → WellTold start (X ++ e ∷ [])
-  well-more = grind (arith, nat_tests, well-append)
-
   well-other : (start : Knowledge S) (X : List Entry) (e : Entry) → is_turn e ≡ false → WellTold start X → WellTold start (X ++ e ∷ [])
-  well-other = grind (arith, nat_tests, well-more)
+  well-other = grind (arith, nat_tests, well-append)
 
   not_turn : (item : Item) → is_quiet_item item ≡ true → is_turn_item item ≡ false
   not_turn item n = grind (arith, n)
@@ -189,13 +182,13 @@ module _ {S : Type 0} (next : Call → Reply → S → S) (Law : S → Call → 
       let high : nat_le 4 q ≡ true = grind (arith, h.regular) in
       let rest : list_all is_regular items ≡ true = grind (arith, h.regular) in
       record {
-        regular = after-regular call q (with_more_work (facing items m)) high rest;
+        regular = grind (arith, nat_tests, after-all);
         now = rw (fold-append (told next p) start X (turn_entry q origin stimulus call ∷ [])) ((turned laws start m X items q origin stimulus call h).now);
       }
 
   shown-holds : (start : Knowledge S) (m : Machine) (X : List Entry) (items : List Item) (note : Note) → Holds start (facing (Item.Show (Entry.Note note) ∷ items) m) X
       → Holds start (facing items m) (X ++ Entry.Note note ∷ [])
-  shown-holds = grind (arith, nat_tests, carried-holds, told-other)
+  shown-holds = grind (arith, nat_tests, carried-holds, fold-append)
 
   record Alike (old new : Scheduler Bool) : Type 0 where
     marks_are : marks p new.agenda ≡ marks p old.agenda
@@ -206,7 +199,7 @@ module _ {S : Type 0} (next : Call → Reply → S → S) (Law : S → Call → 
 
   input-holds : Laws next Law Rel p → (start : Knowledge S) (input : Input) (m : Machine) (X : List Entry) → Holds start m X
       → Holds start (effect input (record m { work = 0 })) (X ++ Entry.Input input ∷ [])
-  input-holds = grind (arith, nat_tests, effect-alike, effect-keeps, told-other, slot_low)
+  input-holds = grind (arith, nat_tests, effect-alike, effect-keeps, fold-append, slot_low)
 
   pub told_cases : Laws next Law Rel p → (start : Knowledge S) → Cases (Holds start) (Holds start) (WellTold start)
   told_cases laws start =
@@ -220,7 +213,7 @@ module _ {S : Type 0} (next : Call → Reply → S → S) (Law : S → Call → 
         called_back = λ m X q c h. record { regular = h.regular; now = called_back-now next Law Rel p q c (told_all next p start X) m h.now };
         round = λ m X h. record { regular = refl; now = same-now next Law Rel p (told_all next p start X) (facing [] m) (with_more_work (facing (Item.Polls ∷ Item.Deliver ∷ []) m)) h.now h.now.is_fit refl refl refl };
         turn = turn-holds laws start;
-        told = λ m X items q origin stimulus call h i. well-more start X (turn_entry q origin stimulus call) i ((turned laws start m X items q origin stimulus call h).fine);
+        told = λ m X items q origin stimulus call h i. grind (arith, nat_tests, well-append);
         shown = shown-holds start;
         noted = λ m X items note h i. well-other start X (Entry.Note note) refl i;
         other = λ X e n k i. well-other start X e n i;

@@ -101,9 +101,6 @@ after-queued_other : (p : ℕ) (call : Call) (q : ℕ) (m : Machine) → is_post
 after-queued_other p call q m n =
     kept_unposted {P = λ events. queued p events ≡ queued p m.scheduler.events} (λ test events h. rw (queued-cancelled p test events) h) call q m n refl
 
-no_event : (p : ℕ) (call : Call) → is_posting call ≡ false → event_for p call ≡ None
-no_event = grind arith
-
 nothing_own : (known : Known) (p q : ℕ) (call : Call) → event_for p call ≡ None → own_event known p q call ≡ []
 nothing_own = grind (arith, nat_tests)
 
@@ -148,7 +145,7 @@ after-queued known p call q m = other call (grind arith)
   where
     other : (call : Call) → is_posting call ≡ false → FrontAgrees known (after_call call q m).scheduler.agenda
         → queued p (after_call call q m).scheduler.events ≡ queued p m.scheduler.events ++ own_event known p q call
-    other call n k = rw (nothing_own known p q call (no_event p call n), append-nil (queued p m.scheduler.events)) (after-queued_other p call q m n)
+    other call n k = rw (nothing_own known p q call (grind arith), append-nil (queued p m.scheduler.events)) (after-queued_other p call q m n)
 
 -- p's place
 
@@ -156,11 +153,6 @@ after-queued known p call q m = other call (grind arith)
 swap : (p q : ℕ) (origin other : Origin) (stimulus next : Stimulus) (l : List State) (items : List Item) → (q == p && is_event_of_code EXIT stimulus) ≡ false
     → holds p l (Item.Turn q origin stimulus ∷ items) ≡ true → holds p l (Item.Turn q other next ∷ items) ≡ true
 swap = grind (arith, nat_tests)
-
--- another process's turn says nothing of p
-turn_other-holds : (p q : ℕ) (origin : Origin) (stimulus : Stimulus) (l : List State) (items : List Item) → (q == p) ≡ false
-    → holds p l (Item.Turn q origin stimulus ∷ items) ≡ true → holds p l items ≡ true
-turn_other-holds = grind (arith, nat_tests)
 
 -- p is killed
 killed-holds : (p r : ℕ) (l : List State) (xs items : List Item) → (p == r) ≡ true → list_all (is_quiet p) xs ≡ true
@@ -183,17 +175,17 @@ pub after-stands : (p : ℕ) (call : Call) (q : ℕ) (origin : Origin) (stimulus
     → ends_in p (Entry.Turn (record { 0 = q }) origin stimulus call) ≡ false
     → holds p (seats p m.scheduler.processes) (Item.Turn q origin stimulus ∷ m.scheduler.agenda) ≡ true
     → stands p (after_call call q m).scheduler ≡ true
-after-stands p Call.Wait q origin stimulus m n h = grind (arith, nat_tests, state_of-seats, turn_other-holds, flip, seats-with_state)
+after-stands p Call.Wait q origin stimulus m n h = grind (arith, nat_tests, state_of-seats, flip, seats-with_state)
 after-stands p Call.Exit q origin stimulus m n h = go (is_ending (state_in m.scheduler q))
   where
     go : (b : Bool) → stands p (if b then m.scheduler else in_front (farewells q m.scheduler ++ Item.Remove q ∷ []) (put_in_state q State.Leaving m.scheduler)) ≡ true
-    go true = turn_other-holds p q origin stimulus (seats p m.scheduler.processes) m.scheduler.agenda (flip p q false (grind (arith, nat_tests, n))) h
+    go true = grind (arith, nat_tests)
     go false =
         let e : (p == q) ≡ false = grind (arith, nat_tests, n) in
         rw (seats-with_state p q State.Leaving m.scheduler.processes, e, append_assoc (told_all q m.scheduler) (Item.Remove q ∷ []) m.scheduler.agenda)
         (exited-holds p q (seats p m.scheduler.processes) (told_all q m.scheduler) m.scheduler.agenda e
         (farewells-quiet p (of_event (number_event EXITED q)) (numbers (without q m.scheduler.processes)))
-        (turn_other-holds p q origin stimulus (seats p m.scheduler.processes) m.scheduler.agenda (flip p q false e) h))
+        (grind (arith, nat_tests)))
 after-stands p (Call.Kill r) q origin stimulus m n h = go (kill_refusal m.scheduler r) (p == r) refl
   where
     go : (o : Option Refusal) (same : Bool) → (p == r) ≡ same → stands p (refused_or o q m (scheduled (killed_by q r) m)).scheduler ≡ true

@@ -30,9 +30,6 @@ record StepKind (m : Machine) (step : StepMade) : Type 0 where
 limit_kind : (m after : Machine) (step : StepMade) → m.is_halted ≡ false → StepKind m step → StepKind m (within_limit after step)
 limit_kind = grind (arith, nat_tests)
 
-silent_kind : (m after : Machine) → m.is_halted ≡ false → after.is_halted ≡ false → StepKind m (silent after)
-silent_kind = grind (arith, nat_tests)
-
 -- where only notes are shown
 abbrev pub ShowsNotes : Machine → Type 0
 ShowsNotes m = (entry : Entry) → job m.scheduler ≡ Some (Job.ShowEntry entry) → is_note entry ≡ true
@@ -49,7 +46,7 @@ job_kind answers (Some (Job.ShowEntry entry)) m after live still note = shown en
     shown _ k = absurd (grind (arith, k))
 job_kind answers (Some (Job.CallBack q c false)) m after live still note = grind (arith, nat_tests)
 job_kind answers (Some (Job.CallBack q c true)) m after live still note = grind (arith, nat_tests)
-job_kind answers (Some (Job.Serve q event)) m after live still note = grind (arith, nat_tests, silent_kind, serve-untouched)
+job_kind answers (Some (Job.Serve q event)) m after live still note = grind (arith, nat_tests, serve-untouched)
 job_kind answers (Some (Job.TakeTurn q origin stimulus)) m after live still note = grind (arith, nat_tests)
 
 step_kind : (answers : Answers) (m : Machine) → m.is_halted ≡ false → ShowsNotes m → StepKind m (one_step answers m)
@@ -99,15 +96,9 @@ inputs-more : (Q : List Entry → Type 0) (X : List Entry) (o : Option Entry) �
 inputs-more Q X None all n = grind (arith, nat_tests, append-nil)
 inputs-more Q X (Some entry) all n = grind (arith, nat_tests, mid_split)
 
-inputs-fed : (Q : List Entry → Type 0) (X : List Entry) (fed : Input) → BeforeInputs Q X → Q X → BeforeInputs Q (X ++ Entry.Input fed ∷ [])
-inputs-fed = grind (arith, nat_tests, mid_split)
-
 -- R holds of each entry, behind those before it
 abbrev pub AtEach : (List Entry → Entry → Type 0) → List Entry → Type 0
 AtEach R X = (before later : List Entry) (e : Entry) → before ++ e ∷ later ≡ X → R before e
-
-pub each-none : (R : List Entry → Entry → Type 0) → AtEach R []
-each-none = grind (arith, nat_tests, not_nil)
 
 pub each-more : (R : List Entry → Entry → Type 0) (X : List Entry) (e : Entry) → AtEach R X → R X e → AtEach R (X ++ e ∷ [])
 each-more = grind (arith, nat_tests, mid_split)
@@ -160,12 +151,9 @@ module _ (I : Machine → List Entry → Type 0) (P Q : List Entry → Type 0) (
   halted-step says r g true e = grind (arith, nat_tests, append-nil)
   halted-step says r g false e = absurd (cc)
 
-  good-step : (says : Applications) (r : Running) → Good I P Q r → Good I P Q (after_step says r)
-  good-step = grind (arith, nat_tests, halted-step, live-step)
-
   good-steps : (says : Applications) (n : ℕ) (r : Running) → Good I P Q r → Good I P Q (after_steps says n r)
   good-steps says zero r g = g
-  good-steps says (suc n) r g = good-steps says n (after_step says r) (good-step says r g)
+  good-steps says (suc n) r g = good-steps says n (after_step says r) (grind (arith, nat_tests, halted-step, live-step))
 
 -- an input at rest
 
@@ -189,7 +177,7 @@ module _ (I : Machine → List Entry → Type 0) (P Q : List Entry → Type 0) (
       let old : P r.entries = now I P Q law r.entries g.prefixes in
       record {
         prefixes = prefixes-more P r.entries (Some (Entry.Input input)) g.prefixes (law.shown input r.entries old);
-        inputs = inputs-fed Q r.entries input g.inputs rests;
+        inputs = grind (arith, nat_tests, mid_split);
         holds = λ _. law.input input r.machine r.entries (g.holds live) old;
         halts = λ halted. absurd (grind (arith, up, halted));
       }
@@ -270,4 +258,4 @@ pub at_each : {I : Machine → List Entry → Type 0} (R : List Entry → Entry 
     → (run : Ran)
     → I (at_start run.config).machine [] → AtEach R run.after.entries
 at_each R law run first =
-    at_prefixes law run first (each-none R) run.after.entries [] (append-nil run.after.entries)
+    at_prefixes law run first (grind (arith, nat_tests, not_nil)) run.after.entries [] (append-nil run.after.entries)

@@ -43,9 +43,6 @@ no_given = grind (arith, nat_tests)
 still_alive : (p : ℕ) (X : List Entry) (e : Entry) → has_ended p (X ++ e ∷ []) ≡ false → has_ended p X ≡ false
 still_alive = grind (arith, nat_tests, ended-more)
 
-not_ended_in : (p : ℕ) (X : List Entry) (e : Entry) → has_ended p (X ++ e ∷ []) ≡ false → ends_in p e ≡ false
-not_ended_in = grind (arith, nat_tests, ended-more)
-
 pub sound-other : (p : ℕ) (X : List Entry) (e : Entry) (s : Scheduler Bool) → is_turn e ≡ false → Sound p s X → Sound p s (X ++ e ∷ [])
 sound-other = grind (arith, nat_tests, still_alive, given-more, no_given, append-nil, accepted-other)
 
@@ -74,7 +71,7 @@ turn_sound p X m q origin stimulus call h =
     let e : Entry = Entry.Turn (record { 0 = q }) origin stimulus call in
     record {
       ordered = after-ordered call q m h.ordered;
-      place = λ alive. after-stands p call q origin stimulus m (not_ended_in p X e alive) (h.place (still_alive p X e alive));
+      place = λ alive. after-stands p call q origin stimulus m (grind (arith, nat_tests, ended-more)) (h.place (still_alive p X e alive));
       tally = λ alive known agrees.
           let w : List Event = waiting_in p (Item.Turn q origin stimulus) in
           let items : List Event = waits p m.scheduler.agenda in
@@ -113,9 +110,6 @@ no_reply_front = grind (arith, nat_tests)
 pub carried_sound : (p : ℕ) (X : List Entry) (item : Item) (items : List Item) (s : Scheduler Bool) → nat_le 4 p ≡ true → is_quiet_item item ≡ true
     → Sound p (with_agenda (item ∷ items) s) X → SoundFree p (after_item item (with_agenda items s)) X
 carried_sound = grind (arith, nat_tests, carried-ordered, carried-stands, carried-waiting, no_reply_front)
-
-pub served_sound : (p : ℕ) (X : List Entry) (q : ℕ) (event : Event) (m : Machine) → nat_le 4 p ≡ true → SoundFree p m.scheduler X → SoundFree p (serve q event m).scheduler X
-served_sound p X q event m a = grind (arith, nat_tests, serve-untouched q event m, serve-served p a q event m)
 
 pub callback_sound : (p : ℕ) (X : List Entry) (q c : ℕ) (s : Scheduler Bool) → SoundFree p s X → SoundFree p (in_front (Item.Give q Origin.Callback (Stimulus.Callback c) ∷ []) s) X
 callback_sound = grind (arith, nat_tests)
@@ -177,17 +171,13 @@ effect-sound = grind (arith, nat_tests, effect-keeps, seats-with_mark)
 abbrev pub IsAllGiven : ℕ → List Entry → Type 0
 IsAllGiven p X = has_ended p X ≡ false → given_events X p ≡ accepted_events p X
 
--- at rest nothing waits
-pub nothing_on : (agenda : List Item) → is_empty agenda ≡ true → agenda ≡ []
-nothing_on = grind (arith, nat_tests)
-
 pub nothing_queued : (events : List (Queued Bool)) → nat_lt 0 (length events) ≡ false → events ≡ []
 nothing_queued [] e = refl
 nothing_queued (event ∷ events) e = grind (arith, nat_tests)
 
 rest_given : (p : ℕ) (X : List Entry) (s : Scheduler Bool) → is_idle s ≡ true → Sound p s X → IsAllGiven p X
 rest_given p X s e h = λ alive.
-    let none : s.agenda ≡ [] = nothing_on s.agenda (grind (arith, e)) in
+    let none : s.agenda ≡ [] = grind (arith, nat_tests) in
     let empty : s.events ≡ [] = nothing_queued s.events (grind (arith, e)) in
     let t = h.tally alive nothing_known (rw none tt) in
     let all : all_waiting p s ≡ [] = rw (none, empty) refl in
@@ -208,9 +198,7 @@ sound_cases p a =
       free = λ m X h. sound-free p m.scheduler X h;
       carried = λ m X item items n s h. carried_sound p X item items m.scheduler a n h;
       served = λ m X q origin event items k h.
-          served_sound p X q event (facing items m) a
-          (subst (λ n. SoundFreeOf p n X) (kernel_carried q origin (Stimulus.Event event) items m k)
-          (carried_sound p X (Item.Give q origin (Stimulus.Event event)) items m.scheduler a refl h));
+          grind (arith, nat_tests, serve-untouched q event (facing items m), serve-served p a q event (facing items m));
       called_back = λ m X q c h. callback_sound p X q c m.scheduler h;
       round = λ m X h. round_sound p X m.scheduler h;
       turn = λ m X items q origin stimulus call h. turn_sound p X (with_more_work (facing items m)) q origin stimulus call h;

@@ -60,12 +60,9 @@ own_event known p q call = option_to_list (if is_done (known q) then event_for p
 pub cons_option-append : {A : Type 0} (o : Option A) (xs ys : List A) → cons_option o (xs ++ ys) ≡ cons_option o xs ++ ys
 cons_option-append = grind (arith, nat_tests)
 
-pub cons_option-nil : {A : Type 0} (o : Option A) → cons_option o [] ≡ option_to_list o
-cons_option-nil = grind (arith, nat_tests)
-
 pub accepted-turn : (known : Known) (p : ℕ) (X : List Entry) (pid : Pid) (origin : Origin) (stimulus : Stimulus) (call : Call)
     → accepted_with known p (X ++ Entry.Turn pid origin stimulus call ∷ []) ≡ accepted_with (told pid.0 stimulus known) p X ++ own_event known p pid.0 call
-accepted-turn known p [] pid origin stimulus call = cons_option-nil _
+accepted-turn known p [] pid origin stimulus call = grind (arith, nat_tests)
 accepted-turn known p (entry ∷ X) pid origin stimulus call = grind (arith, nat_tests, accepted_or-turn, cons_option-append, accepted-turn known p X pid origin stimulus call)
 
 -- one more entry that is no turn
@@ -114,10 +111,6 @@ given-from p k (entry ∷ X) e = grind (arith, nat_tests, given-from p (k + tick
 pub given-more : (p : ℕ) (X : List Entry) (e : Entry) → given_events (X ++ e ∷ []) p ≡ given_events X p ++ given_in p e
 given-more = grind (arith, nat_tests, given-from)
 
-ends_one : (p k : ℕ) (e : Entry) (later : List Entry) (turns : List OwnTurn)
-    → list_any ends_turn (cons_option (own_turn p k e later) turns) ≡ (ends_in p e || list_any ends_turn turns)
-ends_one = grind (arith, nat_tests)
-
 or-assoc : (a b c : Bool) → (a || (b || c)) ≡ ((a || b) || c)
 or-assoc true b c = refl
 or-assoc false b c = refl
@@ -129,7 +122,7 @@ or-false false = refl
 ended-from : (p k : ℕ) (X : List Entry) (e : Entry)
     → list_any ends_turn (own_from p k (X ++ e ∷ [])) ≡ (list_any ends_turn (own_from p k X) || ends_in p e)
 ended-from p k [] e = grind (arith, nat_tests)
-ended-from p k (entry ∷ X) e = grind (arith, nat_tests, ends_one, or-assoc, ended-from p (k + ticks_in entry) X e)
+ended-from p k (entry ∷ X) e = grind (arith, nat_tests, or-assoc, ended-from p (k + ticks_in entry) X e)
 
 pub ended-more : (p : ℕ) (X : List Entry) (e : Entry) → has_ended p (X ++ e ∷ []) ≡ (has_ended p X || ends_in p e)
 ended-more = grind (arith, nat_tests, ended-from)

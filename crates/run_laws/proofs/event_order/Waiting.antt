@@ -38,15 +38,12 @@ waits-polls : (p : ℕ) (ns : List ℕ) → waits p (map (λ n. Item.PollOne n) 
 waits-polls p [] = refl
 waits-polls p (n ∷ ns) = waits-polls p ns
 
-one-seat : (p : ℕ) (l : List State) (event : Event) → holds p l (Item.Deliver ∷ []) ≡ true → flat_map (λ _. posted_for event) l ≡ posted_for event
-one-seat = grind (arith, nat_tests)
-
 delivered : (p : ℕ) (s : Scheduler Bool) (events : List (Queued Bool)) → holds p (seats p s.processes) (Item.Deliver ∷ []) ≡ true
     → waits p (delivery (numbers s.processes) (slice_get events 0)) ++ queued p (drop 1 events) ≡ queued p events
 delivered p s [] h = refl
 delivered p s (Queued.To q event ∷ events) h = grind (arith, nat_tests)
 delivered p s (Queued.ToAll event ∷ events) h =
-    ap (λ l. l ++ queued p events) (waits-broadcast p event s.processes ∙ one-seat p (seats p s.processes) event h)
+    ap (λ l. l ++ queued p events) (waits-broadcast p event s.processes ∙ (grind (arith, nat_tests)))
 delivered p s (Queued.Expiry q c x ∷ events) h = refl
 
 abbrev pub all_waiting : ℕ → Scheduler Bool → List Event
@@ -92,9 +89,6 @@ queued-silent p events event h = rw (queued-append p events (event ∷ []), h) (
 expiry-silent : (p : ℕ) (timer : Timer) → queued_in p (expiry_of timer) ≡ []
 expiry-silent = grind (arith, nat_tests)
 
-notice-silent : (p : ℕ) (notice : Queued Bool) → nat_le 4 p ≡ true → is_notice notice ≡ true → queued_in p notice ≡ []
-notice-silent = grind (arith, nat_tests)
-
 pub serve-served : (p : ℕ) → nat_le 4 p ≡ true → (q : ℕ) (event : Event) (m : Machine) → Served p m (serve q event m)
 serve-served p a q event = of_changes changes
   where
@@ -106,7 +100,7 @@ serve-served p a q event = of_changes changes
           expired = λ timer m e. record { places = refl; events = queued-silent p m.scheduler.events (expiry_of timer) (expiry-silent p timer) };
           timers_gone = λ n m z k e. record { places = refl; events = refl };
           callbacks_gone = λ n m. record { places = refl; events = queued-cancelled p (λ r c. r == n) m.scheduler.events };
-          posted = λ notice m n. record { places = refl; events = queued-silent p m.scheduler.events notice (notice-silent p notice a n) };
+          posted = λ notice m n. record { places = refl; events = queued-silent p m.scheduler.events notice (grind (arith, nat_tests)) };
           devices = λ serial is_waiting packets m e. record { places = refl; events = refl };
           marked = λ n m. record { places = seats-with_mark p n true m.scheduler.processes; events = refl };
         }

@@ -6,17 +6,16 @@ use Rattle.run_laws.proofs.Common.{list_all, list_any, nat_tests, Call, Reply, S
 use Rattle.run_laws.proofs.event_order.Tally.{is_turn, ended-more, ends_in}
 use Rattle.run_laws.proofs.event_order.Items.{with_agenda, facing}
 use Rattle.run_laws.proofs.timer_deadlines.Ledgers.{Ledger, ledger_after, turns_or, told_reply, told-front, turns-turn, turns-other, turns-none, fold-append}
-use Rattle.run_laws.proofs.event_order.Sound.{Sound, SoundFree, IsInOrder, sound-free, SoundOf, SoundFreeOf, sound_cases, boot-sound, nothing_on, nothing_queued}
+use Rattle.run_laws.proofs.event_order.Sound.{Sound, SoundFree, IsInOrder, sound-free, SoundOf, SoundFreeOf, sound_cases, boot-sound, nothing_queued}
 use Rattle.run_laws.proofs.Arrivals.{serve-untouched, effect-keeps}
 use Rattle.run_laws.proofs.timer_deadlines.Moves.{FrontIs, Setting, after-moves}
-use Rattle.run_laws.proofs.timer_deadlines.Early.{no_reply_front, turn_setting, Timely, Free, IsTimely, timely-free, timely_cases, boot_timely, has_timers}
+use Rattle.run_laws.proofs.timer_deadlines.Early.{no_reply_front, turn_setting, Timely, Free, IsTimely, timely-free, timely_cases, boot_timely}
 use Rattle.run_laws.proofs.event_order.Steps.{is_quiet_item, carried, turn_entry, Cases, law_of, kernel_carried}
 use Rattle.run_laws.proofs.timer_deadlines.Farewells.{is_no_exited, is_doomed, has_farewell, is_farewell, carried-doomed, carried-farewell, after-doomed, after-farewell, after-events, serve-events}
 use Rattle.run_laws.proofs.timer_deadlines.Awaited.{is_expected, gives, queues, carried-expected, serve-held, Awaits, standing_then, after-expected, turn-awaits}
 use Rattle.run_laws.proofs.timer_deadlines.Fronts.{none-mapped, carried-queue}
-use Rattle.run_laws.proofs.timer_deadlines.Timed.{that_timer}
 use Rattle.run_laws.proofs.event_order.Runs.{Ran, at_rest}
-use Rattle.run_laws.proofs.timer_deadlines.Watched.{Watched, without_item, watched-carried, watched-front, watched-serve, watched-turn, watched-input, watched-boot, rest-not_due}
+use Rattle.run_laws.proofs.timer_deadlines.Watched.{Watched, without_item, watched-carried, watched-front, watched-serve, watched-turn, watched-input, rest-not_due}
 
 abbrev pub fresh_standing : Standing
 fresh_standing = record { cell = zero_cell; is_armed = false; was_given = false }
@@ -39,12 +38,9 @@ standing-other = grind (arith, nat_tests, turns-other)
 pub record Agree (ledger : Ledger) (st : Standing) : Type 0 where
   pub cell : ledger.cell ≡ st.cell
 
-agree-step : (t : ℕ) (ledger : Ledger) (st : Standing) (turn : OwnTurn) → Agree ledger st → Agree (ledger_after t ledger turn) (standing_after t st turn)
-agree-step = grind (arith, nat_tests)
-
 pub agree-fold : (t : ℕ) (ledger : Ledger) (st : Standing) (turns : List OwnTurn) → Agree ledger st → Agree (fold (ledger_after t) ledger turns) (fold (standing_after t) st turns)
 agree-fold t ledger st [] h = h
-agree-fold t ledger st (turn ∷ turns) h = agree-fold t (ledger_after t ledger turn) (standing_after t st turn) turns (agree-step t ledger st turn h)
+agree-fold t ledger st (turn ∷ turns) h = agree-fold t (ledger_after t ledger turn) (standing_after t st turn) turns (grind (arith, nat_tests))
 
 -- what is said of p, and what it waits for
 
@@ -170,9 +166,6 @@ module _ (o : OwnTimer) (low : nat_le 4 o.p ≡ true) (high : nat_lt o.p 20 ≡ 
   sound : Cases (SoundOf o.p) (SoundFreeOf o.p) (IsInOrder o.p)
   sound = sound_cases o.p low
 
-  heeded-input : (input : Input) (m : Machine) (X : List Entry) → Heeded o m X → Heeded o (effect input (record m { work = 0 })) (X ++ Entry.Input input ∷ [])
-  heeded-input = grind (arith, nat_tests, heeded-other, effect-keeps)
-
   attended_cases : Cases (Attended o) (AttendedFree o) Anything
   attended_cases =
       record {
@@ -245,7 +238,7 @@ module _ (o : OwnTimer) (low : nat_le 4 o.p ≡ true) (high : nat_lt o.p 20 ≡ 
               sound = sound.input input m X h.sound;
               watched = watched-input input m h.watched;
               clean = effect-keeps (λ s. list_all is_no_exited s.events ≡ true) input (record m { work = 0 }) h.clean (λ q. h.clean) (λ refusal. h.clean);
-              heeded = heeded-input input m X h.heeded;
+              heeded = grind (arith, nat_tests, heeded-other, effect-keeps, h.heeded);
             };
       }
 
@@ -259,7 +252,7 @@ due_listed o clock timers (x ∷ xs) d h = go (is_timer (own_timer o) x) refl h 
   where
     go : (b : Bool) → is_timer (own_timer o) x ≡ b → (b || list_any (is_timer (own_timer o)) xs) ≡ true
         → (list_any (is_timer (own_timer o)) xs ≡ true → list_any (is_due clock timers) xs ≡ true) → (is_due clock timers x || list_any (is_due clock timers) xs) ≡ true
-    go true e k more = let same : x ≡ own_timer o = that_timer o x e in let due : is_due clock timers x ≡ true = rw same d in rw due refl
+    go true e k more = let same : x ≡ own_timer o = grind (arith, nat_tests) in let due : is_due clock timers x ≡ true = rw same d in rw due refl
     go false e k more = let rest : list_any (is_due clock timers) xs ≡ true = more k in grind (arith, rest)
 
 abbrev pub IsGivenAtRest : OwnTimer → List Entry → Type 0
@@ -267,7 +260,7 @@ IsGivenAtRest o X =
     has_ended o.p X ≡ false → (standing X o.p o.t).is_armed ≡ true → deadline (standing X o.p o.t).cell ≤ clock_after X → (standing X o.p o.t).was_given ≡ true
 
 rest-given : (o : OwnTimer) (m : Machine) (X : List Entry) → is_at_rest m ≡ true → Attended o m X → IsGivenAtRest o X
-rest-given = grind (arith, nat_tests, standing-none, nothing_on, nothing_queued, rest-not_due, due_listed, agree-fold)
+rest-given = grind (arith, nat_tests, standing-none, nothing_queued, rest-not_due, due_listed, agree-fold)
 
 -- boot
 
@@ -276,7 +269,7 @@ boot-attended o c high a =
     record {
       timely = boot_timely o c (grind (arith, a)) high;
       sound = boot-sound o.p c a;
-      watched = watched-boot c;
+      watched = grind (arith, nat_tests);
       clean = refl;
       heeded = record { farewell = λ alive spared. none-mapped (is_farewell o.p) (λ n. Item.Start n) (range_with_len 4 c.apps) (λ n. refl); kept = λ alive spared k front armed. absurd (grind (arith, armed)) };
     }
@@ -287,6 +280,6 @@ pub no_lost_timer : (run : Ran)
 no_lost_timer run p b a before t place =
     let o : OwnTimer = record { p = p; t = t } in
     let low : nat_le 4 p ≡ true = grind (arith, a) in
-    let high : nat_lt p 20 ≡ true = has_timers run.config p b a in
+    let high : nat_lt p 20 ≡ true = grind (arith, nat_tests) in
     at_rest (Attended o) Anything (IsGivenAtRest o) (law_of (attended_cases o low high)) (rest-given o)
     run (boot-attended o run.config high a) tt before place

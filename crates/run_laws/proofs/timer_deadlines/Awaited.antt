@@ -8,7 +8,7 @@ use Rattle.run_laws.proofs.event_order.Items.{with_agenda}
 use Rattle.run_laws.proofs.event_order.Waiting.{given-running}
 use Rattle.run_laws.proofs.timer_deadlines.Timing.{OwnTimer, own_timer, stopped-other, symm}
 use Rattle.run_laws.proofs.timer_deadlines.Fronts.{carried-any, after-any}
-use Rattle.run_laws.proofs.timer_deadlines.Timed.{that_timer, turn_of}
+use Rattle.run_laws.proofs.timer_deadlines.Timed.{turn_of}
 use Rattle.run_laws.proofs.timer_deadlines.Farewells.{is_farewell}
 use Rattle.run_laws.proofs.event_order.Steps.{is_quiet_item}
 use Rattle.run_laws.proofs.timer_deadlines.Moves.{Moves}
@@ -28,14 +28,10 @@ is_expected o s = list_any (gives o) s.agenda || list_any (queues o) s.events
 
 -- an item
 
-delivered-expected : (o : OwnTimer) (ns : List ℕ) (items : List Item) (events : List (Queued Bool)) → (list_any (gives o) items || list_any (queues o) events) ≡ true
-    → (list_any (gives o) (delivery ns (slice_get events 0) ++ items) || list_any (queues o) (drop 1 events)) ≡ true
-delivered-expected = grind (arith, nat_tests, list_any-append)
-
 pub carried-expected : (o : OwnTimer) (item : Item) (items : List Item) (s : Scheduler Bool) → nat_le 4 o.p ≡ true → is_quiet_item item ≡ true
     → is_ordered (item ∷ items) ≡ true → stands o.p (with_agenda (item ∷ items) s) ≡ true
     → is_expected o (with_agenda (item ∷ items) s) ≡ true → is_expected o (after_item item (with_agenda items s)) ≡ true
-carried-expected = grind (arith, nat_tests, carried-any, delivered-expected, given-running)
+carried-expected = grind (arith, nat_tests, carried-any, list_any-append, given-running)
 
 -- a kernel process
 
@@ -47,7 +43,7 @@ posted-held : (o : OwnTimer) (g : Bool) (event : Queued Bool) (m : Machine) → 
 posted-held = grind (arith, nat_tests, list_any-append)
 
 expired-held : (o : OwnTimer) (g : Bool) (timer : Timer) (m : Machine) → Held o g m → Held o g (post_expiry (Some timer) m)
-expired-held = grind (arith, nat_tests, that_timer, list_any-append, stopped-other, symm, posted-held)
+expired-held = grind (arith, nat_tests, list_any-append, stopped-other, symm, posted-held)
 
 kept-filter : (test keep : Timer → Bool) (xs : List Timer) → ((x : Timer) → test x ≡ true → keep x ≡ true) → list_any test (filter keep xs) ≡ list_any test xs
 kept-filter test keep [] k = refl
@@ -70,16 +66,13 @@ queues-cancelled o test (item ∷ events) = grind (arith, nat_tests, queues-canc
 pub cancelled-held : (o : OwnTimer) (g : Bool) (test : ℕ → ℕ → Bool) (m : Machine) → Held o g m → Held o g (expiries_cancelled test m)
 cancelled-held o g test m h = rw (queues-cancelled o test m.scheduler.events) h
 
-exited-other : (p n : ℕ) (payload : Payload) → exited_application payload ≡ Some n → is_number p payload ≡ false → (n == p) ≡ false
-exited-other = grind (arith, nat_tests)
-
 -- an event that is no farewell to p
 pub serve-held : (o : OwnTimer) (g : Bool) (q : ℕ) (origin : Origin) (event : Event) (m : Machine) → is_farewell o.p (Item.Give q origin (of_event event)) ≡ false
     → Held o g m → Held o g (serve q event m)
 serve-held o g q origin event m none = of_changes changes m
   where
     other : (n : ℕ) → (q == 0) ≡ true → (event.code == EXITED) ≡ true → exited_application event.payload ≡ Some n → (n == o.p) ≡ false
-    other n z k e = exited-other o.p n event.payload e (grind (arith, none, z, k))
+    other n z k e = grind (arith, nat_tests)
 
     changes : Changes (λ old new. Held o g old → Held o g new) q event
     changes =

@@ -6,11 +6,11 @@ use Rattle.run_laws.proofs.timer_deadlines.Ledgers.{Ledger, ledger_of, ripe_at, 
 use Rattle.run_laws.proofs.event_order.Items.{facing}
 use Rattle.run_laws.proofs.timer_deadlines.Timed.{Balanced, timer_for, in_wait, after-count, ledger_then, turn-balanced, count_items, serve-fair, carried-count}
 use Rattle.run_laws.proofs.timer_deadlines.Moves.{FrontIs, Setting, after-moves, after-clock, still_moves}
-use Rattle.run_laws.proofs.timer_deadlines.Regular.{is_regular}
-use Rattle.run_laws.proofs.timer_deadlines.Steady.{Steady, clock-more, steady-turn, steady-carried, steady-front, steady-serve, steady-shown, steady-input}
+use Rattle.run_laws.proofs.timer_deadlines.Regular.{carried-regular, is_regular}
+use Rattle.run_laws.proofs.timer_deadlines.Steady.{Steady, clock-more, steady-turn, steady-serve, steady-shown, steady-input}
 use Rattle.run_laws.proofs.Arrivals.{effect-keeps}
 use Rattle.run_laws.proofs.timer_deadlines.Timing.{OwnTimer, own_timer, zero-cells, zero-names}
-use Rattle.run_laws.proofs.timer_deadlines.Fronts.{all-mapped}
+use Rattle.run_laws.proofs.timer_deadlines.Fronts.{carried-queue, all-mapped}
 use Rattle.run_laws.proofs.event_order.Runs.{Ran, at_prefixes}
 use Rattle.run_laws.proofs.event_order.Steps.{Cases, law_of, is_quiet_item, carried, kernel_carried}
 
@@ -46,18 +46,11 @@ ledger-turn = grind (arith, nat_tests, turns-turn, fold-append)
 pub ledger-other : (o : OwnTimer) (k : Option Reply) (X : List Entry) (e : Entry) → is_turn e ≡ false → timer_ledger o k (X ++ e ∷ []) ≡ timer_ledger o k X
 ledger-other = grind (arith, nat_tests, turns-other)
 
--- what is ripe stays ripe
-pub ripe-later : (n clock : ℕ) (ledger : Ledger) → ripe_at clock ledger ≤ ripe_at (clock + n) ledger
-ripe-later = grind (arith, nat_tests)
-
 pub timely-other : (o : OwnTimer) (X : List Entry) (e : Entry) → is_turn e ≡ false → IsTimely o X → IsTimely o (X ++ e ∷ [])
-timely-other = grind (arith, nat_tests, ledger-other, clock-more, ripe-later)
+timely-other = grind (arith, nat_tests, ledger-other, clock-more)
 
 pub less-balanced : (o : OwnTimer) (clock v w : ℕ) (timers : Timers) (ledger : Ledger) → v ≤ w → Balanced o timers clock w ledger → Balanced o timers clock v ledger
 less-balanced = grind (arith, nat_tests)
-
-pub later-balanced : (o : OwnTimer) (n w clock : ℕ) (timers : Timers) (ledger : Ledger) → Balanced o timers clock w ledger → Balanced o timers (clock + n) w ledger
-later-balanced = grind (arith, nat_tests)
 
 -- a turn
 
@@ -69,10 +62,6 @@ module _ (o : OwnTimer) (low : nat_le 4 o.p ≡ true) (high : nat_lt o.p 20 ≡ 
       let b = h.balanced (told_reply o.p q stimulus k) (told-front o.p q stimulus k) in
       record { cell = b.cell; named = b.named; set = b.set; count = omega (arith, b.count) }
 
-  turn_caller : (X : List Entry) (m : Machine) (items : List Item) (q : ℕ) (origin : Origin) (stimulus : Stimulus)
-      → Timely o (facing (Item.Turn q origin stimulus ∷ items) m) X → nat_le 4 q ≡ true
-  turn_caller X m items q origin stimulus h = grind (arith, h.steady.regular)
-
   pub turn_setting : (X : List Entry) (m : Machine) (items : List Item) (q : ℕ) (origin : Origin) (stimulus : Stimulus)
       → Timely o (facing (Item.Turn q origin stimulus ∷ items) m) X → Setting o.p m.timers
   turn_setting = grind (arith, nat_tests)
@@ -82,7 +71,7 @@ module _ (o : OwnTimer) (low : nat_le 4 o.p ≡ true) (high : nat_lt o.p 20 ≡ 
       → Timely o (after_call call q (with_more_work (facing items m))) (X ++ Entry.Turn (record { 0 = q }) origin stimulus call ∷ [])
   turn_timely X m items q origin stimulus call h =
       let on : Machine = with_more_work (facing items m) in
-      let caller : nat_le 4 q ≡ true = turn_caller X m items q origin stimulus h in
+      let caller : nat_le 4 q ≡ true = grind (arith, h.steady.regular) in
       let rest : list_all is_regular items ≡ true = grind (arith, h.steady.regular) in
       let steady : Steady on X = record { clock = h.steady.clock; names = h.steady.names; plain = h.steady.plain; regular = rest } in
       record {
@@ -107,7 +96,7 @@ free-carried : (o : OwnTimer) (X : List Entry) (item : Item) (items : List Item)
     → Timely o (facing (item ∷ items) m) X → Free o (carried item items m) X
 free-carried o X item items m n h =
     record {
-      steady = steady-carried item items m X h.steady;
+      steady = grind (arith, nat_tests, carried-queue, carried-regular, h.steady);
       balanced = λ k.
           less-balanced o m.clock (in_wait o (carried item items m)) (in_wait o (facing (item ∷ items) m)) m.timers (timer_ledger o k X)
           (carried-count o item items m.scheduler h.steady.plain) (h.balanced k (no_reply_front o.p k item items n));
@@ -136,8 +125,7 @@ effect_timely o input m X h =
       balanced = λ k front.
           let before = h.balanced k (effect-keeps (λ s. FrontIs o.p k s.agenda → FrontIs o.p k m.scheduler.agenda) input woken (λ f. f) (λ q f. f) (λ refusal f. f) front) in
           rw (ledger-other o k X (Entry.Input input) refl, effect-clock input woken, effect-timers input woken)
-          (later-balanced o (ticks_in (Entry.Input input)) (in_wait o (effect input woken)) m.clock m.timers (timer_ledger o k X)
-          (less-balanced o m.clock (in_wait o (effect input woken)) (in_wait o m) m.timers (timer_ledger o k X) (effect-wait o input woken) before));
+          (grind (arith, nat_tests));
     }
 
 -- every step
@@ -156,7 +144,7 @@ timely_cases o low high =
       called_back = λ m X q c h.
           let x = Item.Give q Origin.Callback (Stimulus.Callback c) in
           record {
-            steady = steady-front (x ∷ []) m X h.steady.regular h.steady;
+            steady = grind (arith, nat_tests, h.steady.regular, h.steady);
             balanced = λ k.
                 less-balanced o m.clock (in_wait o (scheduled (in_front (x ∷ [])) m)) (in_wait o m) m.timers (timer_ledger o k X) (omega (arith, no_callback o q c)) (h.balanced k);
           };
@@ -189,13 +177,10 @@ pub starts-count : (o : OwnTimer) (ns : List ℕ) → count_items o (map (λ n. 
 starts-count o [] = refl
 starts-count o (n ∷ ns) = omega (arith, starts-count o ns)
 
-pub boot_steady : (c : Config) → Steady (at_start c).machine []
-boot_steady = grind (arith, nat_tests, zero-names, all-mapped)
-
 pub boot_timely : (o : OwnTimer) (c : Config) → nat_le 4 o.p ≡ true → nat_lt o.p 20 ≡ true → Timely o (at_start c).machine []
 boot_timely o c low high =
     record {
-      steady = boot_steady c;
+      steady = grind (arith, nat_tests, zero-names, all-mapped);
       balanced = λ k front.
           record {
             cell = λ number. zero-cells (own_timer o) all_timers;
@@ -205,17 +190,13 @@ boot_timely o c low high =
           };
     }
 
--- p is one of the 16 that have timers
-pub has_timers : (c : Config) (p : ℕ) → is_bootable c ≡ true → is_application c.apps p ≡ true → nat_lt p 20 ≡ true
-has_timers = grind (arith, nat_tests)
-
 -- no TIMER event comes early or twice
 pub no_early_timer : (run : Ran)
     → (p : ℕ) → is_bootable run.config ≡ true → is_application run.config.apps p ≡ true → NoEarlyTimerFor p run.after.entries
 no_early_timer run p b a before later t e =
     let o : OwnTimer = record { p = p; t = t } in
     let low : nat_le 4 p ≡ true = grind (arith, a) in
-    let high : nat_lt p 20 ≡ true = has_timers run.config p b a in
+    let high : nat_lt p 20 ≡ true = grind (arith, nat_tests) in
     let h : IsTimely o before =
     at_prefixes (law_of (timely_cases o low high)) run (boot_timely o run.config low high) (omega arith) before later e in
     rw (timer_events-ledger before o, ripe_armings-ledger before o) h

@@ -50,9 +50,6 @@ Clean m = list_all is_no_exited m.scheduler.events ≡ true
 expiry-clean : (timer : Timer) → is_no_exited (expiry_of timer) ≡ true
 expiry-clean = grind (arith, nat_tests)
 
-notice-clean : (notice : Queued Bool) → is_notice notice ≡ true → is_no_exited notice ≡ true
-notice-clean = grind (arith, nat_tests)
-
 pub serve-events : (q : ℕ) (event : Event) (m : Machine) → Clean m → Clean (serve q event m)
 serve-events q event = of_changes changes
   where
@@ -64,7 +61,7 @@ serve-events q event = of_changes changes
           expired = λ timer m e. all-more is_no_exited m.scheduler.events (expiry_of timer) (expiry-clean timer);
           timers_gone = λ n m z k e h. h;
           callbacks_gone = λ n m h. events-cancelled (λ r c. r == n) m.scheduler.events ∙ h;
-          posted = λ notice m n. all-more is_no_exited m.scheduler.events notice (notice-clean notice n);
+          posted = λ notice m n. all-more is_no_exited m.scheduler.events notice (grind (arith, nat_tests));
           devices = λ serial is_waiting packets m e h. h;
           marked = λ n m h. h;
         }

@@ -2,7 +2,7 @@
 use Rattle.run_laws.proofs.timer_deadlines.Timing.{OwnTimer, own_timer}
 use Rattle.run_laws.proofs.Common.{nat_tests, cons_option, option_map_or, Call, Reply, Stimulus, Origin, Pid, Entry, Cell, zero_cell, deadline, heard, is_done, OwnTurn, own, own_from, own_turn, reply_of, ticks_in, clock_after, arms, stops, cell_after, is_arming, is_arming_or_stop, ripe_armings, is_timer_event, timer_events, cell_at, stood_until, ripe_from}
 use Rattle.std.proofs.Common.{◌≡◌, ℕ, ◌+◌, Bool, true, false, ◌&&◌, ◌||◌, List, [], ◌∷◌, ◌++◌, refl, ◌∙◌, sym, arith, Option, Some, None, option_to_list, fold, find, if◌then◌else◌, ◌==◌, nat_le}
-use Rattle.run_laws.proofs.event_order.Tally.{reply_or, reply_or-none, heard-turn, heard-other, is_turn, cons_option-append, cons_option-nil}
+use Rattle.run_laws.proofs.event_order.Tally.{reply_or, reply_or-none, heard-turn, heard-other, is_turn, cons_option-append}
 
 -- the turns of p, where the reply to the last one is k unless the entries show it
 
@@ -46,7 +46,7 @@ turn-more k p clock _ X pid origin stimulus call = refl
 pub turns-turn : (k : Option Reply) (p clock : ℕ) (X : List Entry) (pid : Pid) (origin : Origin) (stimulus : Stimulus) (call : Call)
     → turns_or k p clock (X ++ Entry.Turn pid origin stimulus call ∷ [])
     ≡ turns_or (told_reply p pid.0 stimulus k) p clock X ++ option_to_list (own_turn_or k p (clock_from clock X) (Entry.Turn pid origin stimulus call) [])
-turns-turn k p clock [] pid origin stimulus call = cons_option-nil _
+turns-turn k p clock [] pid origin stimulus call = grind (arith, nat_tests)
 turns-turn k p clock (entry ∷ X) pid origin stimulus call = grind (arith, nat_tests, turn-more, cons_option-append, turns-turn k p (clock + ticks_in entry) X pid origin stimulus call)
 
 turn-other : (k : Option Reply) (p clock : ℕ) (entry : Entry) (X : List Entry) (e : Entry) → is_turn e ≡ false

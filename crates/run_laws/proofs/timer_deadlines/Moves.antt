@@ -64,12 +64,6 @@ Knowledge p q k reply = (q == p) ≡ true → k ≡ Some reply
 same_timer : (o : OwnTimer) (q u : ℕ) → (q == o.p) ≡ true → (u == o.t) ≡ true → own_timer o ≡ event_timer q u
 same_timer = grind (arith, nat_tests)
 
--- an arming of timer u of q
-armed_moves : (o : OwnTimer) (q u clock : ℕ) (call : Call) (k : Option Reply) (cell : Cell) (old : Timers) → Setting o.p old → nat_le u 7 ≡ true → Knowledge o.p q k Reply.Done
-    → arms o.t call ≡ (u == o.t) → stops o.t call ≡ false → ((u == o.t) ≡ true → cell ≡ cell_after o.t clock call (cell_of (event_timer q u) old))
-    → Moves o q clock call k old (armed_with (event_timer q u) cell old)
-armed_moves = grind (arith, nat_tests, still_moves, armed-other, cell-armed_other, same_timer, cell-armed_own)
-
 -- a stop of timer u of q
 stopped_moves : (o : OwnTimer) (q u clock : ℕ) (k : Option Reply) (old : Timers) → Knowledge o.p q k Reply.Done → Moves o q clock (Call.TimerStop u) k old (stop_timer (event_timer q u) old)
 stopped_moves o q u clock k old told = go (q == o.p) (u == o.t) refl refl
@@ -122,17 +116,16 @@ pub after-moves : (o : OwnTimer) (call : Call) (q : ℕ) (k : Option Reply) (m :
     → Moves o q m.clock call k m.timers (after_call call q m).timers
 after-moves o (Call.TimerSet u interval) q k m s front =
     by_refusal o (Call.TimerSet u interval) q k m (mark 0 (with_timers (set_timer m.clock (event_timer q u) interval m.timers) m)) (timer_refusal u) front
-    (λ e told. armed_moves o q u m.clock (Call.TimerSet u interval) k (record { start = m.clock; interval = interval }) m.timers s (number_fits u e) told refl refl (λ this. rw this refl))
+    (λ e told. grind (arith, nat_tests, still_moves, armed-other, cell-armed_other, same_timer, cell-armed_own))
 after-moves o (Call.TimerRestart u) q k m s front =
     by_refusal o (Call.TimerRestart u) q k m (mark 0 (with_timers (restart_timer m.clock (event_timer q u) m.timers) m)) (timer_refusal u) front
     (λ e told.
-    armed_moves o q u m.clock (Call.TimerRestart u) k (record (cell_of (event_timer q u) m.timers) { start = m.clock }) m.timers s (number_fits u e) told refl refl
-    (λ this. rw this refl))
+    grind (arith, nat_tests, still_moves, armed-other, cell-armed_other, same_timer, cell-armed_own))
 after-moves o (Call.TimerReset u) q k m s front =
     let cell : Cell = cell_of (event_timer q u) m.timers in
     by_refusal o (Call.TimerReset u) q k m (mark 0 (with_timers (reset_timer (event_timer q u) m.timers) m)) (reset_refusal q u m) front
     (λ e told.
-    armed_moves o q u m.clock (Call.TimerReset u) k (record cell { start = cell.start + cell.interval }) m.timers s (reset_fits q u m e) told refl refl (λ this. rw this refl))
+    grind (arith, nat_tests, still_moves, armed-other, cell-armed_other, same_timer, cell-armed_own))
 after-moves o (Call.TimerStop u) q k m s front =
     by_refusal o (Call.TimerStop u) q k m (with_timers (stop_timer (event_timer q u) m.timers) m) (timer_refusal u) front (λ e told. stopped_moves o q u m.clock k m.timers told)
 after-moves o (Call.CallbackSet c interval) q k m s front = grind (arith, nat_tests, by_refusal, still_moves, unmoved_by, armed-other, cell-armed_other)

@@ -17,7 +17,3 @@ pub carried-regular : (item : Item) (items : List Item) (s : Scheduler Bool) →
     → list_all is_regular (after_item item (with_agenda items s)).agenda ≡ true
 carried-regular = grind (arith, nat_tests, all-mapped, all-append, all-delivered)
 
--- a call keeps it: only applications are started and killed
-pub after-regular : (call : Call) (q : ℕ) (m : Machine) → nat_le 4 q ≡ true → list_all is_regular m.scheduler.agenda ≡ true
-    → list_all is_regular (after_call call q m).scheduler.agenda ≡ true
-after-regular = grind (arith, nat_tests, after-all)

@@ -5,11 +5,11 @@ use Rattle.run_laws.proofs.timer_deadlines.Ledgers.{fold-append}
 use Rattle.run_laws.proofs.event_order.Items.{with_agenda, facing}
 use Rattle.run_laws.proofs.CallQueues.{KeptByCalls, kept_by_call}
 use Rattle.run_laws.proofs.Arrivals.{serve-untouched}
-use Rattle.run_laws.proofs.timer_deadlines.Fronts.{all-more, carried-queue}
+use Rattle.run_laws.proofs.timer_deadlines.Fronts.{after-all, all-more, carried-queue}
 use Rattle.run_laws.proofs.timer_deadlines.Timed.{is_no_timer, plain-cancelled, serve-fair}
 use Rattle.run_laws.proofs.timer_deadlines.Timing.{cell_names}
 use Rattle.run_laws.proofs.timer_deadlines.Moves.{after-clock, after-names}
-use Rattle.run_laws.proofs.timer_deadlines.Regular.{is_regular, carried-regular, after-regular}
+use Rattle.run_laws.proofs.timer_deadlines.Regular.{is_regular, carried-regular}
 
 pub record Steady (m : Machine) (X : List Entry) : Type 0 where
   pub clock : m.clock ≡ clock_after X
@@ -22,15 +22,6 @@ pub clock-more : (X : List Entry) (e : Entry) → clock_after (X ++ e ∷ []) �
 clock-more = grind (arith, nat_tests, fold-append)
 
 -- an item
-
-pub steady-carried : (item : Item) (items : List Item) (m : Machine) (X : List Entry) → Steady (facing (item ∷ items) m) X
-    → Steady (record m { scheduler = after_item item (with_agenda items m.scheduler) }) X
-steady-carried = grind (arith, nat_tests, carried-queue, carried-regular)
-
--- these items, which are no turns
-pub steady-front : (items : List Item) (m : Machine) (X : List Entry) → list_all is_regular (items ++ m.scheduler.agenda) ≡ true → Steady m X
-    → Steady (scheduled (in_front items) m) X
-steady-front = grind (arith, nat_tests)
 
 -- a kernel process
 pub steady-serve : (q : ℕ) (event : Event) (m : Machine) (X : List Entry) → Steady m X → Steady (serve q event m) X
@@ -47,7 +38,7 @@ after-plain =
 
 pub steady-turn : (q : ℕ) (origin : Origin) (stimulus : Stimulus) (call : Call) (m : Machine) (X : List Entry) → nat_le 4 q ≡ true → Steady m X
     → Steady (after_call call q m) (X ++ Entry.Turn (record { 0 = q }) origin stimulus call ∷ [])
-steady-turn = grind (arith, nat_tests, after-clock, clock-more, after-names, kept_by_call, after-plain, after-regular)
+steady-turn = grind (arith, nat_tests, after-clock, clock-more, after-names, kept_by_call, after-plain, after-all)
 
 -- an entry that is shown
 pub steady-shown : (note : Note) (m : Machine) (X : List Entry) → Steady m X → Steady m (X ++ Entry.Note note ∷ [])

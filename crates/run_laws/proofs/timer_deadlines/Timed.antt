@@ -79,9 +79,6 @@ pub listed : (clock : ℕ) (timers : Timers) (timer : Timer) (xs : List Timer) �
 listed clock timers timer [] e = cc
 listed clock timers timer (x ∷ xs) e = grind (arith, nat_tests, listed clock timers timer xs)
 
-pub that_timer : (o : OwnTimer) (timer : Timer) → is_timer (own_timer o) timer ≡ true → timer ≡ own_timer o
-that_timer = grind (arith, nat_tests)
-
 expiry_count : (o : OwnTimer) (timer : Timer) → queued_one o (expiry_of timer) ≡ one_if (is_timer (own_timer o) timer)
 expiry_count = grind (arith, nat_tests)
 
@@ -104,7 +101,7 @@ expired-fair o timer m e =
     posted : (b : Bool) → is_timer (own_timer o) timer ≡ b → (ledger : Ledger) → Balanced o m.timers m.clock (in_wait o m) ledger
         → Balanced o (stop_timer timer m.timers) m.clock (in_wait o (post_expiry (Some timer) m)) ledger
     posted true s ledger k =
-        let same : timer ≡ own_timer o = that_timer o timer s in
+        let same : timer ≡ own_timer o = grind (arith, nat_tests) in
         let due : is_due m.clock m.timers own ≡ true = rw same at (found m.clock m.timers timer m.timers.armed e) in
         let on : is_armed own m.timers ≡ true = rw same at (listed m.clock m.timers timer m.timers.armed e) in
         let off : is_armed own (stop_timer own m.timers) ≡ false = stopped-own own m.timers.armed in
@@ -141,9 +138,6 @@ count-cancelled o test (item ∷ events) = grind (arith, nat_tests, count-cancel
 pub plain-cancelled : (test : ℕ → ℕ → Bool) (events : List (Queued Bool)) → list_all is_no_timer (map (cancelled_if test) events) ≡ list_all is_no_timer events
 plain-cancelled test events = all-cancelled is_no_timer test (λ event. grind arith) events
 
-dropped-fair : (o : OwnTimer) (keep : Timer → Bool) (m : Machine) → Fair o m (record m { timers = record m.timers { armed = filter keep m.timers.armed } })
-dropped-fair = grind (arith, nat_tests, any-filter)
-
 cancelled-fair : (o : OwnTimer) (test : ℕ → ℕ → Bool) (m : Machine) → Fair o m (expiries_cancelled test m)
 cancelled-fair o test m = grind (arith, nat_tests, plain-cancelled test m.scheduler.events, count-cancelled o test m.scheduler.events)
 
@@ -156,10 +150,10 @@ serve-fair o q event = of_changes changes
           same = λ m. record { clock = refl; names = refl; plain = λ h. h; balanced = λ ledger k. k };
           chained = fair-then o;
           expired = expired-fair o;
-          timers_gone = λ n m z k e. dropped-fair o (λ timer. not (is_event_timer_of n timer)) m;
+          timers_gone = λ n m z k e. grind (arith, nat_tests, any-filter);
           callbacks_gone = λ n m.
               let a : Machine = with_timers (without_callback_timers n m.timers) m in
-              fair-then o m a (expiries_cancelled (λ r c. r == n) a) (dropped-fair o (λ timer. not (is_callback_timer_of n timer)) m) (cancelled-fair o (λ r c. r == n) a);
+              fair-then o m a (expiries_cancelled (λ r c. r == n) a) (grind (arith, nat_tests, any-filter)) (cancelled-fair o (λ r c. r == n) a);
           posted = λ notice m n. post-fair o notice m (notice-uncounted o notice n) (notice-plain notice n);
           devices = λ serial is_waiting packets m e. record { clock = refl; names = refl; plain = λ h. h; balanced = λ ledger k. k };
           marked = λ n m. record { clock = refl; names = refl; plain = λ h. h; balanced = λ ledger k. k };
@@ -174,9 +168,6 @@ polls-count o (n ∷ ns) = omega (arith, polls-count o ns)
 no_timer : (o : OwnTimer) (q code n : ℕ) → (code == TIMER) ≡ false → timer_for o q (of_event (number_event code n)) ≡ 0
 no_timer = grind (arith, nat_tests)
 
-no_plain : (o : OwnTimer) (q code : ℕ) → (code == TIMER) ≡ false → timer_for o q (of_event (plain_event code)) ≡ 0
-no_plain = grind (arith, nat_tests)
-
 no_timer_event : (o : OwnTimer) (q : ℕ) (event : Event) → is_no_timer (Queued.ToAll event) ≡ true → timer_for o q (of_event event) ≡ 0
 no_timer_event = grind (arith, nat_tests)
 
@@ -190,7 +181,7 @@ all_count o s = count_items o s.agenda + count_events o s.events
 -- an item adds none
 pub carried-count : (o : OwnTimer) (item : Item) (items : List Item) (s : Scheduler Bool) → list_all is_no_timer s.events ≡ true
     → all_count o (after_item item (with_agenda items s)) ≤ all_count o (with_agenda (item ∷ items) s)
-carried-count = grind (arith, nat_tests, no_plain, count_items-append, polls-count, broadcast-count)
+carried-count = grind (arith, nat_tests, count_items-append, polls-count, broadcast-count)
 
 -- a call adds none
 
@@ -246,10 +237,6 @@ stops-balanced = grind (arith, nat_tests)
 -- any other turn
 abbrev pub kept_ledger : ℕ → Ledger → Ledger
 kept_ledger g ledger = record ledger { given = ledger.given + g }
-
-pub keeps-balanced : (o : OwnTimer) (g w clock : ℕ) (old new : Timers) (ledger : Ledger) → (nat_le o.t 7 ≡ true → cell_of (own_timer o) new ≡ cell_of (own_timer o) old)
-    → is_armed (own_timer o) new ≡ is_armed (own_timer o) old → Balanced o old clock (g + w) ledger → Balanced o new clock w (kept_ledger g ledger)
-keeps-balanced = grind (arith, nat_tests)
 
 -- the ledger of each kind of turn
 abbrev pub gift : ℕ → OwnTurn → ℕ
@@ -309,7 +296,7 @@ turn-balanced o q w clock stimulus origin call k old new ledger moves h =
         rw (ledger-stops o.t ledger turn e f i) (stops-balanced o g w clock old new ledger (kept_cell refl) (unset refl) h)
     go true true false false e f i kept kept_cell set set_cell named unset h =
         let none : is_arming_or_stop o.t turn ≡ false = rw (e, f, i) refl in
-        rw (ledger-keeps o.t ledger turn none) (keeps-balanced o g w clock old new ledger (kept_cell refl) (kept refl) h)
+        rw (ledger-keeps o.t ledger turn none) (grind (arith, nat_tests))
     go true false a s e f i kept kept_cell set set_cell named unset h =
         let none : is_arming_or_stop o.t turn ≡ false = rw e refl in
-        rw (ledger-keeps o.t ledger turn none) (keeps-balanced o g w clock old new ledger (kept_cell refl) (kept refl) h)
+        rw (ledger-keeps o.t ledger turn none) (grind (arith, nat_tests))

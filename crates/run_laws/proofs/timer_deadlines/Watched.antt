@@ -66,13 +66,9 @@ home-without q (x ∷ xs) n = grind (arith, nat_tests, home-without q xs n)
 
 -- an item
 
-carried-home : (item : Item) (items : List Item) (s : Scheduler Bool) → is_regular item ≡ true → is_home s.processes ≡ true
-    → is_home (after_item item (with_agenda items s)).processes ≡ true
-carried-home = grind (arith, nat_tests, home-with_state, home-with_mark, home-without)
-
 pub watched-carried : (item : Item) (items : List Item) (m : Machine) → is_quiet_item item ≡ true → is_served item ≡ false → is_regular item ≡ true
     → Watched (facing (item ∷ items) m) → Watched (carried item items m)
-watched-carried = grind (arith, nat_tests, carried-home, marks-with_state, marks-without, carried-any, marks-other)
+watched-carried = grind (arith, nat_tests, home-with_state, home-with_mark, home-without, marks-with_state, marks-without, carried-any, marks-other)
 
 -- these items in front
 pub watched-front : (xs : List Item) (m : Machine) → Watched m → Watched (scheduled (in_front xs) m)
@@ -101,22 +97,16 @@ watched-due m home = go (is_any_due after) (some-find (is_due after.clock after.
     go true e = record { home = home-with_mark 0 true after.scheduler.processes ∙ still; due = λ d. rw (marks-home after.scheduler.processes still) refl }
     go false e = record { home = still; due = λ d. absurd (grind (arith, e, d)) }
 
--- nothing else is due after, and etimer's mark stays
-pub lesser : (old new : Machine) → new.scheduler.agenda ≡ old.scheduler.agenda → (is_timer_due new.clock new.timers ≡ true → is_timer_due old.clock old.timers ≡ true)
-    → (is_marked 0 old.scheduler.processes ≡ true → is_marked 0 new.scheduler.processes ≡ true)
-    → (is_home old.scheduler.processes ≡ true → is_home new.scheduler.processes ≡ true) → Watched old → Watched new
-lesser = grind (arith, nat_tests)
-
 pub alike : (old new : Machine) → new.scheduler.agenda ≡ old.scheduler.agenda → new.scheduler.processes ≡ old.scheduler.processes → new.timers ≡ old.timers → new.clock ≡ old.clock
     → Watched old → Watched new
 alike = grind (arith, nat_tests)
 
 pub marked_too : (q : ℕ) (m : Machine) → Watched m → Watched (mark q m)
-marked_too = grind (arith, nat_tests, lesser, marks-with_mark, home-with_mark)
+marked_too = grind (arith, nat_tests, marks-with_mark, home-with_mark)
 
 -- timers leave the list
 pub dropped : (keep : Timer → Bool) (m : Machine) → Watched m → Watched (record m { timers = record m.timers { armed = filter keep m.timers.armed } })
-dropped = grind (arith, nat_tests, lesser, any-filter)
+dropped = grind (arith, nat_tests, any-filter)
 
 -- an item that isn't etimer's POLL is gone
 pub without_item : (item : Item) (items : List Item) (m : Machine) → is_etimer_poll item ≡ false → Watched (facing (item ∷ items) m) → Watched (facing items m)
@@ -152,28 +142,21 @@ watched-serve q origin event items m h = go (q == 0 && event.code == POLL) refl
 
 -- Calls and inputs that make a timer due mark etimer.
 
-after-marks : (call : Call) (q : ℕ) (m : Machine) → is_marked 0 m.scheduler.processes ≡ true → is_marked 0 (after_call call q m).scheduler.processes ≡ true
-after-marks call q m h = grind (arith, h, marks-with_state, marks-with_mark)
-
 after-home : (call : Call) (q : ℕ) (m : Machine) → is_home m.scheduler.processes ≡ true → is_home (after_call call q m).scheduler.processes ≡ true
 after-home call q m h = grind (arith, h, home-with_state, home-with_mark)
 
 -- a call that makes no more timers due
 fewer : (call : Call) (q : ℕ) (m : Machine) → Watched m → (is_timer_due m.clock (after_call call q m).timers ≡ true → is_timer_due m.clock m.timers ≡ true) → Watched (after_call call q m)
-fewer = grind (arith, nat_tests, after-home, after-clock, after-marks, after-any)
-
--- a call that is refused, or else marks etimer
-refused_or_marked : (q : ℕ) (o : Option Refusal) (m after : Machine) → Watched m → after.scheduler ≡ (mark 0 m).scheduler → Watched (refused_or o q m (answer_done q after))
-refused_or_marked = grind (arith, nat_tests, watched-front, home-with_mark, marks-home)
+fewer = grind (arith, nat_tests, after-home, after-clock, marks-with_state, marks-with_mark, after-any)
 
 -- every call
 pub watched-after : (call : Call) (q : ℕ) (m : Machine) → Watched m → Watched (after_call call q m)
 watched-after (Call.TimerSet u interval) q m h =
-    refused_or_marked q (timer_refusal u) m (mark 0 (with_timers (set_timer m.clock (event_timer q u) interval m.timers) m)) h refl
+    grind (arith, nat_tests, watched-front, home-with_mark, marks-home)
 watched-after (Call.TimerRestart u) q m h =
-    refused_or_marked q (timer_refusal u) m (mark 0 (with_timers (restart_timer m.clock (event_timer q u) m.timers) m)) h refl
+    grind (arith, nat_tests, watched-front, home-with_mark, marks-home)
 watched-after (Call.TimerReset u) q m h =
-    refused_or_marked q (reset_refusal q u m) m (mark 0 (with_timers (reset_timer (event_timer q u) m.timers) m)) h refl
+    grind (arith, nat_tests, watched-front, home-with_mark, marks-home)
 watched-after (Call.CallbackSet c interval) q m h = grind (arith, nat_tests, watched-front, home-with_mark, marks-home)
 watched-after (Call.TimerStop u) q m h = grind (arith, nat_tests, fewer, any-filter)
 watched-after (Call.CallbackStop c) q m h = grind (arith, nat_tests, fewer, any-filter)
@@ -195,10 +178,6 @@ idle = grind (arith, nat_tests)
 -- an input
 pub watched-input : (input : Input) (m : Machine) → Watched m → Watched (effect input (record m { work = 0 }))
 watched-input = grind (arith, nat_tests, home-with_mark, marks-home, idle, marked_too, watched-front)
-
--- boot
-pub watched-boot : (c : Config) → Watched (at_start c).machine
-watched-boot = grind (arith, nat_tests)
 
 -- at rest no timer is due
 unmarked : (list : List Process) → is_any_marked list ≡ false → is_marked 0 list ≡ false
