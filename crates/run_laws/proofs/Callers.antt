@@ -71,9 +71,6 @@ module _ (p : ℕ) (few : p ≤ 19) where
   front_none handle blocks (Item.Show entry ∷ items) e = grind (arith, nat_tests, front_none handle blocks items e)
   front_none handle blocks _ e = e
 
-  quiet_front : (handle : Option ℕ) (blocks : Blocks) (item : Item) (items : List Item) → is_quiet_item item ≡ true → FrontOf handle blocks (item ∷ items) → handle ≡ None
-  quiet_front = grind (arith, nat_tests)
-
   abbrev ToldOf : Machine → List Entry → Type 0
   ToldOf m X = Holds (accepted managed_after) (KindLaw managed_kind) (HasBlocks managed_store p) p at_first m X
 
@@ -107,7 +104,7 @@ module _ (p : ℕ) (few : p ≤ 19) where
         notes = λ m X entry items h. base.notes m X entry items h.holds;
         free = λ m X h. record { holds = h.holds; front = front_none (handle_after X) (told_after X).now m.scheduler.agenda h.none };
         carried = λ m X item items n s h.
-            record { holds = base.carried m X item items n s h.holds; none = quiet_front (handle_after X) (told_after X).now item items n h.front };
+            record { holds = base.carried m X item items n s h.holds; none = grind (arith, nat_tests, h.front) };
         served = λ m X q origin event items k h. record { holds = base.served m X q origin event items k h.holds; none = h.front };
         called_back = λ m X q c h. record { holds = base.called_back m X q c h.holds; none = h.none };
         round = λ m X h. record { holds = base.round m X h.holds; none = h.front };
@@ -207,16 +204,12 @@ Led m X = leads (sends_all X) m.scheduler.agenda ≡ true
 abbrev Plain : Machine → List Entry → Type 0
 Plain m X = all_plain m.scheduler.agenda ≡ true
 
-after_item-leads : (sends : Bool) (item : Item) (items : List Item) (s : Scheduler Bool) → is_quiet_item item ≡ true → leads sends (item ∷ items) ≡ true
-    → all_plain (after_item item (with_agenda items s)).agenda ≡ true
-after_item-leads = grind (arith, nat_tests, all-mapped, all-append, all-delivered)
-
 led_cases : Cases Led Plain (AtEach Sends)
 led_cases =
     record {
       notes = λ m X entry items h. grind (arith, h);
       free = λ m X h. plain-leads (sends_all X) m.scheduler.agenda h;
-      carried = λ m X item items n s h. after_item-leads (sends_all X) item items m.scheduler n h;
+      carried = λ m X item items n s h. grind (arith, nat_tests, all-mapped, all-append, all-delivered, m.scheduler);
       served = λ m X q origin event items k h. rw ((serve-untouched q event (facing items m)).agenda) h;
       called_back = λ m X q c h. h;
       round = λ m X h. refl;

@@ -80,9 +80,6 @@ call-quota : (call : Call) (q : ℕ) (m : Machine) → (after_call call q m).mem
 call-quota call q m =
     each-call (λ x frames. x.managed.quota ≡ m.memory.managed.quota) q m refl (λ slot e. refl) call (ask-shape call q m.memory).quota
 
-done-alike : (reply : Reply) → is_done (Some (as_over_quota reply)) ≡ is_done (Some reply)
-done-alike = grind arith
-
 module _ (quota p : ℕ) where
   -- a memory of p's own, after a call
   abbrev own_after : Call → Reply → Memory → Memory
@@ -120,7 +117,7 @@ module _ (quota p : ℕ) where
         let stays = stays-alone quota p s few k rel.alone call in
         let asked : (ask call p m.memory).1 ≡ reply = one_reply _ _ _ (grind (arith, nat_tests)) e in
         let alike : as_over_quota (ask call p s).1 ≡ reply = same-reply quota p m.memory s rel.limit rel.alone (λ h. ap (λ (b : Blocks). b h) (rel.has.own k)) call f ∙ asked in
-        let both : is_done (Some (ask call p s).1) ≡ is_done (Some reply) = sym (done-alike (ask call p s).1) ∙ ap (λ (r : Reply). is_done (Some r)) alike in
+        let both : is_done (Some (ask call p s).1) ≡ is_done (Some reply) = sym (grind arith) ∙ ap (λ (r : Reply). is_done (Some r)) alike in
         let own : own_blocks p (ask call p s).0 ≡ accepted managed_after call (ask call p s).1 (own_blocks p s) = same_blocks _ _ stays.own in
         let blocks : own_blocks p (ask call p s).0 ≡ accepted managed_after call reply (own_blocks p s) = rw both at own in
         (λ _. alike, record { has = rw blocks has; limit = call-quota call p m ∙ rel.limit; alone = stays.alone })

@@ -33,15 +33,12 @@ module _ (p : ℕ) (high : nat_le 4 p ≡ true) where
 
   -- an item
 
-  after_item-applications : (item : Item) (s : Scheduler Bool) → (after_item item s).applications ≡ s.applications
-  after_item-applications = grind arith
-
   -- the rest of the agenda
   without_item : (item : Item) (items : List Item) (s : Scheduler Bool) → IsOut (with_agenda (item ∷ items) s) → IsOut (with_agenda items s)
   without_item = grind (arith, nat_tests)
 
   after_item-out : (item : Item) (items : List Item) (s : Scheduler Bool) → IsOut (with_agenda (item ∷ items) s) → IsOut (after_item item (with_agenda items s))
-  after_item-out = grind (arith, nat_tests, after_item-applications, all-mapped, all-append, all-delivered, without_item, state_of-with_other, state_of-without, state_of-without_other, state_of-with_mark)
+  after_item-out = grind (arith, nat_tests, all-mapped, all-append, all-delivered, without_item, state_of-with_other, state_of-without, state_of-without_other, state_of-with_mark)
 
   -- a call
 
@@ -53,15 +50,11 @@ module _ (p : ℕ) (high : nat_le 4 p ≡ true) where
 
   -- a step
 
-  -- these items in front
-  in_front-out : (xs : List Item) (s : Scheduler Bool) → list_all keeps_out xs ≡ true → IsOut s → IsOut (in_front xs s)
-  in_front-out = grind (arith, nat_tests, all-append)
-
   served-out : (q : ℕ) (event : Event) (m : Machine) → IsOut m.scheduler → IsOut (serve q event m).scheduler
   served-out = grind (arith, nat_tests, serve-untouched)
 
   effect-out : (input : Input) (m : Machine) → IsOut m.scheduler → IsOut (effect input m).scheduler
-  effect-out = grind (arith, nat_tests, effect-keeps, state_of-with_mark, in_front-out)
+  effect-out = grind (arith, nat_tests, effect-keeps, state_of-with_mark, all-append)
 
   -- the run
 
@@ -84,7 +77,7 @@ module _ (p : ℕ) (high : nat_le 4 p ≡ true) where
         free = λ m X h. h;
         carried = λ m X item items n s h. after_item-out item items m.scheduler h;
         served = λ m X q origin event items k h. served-out q event (facing items m) (without_item (Item.Give q origin (Stimulus.Event event)) items m.scheduler h);
-        called_back = λ m X q c h. in_front-out (Item.Give q Origin.Callback (Stimulus.Callback c) ∷ []) m.scheduler refl h;
+        called_back = λ m X q c h. grind (arith, nat_tests, all-append, m.scheduler);
         round = λ m X h. record { stranger = h.stranger; absent = h.absent; agenda = refl };
         turn = λ m X items q origin stimulus call h.
             grind (arith, nat_tests, call-applications, after-all, not_named, state_of-with_other, state_of-with_mark);

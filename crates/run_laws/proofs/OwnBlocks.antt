@@ -9,9 +9,6 @@ use Rattle.run_laws.proofs.Whole.{Laws, answered, run-told, call-law}
 
 -- what memory answers is told next
 
-asks : (call : Call) (p : ℕ) (m : Machine) → is_memory_call call ≡ true → after_call call p m ≡ asked_of_memory call p m
-asks = grind (arith, nat_tests)
-
 pub told-reply : (call : Call) (p : ℕ) (m : Machine) → is_memory_call call ≡ true → due (marks p (after_call call p m).scheduler.agenda) ≡ Some (ask call p m.memory).1
 told-reply = grind (arith, nat_tests)
 
@@ -85,7 +82,7 @@ module _ (store : Store) (keeps : Keeps store) (p : ℕ) (few : p ≤ 19) where
   own-after : (call : Call) (m : Machine) (b : Bool) (reply : Option Reply) → store.changes call ≡ b → is_kernel_process p ≡ false → IsSound m.memory m.packets.frames
       → due (marks p (after_call call p m).scheduler.agenda) ≡ reply
       → store.blocks p (after_call call p m).memory ≡ answered (accepted store.change) (Some call) reply (store.blocks p m.memory)
-  own-after call m true reply e k sound d = grind (arith, nat_tests, told-reply, asks)
+  own-after call m true reply e k sound d = grind (arith, nat_tests, told-reply)
   own-after call m false reply e k sound d = grind (arith, nat_tests, left-after, sound)
 
   pub own-laws : Laws (accepted store.change) (KindLaw store.kind) (HasBlocks store p) p

@@ -158,9 +158,6 @@ module _ {S : Type 0} (next : Call → Reply → S → S) (Law : S → Call → 
   well-other : (start : Knowledge S) (X : List Entry) (e : Entry) → is_turn e ≡ false → WellTold start X → WellTold start (X ++ e ∷ [])
   well-other = grind (arith, nat_tests, well-append)
 
-  not_turn : (item : Item) → is_quiet_item item ≡ true → is_turn_item item ≡ false
-  not_turn item n = grind (arith, n)
-
   carried-holds : (start : Knowledge S) (item : Item) (items : List Item) (m : Machine) (X : List Entry) → is_turn_item item ≡ false → Holds start (facing (item ∷ items) m) X
       → Holds start (carried item items m) X
   carried-holds start item items m X n h =
@@ -194,19 +191,16 @@ module _ {S : Type 0} (next : Call → Reply → S → S) (Law : S → Call → 
     marks_are : marks p new.agenda ≡ marks p old.agenda
     state : state_of p new.processes ≡ state_of p old.processes
 
-  effect-alike : (input : Input) (m : Machine) → Alike m.scheduler (effect input m).scheduler
-  effect-alike = grind (arith, nat_tests, effect-keeps, state_of-with_mark)
-
   input-holds : Laws next Law Rel p → (start : Knowledge S) (input : Input) (m : Machine) (X : List Entry) → Holds start m X
       → Holds start (effect input (record m { work = 0 })) (X ++ Entry.Input input ∷ [])
-  input-holds = grind (arith, nat_tests, effect-alike, effect-keeps, fold-append, slot_low)
+  input-holds = grind (arith, nat_tests, effect-keeps, state_of-with_mark, effect-keeps, fold-append, slot_low)
 
   pub told_cases : Laws next Law Rel p → (start : Knowledge S) → Cases (Holds start) (Holds start) (WellTold start)
   told_cases laws start =
       record {
         notes = λ m X entry items h. grind (arith, h.regular);
         free = λ m X h. h;
-        carried = λ m X item items n s h. carried-holds start item items m X (not_turn item n) h;
+        carried = λ m X item items n s h. carried-holds start item items m X (grind (arith, n)) h;
         served = λ m X q origin event items k h.
             let given = carried-holds start (Item.Give q origin (Stimulus.Event event)) items m X refl h in
             served-holds start q event (facing items m) X (subst (λ n. Holds start n X) (kernel_carried q origin (Stimulus.Event event) items m k) given);

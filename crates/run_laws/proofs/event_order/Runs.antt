@@ -157,9 +157,6 @@ module _ (I : Machine → List Entry → Type 0) (P Q : List Entry → Type 0) (
 
 -- an input at rest
 
-effect-live : (input : Input) (m : Machine) → (effect input m).is_halted ≡ m.is_halted
-effect-live = grind (arith, nat_tests)
-
 abbrev after_fed : Running → Input → Running
 after_fed r input = record { machine = effect input (record r.machine { work = 0 }); entries = r.entries ++ Entry.Input input ∷ [] }
 
@@ -173,7 +170,7 @@ module _ (I : Machine → List Entry → Type 0) (P Q : List Entry → Type 0) (
   good-fed r input live rests g =
       let woken : Machine = record r.machine { work = 0 } in
       let t : Machine = effect input woken in
-      let up : t.is_halted ≡ false = effect-live input woken ∙ live in
+      let up : t.is_halted ≡ false = grind (arith, nat_tests) ∙ live in
       let old : P r.entries = now I P Q law r.entries g.prefixes in
       record {
         prefixes = prefixes-more P r.entries (Some (Entry.Input input)) g.prefixes (law.shown input r.entries old);

@@ -48,14 +48,11 @@ sound-other = grind (arith, nat_tests, still_alive, given-more, no_given, append
 
 -- a turn
 
-told_front : (q : ℕ) (stimulus : Stimulus) (known : Known) → told q stimulus known q ≡ reply_of stimulus
-told_front = grind (arith, nat_tests)
-
 pub turn_order : (p : ℕ) (X : List Entry) (s : Scheduler Bool) (items : List Item) (q : ℕ) (origin : Origin) (stimulus : Stimulus) (call : Call)
     → Sound p (with_agenda (Item.Turn q origin stimulus ∷ items) s) X → IsInOrder p (X ++ Entry.Turn (record { 0 = q }) origin stimulus call ∷ [])
 turn_order p X s items q origin stimulus call h = λ alive.
     let e : Entry = Entry.Turn (record { 0 = q }) origin stimulus call in
-    let old = h.tally (still_alive p X e alive) (told q stimulus nothing_known) (told_front q stimulus nothing_known) in
+    let old = h.tally (still_alive p X e alive) (told q stimulus nothing_known) (grind (arith, nat_tests)) in
     let accepted : accepted_events p (X ++ e ∷ []) ≡ accepted_with (told q stimulus nothing_known) p X =
     sym (accepted_with-none p (X ++ e ∷ [])) ∙ accepted-turn nothing_known p X (record { 0 = q }) origin stimulus call ∙ append-nil (accepted_with (told q stimulus nothing_known) p X) in
     let w : List Event = waiting_in p (Item.Turn q origin stimulus) in (
@@ -81,7 +78,7 @@ turn_sound p X m q origin stimulus call h =
           rw (
             accepted-turn known p X (record { 0 = q }) origin stimulus call,
             given-more p X e,
-            (h.tally (still_alive p X e alive) (told q stimulus known) (told_front q stimulus known)),
+            (h.tally (still_alive p X e alive) (told q stimulus known) (grind (arith, nat_tests))),
             after-waits p call q m,
             after-queued known p call q m agrees,
           ) (shuffle given w items events own);
@@ -106,10 +103,6 @@ sound-free = grind (arith, nat_tests)
 
 no_reply_front : (known : Known) (item : Item) (items : List Item) → is_quiet_item item ≡ true → FrontAgrees known (item ∷ items)
 no_reply_front = grind (arith, nat_tests)
-
-pub carried_sound : (p : ℕ) (X : List Entry) (item : Item) (items : List Item) (s : Scheduler Bool) → nat_le 4 p ≡ true → is_quiet_item item ≡ true
-    → Sound p (with_agenda (item ∷ items) s) X → SoundFree p (after_item item (with_agenda items s)) X
-carried_sound = grind (arith, nat_tests, carried-ordered, carried-stands, carried-waiting, no_reply_front)
 
 pub callback_sound : (p : ℕ) (X : List Entry) (q c : ℕ) (s : Scheduler Bool) → SoundFree p s X → SoundFree p (in_front (Item.Give q Origin.Callback (Stimulus.Callback c) ∷ []) s) X
 callback_sound = grind (arith, nat_tests)
@@ -196,7 +189,7 @@ sound_cases p a =
     record {
       notes = λ m X entry items h. grind (arith, h.ordered);
       free = λ m X h. sound-free p m.scheduler X h;
-      carried = λ m X item items n s h. carried_sound p X item items m.scheduler a n h;
+      carried = λ m X item items n s h. grind (arith, nat_tests, carried-ordered, carried-stands, carried-waiting, no_reply_front, m.scheduler);
       served = λ m X q origin event items k h.
           grind (arith, nat_tests, serve-untouched q event (facing items m), serve-served p a q event (facing items m));
       called_back = λ m X q c h. callback_sound p X q c m.scheduler h;

@@ -86,9 +86,6 @@ queued-cancelled p test (item ∷ events) = grind (arith, nat_tests, queued-canc
 queued-silent : (p : ℕ) (events : List (Queued Bool)) (event : Queued Bool) → queued_in p event ≡ [] → queued p (events ++ event ∷ []) ≡ queued p events
 queued-silent p events event h = rw (queued-append p events (event ∷ []), h) (append-nil (queued p events))
 
-expiry-silent : (p : ℕ) (timer : Timer) → queued_in p (expiry_of timer) ≡ []
-expiry-silent = grind (arith, nat_tests)
-
 pub serve-served : (p : ℕ) → nat_le 4 p ≡ true → (q : ℕ) (event : Event) (m : Machine) → Served p m (serve q event m)
 serve-served p a q event = of_changes changes
   where
@@ -97,7 +94,7 @@ serve-served p a q event = of_changes changes
         record {
           same = λ m. record { places = refl; events = refl };
           chained = λ a b c h k. record { places = k.places ∙ h.places; events = k.events ∙ h.events };
-          expired = λ timer m e. record { places = refl; events = queued-silent p m.scheduler.events (expiry_of timer) (expiry-silent p timer) };
+          expired = λ timer m e. record { places = refl; events = queued-silent p m.scheduler.events (expiry_of timer) (grind (arith, nat_tests)) };
           timers_gone = λ n m z k e. record { places = refl; events = refl };
           callbacks_gone = λ n m. record { places = refl; events = queued-cancelled p (λ r c. r == n) m.scheduler.events };
           posted = λ notice m n. record { places = refl; events = queued-silent p m.scheduler.events notice (grind (arith, nat_tests)) };

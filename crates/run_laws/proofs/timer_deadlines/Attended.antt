@@ -54,9 +54,6 @@ pub record HeededFree (o : OwnTimer) (m : Machine) (X : List Entry) : Type 0 whe
   pub farewell : has_ended o.p X ≡ false → is_doomed o.p m.scheduler.agenda ≡ false → has_farewell o.p m.scheduler.agenda ≡ false
   pub kept : has_ended o.p X ≡ false → is_doomed o.p m.scheduler.agenda ≡ false → (k : Option Reply) → Awaits o m.timers (is_expected o m.scheduler) (standing_of o k X)
 
-pub heeded-free : (o : OwnTimer) (m : Machine) (X : List Entry) → HeededFree o m X → Heeded o m X
-heeded-free = grind (arith, nat_tests)
-
 still_expected : (a w v g : Bool) → (w ≡ true → v ≡ true) → (a || (w || g)) ≡ true → (a || (v || g)) ≡ true
 still_expected = grind (arith, nat_tests)
 
@@ -176,7 +173,7 @@ module _ (o : OwnTimer) (low : nat_le 4 o.p ≡ true) (high : nat_lt o.p 20 ≡ 
               sound = sound-free o.p m.scheduler X h.sound;
               watched = h.watched;
               clean = h.clean;
-              heeded = heeded-free o m X h.heeded;
+              heeded = grind (arith, nat_tests, h.heeded);
             };
         carried = λ m X item items n s h.
             record {

@@ -6,7 +6,7 @@ use Rattle.run_laws.proofs.Changes.{Changes, of_changes}
 use Rattle.run_laws.proofs.event_order.Tally.{is_from_queue, is_ordered, stands}
 use Rattle.run_laws.proofs.event_order.Items.{with_agenda}
 use Rattle.run_laws.proofs.event_order.Waiting.{given-running}
-use Rattle.run_laws.proofs.timer_deadlines.Timing.{OwnTimer, own_timer, stopped-other, symm}
+use Rattle.run_laws.proofs.timer_deadlines.Timing.{OwnTimer, own_timer, stopped-other}
 use Rattle.run_laws.proofs.timer_deadlines.Fronts.{carried-any, after-any}
 use Rattle.run_laws.proofs.timer_deadlines.Timed.{turn_of}
 use Rattle.run_laws.proofs.timer_deadlines.Farewells.{is_farewell}
@@ -43,7 +43,7 @@ posted-held : (o : OwnTimer) (g : Bool) (event : Queued Bool) (m : Machine) → 
 posted-held = grind (arith, nat_tests, list_any-append)
 
 expired-held : (o : OwnTimer) (g : Bool) (timer : Timer) (m : Machine) → Held o g m → Held o g (post_expiry (Some timer) m)
-expired-held = grind (arith, nat_tests, list_any-append, stopped-other, symm, posted-held)
+expired-held = grind (arith, nat_tests, list_any-append, stopped-other, posted-held)
 
 kept-filter : (test keep : Timer → Bool) (xs : List Timer) → ((x : Timer) → test x ≡ true → keep x ≡ true) → list_any test (filter keep xs) ≡ list_any test xs
 kept-filter test keep [] k = refl

@@ -7,7 +7,7 @@ use Rattle.run_laws.proofs.event_order.Items.{facing}
 use Rattle.run_laws.proofs.timer_deadlines.Timed.{Balanced, timer_for, in_wait, after-count, ledger_then, turn-balanced, count_items, serve-fair, carried-count}
 use Rattle.run_laws.proofs.timer_deadlines.Moves.{FrontIs, Setting, after-moves, after-clock, still_moves}
 use Rattle.run_laws.proofs.timer_deadlines.Regular.{carried-regular, is_regular}
-use Rattle.run_laws.proofs.timer_deadlines.Steady.{Steady, clock-more, steady-turn, steady-serve, steady-shown, steady-input}
+use Rattle.run_laws.proofs.timer_deadlines.Steady.{Steady, clock-more, steady-turn, steady-serve}
 use Rattle.run_laws.proofs.Arrivals.{effect-keeps}
 use Rattle.run_laws.proofs.timer_deadlines.Timing.{OwnTimer, own_timer, zero-cells, zero-names}
 use Rattle.run_laws.proofs.timer_deadlines.Fronts.{carried-queue, all-mapped}
@@ -121,7 +121,7 @@ effect_timely : (o : OwnTimer) (input : Input) (m : Machine) (X : List Entry) �
 effect_timely o input m X h =
     let woken : Machine = record m { work = 0 } in
     record {
-      steady = steady-input input m X h.steady;
+      steady = grind (arith, nat_tests, clock-more, h.steady);
       balanced = λ k front.
           let before = h.balanced k (effect-keeps (λ s. FrontIs o.p k s.agenda → FrontIs o.p k m.scheduler.agenda) input woken (λ f. f) (λ q f. f) (λ refusal f. f) front) in
           rw (ledger-other o k X (Entry.Input input) refl, effect-clock input woken, effect-timers input woken)
@@ -161,7 +161,7 @@ timely_cases o low high =
           let e : Entry = Entry.Note note in
           let here : Steady (facing items m) X = record { clock = h.steady.clock; names = h.steady.names; plain = h.steady.plain; regular = h.steady.regular } in
           record {
-            steady = steady-shown note (facing items m) X here;
+            steady = grind (arith, nat_tests, clock-more);
             balanced = λ k front.
                 rw (ledger-other o k X e refl)
                 (less-balanced o m.clock (in_wait o (facing items m)) (in_wait o (facing (Item.Show e ∷ items) m)) m.timers (timer_ledger o k X) (omega arith) (h.balanced k front));

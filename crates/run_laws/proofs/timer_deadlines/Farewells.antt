@@ -47,9 +47,6 @@ after-events = kept_by_call after-clean
 abbrev Clean : Machine → Type 0
 Clean m = list_all is_no_exited m.scheduler.events ≡ true
 
-expiry-clean : (timer : Timer) → is_no_exited (expiry_of timer) ≡ true
-expiry-clean = grind (arith, nat_tests)
-
 pub serve-events : (q : ℕ) (event : Event) (m : Machine) → Clean m → Clean (serve q event m)
 serve-events q event = of_changes changes
   where
@@ -58,7 +55,7 @@ serve-events q event = of_changes changes
         record {
           same = λ m h. h;
           chained = λ a b c f g h. g (f h);
-          expired = λ timer m e. all-more is_no_exited m.scheduler.events (expiry_of timer) (expiry-clean timer);
+          expired = λ timer m e. all-more is_no_exited m.scheduler.events (expiry_of timer) (grind (arith, nat_tests));
           timers_gone = λ n m z k e h. h;
           callbacks_gone = λ n m h. events-cancelled (λ r c. r == n) m.scheduler.events ∙ h;
           posted = λ notice m n. all-more is_no_exited m.scheduler.events notice (grind (arith, nat_tests));

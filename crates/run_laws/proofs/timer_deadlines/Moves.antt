@@ -27,9 +27,6 @@ after-timers call q m h = grind (arith, h)
 pub after-clock : (call : Call) (q : ℕ) (m : Machine) → (after_call call q m).clock ≡ m.clock
 after-clock call q m = grind arith
 
-pub after-names : (call : Call) (q : ℕ) (m : Machine) → cell_names (after_call call q m).timers.cells ≡ cell_names m.timers.cells
-after-names = grind (arith, nat_tests, armed-names, after-timers)
-
 -- p's timers have cells
 pub record Setting (p : ℕ) (timers : Timers) : Type 0 where
   pub low : nat_le 4 p ≡ true
@@ -108,10 +105,6 @@ number_fits = grind (arith, nat_tests)
 reset_fits : (q u : ℕ) (m : Machine) → reset_refusal q u m ≡ None → nat_le u 7 ≡ true
 reset_fits = grind (arith, nat_tests)
 
--- a call that names no event timer
-unmoved_by : (o : OwnTimer) (q : ℕ) (call : Call) (k : Option Reply) → arms o.t call ≡ false → stops o.t call ≡ false → is_moved_by o q call k ≡ false
-unmoved_by = grind (arith, nat_tests)
-
 pub after-moves : (o : OwnTimer) (call : Call) (q : ℕ) (k : Option Reply) (m : Machine) → Setting o.p m.timers → FrontIs o.p k (after_call call q m).scheduler.agenda
     → Moves o q m.clock call k m.timers (after_call call q m).timers
 after-moves o (Call.TimerSet u interval) q k m s front =
@@ -128,11 +121,11 @@ after-moves o (Call.TimerReset u) q k m s front =
     grind (arith, nat_tests, still_moves, armed-other, cell-armed_other, same_timer, cell-armed_own))
 after-moves o (Call.TimerStop u) q k m s front =
     by_refusal o (Call.TimerStop u) q k m (with_timers (stop_timer (event_timer q u) m.timers) m) (timer_refusal u) front (λ e told. stopped_moves o q u m.clock k m.timers told)
-after-moves o (Call.CallbackSet c interval) q k m s front = grind (arith, nat_tests, by_refusal, still_moves, unmoved_by, armed-other, cell-armed_other)
+after-moves o (Call.CallbackSet c interval) q k m s front = grind (arith, nat_tests, by_refusal, still_moves, armed-other, cell-armed_other)
 after-moves o (Call.CallbackStop c) q k m s front =
     let timer : Timer = callback_timer q c in
     by_refusal o (Call.CallbackStop c) q k m (expiries_cancelled (is_callback_timer q c) (with_timers (stop_timer timer m.timers) m)) (callback_refusal c) front
     (λ e told.
-    still_moves o q m.clock (Call.CallbackStop c) k m.timers (stop_timer timer m.timers) (unmoved_by o q (Call.CallbackStop c) k refl refl)
+    still_moves o q m.clock (Call.CallbackStop c) k m.timers (stop_timer timer m.timers) (grind (arith, nat_tests))
     (stopped-other (own_timer o) timer m.timers.armed refl) (λ number. refl))
 after-moves o call q k m s front = grind (arith, nat_tests, after-timers, still_moves)

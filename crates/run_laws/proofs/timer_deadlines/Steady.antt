@@ -7,8 +7,8 @@ use Rattle.run_laws.proofs.CallQueues.{KeptByCalls, kept_by_call}
 use Rattle.run_laws.proofs.Arrivals.{serve-untouched}
 use Rattle.run_laws.proofs.timer_deadlines.Fronts.{after-all, all-more, carried-queue}
 use Rattle.run_laws.proofs.timer_deadlines.Timed.{is_no_timer, plain-cancelled, serve-fair}
-use Rattle.run_laws.proofs.timer_deadlines.Timing.{cell_names}
-use Rattle.run_laws.proofs.timer_deadlines.Moves.{after-clock, after-names}
+use Rattle.run_laws.proofs.timer_deadlines.Timing.{armed-names, cell_names}
+use Rattle.run_laws.proofs.timer_deadlines.Moves.{after-timers, after-clock}
 use Rattle.run_laws.proofs.timer_deadlines.Regular.{is_regular, carried-regular}
 
 pub record Steady (m : Machine) (X : List Entry) : Type 0 where
@@ -38,12 +38,5 @@ after-plain =
 
 pub steady-turn : (q : ℕ) (origin : Origin) (stimulus : Stimulus) (call : Call) (m : Machine) (X : List Entry) → nat_le 4 q ≡ true → Steady m X
     → Steady (after_call call q m) (X ++ Entry.Turn (record { 0 = q }) origin stimulus call ∷ [])
-steady-turn = grind (arith, nat_tests, after-clock, clock-more, after-names, kept_by_call, after-plain, after-all)
+steady-turn = grind (arith, nat_tests, after-clock, clock-more, armed-names, after-timers, kept_by_call, after-plain, after-all)
 
--- an entry that is shown
-pub steady-shown : (note : Note) (m : Machine) (X : List Entry) → Steady m X → Steady m (X ++ Entry.Note note ∷ [])
-steady-shown = grind (arith, nat_tests, clock-more)
-
--- an input
-pub steady-input : (input : Input) (m : Machine) (X : List Entry) → Steady m X → Steady (effect input (record m { work = 0 })) (X ++ Entry.Input input ∷ [])
-steady-input = grind (arith, nat_tests, clock-more)

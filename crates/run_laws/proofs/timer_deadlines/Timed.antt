@@ -5,7 +5,7 @@ use Rattle.run_laws.proofs.CallQueues.{KeptByCalls, is_posted, kept_by_call}
 use Rattle.run_laws.proofs.Changes.{Changes, of_changes, is_notice}
 use Rattle.run_laws.proofs.timer_deadlines.Fronts.{all-more, all-cancelled}
 use Rattle.run_laws.proofs.timer_deadlines.Ledgers.{Ledger, one_if, ledger_after}
-use Rattle.run_laws.proofs.timer_deadlines.Timing.{OwnTimer, own_timer, cell_names, stopped-own, stopped-other, symm}
+use Rattle.run_laws.proofs.timer_deadlines.Timing.{OwnTimer, own_timer, cell_names, stopped-own, stopped-other}
 use Rattle.run_laws.proofs.event_order.Tally.{to_all}
 use Rattle.run_laws.proofs.event_order.Items.{with_agenda}
 use Rattle.run_laws.proofs.timer_deadlines.Moves.{Moves}
@@ -115,15 +115,12 @@ expired-fair o timer m e =
           count = rw (more, same, off, k.set on, late) (omega (arith, (rw on at k.count)));
         }
     posted false s ledger k =
-        let kept : is_armed own (stop_timer timer m.timers) ≡ is_armed own m.timers = stopped-other own timer m.timers.armed (symm timer own ∙ s) in
+        let kept : is_armed own (stop_timer timer m.timers) ≡ is_armed own m.timers = stopped-other own timer m.timers.armed ((grind (arith, nat_tests)) ∙ s) in
         let more : count_events o (m.scheduler.events ++ expiry_of timer ∷ []) ≡ count_events o m.scheduler.events =
         count_events-more o m.scheduler.events (expiry_of timer) ∙ rw (expiry_count o timer, s) (omega arith) in
         record { cell = k.cell; named = λ h. k.named (sym kept ∙ h); set = λ h. k.set (sym kept ∙ h); count = rw (more, kept) k.count }
 
 -- the kernel's other processes
-
-post-fair : (o : OwnTimer) (event : Queued Bool) (m : Machine) → queued_one o event ≡ 0 → is_no_timer event ≡ true → Fair o m (with_event event m)
-post-fair = grind (arith, nat_tests, all-more, count_events-more)
 
 notice-uncounted : (o : OwnTimer) (notice : Queued Bool) → is_notice notice ≡ true → queued_one o notice ≡ 0
 notice-uncounted = grind (arith, nat_tests)
@@ -154,7 +151,7 @@ serve-fair o q event = of_changes changes
           callbacks_gone = λ n m.
               let a : Machine = with_timers (without_callback_timers n m.timers) m in
               fair-then o m a (expiries_cancelled (λ r c. r == n) a) (grind (arith, nat_tests, any-filter)) (cancelled-fair o (λ r c. r == n) a);
-          posted = λ notice m n. post-fair o notice m (notice-uncounted o notice n) (notice-plain notice n);
+          posted = λ notice m n. grind (arith, nat_tests, all-more, count_events-more);
           devices = λ serial is_waiting packets m e. record { clock = refl; names = refl; plain = λ h. h; balanced = λ ledger k. k };
           marked = λ n m. record { clock = refl; names = refl; plain = λ h. h; balanced = λ ledger k. k };
         }
@@ -222,10 +219,6 @@ abbrev pub armed_ledger : ℕ → ℕ → Cell → Ledger → Ledger
 armed_ledger g clock cell ledger =
     record { cell = cell; is_set = true; after_items = ledger.after_items + one_if (ledger.is_set && nat_le (deadline ledger.cell) clock); given = ledger.given + g }
 
-pub arms-balanced : (o : OwnTimer) (g w clock : ℕ) (old new : Timers) (cell : Cell) (ledger : Ledger) → nat_le o.t 7 ≡ true → cell_of (own_timer o) new ≡ cell → is_armed (own_timer o) new ≡ true
-    → Balanced o old clock (g + w) ledger → Balanced o new clock w (armed_ledger g clock cell ledger)
-arms-balanced = grind (arith, nat_tests)
-
 -- a stop
 abbrev pub stopped_ledger : ℕ → ℕ → Ledger → Ledger
 stopped_ledger g clock ledger = record (armed_ledger g clock ledger.cell ledger) { is_set = false }
@@ -291,7 +284,7 @@ turn-balanced o q w clock stimulus origin call k old new ledger moves h =
         let arming : is_arming o.t turn ≡ true = rw (e, f) refl in
         let cell : cell_of (own_timer o) new ≡ cell_after o.t clock call ledger.cell = set_cell refl ∙ rw (h.cell (named refl)) refl in
         rw (ledger-arms o.t ledger turn arming)
-        (arms-balanced o g w clock old new (cell_after o.t clock call ledger.cell) ledger (named refl) cell (set refl) h)
+        (grind (arith, nat_tests))
     go true true false true e f i kept kept_cell set set_cell named unset h =
         rw (ledger-stops o.t ledger turn e f i) (stops-balanced o g w clock old new ledger (kept_cell refl) (unset refl) h)
     go true true false false e f i kept kept_cell set set_cell named unset h =

@@ -17,9 +17,6 @@ own_timer o = event_timer o.p o.t
 same_timer : (timer : Timer) → is_timer timer timer ≡ true
 same_timer = grind (arith, nat_tests)
 
-pub symm : (a b : Timer) → is_timer a b ≡ is_timer b a
-symm = grind (arith, nat_tests)
-
 -- cells
 
 -- the timers that have a cell
