@@ -92,9 +92,6 @@ module _ (p : ℕ) (few : p ≤ 19) where
     holds : ToldOf m X
     none : handle_after X ≡ None
 
-  other_shown : (handle : Option ℕ) (blocks : Blocks) (e : Entry) → is_note e ≡ false → Shown handle blocks e
-  other_shown = grind (arith, nat_tests)
-
   base : Cases ToldOf ToldOf (WellTold (accepted managed_after) (KindLaw managed_kind) (HasBlocks managed_store p) p at_first)
   base = told_cases (accepted managed_after) (KindLaw managed_kind) (HasBlocks managed_store p) p (own-laws managed_store managed-keeps p few) at_first
 
@@ -113,7 +110,7 @@ module _ (p : ℕ) (few : p ≤ 19) where
         told = λ m X items q origin stimulus call h i. each-more ShownBehind X (turn_entry q origin stimulus call) i tt;
         shown = λ m X items note h. record { holds = base.shown m X items note h.holds; front = grind (arith, nat_tests, same_handle, same_told, h.front.1) };
         noted = λ m X items note h i. each-more ShownBehind X (Entry.Note note) i h.front.0;
-        other = λ X e n k i. each-more ShownBehind X e i (other_shown (handle_after X) (told_after X).now e k);
+        other = λ X e n k i. each-more ShownBehind X e i (grind (arith, nat_tests));
         input = λ input m X h.
             let woken : Machine = record m { work = 0 } in
             record {
@@ -182,10 +179,6 @@ plain-leads sends [] h = refl
 plain-leads sends (Item.Show entry ∷ items) h = grind (arith, h, plain-leads sends items)
 plain-leads sends (item ∷ items) h = h
 
-after_call-leads : (call : Call) (p : ℕ) (m : Machine) → all_plain m.scheduler.agenda ≡ true
-    → leads (is_send call) (after_call call p m).scheduler.agenda ≡ true
-after_call-leads = grind (arith, nat_tests, plain-leads, all-mapped, append_assoc, all-append)
-
 abbrev sends_after : Bool → Entry → Bool
 sends_after sends (Entry.Turn pid origin stimulus call) = is_send call
 sends_after sends _ = sends
@@ -214,7 +207,7 @@ led_cases =
       called_back = λ m X q c h. h;
       round = λ m X h. refl;
       turn = λ m X items q origin stimulus call h.
-          rw (fold-append sends_after false X (turn_entry q origin stimulus call ∷ [])) (after_call-leads call q (with_more_work (facing items m)) h);
+          rw (fold-append sends_after false X (turn_entry q origin stimulus call ∷ [])) (grind (arith, nat_tests, plain-leads, all-mapped, append_assoc, all-append));
       told = λ m X items q origin stimulus call h i. each-more Sends X (turn_entry q origin stimulus call) i (λ f. absurd (grind (arith, f)));
       shown = λ m X items note h. grind (arith, nat_tests, fold-append);
       noted = λ m X items note h i. each-more Sends X (Entry.Note note) i (λ f. grind (arith, h, f));

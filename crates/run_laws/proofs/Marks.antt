@@ -92,9 +92,6 @@ pub state_of-without_other : (p q : ℕ) (list : List Process) → (q == p) ≡ 
 state_of-without_other p q [] h = refl
 state_of-without_other p q (x ∷ xs) h = grind (arith, nat_tests, state_of-without_other p q xs)
 
-pub due-only : (ms : List Mark) → only_removes ms ≡ true → due ms ≡ None
-due-only = grind (arith, nat_tests)
-
 -- what stays of the agenda for p
 pub record Kept (p : ℕ) (before : List Item) (list : List Process) (s : Scheduler Bool) : Type 0 where
   pub is_fit : fit (idle p s.processes) (marks p s.agenda) ≡ true
@@ -114,11 +111,11 @@ is_turn_item _ = false
 pub after_item-kept : (p : ℕ) (item : Item) (s : Scheduler Bool) → is_turn_item item ≡ false
     → fit (idle p s.processes) (marks p (item ∷ s.agenda)) ≡ true
     → Kept p (item ∷ s.agenda) s.processes (after_item item s)
-after_item-kept p (Item.Give q origin stimulus) s n h = grind (arith, nat_tests, due-only, state_of-with_state, state_of-with_other)
+after_item-kept p (Item.Give q origin stimulus) s n h = grind (arith, nat_tests, state_of-with_state, state_of-with_other)
 after_item-kept p (Item.Turn q origin stimulus) s n h = absurd (grind arith)
 after_item-kept p (Item.GiveExit q) s n h =
     record { is_fit = grind (arith, nat_tests, state_of-with_same p q State.Ending s.processes, state_of-with_other p q State.Ending s.processes); same_due = grind (arith, nat_tests) }
-after_item-kept p (Item.Remove q) s n h = grind (arith, nat_tests, state_of-without, state_of-without_other, due-only)
+after_item-kept p (Item.Remove q) s n h = grind (arith, nat_tests, state_of-without, state_of-without_other)
 after_item-kept p Item.Polls s n h = grind (arith, nat_tests, marks-polls)
 after_item-kept p Item.Deliver s n h = grind (arith, nat_tests, stays, marks-delivery)
 after_item-kept p item s n h = grind (arith, nat_tests, state_of-with_mark)
@@ -143,7 +140,7 @@ pub after_call-others : (call : Call) (o p : ℕ) (m : Machine) → (p == o) ≡
     → Kept o m.scheduler.agenda m.scheduler.processes (after_call call p m).scheduler
 after_call-others Call.Wait o p m n h = grind (arith, nat_tests, state_of-with_other)
 after_call-others Call.Exit o p m n h = grind (arith, nat_tests, state_of-with_other, marks-farewells)
-after_call-others (Call.Kill q) o p m n h = grind (arith, nat_tests, state_of-with_same, state_of-with_other, marks-farewells, due-only)
+after_call-others (Call.Kill q) o p m n h = grind (arith, nat_tests, state_of-with_same, state_of-with_other, marks-farewells)
 after_call-others (Call.PostSynch q code payload) o p m n h = grind (arith, nat_tests)
 after_call-others (Call.Start q) o p m n h = grind (arith, nat_tests)
 after_call-others call o p m n h = grind (arith, nat_tests, state_of-with_mark)

@@ -37,9 +37,6 @@ module _ (p : ℕ) (high : nat_le 4 p ≡ true) where
   without_item : (item : Item) (items : List Item) (s : Scheduler Bool) → IsOut (with_agenda (item ∷ items) s) → IsOut (with_agenda items s)
   without_item = grind (arith, nat_tests)
 
-  after_item-out : (item : Item) (items : List Item) (s : Scheduler Bool) → IsOut (with_agenda (item ∷ items) s) → IsOut (after_item item (with_agenda items s))
-  after_item-out = grind (arith, nat_tests, all-mapped, all-append, all-delivered, without_item, state_of-with_other, state_of-without, state_of-without_other, state_of-with_mark)
-
   -- a call
 
   call-applications : (call : Call) (q : ℕ) (m : Machine) → (after_call call q m).scheduler.applications ≡ m.scheduler.applications
@@ -75,7 +72,7 @@ module _ (p : ℕ) (high : nat_le 4 p ≡ true) where
       record {
         notes = λ m X entry items h. grind (arith, h.agenda);
         free = λ m X h. h;
-        carried = λ m X item items n s h. after_item-out item items m.scheduler h;
+        carried = λ m X item items n s h. grind (arith, nat_tests, all-append, all-mapped, all-delivered, without_item, state_of-with_other, state_of-without, state_of-without_other, state_of-with_mark);
         served = λ m X q origin event items k h. served-out q event (facing items m) (without_item (Item.Give q origin (Stimulus.Event event)) items m.scheduler h);
         called_back = λ m X q c h. grind (arith, nat_tests, all-append, m.scheduler);
         round = λ m X h. record { stranger = h.stranger; absent = h.absent; agenda = refl };

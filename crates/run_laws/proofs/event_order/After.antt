@@ -154,11 +154,6 @@ swap : (p q : ℕ) (origin other : Origin) (stimulus next : Stimulus) (l : List 
     → holds p l (Item.Turn q origin stimulus ∷ items) ≡ true → holds p l (Item.Turn q other next ∷ items) ≡ true
 swap = grind (arith, nat_tests)
 
--- another one is killed
-left-holds : (p r : ℕ) (l : List State) (xs items : List Item) → (p == r) ≡ false → list_all (is_quiet p) xs ≡ true
-    → holds p l items ≡ true → holds p l (xs ++ Item.GiveExit r ∷ Item.Remove r ∷ items) ≡ true
-left-holds = grind (arith, nat_tests, holds-append)
-
 exited-holds : (p q : ℕ) (l : List State) (xs items : List Item) → (p == q) ≡ false → list_all (is_quiet p) xs ≡ true
     → holds p l items ≡ true → holds p l (xs ++ Item.Remove q ∷ items) ≡ true
 exited-holds = grind (arith, nat_tests, holds-append)
@@ -197,7 +192,7 @@ after-stands p (Call.Kill r) q origin stimulus m n h = go (kill_refusal m.schedu
             → holds p (if p == r then put State.Leaving (seats p m.scheduler.processes) else seats p m.scheduler.processes)
             (told_all r m.scheduler ++ Item.GiveExit r ∷ Item.Remove r ∷ Item.Turn q Origin.Answer (Stimulus.Answer Reply.Done) ∷ m.scheduler.agenda) ≡ true
         pick true e quiet s = rw e (grind (arith, nat_tests, holds-append))
-        pick false e quiet s = rw e (left-holds p r (seats p m.scheduler.processes) (told_all r m.scheduler) (Item.Turn q Origin.Answer (Stimulus.Answer Reply.Done) ∷ m.scheduler.agenda) e quiet s)
+        pick false e quiet s = rw e (grind (arith, nat_tests, holds-append))
 after-stands p call q origin stimulus m n h = plain call n (grind arith)
   where
     plain : (call : Call) → ends_in p (Entry.Turn (record { 0 = q }) origin stimulus call) ≡ false → is_plain_call call ≡ true → stands p (after_call call q m).scheduler ≡ true

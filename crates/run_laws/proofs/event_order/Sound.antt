@@ -104,9 +104,6 @@ sound-free = grind (arith, nat_tests)
 no_reply_front : (known : Known) (item : Item) (items : List Item) → is_quiet_item item ≡ true → FrontAgrees known (item ∷ items)
 no_reply_front = grind (arith, nat_tests)
 
-pub callback_sound : (p : ℕ) (X : List Entry) (q c : ℕ) (s : Scheduler Bool) → SoundFree p s X → SoundFree p (in_front (Item.Give q Origin.Callback (Stimulus.Callback c) ∷ []) s) X
-callback_sound = grind (arith, nat_tests)
-
 pub round_sound : (p : ℕ) (X : List Entry) (s : Scheduler Bool) → Sound p (with_agenda [] s) X → SoundFree p (with_agenda (Item.Polls ∷ Item.Deliver ∷ []) s) X
 round_sound = grind (arith, nat_tests)
 
@@ -192,7 +189,7 @@ sound_cases p a =
       carried = λ m X item items n s h. grind (arith, nat_tests, carried-ordered, carried-stands, carried-waiting, no_reply_front, m.scheduler);
       served = λ m X q origin event items k h.
           grind (arith, nat_tests, serve-untouched q event (facing items m), serve-served p a q event (facing items m));
-      called_back = λ m X q c h. callback_sound p X q c m.scheduler h;
+      called_back = λ m X q c h. grind (arith, nat_tests, m.scheduler);
       round = λ m X h. round_sound p X m.scheduler h;
       turn = λ m X items q origin stimulus call h. turn_sound p X (with_more_work (facing items m)) q origin stimulus call h;
       told = λ m X items q origin stimulus call h i. turn_order p X m.scheduler items q origin stimulus call h;

@@ -7,8 +7,8 @@ use Rattle.run_laws.proofs.event_order.Items.{facing}
 use Rattle.run_laws.proofs.timer_deadlines.Timed.{Balanced, timer_for, in_wait, after-count, ledger_then, turn-balanced, count_items, serve-fair, carried-count}
 use Rattle.run_laws.proofs.timer_deadlines.Moves.{FrontIs, Setting, after-moves, after-clock, still_moves}
 use Rattle.run_laws.proofs.timer_deadlines.Regular.{carried-regular, is_regular}
-use Rattle.run_laws.proofs.timer_deadlines.Steady.{Steady, clock-more, steady-turn, steady-serve}
-use Rattle.run_laws.proofs.Arrivals.{effect-keeps}
+use Rattle.run_laws.proofs.timer_deadlines.Steady.{Steady, clock-more, steady-turn}
+use Rattle.run_laws.proofs.Arrivals.{serve-untouched, effect-keeps}
 use Rattle.run_laws.proofs.timer_deadlines.Timing.{OwnTimer, own_timer, zero-cells, zero-names}
 use Rattle.run_laws.proofs.timer_deadlines.Fronts.{carried-queue, all-mapped}
 use Rattle.run_laws.proofs.event_order.Runs.{Ran, at_prefixes}
@@ -114,9 +114,6 @@ effect-clock = grind (arith, nat_tests)
 effect-timers : (input : Input) (m : Machine) → (effect input m).timers ≡ m.timers
 effect-timers = grind (arith, nat_tests)
 
-effect-wait : (o : OwnTimer) (input : Input) (m : Machine) → in_wait o (effect input m) ≤ in_wait o m
-effect-wait = grind (arith, nat_tests)
-
 effect_timely : (o : OwnTimer) (input : Input) (m : Machine) (X : List Entry) → Timely o m X → Timely o (effect input (record m { work = 0 })) (X ++ Entry.Input input ∷ [])
 effect_timely o input m X h =
     let woken : Machine = record m { work = 0 } in
@@ -138,7 +135,7 @@ timely_cases o low high =
       served = λ m X q origin event items k h.
           let free = subst (λ n. Free o n X) (kernel_carried q origin (Stimulus.Event event) items m k) (free-carried o X (Item.Give q origin (Stimulus.Event event)) items m refl h) in
           record {
-            steady = steady-serve q event (facing items m) X free.steady;
+            steady = grind (arith, nat_tests, serve-fair (record { p = 0; t = 0 }) q event (facing items m), serve-untouched q event (facing items m), free.steady);
             balanced = λ r. (serve-fair o q event (facing items m)).balanced (timer_ledger o r X) (free.balanced r);
           };
       called_back = λ m X q c h.

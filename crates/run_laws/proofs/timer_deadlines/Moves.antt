@@ -102,9 +102,6 @@ by_refusal = grind (arith, nat_tests)
 number_fits : (u : ℕ) → timer_refusal u ≡ None → nat_le u 7 ≡ true
 number_fits = grind (arith, nat_tests)
 
-reset_fits : (q u : ℕ) (m : Machine) → reset_refusal q u m ≡ None → nat_le u 7 ≡ true
-reset_fits = grind (arith, nat_tests)
-
 pub after-moves : (o : OwnTimer) (call : Call) (q : ℕ) (k : Option Reply) (m : Machine) → Setting o.p m.timers → FrontIs o.p k (after_call call q m).scheduler.agenda
     → Moves o q m.clock call k m.timers (after_call call q m).timers
 after-moves o (Call.TimerSet u interval) q k m s front =

@@ -23,10 +23,6 @@ clock-more = grind (arith, nat_tests, fold-append)
 
 -- an item
 
--- a kernel process
-pub steady-serve : (q : ℕ) (event : Event) (m : Machine) (X : List Entry) → Steady m X → Steady (serve q event m) X
-steady-serve q event m = grind (arith, nat_tests, serve-fair (record { p = 0; t = 0 }) q event m, serve-untouched q event m)
-
 -- a turn
 
 after-plain : KeptByCalls (λ events. list_all is_no_timer events ≡ true)

@@ -82,16 +82,13 @@ listed clock timers timer (x ∷ xs) e = grind (arith, nat_tests, listed clock t
 expiry_count : (o : OwnTimer) (timer : Timer) → queued_one o (expiry_of timer) ≡ one_if (is_timer (own_timer o) timer)
 expiry_count = grind (arith, nat_tests)
 
-expiry_plain : (timer : Timer) → is_no_timer (expiry_of timer) ≡ true
-expiry_plain = grind arith
-
 -- a due timer of p is posted, and is off the list
 expired-fair : (o : OwnTimer) (timer : Timer) (m : Machine) → first_due m.clock m.timers ≡ Some timer → Fair o m (post_expiry (Some timer) m)
 expired-fair o timer m e =
     record {
       clock = refl;
       names = refl;
-      plain = λ h. all-more is_no_timer m.scheduler.events (expiry_of timer) (expiry_plain timer) h;
+      plain = λ h. all-more is_no_timer m.scheduler.events (expiry_of timer) (grind arith) h;
       balanced = λ ledger k. posted (is_timer (own_timer o) timer) refl ledger k;
     }
   where
@@ -121,9 +118,6 @@ expired-fair o timer m e =
         record { cell = k.cell; named = λ h. k.named (sym kept ∙ h); set = λ h. k.set (sym kept ∙ h); count = rw (more, kept) k.count }
 
 -- the kernel's other processes
-
-notice-uncounted : (o : OwnTimer) (notice : Queued Bool) → is_notice notice ≡ true → queued_one o notice ≡ 0
-notice-uncounted = grind (arith, nat_tests)
 
 notice-plain : (notice : Queued Bool) → is_notice notice ≡ true → is_no_timer notice ≡ true
 notice-plain = grind (arith, nat_tests)
@@ -246,11 +240,6 @@ ledger-stops = grind (arith, nat_tests)
 pub ledger-keeps : (t : ℕ) (ledger : Ledger) (turn : OwnTurn) → is_arming_or_stop t turn ≡ false → ledger_after t ledger turn ≡ kept_ledger (gift t turn) ledger
 ledger-keeps t ledger turn h = rw h refl
 
--- another process's turn
-other_balanced : (o : OwnTimer) (g w clock : ℕ) (old new : Timers) (ledger : Ledger) → g ≡ 0 → (nat_le o.t 7 ≡ true → cell_of (own_timer o) new ≡ cell_of (own_timer o) old)
-    → is_armed (own_timer o) new ≡ is_armed (own_timer o) old → Balanced o old clock (g + w) ledger → Balanced o new clock w ledger
-other_balanced = grind (arith, nat_tests)
-
 abbrev pub turn_of : ℕ → Stimulus → Origin → Call → Option Reply → OwnTurn
 turn_of clock stimulus origin call k = record { clock = clock; origin = origin; stimulus = stimulus; call = call; reply = k }
 
@@ -279,7 +268,7 @@ turn-balanced o q w clock stimulus origin call k old new ledger moves h =
         → ((same && (d && s)) ≡ true → is_armed (own_timer o) new ≡ false)
         → Balanced o old clock (one_if (same && is_timer_event o.t stimulus) + w) ledger
         → Balanced o new clock w (ledger_then same o.t clock stimulus origin call k ledger)
-    go false d a s e f i kept kept_cell set set_cell named unset h = other_balanced o 0 w clock old new ledger refl (kept_cell refl) (kept refl) h
+    go false d a s e f i kept kept_cell set set_cell named unset h = grind (arith, nat_tests)
     go true true true s e f i kept kept_cell set set_cell named unset h =
         let arming : is_arming o.t turn ≡ true = rw (e, f) refl in
         let cell : cell_of (own_timer o) new ≡ cell_after o.t clock call ledger.cell = set_cell refl ∙ rw (h.cell (named refl)) refl in
