@@ -89,11 +89,11 @@ has_answered made call reply = grind (arith, nat_tests)
 -- what was read isn't what the block has
 managed_misread : BlocksAreOwn (answered (Call.MmemAlloc 0 2) (Call.MmemRead 0 0 2) (Reply.Bytes nines)) → ⊥
 managed_misread laws =
-    cc (laws.managed.reads (started 4 (Call.MmemAlloc 0 2) ∷ []) 4 Origin.Answer (Stimulus.Answer Reply.Done) (Call.MmemRead 0 0 2) nines 0 0 2 (omega arith) (has_answered (Call.MmemAlloc 0 2) (Call.MmemRead 0 0 2) (Reply.Bytes nines)) refl)
+    cc (laws.managed.reads _ 4 _ _ _ nines 0 0 2 (omega arith) (has_answered (Call.MmemAlloc 0 2) (Call.MmemRead 0 0 2) (Reply.Bytes nines)) refl)
 
 heap_misread : BlocksAreOwn (answered (Call.HeapAlloc 0 2) (Call.HeapRead 0 0 2) (Reply.Bytes nines)) → ⊥
 heap_misread laws =
-    cc (laws.heap.reads (started 4 (Call.HeapAlloc 0 2) ∷ []) 4 Origin.Answer (Stimulus.Answer Reply.Done) (Call.HeapRead 0 0 2) nines 0 0 2 (omega arith) (has_answered (Call.HeapAlloc 0 2) (Call.HeapRead 0 0 2) (Reply.Bytes nines)) refl)
+    cc (laws.heap.reads _ 4 _ _ _ nines 0 0 2 (omega arith) (has_answered (Call.HeapAlloc 0 2) (Call.HeapRead 0 0 2) (Reply.Bytes nines)) refl)
 
 abbrev not_live : Reply
 not_live = Reply.Refused Refusal.NotLive
@@ -101,20 +101,20 @@ not_live = Reply.Refused Refusal.NotLive
 -- a block that is there is called not live
 managed_denied : BlocksAreOwn (answered (Call.MmemAlloc 0 2) (Call.MmemFree 0) not_live) → ⊥
 managed_denied laws =
-    cc ((laws.managed.live (started 4 (Call.MmemAlloc 0 2) ∷ []) 4 Origin.Answer (Stimulus.Answer Reply.Done) (Call.MmemFree 0) not_live (omega arith) (has_answered (Call.MmemAlloc 0 2) (Call.MmemFree 0) not_live) refl).0 refl)
+    cc ((laws.managed.live _ 4 _ _ _ not_live (omega arith) (has_answered (Call.MmemAlloc 0 2) (Call.MmemFree 0) not_live) refl).0 refl)
 
 heap_denied : BlocksAreOwn (answered (Call.HeapAlloc 0 2) (Call.HeapFree 0) not_live) → ⊥
 heap_denied laws =
-    cc ((laws.heap.live (started 4 (Call.HeapAlloc 0 2) ∷ []) 4 Origin.Answer (Stimulus.Answer Reply.Done) (Call.HeapFree 0) not_live (omega arith) (has_answered (Call.HeapAlloc 0 2) (Call.HeapFree 0) not_live) refl).0 refl)
+    cc ((laws.heap.live _ 4 _ _ _ not_live (omega arith) (has_answered (Call.HeapAlloc 0 2) (Call.HeapFree 0) not_live) refl).0 refl)
 
 -- a second block of one name is made
 managed_made_twice : BlocksAreOwn (answered (Call.MmemAlloc 0 2) (Call.MmemAlloc 0 2) Reply.Done) → ⊥
 managed_made_twice laws =
-    cc ((laws.managed.unused (started 4 (Call.MmemAlloc 0 2) ∷ []) 4 Origin.Answer (Stimulus.Answer Reply.Done) (Call.MmemAlloc 0 2) Reply.Done (omega arith) (has_answered (Call.MmemAlloc 0 2) (Call.MmemAlloc 0 2) Reply.Done) refl).1 refl)
+    cc ((laws.managed.unused _ 4 _ _ _ Reply.Done (omega arith) (has_answered (Call.MmemAlloc 0 2) (Call.MmemAlloc 0 2) Reply.Done) refl).1 refl)
 
 heap_made_twice : BlocksAreOwn (answered (Call.HeapAlloc 0 2) (Call.HeapAlloc 0 2) Reply.Done) → ⊥
 heap_made_twice laws =
-    cc ((laws.heap.unused (started 4 (Call.HeapAlloc 0 2) ∷ []) 4 Origin.Answer (Stimulus.Answer Reply.Done) (Call.HeapAlloc 0 2) Reply.Done (omega arith) (has_answered (Call.HeapAlloc 0 2) (Call.HeapAlloc 0 2) Reply.Done) refl).1 refl)
+    cc ((laws.heap.unused _ 4 _ _ _ Reply.Done (omega arith) (has_answered (Call.HeapAlloc 0 2) (Call.HeapAlloc 0 2) Reply.Done) refl).1 refl)
 
 -- a block of process 19 is misread, called not live, and made twice
 abbrev last_answered : Call → Call → Reply → List Entry
@@ -125,15 +125,15 @@ last_has_answered = grind (arith, nat_tests)
 
 last_misread : BlocksAreOwn (last_answered (Call.MmemAlloc 0 2) (Call.MmemRead 0 0 2) (Reply.Bytes nines)) → ⊥
 last_misread laws =
-    cc (laws.managed.reads (started 19 (Call.MmemAlloc 0 2) ∷ []) 19 Origin.Answer (Stimulus.Answer Reply.Done) (Call.MmemRead 0 0 2) nines 0 0 2 (omega arith) (last_has_answered (Call.MmemAlloc 0 2) (Call.MmemRead 0 0 2) (Reply.Bytes nines)) refl)
+    cc (laws.managed.reads _ 19 _ _ _ nines 0 0 2 (omega arith) (last_has_answered (Call.MmemAlloc 0 2) (Call.MmemRead 0 0 2) (Reply.Bytes nines)) refl)
 
 last_denied : BlocksAreOwn (last_answered (Call.HeapAlloc 0 2) (Call.HeapFree 0) not_live) → ⊥
 last_denied laws =
-    cc ((laws.heap.live (started 19 (Call.HeapAlloc 0 2) ∷ []) 19 Origin.Answer (Stimulus.Answer Reply.Done) (Call.HeapFree 0) not_live (omega arith) (last_has_answered (Call.HeapAlloc 0 2) (Call.HeapFree 0) not_live) refl).0 refl)
+    cc ((laws.heap.live _ 19 _ _ _ not_live (omega arith) (last_has_answered (Call.HeapAlloc 0 2) (Call.HeapFree 0) not_live) refl).0 refl)
 
 last_made_twice : BlocksAreOwn (last_answered (Call.MmemAlloc 15 2) (Call.MmemAlloc 15 2) Reply.Done) → ⊥
 last_made_twice laws =
-    cc ((laws.managed.unused (started 19 (Call.MmemAlloc 15 2) ∷ []) 19 Origin.Answer (Stimulus.Answer Reply.Done) (Call.MmemAlloc 15 2) Reply.Done (omega arith) (last_has_answered (Call.MmemAlloc 15 2) (Call.MmemAlloc 15 2) Reply.Done) refl).1 refl)
+    cc ((laws.managed.unused _ 19 _ _ _ Reply.Done (omega arith) (last_has_answered (Call.MmemAlloc 15 2) (Call.MmemAlloc 15 2) Reply.Done) refl).1 refl)
 
 -- Frames.
 

@@ -43,10 +43,6 @@ module _ (p : ℕ) (few : p ≤ 19) where
   abbrev ShownBehind : List Entry → Entry → Type 0
   ShownBehind before entry = Shown (handle_after before) (told_after before).now entry
 
-  -- an entry that is no turn
-  same_handle : (X : List Entry) (e : Entry) → is_turn e ≡ false → handle_after (X ++ e ∷ []) ≡ handle_after X
-  same_handle = grind (arith, nat_tests, fold-append)
-
   same_told : (X : List Entry) (e : Entry) → is_turn e ≡ false → told_after (X ++ e ∷ []) ≡ told_after X
   same_told = grind (arith, nat_tests, fold-append, accepted)
 
@@ -96,8 +92,7 @@ module _ (p : ℕ) (few : p ≤ 19) where
   base = told_cases (accepted managed_after) (KindLaw managed_kind) (HasBlocks managed_store p) p (own-laws managed_store managed-keeps p few) at_first
 
   sending_cases : Cases Sending Silent (AtEach ShownBehind)
-  sending_cases =
-      record {
+  sending_cases = record {
         notes = λ m X entry items h. base.notes m X entry items h.holds;
         free = λ m X h. record { holds = h.holds; front = front_none (handle_after X) (told_after X).now m.scheduler.agenda h.none };
         carried = λ m X item items n s h.
@@ -108,14 +103,14 @@ module _ (p : ℕ) (few : p ≤ 19) where
         turn = λ m X items q origin stimulus call h.
             record { holds = base.turn m X items q origin stimulus call h.holds; front = sent_turn (q == p) m X items q origin stimulus call refl h.holds };
         told = λ m X items q origin stimulus call h i. each-more ShownBehind X (turn_entry q origin stimulus call) i tt;
-        shown = λ m X items note h. record { holds = base.shown m X items note h.holds; front = grind (arith, nat_tests, same_handle, same_told, h.front.1) };
+        shown = λ m X items note h. grind (arith, nat_tests, fold-append, same_told);
         noted = λ m X items note h i. each-more ShownBehind X (Entry.Note note) i h.front.0;
         other = λ X e n k i. each-more ShownBehind X e i (grind (arith, nat_tests));
         input = λ input m X h.
             let woken : Machine = record m { work = 0 } in
             record {
               holds = base.input input m X h.holds;
-              front = grind (arith, nat_tests, same_handle, same_told);
+              front = grind (arith, nat_tests, fold-append, same_told);
             };
       }
 
@@ -198,16 +193,14 @@ abbrev Plain : Machine → List Entry → Type 0
 Plain m X = all_plain m.scheduler.agenda ≡ true
 
 led_cases : Cases Led Plain (AtEach Sends)
-led_cases =
-    record {
+led_cases = record {
       notes = λ m X entry items h. grind (arith, h);
       free = λ m X h. plain-leads (sends_all X) m.scheduler.agenda h;
       carried = λ m X item items n s h. grind (arith, nat_tests, all-mapped, all-append, all-delivered, m.scheduler);
       served = λ m X q origin event items k h. rw ((serve-untouched q event (facing items m)).agenda) h;
       called_back = λ m X q c h. h;
       round = λ m X h. refl;
-      turn = λ m X items q origin stimulus call h.
-          rw (fold-append sends_after false X (turn_entry q origin stimulus call ∷ [])) (grind (arith, nat_tests, plain-leads, all-mapped, append_assoc, all-append));
+      turn = grind (arith, nat_tests, fold-append, plain-leads, all-mapped, append_assoc, all-append);
       told = λ m X items q origin stimulus call h i. each-more Sends X (turn_entry q origin stimulus call) i (λ f. absurd (grind (arith, f)));
       shown = λ m X items note h. grind (arith, nat_tests, fold-append);
       noted = λ m X items note h i. each-more Sends X (Entry.Note note) i (λ f. grind (arith, h, f));
@@ -226,8 +219,7 @@ abbrev Found : Bool → List Entry → Type 0
 Found sends entries = ((sends ≡ true) × (list_any is_turn_entry entries ≡ false)) ⊎ Sender entries
 
 sender-cons : (entry : Entry) (entries : List Entry) → Sender entries → Sender (entry ∷ entries)
-sender-cons entry entries s =
-    record {
+sender-cons entry entries s = record {
       earlier = entry ∷ s.earlier;
       p = s.p;
       h = s.h;
@@ -235,7 +227,7 @@ sender-cons entry entries s =
       stimulus = s.stimulus;
       between = s.between;
       no_turn = s.no_turn;
-      split = ap (λ (es : List Entry). entry ∷ es) s.split;
+      split = grind (arith, nat_tests);
     }
 
 quiet-cons : (sends : Bool) (entry : Entry) (entries : List Entry) → is_turn_entry entry ≡ false → Found sends entries → Found sends (entry ∷ entries)

@@ -45,18 +45,12 @@ module _ (R : Machine → Machine → Type 0) (q : ℕ) (event : Event) (changes
   again : (old m : Machine) (test : Bool) (n : ℕ) → R old m → R old (if test then mark n m else m)
   again = grind (arith, nat_tests)
 
-  first_due-changes : (m : Machine) → R m (post_first_due m)
-  first_due-changes = grind (arith, nat_tests)
-
   -- a notice after a change of the devices
   noticed : (notice : Queued Bool) (serial : SerialLine) (is_waiting : Bool) (packets : PacketQueue) (m : Machine) → is_notice notice ≡ true
       → packets.frames ≡ m.packets.frames → R m (with_event notice (with_devices serial is_waiting packets m))
   noticed notice serial is_waiting packets m n e =
       let a : Machine = with_devices serial is_waiting packets m in
       changes.chained m a (with_event notice a) (changes.devices serial is_waiting packets m e) (changes.posted notice a n)
-
-  line-changes : (m : Machine) → R m (serve_line m)
-  line-changes = grind (arith, nat_tests, either, noticed)
 
   next-changes : (m : Machine) → R m (announce_next m)
   next-changes = grind (arith, nat_tests, noticed)
@@ -65,7 +59,7 @@ module _ (R : Machine → Machine → Type 0) (q : ℕ) (event : Event) (changes
   etimer-changes m z =
       let after : Machine = times (free_places m) post_first_due m in
       either m (event.code == POLL) (post_due m) _
-      (again m after (is_any_due after) 0 (repeated post_first_due first_due-changes (free_places m) m)) (told (event.code == EXITED) refl)
+      (again m after (is_any_due after) 0 (repeated post_first_due (grind (arith, nat_tests)) (free_places m) m)) (told (event.code == EXITED) refl)
     where
       gone : (o : Option ℕ) → exited_application event.payload ≡ o → (event.code == EXITED) ≡ true → R m (forget_event_timers o m)
       gone None e k = changes.same m
@@ -75,9 +69,6 @@ module _ (R : Machine → Machine → Type 0) (q : ℕ) (event : Event) (changes
       told true e = gone (exited_application event.payload) refl e
       told false e = changes.same m
 
-  ctimer-changes : (m : Machine) → R m (ctimer event m)
-  ctimer-changes = grind (arith, nat_tests)
-
   serial_line-changes : (m : Machine) → R m (serial_line event m)
   serial_line-changes m =
       let a : Machine = record m { is_serial_waiting = false } in
@@ -85,10 +76,10 @@ module _ (R : Machine → Machine → Type 0) (q : ℕ) (event : Event) (changes
       (either m (event.code == CONTINUE) (empty_ring a) m (changes.chained m a (empty_ring a) (changes.devices m.serial false m.packets m refl) (emptied a)) (changes.same m))
     where
       emptied : (x : Machine) → R x (empty_ring x)
-      emptied x = repeated serve_line line-changes (suc (line_count x.serial)) x
+      emptied x = repeated serve_line (grind (arith, nat_tests, either, noticed)) (suc (line_count x.serial)) x
 
   packet-changes : (m : Machine) → R m (packet event m)
   packet-changes = grind (arith, nat_tests, either, again, repeated, next-changes)
 
 pub of_changes : {R : Machine → Machine → Type 0} {q : ℕ} {event : Event} → Changes R q event → (m : Machine) → R m (serve q event m)
-of_changes {R = R} {q = q} {event = event} = grind (arith, nat_tests, etimer-changes, either, ctimer-changes, serial_line-changes, packet-changes)
+of_changes {R = R} {q = q} {event = event} = grind (arith, nat_tests, etimer-changes, either, serial_line-changes, packet-changes)

@@ -180,9 +180,8 @@ module _ (quota p : ℕ) where
 
   -- at boot neither memory has a block
   boot-like : (c : Config) → c.quota ≡ Some quota → IsLikeOwn (booted c).memory [] (private_memory quota)
-  boot-like c e =
-      record {
-        has = subst (λ (blocks : Blocks). HasBlocks managed_store p (booted c).memory [] blocks) (no-own quota p) (boot-has managed_store managed-keeps p c);
+  boot-like c e = record {
+        has = grind (arith, nat_tests);
         limit = e;
         alone = alone-at-first quota p;
       }

@@ -25,10 +25,6 @@ send-law : (h p : ℕ) (m : Machine) (reply : Reply) → due (marks p (after_cal
     → KindLaw managed_kind (own_blocks p m.memory) (Call.PacketSend h) reply
 send-law = grind (arith, nat_tests)
 
-managed-law : (call : Call) (p : ℕ) (m : Machine) (reply : Reply)
-    → due (marks p (after_call call p m).scheduler.agenda) ≡ Some reply → KindLaw managed_kind (own_blocks p m.memory) call reply
-managed-law = grind (arith, nat_tests, one_reply, told-reply, read-law, alloc-law, free-law, write-law, copy-law, send-law, nothing)
-
 -- at boot no block is live
 pub all_same : {A : Type 0} (d : A) (n i : ℕ) → get_or (replicate n d) i d ≡ d
 all_same d zero i = refl
@@ -43,13 +39,12 @@ managed-boot p c = same_blocks _ _ (λ h. go h (is_handle h))
     go h false = refl
 
 pub managed-keeps : Keeps managed_store
-managed-keeps =
-    record {
-      law = managed-law;
+managed-keeps = record {
+      law = grind (arith, nat_tests, one_reply, told-reply, read-law, alloc-law, free-law, write-law, copy-law, send-law, nothing);
       asked = λ call e. grind (arith, e);
       change = λ call q m e. (managed-change call q m e).blocks;
       plain = λ call blocks e. grind (arith, e);
-      rest = λ call q p m e. same_blocks _ _ (λ h. ap (λ s. if is_handle h then block_of p h s else None) (ask-rest call q m e));
+      rest = λ call q p m e. grind (arith, nat_tests);
       framed = λ slot p bytes m low k. same_blocks _ _ (λ h. put_other 3 slot p h bytes m (grind (arith, nat_tests, k)) k low);
       boot = managed-boot;
       told = λ p entries. refl;

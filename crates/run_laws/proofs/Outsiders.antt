@@ -6,7 +6,7 @@ use Rattle.run_laws.proofs.event_order.Items.{with_agenda, facing}
 use Rattle.run_laws.proofs.event_order.Runs.{Ran, AtEach, each-more, at_each}
 use Rattle.run_laws.proofs.event_order.Tally.{is_note, is_turn}
 use Rattle.run_laws.proofs.event_order.Steps.{Cases, law_of, turn_entry}
-use Rattle.run_laws.proofs.timer_deadlines.Fronts.{all-append, all-mapped, all-delivered, after-all}
+use Rattle.run_laws.proofs.timer_deadlines.Fronts.{all-append, all-mapped, all-delivered}
 use Rattle.run_laws.proofs.Marks.{state_of-with_other, state_of-with_mark, state_of-without, state_of-without_other}
 
 -- p is no kernel process, and no application either
@@ -68,16 +68,15 @@ module _ (p : ℕ) (high : nat_le 4 p ≡ true) where
   other_entry entry n = grind (arith, n)
 
   out_cases : Cases Out Out (AtEach IsOthers)
-  out_cases =
-      record {
+  out_cases = record {
         notes = λ m X entry items h. grind (arith, h.agenda);
         free = λ m X h. h;
         carried = λ m X item items n s h. grind (arith, nat_tests, all-append, all-mapped, all-delivered, without_item, state_of-with_other, state_of-without, state_of-without_other, state_of-with_mark);
         served = λ m X q origin event items k h. served-out q event (facing items m) (without_item (Item.Give q origin (Stimulus.Event event)) items m.scheduler h);
         called_back = λ m X q c h. grind (arith, nat_tests, all-append, m.scheduler);
-        round = λ m X h. record { stranger = h.stranger; absent = h.absent; agenda = refl };
+        round = λ m X h. grind (arith, nat_tests);
         turn = λ m X items q origin stimulus call h.
-            grind (arith, nat_tests, call-applications, after-all, not_named, state_of-with_other, state_of-with_mark);
+            grind (arith, nat_tests, call-applications, all-mapped, all-append, not_named, state_of-with_other, state_of-with_mark);
         told = λ m X items q origin stimulus call h i. each-more IsOthers X (turn_entry q origin stimulus call) i (rw (other_turn q origin stimulus items m h) refl);
         shown = λ m X items note h. without_item (Item.Show (Entry.Note note)) items m.scheduler h;
         noted = λ m X items note h i. each-more IsOthers X (Entry.Note note) i refl;

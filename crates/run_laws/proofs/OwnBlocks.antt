@@ -104,7 +104,7 @@ module _ (store : Store) (keeps : Keeps store) (p : ℕ) (few : p ≤ 19) where
       }
 
 pub boot-has : (store : Store) → Keeps store → (p : ℕ) (c : Config) → HasBlocks store p (booted c).memory [] no_blocks
-boot-has store keeps p c = record { sound = record { size = refl; slots = refl }; own = λ k. keeps.boot p c }
+boot-has store keeps p c = record { sound = grind (arith, nat_tests); own = λ k. keeps.boot p c }
 
 -- the run
 

@@ -7,7 +7,7 @@ use Rattle.run_laws.proofs.event_order.Items.{with_agenda, facing}
 use Rattle.run_laws.proofs.event_order.Steps.{carried, turn_entry, Cases, law_of, kernel_carried, is_quiet_item}
 use Rattle.run_laws.proofs.event_order.Runs.{Ran, Prefixes, at_prefixes}
 use Rattle.run_laws.proofs.event_order.Tally.{is_turn}
-use Rattle.run_laws.proofs.timer_deadlines.Fronts.{after-all, all-mapped}
+use Rattle.run_laws.proofs.timer_deadlines.Fronts.{all-append, all-mapped}
 use Rattle.run_laws.proofs.timer_deadlines.Regular.{is_regular, carried-regular}
 
 -- what a process knows, and its last call
@@ -179,7 +179,7 @@ module _ {S : Type 0} (next : Call → Reply → S → S) (Law : S → Call → 
       let high : nat_le 4 q ≡ true = grind (arith, h.regular) in
       let rest : list_all is_regular items ≡ true = grind (arith, h.regular) in
       record {
-        regular = grind (arith, nat_tests, after-all);
+        regular = grind (arith, nat_tests, all-mapped, all-append);
         now = rw (fold-append (told next p) start X (turn_entry q origin stimulus call ∷ [])) ((turned laws start m X items q origin stimulus call h).now);
       }
 
@@ -196,8 +196,7 @@ module _ {S : Type 0} (next : Call → Reply → S → S) (Law : S → Call → 
   input-holds = grind (arith, nat_tests, effect-keeps, state_of-with_mark, effect-keeps, fold-append, slot_low)
 
   pub told_cases : Laws next Law Rel p → (start : Knowledge S) → Cases (Holds start) (Holds start) (WellTold start)
-  told_cases laws start =
-      record {
+  told_cases laws start = record {
         notes = λ m X entry items h. grind (arith, h.regular);
         free = λ m X h. h;
         carried = λ m X item items n s h. carried-holds start item items m X (grind (arith, n)) h;
@@ -205,7 +204,7 @@ module _ {S : Type 0} (next : Call → Reply → S → S) (Law : S → Call → 
             let given = carried-holds start (Item.Give q origin (Stimulus.Event event)) items m X refl h in
             served-holds start q event (facing items m) X (subst (λ n. Holds start n X) (kernel_carried q origin (Stimulus.Event event) items m k) given);
         called_back = λ m X q c h. record { regular = h.regular; now = called_back-now next Law Rel p q c (told_all next p start X) m h.now };
-        round = λ m X h. record { regular = refl; now = same-now next Law Rel p (told_all next p start X) (facing [] m) (with_more_work (facing (Item.Polls ∷ Item.Deliver ∷ []) m)) h.now h.now.is_fit refl refl refl };
+        round = λ m X h. grind (arith, nat_tests);
         turn = turn-holds laws start;
         told = λ m X items q origin stimulus call h i. grind (arith, nat_tests, well-append);
         shown = shown-holds start;

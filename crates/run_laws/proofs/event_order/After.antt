@@ -158,14 +158,11 @@ exited-holds : (p q : ℕ) (l : List State) (xs items : List Item) → (p == q) 
     → holds p l items ≡ true → holds p l (xs ++ Item.Remove q ∷ items) ≡ true
 exited-holds = grind (arith, nat_tests, holds-append)
 
-flip : (p q : ℕ) (b : Bool) → (p == q) ≡ b → (q == p) ≡ b
-flip = grind (arith, nat_tests)
-
 pub after-stands : (p : ℕ) (call : Call) (q : ℕ) (origin : Origin) (stimulus : Stimulus) (m : Machine)
     → ends_in p (Entry.Turn (record { 0 = q }) origin stimulus call) ≡ false
     → holds p (seats p m.scheduler.processes) (Item.Turn q origin stimulus ∷ m.scheduler.agenda) ≡ true
     → stands p (after_call call q m).scheduler ≡ true
-after-stands p Call.Wait q origin stimulus m n h = grind (arith, nat_tests, state_of-seats, flip, seats-with_state)
+after-stands p Call.Wait q origin stimulus m n h = grind (arith, nat_tests, state_of-seats, seats-with_state)
 after-stands p Call.Exit q origin stimulus m n h = go (is_ending (state_in m.scheduler q))
   where
     go : (b : Bool) → stands p (if b then m.scheduler else in_front (farewells q m.scheduler ++ Item.Remove q ∷ []) (put_in_state q State.Leaving m.scheduler)) ≡ true

@@ -212,10 +212,9 @@ module _ (I : Machine → List Entry → Type 0) (P Q : List Entry → Type 0) (
       (λ later live. run-ended says inputs (with_input input rested) new (go live) later) rested.machine.is_halted refl
 
   good-start : (c : Config) → I (at_start c).machine [] → P [] → Good I P Q (at_start c)
-  good-start c first none =
-      record {
+  good-start c first none = record {
         prefixes = λ before later e. start before later e;
-        inputs = λ before later input e. absurd (not_nil before (Entry.Input input) later e);
+        inputs = λ before later input e. grind (arith, nat_tests, not_nil);
         holds = λ live. first;
         halts = λ halted. absurd (grind (arith, halted));
       }

@@ -182,8 +182,7 @@ abbrev pub SoundFreeOf : ℕ → Machine → List Entry → Type 0
 SoundFreeOf p m X = SoundFree p m.scheduler X
 
 pub sound_cases : (p : ℕ) → nat_le 4 p ≡ true → Cases (SoundOf p) (SoundFreeOf p) (IsInOrder p)
-sound_cases p a =
-    record {
+sound_cases p a = record {
       notes = λ m X entry items h. grind (arith, h.ordered);
       free = λ m X h. sound-free p m.scheduler X h;
       carried = λ m X item items n s h. grind (arith, nat_tests, carried-ordered, carried-stands, carried-waiting, no_reply_front, m.scheduler);
@@ -196,9 +195,7 @@ sound_cases p a =
       shown = λ m X items note h. shown_sound p X items note m.scheduler h;
       noted = λ m X items note h. order-other p X (Entry.Note note) refl;
       other = λ X e n k. order-other p X e n;
-      input = λ input m X h.
-          let woken : Machine = record m { work = 0 } in
-          sound-other p X (Entry.Input input) (effect input woken).scheduler refl (effect-sound p X input woken h);
+      input = grind (arith, nat_tests, sound-other, effect-sound);
     }
 
 order_law : (p : ℕ) → nat_le 4 p ≡ true → Law (SoundOf p) (IsInOrder p)

@@ -103,9 +103,6 @@ module _ (I J : Machine → List Entry → Type 0) (P : List Entry → Type 0) (
       (cases.carried m X Item.Deliver items refl refl (at_agenda X (Item.Deliver ∷ items) m e h))
   step_kept X answers (item ∷ items) m e i h = quiet_kept X item items m refl refl i (at_agenda X (item ∷ items) m e h)
 
-  one_step_kept : (answers : Answers) (m : Machine) (X : List Entry) → I m X → P X → Kept I P X (one_step answers m)
-  one_step_kept = grind (arith, nat_tests, silent_kept, step_kept)
-
   shows_notes : (X : List Entry) (agenda : List Item) (m : Machine) → m.scheduler.agenda ≡ agenda → I m X → (entry : Entry)
       → job_at agenda m.scheduler ≡ Some (Job.ShowEntry entry) → is_note entry ≡ true
   shows_notes X [] m e h entry f = grind (arith, nat_tests)
@@ -113,12 +110,11 @@ module _ (I J : Machine → List Entry → Type 0) (P : List Entry → Type 0) (
   shows_notes X (item ∷ items) m e h entry f = grind (arith, nat_tests)
 
   cases_law : Law I P
-  cases_law =
-      record {
-        step = one_step_kept;
+  cases_law = record {
+        step = grind (arith, nat_tests, silent_kept, step_kept);
         notes = λ m X h. shows_notes X m.scheduler.agenda m refl h;
         input = λ input m X h i. cases.input input m X h;
-        shown = λ input X i. cases.other X (Entry.Input input) refl refl i;
+        shown = λ input X i. grind (arith, nat_tests);
       }
 
 pub law_of : {I J : Machine → List Entry → Type 0} {P : List Entry → Type 0} → Cases I J P → Law I P

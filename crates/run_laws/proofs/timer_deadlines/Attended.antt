@@ -61,13 +61,9 @@ still_expected = grind (arith, nat_tests)
 pub heeded-carried : (o : OwnTimer) (X : List Entry) (item : Item) (items : List Item) (m : Machine) → nat_le 4 o.p ≡ true → is_quiet_item item ≡ true
     → Sound o.p (with_agenda (item ∷ items) m.scheduler) X → list_all is_no_exited m.scheduler.events ≡ true
     → Heeded o (facing (item ∷ items) m) X → HeededFree o (carried item items m) X
-heeded-carried o X item items m a n sound clean h =
-    record {
+heeded-carried o X item items m a n sound clean h = record {
       farewell = λ alive spared. carried-farewell o.p item items m.scheduler clean (h.farewell alive (carried-doomed o.p item items m.scheduler n spared));
-      kept = λ alive spared k armed.
-          let before = h.kept alive (carried-doomed o.p item items m.scheduler n spared) k (no_reply_front o.p k item items n) armed in
-          still_expected (is_armed (own_timer o) m.timers) (is_expected o (with_agenda (item ∷ items) m.scheduler)) (is_expected o (carried item items m).scheduler)
-          (standing_of o k X).was_given (carried-expected o item items m.scheduler a n sound.ordered (sound.place alive)) before;
+      kept = grind (arith, nat_tests, carried-doomed, no_reply_front, still_expected, carried-expected);
     }
 
 -- a kernel process is told the event
@@ -164,8 +160,7 @@ module _ (o : OwnTimer) (low : nat_le 4 o.p ≡ true) (high : nat_lt o.p 20 ≡ 
   sound = sound_cases o.p low
 
   attended_cases : Cases (Attended o) (AttendedFree o) Anything
-  attended_cases =
-      record {
+  attended_cases = record {
         notes = λ m X entry items h. timely.notes m X entry items h.timely;
         free = λ m X h.
             record {
@@ -202,14 +197,7 @@ module _ (o : OwnTimer) (low : nat_le 4 o.p ≡ true) (high : nat_lt o.p 20 ≡ 
               clean = h.clean;
               heeded = record { farewell = h.heeded.farewell; kept = h.heeded.kept };
             };
-        round = λ m X h.
-            record {
-              timely = timely.round m X h.timely;
-              sound = sound.round m X h.sound;
-              watched = record { home = h.watched.home; due = h.watched.due };
-              clean = h.clean;
-              heeded = record { farewell = h.heeded.farewell; kept = λ alive spared k. h.heeded.kept alive spared k tt };
-            };
+        round = grind (arith, nat_tests);
         turn = λ m X items q origin stimulus call h.
             record {
               timely = timely.turn m X items q origin stimulus call h.timely;
@@ -262,13 +250,12 @@ rest-given = grind (arith, nat_tests, standing-none, nothing_queued, rest-not_du
 -- boot
 
 boot-attended : (o : OwnTimer) (c : Config) → nat_lt o.p 20 ≡ true → is_application c.apps o.p ≡ true → Attended o (at_start c).machine []
-boot-attended o c high a =
-    record {
+boot-attended o c high a = record {
       timely = boot_timely o c (grind (arith, a)) high;
       sound = boot-sound o.p c a;
       watched = grind (arith, nat_tests);
       clean = refl;
-      heeded = record { farewell = λ alive spared. none-mapped (is_farewell o.p) (λ n. Item.Start n) (range_with_len 4 c.apps) (λ n. refl); kept = λ alive spared k front armed. absurd (grind (arith, armed)) };
+      heeded = grind (arith, nat_tests, none-mapped);
     }
 
 -- no timer is lost

@@ -93,9 +93,8 @@ serve-held o g q origin event m none = of_changes changes m
 -- what waits goes on waiting
 
 after-queues : (o : OwnTimer) → KeptByCalls (λ events. list_any (queues o) events ≡ true)
-after-queues o =
-    record {
-      posted = λ event events posted h. grind (arith, h, list_any-append (queues o) events);
+after-queues o = record {
+      posted = λ event events posted h. grind (arith, nat_tests, list_any-append);
       cancelled = λ test events h. rw (queues-cancelled o test events) h;
     }
 

@@ -127,8 +127,7 @@ effect_timely o input m X h =
 
 -- every step
 pub timely_cases : (o : OwnTimer) → nat_le 4 o.p ≡ true → nat_lt o.p 20 ≡ true → Cases (Timely o) (Free o) (IsTimely o)
-timely_cases o low high =
-    record {
+timely_cases o low high = record {
       notes = λ m X entry items h. grind (arith, h.steady.regular);
       free = timely-free o;
       carried = λ m X item items n s h. free-carried o X item items m n h;
@@ -154,15 +153,7 @@ timely_cases o low high =
           };
       turn = λ m X items q origin stimulus call h. turn_timely o low high X m items q origin stimulus call h;
       told = λ m X items q origin stimulus call h i. turn_early o low high X m items q origin stimulus call h;
-      shown = λ m X items note h.
-          let e : Entry = Entry.Note note in
-          let here : Steady (facing items m) X = record { clock = h.steady.clock; names = h.steady.names; plain = h.steady.plain; regular = h.steady.regular } in
-          record {
-            steady = grind (arith, nat_tests, clock-more);
-            balanced = λ k front.
-                rw (ledger-other o k X e refl)
-                (less-balanced o m.clock (in_wait o (facing items m)) (in_wait o (facing (Item.Show e ∷ items) m)) m.timers (timer_ledger o k X) (omega arith) (h.balanced k front));
-          };
+      shown = grind (arith, nat_tests, clock-more, ledger-other, less-balanced);
       noted = λ m X items note h. timely-other o X (Entry.Note note) refl;
       other = λ X e n k. timely-other o X e n;
       input = effect_timely o;

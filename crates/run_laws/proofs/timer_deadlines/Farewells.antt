@@ -35,9 +35,8 @@ events-cancelled : (test : ℕ → ℕ → Bool) (events : List (Queued Bool)) �
 events-cancelled test events = all-cancelled is_no_exited test (λ event. grind arith) events
 
 after-clean : KeptByCalls (λ events. list_all is_no_exited events ≡ true)
-after-clean =
-    record {
-      posted = λ event events posted h. all-more is_no_exited events event (grind (arith, nat_tests, posted)) h;
+after-clean = record {
+      posted = λ event events posted h. grind (arith, nat_tests, all-more);
       cancelled = λ test events h. rw (events-cancelled test events) h;
     }
 

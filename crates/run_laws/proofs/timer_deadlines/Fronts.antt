@@ -60,6 +60,3 @@ pub record Passes (test : Item → Bool) (q : ℕ) (s : Scheduler Bool) : Type 0
   pub remove : (r : ℕ) → is_application s.applications r ≡ true → test (Item.Remove r) ≡ true
   pub leave : test (Item.Remove q) ≡ true
 
-pub after-all : (test : Item → Bool) (call : Call) (q : ℕ) (m : Machine) → Passes test q m.scheduler → list_all test m.scheduler.agenda ≡ true
-    → list_all test (after_call call q m).scheduler.agenda ≡ true
-after-all test call q m p h = grind (arith, nat_tests, all-mapped, all-append)

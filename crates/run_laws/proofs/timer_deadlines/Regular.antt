@@ -3,7 +3,7 @@ use Rattle.std.proofs.Common.{◌≡◌, ℕ, Bool, true, List, ◌∷◌, arith
 use Rattle.run_laws.proofs.Common.{list_all, nat_tests, Call, Item, Scheduler, after_item, Machine, after_call}
 use Rattle.run_laws.proofs.event_order.Tally.{is_note}
 use Rattle.run_laws.proofs.event_order.Items.{with_agenda}
-use Rattle.run_laws.proofs.timer_deadlines.Fronts.{all-append, all-mapped, all-delivered, after-all}
+use Rattle.run_laws.proofs.timer_deadlines.Fronts.{all-append, all-mapped, all-delivered}
 
 abbrev pub is_regular : Item → Bool
 is_regular (Item.Turn q origin stimulus) = nat_le 4 q

@@ -5,7 +5,7 @@ use Rattle.run_laws.proofs.timer_deadlines.Ledgers.{fold-append}
 use Rattle.run_laws.proofs.event_order.Items.{with_agenda, facing}
 use Rattle.run_laws.proofs.CallQueues.{KeptByCalls, kept_by_call}
 use Rattle.run_laws.proofs.Arrivals.{serve-untouched}
-use Rattle.run_laws.proofs.timer_deadlines.Fronts.{after-all, all-more, carried-queue}
+use Rattle.run_laws.proofs.timer_deadlines.Fronts.{all-append, all-mapped, all-more, carried-queue}
 use Rattle.run_laws.proofs.timer_deadlines.Timed.{is_no_timer, plain-cancelled, serve-fair}
 use Rattle.run_laws.proofs.timer_deadlines.Timing.{armed-names, cell_names}
 use Rattle.run_laws.proofs.timer_deadlines.Moves.{after-timers, after-clock}
@@ -26,13 +26,12 @@ clock-more = grind (arith, nat_tests, fold-append)
 -- a turn
 
 after-plain : KeptByCalls (λ events. list_all is_no_timer events ≡ true)
-after-plain =
-    record {
-      posted = λ event events posted h. all-more is_no_timer events event (grind (arith, nat_tests, posted)) h;
+after-plain = record {
+      posted = λ event events posted h. grind (arith, nat_tests, all-more);
       cancelled = λ test events h. rw (plain-cancelled test events) h;
     }
 
 pub steady-turn : (q : ℕ) (origin : Origin) (stimulus : Stimulus) (call : Call) (m : Machine) (X : List Entry) → nat_le 4 q ≡ true → Steady m X
     → Steady (after_call call q m) (X ++ Entry.Turn (record { 0 = q }) origin stimulus call ∷ [])
-steady-turn = grind (arith, nat_tests, after-clock, clock-more, armed-names, after-timers, kept_by_call, after-plain, after-all)
+steady-turn = grind (arith, nat_tests, after-clock, clock-more, armed-names, after-timers, kept_by_call, after-plain, all-mapped, all-append)
 

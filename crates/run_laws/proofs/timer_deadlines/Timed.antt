@@ -84,11 +84,10 @@ expiry_count = grind (arith, nat_tests)
 
 -- a due timer of p is posted, and is off the list
 expired-fair : (o : OwnTimer) (timer : Timer) (m : Machine) → first_due m.clock m.timers ≡ Some timer → Fair o m (post_expiry (Some timer) m)
-expired-fair o timer m e =
-    record {
+expired-fair o timer m e = record {
       clock = refl;
       names = refl;
-      plain = λ h. all-more is_no_timer m.scheduler.events (expiry_of timer) (grind arith) h;
+      plain = λ h. grind (arith, nat_tests, all-more);
       balanced = λ ledger k. posted (is_timer (own_timer o) timer) refl ledger k;
     }
   where
@@ -129,9 +128,6 @@ count-cancelled o test (item ∷ events) = grind (arith, nat_tests, count-cancel
 pub plain-cancelled : (test : ℕ → ℕ → Bool) (events : List (Queued Bool)) → list_all is_no_timer (map (cancelled_if test) events) ≡ list_all is_no_timer events
 plain-cancelled test events = all-cancelled is_no_timer test (λ event. grind arith) events
 
-cancelled-fair : (o : OwnTimer) (test : ℕ → ℕ → Bool) (m : Machine) → Fair o m (expiries_cancelled test m)
-cancelled-fair o test m = grind (arith, nat_tests, plain-cancelled test m.scheduler.events, count-cancelled o test m.scheduler.events)
-
 pub serve-fair : (o : OwnTimer) (q : ℕ) (event : Event) (m : Machine) → Fair o m (serve q event m)
 serve-fair o q event = of_changes changes
   where
@@ -144,7 +140,7 @@ serve-fair o q event = of_changes changes
           timers_gone = λ n m z k e. grind (arith, nat_tests, any-filter);
           callbacks_gone = λ n m.
               let a : Machine = with_timers (without_callback_timers n m.timers) m in
-              fair-then o m a (expiries_cancelled (λ r c. r == n) a) (grind (arith, nat_tests, any-filter)) (cancelled-fair o (λ r c. r == n) a);
+              fair-then o m a (expiries_cancelled (λ r c. r == n) a) (grind (arith, nat_tests, any-filter)) (grind (arith, nat_tests, plain-cancelled (λ r c. r == n) a.scheduler.events, count-cancelled o (λ r c. r == n) a.scheduler.events));
           posted = λ notice m n. grind (arith, nat_tests, all-more, count_events-more);
           devices = λ serial is_waiting packets m e. record { clock = refl; names = refl; plain = λ h. h; balanced = λ ledger k. k };
           marked = λ n m. record { clock = refl; names = refl; plain = λ h. h; balanced = λ ledger k. k };
@@ -187,9 +183,8 @@ posted-uncounted : (o : OwnTimer) (event : Queued Bool) → is_posted event ≡ 
 posted-uncounted = grind (arith, nat_tests)
 
 after-events_count : (o : OwnTimer) (n : ℕ) → KeptByCalls (λ events. count_events o events ≡ n)
-after-events_count o n =
-    record {
-      posted = λ event events posted h. grind (arith, h, count_events-more o events event, posted-uncounted o event posted);
+after-events_count o n = record {
+      posted = λ event events posted h. grind (arith, nat_tests, count_events-more, posted-uncounted);
       cancelled = λ test events h. rw (count-cancelled o test events) h;
     }
 

@@ -101,9 +101,6 @@ pub alike : (old new : Machine) → new.scheduler.agenda ≡ old.scheduler.agend
     → Watched old → Watched new
 alike = grind (arith, nat_tests)
 
-pub marked_too : (q : ℕ) (m : Machine) → Watched m → Watched (mark q m)
-marked_too = grind (arith, nat_tests, marks-with_mark, home-with_mark)
-
 -- timers leave the list
 pub dropped : (keep : Timer → Bool) (m : Machine) → Watched m → Watched (record m { timers = record m.timers { armed = filter keep m.timers.armed } })
 dropped = grind (arith, nat_tests, any-filter)
@@ -113,20 +110,17 @@ pub without_item : (item : Item) (items : List Item) (m : Machine) → is_etimer
 without_item = grind (arith, nat_tests)
 
 changes-watched : (q : ℕ) (event : Event) → Changes (λ old new. Watched old → Watched new) q event
-changes-watched q event =
-    record {
+changes-watched q event = record {
       same = λ m h. h;
       chained = λ a b c f g h. g (f h);
-      expired = λ timer m e h.
-          let a : Machine = with_timers (stop_timer timer m.timers) m in
-          alike a (post_expiry (Some timer) m) refl refl refl refl (dropped (λ other. not (is_timer timer other)) m h);
+      expired = grind (arith, nat_tests, alike, dropped);
       timers_gone = λ n m z k e. dropped (λ timer. not (is_event_timer_of n timer)) m;
       callbacks_gone = λ n m h.
           let a : Machine = with_timers (without_callback_timers n m.timers) m in
           alike a (forget_callback_timers (Some n) m) refl refl refl refl (dropped (λ timer. not (is_callback_timer_of n timer)) m h);
       posted = λ notice m n. alike m (with_event notice m) refl refl refl refl;
       devices = λ serial is_waiting packets m e. alike m (with_devices serial is_waiting packets m) refl refl refl refl;
-      marked = marked_too;
+      marked = grind (arith, nat_tests, marks-with_mark, home-with_mark);
     }
 
 pub watched-serve : (q : ℕ) (origin : Origin) (event : Event) (items : List Item) (m : Machine) → Watched (facing (Item.Give q origin (Stimulus.Event event) ∷ items) m)
@@ -177,7 +171,7 @@ idle = grind (arith, nat_tests)
 
 -- an input
 pub watched-input : (input : Input) (m : Machine) → Watched m → Watched (effect input (record m { work = 0 }))
-watched-input = grind (arith, nat_tests, home-with_mark, marks-home, idle, marked_too, watched-front)
+watched-input = grind (arith, nat_tests, home-with_mark, marks-home, idle, marks-with_mark, home-with_mark, watched-front)
 
 -- at rest no timer is due
 unmarked : (list : List Process) → is_any_marked list ≡ false → is_marked 0 list ≡ false
