@@ -1,13 +1,13 @@
 -- What an input does to the scheduler: a process is marked, or the note of a lost frame is in front.
 use Rattle.std.proofs.Common.{ℕ, Bool, [], ◌∷◌, length, ◌≡◌, arith}
-use Rattle.run_laws.proofs.Common.{nat_tests, Entry, Input, Note, Refusal, Item, Scheduler, marked, in_front, Machine, effect, length-map, Call, Event, state_of, after_call, serve}
+use Rattle.run_laws.proofs.Common.{decide, Entry, Input, Note, Refusal, Item, Scheduler, marked, in_front, Machine, effect, length-map, Call, Event, state_of, after_call, serve}
 use Rattle.run_laws.proofs.Changes.{Changes, of_changes}
 use Rattle.run_laws.proofs.Marks.{state_of-with_mark}
 
 -- what holds of the scheduler, and outlasts both
 pub effect-keeps : (P : Scheduler Bool → Type 0) (input : Input) (m : Machine) → P m.scheduler → ((q : ℕ) → P (marked q m.scheduler))
     → ((refusal : Refusal) → P (in_front (Item.Show (Entry.Note (Note.Lost refusal)) ∷ []) m.scheduler)) → P (effect input m).scheduler
-effect-keeps = grind (arith, nat_tests)
+effect-keeps = grind decide
 
 -- What a call or a kernel process leaves as it was.
 

@@ -1,6 +1,6 @@
 -- Transcripts that no run makes: each breaks one law, which says so.
 use Rattle.std.proofs.Common.{◌≡◌, ℕ, false, List, [], ◌∷◌, ◌++◌, ap, refl, arith, drop}
-use Rattle.run_laws.proofs.Common.{nat_tests, ArrayVec, number_event, plain_event, EXITED, TIMER, Call, Entry, Input, Note, Event, Origin, Payload, Stimulus, Refusal, Reply, IsAtRest, HasCall, is_turn_entry, list_any, BlocksAreOwn, EventsArriveInOrder, TimersAreKept}
+use Rattle.run_laws.proofs.Common.{decide, ArrayVec, number_event, plain_event, EXITED, TIMER, Call, Entry, Input, Note, Event, Origin, Payload, Stimulus, Refusal, Reply, IsAtRest, HasCall, is_turn_entry, list_any, BlocksAreOwn, EventsArriveInOrder, TimersAreKept}
 use Rattle.run_laws.proofs.Examples.{started, told}
 use Rattle.run_laws.specs.Sent.{Sender}
 
@@ -84,7 +84,7 @@ abbrev answered : Call → Call → Reply → List Entry
 answered made call reply = started 4 made ∷ told 4 Reply.Done call ∷ told 4 reply Call.Wait ∷ []
 
 has_answered : (made call : Call) (reply : Reply) → HasCall (answered made call reply) (started 4 made ∷ []) 4 Origin.Answer (Stimulus.Answer Reply.Done) call reply
-has_answered made call reply = grind (arith, nat_tests)
+has_answered made call reply = grind decide
 
 -- what was read isn't what the block has
 managed_misread : BlocksAreOwn (answered (Call.MmemAlloc 0 2) (Call.MmemRead 0 0 2) (Reply.Bytes nines)) → ⊥
@@ -121,7 +121,7 @@ abbrev last_answered : Call → Call → Reply → List Entry
 last_answered made call reply = started 19 made ∷ told 19 Reply.Done call ∷ told 19 reply Call.Wait ∷ []
 
 last_has_answered : (made call : Call) (reply : Reply) → HasCall (last_answered made call reply) (started 19 made ∷ []) 19 Origin.Answer (Stimulus.Answer Reply.Done) call reply
-last_has_answered = grind (arith, nat_tests)
+last_has_answered = grind decide
 
 last_misread : BlocksAreOwn (last_answered (Call.MmemAlloc 0 2) (Call.MmemRead 0 0 2) (Reply.Bytes nines)) → ⊥
 last_misread laws =

@@ -1,6 +1,6 @@
 -- What a call does to the event queue: it stays, an event of an application comes behind it, or expiries in it are cancelled.
 use Rattle.std.proofs.Common.{◌≡◌, ℕ, Bool, true, false, not, List, [], ◌∷◌, ◌++◌, refl, sym, subst, arith, Option, Some, None, map}
-use Rattle.run_laws.proofs.Common.{nat_tests, Call, Refusal, Queued, is_reserved, Machine, with_event, with_timers, mark, after_call, answer_done, event_of, expiries_cancelled, cancelled_if, is_callback_timer, callback_refusal, refused_or}
+use Rattle.run_laws.proofs.Common.{decide, Call, Refusal, Queued, is_reserved, Machine, with_event, with_timers, mark, after_call, answer_done, event_of, expiries_cancelled, cancelled_if, is_callback_timer, callback_refusal, refused_or}
 use Rattle.kernel_core.specs.Calls.{broadcast_call_refusal, post_call_refusal}
 use Rattle.timer_core.specs.Names.{callback_timer}
 use Rattle.timer_core.specs.Timers.{set_timer, stop_timer}
@@ -29,7 +29,7 @@ is_cancelling _ = false
 
 queue_stays : (call : Call) (q : ℕ) (m : Machine) → is_posting call ≡ false → is_cancelling call ≡ false
     → (after_call call q m).scheduler.events ≡ m.scheduler.events
-queue_stays = grind (arith, nat_tests)
+queue_stays = grind decide
 
 module _ (P : List (Queued Bool) → Type 0) (q : ℕ) (m : Machine) (h : P m.scheduler.events) where
   accepted : (o : Option Refusal) (after : Machine) → (o ≡ None → P after.scheduler.events) → P (refused_or o q m after).scheduler.events
@@ -45,15 +45,15 @@ module _ (P : List (Queued Bool) → Type 0) (q : ℕ) (m : Machine) (h : P m.sc
   unposted-queue cancelled (Call.CallbackStop c) n =
       accepted (callback_refusal c) (answer_done q (expiries_cancelled (is_callback_timer q c) (with_timers (stop_timer (callback_timer q c) m.timers) m)))
       (λ none. cancelled (is_callback_timer q c) m.scheduler.events h)
-  unposted-queue cancelled call n = grind (arith, nat_tests)
+  unposted-queue cancelled call n = grind decide
 
   kept-queue : KeptByCalls P → (call : Call) → P (after_call call q m).scheduler.events
-  kept-queue kept (Call.Post r code payload) = grind (arith, nat_tests)
-  kept-queue kept (Call.Broadcast code payload) = grind (arith, nat_tests)
+  kept-queue kept (Call.Post r code payload) = grind decide
+  kept-queue kept (Call.Broadcast code payload) = grind decide
   kept-queue kept call = unposted-queue kept.cancelled call (grind arith)
 
 pub kept_by_call : {P : List (Queued Bool) → Type 0} → KeptByCalls P → (call : Call) (q : ℕ) (m : Machine) → P m.scheduler.events → P (after_call call q m).scheduler.events
-kept_by_call {P = P} = grind (arith, nat_tests, kept-queue)
+kept_by_call {P = P} = grind (decide, kept-queue)
 
 -- where it posts nothing
 pub kept_unposted : {P : List (Queued Bool) → Type 0} → ((test : ℕ → ℕ → Bool) (events : List (Queued Bool)) → P events → P (map (cancelled_if test) events))

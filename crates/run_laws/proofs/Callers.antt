@@ -1,6 +1,6 @@
 -- Every note of a packet that was sent comes behind the turn that sends it.
 use Rattle.std.proofs.Common.{◌≡◌, ℕ, ◌≤◌, Bool, true, false, not, ◌&&◌, ◌||◌, List, [], ◌∷◌, ◌++◌, refl, ◌∙◌, sym, ap, arith, subst, append_assoc, ◌⊎◌, inl, inr, Some, fold, Option, None, ◌==◌, if◌then◌else◌}
-use Rattle.run_laws.proofs.Common.{nat_tests, fold-append, list_any, list_all, range_with_len, Call, Origin, Stimulus, Entry, Note, Input, Applications, Item, farewells, Scheduler, after_item, Config, Machine, booted, is_bootable, after_call, effect, Running, Runs, with_more_work, at_start, Pid, managed_block, is_turn_entry, up_to_call, ArrayVec, Blocks, no_blocks, managed_after, managed_kind}
+use Rattle.run_laws.proofs.Common.{decide, fold-append, list_any, list_all, range_with_len, Call, Origin, Stimulus, Entry, Note, Input, Applications, Item, farewells, Scheduler, after_item, Config, Machine, booted, is_bootable, after_call, effect, Running, Runs, with_more_work, at_start, Pid, managed_block, is_turn_entry, up_to_call, ArrayVec, Blocks, no_blocks, managed_after, managed_kind}
 use Rattle.run_laws.specs.Sent.{Sender, IsSent, EverySent}
 use Rattle.run_laws.proofs.Outsiders.{turns-low}
 use Rattle.run_laws.proofs.Arrivals.{serve-untouched, effect-keeps}
@@ -44,7 +44,7 @@ module _ (p : ℕ) (few : p ≤ 19) where
   ShownBehind before entry = Shown (handle_after before) (told_after before).now entry
 
   same_told : (X : List Entry) (e : Entry) → is_turn e ≡ false → told_after (X ++ e ∷ []) ≡ told_after X
-  same_told = grind (arith, nat_tests, fold-append, accepted)
+  same_told = grind (decide, fold-append, accepted)
 
   quiet_entries : (entries : List Entry) (handle : Option ℕ) → list_any is_turn_entry entries ≡ false → fold sent_by handle entries ≡ handle
   quiet_entries [] handle e = refl
@@ -60,11 +60,11 @@ module _ (p : ℕ) (few : p ≤ 19) where
 
   -- where nothing is being sent, anything may be in front
   shown_none : (handle : Option ℕ) (blocks : Blocks) (entry : Entry) → handle ≡ None → Shown handle blocks entry
-  shown_none = grind (arith, nat_tests)
+  shown_none = grind decide
 
   front_none : (handle : Option ℕ) (blocks : Blocks) (agenda : List Item) → handle ≡ None → FrontOf handle blocks agenda
   front_none handle blocks (Item.Turn q origin stimulus ∷ items) e = tt
-  front_none handle blocks (Item.Show entry ∷ items) e = grind (arith, nat_tests, front_none handle blocks items e)
+  front_none handle blocks (Item.Show entry ∷ items) e = grind (decide, front_none handle blocks items e)
   front_none handle blocks _ e = e
 
   abbrev ToldOf : Machine → List Entry → Type 0
@@ -76,8 +76,8 @@ module _ (p : ℕ) (few : p ≤ 19) where
   sent_turn : (b : Bool) (m : Machine) (X : List Entry) (items : List Item) (q : ℕ) (origin : Origin) (stimulus : Stimulus) (call : Call) → (q == p) ≡ b
       → ToldOf (facing (Item.Turn q origin stimulus ∷ items) m) X
       → FrontAfter (X ++ turn_entry q origin stimulus call ∷ []) (after_call call q (with_more_work (facing items m))).scheduler.agenda
-  sent_turn false m X items q origin stimulus call e h = grind (arith, nat_tests, fold-append, front_none)
-  sent_turn true m X items q origin stimulus call e h = grind (arith, nat_tests, fold-append, front_none)
+  sent_turn false m X items q origin stimulus call e h = grind (decide, fold-append, front_none)
+  sent_turn true m X items q origin stimulus call e h = grind (decide, fold-append, front_none)
 
   record Sending (m : Machine) (X : List Entry) : Type 0 where
     holds : ToldOf m X
@@ -96,21 +96,21 @@ module _ (p : ℕ) (few : p ≤ 19) where
         notes = λ m X entry items h. base.notes m X entry items h.holds;
         free = λ m X h. record { holds = h.holds; front = front_none (handle_after X) (told_after X).now m.scheduler.agenda h.none };
         carried = λ m X item items n s h.
-            record { holds = base.carried m X item items n s h.holds; none = grind (arith, nat_tests, h.front) };
+            record { holds = base.carried m X item items n s h.holds; none = grind (decide, h.front) };
         served = λ m X q origin event items k h. record { holds = base.served m X q origin event items k h.holds; none = h.front };
         called_back = λ m X q c h. record { holds = base.called_back m X q c h.holds; none = h.none };
         round = λ m X h. record { holds = base.round m X h.holds; none = h.front };
         turn = λ m X items q origin stimulus call h.
             record { holds = base.turn m X items q origin stimulus call h.holds; front = sent_turn (q == p) m X items q origin stimulus call refl h.holds };
         told = λ m X items q origin stimulus call h i. each-more ShownBehind X (turn_entry q origin stimulus call) i tt;
-        shown = λ m X items note h. grind (arith, nat_tests, fold-append, same_told);
+        shown = λ m X items note h. grind (decide, fold-append, same_told);
         noted = λ m X items note h i. each-more ShownBehind X (Entry.Note note) i h.front.0;
-        other = λ X e n k i. each-more ShownBehind X e i (grind (arith, nat_tests));
+        other = λ X e n k i. each-more ShownBehind X e i (grind decide);
         input = λ input m X h.
             let woken : Machine = record m { work = 0 } in
             record {
               holds = base.input input m X h.holds;
-              front = grind (arith, nat_tests, fold-append, same_told);
+              front = grind (decide, fold-append, same_told);
             };
       }
 
@@ -131,7 +131,7 @@ module _ (p : ℕ) (few : p ≤ 19) where
       let sent = before ++ turn ∷ [] in
       let so_far = sent ++ between in
       let quietly : handle_after so_far ≡ handle_after sent = fold-append sent_by None sent between ∙ quiet_entries between (handle_after sent) quiet in
-      let handle_then : handle_after sent ≡ Some h = fold-append sent_by None before (turn ∷ []) ∙ grind (arith, nat_tests) in
+      let handle_then : handle_after sent ≡ Some h = fold-append sent_by None before (turn ∷ []) ∙ grind decide in
       let block : (told_after so_far).now h ≡ Some bytes.items = each so_far later (Entry.Note (Note.Sent bytes)) split h (quietly ∙ handle_then) in
       subst (λ (b : Blocks). b h ≡ Some bytes.items) (sym (blocks-told managed_after p so_far)) block
 
@@ -196,18 +196,18 @@ led_cases : Cases Led Plain (AtEach Sends)
 led_cases = record {
       notes = λ m X entry items h. grind (arith, h);
       free = λ m X h. plain-leads (sends_all X) m.scheduler.agenda h;
-      carried = λ m X item items n s h. grind (arith, nat_tests, all-mapped, all-append, all-delivered, m.scheduler);
+      carried = λ m X item items n s h. grind (decide, all-mapped, all-append, all-delivered, m.scheduler);
       served = λ m X q origin event items k h. rw ((serve-untouched q event (facing items m)).agenda) h;
       called_back = λ m X q c h. h;
       round = λ m X h. refl;
-      turn = grind (arith, nat_tests, fold-append, plain-leads, all-mapped, append_assoc, all-append);
+      turn = grind (decide, fold-append, plain-leads, all-mapped, append_assoc, all-append);
       told = λ m X items q origin stimulus call h i. each-more Sends X (turn_entry q origin stimulus call) i (λ f. absurd (grind (arith, f)));
-      shown = λ m X items note h. grind (arith, nat_tests, fold-append);
+      shown = λ m X items note h. grind (decide, fold-append);
       noted = λ m X items note h i. each-more Sends X (Entry.Note note) i (λ f. grind (arith, h, f));
       other = λ X e n k i. each-more Sends X e i (λ f. absurd (grind (arith, k, f)));
       input = λ input m X h.
           let woken : Machine = record m { work = 0 } in
-          grind (arith, nat_tests, fold-append);
+          grind (decide, fold-append);
     }
 
 led : (run : Ran) → AtEach Sends run.after.entries
@@ -227,18 +227,18 @@ sender-cons entry entries s = record {
       stimulus = s.stimulus;
       between = s.between;
       no_turn = s.no_turn;
-      split = grind (arith, nat_tests);
+      split = grind decide;
     }
 
 quiet-cons : (sends : Bool) (entry : Entry) (entries : List Entry) → is_turn_entry entry ≡ false → Found sends entries → Found sends (entry ∷ entries)
-quiet-cons = grind (arith, nat_tests, sender-cons)
+quiet-cons = grind (decide, sender-cons)
 
 turn-cons : (pid : Pid) (origin : Origin) (stimulus : Stimulus) (call : Call) (later : List Entry) (sends : Bool)
     → Found (is_send call) later → Found sends (Entry.Turn pid origin stimulus call ∷ later)
-turn-cons pid origin stimulus call later sends (inr s) = grind (arith, nat_tests, sender-cons)
+turn-cons pid origin stimulus call later sends (inr s) = grind (decide, sender-cons)
 turn-cons pid origin stimulus (Call.PacketSend h) later sends (inl f) =
     inr (record { earlier = []; p = pid.0; h = h; origin = origin; stimulus = stimulus; between = later; no_turn = f.1; split = refl })
-turn-cons pid origin stimulus call later sends (inl f) = grind (arith, nat_tests)
+turn-cons pid origin stimulus call later sends (inl f) = grind decide
 
 found : (entries : List Entry) (sends : Bool) → fold sends_after sends entries ≡ true → Found sends entries
 found [] sends e = inl (e, refl)

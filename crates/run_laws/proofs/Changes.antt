@@ -1,6 +1,6 @@
 -- What a kernel process does with an event is a chain of a few changes: what each of them keeps, all of it keeps.
-use Rattle.std.proofs.Common.{◌≡◌, ℕ, zero, suc, Bool, true, false, ◌&&◌, ◌||◌, refl, arith, Option, Some, None, if◌then◌else◌, ◌==◌}
-use Rattle.run_laws.proofs.Common.{nat_tests, Event, POLL, EXITED, Queued, Timer, first_due, PacketQueue, Machine, with_event, free_places, mark, serve, times, post_expiry, post_first_due, post_due, is_any_due, exited_application, forget_callback_timers, CONTINUE, SERIAL_LINE, PACKET, forget_event_timers, etimer, ctimer}
+use Rattle.std.proofs.Common.{◌≡◌, ℕ, zero, suc, Bool, true, false, ◌&&◌, ◌||◌, refl, Option, Some, None, if◌then◌else◌, ◌==◌}
+use Rattle.run_laws.proofs.Common.{decide, Event, POLL, EXITED, Queued, Timer, first_due, PacketQueue, Machine, with_event, free_places, mark, serve, times, post_expiry, post_first_due, post_due, is_any_due, exited_application, forget_callback_timers, CONTINUE, SERIAL_LINE, PACKET, forget_event_timers, etimer, ctimer}
 use Rattle.device_core.specs.SerialLine.{SerialLine}
 use Rattle.kernel_core.specs.PacketProcess.{announce_next, packet}
 use Rattle.kernel_core.specs.SerialProcess.{serve_line, line_count, empty_ring, serial_line_polled, serial_line}
@@ -43,7 +43,7 @@ module _ (R : Machine → Machine → Type 0) (q : ℕ) (event : Event) (changes
 
   -- it may be marked to look again
   again : (old m : Machine) (test : Bool) (n : ℕ) → R old m → R old (if test then mark n m else m)
-  again = grind (arith, nat_tests)
+  again = grind decide
 
   -- a notice after a change of the devices
   noticed : (notice : Queued Bool) (serial : SerialLine) (is_waiting : Bool) (packets : PacketQueue) (m : Machine) → is_notice notice ≡ true
@@ -53,13 +53,13 @@ module _ (R : Machine → Machine → Type 0) (q : ℕ) (event : Event) (changes
       changes.chained m a (with_event notice a) (changes.devices serial is_waiting packets m e) (changes.posted notice a n)
 
   next-changes : (m : Machine) → R m (announce_next m)
-  next-changes = grind (arith, nat_tests, noticed)
+  next-changes = grind (decide, noticed)
 
   etimer-changes : (m : Machine) → (q == 0) ≡ true → R m (etimer event m)
   etimer-changes m z =
       let after : Machine = times (free_places m) post_first_due m in
       either m (event.code == POLL) (post_due m) _
-      (again m after (is_any_due after) 0 (repeated post_first_due (grind (arith, nat_tests)) (free_places m) m)) (told (event.code == EXITED) refl)
+      (again m after (is_any_due after) 0 (repeated post_first_due (grind decide) (free_places m) m)) (told (event.code == EXITED) refl)
     where
       gone : (o : Option ℕ) → exited_application event.payload ≡ o → (event.code == EXITED) ≡ true → R m (forget_event_timers o m)
       gone None e k = changes.same m
@@ -76,10 +76,10 @@ module _ (R : Machine → Machine → Type 0) (q : ℕ) (event : Event) (changes
       (either m (event.code == CONTINUE) (empty_ring a) m (changes.chained m a (empty_ring a) (changes.devices m.serial false m.packets m refl) (emptied a)) (changes.same m))
     where
       emptied : (x : Machine) → R x (empty_ring x)
-      emptied x = repeated serve_line (grind (arith, nat_tests, either, noticed)) (suc (line_count x.serial)) x
+      emptied x = repeated serve_line (grind (decide, either, noticed)) (suc (line_count x.serial)) x
 
   packet-changes : (m : Machine) → R m (packet event m)
-  packet-changes = grind (arith, nat_tests, either, again, repeated, next-changes)
+  packet-changes = grind (decide, either, again, repeated, next-changes)
 
 pub of_changes : {R : Machine → Machine → Type 0} {q : ℕ} {event : Event} → Changes R q event → (m : Machine) → R m (serve q event m)
-of_changes {R = R} {q = q} {event = event} = grind (arith, nat_tests, etimer-changes, either, serial_line-changes, packet-changes)
+of_changes {R = R} {q = q} {event = event} = grind (decide, etimer-changes, either, serial_line-changes, packet-changes)

@@ -1,4 +1,5 @@
--- The names that most proofs here cite, passed on from one place. Declares nothing.
+-- The names that most proofs here cite, passed on from one place.
+use Rattle.std.proofs.Common.{arith}
 pub use Rattle.arrayvec.specs.ArrayVec.{ArrayVec}
 unfoldable pub use Rattle.device_core.specs.PacketQueue.{free_slot}
 pub use Rattle.device_core.specs.PacketQueue.{PacketQueue, forgotten, front_slot, is_held, unannounced, with_announced}
@@ -66,3 +67,6 @@ pub use Rattle.timer_core.specs.Names.{callback_timer, event_timer, is_callback_
 pub use Rattle.timer_core.specs.Timers.{NamedCell, Timers, armed_with, can_reset, cell_of, cell_under, deadline, first_due, given_cell, is_armed, is_due, reset_timer, restart_timer, set_timer, stop_timer, with_cell, without_callback_timers, zero_cell}
 pub use Rattle.timer_core.specs.declared.timer.Cell.{Cell}
 pub use Rattle.timer_core.specs.declared.timer.Timer.{Timer}
+
+-- what nearly every proof here rests on
+pub ruleset decide = (arith, nat_tests)

@@ -1,6 +1,6 @@
 -- Worked examples: what the turns of a transcript make of blocks, events and timers.
-use Rattle.std.proofs.Common.{arith, ◌≡◌, ℕ, true, false, List, [], ◌∷◌, ◌++◌, map, refl, Some, None, length}
-use Rattle.run_laws.proofs.Common.{nat_tests, list_any, Call, Reply, Refusal, Origin, Stimulus, EXIT, INIT, TIMER, Entry, Input, Payload, number_event, plain_event, deadline, managed_block, IsAtRest, accepted_events, given_events, has_ended, is_exit, are_names, heap_makes, heap_needs, heap_reads, managed_makes, managed_needs, managed_reads, HasCall, own, ripe_armings, standing, timer_events, heap_block}
+use Rattle.std.proofs.Common.{◌≡◌, ℕ, true, false, List, [], ◌∷◌, ◌++◌, map, refl, Some, None, length}
+use Rattle.run_laws.proofs.Common.{decide, list_any, Call, Reply, Refusal, Origin, Stimulus, EXIT, INIT, TIMER, Entry, Input, Payload, number_event, plain_event, deadline, managed_block, IsAtRest, accepted_events, given_events, has_ended, is_exit, are_names, heap_makes, heap_needs, heap_reads, managed_makes, managed_needs, managed_reads, HasCall, own, ripe_armings, standing, timer_events, heap_block}
 
 abbrev pub started : ℕ → Call → Entry
 started p call = Entry.Turn (record { 0 = p }) Origin.Synch (Stimulus.Event (plain_event INIT)) call
@@ -30,7 +30,7 @@ others_have_none = refl
 
 -- the reply to a call stands in the next turn
 write_answered : HasCall transcript (started 4 (Call.MmemAlloc 0 4) ∷ []) 4 Origin.Answer (Stimulus.Answer Reply.Done) (Call.MmemWrite 0 1 (record { items = 7 ∷ [] })) Reply.Done
-write_answered = grind (arith, nat_tests)
+write_answered = grind decide
 
 -- the last call has no reply yet, so it counts for nothing
 not_yet_resized : heap_block transcript 4 2 ≡ Some (0 ∷ 0 ∷ [])

@@ -1,6 +1,6 @@
 -- The heap blocks of a process, as its calls leave them.
 use Rattle.std.proofs.Common.{◌≡◌, ℕ, Bool, true, false, List, length, refl, ap, arith, Option, Some, None, ◌==◌, if◌then◌else◌}
-use Rattle.run_laws.proofs.Common.{nat_tests, Call, Refusal, number_of, zeros, overwritten, HeapStore, allocated, reallocated, Memory, with_heap, is_heap_block, alloc_refusal, realloc_refusal, Part, part_called, ask, ask_part, ask_managed, ask_heap, ask_pool_of, done_or_no_room, is_kernel_process, Blocks, heap_after, option_map, resized, freed, with_bytes, free_refusal, write_refusal, unless_refused, heap_kind}
+use Rattle.run_laws.proofs.Common.{decide, Call, Refusal, number_of, zeros, overwritten, HeapStore, allocated, reallocated, Memory, with_heap, is_heap_block, alloc_refusal, realloc_refusal, Part, part_called, ask, ask_part, ask_managed, ask_heap, ask_pool_of, done_or_no_room, is_kernel_process, Blocks, heap_after, option_map, resized, freed, with_bytes, free_refusal, write_refusal, unless_refused, heap_kind}
 use Rattle.heap_core.specs.HeapStore.{block_of}
 use Rattle.node_memory.proofs.HeapBlocks.{Becomes, Results, alloc-results, realloc-results, free-results, write-results}
 use Rattle.run_laws.proofs.KindLaws.{Store, IsChange, same_blocks}
@@ -27,16 +27,16 @@ heap_store = record { kind = heap_kind; change = heap_after; changes = changes_h
 module _ (call : Call) (q k : ℕ) (bytes : Option (List ℕ)) (m : Memory) where
   becomes_own : (new : HeapStore) → Becomes (number_of q k) bytes m.heap new → is_heap_block k ≡ true → (h : ℕ)
       → own_heap q (with_heap new m) h ≡ (if h == k then bytes else own_heap q m h)
-  becomes_own = grind (arith, nat_tests)
+  becomes_own = grind decide
 
   becomes_other : (new : HeapStore) → Becomes (number_of q k) bytes m.heap new → is_heap_block k ≡ true → (p : ℕ) → (q == p) ≡ false → is_kernel_process p ≡ false → (h : ℕ)
       → own_heap p (with_heap new m) h ≡ own_heap p m h
-  becomes_other = grind (arith, nat_tests)
+  becomes_other = grind decide
 
   is_change : (o : Option Refusal) (result : Option HeapStore) → (o ≡ None → is_heap_block k ≡ true) → (o ≡ None → Results q k bytes m.heap result)
       → (o ≡ None → (h : ℕ) → (if h == k then bytes else own_heap q m h) ≡ heap_after call (own_heap q m) h)
       → IsChange heap_store call q m (unless_refused o m (done_or_no_room result m))
-  is_change = grind (arith, nat_tests, same_blocks, becomes_own, becomes_other)
+  is_change = grind (decide, same_blocks, becomes_own, becomes_other)
 
 pub heap-change : (call : Call) (q : ℕ) (m : Memory) → changes_heap call ≡ true → IsChange heap_store call q m (ask call q m)
 heap-change (Call.HeapAlloc k n) q m c =
@@ -51,21 +51,21 @@ heap-change (Call.HeapWrite k at chunk) q m c =
     is_change (Call.HeapWrite k at chunk) q k (option_map (overwritten at chunk.items) (block_of q k m.heap)) m (write_refusal q k at (length chunk.items) m.heap)
     (Some (with_bytes q k at chunk.items m.heap)) (λ e. grind (arith, e)) (λ e. write-results q k at chunk.items m.heap)
     (λ e h. ap (λ o. if h == k then option_map (overwritten at chunk.items) o else own_heap q m h) (named (is_heap_block k) (block_of q k m.heap) (grind (arith, e))))
-heap-change call q m c = grind (arith, nat_tests)
+heap-change call q m c = grind decide
 
 -- any other call leaves the heap
 
 ask_managed-rest : (call : Call) (p : ℕ) (m : Memory) → (ask_managed call p m).0.heap ≡ m.heap
-ask_managed-rest = grind (arith, nat_tests)
+ask_managed-rest = grind decide
 
 ask_heap-rest : (call : Call) (p : ℕ) (m : Memory) → changes_heap call ≡ false → (ask_heap call p m).0.heap ≡ m.heap
-ask_heap-rest = grind (arith, nat_tests)
+ask_heap-rest = grind decide
 
 ask_pool-rest : (k : ℕ) (call : Call) (m : Memory) → (ask_pool_of k call m).0.heap ≡ m.heap
-ask_pool-rest = grind (arith, nat_tests)
+ask_pool-rest = grind decide
 
 ask_part-rest : (o : Option Part) (call : Call) (p : ℕ) (m : Memory) → changes_heap call ≡ false → (ask_part o call p m).0.heap ≡ m.heap
-ask_part-rest = grind (arith, nat_tests)
+ask_part-rest = grind decide
 
 pub ask-rest : (call : Call) (p : ℕ) (m : Memory) → changes_heap call ≡ false → (ask call p m).0.heap ≡ m.heap
-ask-rest = grind (arith, nat_tests)
+ask-rest = grind decide

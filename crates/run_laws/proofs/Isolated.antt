@@ -1,6 +1,6 @@
 -- A memory that nobody else uses answers a process as a shared one does under a quota.
 use Rattle.std.proofs.Common.{◌≡◌, ℕ, ◌≤◌, Bool, true, false, length, refl, ◌∙◌, sym, ap, arith, Some, None, if◌then◌else◌, sum_by, zero, suc, ◌+◌, List, [], ◌∷◌, ◌++◌, subst, cond, append-nil, Option, ◌==◌, map, filter_map, take}
-use Rattle.run_laws.proofs.Common.{nat_tests, Call, number_of, block_of, size_of, taken_by, Memory, is_handle, ask, is_kernel_process, Blocks, no_blocks, managed_after, as_over_quota, is_managed_call, private_memory, sum_by-replicate, free, handles, Reply, Origin, Pid, Stimulus, Entry, Input, Applications, Frame, is_application, Config, Machine, booted, is_bootable, after_call, Running, Runs, at_start, IsAnsweredAlone, managed_kind, OwnTurn, own_from, reply_in, reply_of, is_done, ticks_in, managed_answer, replies_from, AreAnsweredAlike}
+use Rattle.run_laws.proofs.Common.{decide, Call, number_of, block_of, size_of, taken_by, Memory, is_handle, ask, is_kernel_process, Blocks, no_blocks, managed_after, as_over_quota, is_managed_call, private_memory, sum_by-replicate, free, handles, Reply, Origin, Pid, Stimulus, Entry, Input, Applications, Frame, is_application, Config, Machine, booted, is_bootable, after_call, Running, Runs, at_start, IsAnsweredAlone, managed_kind, OwnTurn, own_from, reply_in, reply_of, is_done, ticks_in, managed_answer, replies_from, AreAnsweredAlike}
 use Rattle.run_laws.proofs.event_order.Runs.{Ran}
 use Rattle.run_laws.proofs.KindLaws.{accepted, same_blocks, KindLaw}
 use Rattle.run_laws.proofs.Managed.{all_same, managed-keeps}
@@ -19,19 +19,19 @@ pub record IsAlone (bytes p : ℕ) (s : Memory) : Type 0 where
 -- p has the same blocks in a memory under a quota
 module _ (quota p : ℕ) (m s : Memory) (limit : m.managed.quota ≡ Some quota) (alone : IsAlone quota p s) (own : (h : ℕ) → own_blocks p m h ≡ own_blocks p s h) where
   same_block : (h : ℕ) → is_handle h ≡ true → block_of p h m.managed ≡ block_of p h s.managed
-  same_block = grind (arith, nat_tests)
+  same_block = grind decide
 
   same_taken : taken_by p m.managed ≡ taken_by p s.managed
-  same_taken = grind (arith, nat_tests)
+  same_taken = grind decide
 
   pub same-reply : (call : Call) → is_managed_call call ≡ true → as_over_quota (ask call p s).1 ≡ (ask call p m).1
-  same-reply (Call.MmemAlloc h n) e = grind (arith, nat_tests)
-  same-reply (Call.MmemFree h) e = grind (arith, nat_tests)
-  same-reply (Call.MmemWrite h at chunk) e = grind (arith, nat_tests)
-  same-reply (Call.MmemRead h at len) e = grind (arith, nat_tests)
-  same-reply (Call.MmemCopy source target) e = grind (arith, nat_tests)
+  same-reply (Call.MmemAlloc h n) e = grind decide
+  same-reply (Call.MmemFree h) e = grind decide
+  same-reply (Call.MmemWrite h at chunk) e = grind decide
+  same-reply (Call.MmemRead h at len) e = grind decide
+  same-reply (Call.MmemCopy source target) e = grind decide
   same-reply Call.MmemAvail e = grind (arith)
-  same-reply call e = grind (arith, nat_tests)
+  same-reply call e = grind decide
 
 -- after a call of p it is still so
 pub record StaysAlone (bytes p : ℕ) (call : Call) (s : Memory) : Type 0 where
@@ -97,7 +97,7 @@ module _ (quota p : ℕ) where
 
   still-like : (m : Memory) (frames : List Frame) (s new : Memory) (left : List Frame) → IsLikeOwn m frames s → HasBlocks managed_store p new left (own_blocks p s)
       → new.managed.quota ≡ m.managed.quota → IsLikeOwn new left s
-  still-like = grind (arith, nat_tests)
+  still-like = grind decide
 
   module _ (few : p ≤ 19) where
     abbrev blocks_laws : Laws (accepted managed_after) (KindLaw managed_kind) (HasBlocks managed_store p) p
@@ -115,7 +115,7 @@ module _ (quota p : ℕ) where
         (λ g. absurd (grind (arith, f, g)), like)
     own-call call m s reply true f k rel has e =
         let stays = stays-alone quota p s few k rel.alone call in
-        let asked : (ask call p m.memory).1 ≡ reply = one_reply _ _ _ (grind (arith, nat_tests)) e in
+        let asked : (ask call p m.memory).1 ≡ reply = one_reply _ _ _ (grind decide) e in
         let alike : as_over_quota (ask call p s).1 ≡ reply = same-reply quota p m.memory s rel.limit rel.alone (λ h. ap (λ (b : Blocks). b h) (rel.has.own k)) call f ∙ asked in
         let both : is_done (Some (ask call p s).1) ≡ is_done (Some reply) = sym (grind arith) ∙ ap (λ (r : Reply). is_done (Some r)) alike in
         let own : own_blocks p (ask call p s).0 ≡ accepted managed_after call (ask call p s).1 (own_blocks p s) = same_blocks _ _ stays.own in
@@ -144,7 +144,7 @@ module _ (quota p : ℕ) where
   -- one turn more, in front
   one-more : (turn : OwnTurn) (turns : List OwnTurn) (s : Memory) → LawAt AsAlone (Some turn.call) s turn.reply
       → Replied turns (answered own_after (Some turn.call) turn.reply s) → Replied (turn ∷ turns) s
-  one-more = grind (arith, nat_tests)
+  one-more = grind decide
 
   law-at : (later : List Entry) (t : Knowledge Memory) → WellTold own_after AsAlone IsLikeOwn p t later → LawAt AsAlone t.last t.now (reply_in p later)
   law-at later t h = go t.last (reply_in p later) refl refl
@@ -162,7 +162,7 @@ module _ (quota p : ℕ) where
       → WellTold own_after AsAlone IsLikeOwn p (told own_after p t (Entry.Turn pid origin stimulus call)) later
       → RepliedAfter (told own_after p t (Entry.Turn pid origin stimulus call)) (clock + 0) later
       → RepliedAfter t clock (Entry.Turn pid origin stimulus call ∷ later)
-  replied-turn false pid origin stimulus call later clock t e h rest = grind (arith, nat_tests)
+  replied-turn false pid origin stimulus call later clock t e h rest = grind decide
   replied-turn true pid origin stimulus call later clock t e h rest =
       let s = answered own_after t.last (reply_of stimulus) t.now in
       let new : Knowledge Memory = record { now = s; last = Some call } in
@@ -175,13 +175,13 @@ module _ (quota p : ℕ) where
 
   replied : (entries : List Entry) (clock : ℕ) (t : Knowledge Memory) → WellTold own_after AsAlone IsLikeOwn p t entries → RepliedAfter t clock entries
   replied [] clock t h = refl
-  replied (Entry.Turn pid origin stimulus call ∷ later) clock t h = grind (arith, nat_tests, replied-turn, replied later (clock + 0) (told own_after p t (Entry.Turn pid origin stimulus call)) h.1)
+  replied (Entry.Turn pid origin stimulus call ∷ later) clock t h = grind (decide, replied-turn, replied later (clock + 0) (told own_after p t (Entry.Turn pid origin stimulus call)) h.1)
   replied (entry ∷ later) clock t h = replied later (clock + ticks_in entry) t h.1
 
   -- at boot neither memory has a block
   boot-like : (c : Config) → c.quota ≡ Some quota → IsLikeOwn (booted c).memory [] (private_memory quota)
   boot-like c e = record {
-        has = grind (arith, nat_tests);
+        has = grind decide;
         limit = e;
         alone = alone-at-first quota p;
       }
@@ -192,7 +192,7 @@ pub alone-so-far : (run : Ran)
     → is_bootable run.config ≡ true → (quota p : ℕ) (before later : List Entry) → run.config.quota ≡ Some quota → is_application run.config.apps p ≡ true
     → before ++ later ≡ run.after.entries → IsAnsweredAlone quota p before
 alone-so-far run boots quota p before later e named split =
-    let few : p ≤ 19 = grind (arith, nat_tests, boots, named) in
+    let few : p ≤ 19 = grind (decide, boots, named) in
     let start : Knowledge Memory = record { now = private_memory quota; last = None } in
     let well = run-told (own_after quota p) (AsAlone quota p) (IsLikeOwn quota p) p (isolated-laws quota p few) start run (boot-like quota p run.config e) before later split in
     replied quota p before 0 start well
@@ -208,7 +208,7 @@ all-alone run boots quota p e named =
 replies-take : (p n : ℕ) (calls : List Call) (memory : Memory) → take n (replies_from p memory calls) ≡ replies_from p memory (take n calls)
 replies-take p zero calls memory = refl
 replies-take p (suc n) [] memory = refl
-replies-take p (suc n) (call ∷ calls) memory = grind (arith, nat_tests, replies-take p n calls (ask call p memory).0)
+replies-take p (suc n) (call ∷ calls) memory = grind (decide, replies-take p n calls (ask call p memory).0)
 
 pub alone-alike : (quota p : ℕ) (X Y : List Entry) → IsAnsweredAlone quota p X → IsAnsweredAlone quota p Y → AreAnsweredAlike p X Y
-alone-alike = grind (arith, nat_tests, replies-take)
+alone-alike = grind (decide, replies-take)

@@ -1,6 +1,6 @@
 -- From what each call keeps to what a transcript shows, for a kind of memory.
-use Rattle.std.proofs.Common.{◌≡◌, ℕ, ◌+◌, ◌≤◌, Bool, true, false, List, [], ◌∷◌, refl, arith, Option, Some, None, ◌==◌, if◌then◌else◌, is_some, is_none, fold, ◌↔◌, length}
-use Rattle.run_laws.proofs.Common.{nat_tests, list_any, Call, Reply, Refusal, Origin, Stimulus, Entry, ArrayVec, range_of, OwnTurn, own, own_from, reply_in, reply_of, is_done, ticks_in, HasCall, up_to_call, Blocks, no_blocks, are_names, Asked, Memory, is_kernel_process, option_map, over_accepted, Kind, AreOwn}
+use Rattle.std.proofs.Common.{◌≡◌, ℕ, ◌+◌, ◌≤◌, Bool, true, false, List, [], ◌∷◌, refl, Option, Some, None, ◌==◌, if◌then◌else◌, is_some, is_none, fold, ◌↔◌, length}
+use Rattle.run_laws.proofs.Common.{decide, list_any, Call, Reply, Refusal, Origin, Stimulus, Entry, ArrayVec, range_of, OwnTurn, own, own_from, reply_in, reply_of, is_done, ticks_in, HasCall, up_to_call, Blocks, no_blocks, are_names, Asked, Memory, is_kernel_process, option_map, over_accepted, Kind, AreOwn}
 use Rattle.run_laws.proofs.Whole.{Knowledge, told, told_all, answered}
 
 -- what a call and its reply say of the caller's blocks
@@ -15,13 +15,13 @@ pub record KindLaw (kind : Kind) (blocks : Blocks) (call : Call) (reply : Reply)
 -- a call that names no block
 pub nothing : (kind : Kind) (blocks : Blocks) (call : Call) (reply : Reply) → kind.needs call ≡ [] → kind.makes call ≡ [] → kind.reads call ≡ None
     → KindLaw kind blocks call reply
-nothing = grind (arith, nat_tests)
+nothing = grind decide
 
 abbrev pub accepted : (Call → Blocks → Blocks) → Call → Reply → Blocks → Blocks
 accepted change call reply blocks = if is_done (Some reply) then change call blocks else blocks
 
 pub same_blocks : (f g : Blocks) → ((h : ℕ) → f h ≡ g h) → f ≡ g
-same_blocks = grind (arith, nat_tests)
+same_blocks = grind decide
 
 -- a kind of memory: what accepted calls make of its blocks, which calls those are, and a process's blocks in it
 pub record Store : Type 0 where
@@ -51,11 +51,11 @@ module _ (change : Call → Blocks → Blocks) (p : ℕ) where
       → over (answered (accepted change) last (reply_in p entries) b) (own_from p clock entries)
       ≡ (fold (told (accepted change) p) (record { now = b; last = last }) entries).now
   own-told [] clock last b = no_answer last b
-  own-told (Entry.Turn pid origin stimulus call ∷ later) clock last b = grind (arith, nat_tests, own-told later (clock + 0) (Some call) (answered (accepted change) last (reply_of stimulus) b), own-told later (clock + 0) last b)
+  own-told (Entry.Turn pid origin stimulus call ∷ later) clock last b = grind (decide, own-told later (clock + 0) (Some call) (answered (accepted change) last (reply_of stimulus) b), own-told later (clock + 0) last b)
   own-told (entry ∷ later) clock last b = own-told later (clock + ticks_in entry) last b
 
   pub blocks-told : (entries : List Entry) → over_accepted change (own p entries) ≡ (told_all (accepted change) p at_first entries).now
-  blocks-told = grind (arith, nat_tests, own-told)
+  blocks-told = grind (decide, own-told)
 
 -- every answered call is as the law says, of the caller's blocks by its own turns
 abbrev pub EveryCall : Kind → List Entry → Type 0

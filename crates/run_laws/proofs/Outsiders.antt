@@ -1,6 +1,6 @@
 -- Nobody takes a turn but the applications of the mote.
 use Rattle.std.proofs.Common.{◌≡◌, ℕ, zero, suc, ◌+◌, ◌≤◌, Bool, true, false, not, List, [], ◌∷◌, ◌++◌, refl, arith, ◌==◌, map, nat_le}
-use Rattle.run_laws.proofs.Common.{list_all, range_with_len, nat_tests, Call, Origin, Stimulus, Entry, Input, Event, Applications, State, Item, state_of, is_application, Scheduler, after_item, in_front, Config, Machine, is_bootable, after_call, effect, serve, Running, Runs, with_more_work, at_start}
+use Rattle.run_laws.proofs.Common.{list_all, range_with_len, decide, Call, Origin, Stimulus, Entry, Input, Event, Applications, State, Item, state_of, is_application, Scheduler, after_item, in_front, Config, Machine, is_bootable, after_call, effect, serve, Running, Runs, with_more_work, at_start}
 use Rattle.run_laws.proofs.Arrivals.{effect-keeps, serve-untouched}
 use Rattle.run_laws.proofs.event_order.Items.{with_agenda, facing}
 use Rattle.run_laws.proofs.event_order.Runs.{Ran, AtEach, each-more, at_each}
@@ -35,7 +35,7 @@ module _ (p : ℕ) (high : nat_le 4 p ≡ true) where
 
   -- the rest of the agenda
   without_item : (item : Item) (items : List Item) (s : Scheduler Bool) → IsOut (with_agenda (item ∷ items) s) → IsOut (with_agenda items s)
-  without_item = grind (arith, nat_tests)
+  without_item = grind decide
 
   -- a call
 
@@ -43,15 +43,15 @@ module _ (p : ℕ) (high : nat_le 4 p ≡ true) where
   call-applications call q m = grind arith
 
   not_named : (s : Scheduler Bool) (r : ℕ) → is_application s.applications p ≡ false → is_application s.applications r ≡ true → not (r == p) ≡ true
-  not_named = grind (arith, nat_tests)
+  not_named = grind decide
 
   -- a step
 
   served-out : (q : ℕ) (event : Event) (m : Machine) → IsOut m.scheduler → IsOut (serve q event m).scheduler
-  served-out = grind (arith, nat_tests, serve-untouched)
+  served-out = grind (decide, serve-untouched)
 
   effect-out : (input : Input) (m : Machine) → IsOut m.scheduler → IsOut (effect input m).scheduler
-  effect-out = grind (arith, nat_tests, effect-keeps, state_of-with_mark, all-append)
+  effect-out = grind (decide, effect-keeps, state_of-with_mark, all-append)
 
   -- the run
 
@@ -71,12 +71,12 @@ module _ (p : ℕ) (high : nat_le 4 p ≡ true) where
   out_cases = record {
         notes = λ m X entry items h. grind (arith, h.agenda);
         free = λ m X h. h;
-        carried = λ m X item items n s h. grind (arith, nat_tests, all-append, all-mapped, all-delivered, without_item, state_of-with_other, state_of-without, state_of-without_other, state_of-with_mark);
+        carried = λ m X item items n s h. grind (decide, all-append, all-mapped, all-delivered, without_item, state_of-with_other, state_of-without, state_of-without_other, state_of-with_mark);
         served = λ m X q origin event items k h. served-out q event (facing items m) (without_item (Item.Give q origin (Stimulus.Event event)) items m.scheduler h);
-        called_back = λ m X q c h. grind (arith, nat_tests, all-append, m.scheduler);
-        round = λ m X h. grind (arith, nat_tests);
+        called_back = λ m X q c h. grind (decide, all-append, m.scheduler);
+        round = λ m X h. grind decide;
         turn = λ m X items q origin stimulus call h.
-            grind (arith, nat_tests, call-applications, all-mapped, all-append, not_named, state_of-with_other, state_of-with_mark);
+            grind (decide, call-applications, all-mapped, all-append, not_named, state_of-with_other, state_of-with_mark);
         told = λ m X items q origin stimulus call h i. each-more IsOthers X (turn_entry q origin stimulus call) i (rw (other_turn q origin stimulus items m h) refl);
         shown = λ m X items note h. without_item (Item.Show (Entry.Note note)) items m.scheduler h;
         noted = λ m X items note h i. each-more IsOthers X (Entry.Note note) i refl;
@@ -86,11 +86,11 @@ module _ (p : ℕ) (high : nat_le 4 p ≡ true) where
 
   starts-out : (n from : ℕ) → from + n ≤ p → list_all keeps_out (map (λ q. Item.Start q) (range_with_len from n)) ≡ true
   starts-out zero from h = refl
-  starts-out (suc n) from h = grind (arith, nat_tests, starts-out n (from + 1) (omega (arith, h)))
+  starts-out (suc n) from h = grind (decide, starts-out n (from + 1) (omega (arith, h)))
 
   run-out : (run : Ran)
       → is_application run.config.apps p ≡ false → AtEach IsOthers run.after.entries
-  run-out run out = at_each IsOthers (law_of out_cases) run (grind (arith, nat_tests, starts-out))
+  run-out run out = at_each IsOthers (law_of out_cases) run (grind (decide, starts-out))
 
 -- so each turn is one of the processes 4 to 19, where the mote boots
 pub turns-low : (run : Ran) → is_bootable run.config ≡ true
@@ -99,10 +99,10 @@ pub turns-low : (run : Ran) → is_bootable run.config ≡ true
 turns-low run boots before later p origin stimulus call split = go (nat_le p 19) refl
   where
     go : (b : Bool) → nat_le p 19 ≡ b → p ≤ 19
-    go true e = grind (arith, nat_tests, e)
+    go true e = grind (decide, e)
     go false e =
-        let high : nat_le 4 p ≡ true = grind (arith, nat_tests, e) in
-        let out : is_application run.config.apps p ≡ false = grind (arith, nat_tests, boots, e) in
+        let high : nat_le 4 p ≡ true = grind (decide, e) in
+        let out : is_application run.config.apps p ≡ false = grind (decide, boots, e) in
         let entry = Entry.Turn (record { 0 = p }) origin stimulus call in
         let other : is_others p high entry ≡ true = run-out p high run out before later entry split in
-        absurd (grind (arith, nat_tests, other))
+        absurd (grind (decide, other))

@@ -1,6 +1,6 @@
 -- The blocks of a process are what its own calls make of them: through each call, and so in every run.
 use Rattle.std.proofs.Common.{◌≡◌, ℕ, ◌≤◌, Bool, true, false, ◌&&◌, List, [], ◌∷◌, ◌++◌, length, refl, ◌∙◌, sym, arith, subst, append-nil, Option, Some, None, ◌==◌, nat_le, drop, slice_get}
-use Rattle.run_laws.proofs.Common.{list_all, nat_tests, Call, Reply, Input, Entry, Applications, number_of, Frame, front_slot, with_block, Memory, with_managed, ask, is_kernel_process, Config, Machine, booted, after_call, Running, Runs, at_start, Blocks, no_blocks, own, up_to_call, option_map, length-set, frame_dropped, is_memory_call, asked_of_memory, over_accepted, AreOwn}
+use Rattle.run_laws.proofs.Common.{list_all, decide, Call, Reply, Input, Entry, Applications, number_of, Frame, front_slot, with_block, Memory, with_managed, ask, is_kernel_process, Config, Machine, booted, after_call, Running, Runs, at_start, Blocks, no_blocks, own, up_to_call, option_map, length-set, frame_dropped, is_memory_call, asked_of_memory, over_accepted, AreOwn}
 use Rattle.run_laws.proofs.event_order.Runs.{Ran}
 use Rattle.run_laws.proofs.Marks.{marks, due}
 use Rattle.run_laws.proofs.KindLaws.{KindLaw, Store, IsChange, EveryCall, accepted, at_first, blocks-told, every-own}
@@ -10,7 +10,7 @@ use Rattle.run_laws.proofs.Whole.{Laws, answered, run-told, call-law}
 -- what memory answers is told next
 
 pub told-reply : (call : Call) (p : ℕ) (m : Machine) → is_memory_call call ≡ true → due (marks p (after_call call p m).scheduler.agenda) ≡ Some (ask call p m.memory).1
-told-reply = grind (arith, nat_tests)
+told-reply = grind decide
 
 pub one_reply : (o : Option Reply) (a b : Reply) → o ≡ Some a → o ≡ Some b → a ≡ b
 one_reply o a b e f = cc
@@ -20,7 +20,7 @@ one_reply o a b e f = cc
 -- what holds as it is, of what memory answers, and where the front frame is dropped, holds after each call
 module _ (P : Memory → List Frame → Type 0) (q : ℕ) (m : Machine) (same : P m.memory m.packets.frames) (dropped : (slot : ℕ) → front_slot m.packets ≡ Some slot → P (frame_dropped slot m.memory) (drop 1 m.packets.frames)) where
   pub each-call : (call : Call) → P (ask call q m.memory).0 m.packets.frames → P (after_call call q m).memory (after_call call q m).packets.frames
-  each-call = grind (arith, nat_tests)
+  each-call = grind decide
 
 -- 272 names have places, and frames lie under names of process 3
 
@@ -33,16 +33,16 @@ pub record IsSound (m : Memory) (frames : List Frame) : Type 0 where
 
 front_low : (frames : List Frame) (slot : ℕ) → are_slots frames ≡ true → option_map (λ (frame : Frame). frame.slot) (slice_get frames 0) ≡ Some slot → nat_le slot 15 ≡ true
 front_low [] slot h e = absurd (cc)
-front_low (frame ∷ frames) slot h e = grind (arith, nat_tests)
+front_low (frame ∷ frames) slot h e = grind decide
 
 more_slots : (frames : List Frame) (slot len : ℕ) → slot ≤ 15 → are_slots frames ≡ true → are_slots (frames ++ record { slot = slot; len = len } ∷ []) ≡ true
-more_slots [] slot len low h = grind (arith, nat_tests)
-more_slots (frame ∷ frames) slot len low h = grind (arith, nat_tests, more_slots frames slot len low)
+more_slots [] slot len low h = grind decide
+more_slots (frame ∷ frames) slot len low h = grind (decide, more_slots frames slot len low)
 
 call-sound : (call : Call) (q : ℕ) (m : Machine) → IsSound m.memory m.packets.frames → IsSound (after_call call q m).memory (after_call call q m).packets.frames
 call-sound call q m h =
     each-call IsSound q m h
-    (λ slot e. record { size = length-set m.memory.managed.blocks (number_of 3 slot) None ∙ h.size; slots = grind (arith, nat_tests, h.slots) })
+    (λ slot e. record { size = length-set m.memory.managed.blocks (number_of 3 slot) None ∙ h.size; slots = grind (decide, h.slots) })
     call (record { size = (ask-shape call q m.memory).size ∙ h.size; slots = h.slots })
 
 -- A kind of memory where each call keeps what it should.
@@ -82,15 +82,15 @@ module _ (store : Store) (keeps : Keeps store) (p : ℕ) (few : p ≤ 19) where
   own-after : (call : Call) (m : Machine) (b : Bool) (reply : Option Reply) → store.changes call ≡ b → is_kernel_process p ≡ false → IsSound m.memory m.packets.frames
       → due (marks p (after_call call p m).scheduler.agenda) ≡ reply
       → store.blocks p (after_call call p m).memory ≡ answered (accepted store.change) (Some call) reply (store.blocks p m.memory)
-  own-after call m true reply e k sound d = grind (arith, nat_tests, told-reply)
-  own-after call m false reply e k sound d = grind (arith, nat_tests, left-after, sound)
+  own-after call m true reply e k sound d = grind (decide, told-reply)
+  own-after call m false reply e k sound d = grind (decide, left-after, sound)
 
   pub own-laws : Laws (accepted store.change) (KindLaw store.kind) (HasBlocks store p) p
   own-laws =
       record {
         self = λ call m blocks reply k has rest e.
-            (subst (λ (b : Blocks). KindLaw store.kind b call reply) (has.own k) (keeps.law call p m reply e), (grind (arith, nat_tests, call-sound, own-after)));
-        silent = λ call m blocks k has e. grind (arith, nat_tests, call-sound, own-after);
+            (subst (λ (b : Blocks). KindLaw store.kind b call reply) (has.own k) (keeps.law call p m reply e), (grind (decide, call-sound, own-after)));
+        silent = λ call m blocks k has e. grind (decide, call-sound, own-after);
         other = λ call q m blocks n has.
             record { sound = call-sound call q m has.sound; own = λ k. left-after call q m (grind (arith, n)) k has.sound ∙ has.own k };
         frame = λ slot len bytes memory frames blocks low has.
@@ -99,12 +99,12 @@ module _ (store : Store) (keeps : Keeps store) (p : ℕ) (few : p ≤ 19) where
                 size = length-set memory.managed.blocks (number_of 3 slot) (Some bytes) ∙ has.sound.size;
                 slots = more_slots frames slot len low has.sound.slots;
               };
-              own = λ k. keeps.framed slot p (Some bytes) memory (grind (arith, nat_tests, low)) k ∙ has.own k;
+              own = λ k. keeps.framed slot p (Some bytes) memory (grind (decide, low)) k ∙ has.own k;
             };
       }
 
 pub boot-has : (store : Store) → Keeps store → (p : ℕ) (c : Config) → HasBlocks store p (booted c).memory [] no_blocks
-boot-has store keeps p c = record { sound = grind (arith, nat_tests); own = λ k. keeps.boot p c }
+boot-has store keeps p c = record { sound = grind decide; own = λ k. keeps.boot p c }
 
 -- the run
 

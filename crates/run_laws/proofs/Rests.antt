@@ -1,6 +1,6 @@
 -- Every run comes to rest after each input, or is halted: each step takes something off a measure.
 use Rattle.std.proofs.Common.{◌≡◌, ℕ, zero, suc, ◌+◌, ◌-◌, ◌*◌, ◌≤◌, Bool, true, false, not, ◌&&◌, List, [], ◌∷◌, length, refl, arith, Option, Some, None, if◌then◌else◌, ◌==◌, map}
-use Rattle.run_laws.proofs.Common.{length-map, nat_tests, Call, Stimulus, Origin, Input, Applications, Item, Job, is_empty, Scheduler, after_front, job, job_at, wants_round, in_front, Config, Machine, scheduled, after_call, fed, Answers, StepMade, Running, Runs, ComesToRest, one_step, job_done, within_limit, is_still, after_step, answers_after, with_input, at_start, silent, with_more_work, turn_taken, farewells, of_event, number_event, EXITED, numbers, without, is_process}
+use Rattle.run_laws.proofs.Common.{length-map, decide, Call, Stimulus, Origin, Input, Applications, Item, Job, is_empty, Scheduler, after_front, job, job_at, wants_round, in_front, Config, Machine, scheduled, after_call, fed, Answers, StepMade, Running, Runs, ComesToRest, one_step, job_done, within_limit, is_still, after_step, answers_after, with_input, at_start, silent, with_more_work, turn_taken, farewells, of_event, number_event, EXITED, numbers, without, is_process}
 use Rattle.std.proofs.Math.Nat.{suc-mul}
 use Rattle.kernel_core.specs.Code.Cost.{starts, present, costs, round_cost, IsPaid}
 use Rattle.kernel_core.proofs.Costs.{starts-append, length-without, after_front-present, costs-cons, costs-nil, costs-append, paid}
@@ -36,7 +36,7 @@ module _ (bound : ℕ) where
   -- a call puts little on the agenda
   call-costs : (call : Call) (p : ℕ) (m : Machine) → length m.scheduler.processes ≤ bound
       → costs bound (after_call call p m).scheduler.agenda ≤ costs bound m.scheduler.agenda + 2 * bound + 4
-  call-costs = grind (arith, nat_tests, costs-append, costs-cons, costs-nil, costs-farewells)
+  call-costs = grind (decide, costs-append, costs-cons, costs-nil, costs-farewells)
 
 -- a step
 
@@ -61,45 +61,45 @@ record Falls (bound left : ℕ) (old new : Machine) : Type 0 where
 
 -- what is left where one unit of work more was done
 one_less : (work unit : ℕ) → work ≤ 10000 → (work == 10000) ≡ false → (10000 - work) * unit ≡ (10000 - (work + 1)) * unit + unit
-one_less work unit = grind (arith, nat_tests, suc-mul (10000 - (work + 1)) unit)
+one_less work unit = grind (decide, suc-mul (10000 - (work + 1)) unit)
 
 module _ (bound : ℕ) where
   limit-falls : (left : ℕ) (m : Machine) (step : StepMade) → m.work ≤ 10000 → ((m.work == 10000) ≡ false → Falls bound left m step.0)
       → Falls bound left m (within_limit m step).0
-  limit-falls = grind (arith, nat_tests)
+  limit-falls = grind decide
 
   call-falls : (old : ℕ) (call : Call) (p : ℕ) (m : Machine) → m.work ≤ 10000 → (m.work == 10000) ≡ false → length m.scheduler.processes ≤ bound
       → costs bound m.scheduler.agenda + 1 ≤ old
       → Falls bound ((10000 - m.work) * suc (round_cost bound) + old) m (after_call call p (with_more_work m))
   unfolding measure
-  call-falls = grind (arith, nat_tests, call-work, length-map, starts-append, starts-farewells, call-costs, one_less, measure)
+  call-falls = grind (decide, call-work, length-map, starts-append, starts-farewells, call-costs, one_less, measure)
 
   round-falls : (old : ℕ) (m : Machine) → m.work ≤ 10000 → (m.work == 10000) ≡ false → costs bound m.scheduler.agenda ≤ round_cost bound
       → Falls bound ((10000 - m.work) * suc (round_cost bound) + old) m (with_more_work m)
   unfolding measure
-  round-falls = grind (arith, nat_tests, one_less, measure)
+  round-falls = grind (decide, one_less, measure)
 
   -- the machine is the same but for less on its agenda
   quiet-falls : (old : ℕ) (m new : Machine) → m.work ≤ 10000 → new.work ≡ m.work → present new.scheduler ≤ present m.scheduler
       → costs bound new.scheduler.agenda + 1 ≤ old → Falls bound ((10000 - m.work) * suc (round_cost bound) + old) m new
   unfolding measure
-  quiet-falls = grind (arith, nat_tests)
+  quiet-falls = grind decide
 
   -- a job that was worth so much, and is done
   job-falls : (answers : Answers) (next : Option (Job Bool)) (m : Machine) (old : ℕ) → length m.scheduler.processes ≤ bound → m.work ≤ 10000 → is_rest next ≡ false
       → IsPaid bound next old (costs bound m.scheduler.agenda)
       → Falls bound ((10000 - m.work) * suc (round_cost bound) + old) m (job_done answers next m).0
-  job-falls answers (Some (Job.TakeTurn p origin stimulus)) m old h w r paid = grind (arith, nat_tests, limit-falls, call-falls)
-  job-falls answers (Some (Job.Serve p event)) m old h w r paid = grind (arith, nat_tests, serve-untouched, quiet-falls)
-  job-falls answers (Some (Job.CallBack p c true)) m old h w r paid = grind (arith, nat_tests, quiet-falls)
+  job-falls answers (Some (Job.TakeTurn p origin stimulus)) m old h w r paid = grind (decide, limit-falls, call-falls)
+  job-falls answers (Some (Job.Serve p event)) m old h w r paid = grind (decide, serve-untouched, quiet-falls)
+  job-falls answers (Some (Job.CallBack p c true)) m old h w r paid = grind (decide, quiet-falls)
   job-falls answers (Some (Job.CallBack p c false)) m old h w r paid =
       let given : Machine = scheduled (in_front (Item.Give p Origin.Callback (Stimulus.Callback c) ∷ [])) m in
       let less : costs bound given.scheduler.agenda + 1 ≤ old = rw (costs-cons bound) (omega arith) in
       quiet-falls old m given w refl (omega arith) less
-  job-falls answers (Some (Job.ShowEntry entry)) m old h w r paid = grind (arith, nat_tests, quiet-falls)
+  job-falls answers (Some (Job.ShowEntry entry)) m old h w r paid = grind (decide, quiet-falls)
   job-falls answers (Some Job.Round) m old h w r paid = limit-falls _ m (silent (with_more_work m)) w (λ n. round-falls old m w n paid)
   job-falls answers (Some Job.Rest) m old h w r paid = absurd (cc)
-  job-falls answers None m old h w r paid = grind (arith, nat_tests, quiet-falls)
+  job-falls answers None m old h w r paid = grind (decide, quiet-falls)
 
   step-falls : (answers : Answers) (m : Machine) → m.work ≤ 10000 → reserve m ≤ bound → is_still m ≡ false → Falls bound (measure bound m) m (one_step answers m).0
   unfolding measure
@@ -109,7 +109,7 @@ module _ (bound : ℕ) where
       next = scheduled after_front m
 
       works : m.is_halted ≡ false → is_rest (job m.scheduler) ≡ false
-      works up = grind (arith, nat_tests, m.scheduler)
+      works up = grind (decide, m.scheduler)
 
       fewer : present (after_front m.scheduler) ≤ present m.scheduler
       fewer = after_front-present m.scheduler
@@ -126,14 +126,14 @@ module _ (bound : ℕ) where
 -- the run
 
 rests_here : (says : Applications) (r : Running) → is_still r.machine ≡ true → (new : Running) × ComesToRest says r new
-rests_here = grind (arith, nat_tests)
+rests_here = grind decide
 
 rests_later : (says : Applications) (r : Running) → (new : Running) × ComesToRest says (after_step says r) new → (new : Running) × ComesToRest says r new
 rests_later says r (new, (n, goes, still)) = (new, (suc n, goes, still))
 
 rests_within : (says : Applications) (bound fuel : ℕ) (r : Running) → r.machine.work ≤ 10000 → reserve r.machine ≤ bound → measure bound r.machine + 1 ≤ fuel
     → (new : Running) × ComesToRest says r new
-rests_within says bound zero r w few h = grind (arith, nat_tests)
+rests_within says bound zero r w few h = grind decide
 rests_within says bound (suc fuel) r w few h = go (is_still r.machine) refl (λ work few less. rests_within says bound fuel (after_step says r) work few less)
   where
     later : Running
@@ -182,4 +182,4 @@ runs_on says (input ∷ inputs) r w = joined (rests says r w) (λ rested. runs_o
         (next.0, (rested, rests, next.1, next.2))
 
 pub run_of : (config : Config) (says : Applications) (inputs : List Input) → (after : Running) × Runs says (at_start config) inputs after
-run_of = grind (arith, nat_tests, runs_on)
+run_of = grind (decide, runs_on)

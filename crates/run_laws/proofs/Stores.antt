@@ -1,6 +1,6 @@
 -- Managed memory: what each call keeps of it.
 use Rattle.std.proofs.Common.{◌≡◌, ℕ, ◌+◌, ◌≤◌, Bool, true, false, List, [], length, refl, ◌∙◌, ap, arith, Option, Some, None, ◌==◌, if◌then◌else◌, ◌≢◌, is_some, sum_by, unwrap_or}
-use Rattle.run_laws.proofs.Common.{nat_tests, Call, Refusal, number_of, zeros, overwritten, block_of, bytes_of, size_of, taken_by, with_block, Memory, with_managed, is_handle, Part, part_called, Asked, ask, ask_part, ask_managed, ask_heap, ask_pool_of, is_kernel_process, Blocks, managed_after, managed_kind, option_map, get_or-set_same, get_or-set_other, length-set, copy_refusal, unless_refused, done, copied}
+use Rattle.run_laws.proofs.Common.{decide, Call, Refusal, number_of, zeros, overwritten, block_of, bytes_of, size_of, taken_by, with_block, Memory, with_managed, is_handle, Part, part_called, Asked, ask, ask_part, ask_managed, ask_heap, ask_pool_of, is_kernel_process, Blocks, managed_after, managed_kind, option_map, get_or-set_same, get_or-set_other, length-set, copy_refusal, unless_refused, done, copied}
 use Rattle.node_memory.specs.ManagedCalls.{alloc_refusal, free_refusal, write_refusal}
 use Rattle.run_laws.proofs.KindLaws.{Store, IsChange, same_blocks}
 use Rattle.run_laws.proofs.Totals.{total-put}
@@ -11,16 +11,16 @@ own_blocks p m h = if is_handle h then block_of p h m.managed else None
 
 pub put_other : (q k p h : ℕ) (block : Option (List ℕ)) (m : Memory) → (q == p) ≡ false → is_kernel_process p ≡ false → is_handle k ≡ true
     → own_blocks p (with_managed (with_block q k block m.managed) m) h ≡ own_blocks p m h
-put_other = grind (arith, nat_tests, get_or-set_other)
+put_other = grind (decide, get_or-set_other)
 
 -- 272 names have places
 pub put_own : (p k h : ℕ) (block : Option (List ℕ)) (m : Memory) → p ≤ 19 → is_kernel_process p ≡ false → length m.managed.blocks ≡ 272 → is_handle k ≡ true
     → own_blocks p (with_managed (with_block p k block m.managed) m) h ≡ (if h == k then block else own_blocks p m h)
-put_own = grind (arith, nat_tests, get_or-set_same, get_or-set_other)
+put_own = grind (decide, get_or-set_same, get_or-set_other)
 
 put_total : (p k : ℕ) (block : Option (List ℕ)) (m : Memory) → p ≤ 19 → is_kernel_process p ≡ false → length m.managed.blocks ≡ 272 → is_handle k ≡ true
     → sum_by size_of (with_block p k block m.managed).blocks + taken_by p m.managed ≡ sum_by size_of m.managed.blocks + taken_by p (with_block p k block m.managed)
-put_total = grind (arith, nat_tests, total-put)
+put_total = grind (decide, total-put)
 
 -- a call on memory
 
@@ -33,20 +33,20 @@ changes_managed (Call.MmemCopy source target) = true
 changes_managed _ = false
 
 ask_managed-rest : (call : Call) (p : ℕ) (m : Memory) → changes_managed call ≡ false → (ask_managed call p m).0.managed ≡ m.managed
-ask_managed-rest = grind (arith, nat_tests)
+ask_managed-rest = grind decide
 
 ask_pool-rest : (k : ℕ) (call : Call) (m : Memory) → (ask_pool_of k call m).0.managed ≡ m.managed
-ask_pool-rest = grind (arith, nat_tests)
+ask_pool-rest = grind decide
 
 ask_heap-rest : (call : Call) (p : ℕ) (m : Memory) → (ask_heap call p m).0.managed ≡ m.managed
-ask_heap-rest = grind (arith, nat_tests)
+ask_heap-rest = grind decide
 
 ask_part-rest : (o : Option Part) (call : Call) (p : ℕ) (m : Memory) → changes_managed call ≡ false → (ask_part o call p m).0.managed ≡ m.managed
-ask_part-rest = grind (arith, nat_tests)
+ask_part-rest = grind decide
 
 -- any other call leaves managed memory
 pub ask-rest : (call : Call) (p : ℕ) (m : Memory) → changes_managed call ≡ false → (ask call p m).0.managed ≡ m.managed
-ask-rest = grind (arith, nat_tests)
+ask-rest = grind decide
 
 -- managed memory itself stays, whatever its blocks are
 pub record HasShape (old new : Memory) : Type 0 where
@@ -70,12 +70,12 @@ module _ (call : Call) (q k : ℕ) (block : Option (List ℕ)) (m : Memory) wher
   is_change : (o : Option Refusal) → (o ≡ None → is_handle k ≡ true)
       → (o ≡ None → (h : ℕ) → (if h == k then block else own_blocks q m h) ≡ managed_after call (own_blocks q m) h)
       → IsManagedChange call q m (unless_refused o m (done (with_managed (with_block q k block m.managed) m)))
-  is_change o low made = grind (arith, nat_tests, length-set, put_total, same_blocks, put_own, put_other)
+  is_change o low made = grind (decide, length-set, put_total, same_blocks, put_own, put_other)
 
 -- the source's bytes
 live_source : (b : Bool) (o : Option (List ℕ)) (target : Option (List ℕ)) → b ≡ true → is_some o ≡ true
     → option_map (overwritten 0 (unwrap_or o [])) target ≡ copied (if b then o else None) target
-live_source = grind (arith, nat_tests)
+live_source = grind decide
 
 pub managed-change : (call : Call) (q : ℕ) (m : Memory) → changes_managed call ≡ true → IsManagedChange call q m (ask call q m)
 managed-change (Call.MmemAlloc k n) q m c = is_change (Call.MmemAlloc k n) q k (Some (zeros n)) m (alloc_refusal q k n m.managed) (λ e. grind (arith, e)) (λ e h. refl)
@@ -88,7 +88,7 @@ managed-change (Call.MmemWrite k at chunk) q m c =
     made e h =
         let named : is_handle k ≡ true = grind (arith, e) in
         let live : is_some (block_of q k m.managed) ≡ true = grind (arith, e) in
-        ap (λ o. if h == k then o else own_blocks q m h) (grind (arith, nat_tests))
+        ap (λ o. if h == k then o else own_blocks q m h) (grind decide)
 managed-change (Call.MmemCopy source target) q m c =
     is_change (Call.MmemCopy source target) q target (Some (overwritten 0 (bytes_of q source m.managed) (bytes_of q target m.managed))) m (copy_refusal q source target m.managed) (λ e. grind (arith, e)) made
   where
@@ -99,10 +99,10 @@ managed-change (Call.MmemCopy source target) q m c =
         let from_named : is_handle source ≡ true = grind (arith, e) in
         let from_live : is_some (block_of q source m.managed) ≡ true = grind (arith, e) in
         ap (λ o. if h == target then o else own_blocks q m h)
-        ((grind (arith, nat_tests))
+        ((grind decide)
         ∙ live_source (is_handle source) (block_of q source m.managed) (own_blocks q m target) from_named from_live)
-managed-change call q m c = grind (arith, nat_tests)
+managed-change call q m c = grind decide
 
 -- every call on memory keeps its shape
 pub ask-shape : (call : Call) (q : ℕ) (m : Memory) → HasShape m (ask call q m).0
-ask-shape = grind (arith, nat_tests, managed-change, ask-rest)
+ask-shape = grind (decide, managed-change, ask-rest)

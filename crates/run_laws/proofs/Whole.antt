@@ -1,6 +1,6 @@
 -- What the entries told a process, and how a step adds to it.
 use Rattle.std.proofs.Common.{◌≡◌, ℕ, Bool, true, false, List, [], ◌∷◌, ◌++◌, ◌≤◌, refl, arith, subst, Option, Some, None, ◌==◌, if◌then◌else◌, fold, zero, suc, ◌+◌, not, ◌∙◌, append_assoc, map, find, nat_le}
-use Rattle.run_laws.proofs.Common.{nat_tests, Call, Reply, Event, Origin, Stimulus, Entry, Frame, frame_taken, Memory, Item, is_kernel_process, in_front, Machine, scheduled, after_call, serve, with_more_work, reply_of, list_all, range_with_len, fold-append, Input, Note, Applications, PacketQueue, free_slot, state_of, Config, Scheduler, effect, booted, Running, Runs, at_start, reply_in, HasCall, up_to_call, is_held}
+use Rattle.run_laws.proofs.Common.{decide, Call, Reply, Event, Origin, Stimulus, Entry, Frame, frame_taken, Memory, Item, is_kernel_process, in_front, Machine, scheduled, after_call, serve, with_more_work, reply_of, list_all, range_with_len, fold-append, Input, Note, Applications, PacketQueue, free_slot, state_of, Config, Scheduler, effect, booted, Running, Runs, at_start, reply_in, HasCall, up_to_call, is_held}
 use Rattle.run_laws.proofs.Marks.{marks, fit, due, idle, only_removes, is_turn_item, after_item-kept, after_call-fit, after_call-others, state_of-with_mark}
 use Rattle.run_laws.proofs.Arrivals.{serve-untouched, effect-keeps}
 use Rattle.run_laws.proofs.event_order.Items.{with_agenda, facing}
@@ -59,7 +59,7 @@ module _ {S : Type 0} (next : Call → Reply → S → S) (Law : S → Call → 
   -- the same marks, state and memory
   pub same-now : (t : Knowledge S) (old new : Machine) → Now t old → fit (idle p new.scheduler.processes) (marks p new.scheduler.agenda) ≡ true
       → due (marks p new.scheduler.agenda) ≡ due (marks p old.scheduler.agenda) → new.memory ≡ old.memory → new.packets.frames ≡ old.packets.frames → Now t new
-  same-now = grind (arith, nat_tests)
+  same-now = grind decide
 
   -- an item that is no turn
   pub carried-now : (item : Item) (items : List Item) (t : Knowledge S) (m : Machine) → is_turn_item item ≡ false → Now t (facing (item ∷ items) m) → Now t (carried item items m)
@@ -68,7 +68,7 @@ module _ {S : Type 0} (next : Call → Reply → S → S) (Law : S → Call → 
       same-now t (facing (item ∷ items) m) (carried item items m) h kept.is_fit kept.same_due refl refl
 
   pub called_back-now : (q c : ℕ) (t : Knowledge S) (m : Machine) → Now t m → Now t (scheduled (in_front (Item.Give q Origin.Callback (Stimulus.Callback c) ∷ [])) m)
-  called_back-now = grind (arith, nat_tests)
+  called_back-now = grind decide
 
   -- what a turn tells, and leaves
   pub record Turned (t : Knowledge S) (entry : Entry) (m : Machine) : Type 0 where
@@ -82,7 +82,7 @@ module _ {S : Type 0} (next : Call → Reply → S → S) (Law : S → Call → 
         → due (marks p (after_call call p m).scheduler.agenda) ≡ reply
         → LawAt Law (Some call) s reply × Rel (after_call call p m).memory (after_call call p m).packets.frames (answered next (Some call) reply s)
     after-self call m s (Some reply) k n h rel e = laws.self call m s reply k rel h e
-    after-self call m s None k n h rel e = grind (arith, nat_tests)
+    after-self call m s None k n h rel e = grind decide
 
     turn-self : (call : Call) (origin : Origin) (stimulus : Stimulus) (items : List Item) (t : Knowledge S) (m : Machine)
         → Now t (facing (Item.Turn p origin stimulus ∷ items) m)
@@ -90,14 +90,14 @@ module _ {S : Type 0} (next : Call → Reply → S → S) (Law : S → Call → 
     turn-self call origin stimulus items t m h =
         let old = with_more_work (facing items m) in
         let new = after_call call p old in
-        let busy : idle p m.scheduler.processes ≡ false = grind (arith, h.is_fit, nat_tests) in
-        let rest : only_removes (marks p items) ≡ true = grind (arith, h.is_fit, nat_tests) in
+        let busy : idle p m.scheduler.processes ≡ false = grind (decide, h.is_fit) in
+        let rest : only_removes (marks p items) ≡ true = grind (decide, h.is_fit) in
         let mortal : is_kernel_process p ≡ false = grind (arith, busy) in
-        let turns : due (marks p (Item.Turn p origin stimulus ∷ items)) ≡ reply_of stimulus = grind (arith, nat_tests) in
+        let turns : due (marks p (Item.Turn p origin stimulus ∷ items)) ≡ reply_of stimulus = grind decide in
         let s = answered next t.last (reply_of stimulus) t.now in
         let rel : Rel m.memory m.packets.frames s = rw turns at h.rel in
         let owed = after-self call old s (due (marks p new.scheduler.agenda)) mortal busy rest rel refl in
-        let new_told : told next p t (turn_entry p origin stimulus call) ≡ record { now = s; last = Some call } = grind (arith, nat_tests) in
+        let new_told : told next p t (turn_entry p origin stimulus call) ≡ record { now = s; last = Some call } = grind decide in
         let is_now : Now (record { now = s; last = Some call }) new = record { is_fit = after_call-fit call p old busy rest; law = owed.0; rel = owed.1 } in
         record {
           fine = λ _. rw turns at h.law;
@@ -123,7 +123,7 @@ module _ {S : Type 0} (next : Call → Reply → S → S) (Law : S → Call → 
     pub turn-step : (b : Bool) (call : Call) (q : ℕ) (origin : Origin) (stimulus : Stimulus) (items : List Item) (t : Knowledge S) (m : Machine) → (q == p) ≡ b
         → Now t (facing (Item.Turn q origin stimulus ∷ items) m)
         → Turned t (turn_entry q origin stimulus call) (after_call call q (with_more_work (facing items m)))
-    turn-step true call q origin stimulus items t m e h = grind (arith, nat_tests, e, turn-self call origin stimulus items t m)
+    turn-step true call q origin stimulus items t m e h = grind (decide, e, turn-self call origin stimulus items t m)
     turn-step false call q origin stimulus items t m e h = turn-other call q origin stimulus items t m e h
 
 -- Over a whole run.
@@ -131,11 +131,11 @@ module _ {S : Type 0} (next : Call → Reply → S → S) (Law : S → Call → 
 -- a slot is one of 0 to 7
 found : (test : ℕ → Bool) (ns : List ℕ) (slot : ℕ) → list_all (λ n. nat_le n 15) ns ≡ true → find test ns ≡ Some slot → slot ≤ 15
 found test [] slot h e = absurd (cc)
-found test (n ∷ ns) slot h e = grind (arith, nat_tests, found test ns slot (grind (arith, h)))
+found test (n ∷ ns) slot h e = grind (decide, found test ns slot (grind (arith, h)))
 
 slot_low : (packets : PacketQueue) (slot : ℕ) → free_slot packets ≡ Some slot → slot ≤ 15
 unfolding free_slot
-slot_low = grind (arith, nat_tests)
+slot_low = grind decide
 
 module _ {S : Type 0} (next : Call → Reply → S → S) (Law : S → Call → Reply → Type 0) (Rel : Memory → List Frame → S → Type 0) (p : ℕ) where
   abbrev pub WellTold : Knowledge S → List Entry → Type 0
@@ -156,7 +156,7 @@ module _ {S : Type 0} (next : Call → Reply → S → S) (Law : S → Call → 
     pub now : Now next Law Rel p (told_all next p start X) m
 
   well-other : (start : Knowledge S) (X : List Entry) (e : Entry) → is_turn e ≡ false → WellTold start X → WellTold start (X ++ e ∷ [])
-  well-other = grind (arith, nat_tests, well-append)
+  well-other = grind (decide, well-append)
 
   carried-holds : (start : Knowledge S) (item : Item) (items : List Item) (m : Machine) (X : List Entry) → is_turn_item item ≡ false → Holds start (facing (item ∷ items) m) X
       → Holds start (carried item items m) X
@@ -164,7 +164,7 @@ module _ {S : Type 0} (next : Call → Reply → S → S) (Law : S → Call → 
       record { regular = carried-regular item items m.scheduler h.regular; now = carried-now next Law Rel p item items (told_all next p start X) m n h.now }
 
   served-holds : (start : Knowledge S) (q : ℕ) (event : Event) (m : Machine) (X : List Entry) → Holds start m X → Holds start (serve q event m) X
-  served-holds = grind (arith, nat_tests, serve-untouched)
+  served-holds = grind (decide, serve-untouched)
 
   turned : Laws next Law Rel p → (start : Knowledge S) (m : Machine) (X : List Entry) (items : List Item) (q : ℕ) (origin : Origin) (stimulus : Stimulus) (call : Call)
       → Holds start (facing (Item.Turn q origin stimulus ∷ items) m) X
@@ -179,13 +179,13 @@ module _ {S : Type 0} (next : Call → Reply → S → S) (Law : S → Call → 
       let high : nat_le 4 q ≡ true = grind (arith, h.regular) in
       let rest : list_all is_regular items ≡ true = grind (arith, h.regular) in
       record {
-        regular = grind (arith, nat_tests, all-mapped, all-append);
+        regular = grind (decide, all-mapped, all-append);
         now = rw (fold-append (told next p) start X (turn_entry q origin stimulus call ∷ [])) ((turned laws start m X items q origin stimulus call h).now);
       }
 
   shown-holds : (start : Knowledge S) (m : Machine) (X : List Entry) (items : List Item) (note : Note) → Holds start (facing (Item.Show (Entry.Note note) ∷ items) m) X
       → Holds start (facing items m) (X ++ Entry.Note note ∷ [])
-  shown-holds = grind (arith, nat_tests, carried-holds, fold-append)
+  shown-holds = grind (decide, carried-holds, fold-append)
 
   record Alike (old new : Scheduler Bool) : Type 0 where
     marks_are : marks p new.agenda ≡ marks p old.agenda
@@ -193,7 +193,7 @@ module _ {S : Type 0} (next : Call → Reply → S → S) (Law : S → Call → 
 
   input-holds : Laws next Law Rel p → (start : Knowledge S) (input : Input) (m : Machine) (X : List Entry) → Holds start m X
       → Holds start (effect input (record m { work = 0 })) (X ++ Entry.Input input ∷ [])
-  input-holds = grind (arith, nat_tests, effect-keeps, state_of-with_mark, effect-keeps, fold-append, slot_low)
+  input-holds = grind (decide, effect-keeps, state_of-with_mark, effect-keeps, fold-append, slot_low)
 
   pub told_cases : Laws next Law Rel p → (start : Knowledge S) → Cases (Holds start) (Holds start) (WellTold start)
   told_cases laws start = record {
@@ -204,9 +204,9 @@ module _ {S : Type 0} (next : Call → Reply → S → S) (Law : S → Call → 
             let given = carried-holds start (Item.Give q origin (Stimulus.Event event)) items m X refl h in
             served-holds start q event (facing items m) X (subst (λ n. Holds start n X) (kernel_carried q origin (Stimulus.Event event) items m k) given);
         called_back = λ m X q c h. record { regular = h.regular; now = called_back-now next Law Rel p q c (told_all next p start X) m h.now };
-        round = λ m X h. grind (arith, nat_tests);
+        round = λ m X h. grind decide;
         turn = turn-holds laws start;
-        told = λ m X items q origin stimulus call h i. grind (arith, nat_tests, well-append);
+        told = λ m X items q origin stimulus call h i. grind (decide, well-append);
         shown = shown-holds start;
         noted = λ m X items note h i. well-other start X (Entry.Note note) refl i;
         other = λ X e n k i. well-other start X e n i;
@@ -218,7 +218,7 @@ module _ {S : Type 0} (next : Call → Reply → S → S) (Law : S → Call → 
   marks-starts (suc n) from = marks-starts n (from + 1)
 
   pub boot-holds : (start : Knowledge S) (c : Config) → Rel (booted c).memory [] start.now → Holds start (at_start c).machine []
-  boot-holds = grind (arith, nat_tests, marks-starts, all-mapped)
+  boot-holds = grind (decide, marks-starts, all-mapped)
 
   pub run-told : Laws next Law Rel p → (start : Knowledge S) (run : Ran) → Rel (booted run.config).memory [] start.now → Prefixes (WellTold start) run.after.entries
   run-told laws start run rel =
@@ -228,10 +228,10 @@ module _ {S : Type 0} (next : Call → Reply → S → S) (Law : S → Call → 
   pub law-of : (later : List Entry) (t : Knowledge S) (call : Call) (reply : Reply) → t.last ≡ Some call → reply_in p later ≡ Some reply → WellTold t later
       → Law t.now call reply
   law-of [] t call reply e r h = absurd (grind arith)
-  law-of (Entry.Turn pid origin stimulus other ∷ later) t call reply e r h = grind (arith, nat_tests, law-of later t call reply e)
+  law-of (Entry.Turn pid origin stimulus other ∷ later) t call reply e r h = grind (decide, law-of later t call reply e)
   law-of (entry ∷ later) t call reply e r h = law-of later t call reply e r h.1
 
   pub call-law : (start : Knowledge S) (X before : List Entry) (origin : Origin) (stimulus : Stimulus) (call : Call) (reply : Reply)
       → WellTold start X → HasCall X before p origin stimulus call reply
       → Law (told_all next p start (up_to_call before p origin stimulus call)).now call reply
-  call-law = grind (arith, nat_tests, append_assoc, well-after, fold-append, law-of)
+  call-law = grind (decide, append_assoc, well-after, fold-append, law-of)

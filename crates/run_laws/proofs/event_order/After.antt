@@ -1,6 +1,6 @@
 -- What a call does to the shape.
 use Rattle.std.proofs.Common.{◌≡◌, ℕ, Bool, true, false, not, ◌&&◌, List, [], ◌∷◌, ◌++◌, refl, ap, sym, arith, append-nil, append_assoc, Option, Some, None, option_to_list, map, if◌then◌else◌, ◌==◌}
-use Rattle.run_laws.proofs.Common.{list_all, nat_tests, Call, Reply, Refusal, Stimulus, Origin, Payload, Entry, Note, EXIT, EXITED, number_event, is_reserved, State, Queued, Item, numbers, without, is_ending, is_application, farewells, kill_refusal, killed_by, Scheduler, of_event, in_front, state_in, put_in_state, has_room, Machine, scheduled, with_event, after_call, refused_or, event_of, answer_done, is_event_of_code, event_for}
+use Rattle.run_laws.proofs.Common.{list_all, decide, Call, Reply, Refusal, Stimulus, Origin, Payload, Entry, Note, EXIT, EXITED, number_event, is_reserved, State, Queued, Item, numbers, without, is_ending, is_application, farewells, kill_refusal, killed_by, Scheduler, of_event, in_front, state_in, put_in_state, has_room, Machine, scheduled, with_event, after_call, refused_or, event_of, answer_done, is_event_of_code, event_for}
 use Rattle.run_laws.proofs.CallQueues.{is_posting, kept_unposted}
 use Rattle.run_laws.proofs.event_order.Tally.{Known, own_event, ends_in, is_plain, is_ordered, ordered-append, seats, seats-with_mark, seats-with_state, state_of-seats, put, stands, waiting_in, waits, queued, queued_in, posted_for, FrontAgrees}
 use Rattle.run_laws.proofs.event_order.Items.{holds, holds-append, is_quiet}
@@ -24,7 +24,7 @@ pub call-front : (P : List Item → Bool) (call : Call) (q : ℕ) (m : Machine) 
     → ((r : ℕ) (items : List Item) → P items ≡ true → P (Item.Start r ∷ items) ≡ true)
     → ((note : Note) (items : List Item) → P items ≡ true → P (Item.Show (Entry.Note note) ∷ items) ≡ true)
     → P (after_call call q m).scheduler.agenda ≡ true
-call-front = grind (arith, nat_tests)
+call-front = grind decide
 
 -- what is said to those that stay
 pub farewells-plain : (stimulus : Stimulus) (ns : List ℕ) → list_all is_plain (map (λ n. Item.Give n Origin.Synch stimulus) ns) ≡ true
@@ -43,7 +43,7 @@ no_answer = grind arith
 
 farewells-waits : (p : ℕ) (stimulus : Stimulus) (ns : List ℕ) → waits p (map (λ n. Item.Give n Origin.Synch stimulus) ns) ≡ []
 farewells-waits p stimulus [] = refl
-farewells-waits p stimulus (n ∷ ns) = grind (arith, nat_tests, farewells-waits p stimulus ns)
+farewells-waits p stimulus (n ∷ ns) = grind (decide, farewells-waits p stimulus ns)
 
 abbrev pub told_all : ℕ → Scheduler Bool → List Item
 told_all q s = map (λ n. Item.Give n Origin.Synch (of_event (number_event EXITED q))) (numbers (without q s.processes))
@@ -67,7 +67,7 @@ after-ordered (Call.Kill r) q m h = go (kill_refusal m.scheduler r)
         let f : list_all is_plain (told_all r m.scheduler) ≡ true = farewells-plain (of_event (number_event EXITED r)) (numbers (without r m.scheduler.processes)) in
         let xs : List Item = Item.GiveExit r ∷ Item.Remove r ∷ Item.Turn q Origin.Answer (Stimulus.Answer Reply.Done) ∷ [] in
         rw (append_assoc (told_all r m.scheduler) xs m.scheduler.agenda) (ordered-append (told_all r m.scheduler) (xs ++ m.scheduler.agenda) f h)
-after-ordered call q m h = grind (arith, nat_tests)
+after-ordered call q m h = grind decide
 
 -- the events
 
@@ -94,7 +94,7 @@ after-waits p (Call.Kill r) q m = go (kill_refusal m.scheduler r)
           farewells-waits p (of_event (number_event EXITED r)) (numbers (without r m.scheduler.processes)),
           no_answer p q (Stimulus.Answer Reply.Done),
         ) refl
-after-waits p call q m = grind (arith, nat_tests)
+after-waits p call q m = grind decide
 
 after-queued_other : (p : ℕ) (call : Call) (q : ℕ) (m : Machine) → is_posting call ≡ false
     → queued p (after_call call q m).scheduler.events ≡ queued p m.scheduler.events
@@ -102,10 +102,10 @@ after-queued_other p call q m n =
     kept_unposted {P = λ events. queued p events ≡ queued p m.scheduler.events} (λ test events h. rw (queued-cancelled p test events) h) call q m n refl
 
 nothing_own : (known : Known) (p q : ℕ) (call : Call) → event_for p call ≡ None → own_event known p q call ≡ []
-nothing_own = grind (arith, nat_tests)
+nothing_own = grind decide
 
 posted_plain : (code : ℕ) (payload : Payload) → is_reserved code ≡ false → posted_for (event_of code payload) ≡ event_of code payload ∷ []
-posted_plain = grind (arith, nat_tests)
+posted_plain = grind decide
 
 -- how a post is refused
 abbrev post_outcome : Bool → Bool → Bool → Option Refusal
@@ -152,27 +152,27 @@ after-queued known p call q m = other call (grind arith)
 -- a turn that isn't p's EXIT can be another one
 swap : (p q : ℕ) (origin other : Origin) (stimulus next : Stimulus) (l : List State) (items : List Item) → (q == p && is_event_of_code EXIT stimulus) ≡ false
     → holds p l (Item.Turn q origin stimulus ∷ items) ≡ true → holds p l (Item.Turn q other next ∷ items) ≡ true
-swap = grind (arith, nat_tests)
+swap = grind decide
 
 exited-holds : (p q : ℕ) (l : List State) (xs items : List Item) → (p == q) ≡ false → list_all (is_quiet p) xs ≡ true
     → holds p l items ≡ true → holds p l (xs ++ Item.Remove q ∷ items) ≡ true
-exited-holds = grind (arith, nat_tests, holds-append)
+exited-holds = grind (decide, holds-append)
 
 pub after-stands : (p : ℕ) (call : Call) (q : ℕ) (origin : Origin) (stimulus : Stimulus) (m : Machine)
     → ends_in p (Entry.Turn (record { 0 = q }) origin stimulus call) ≡ false
     → holds p (seats p m.scheduler.processes) (Item.Turn q origin stimulus ∷ m.scheduler.agenda) ≡ true
     → stands p (after_call call q m).scheduler ≡ true
-after-stands p Call.Wait q origin stimulus m n h = grind (arith, nat_tests, state_of-seats, seats-with_state)
+after-stands p Call.Wait q origin stimulus m n h = grind (decide, state_of-seats, seats-with_state)
 after-stands p Call.Exit q origin stimulus m n h = go (is_ending (state_in m.scheduler q))
   where
     go : (b : Bool) → stands p (if b then m.scheduler else in_front (farewells q m.scheduler ++ Item.Remove q ∷ []) (put_in_state q State.Leaving m.scheduler)) ≡ true
-    go true = grind (arith, nat_tests)
+    go true = grind decide
     go false =
-        let e : (p == q) ≡ false = grind (arith, nat_tests, n) in
+        let e : (p == q) ≡ false = grind (decide, n) in
         rw (seats-with_state p q State.Leaving m.scheduler.processes, e, append_assoc (told_all q m.scheduler) (Item.Remove q ∷ []) m.scheduler.agenda)
         (exited-holds p q (seats p m.scheduler.processes) (told_all q m.scheduler) m.scheduler.agenda e
         (farewells-quiet p (of_event (number_event EXITED q)) (numbers (without q m.scheduler.processes)))
-        (grind (arith, nat_tests)))
+        (grind decide))
 after-stands p (Call.Kill r) q origin stimulus m n h = go (kill_refusal m.scheduler r) (p == r) refl
   where
     go : (o : Option Refusal) (same : Bool) → (p == r) ≡ same → stands p (refused_or o q m (scheduled (killed_by q r) m)).scheduler ≡ true
@@ -188,8 +188,8 @@ after-stands p (Call.Kill r) q origin stimulus m n h = go (kill_refusal m.schedu
             → holds p (seats p m.scheduler.processes) (Item.Turn q Origin.Answer (Stimulus.Answer Reply.Done) ∷ m.scheduler.agenda) ≡ true
             → holds p (if p == r then put State.Leaving (seats p m.scheduler.processes) else seats p m.scheduler.processes)
             (told_all r m.scheduler ++ Item.GiveExit r ∷ Item.Remove r ∷ Item.Turn q Origin.Answer (Stimulus.Answer Reply.Done) ∷ m.scheduler.agenda) ≡ true
-        pick true e quiet s = rw e (grind (arith, nat_tests, holds-append))
-        pick false e quiet s = rw e (grind (arith, nat_tests, holds-append))
+        pick true e quiet s = rw e (grind (decide, holds-append))
+        pick false e quiet s = rw e (grind (decide, holds-append))
 after-stands p call q origin stimulus m n h = plain call n (grind arith)
   where
     plain : (call : Call) → ends_in p (Entry.Turn (record { 0 = q }) origin stimulus call) ≡ false → is_plain_call call ≡ true → stands p (after_call call q m).scheduler ≡ true

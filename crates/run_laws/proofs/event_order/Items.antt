@@ -1,6 +1,6 @@
 -- An item that makes no entry keeps the shape.
-use Rattle.std.proofs.Common.{◌≡◌, ℕ, Bool, true, false, not, ◌&&◌, List, [], ◌∷◌, ◌++◌, refl, arith, append-nil, Option, Some, map}
-use Rattle.run_laws.proofs.Common.{list_all, nat_tests, State, Queued, Item, Scheduler, delivery, after_item, Machine}
+use Rattle.std.proofs.Common.{◌≡◌, ℕ, Bool, true, false, not, ◌&&◌, List, [], ◌∷◌, ◌++◌, refl, append-nil, Option, Some, map}
+use Rattle.run_laws.proofs.Common.{list_all, decide, State, Queued, Item, Scheduler, delivery, after_item, Machine}
 use Rattle.run_laws.proofs.event_order.Tally.{is_plain, is_ordered, ordered-append, ordered-walk, delivery-ordered, seats-with_state, seats-with_mark, seats-without, state_of-seats, is_placed, is_covered, stands, placed-append, covered-append, is_remove}
 
 abbrev pub with_agenda : List Item → Scheduler Bool → Scheduler Bool
@@ -16,7 +16,7 @@ polls-plain (n ∷ ns) = polls-plain ns
 
 pub carried-ordered : (item : Item) (items : List Item) (s : Scheduler Bool) → is_ordered (item ∷ items) ≡ true
     → is_ordered (after_item item (with_agenda items s)).agenda ≡ true
-carried-ordered = grind (arith, nat_tests, append-nil, ordered-walk, delivery-ordered, ordered-append, polls-plain)
+carried-ordered = grind (decide, append-nil, ordered-walk, delivery-ordered, ordered-append, polls-plain)
 
 -- the items that are no turns
 abbrev pub is_silent : Item → Bool
@@ -40,7 +40,7 @@ abbrev pub is_quiet : ℕ → Item → Bool
 is_quiet p item = not (is_remove p item)
 
 pub holds-append : (p : ℕ) (l : List State) (xs items : List Item) → list_all (is_quiet p) xs ≡ true → holds p l items ≡ true → holds p l (xs ++ items) ≡ true
-holds-append = grind (arith, nat_tests, placed-append, covered-append)
+holds-append = grind (decide, placed-append, covered-append)
 
 quiet-polls : (p : ℕ) (ns : List ℕ) → list_all (is_quiet p) (map (λ n. Item.PollOne n) ns) ≡ true
 quiet-polls p [] = refl
@@ -54,4 +54,4 @@ quiet-delivery p ns _ = refl
 -- an item that makes no entry keeps p's place
 pub carried-stands : (p : ℕ) (item : Item) (items : List Item) (s : Scheduler Bool) → is_silent item ≡ true
     → stands p (with_agenda (item ∷ items) s) ≡ true → stands p (after_item item (with_agenda items s)) ≡ true
-carried-stands p item items s n h = grind (arith, nat_tests, state_of-seats, holds-append, seats-with_state, seats-without, quiet-polls, seats-with_mark, quiet-delivery)
+carried-stands p item items s n h = grind (decide, state_of-seats, holds-append, seats-with_state, seats-without, quiet-polls, seats-with_mark, quiet-delivery)

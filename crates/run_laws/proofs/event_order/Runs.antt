@@ -1,5 +1,5 @@
 -- What every step keeps holds in every run: at each prefix of its transcript, and where the mote rests.
-use Rattle.run_laws.proofs.Common.{nat_tests, list_any, Input, Entry, Applications, Job, after_front, job, Config, Machine, scheduled, serve, IsAtRest, effect, fed, Answers, StepMade, Running, Runs, ComesToRest, silent, one_step, job_done, within_limit, is_still, is_at_rest, after_step, after_steps, answers_after, at_start, with_input, gone_on, list_any-append}
+use Rattle.run_laws.proofs.Common.{decide, list_any, Input, Entry, Applications, Job, after_front, job, Config, Machine, scheduled, serve, IsAtRest, effect, fed, Answers, StepMade, Running, Runs, ComesToRest, silent, one_step, job_done, within_limit, is_still, is_at_rest, after_step, after_steps, answers_after, at_start, with_input, gone_on, list_any-append}
 use Rattle.std.proofs.Common.{◌≡◌, ℕ, zero, suc, ◌+◌, Bool, true, false, ◌||◌, ◌⊎◌, inl, inr, List, [], ◌∷◌, ◌++◌, refl, ap, ◌∙◌, sym, subst, arith, append-nil, Option, Some, None, option_to_list, if◌then◌else◌}
 use Rattle.mote_types.specs.Entries.{is_halt}
 use Rattle.run_laws.proofs.event_order.Tally.{is_note}
@@ -28,7 +28,7 @@ record StepKind (m : Machine) (step : StepMade) : Type 0 where
   inputs : list_any is_input (option_to_list step.1) ≡ false
 
 limit_kind : (m after : Machine) (step : StepMade) → m.is_halted ≡ false → StepKind m step → StepKind m (within_limit after step)
-limit_kind = grind (arith, nat_tests)
+limit_kind = grind decide
 
 -- where only notes are shown
 abbrev pub ShowsNotes : Machine → Type 0
@@ -36,18 +36,18 @@ ShowsNotes m = (entry : Entry) → job m.scheduler ≡ Some (Job.ShowEntry entry
 
 job_kind : (answers : Answers) (next : Option (Job Bool)) (m after : Machine) → m.is_halted ≡ false → after.is_halted ≡ false
     → ((entry : Entry) → next ≡ Some (Job.ShowEntry entry) → is_note entry ≡ true) → StepKind m (job_done answers next after)
-job_kind answers None m after live still note = grind (arith, nat_tests)
-job_kind answers (Some Job.Rest) m after live still note = grind (arith, nat_tests)
-job_kind answers (Some Job.Round) m after live still note = grind (arith, nat_tests)
+job_kind answers None m after live still note = grind decide
+job_kind answers (Some Job.Rest) m after live still note = grind decide
+job_kind answers (Some Job.Round) m after live still note = grind decide
 job_kind answers (Some (Job.ShowEntry entry)) m after live still note = shown entry (note entry refl)
   where
     shown : (entry : Entry) → is_note entry ≡ true → StepKind m (after, Some entry)
     shown (Entry.Note n) k = record { halts = grind (arith, live, still); inputs = refl }
     shown _ k = absurd (grind (arith, k))
-job_kind answers (Some (Job.CallBack q c false)) m after live still note = grind (arith, nat_tests)
-job_kind answers (Some (Job.CallBack q c true)) m after live still note = grind (arith, nat_tests)
-job_kind answers (Some (Job.Serve q event)) m after live still note = grind (arith, nat_tests, serve-untouched)
-job_kind answers (Some (Job.TakeTurn q origin stimulus)) m after live still note = grind (arith, nat_tests)
+job_kind answers (Some (Job.CallBack q c false)) m after live still note = grind decide
+job_kind answers (Some (Job.CallBack q c true)) m after live still note = grind decide
+job_kind answers (Some (Job.Serve q event)) m after live still note = grind (decide, serve-untouched)
+job_kind answers (Some (Job.TakeTurn q origin stimulus)) m after live still note = grind decide
 
 step_kind : (answers : Answers) (m : Machine) → m.is_halted ≡ false → ShowsNotes m → StepKind m (one_step answers m)
 step_kind answers m live notes = go m.is_halted live
@@ -77,31 +77,31 @@ not_nil (x ∷ xs) a ys e = cc
 last_split : {A : Type 0} (X before later : List A) (e : A) → before ++ later ≡ X ++ e ∷ []
     → (before ≡ X ++ e ∷ []) ⊎ ((rest : List A) × (before ++ rest ≡ X))
 last_split X [] later e h = inr (X, refl)
-last_split [] (b ∷ []) later e h = grind (arith, nat_tests)
-last_split [] (b ∷ c ∷ cs) later e h = grind (arith, nat_tests)
-last_split {A = A} (x ∷ xs) (b ∷ bs) later e h = grind (arith, nat_tests, last_split xs bs later e (tails h))
+last_split [] (b ∷ []) later e h = grind decide
+last_split [] (b ∷ c ∷ cs) later e h = grind decide
+last_split {A = A} (x ∷ xs) (b ∷ bs) later e h = grind (decide, last_split xs bs later e (tails h))
 
 mid_split : {A : Type 0} (X before later : List A) (a e : A) → before ++ a ∷ later ≡ X ++ e ∷ []
     → ((before ≡ X) × (a ≡ e)) ⊎ ((rest : List A) × (before ++ a ∷ rest ≡ X))
-mid_split [] [] later a e h = grind (arith, nat_tests)
-mid_split (x ∷ xs) [] later a e h = grind (arith, nat_tests)
-mid_split [] (b ∷ bs) later a e h = grind (arith, nat_tests, not_nil, tails)
-mid_split {A = A} (x ∷ xs) (b ∷ bs) later a e h = grind (arith, nat_tests, mid_split xs bs later a e (tails h))
+mid_split [] [] later a e h = grind decide
+mid_split (x ∷ xs) [] later a e h = grind decide
+mid_split [] (b ∷ bs) later a e h = grind (decide, not_nil, tails)
+mid_split {A = A} (x ∷ xs) (b ∷ bs) later a e h = grind (decide, mid_split xs bs later a e (tails h))
 
 prefixes-more : (P : List Entry → Type 0) (X : List Entry) (o : Option Entry) → Prefixes P X → P (X ++ option_to_list o) → Prefixes P (X ++ option_to_list o)
-prefixes-more P X None all new = grind (arith, nat_tests, append-nil)
-prefixes-more P X (Some entry) all new = grind (arith, nat_tests, last_split)
+prefixes-more P X None all new = grind (decide, append-nil)
+prefixes-more P X (Some entry) all new = grind (decide, last_split)
 
 inputs-more : (Q : List Entry → Type 0) (X : List Entry) (o : Option Entry) → BeforeInputs Q X → list_any is_input (option_to_list o) ≡ false → BeforeInputs Q (X ++ option_to_list o)
-inputs-more Q X None all n = grind (arith, nat_tests, append-nil)
-inputs-more Q X (Some entry) all n = grind (arith, nat_tests, mid_split)
+inputs-more Q X None all n = grind (decide, append-nil)
+inputs-more Q X (Some entry) all n = grind (decide, mid_split)
 
 -- R holds of each entry, behind those before it
 abbrev pub AtEach : (List Entry → Entry → Type 0) → List Entry → Type 0
 AtEach R X = (before later : List Entry) (e : Entry) → before ++ e ∷ later ≡ X → R before e
 
 pub each-more : (R : List Entry → Entry → Type 0) (X : List Entry) (e : Entry) → AtEach R X → R X e → AtEach R (X ++ e ∷ [])
-each-more = grind (arith, nat_tests, mid_split)
+each-more = grind (decide, mid_split)
 
 -- what is kept
 
@@ -148,12 +148,12 @@ module _ (I : Machine → List Entry → Type 0) (P Q : List Entry → Type 0) (
   -- a halted machine stays as it is
   halted-step : (says : Applications) (r : Running) → Good I P Q r → (b : Bool) → b ≡ true
       → Good I P Q (gone_on r.entries (if b then silent r.machine else job_done (answers_after says r.entries) (job r.machine.scheduler) (scheduled after_front r.machine)))
-  halted-step says r g true e = grind (arith, nat_tests, append-nil)
+  halted-step says r g true e = grind (decide, append-nil)
   halted-step says r g false e = absurd (cc)
 
   good-steps : (says : Applications) (n : ℕ) (r : Running) → Good I P Q r → Good I P Q (after_steps says n r)
   good-steps says zero r g = g
-  good-steps says (suc n) r g = good-steps says n (after_step says r) (grind (arith, nat_tests, halted-step, live-step))
+  good-steps says (suc n) r g = good-steps says n (after_step says r) (grind (decide, halted-step, live-step))
 
 -- an input at rest
 
@@ -161,7 +161,7 @@ abbrev after_fed : Running → Input → Running
 after_fed r input = record { machine = effect input (record r.machine { work = 0 }); entries = r.entries ++ Entry.Input input ∷ [] }
 
 fed_first : (says : Applications) (r : Running) (input : Input) → r.machine.is_halted ≡ false → after_step says (with_input input r) ≡ after_fed r input
-fed_first = grind (arith, nat_tests)
+fed_first = grind decide
 
 -- the run
 
@@ -170,11 +170,11 @@ module _ (I : Machine → List Entry → Type 0) (P Q : List Entry → Type 0) (
   good-fed r input live rests g =
       let woken : Machine = record r.machine { work = 0 } in
       let t : Machine = effect input woken in
-      let up : t.is_halted ≡ false = grind (arith, nat_tests) ∙ live in
+      let up : t.is_halted ≡ false = grind decide ∙ live in
       let old : P r.entries = now I P Q law r.entries g.prefixes in
       record {
         prefixes = prefixes-more P r.entries (Some (Entry.Input input)) g.prefixes (law.shown input r.entries old);
-        inputs = grind (arith, nat_tests, mid_split);
+        inputs = grind (decide, mid_split);
         holds = λ _. law.input input r.machine r.entries (g.holds live) old;
         halts = λ halted. absurd (grind (arith, up, halted));
       }
@@ -187,10 +187,10 @@ module _ (I : Machine → List Entry → Type 0) (P Q : List Entry → Type 0) (
   good-leads says r g new (n, goes, still) = subst (λ (x : Running). Good I P Q x) goes (good-steps I P Q law says n r g)
 
   rested-holds : (r : Running) → Good I P Q r → is_still r.machine ≡ true → r.machine.is_halted ≡ false → Q r.entries
-  rested-holds = grind (arith, nat_tests)
+  rested-holds = grind decide
 
   fed-leads : (says : Applications) (r : Running) (input : Input) → Good I P Q r → is_still r.machine ≡ true → r.machine.is_halted ≡ false → Leads says (with_input input r)
-  fed-leads says r input g still live new (zero, goes, quiet) = grind (arith, nat_tests)
+  fed-leads says r input g still live new (zero, goes, quiet) = grind decide
   fed-leads says r input g still live new (suc n, goes, quiet) =
       let first = fed_first says r input live in
       let later : after_steps says n (after_fed r input) ≡ new = ap (after_steps says n) (sym first) ∙ goes in
@@ -202,7 +202,7 @@ module _ (I : Machine → List Entry → Type 0) (P Q : List Entry → Type 0) (
 
   on-input : (says : Applications) (input : Input) (rested new : Running) → Ended rested → (rested.machine.is_halted ≡ true → new ≡ rested)
       → (Leads says (with_input input rested) → rested.machine.is_halted ≡ false → Ended new) → (b : Bool) → rested.machine.is_halted ≡ b → Ended new
-  on-input says input rested new h stop go true e = grind (arith, nat_tests)
+  on-input says input rested new h stop go true e = grind decide
   on-input says input rested new h stop go false e = go (fed-leads says rested input h.good h.still e) e
 
   run-ended : (says : Applications) (inputs : List Input) (old new : Running) → Runs says old inputs new → Leads says old → Ended new
@@ -214,7 +214,7 @@ module _ (I : Machine → List Entry → Type 0) (P Q : List Entry → Type 0) (
   good-start : (c : Config) → I (at_start c).machine [] → P [] → Good I P Q (at_start c)
   good-start c first none = record {
         prefixes = λ before later e. start before later e;
-        inputs = λ before later input e. grind (arith, nat_tests, not_nil);
+        inputs = λ before later input e. grind (decide, not_nil);
         holds = λ live. first;
         halts = λ halted. absurd (grind (arith, halted));
       }
@@ -254,4 +254,4 @@ pub at_each : {I : Machine → List Entry → Type 0} (R : List Entry → Entry 
     → (run : Ran)
     → I (at_start run.config).machine [] → AtEach R run.after.entries
 at_each R law run first =
-    at_prefixes law run first (grind (arith, nat_tests, not_nil)) run.after.entries [] (append-nil run.after.entries)
+    at_prefixes law run first (grind (decide, not_nil)) run.after.entries [] (append-nil run.after.entries)

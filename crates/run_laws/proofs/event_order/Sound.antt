@@ -1,6 +1,6 @@
 -- One step keeps the invariant, and each entry keeps the order of events.
 use Rattle.std.proofs.Common.{◌≡◌, ℕ, Bool, true, false, List, [], ◌∷◌, ◌++◌, refl, ap, ◌∙◌, sym, arith, append-nil, append_assoc, nat_le, zero, suc, ◌+◌, length, subst, map, nat_lt}
-use Rattle.run_laws.proofs.Common.{nat_tests, Call, Stimulus, Origin, Event, Note, Entry, Item, Scheduler, after_item, in_front, Machine, after_call, serve, reply_of, has_ended, given_events, accepted_events, list_any, range_with_len, Input, Applications, Queued, is_empty, is_application, Config, effect, Running, Runs, at_start, with_more_work, at_boot, is_idle, InOrderFor, NoLostEventFor}
+use Rattle.run_laws.proofs.Common.{decide, Call, Stimulus, Origin, Event, Note, Entry, Item, Scheduler, after_item, in_front, Machine, after_call, serve, reply_of, has_ended, given_events, accepted_events, list_any, range_with_len, Input, Applications, Queued, is_empty, is_application, Config, effect, Running, Runs, at_start, with_more_work, at_boot, is_idle, InOrderFor, NoLostEventFor}
 use Rattle.run_laws.proofs.event_order.Tally.{Known, nothing_known, told, accepted_with, accepted_with-none, accepted-turn, accepted-other, own_event, given_in, given-more, ends_in, ended-more, is_turn, is_ordered, seats, stands, waiting_in, waits, queued, FrontAgrees, seats-with_mark, is_start, is_covered}
 use Rattle.run_laws.proofs.event_order.Items.{with_agenda, carried-ordered, carried-stands, holds-append, facing}
 use Rattle.run_laws.proofs.event_order.Waiting.{all_waiting, carried-waiting, serve-served}
@@ -38,13 +38,13 @@ order-other p X e n i = λ alive.
     no_given Entry.Halt n = refl
 
 no_given : (p : ℕ) (e : Entry) → is_turn e ≡ false → given_in p e ≡ []
-no_given = grind (arith, nat_tests)
+no_given = grind decide
 
 still_alive : (p : ℕ) (X : List Entry) (e : Entry) → has_ended p (X ++ e ∷ []) ≡ false → has_ended p X ≡ false
-still_alive = grind (arith, nat_tests, ended-more)
+still_alive = grind (decide, ended-more)
 
 pub sound-other : (p : ℕ) (X : List Entry) (e : Entry) (s : Scheduler Bool) → is_turn e ≡ false → Sound p s X → Sound p s (X ++ e ∷ [])
-sound-other = grind (arith, nat_tests, still_alive, given-more, no_given, append-nil, accepted-other)
+sound-other = grind (decide, still_alive, given-more, no_given, append-nil, accepted-other)
 
 -- a turn
 
@@ -52,7 +52,7 @@ pub turn_order : (p : ℕ) (X : List Entry) (s : Scheduler Bool) (items : List I
     → Sound p (with_agenda (Item.Turn q origin stimulus ∷ items) s) X → IsInOrder p (X ++ Entry.Turn (record { 0 = q }) origin stimulus call ∷ [])
 turn_order p X s items q origin stimulus call h = λ alive.
     let e : Entry = Entry.Turn (record { 0 = q }) origin stimulus call in
-    let old = h.tally (still_alive p X e alive) (told q stimulus nothing_known) (grind (arith, nat_tests)) in
+    let old = h.tally (still_alive p X e alive) (told q stimulus nothing_known) (grind decide) in
     let accepted : accepted_events p (X ++ e ∷ []) ≡ accepted_with (told q stimulus nothing_known) p X =
     sym (accepted_with-none p (X ++ e ∷ [])) ∙ accepted-turn nothing_known p X (record { 0 = q }) origin stimulus call ∙ append-nil (accepted_with (told q stimulus nothing_known) p X) in
     let w : List Event = waiting_in p (Item.Turn q origin stimulus) in (
@@ -68,7 +68,7 @@ turn_sound p X m q origin stimulus call h =
     let e : Entry = Entry.Turn (record { 0 = q }) origin stimulus call in
     record {
       ordered = after-ordered call q m h.ordered;
-      place = λ alive. after-stands p call q origin stimulus m (grind (arith, nat_tests, ended-more)) (h.place (still_alive p X e alive));
+      place = λ alive. after-stands p call q origin stimulus m (grind (decide, ended-more)) (h.place (still_alive p X e alive));
       tally = λ alive known agrees.
           let w : List Event = waiting_in p (Item.Turn q origin stimulus) in
           let items : List Event = waits p m.scheduler.agenda in
@@ -78,7 +78,7 @@ turn_sound p X m q origin stimulus call h =
           rw (
             accepted-turn known p X (record { 0 = q }) origin stimulus call,
             given-more p X e,
-            (h.tally (still_alive p X e alive) (told q stimulus known) (grind (arith, nat_tests))),
+            (h.tally (still_alive p X e alive) (told q stimulus known) (grind decide)),
             after-waits p call q m,
             after-queued known p call q m agrees,
           ) (shuffle given w items events own);
@@ -97,15 +97,15 @@ pub record SoundFree (p : ℕ) (s : Scheduler Bool) (X : List Entry) : Type 0 wh
   pub tally : has_ended p X ≡ false → (known : Known) → accepted_with known p X ≡ given_events X p ++ all_waiting p s
 
 pub sound-free : (p : ℕ) (s : Scheduler Bool) (X : List Entry) → SoundFree p s X → Sound p s X
-sound-free = grind (arith, nat_tests)
+sound-free = grind decide
 
 -- an item that makes no entry
 
 no_reply_front : (known : Known) (item : Item) (items : List Item) → is_quiet_item item ≡ true → FrontAgrees known (item ∷ items)
-no_reply_front = grind (arith, nat_tests)
+no_reply_front = grind decide
 
 pub round_sound : (p : ℕ) (X : List Entry) (s : Scheduler Bool) → Sound p (with_agenda [] s) X → SoundFree p (with_agenda (Item.Polls ∷ Item.Deliver ∷ []) s) X
-round_sound = grind (arith, nat_tests)
+round_sound = grind decide
 
 pub shown_sound : (p : ℕ) (X : List Entry) (items : List Item) (note : Note) (s : Scheduler Bool) → Sound p (with_agenda (Item.Show (Entry.Note note) ∷ items) s) X
     → Sound p (with_agenda items s) (X ++ Entry.Note note ∷ [])
@@ -134,11 +134,11 @@ starts-waits p (n ∷ ns) = starts-waits p ns
 
 starts-all : (p : ℕ) (n from : ℕ) → nat_le from p ≡ true → nat_lt p (from + n) ≡ true
     → list_any (is_start p) (map (λ k. Item.Start k) (range_with_len from n)) ≡ true
-starts-all p zero from a b = grind (arith, nat_tests)
-starts-all p (suc n) from a b = grind (arith, nat_tests, starts-all p n (suc from))
+starts-all p zero from a b = grind decide
+starts-all p (suc n) from a b = grind (decide, starts-all p n (suc from))
 
 boot_seats : (p : ℕ) (c : Config) → nat_le 4 p ≡ true → seats p (at_boot {X = Bool} c.apps).processes ≡ []
-boot_seats = grind (arith, nat_tests)
+boot_seats = grind decide
 
 pub boot-sound : (p : ℕ) (c : Config) → is_application c.apps p ≡ true → Sound p (at_start c).machine.scheduler []
 boot-sound p c a =
@@ -153,7 +153,7 @@ boot-sound p c a =
 -- an input
 
 pub effect-sound : (p : ℕ) (X : List Entry) (input : Input) (m : Machine) → Sound p m.scheduler X → Sound p (effect input m).scheduler X
-effect-sound = grind (arith, nat_tests, effect-keeps, seats-with_mark)
+effect-sound = grind (decide, effect-keeps, seats-with_mark)
 
 -- at rest
 
@@ -163,11 +163,11 @@ IsAllGiven p X = has_ended p X ≡ false → given_events X p ≡ accepted_event
 
 pub nothing_queued : (events : List (Queued Bool)) → nat_lt 0 (length events) ≡ false → events ≡ []
 nothing_queued [] e = refl
-nothing_queued (event ∷ events) e = grind (arith, nat_tests)
+nothing_queued (event ∷ events) e = grind decide
 
 rest_given : (p : ℕ) (X : List Entry) (s : Scheduler Bool) → is_idle s ≡ true → Sound p s X → IsAllGiven p X
 rest_given p X s e h = λ alive.
-    let none : s.agenda ≡ [] = grind (arith, nat_tests) in
+    let none : s.agenda ≡ [] = grind decide in
     let empty : s.events ≡ [] = nothing_queued s.events (grind (arith, e)) in
     let t = h.tally alive nothing_known (rw none tt) in
     let all : all_waiting p s ≡ [] = rw (none, empty) refl in
@@ -185,17 +185,17 @@ pub sound_cases : (p : ℕ) → nat_le 4 p ≡ true → Cases (SoundOf p) (Sound
 sound_cases p a = record {
       notes = λ m X entry items h. grind (arith, h.ordered);
       free = λ m X h. sound-free p m.scheduler X h;
-      carried = λ m X item items n s h. grind (arith, nat_tests, carried-ordered, carried-stands, carried-waiting, no_reply_front, m.scheduler);
+      carried = λ m X item items n s h. grind (decide, carried-ordered, carried-stands, carried-waiting, no_reply_front, m.scheduler);
       served = λ m X q origin event items k h.
-          grind (arith, nat_tests, serve-untouched q event (facing items m), serve-served p a q event (facing items m));
-      called_back = λ m X q c h. grind (arith, nat_tests, m.scheduler);
+          grind (decide, serve-untouched q event (facing items m), serve-served p a q event (facing items m));
+      called_back = λ m X q c h. grind (decide, m.scheduler);
       round = λ m X h. round_sound p X m.scheduler h;
       turn = λ m X items q origin stimulus call h. turn_sound p X (with_more_work (facing items m)) q origin stimulus call h;
       told = λ m X items q origin stimulus call h i. turn_order p X m.scheduler items q origin stimulus call h;
       shown = λ m X items note h. shown_sound p X items note m.scheduler h;
       noted = λ m X items note h. order-other p X (Entry.Note note) refl;
       other = λ X e n k. order-other p X e n;
-      input = grind (arith, nat_tests, sound-other, effect-sound);
+      input = grind (decide, sound-other, effect-sound);
     }
 
 order_law : (p : ℕ) → nat_le 4 p ≡ true → Law (SoundOf p) (IsInOrder p)

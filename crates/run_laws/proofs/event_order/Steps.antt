@@ -1,6 +1,6 @@
 -- What holds of each kind of step holds of every step.
-use Rattle.std.proofs.Common.{◌≡◌, ℕ, Bool, true, false, List, [], ◌∷◌, ◌++◌, refl, sym, subst, arith, append-nil, Option, Some, None, if◌then◌else◌}
-use Rattle.run_laws.proofs.Common.{nat_tests, Call, Stimulus, Event, Origin, Input, Note, Entry, Queued, Item, Job, is_kernel_process, after_item, in_front, after_front_of, job_at, job_of_give, job_of_event, first_event, wants_round, Machine, scheduled, after_call, serve, Answers, StepMade, silent, one_step, job_done, within_limit, with_more_work, effect}
+use Rattle.std.proofs.Common.{◌≡◌, ℕ, Bool, true, false, List, [], ◌∷◌, ◌++◌, refl, sym, subst, append-nil, Option, Some, None, if◌then◌else◌}
+use Rattle.run_laws.proofs.Common.{decide, Call, Stimulus, Event, Origin, Input, Note, Entry, Queued, Item, Job, is_kernel_process, after_item, in_front, after_front_of, job_at, job_of_give, job_of_event, first_event, wants_round, Machine, scheduled, after_call, serve, Answers, StepMade, silent, one_step, job_done, within_limit, with_more_work, effect}
 use Rattle.run_laws.proofs.event_order.Tally.{is_turn, is_note}
 use Rattle.run_laws.proofs.event_order.Items.{with_agenda, facing}
 use Rattle.run_laws.proofs.event_order.Runs.{Law, Kept}
@@ -50,17 +50,17 @@ pub record Cases (I J : Machine → List Entry → Type 0) (P : List Entry → T
 
 module _ (I J : Machine → List Entry → Type 0) (P : List Entry → Type 0) (cases : Cases I J P) where
   silent_kept : (X : List Entry) (m : Machine) → P X → I m X → Kept I P X (silent m)
-  silent_kept = grind (arith, nat_tests, append-nil)
+  silent_kept = grind (decide, append-nil)
 
   free_kept : (X : List Entry) (m : Machine) → P X → J m X → Kept I P X (silent m)
-  free_kept = grind (arith, nat_tests, silent_kept)
+  free_kept = grind (decide, silent_kept)
 
   limit_kept : (X : List Entry) (m : Machine) (step : StepMade) → P X → Kept I P X step → Kept I P X (within_limit m step)
-  limit_kept = grind (arith, nat_tests)
+  limit_kept = grind decide
 
   quiet_kept : (X : List Entry) (item : Item) (items : List Item) (m : Machine) → is_quiet_item item ≡ true → is_served item ≡ false → P X
       → I (facing (item ∷ items) m) X → Kept I P X (silent (carried item items m))
-  quiet_kept X item items m n s i h = grind (arith, nat_tests, free_kept)
+  quiet_kept X item items m n s i h = grind (decide, free_kept)
 
   give_kept : (X : List Entry) (answers : Answers) (q : ℕ) (origin : Origin) (stimulus : Stimulus) (items : List Item) (m : Machine) → P X
       → I (facing (Item.Give q origin stimulus ∷ items) m) X
@@ -77,10 +77,10 @@ module _ (I J : Machine → List Entry → Type 0) (P : List Entry → Type 0) (
   give_kept X answers q origin (Stimulus.Callback c) items m i h = quiet_kept X (Item.Give q origin (Stimulus.Callback c)) items m refl refl i h
 
   deliver_kept : (X : List Entry) (answers : Answers) (event : Option (Queued Bool)) (m : Machine) → P X → J m X → Kept I P X (job_done answers (job_of_event event) m)
-  deliver_kept = grind (arith, nat_tests, free_kept)
+  deliver_kept = grind (decide, free_kept)
 
   at_agenda : (X : List Entry) (agenda : List Item) (m : Machine) → m.scheduler.agenda ≡ agenda → I m X → I (facing agenda m) X
-  at_agenda = grind (arith, nat_tests)
+  at_agenda = grind decide
 
   round_kept : (X : List Entry) (answers : Answers) (m : Machine) (b : Bool) → m.scheduler.agenda ≡ [] → P X → I m X
       → Kept I P X (job_done answers (Some (if b then Job.Round else Job.Rest)) (record m { scheduler = if b then in_front (Item.Polls ∷ Item.Deliver ∷ []) m.scheduler else m.scheduler }))
@@ -94,8 +94,8 @@ module _ (I J : Machine → List Entry → Type 0) (P : List Entry → Type 0) (
   step_kept : (X : List Entry) (answers : Answers) (agenda : List Item) (m : Machine) → m.scheduler.agenda ≡ agenda → P X → I m X
       → Kept I P X (job_done answers (job_at agenda m.scheduler) (record m { scheduler = after_front_of agenda m.scheduler }))
   step_kept X answers [] m e i h = round_kept X answers m (wants_round m.scheduler) e i h
-  step_kept X answers (Item.Turn q origin stimulus ∷ items) m e i h = grind (arith, nat_tests, at_agenda X (Item.Turn q origin stimulus ∷ items) m e h)
-  step_kept X answers (Item.Show entry ∷ items) m e i h = grind (arith, nat_tests, at_agenda X (Item.Show entry ∷ items) m e h)
+  step_kept X answers (Item.Turn q origin stimulus ∷ items) m e i h = grind (decide, at_agenda X (Item.Turn q origin stimulus ∷ items) m e h)
+  step_kept X answers (Item.Show entry ∷ items) m e i h = grind (decide, at_agenda X (Item.Show entry ∷ items) m e h)
   step_kept X answers (Item.Give q origin stimulus ∷ items) m e i h =
       give_kept X answers q origin stimulus items m i (at_agenda X (Item.Give q origin stimulus ∷ items) m e h)
   step_kept X answers (Item.Deliver ∷ items) m e i h =
@@ -105,16 +105,16 @@ module _ (I J : Machine → List Entry → Type 0) (P : List Entry → Type 0) (
 
   shows_notes : (X : List Entry) (agenda : List Item) (m : Machine) → m.scheduler.agenda ≡ agenda → I m X → (entry : Entry)
       → job_at agenda m.scheduler ≡ Some (Job.ShowEntry entry) → is_note entry ≡ true
-  shows_notes X [] m e h entry f = grind (arith, nat_tests)
-  shows_notes X (Item.Show shown ∷ items) m e h entry f = grind (arith, nat_tests, at_agenda X (Item.Show shown ∷ items) m e h)
-  shows_notes X (item ∷ items) m e h entry f = grind (arith, nat_tests)
+  shows_notes X [] m e h entry f = grind decide
+  shows_notes X (Item.Show shown ∷ items) m e h entry f = grind (decide, at_agenda X (Item.Show shown ∷ items) m e h)
+  shows_notes X (item ∷ items) m e h entry f = grind decide
 
   cases_law : Law I P
   cases_law = record {
-        step = grind (arith, nat_tests, silent_kept, step_kept);
+        step = grind (decide, silent_kept, step_kept);
         notes = λ m X h. shows_notes X m.scheduler.agenda m refl h;
         input = λ input m X h i. cases.input input m X h;
-        shown = λ input X i. grind (arith, nat_tests);
+        shown = λ input X i. grind decide;
       }
 
 pub law_of : {I J : Machine → List Entry → Type 0} {P : List Entry → Type 0} → Cases I J P → Law I P

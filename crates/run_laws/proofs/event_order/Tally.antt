@@ -1,6 +1,6 @@
 -- What one more entry adds to what a transcript tells of p.
 use Rattle.std.proofs.Common.{◌≡◌, ℕ, ◌+◌, Bool, true, false, ◌||◌, List, [], ◌∷◌, ◌++◌, refl, ◌∙◌, arith, append-nil, Option, Some, None, option_to_list, filter_map, if◌then◌else◌, ◌==◌, not, ◌&&◌, flat_map, map}
-use Rattle.run_laws.proofs.Common.{cons_option, list_any, nat_tests, Call, Reply, Stimulus, Event, Origin, Pid, Entry, EXIT, heard, OwnTurn, own_from, own_turn, reply_in, reply_of, is_done, ticks_in, has_ended, is_exit, is_event_of_code, posted_event, given_events, event_for, accepted_events, accepted_event, list_all, State, Queued, Item, Process, is_process, numbers, state_of, with_state, with_mark, without, Scheduler, of_event, delivery}
+use Rattle.run_laws.proofs.Common.{cons_option, list_any, decide, Call, Reply, Stimulus, Event, Origin, Pid, Entry, EXIT, heard, OwnTurn, own_from, own_turn, reply_in, reply_of, is_done, ticks_in, has_ended, is_exit, is_event_of_code, posted_event, given_events, event_for, accepted_events, accepted_event, list_all, State, Queued, Item, Process, is_process, numbers, state_of, with_state, with_mark, without, Scheduler, of_event, delivery}
 use Rattle.std.proofs.lemmas.List.Elements.{filter_map-append}
 
 abbrev pub Known : Type 0
@@ -29,23 +29,23 @@ accepted_with known p (entry ∷ later) = cons_option (accepted_or known p entry
 
 -- with nothing known these are the accepted events
 pub reply_or-none : (p : ℕ) (later : List Entry) → reply_or None (heard p later) ≡ reply_in p later
-reply_or-none = grind (arith, nat_tests)
+reply_or-none = grind decide
 
 accepted_or-none : (p : ℕ) (entry : Entry) (later : List Entry) → accepted_or nothing_known p entry later ≡ accepted_event p entry later
-accepted_or-none = grind (arith, nat_tests)
+accepted_or-none = grind decide
 
 pub accepted_with-none : (p : ℕ) (X : List Entry) → accepted_with nothing_known p X ≡ accepted_events p X
 accepted_with-none p [] = refl
-accepted_with-none p (entry ∷ later) = grind (arith, nat_tests, accepted_with-none p later)
+accepted_with-none p (entry ∷ later) = grind (decide, accepted_with-none p later)
 
 -- one more turn
 pub heard-turn : (r : ℕ) (X : List Entry) (pid : Pid) (origin : Origin) (stimulus : Stimulus) (call : Call)
     → heard r (X ++ Entry.Turn pid origin stimulus call ∷ []) ≡ heard r X ++ option_to_list (if pid.0 == r then Some stimulus else None)
-heard-turn = grind (arith, nat_tests, filter_map-append)
+heard-turn = grind (decide, filter_map-append)
 
 reply_or-told : (known : Known) (r q : ℕ) (stimulus : Stimulus) (l : List Stimulus)
     → reply_or (known r) (l ++ option_to_list (if q == r then Some stimulus else None)) ≡ reply_or (told q stimulus known r) l
-reply_or-told = grind (arith, nat_tests)
+reply_or-told = grind decide
 
 accepted_or-turn : (known : Known) (p : ℕ) (entry : Entry) (X : List Entry) (pid : Pid) (origin : Origin) (stimulus : Stimulus) (call : Call)
     → accepted_or known p entry (X ++ Entry.Turn pid origin stimulus call ∷ []) ≡ accepted_or (told pid.0 stimulus known) p entry X
@@ -58,12 +58,12 @@ abbrev pub own_event : Known → ℕ → ℕ → Call → List Event
 own_event known p q call = option_to_list (if is_done (known q) then event_for p call else None)
 
 pub cons_option-append : {A : Type 0} (o : Option A) (xs ys : List A) → cons_option o (xs ++ ys) ≡ cons_option o xs ++ ys
-cons_option-append = grind (arith, nat_tests)
+cons_option-append = grind decide
 
 pub accepted-turn : (known : Known) (p : ℕ) (X : List Entry) (pid : Pid) (origin : Origin) (stimulus : Stimulus) (call : Call)
     → accepted_with known p (X ++ Entry.Turn pid origin stimulus call ∷ []) ≡ accepted_with (told pid.0 stimulus known) p X ++ own_event known p pid.0 call
-accepted-turn known p [] pid origin stimulus call = grind (arith, nat_tests)
-accepted-turn known p (entry ∷ X) pid origin stimulus call = grind (arith, nat_tests, accepted_or-turn, cons_option-append, accepted-turn known p X pid origin stimulus call)
+accepted-turn known p [] pid origin stimulus call = grind decide
+accepted-turn known p (entry ∷ X) pid origin stimulus call = grind (decide, accepted_or-turn, cons_option-append, accepted-turn known p X pid origin stimulus call)
 
 -- one more entry that is no turn
 abbrev pub is_turn : Entry → Bool
@@ -71,7 +71,7 @@ is_turn (Entry.Turn pid origin stimulus call) = true
 is_turn _ = false
 
 pub heard-other : (r : ℕ) (X : List Entry) (e : Entry) → is_turn e ≡ false → heard r (X ++ e ∷ []) ≡ heard r X
-heard-other = grind (arith, nat_tests, filter_map-append, append-nil)
+heard-other = grind (decide, filter_map-append, append-nil)
 
 accepted_or-other : (known : Known) (p : ℕ) (entry : Entry) (X : List Entry) (e : Entry) → is_turn e ≡ false
     → accepted_or known p entry (X ++ e ∷ []) ≡ accepted_or known p entry X
@@ -80,9 +80,9 @@ accepted_or-other known p _ X e h = refl
 
 pub accepted-other : (known : Known) (p : ℕ) (X : List Entry) (e : Entry) → is_turn e ≡ false
     → accepted_with known p (X ++ e ∷ []) ≡ accepted_with known p X
-accepted-other known p [] (Entry.Turn pid origin stimulus call) h = grind (arith, nat_tests)
+accepted-other known p [] (Entry.Turn pid origin stimulus call) h = grind decide
 accepted-other known p [] _ h = refl
-accepted-other known p (entry ∷ X) e h = grind (arith, nat_tests, accepted_or-other, accepted-other known p X e h)
+accepted-other known p (entry ∷ X) e h = grind (decide, accepted_or-other, accepted-other known p X e h)
 
 -- what was given, and whether p has ended
 abbrev pub given_in : ℕ → Entry → List Event
@@ -101,15 +101,15 @@ ends_turn turn = is_exit turn.call || is_event_of_code EXIT turn.stimulus
 
 given_one : (p k : ℕ) (e : Entry) (later : List Entry) (turns : List OwnTurn)
     → filter_map given_turn (cons_option (own_turn p k e later) turns) ≡ given_in p e ++ filter_map given_turn turns
-given_one = grind (arith, nat_tests)
+given_one = grind decide
 
 given-from : (p k : ℕ) (X : List Entry) (e : Entry)
     → filter_map given_turn (own_from p k (X ++ e ∷ [])) ≡ filter_map given_turn (own_from p k X) ++ given_in p e
-given-from p k [] e = grind (arith, nat_tests)
-given-from p k (entry ∷ X) e = grind (arith, nat_tests, given-from p (k + ticks_in entry) X e)
+given-from p k [] e = grind decide
+given-from p k (entry ∷ X) e = grind (decide, given-from p (k + ticks_in entry) X e)
 
 pub given-more : (p : ℕ) (X : List Entry) (e : Entry) → given_events (X ++ e ∷ []) p ≡ given_events X p ++ given_in p e
-given-more = grind (arith, nat_tests, given-from)
+given-more = grind (decide, given-from)
 
 or-assoc : (a b c : Bool) → (a || (b || c)) ≡ ((a || b) || c)
 or-assoc true b c = refl
@@ -121,11 +121,11 @@ or-false false = refl
 
 ended-from : (p k : ℕ) (X : List Entry) (e : Entry)
     → list_any ends_turn (own_from p k (X ++ e ∷ [])) ≡ (list_any ends_turn (own_from p k X) || ends_in p e)
-ended-from p k [] e = grind (arith, nat_tests)
-ended-from p k (entry ∷ X) e = grind (arith, nat_tests, or-assoc, ended-from p (k + ticks_in entry) X e)
+ended-from p k [] e = grind decide
+ended-from p k (entry ∷ X) e = grind (decide, or-assoc, ended-from p (k + ticks_in entry) X e)
 
 pub ended-more : (p : ℕ) (X : List Entry) (e : Entry) → has_ended p (X ++ e ∷ []) ≡ (has_ended p X || ends_in p e)
-ended-more = grind (arith, nat_tests, ended-from)
+ended-more = grind (decide, ended-from)
 
 -- In which order items lie on the agenda, and what it holds of one process.
 -- the order
@@ -195,15 +195,15 @@ put state l = map (λ _. state) l
 pub seats-with_state : (p q : ℕ) (state : State) (list : List Process)
     → seats p (with_state q state list) ≡ (if p == q then put state (seats p list) else seats p list)
 seats-with_state p q state [] = grind arith
-seats-with_state p q state (x ∷ xs) = grind (arith, nat_tests, seats-with_state p q state xs)
+seats-with_state p q state (x ∷ xs) = grind (decide, seats-with_state p q state xs)
 
 pub seats-with_mark : (p q : ℕ) (mark : Bool) (list : List Process) → seats p (with_mark q mark list) ≡ seats p list
 seats-with_mark p q mark [] = refl
-seats-with_mark p q mark (x ∷ xs) = grind (arith, nat_tests, seats-with_mark p q mark xs)
+seats-with_mark p q mark (x ∷ xs) = grind (decide, seats-with_mark p q mark xs)
 
 pub seats-without : (p q : ℕ) (list : List Process) → seats p (without q list) ≡ (if p == q then [] else seats p list)
 seats-without p q [] = grind arith
-seats-without p q (x ∷ xs) = grind (arith, nat_tests, seats-without p q xs)
+seats-without p q (x ∷ xs) = grind (decide, seats-without p q xs)
 
 -- what the agenda holds of p, while it hasn't ended
 
@@ -253,11 +253,11 @@ abbrev pub is_neutral : ℕ → Item → Bool
 is_neutral p item = not (is_start p item) && (not (is_turn_of p item) && (not (is_give_exit p item) && not (is_remove p item)))
 
 pub placed-more : (p : ℕ) (l : List State) (item : Item) (items : List Item) → is_placed p l items ≡ true → is_placed p l (item ∷ items) ≡ true
-placed-more = grind (arith, nat_tests)
+placed-more = grind decide
 
 pub placed-append : (p : ℕ) (l : List State) (xs items : List Item) → is_placed p l items ≡ true → is_placed p l (xs ++ items) ≡ true
 placed-append p l [] items h = h
-placed-append p l (x ∷ xs) items h = grind (arith, nat_tests, placed-append p l xs items h)
+placed-append p l (x ∷ xs) items h = grind (decide, placed-append p l xs items h)
 
 pub covered-append : (p : ℕ) (xs items : List Item) → list_all (λ item. not (is_remove p item)) xs ≡ true → is_covered p items ≡ true → is_covered p (xs ++ items) ≡ true
 covered-append p [] items n h = h
@@ -297,7 +297,7 @@ to_all event = Some (Queued.ToAll event)
 pub waits-broadcast : (p : ℕ) (event : Event) (list : List Process)
     → waits p (delivery (numbers list) (to_all event)) ≡ flat_map (λ _. posted_for event) (seats p list)
 waits-broadcast p event [] = refl
-waits-broadcast p event (x ∷ xs) = grind (arith, nat_tests, waits-broadcast p event xs)
+waits-broadcast p event (x ∷ xs) = grind (decide, waits-broadcast p event xs)
 
 pub delivery-ordered : (list : List ℕ) (event : Option (Queued Bool)) → list_all is_walk (delivery list event) ≡ true
 delivery-ordered [] (Some (Queued.ToAll event)) = refl

@@ -1,17 +1,17 @@
 -- An item that makes no entry loses no event that waits for p, and changes no order.
 use Rattle.std.proofs.Common.{◌≡◌, ℕ, Bool, true, false, not, ◌&&◌, ◌||◌, List, [], ◌∷◌, ◌++◌, refl, ap, ◌∙◌, sym, arith, append-nil, append_assoc, flat_map, map, drop, slice_get, if◌then◌else◌, ◌==◌, nat_le}
-use Rattle.run_laws.proofs.Common.{list_any, list_all, nat_tests, Stimulus, Event, Origin, EXIT, plain_event, State, Queued, Item, numbers, is_running, is_kernel_process, is_any_marked, Scheduler, of_event, delivery, after_item, first_event, state_in, in_front, Timer, Machine, cancelled_if, serve, expiry_of}
+use Rattle.run_laws.proofs.Common.{list_any, list_all, decide, Stimulus, Event, Origin, EXIT, plain_event, State, Queued, Item, numbers, is_running, is_kernel_process, is_any_marked, Scheduler, of_event, delivery, after_item, first_event, state_in, in_front, Timer, Machine, cancelled_if, serve, expiry_of}
 use Rattle.run_laws.proofs.event_order.Tally.{is_walk, is_ordered, seats, state_of-seats, first_state, is_placed, is_start, is_turn_of, is_give_exit, is_exit_turn, stands, waiting_in, waits, posted_for, queued_in, queued, waits-broadcast, seats-with_mark}
 use Rattle.run_laws.proofs.event_order.Items.{with_agenda, is_silent, holds}
 use Rattle.run_laws.proofs.Changes.{Changes, of_changes, is_notice}
 
 pub waits-append : (p : ℕ) (xs ys : List Item) → waits p (xs ++ ys) ≡ waits p xs ++ waits p ys
 waits-append p [] ys = refl
-waits-append p (x ∷ xs) ys = grind (arith, nat_tests, waits-append p xs ys)
+waits-append p (x ∷ xs) ys = grind (decide, waits-append p xs ys)
 
 pub queued-append : (p : ℕ) (xs ys : List (Queued Bool)) → queued p (xs ++ ys) ≡ queued p xs ++ queued p ys
 queued-append p [] ys = refl
-queued-append p (x ∷ xs) ys = grind (arith, nat_tests, queued-append p xs ys)
+queued-append p (x ∷ xs) ys = grind (decide, queued-append p xs ys)
 
 -- nothing below a Give of origin event concerns p's place
 walk-free : (p : ℕ) (items : List Item) → list_all is_walk items ≡ true
@@ -20,19 +20,19 @@ walk-free p [] h = refl
 walk-free p (item ∷ items) h = grind (arith, h, walk-free p items)
 
 placed-running : (p : ℕ) (l : List State) (items : List Item) → list_all is_walk items ≡ true → is_placed p l items ≡ true → is_running (first_state l) ≡ true
-placed-running p l items w h = grind (arith, nat_tests, h, walk-free p items w, walk-free)
+placed-running p l items w h = grind (decide, h, walk-free p items w, walk-free)
 
 -- a Give of origin event finds p Running
 pub given-running : (p q : ℕ) (stimulus : Stimulus) (items : List Item) (s : Scheduler Bool) → (q == p) ≡ true
     → is_ordered (Item.Give q Origin.Event stimulus ∷ items) ≡ true → stands p (with_agenda (Item.Give q Origin.Event stimulus ∷ items) s) ≡ true
     → is_running (state_in s q) ≡ true
-given-running = grind (arith, nat_tests, placed-running, state_of-seats)
+given-running = grind (decide, placed-running, state_of-seats)
 
 -- a Give that finds nobody carries no event for p
 lost : (p q : ℕ) (origin : Origin) (stimulus : Stimulus) (items : List Item) (s : Scheduler Bool) → nat_le 4 p ≡ true
     → is_ordered (Item.Give q origin stimulus ∷ items) ≡ true → stands p (with_agenda (Item.Give q origin stimulus ∷ items) s) ≡ true
     → (not (is_kernel_process q) && is_running (state_in s q)) ≡ false → waiting_in p (Item.Give q origin stimulus) ≡ []
-lost = grind (arith, nat_tests, given-running)
+lost = grind (decide, given-running)
 
 waits-polls : (p : ℕ) (ns : List ℕ) → waits p (map (λ n. Item.PollOne n) ns) ≡ []
 waits-polls p [] = refl
@@ -41,9 +41,9 @@ waits-polls p (n ∷ ns) = waits-polls p ns
 delivered : (p : ℕ) (s : Scheduler Bool) (events : List (Queued Bool)) → holds p (seats p s.processes) (Item.Deliver ∷ []) ≡ true
     → waits p (delivery (numbers s.processes) (slice_get events 0)) ++ queued p (drop 1 events) ≡ queued p events
 delivered p s [] h = refl
-delivered p s (Queued.To q event ∷ events) h = grind (arith, nat_tests)
+delivered p s (Queued.To q event ∷ events) h = grind decide
 delivered p s (Queued.ToAll event ∷ events) h =
-    ap (λ l. l ++ queued p events) (waits-broadcast p event s.processes ∙ (grind (arith, nat_tests)))
+    ap (λ l. l ++ queued p events) (waits-broadcast p event s.processes ∙ (grind decide))
 delivered p s (Queued.Expiry q c x ∷ events) h = refl
 
 abbrev pub all_waiting : ℕ → Scheduler Bool → List Event
@@ -58,18 +58,18 @@ no_exit = grind arith
 pub carried-waiting : (p : ℕ) (item : Item) (items : List Item) (s : Scheduler Bool) → is_silent item ≡ true → nat_le 4 p ≡ true
     → is_ordered (item ∷ items) ≡ true → stands p (with_agenda (item ∷ items) s) ≡ true
     → all_waiting p (after_item item (with_agenda items s)) ≡ all_waiting p (with_agenda (item ∷ items) s)
-carried-waiting p (Item.Start q) items s n a o h = grind (arith, nat_tests)
-carried-waiting p (Item.Give q origin stimulus) items s n a o h = grind (arith, nat_tests, given-running)
-carried-waiting p (Item.GiveExit q) items s n a o h = grind (arith, nat_tests)
+carried-waiting p (Item.Start q) items s n a o h = grind decide
+carried-waiting p (Item.Give q origin stimulus) items s n a o h = grind (decide, given-running)
+carried-waiting p (Item.GiveExit q) items s n a o h = grind decide
 carried-waiting p Item.Polls items s n a o h = go (is_any_marked s.processes)
   where
     go : (b : Bool) → all_waiting p (if b then in_front (map (λ n. Item.PollOne n) (numbers s.processes)) (with_agenda items s) else with_agenda items s) ≡ all_waiting p (with_agenda items s)
     go true = rw (waits-append p (map (λ n. Item.PollOne n) (numbers s.processes)) items, waits-polls p (numbers s.processes)) refl
     go false = refl
-carried-waiting p (Item.PollOne q) items s n a o h = grind (arith, nat_tests)
-carried-waiting p Item.Deliver [] s n a o h = grind (arith, nat_tests, append-nil, delivered)
-carried-waiting p Item.Deliver (item ∷ items) s n a o h = grind (arith, nat_tests)
-carried-waiting p (Item.Turn q origin stimulus) items s n a o h = grind (arith, nat_tests)
+carried-waiting p (Item.PollOne q) items s n a o h = grind decide
+carried-waiting p Item.Deliver [] s n a o h = grind (decide, append-nil, delivered)
+carried-waiting p Item.Deliver (item ∷ items) s n a o h = grind decide
+carried-waiting p (Item.Turn q origin stimulus) items s n a o h = grind decide
 carried-waiting p _ items s n a o h = refl
 
 -- The kernel's own processes leave every process's place and the events for applications as they are.
@@ -80,7 +80,7 @@ pub record Served (p : ℕ) (old new : Machine) : Type 0 where
 
 pub queued-cancelled : (p : ℕ) (test : ℕ → ℕ → Bool) (events : List (Queued Bool)) → queued p (map (cancelled_if test) events) ≡ queued p events
 queued-cancelled p test [] = refl
-queued-cancelled p test (item ∷ events) = grind (arith, nat_tests, queued-cancelled p test events)
+queued-cancelled p test (item ∷ events) = grind (decide, queued-cancelled p test events)
 
 -- an event of the kernel's isn't one for an application
 queued-silent : (p : ℕ) (events : List (Queued Bool)) (event : Queued Bool) → queued_in p event ≡ [] → queued p (events ++ event ∷ []) ≡ queued p events
@@ -94,10 +94,10 @@ serve-served p a q event = of_changes changes
         record {
           same = λ m. record { places = refl; events = refl };
           chained = λ a b c h k. record { places = k.places ∙ h.places; events = k.events ∙ h.events };
-          expired = λ timer m e. record { places = refl; events = queued-silent p m.scheduler.events (expiry_of timer) (grind (arith, nat_tests)) };
+          expired = λ timer m e. record { places = refl; events = queued-silent p m.scheduler.events (expiry_of timer) (grind decide) };
           timers_gone = λ n m z k e. record { places = refl; events = refl };
           callbacks_gone = λ n m. record { places = refl; events = queued-cancelled p (λ r c. r == n) m.scheduler.events };
-          posted = λ notice m n. record { places = refl; events = queued-silent p m.scheduler.events notice (grind (arith, nat_tests)) };
+          posted = λ notice m n. record { places = refl; events = queued-silent p m.scheduler.events notice (grind decide) };
           devices = λ serial is_waiting packets m e. record { places = refl; events = refl };
           marked = λ n m. record { places = seats-with_mark p n true m.scheduler.processes; events = refl };
         }

@@ -2,7 +2,7 @@
 -- where the timer stands, if the reply to p's last call is k unless the entries show it
 use Rattle.run_laws.proofs.timer_deadlines.Timing.{OwnTimer, own_timer}
 use Rattle.std.proofs.Common.{◌≡◌, ℕ, Bool, true, false, ◌&&◌, ◌||◌, List, [], ◌∷◌, ◌++◌, refl, arith, Option, None, fold, ◌==◌, nat_le, ◌≤◌, subst, nat_lt}
-use Rattle.run_laws.proofs.Common.{list_all, list_any, nat_tests, Call, Reply, Stimulus, Event, Origin, Entry, Item, of_event, zero_cell, is_armed, Machine, after_call, serve, OwnTurn, has_ended, clock_after, Standing, standing_after, standing, is_timer_event, with_more_work, range_with_len, Input, Applications, Timer, is_timer, Timers, is_due, deadline, Config, is_bootable, effect, Running, Runs, is_at_rest, at_start, is_application, NoLostTimerFor}
+use Rattle.run_laws.proofs.Common.{list_all, list_any, decide, Call, Reply, Stimulus, Event, Origin, Entry, Item, of_event, zero_cell, is_armed, Machine, after_call, serve, OwnTurn, has_ended, clock_after, Standing, standing_after, standing, is_timer_event, with_more_work, range_with_len, Input, Applications, Timer, is_timer, Timers, is_due, deadline, Config, is_bootable, effect, Running, Runs, is_at_rest, at_start, is_application, NoLostTimerFor}
 use Rattle.run_laws.proofs.event_order.Tally.{is_turn, ended-more, ends_in}
 use Rattle.run_laws.proofs.event_order.Items.{with_agenda, facing}
 use Rattle.run_laws.proofs.timer_deadlines.Ledgers.{Ledger, ledger_after, turns_or, told_reply, told-front, turns-turn, turns-other, turns-none, fold-append}
@@ -24,15 +24,15 @@ abbrev pub standing_of : OwnTimer → Option Reply → List Entry → Standing
 standing_of o k X = fold (standing_after o.t) fresh_standing (turns_or k o.p 0 X)
 
 pub standing-none : (X : List Entry) (o : OwnTimer) → standing X o.p o.t ≡ standing_of o None X
-standing-none = grind (arith, nat_tests, turns-none)
+standing-none = grind (decide, turns-none)
 
 pub standing-turn : (o : OwnTimer) (clock : ℕ) (k : Option Reply) (X : List Entry) (q : ℕ) (origin : Origin) (stimulus : Stimulus) (call : Call) → clock ≡ clock_after X
     → standing_of o k (X ++ turn_entry q origin stimulus call ∷ [])
     ≡ standing_then (q == o.p) o.t clock stimulus origin call k (standing_of o (told_reply o.p q stimulus k) X)
-standing-turn = grind (arith, nat_tests, turns-turn, fold-append)
+standing-turn = grind (decide, turns-turn, fold-append)
 
 pub standing-other : (o : OwnTimer) (k : Option Reply) (X : List Entry) (e : Entry) → is_turn e ≡ false → standing_of o k (X ++ e ∷ []) ≡ standing_of o k X
-standing-other = grind (arith, nat_tests, turns-other)
+standing-other = grind (decide, turns-other)
 
 -- the ledger and the standing have one cell
 pub record Agree (ledger : Ledger) (st : Standing) : Type 0 where
@@ -40,7 +40,7 @@ pub record Agree (ledger : Ledger) (st : Standing) : Type 0 where
 
 pub agree-fold : (t : ℕ) (ledger : Ledger) (st : Standing) (turns : List OwnTurn) → Agree ledger st → Agree (fold (ledger_after t) ledger turns) (fold (standing_after t) st turns)
 agree-fold t ledger st [] h = h
-agree-fold t ledger st (turn ∷ turns) h = agree-fold t (ledger_after t ledger turn) (standing_after t st turn) turns (grind (arith, nat_tests))
+agree-fold t ledger st (turn ∷ turns) h = agree-fold t (ledger_after t ledger turn) (standing_after t st turn) turns (grind decide)
 
 -- what is said of p, and what it waits for
 
@@ -55,7 +55,7 @@ pub record HeededFree (o : OwnTimer) (m : Machine) (X : List Entry) : Type 0 whe
   pub kept : has_ended o.p X ≡ false → is_doomed o.p m.scheduler.agenda ≡ false → (k : Option Reply) → Awaits o m.timers (is_expected o m.scheduler) (standing_of o k X)
 
 still_expected : (a w v g : Bool) → (w ≡ true → v ≡ true) → (a || (w || g)) ≡ true → (a || (v || g)) ≡ true
-still_expected = grind (arith, nat_tests)
+still_expected = grind decide
 
 -- an item
 pub heeded-carried : (o : OwnTimer) (X : List Entry) (item : Item) (items : List Item) (m : Machine) → nat_le 4 o.p ≡ true → is_quiet_item item ≡ true
@@ -63,7 +63,7 @@ pub heeded-carried : (o : OwnTimer) (X : List Entry) (item : Item) (items : List
     → Heeded o (facing (item ∷ items) m) X → HeededFree o (carried item items m) X
 heeded-carried o X item items m a n sound clean h = record {
       farewell = λ alive spared. carried-farewell o.p item items m.scheduler clean (h.farewell alive (carried-doomed o.p item items m.scheduler n spared));
-      kept = grind (arith, nat_tests, carried-doomed, no_reply_front, still_expected, carried-expected);
+      kept = grind (decide, carried-doomed, no_reply_front, still_expected, carried-expected);
     }
 
 -- a kernel process is told the event
@@ -81,7 +81,7 @@ heeded-serve o X q origin event items m old h =
 
 -- a turn
 regroup : (a g w v st : Bool) → (a || (((g || w) || v) || st)) ≡ true → (a || ((g || (w || v)) || st)) ≡ true
-regroup = grind (arith, nat_tests)
+regroup = grind decide
 
 pub heeded-turn : (o : OwnTimer) (X : List Entry) (m : Machine) (items : List Item) (q : ℕ) (origin : Origin) (stimulus : Stimulus) (call : Call) → m.clock ≡ clock_after X → Setting o.p m.timers
     → Heeded o (facing (Item.Turn q origin stimulus ∷ items) m) X
@@ -114,7 +114,7 @@ heeded-turn o X m items q origin stimulus call clock setting h =
     goes_on alive = grind (arith, alive, ended-more o.p X e)
 
     was_spared : has_ended o.p (X ++ e ∷ []) ≡ false → is_doomed o.p (after_call call q on).scheduler.agenda ≡ false → is_doomed o.p (Item.Turn q origin stimulus ∷ items) ≡ false
-    was_spared alive spared = let rest : is_doomed o.p items ≡ false = after-doomed o.p call q on spared in grind (arith, nat_tests, rest, goes_on alive)
+    was_spared alive spared = let rest : is_doomed o.p items ≡ false = after-doomed o.p call q on spared in grind (decide, rest, goes_on alive)
 
 -- an entry that is no turn, where nothing of this changes
 pub heeded-other : (o : OwnTimer) (X : List Entry) (e : Entry) (old new : Machine) → is_turn e ≡ false
@@ -154,7 +154,7 @@ Anything X = Unit {0}
 
 module _ (o : OwnTimer) (low : nat_le 4 o.p ≡ true) (high : nat_lt o.p 20 ≡ true) where
   timely : Cases (Timely o) (Free o) (IsTimely o)
-  timely = grind (arith, nat_tests, timely_cases)
+  timely = grind (decide, timely_cases)
 
   sound : Cases (SoundOf o.p) (SoundFreeOf o.p) (IsInOrder o.p)
   sound = sound_cases o.p low
@@ -168,7 +168,7 @@ module _ (o : OwnTimer) (low : nat_le 4 o.p ≡ true) (high : nat_lt o.p 20 ≡ 
               sound = sound-free o.p m.scheduler X h.sound;
               watched = h.watched;
               clean = h.clean;
-              heeded = grind (arith, nat_tests, h.heeded);
+              heeded = grind (decide, h.heeded);
             };
         carried = λ m X item items n s h.
             record {
@@ -197,7 +197,7 @@ module _ (o : OwnTimer) (low : nat_le 4 o.p ≡ true) (high : nat_lt o.p 20 ≡ 
               clean = h.clean;
               heeded = record { farewell = h.heeded.farewell; kept = h.heeded.kept };
             };
-        round = grind (arith, nat_tests);
+        round = grind decide;
         turn = λ m X items q origin stimulus call h.
             record {
               timely = timely.turn m X items q origin stimulus call h.timely;
@@ -223,7 +223,7 @@ module _ (o : OwnTimer) (low : nat_le 4 o.p ≡ true) (high : nat_lt o.p 20 ≡ 
               sound = sound.input input m X h.sound;
               watched = watched-input input m h.watched;
               clean = effect-keeps (λ s. list_all is_no_exited s.events ≡ true) input (record m { work = 0 }) h.clean (λ q. h.clean) (λ refusal. h.clean);
-              heeded = grind (arith, nat_tests, heeded-other, effect-keeps, h.heeded);
+              heeded = grind (decide, heeded-other, effect-keeps, h.heeded);
             };
       }
 
@@ -232,12 +232,12 @@ module _ (o : OwnTimer) (low : nat_le 4 o.p ≡ true) (high : nat_lt o.p 20 ≡ 
 -- a timer on the list whose deadline came is one that is due
 due_listed : (o : OwnTimer) (clock : ℕ) (timers : Timers) (xs : List Timer) → is_due clock timers (own_timer o) ≡ true → list_any (is_timer (own_timer o)) xs ≡ true
     → list_any (is_due clock timers) xs ≡ true
-due_listed o clock timers [] d h = grind (arith, nat_tests)
+due_listed o clock timers [] d h = grind decide
 due_listed o clock timers (x ∷ xs) d h = go (is_timer (own_timer o) x) refl h (λ k. due_listed o clock timers xs d k)
   where
     go : (b : Bool) → is_timer (own_timer o) x ≡ b → (b || list_any (is_timer (own_timer o)) xs) ≡ true
         → (list_any (is_timer (own_timer o)) xs ≡ true → list_any (is_due clock timers) xs ≡ true) → (is_due clock timers x || list_any (is_due clock timers) xs) ≡ true
-    go true e k more = let same : x ≡ own_timer o = grind (arith, nat_tests) in let due : is_due clock timers x ≡ true = rw same d in rw due refl
+    go true e k more = let same : x ≡ own_timer o = grind decide in let due : is_due clock timers x ≡ true = rw same d in rw due refl
     go false e k more = let rest : list_any (is_due clock timers) xs ≡ true = more k in grind (arith, rest)
 
 abbrev pub IsGivenAtRest : OwnTimer → List Entry → Type 0
@@ -245,7 +245,7 @@ IsGivenAtRest o X =
     has_ended o.p X ≡ false → (standing X o.p o.t).is_armed ≡ true → deadline (standing X o.p o.t).cell ≤ clock_after X → (standing X o.p o.t).was_given ≡ true
 
 rest-given : (o : OwnTimer) (m : Machine) (X : List Entry) → is_at_rest m ≡ true → Attended o m X → IsGivenAtRest o X
-rest-given = grind (arith, nat_tests, standing-none, nothing_queued, rest-not_due, due_listed, agree-fold)
+rest-given = grind (decide, standing-none, nothing_queued, rest-not_due, due_listed, agree-fold)
 
 -- boot
 
@@ -253,9 +253,9 @@ boot-attended : (o : OwnTimer) (c : Config) → nat_lt o.p 20 ≡ true → is_ap
 boot-attended o c high a = record {
       timely = boot_timely o c (grind (arith, a)) high;
       sound = boot-sound o.p c a;
-      watched = grind (arith, nat_tests);
+      watched = grind decide;
       clean = refl;
-      heeded = grind (arith, nat_tests, none-mapped);
+      heeded = grind (decide, none-mapped);
     }
 
 -- no timer is lost
@@ -264,6 +264,6 @@ pub no_lost_timer : (run : Ran)
 no_lost_timer run p b a before t place =
     let o : OwnTimer = record { p = p; t = t } in
     let low : nat_le 4 p ≡ true = grind (arith, a) in
-    let high : nat_lt p 20 ≡ true = grind (arith, nat_tests) in
+    let high : nat_lt p 20 ≡ true = grind decide in
     at_rest (Attended o) Anything (IsGivenAtRest o) (law_of (attended_cases o low high)) (rest-given o)
     run (boot-attended o run.config high a) tt before place

@@ -1,6 +1,6 @@
 -- A TIMER event that p waits for isn't lost on its way, and a timer leaves the list for one.
 use Rattle.std.proofs.Common.{◌≡◌, ℕ, Bool, true, false, not, ◌&&◌, ◌||◌, List, [], ◌∷◌, ◌++◌, refl, arith, Some, map, filter, drop, slice_get, ◌==◌, nat_le, Option, if◌then◌else◌}
-use Rattle.run_laws.proofs.Common.{list_any, nat_tests, Stimulus, Event, Origin, Payload, EXITED, Queued, Item, Scheduler, after_item, delivery, of_event, Timer, event_timer, is_timer, is_event_timer_of, is_callback_timer_of, is_armed, without_callback_timers, Machine, with_event, with_timers, cancelled_if, expiries_cancelled, serve, post_expiry, exited_application, is_number, is_timer_event, list_any-append, Call, Reply, Timers, after_call, is_done, Standing, standing_after, arms, stops}
+use Rattle.run_laws.proofs.Common.{list_any, decide, Stimulus, Event, Origin, Payload, EXITED, Queued, Item, Scheduler, after_item, delivery, of_event, Timer, event_timer, is_timer, is_event_timer_of, is_callback_timer_of, is_armed, without_callback_timers, Machine, with_event, with_timers, cancelled_if, expiries_cancelled, serve, post_expiry, exited_application, is_number, is_timer_event, list_any-append, Call, Reply, Timers, after_call, is_done, Standing, standing_after, arms, stops}
 use Rattle.run_laws.proofs.CallQueues.{KeptByCalls, kept_by_call}
 use Rattle.run_laws.proofs.Changes.{Changes, of_changes}
 use Rattle.run_laws.proofs.event_order.Tally.{is_from_queue, is_ordered, stands}
@@ -31,7 +31,7 @@ is_expected o s = list_any (gives o) s.agenda || list_any (queues o) s.events
 pub carried-expected : (o : OwnTimer) (item : Item) (items : List Item) (s : Scheduler Bool) → nat_le 4 o.p ≡ true → is_quiet_item item ≡ true
     → is_ordered (item ∷ items) ≡ true → stands o.p (with_agenda (item ∷ items) s) ≡ true
     → is_expected o (with_agenda (item ∷ items) s) ≡ true → is_expected o (after_item item (with_agenda items s)) ≡ true
-carried-expected = grind (arith, nat_tests, carried-any, list_any-append, given-running)
+carried-expected = grind (decide, carried-any, list_any-append, given-running)
 
 -- a kernel process
 
@@ -40,28 +40,28 @@ abbrev pub Held : OwnTimer → Bool → Machine → Type 0
 Held o g m = (is_armed (own_timer o) m.timers || (is_expected o m.scheduler || g)) ≡ true
 
 posted-held : (o : OwnTimer) (g : Bool) (event : Queued Bool) (m : Machine) → Held o g m → Held o g (with_event event m)
-posted-held = grind (arith, nat_tests, list_any-append)
+posted-held = grind (decide, list_any-append)
 
 expired-held : (o : OwnTimer) (g : Bool) (timer : Timer) (m : Machine) → Held o g m → Held o g (post_expiry (Some timer) m)
-expired-held = grind (arith, nat_tests, list_any-append, stopped-other, posted-held)
+expired-held = grind (decide, list_any-append, stopped-other, posted-held)
 
 kept-filter : (test keep : Timer → Bool) (xs : List Timer) → ((x : Timer) → test x ≡ true → keep x ≡ true) → list_any test (filter keep xs) ≡ list_any test xs
 kept-filter test keep [] k = refl
-kept-filter test keep (x ∷ xs) k = grind (arith, nat_tests, kept-filter test keep xs k)
+kept-filter test keep (x ∷ xs) k = grind (decide, kept-filter test keep xs k)
 
 filter-held : (o : OwnTimer) (g : Bool) (keep : Timer → Bool) (m : Machine) → ((x : Timer) → is_timer (own_timer o) x ≡ true → keep x ≡ true) → Held o g m
     → Held o g (record m { timers = record m.timers { armed = filter keep m.timers.armed } })
-filter-held = grind (arith, nat_tests, kept-filter)
+filter-held = grind (decide, kept-filter)
 
 spares-others : (o : OwnTimer) (n : ℕ) (x : Timer) → (n == o.p) ≡ false → is_timer (own_timer o) x ≡ true → not (is_event_timer_of n x) ≡ true
-spares-others = grind (arith, nat_tests)
+spares-others = grind decide
 
 spares-events : (o : OwnTimer) (n : ℕ) (x : Timer) → is_timer (own_timer o) x ≡ true → not (is_callback_timer_of n x) ≡ true
-spares-events = grind (arith, nat_tests)
+spares-events = grind decide
 
 pub queues-cancelled : (o : OwnTimer) (test : ℕ → ℕ → Bool) (events : List (Queued Bool)) → list_any (queues o) (map (cancelled_if test) events) ≡ list_any (queues o) events
 queues-cancelled o test [] = refl
-queues-cancelled o test (item ∷ events) = grind (arith, nat_tests, queues-cancelled o test events)
+queues-cancelled o test (item ∷ events) = grind (decide, queues-cancelled o test events)
 
 pub cancelled-held : (o : OwnTimer) (g : Bool) (test : ℕ → ℕ → Bool) (m : Machine) → Held o g m → Held o g (expiries_cancelled test m)
 cancelled-held o g test m h = rw (queues-cancelled o test m.scheduler.events) h
@@ -72,7 +72,7 @@ pub serve-held : (o : OwnTimer) (g : Bool) (q : ℕ) (origin : Origin) (event : 
 serve-held o g q origin event m none = of_changes changes m
   where
     other : (n : ℕ) → (q == 0) ≡ true → (event.code == EXITED) ≡ true → exited_application event.payload ≡ Some n → (n == o.p) ≡ false
-    other n z k e = grind (arith, nat_tests)
+    other n z k e = grind decide
 
     changes : Changes (λ old new. Held o g old → Held o g new) q event
     changes =
@@ -94,7 +94,7 @@ serve-held o g q origin event m none = of_changes changes m
 
 after-queues : (o : OwnTimer) → KeptByCalls (λ events. list_any (queues o) events ≡ true)
 after-queues o = record {
-      posted = λ event events posted h. grind (arith, nat_tests, list_any-append);
+      posted = λ event events posted h. grind (decide, list_any-append);
       cancelled = λ test events h. rw (queues-cancelled o test events) h;
     }
 

@@ -1,6 +1,6 @@
 -- A turn keeps the balance of timers, and tells of no more TIMER events than are ripe.
 use Rattle.std.proofs.Common.{◌≡◌, ℕ, ◌+◌, ◌≤◌, true, false, List, [], ◌∷◌, ◌++◌, refl, arith, Option, None, ◌==◌, nat_le, nat_lt, subst, map}
-use Rattle.run_laws.proofs.Common.{list_all, nat_tests, Call, Reply, Stimulus, Origin, Entry, Item, event_timer, Timers, Machine, after_call, ticks_in, clock_after, with_more_work, range_with_len, Input, Applications, in_front, all_timers, Config, scheduled, is_bootable, effect, Running, Runs, at_start, is_application, NoEarlyTimerFor}
+use Rattle.run_laws.proofs.Common.{list_all, decide, Call, Reply, Stimulus, Origin, Entry, Item, event_timer, Timers, Machine, after_call, ticks_in, clock_after, with_more_work, range_with_len, Input, Applications, in_front, all_timers, Config, scheduled, is_bootable, effect, Running, Runs, at_start, is_application, NoEarlyTimerFor}
 use Rattle.run_laws.proofs.event_order.Tally.{is_turn}
 use Rattle.run_laws.proofs.timer_deadlines.Ledgers.{Ledger, ledger_of, ripe_at, turns_or, told_reply, told-front, turns-turn, turns-other, fold-append, timer_events-ledger, ripe_armings-ledger}
 use Rattle.run_laws.proofs.event_order.Items.{facing}
@@ -31,7 +31,7 @@ pub record Free (o : OwnTimer) (m : Machine) (X : List Entry) : Type 0 where
   pub balanced : (k : Option Reply) → Balances o m X k
 
 pub timely-free : (o : OwnTimer) (m : Machine) (X : List Entry) → Free o m X → Timely o m X
-timely-free = grind (arith, nat_tests)
+timely-free = grind decide
 
 abbrev pub IsTimely : OwnTimer → List Entry → Type 0
 IsTimely o X = (timer_ledger o None X).given ≤ ripe_at (clock_after X) (timer_ledger o None X)
@@ -41,16 +41,16 @@ IsTimely o X = (timer_ledger o None X).given ≤ ripe_at (clock_after X) (timer_
 pub ledger-turn : (o : OwnTimer) (clock : ℕ) (k : Option Reply) (X : List Entry) (q : ℕ) (origin : Origin) (stimulus : Stimulus) (call : Call) → clock ≡ clock_after X
     → timer_ledger o k (X ++ Entry.Turn (record { 0 = q }) origin stimulus call ∷ [])
     ≡ ledger_then (q == o.p) o.t clock stimulus origin call k (timer_ledger o (told_reply o.p q stimulus k) X)
-ledger-turn = grind (arith, nat_tests, turns-turn, fold-append)
+ledger-turn = grind (decide, turns-turn, fold-append)
 
 pub ledger-other : (o : OwnTimer) (k : Option Reply) (X : List Entry) (e : Entry) → is_turn e ≡ false → timer_ledger o k (X ++ e ∷ []) ≡ timer_ledger o k X
-ledger-other = grind (arith, nat_tests, turns-other)
+ledger-other = grind (decide, turns-other)
 
 pub timely-other : (o : OwnTimer) (X : List Entry) (e : Entry) → is_turn e ≡ false → IsTimely o X → IsTimely o (X ++ e ∷ [])
-timely-other = grind (arith, nat_tests, ledger-other, clock-more)
+timely-other = grind (decide, ledger-other, clock-more)
 
 pub less-balanced : (o : OwnTimer) (clock v w : ℕ) (timers : Timers) (ledger : Ledger) → v ≤ w → Balanced o timers clock w ledger → Balanced o timers clock v ledger
-less-balanced = grind (arith, nat_tests)
+less-balanced = grind decide
 
 -- a turn
 
@@ -64,7 +64,7 @@ module _ (o : OwnTimer) (low : nat_le 4 o.p ≡ true) (high : nat_lt o.p 20 ≡ 
 
   pub turn_setting : (X : List Entry) (m : Machine) (items : List Item) (q : ℕ) (origin : Origin) (stimulus : Stimulus)
       → Timely o (facing (Item.Turn q origin stimulus ∷ items) m) X → Setting o.p m.timers
-  turn_setting = grind (arith, nat_tests)
+  turn_setting = grind decide
 
   pub turn_timely : (X : List Entry) (m : Machine) (items : List Item) (q : ℕ) (origin : Origin) (stimulus : Stimulus) (call : Call)
       → Timely o (facing (Item.Turn q origin stimulus ∷ items) m) X
@@ -84,45 +84,45 @@ module _ (o : OwnTimer) (low : nat_le 4 o.p ≡ true) (high : nat_lt o.p 20 ≡ 
 
   pub turn_early : (X : List Entry) (m : Machine) (items : List Item) (q : ℕ) (origin : Origin) (stimulus : Stimulus) (call : Call)
       → Timely o (facing (Item.Turn q origin stimulus ∷ items) m) X → IsTimely o (X ++ Entry.Turn (record { 0 = q }) origin stimulus call ∷ [])
-  turn_early = grind (arith, nat_tests, clock-more, ledger-turn, turn-balanced, still_moves, turn_before)
+  turn_early = grind (decide, clock-more, ledger-turn, turn-balanced, still_moves, turn_before)
 
 -- No TIMER event comes early or twice.
 
 -- an item that is neither a turn nor shown: no reply is in front
 pub no_reply_front : (p : ℕ) (k : Option Reply) (item : Item) (items : List Item) → is_quiet_item item ≡ true → FrontIs p k (item ∷ items)
-no_reply_front = grind (arith, nat_tests)
+no_reply_front = grind decide
 
 free-carried : (o : OwnTimer) (X : List Entry) (item : Item) (items : List Item) (m : Machine) → is_quiet_item item ≡ true
     → Timely o (facing (item ∷ items) m) X → Free o (carried item items m) X
 free-carried o X item items m n h =
     record {
-      steady = grind (arith, nat_tests, carried-queue, carried-regular, h.steady);
+      steady = grind (decide, carried-queue, carried-regular, h.steady);
       balanced = λ k.
           less-balanced o m.clock (in_wait o (carried item items m)) (in_wait o (facing (item ∷ items) m)) m.timers (timer_ledger o k X)
           (carried-count o item items m.scheduler h.steady.plain) (h.balanced k (no_reply_front o.p k item items n));
     }
 
 no_callback : (o : OwnTimer) (q c : ℕ) → count_items o (Item.Give q Origin.Callback (Stimulus.Callback c) ∷ []) ≡ 0
-no_callback = grind (arith, nat_tests)
+no_callback = grind decide
 
 -- an input
 
 -- the clock goes on by its ticks, and no more TIMER events wait
 effect-clock : (input : Input) (m : Machine) → (effect input m).clock ≡ m.clock + ticks_in (Entry.Input input)
-effect-clock = grind (arith, nat_tests)
+effect-clock = grind decide
 
 effect-timers : (input : Input) (m : Machine) → (effect input m).timers ≡ m.timers
-effect-timers = grind (arith, nat_tests)
+effect-timers = grind decide
 
 effect_timely : (o : OwnTimer) (input : Input) (m : Machine) (X : List Entry) → Timely o m X → Timely o (effect input (record m { work = 0 })) (X ++ Entry.Input input ∷ [])
 effect_timely o input m X h =
     let woken : Machine = record m { work = 0 } in
     record {
-      steady = grind (arith, nat_tests, clock-more, h.steady);
+      steady = grind (decide, clock-more, h.steady);
       balanced = λ k front.
           let before = h.balanced k (effect-keeps (λ s. FrontIs o.p k s.agenda → FrontIs o.p k m.scheduler.agenda) input woken (λ f. f) (λ q f. f) (λ refusal f. f) front) in
           rw (ledger-other o k X (Entry.Input input) refl, effect-clock input woken, effect-timers input woken)
-          (grind (arith, nat_tests));
+          (grind decide);
     }
 
 -- every step
@@ -134,13 +134,13 @@ timely_cases o low high = record {
       served = λ m X q origin event items k h.
           let free = subst (λ n. Free o n X) (kernel_carried q origin (Stimulus.Event event) items m k) (free-carried o X (Item.Give q origin (Stimulus.Event event)) items m refl h) in
           record {
-            steady = grind (arith, nat_tests, serve-fair (record { p = 0; t = 0 }) q event (facing items m), serve-untouched q event (facing items m), free.steady);
+            steady = grind (decide, serve-fair (record { p = 0; t = 0 }) q event (facing items m), serve-untouched q event (facing items m), free.steady);
             balanced = λ r. (serve-fair o q event (facing items m)).balanced (timer_ledger o r X) (free.balanced r);
           };
       called_back = λ m X q c h.
           let x = Item.Give q Origin.Callback (Stimulus.Callback c) in
           record {
-            steady = grind (arith, nat_tests, h.steady.regular, h.steady);
+            steady = grind (decide, h.steady.regular, h.steady);
             balanced = λ k.
                 less-balanced o m.clock (in_wait o (scheduled (in_front (x ∷ [])) m)) (in_wait o m) m.timers (timer_ledger o k X) (omega (arith, no_callback o q c)) (h.balanced k);
           };
@@ -153,7 +153,7 @@ timely_cases o low high = record {
           };
       turn = λ m X items q origin stimulus call h. turn_timely o low high X m items q origin stimulus call h;
       told = λ m X items q origin stimulus call h i. turn_early o low high X m items q origin stimulus call h;
-      shown = grind (arith, nat_tests, clock-more, ledger-other, less-balanced);
+      shown = grind (decide, clock-more, ledger-other, less-balanced);
       noted = λ m X items note h. timely-other o X (Entry.Note note) refl;
       other = λ X e n k. timely-other o X e n;
       input = effect_timely o;
@@ -168,7 +168,7 @@ starts-count o (n ∷ ns) = omega (arith, starts-count o ns)
 pub boot_timely : (o : OwnTimer) (c : Config) → nat_le 4 o.p ≡ true → nat_lt o.p 20 ≡ true → Timely o (at_start c).machine []
 boot_timely o c low high =
     record {
-      steady = grind (arith, nat_tests, zero-names, all-mapped);
+      steady = grind (decide, zero-names, all-mapped);
       balanced = λ k front.
           record {
             cell = λ number. zero-cells (own_timer o) all_timers;
@@ -184,7 +184,7 @@ pub no_early_timer : (run : Ran)
 no_early_timer run p b a before later t e =
     let o : OwnTimer = record { p = p; t = t } in
     let low : nat_le 4 p ≡ true = grind (arith, a) in
-    let high : nat_lt p 20 ≡ true = grind (arith, nat_tests) in
+    let high : nat_lt p 20 ≡ true = grind decide in
     let h : IsTimely o before =
     at_prefixes (law_of (timely_cases o low high)) run (boot_timely o run.config low high) (omega arith) before later e in
     rw (timer_events-ledger before o, ripe_armings-ledger before o) h

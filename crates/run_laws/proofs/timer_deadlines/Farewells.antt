@@ -1,6 +1,6 @@
 -- Nobody is told that p ended while p goes on.
 use Rattle.std.proofs.Common.{◌≡◌, ℕ, Bool, true, false, not, ◌&&◌, ◌||◌, List, [], ◌∷◌, refl, ◌∙◌, arith, append_assoc, map, slice_get, ◌==◌}
-use Rattle.run_laws.proofs.Common.{list_all, list_any, nat_tests, Call, Stimulus, Event, Origin, POLL, EXITED, plain_event, number_event, Queued, Item, numbers, Scheduler, after_item, delivery, first_event, of_event, Timer, Machine, after_call, cancelled_if, serve, expiry_of, is_number, list_any-append}
+use Rattle.run_laws.proofs.Common.{list_all, list_any, decide, Call, Stimulus, Event, Origin, POLL, EXITED, plain_event, number_event, Queued, Item, numbers, Scheduler, after_item, delivery, first_event, of_event, Timer, Machine, after_call, cancelled_if, serve, expiry_of, is_number, list_any-append}
 use Rattle.run_laws.proofs.CallQueues.{KeptByCalls, kept_by_call}
 use Rattle.run_laws.proofs.Changes.{Changes, of_changes, is_notice}
 use Rattle.run_laws.proofs.event_order.Tally.{ends_in, is_give_exit, is_exit_turn, to_all}
@@ -36,7 +36,7 @@ events-cancelled test events = all-cancelled is_no_exited test (λ event. grind 
 
 after-clean : KeptByCalls (λ events. list_all is_no_exited events ≡ true)
 after-clean = record {
-      posted = λ event events posted h. grind (arith, nat_tests, all-more);
+      posted = λ event events posted h. grind (decide, all-more);
       cancelled = λ test events h. rw (events-cancelled test events) h;
     }
 
@@ -54,10 +54,10 @@ serve-events q event = of_changes changes
         record {
           same = λ m h. h;
           chained = λ a b c f g h. g (f h);
-          expired = λ timer m e. all-more is_no_exited m.scheduler.events (expiry_of timer) (grind (arith, nat_tests));
+          expired = λ timer m e. all-more is_no_exited m.scheduler.events (expiry_of timer) (grind decide);
           timers_gone = λ n m z k e h. h;
           callbacks_gone = λ n m h. events-cancelled (λ r c. r == n) m.scheduler.events ∙ h;
-          posted = λ notice m n. all-more is_no_exited m.scheduler.events notice (grind (arith, nat_tests));
+          posted = λ notice m n. all-more is_no_exited m.scheduler.events notice (grind decide);
           devices = λ serial is_waiting packets m e h. h;
           marked = λ n m h. h;
         }
@@ -65,39 +65,39 @@ serve-events q event = of_changes changes
 -- an item
 
 no_farewell-given : (p q : ℕ) (origin : Origin) (event : Event) → (event.code == EXITED) ≡ false → is_farewell p (Item.Give q origin (of_event event)) ≡ false
-no_farewell-given = grind (arith, nat_tests)
+no_farewell-given = grind decide
 
 no_farewell-broadcast : (p : ℕ) (ns : List ℕ) (event : Event) → (event.code == EXITED) ≡ false → has_farewell p (delivery ns (to_all event)) ≡ false
 no_farewell-broadcast p [] event h = refl
-no_farewell-broadcast p (n ∷ ns) event h = grind (arith, nat_tests, no_farewell-broadcast p ns event h)
+no_farewell-broadcast p (n ∷ ns) event h = grind (decide, no_farewell-broadcast p ns event h)
 
 no_farewell-delivery : (p : ℕ) (ns : List ℕ) (events : List (Queued Bool)) → list_all is_no_exited events ≡ true → has_farewell p (delivery ns (slice_get events 0)) ≡ false
-no_farewell-delivery p ns (Queued.To q event ∷ events) h = grind (arith, nat_tests)
+no_farewell-delivery p ns (Queued.To q event ∷ events) h = grind decide
 no_farewell-delivery p ns (Queued.ToAll event ∷ events) h = no_farewell-broadcast p ns event (grind (arith, h))
 no_farewell-delivery p ns _ h = refl
 
 -- where p isn't doomed after, it wasn't before
 spared-before : (a b : Bool) → (a ≡ true → b ≡ true) → b ≡ false → a ≡ false
-spared-before true b h n = grind (arith, nat_tests)
+spared-before true b h n = grind decide
 spared-before false b h n = refl
 
 pub carried-doomed : (p : ℕ) (item : Item) (items : List Item) (s : Scheduler Bool) → is_quiet_item item ≡ true
     → is_doomed p (after_item item (with_agenda items s)).agenda ≡ false → is_doomed p (item ∷ items) ≡ false
-carried-doomed = grind (arith, nat_tests, spared-before, carried-any)
+carried-doomed = grind (decide, spared-before, carried-any)
 
 pub carried-farewell : (p : ℕ) (item : Item) (items : List Item) (s : Scheduler Bool) → list_all is_no_exited s.events ≡ true
     → has_farewell p (item ∷ items) ≡ false → has_farewell p (after_item item (with_agenda items s)).agenda ≡ false
-carried-farewell p Item.Polls items s n h = grind (arith, nat_tests, list_any-append, none-mapped)
+carried-farewell p Item.Polls items s n h = grind (decide, list_any-append, none-mapped)
 carried-farewell p Item.Deliver items s n h =
     rw (list_any-append (is_farewell p) (delivery (numbers s.processes) (first_event s)) items, no_farewell-delivery p (numbers s.processes) s.events n) h
-carried-farewell p (Item.PollOne q) items s n h = grind (arith, nat_tests)
+carried-farewell p (Item.PollOne q) items s n h = grind decide
 carried-farewell p item items s n h = grind (arith, h)
 
 -- a turn
 
 no_farewell-others : (p r : ℕ) (ns : List ℕ) → (r == p) ≡ false → has_farewell p (map (λ n. Item.Give n Origin.Synch (of_event (number_event EXITED r))) ns) ≡ false
 no_farewell-others p r [] h = refl
-no_farewell-others p r (n ∷ ns) h = grind (arith, nat_tests, no_farewell-others p r ns h)
+no_farewell-others p r (n ∷ ns) h = grind (decide, no_farewell-others p r ns h)
 
 pub after-doomed : (p : ℕ) (call : Call) (q : ℕ) (m : Machine) → is_doomed p (after_call call q m).scheduler.agenda ≡ false → is_doomed p m.scheduler.agenda ≡ false
 after-doomed p call q m h = spared-before (is_doomed p m.scheduler.agenda) (is_doomed p (after_call call q m).scheduler.agenda) (after-any (dooms p) call q m) h
@@ -105,6 +105,6 @@ after-doomed p call q m h = spared-before (is_doomed p m.scheduler.agenda) (is_d
 -- only who ends, or is doomed, is said farewell
 pub after-farewell : (p : ℕ) (call : Call) (q : ℕ) (origin : Origin) (stimulus : Stimulus) (m : Machine) → ends_in p (turn_entry q origin stimulus call) ≡ false
     → is_doomed p (after_call call q m).scheduler.agenda ≡ false → has_farewell p m.scheduler.agenda ≡ false → has_farewell p (after_call call q m).scheduler.agenda ≡ false
-after-farewell p Call.Exit q origin stimulus m n d h = grind (arith, nat_tests, append_assoc, list_any-append, no_farewell-others)
-after-farewell p (Call.Kill r) q origin stimulus m n d h = grind (arith, nat_tests, append_assoc, list_any-append, no_farewell-others)
+after-farewell p Call.Exit q origin stimulus m n d h = grind (decide, append_assoc, list_any-append, no_farewell-others)
+after-farewell p (Call.Kill r) q origin stimulus m n d h = grind (decide, append_assoc, list_any-append, no_farewell-others)
 after-farewell p call q origin stimulus m n d h = grind (arith, h)

@@ -1,6 +1,6 @@
 -- Timer t of p by the turns of p, from the first on.
 use Rattle.run_laws.proofs.timer_deadlines.Timing.{OwnTimer, own_timer}
-use Rattle.run_laws.proofs.Common.{nat_tests, cons_option, option_map_or, Call, Reply, Stimulus, Origin, Pid, Entry, Cell, zero_cell, deadline, heard, is_done, OwnTurn, own, own_from, own_turn, reply_of, ticks_in, clock_after, arms, stops, cell_after, is_arming, is_arming_or_stop, ripe_armings, is_timer_event, timer_events, cell_at, stood_until, ripe_from}
+use Rattle.run_laws.proofs.Common.{decide, cons_option, option_map_or, Call, Reply, Stimulus, Origin, Pid, Entry, Cell, zero_cell, deadline, heard, is_done, OwnTurn, own, own_from, own_turn, reply_of, ticks_in, clock_after, arms, stops, cell_after, is_arming, is_arming_or_stop, ripe_armings, is_timer_event, timer_events, cell_at, stood_until, ripe_from}
 use Rattle.std.proofs.Common.{◌≡◌, ℕ, ◌+◌, Bool, true, false, ◌&&◌, ◌||◌, List, [], ◌∷◌, ◌++◌, refl, ◌∙◌, sym, arith, Option, Some, None, option_to_list, fold, find, if◌then◌else◌, ◌==◌, nat_le}
 use Rattle.run_laws.proofs.event_order.Tally.{reply_or, reply_or-none, heard-turn, heard-other, is_turn, cons_option-append}
 
@@ -21,11 +21,11 @@ abbrev pub clock_from : ℕ → List Entry → ℕ
 clock_from clock entries = fold (λ clock entry. clock + ticks_in entry) clock entries
 
 turn-none : (p clock : ℕ) (entry : Entry) (later : List Entry) → own_turn_or None p clock entry later ≡ own_turn p clock entry later
-turn-none = grind (arith, nat_tests)
+turn-none = grind decide
 
 pub turns-none : (p clock : ℕ) (X : List Entry) → turns_or None p clock X ≡ own_from p clock X
 turns-none p clock [] = refl
-turns-none p clock (entry ∷ later) = grind (arith, nat_tests, turns-none p (clock + ticks_in entry) later)
+turns-none p clock (entry ∷ later) = grind (decide, turns-none p (clock + ticks_in entry) later)
 
 abbrev pub told_reply : ℕ → ℕ → Stimulus → Option Reply → Option Reply
 told_reply p q stimulus k = if q == p then reply_of stimulus else k
@@ -35,7 +35,7 @@ told-front p q stimulus k same = rw same refl
 
 reply-told : (k : Option Reply) (b : Bool) (stimulus : Stimulus) (l : List Stimulus)
     → reply_or k (l ++ option_to_list (if b then Some stimulus else None)) ≡ reply_or (if b then reply_of stimulus else k) l
-reply-told = grind (arith, nat_tests)
+reply-told = grind decide
 
 turn-more : (k : Option Reply) (p clock : ℕ) (entry : Entry) (X : List Entry) (pid : Pid) (origin : Origin) (stimulus : Stimulus) (call : Call)
     → own_turn_or k p clock entry (X ++ Entry.Turn pid origin stimulus call ∷ []) ≡ own_turn_or (told_reply p pid.0 stimulus k) p clock entry X
@@ -46,8 +46,8 @@ turn-more k p clock _ X pid origin stimulus call = refl
 pub turns-turn : (k : Option Reply) (p clock : ℕ) (X : List Entry) (pid : Pid) (origin : Origin) (stimulus : Stimulus) (call : Call)
     → turns_or k p clock (X ++ Entry.Turn pid origin stimulus call ∷ [])
     ≡ turns_or (told_reply p pid.0 stimulus k) p clock X ++ option_to_list (own_turn_or k p (clock_from clock X) (Entry.Turn pid origin stimulus call) [])
-turns-turn k p clock [] pid origin stimulus call = grind (arith, nat_tests)
-turns-turn k p clock (entry ∷ X) pid origin stimulus call = grind (arith, nat_tests, turn-more, cons_option-append, turns-turn k p (clock + ticks_in entry) X pid origin stimulus call)
+turns-turn k p clock [] pid origin stimulus call = grind decide
+turns-turn k p clock (entry ∷ X) pid origin stimulus call = grind (decide, turn-more, cons_option-append, turns-turn k p (clock + ticks_in entry) X pid origin stimulus call)
 
 turn-other : (k : Option Reply) (p clock : ℕ) (entry : Entry) (X : List Entry) (e : Entry) → is_turn e ≡ false
     → own_turn_or k p clock entry (X ++ e ∷ []) ≡ own_turn_or k p clock entry X
@@ -55,9 +55,9 @@ turn-other k p clock (Entry.Turn other o s c) X e h = rw (heard-other p X e h)
 turn-other k p clock _ X e h = refl
 
 pub turns-other : (k : Option Reply) (p clock : ℕ) (X : List Entry) (e : Entry) → is_turn e ≡ false → turns_or k p clock (X ++ e ∷ []) ≡ turns_or k p clock X
-turns-other k p clock [] (Entry.Turn pid origin stimulus call) h = grind (arith, nat_tests)
+turns-other k p clock [] (Entry.Turn pid origin stimulus call) h = grind decide
 turns-other k p clock [] _ h = refl
-turns-other k p clock (entry ∷ X) e h = grind (arith, nat_tests, turn-other, turns-other k p (clock + ticks_in entry) X e h)
+turns-other k p clock (entry ∷ X) e h = grind (decide, turn-other, turns-other k p (clock + ticks_in entry) X e h)
 
 pub fold-append : {A B : Type 0} (f : B → A → B) (b : B) (xs ys : List A) → fold f b (xs ++ ys) ≡ fold f (fold f b xs) ys
 fold-append f b [] ys = refl
@@ -126,19 +126,19 @@ pub ripe-ledger : (t clock : ℕ) (ledger : Ledger) (turns : List OwnTurn)
     → ripe_at clock (fold (ledger_after t) ledger turns)
     ≡ ledger.after_items + (one_if (ledger.is_set && nat_le (deadline ledger.cell) (stood_until t clock turns)) + ripe_from t clock ledger.cell turns)
 ripe-ledger t clock ledger [] = omega arith
-ripe-ledger t clock ledger (turn ∷ later) = grind (arith, nat_tests, ripe-step, ripe-ledger t clock (ledger_after t ledger turn) later)
+ripe-ledger t clock ledger (turn ∷ later) = grind (decide, ripe-step, ripe-ledger t clock (ledger_after t ledger turn) later)
 
 given_after : (t : ℕ) (ledger : Ledger) (turn : OwnTurn) → (ledger_after t ledger turn).given ≡ ledger.given + one_if (is_timer_event t turn.stimulus)
-given_after = grind (arith, nat_tests)
+given_after = grind decide
 
 given-fold : (t : ℕ) (ledger : Ledger) (turns : List OwnTurn)
     → (fold (ledger_after t) ledger turns).given ≡ fold (λ n turn. n + one_if (is_timer_event t turn.stimulus)) ledger.given turns
 given-fold t ledger [] = refl
-given-fold t ledger (turn ∷ later) = grind (arith, nat_tests, given-fold t (ledger_after t ledger turn) later)
+given-fold t ledger (turn ∷ later) = grind (decide, given-fold t (ledger_after t ledger turn) later)
 
 -- the ledger tells both numbers
 pub timer_events-ledger : (X : List Entry) (o : OwnTimer) → timer_events X o.p o.t ≡ (ledger_of o.t (turns_or None o.p 0 X)).given
-timer_events-ledger = grind (arith, nat_tests, turns-none, given-fold)
+timer_events-ledger = grind (decide, turns-none, given-fold)
 
 pub ripe_armings-ledger : (X : List Entry) (o : OwnTimer) → ripe_armings X o.p o.t ≡ ripe_at (clock_after X) (ledger_of o.t (turns_or None o.p 0 X))
-ripe_armings-ledger = grind (arith, nat_tests, turns-none, ripe-ledger)
+ripe_armings-ledger = grind (decide, turns-none, ripe-ledger)

@@ -1,6 +1,6 @@
 -- The kernel's own processes take no turn and never leave, and only notes are shown.
-use Rattle.std.proofs.Common.{◌≡◌, ℕ, Bool, true, List, ◌∷◌, arith, nat_le}
-use Rattle.run_laws.proofs.Common.{list_all, nat_tests, Call, Item, Scheduler, after_item, Machine, after_call}
+use Rattle.std.proofs.Common.{◌≡◌, ℕ, Bool, true, List, ◌∷◌, nat_le}
+use Rattle.run_laws.proofs.Common.{list_all, decide, Call, Item, Scheduler, after_item, Machine, after_call}
 use Rattle.run_laws.proofs.event_order.Tally.{is_note}
 use Rattle.run_laws.proofs.event_order.Items.{with_agenda}
 use Rattle.run_laws.proofs.timer_deadlines.Fronts.{all-append, all-mapped, all-delivered}
@@ -15,5 +15,5 @@ is_regular _ = true
 -- an item keeps that
 pub carried-regular : (item : Item) (items : List Item) (s : Scheduler Bool) → list_all is_regular (item ∷ items) ≡ true
     → list_all is_regular (after_item item (with_agenda items s)).agenda ≡ true
-carried-regular = grind (arith, nat_tests, all-mapped, all-append, all-delivered)
+carried-regular = grind (decide, all-mapped, all-append, all-delivered)
 

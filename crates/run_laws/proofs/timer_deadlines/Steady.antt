@@ -1,6 +1,6 @@
 -- The clock, the names of the cells and the codes in the queue, step by step.
-use Rattle.std.proofs.Common.{◌≡◌, ℕ, ◌+◌, true, List, [], ◌∷◌, ◌++◌, arith, nat_le}
-use Rattle.run_laws.proofs.Common.{list_all, nat_tests, Call, Stimulus, Event, Origin, Input, Note, Entry, Item, after_item, in_front, all_timers, Machine, scheduled, after_call, serve, ticks_in, clock_after, effect}
+use Rattle.std.proofs.Common.{◌≡◌, ℕ, ◌+◌, true, List, [], ◌∷◌, ◌++◌, nat_le}
+use Rattle.run_laws.proofs.Common.{list_all, decide, Call, Stimulus, Event, Origin, Input, Note, Entry, Item, after_item, in_front, all_timers, Machine, scheduled, after_call, serve, ticks_in, clock_after, effect}
 use Rattle.run_laws.proofs.timer_deadlines.Ledgers.{fold-append}
 use Rattle.run_laws.proofs.event_order.Items.{with_agenda, facing}
 use Rattle.run_laws.proofs.CallQueues.{KeptByCalls, kept_by_call}
@@ -19,7 +19,7 @@ pub record Steady (m : Machine) (X : List Entry) : Type 0 where
   pub regular : list_all is_regular m.scheduler.agenda ≡ true
 
 pub clock-more : (X : List Entry) (e : Entry) → clock_after (X ++ e ∷ []) ≡ clock_after X + ticks_in e
-clock-more = grind (arith, nat_tests, fold-append)
+clock-more = grind (decide, fold-append)
 
 -- an item
 
@@ -27,11 +27,11 @@ clock-more = grind (arith, nat_tests, fold-append)
 
 after-plain : KeptByCalls (λ events. list_all is_no_timer events ≡ true)
 after-plain = record {
-      posted = λ event events posted h. grind (arith, nat_tests, all-more);
+      posted = λ event events posted h. grind (decide, all-more);
       cancelled = λ test events h. rw (plain-cancelled test events) h;
     }
 
 pub steady-turn : (q : ℕ) (origin : Origin) (stimulus : Stimulus) (call : Call) (m : Machine) (X : List Entry) → nat_le 4 q ≡ true → Steady m X
     → Steady (after_call call q m) (X ++ Entry.Turn (record { 0 = q }) origin stimulus call ∷ [])
-steady-turn = grind (arith, nat_tests, after-clock, clock-more, armed-names, after-timers, kept_by_call, after-plain, all-mapped, all-append)
+steady-turn = grind (decide, after-clock, clock-more, armed-names, after-timers, kept_by_call, after-plain, all-mapped, all-append)
 

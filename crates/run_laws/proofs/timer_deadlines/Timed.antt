@@ -1,6 +1,6 @@
 -- The TIMER events of timer t of p are no more than the ripe armings.
 use Rattle.std.proofs.Common.{◌≡◌, ℕ, ◌+◌, ◌≤◌, Bool, true, false, not, ◌&&◌, List, [], ◌∷◌, ◌++◌, refl, ◌∙◌, sym, arith, Some, find, filter, map, if◌then◌else◌, ◌==◌, nat_le, ◌||◌, Option}
-use Rattle.run_laws.proofs.Common.{list_any, list_all, nat_tests, Stimulus, Event, TIMER, Queued, Item, of_event, Timer, event_timer, is_timer, is_event_timer_of, is_callback_timer_of, Timers, cell_of, is_armed, stop_timer, deadline, is_due, first_due, without_callback_timers, Machine, with_event, with_timers, cancelled_if, expiries_cancelled, serve, expiry_of, post_expiry, is_timer_event, Call, Reply, Origin, Payload, EXITED, plain_event, number_event, is_reserved, Scheduler, delivery, after_item, after_call, Cell, OwnTurn, is_done, arms, stops, is_arming, is_arming_or_stop, cell_after}
+use Rattle.run_laws.proofs.Common.{list_any, list_all, decide, Stimulus, Event, TIMER, Queued, Item, of_event, Timer, event_timer, is_timer, is_event_timer_of, is_callback_timer_of, Timers, cell_of, is_armed, stop_timer, deadline, is_due, first_due, without_callback_timers, Machine, with_event, with_timers, cancelled_if, expiries_cancelled, serve, expiry_of, post_expiry, is_timer_event, Call, Reply, Origin, Payload, EXITED, plain_event, number_event, is_reserved, Scheduler, delivery, after_item, after_call, Cell, OwnTurn, is_done, arms, stops, is_arming, is_arming_or_stop, cell_after}
 use Rattle.run_laws.proofs.CallQueues.{KeptByCalls, is_posted, kept_by_call}
 use Rattle.run_laws.proofs.Changes.{Changes, of_changes, is_notice}
 use Rattle.run_laws.proofs.timer_deadlines.Fronts.{all-more, all-cancelled}
@@ -61,33 +61,33 @@ pub record Fair (o : OwnTimer) (old new : Machine) : Type 0 where
   pub balanced : (ledger : Ledger) → Balanced o old.timers old.clock (in_wait o old) ledger → Balanced o new.timers new.clock (in_wait o new) ledger
 
 fair-then : (o : OwnTimer) (a b c : Machine) → Fair o a b → Fair o b c → Fair o a c
-fair-then = grind (arith, nat_tests)
+fair-then = grind decide
 
 pub any-filter : (test keep : Timer → Bool) (xs : List Timer) → list_any test (filter keep xs) ≡ true → list_any test xs ≡ true
 any-filter test keep [] h = h
-any-filter test keep (x ∷ xs) h = grind (arith, nat_tests, any-filter test keep xs)
+any-filter test keep (x ∷ xs) h = grind (decide, any-filter test keep xs)
 
 -- the first that passes does pass, and is on the list
 pub found : (clock : ℕ) (timers : Timers) (timer : Timer) (xs : List Timer) → find (is_due clock timers) xs ≡ Some timer → is_due clock timers timer ≡ true
 found clock timers timer [] e = cc
-found clock timers timer (x ∷ xs) e = grind (arith, nat_tests, found clock timers timer xs)
+found clock timers timer (x ∷ xs) e = grind (decide, found clock timers timer xs)
 
 pub itself : (timer : Timer) → is_timer timer timer ≡ true
-itself = grind (arith, nat_tests)
+itself = grind decide
 
 pub listed : (clock : ℕ) (timers : Timers) (timer : Timer) (xs : List Timer) → find (is_due clock timers) xs ≡ Some timer → list_any (is_timer timer) xs ≡ true
 listed clock timers timer [] e = cc
-listed clock timers timer (x ∷ xs) e = grind (arith, nat_tests, listed clock timers timer xs)
+listed clock timers timer (x ∷ xs) e = grind (decide, listed clock timers timer xs)
 
 expiry_count : (o : OwnTimer) (timer : Timer) → queued_one o (expiry_of timer) ≡ one_if (is_timer (own_timer o) timer)
-expiry_count = grind (arith, nat_tests)
+expiry_count = grind decide
 
 -- a due timer of p is posted, and is off the list
 expired-fair : (o : OwnTimer) (timer : Timer) (m : Machine) → first_due m.clock m.timers ≡ Some timer → Fair o m (post_expiry (Some timer) m)
 expired-fair o timer m e = record {
       clock = refl;
       names = refl;
-      plain = λ h. grind (arith, nat_tests, all-more);
+      plain = λ h. grind (decide, all-more);
       balanced = λ ledger k. posted (is_timer (own_timer o) timer) refl ledger k;
     }
   where
@@ -97,7 +97,7 @@ expired-fair o timer m e = record {
     posted : (b : Bool) → is_timer (own_timer o) timer ≡ b → (ledger : Ledger) → Balanced o m.timers m.clock (in_wait o m) ledger
         → Balanced o (stop_timer timer m.timers) m.clock (in_wait o (post_expiry (Some timer) m)) ledger
     posted true s ledger k =
-        let same : timer ≡ own_timer o = grind (arith, nat_tests) in
+        let same : timer ≡ own_timer o = grind decide in
         let due : is_due m.clock m.timers own ≡ true = rw same at (found m.clock m.timers timer m.timers.armed e) in
         let on : is_armed own m.timers ≡ true = rw same at (listed m.clock m.timers timer m.timers.armed e) in
         let off : is_armed own (stop_timer own m.timers) ≡ false = stopped-own own m.timers.armed in
@@ -111,7 +111,7 @@ expired-fair o timer m e = record {
           count = rw (more, same, off, k.set on, late) (omega (arith, (rw on at k.count)));
         }
     posted false s ledger k =
-        let kept : is_armed own (stop_timer timer m.timers) ≡ is_armed own m.timers = stopped-other own timer m.timers.armed ((grind (arith, nat_tests)) ∙ s) in
+        let kept : is_armed own (stop_timer timer m.timers) ≡ is_armed own m.timers = stopped-other own timer m.timers.armed ((grind decide) ∙ s) in
         let more : count_events o (m.scheduler.events ++ expiry_of timer ∷ []) ≡ count_events o m.scheduler.events =
         count_events-more o m.scheduler.events (expiry_of timer) ∙ rw (expiry_count o timer, s) (omega arith) in
         record { cell = k.cell; named = λ h. k.named (sym kept ∙ h); set = λ h. k.set (sym kept ∙ h); count = rw (more, kept) k.count }
@@ -119,11 +119,11 @@ expired-fair o timer m e = record {
 -- the kernel's other processes
 
 notice-plain : (notice : Queued Bool) → is_notice notice ≡ true → is_no_timer notice ≡ true
-notice-plain = grind (arith, nat_tests)
+notice-plain = grind decide
 
 pub count-cancelled : (o : OwnTimer) (test : ℕ → ℕ → Bool) (events : List (Queued Bool)) → count_events o (map (cancelled_if test) events) ≡ count_events o events
 count-cancelled o test [] = refl
-count-cancelled o test (item ∷ events) = grind (arith, nat_tests, count-cancelled o test events)
+count-cancelled o test (item ∷ events) = grind (decide, count-cancelled o test events)
 
 pub plain-cancelled : (test : ℕ → ℕ → Bool) (events : List (Queued Bool)) → list_all is_no_timer (map (cancelled_if test) events) ≡ list_all is_no_timer events
 plain-cancelled test events = all-cancelled is_no_timer test (λ event. grind arith) events
@@ -137,11 +137,11 @@ serve-fair o q event = of_changes changes
           same = λ m. record { clock = refl; names = refl; plain = λ h. h; balanced = λ ledger k. k };
           chained = fair-then o;
           expired = expired-fair o;
-          timers_gone = λ n m z k e. grind (arith, nat_tests, any-filter);
+          timers_gone = λ n m z k e. grind (decide, any-filter);
           callbacks_gone = λ n m.
               let a : Machine = with_timers (without_callback_timers n m.timers) m in
-              fair-then o m a (expiries_cancelled (λ r c. r == n) a) (grind (arith, nat_tests, any-filter)) (grind (arith, nat_tests, plain-cancelled (λ r c. r == n) a.scheduler.events, count-cancelled o (λ r c. r == n) a.scheduler.events));
-          posted = λ notice m n. grind (arith, nat_tests, all-more, count_events-more);
+              fair-then o m a (expiries_cancelled (λ r c. r == n) a) (grind (decide, any-filter)) (grind (decide, plain-cancelled (λ r c. r == n) a.scheduler.events, count-cancelled o (λ r c. r == n) a.scheduler.events));
+          posted = λ notice m n. grind (decide, all-more, count_events-more);
           devices = λ serial is_waiting packets m e. record { clock = refl; names = refl; plain = λ h. h; balanced = λ ledger k. k };
           marked = λ n m. record { clock = refl; names = refl; plain = λ h. h; balanced = λ ledger k. k };
         }
@@ -153,14 +153,14 @@ polls-count o [] = refl
 polls-count o (n ∷ ns) = omega (arith, polls-count o ns)
 
 no_timer : (o : OwnTimer) (q code n : ℕ) → (code == TIMER) ≡ false → timer_for o q (of_event (number_event code n)) ≡ 0
-no_timer = grind (arith, nat_tests)
+no_timer = grind decide
 
 no_timer_event : (o : OwnTimer) (q : ℕ) (event : Event) → is_no_timer (Queued.ToAll event) ≡ true → timer_for o q (of_event event) ≡ 0
-no_timer_event = grind (arith, nat_tests)
+no_timer_event = grind decide
 
 broadcast-count : (o : OwnTimer) (ns : List ℕ) (event : Event) → is_no_timer (Queued.ToAll event) ≡ true → count_items o (delivery ns (to_all event)) ≡ 0
 broadcast-count o [] event h = refl
-broadcast-count o (n ∷ ns) event h = grind (arith, nat_tests, broadcast-count o ns event h)
+broadcast-count o (n ∷ ns) event h = grind (decide, broadcast-count o ns event h)
 
 abbrev all_count : OwnTimer → Scheduler Bool → ℕ
 all_count o s = count_items o s.agenda + count_events o s.events
@@ -168,34 +168,34 @@ all_count o s = count_items o s.agenda + count_events o s.events
 -- an item adds none
 pub carried-count : (o : OwnTimer) (item : Item) (items : List Item) (s : Scheduler Bool) → list_all is_no_timer s.events ≡ true
     → all_count o (after_item item (with_agenda items s)) ≤ all_count o (with_agenda (item ∷ items) s)
-carried-count = grind (arith, nat_tests, count_items-append, polls-count, broadcast-count)
+carried-count = grind (decide, count_items-append, polls-count, broadcast-count)
 
 -- a call adds none
 
 farewells-count : (o : OwnTimer) (q : ℕ) (ns : List ℕ) → count_items o (map (λ n. Item.Give n Origin.Synch (of_event (number_event EXITED q))) ns) ≡ 0
 farewells-count o q [] = refl
-farewells-count o q (n ∷ ns) = grind (arith, nat_tests, farewells-count o q ns)
+farewells-count o q (n ∷ ns) = grind (decide, farewells-count o q ns)
 
 no_answer : (o : OwnTimer) (q : ℕ) (reply : Reply) → timer_for o q (Stimulus.Answer reply) ≡ 0
-no_answer = grind (arith, nat_tests)
+no_answer = grind decide
 
 posted-uncounted : (o : OwnTimer) (event : Queued Bool) → is_posted event ≡ true → queued_one o event ≡ 0
-posted-uncounted = grind (arith, nat_tests)
+posted-uncounted = grind decide
 
 after-events_count : (o : OwnTimer) (n : ℕ) → KeptByCalls (λ events. count_events o events ≡ n)
 after-events_count o n = record {
-      posted = λ event events posted h. grind (arith, nat_tests, count_events-more, posted-uncounted);
+      posted = λ event events posted h. grind (decide, count_events-more, posted-uncounted);
       cancelled = λ test events h. rw (count-cancelled o test events) h;
     }
 
 free_code : (o : OwnTimer) (q code : ℕ) (payload : Payload) → is_reserved code ≡ false → timer_for o q (of_event (record { code = code; payload = payload })) ≡ 0
-free_code = grind (arith, nat_tests)
+free_code = grind decide
 
 after-items_count : (o : OwnTimer) (call : Call) (q : ℕ) (m : Machine) → count_items o (after_call call q m).scheduler.agenda ≡ count_items o m.scheduler.agenda
-after-items_count o Call.Exit q m = grind (arith, nat_tests, count_items-append, farewells-count)
-after-items_count o (Call.Kill r) q m = grind (arith, nat_tests, no_answer, count_items-append, farewells-count)
-after-items_count o (Call.PostSynch r code payload) q m = grind (arith, nat_tests)
-after-items_count o call q m = grind (arith, nat_tests)
+after-items_count o Call.Exit q m = grind (decide, count_items-append, farewells-count)
+after-items_count o (Call.Kill r) q m = grind (decide, no_answer, count_items-append, farewells-count)
+after-items_count o (Call.PostSynch r code payload) q m = grind decide
+after-items_count o call q m = grind decide
 
 pub after-count : (o : OwnTimer) (call : Call) (q : ℕ) (m : Machine) → in_wait o (after_call call q m) ≡ in_wait o m
 after-count o call q m =
@@ -214,7 +214,7 @@ stopped_ledger g clock ledger = record (armed_ledger g clock ledger.cell ledger)
 
 pub stops-balanced : (o : OwnTimer) (g w clock : ℕ) (old new : Timers) (ledger : Ledger) → (nat_le o.t 7 ≡ true → cell_of (own_timer o) new ≡ cell_of (own_timer o) old) → is_armed (own_timer o) new ≡ false
     → Balanced o old clock (g + w) ledger → Balanced o new clock w (stopped_ledger g clock ledger)
-stops-balanced = grind (arith, nat_tests)
+stops-balanced = grind decide
 
 -- any other turn
 abbrev pub kept_ledger : ℕ → Ledger → Ledger
@@ -226,11 +226,11 @@ gift t turn = one_if (is_timer_event t turn.stimulus)
 
 pub ledger-arms : (t : ℕ) (ledger : Ledger) (turn : OwnTurn) → is_arming t turn ≡ true
     → ledger_after t ledger turn ≡ armed_ledger (gift t turn) turn.clock (cell_after t turn.clock turn.call ledger.cell) ledger
-ledger-arms = grind (arith, nat_tests)
+ledger-arms = grind decide
 
 pub ledger-stops : (t : ℕ) (ledger : Ledger) (turn : OwnTurn) → is_done turn.reply ≡ true → arms t turn.call ≡ false → stops t turn.call ≡ true
     → ledger_after t ledger turn ≡ stopped_ledger (gift t turn) turn.clock ledger
-ledger-stops = grind (arith, nat_tests)
+ledger-stops = grind decide
 
 pub ledger-keeps : (t : ℕ) (ledger : Ledger) (turn : OwnTurn) → is_arming_or_stop t turn ≡ false → ledger_after t ledger turn ≡ kept_ledger (gift t turn) ledger
 ledger-keeps t ledger turn h = rw h refl
@@ -263,17 +263,17 @@ turn-balanced o q w clock stimulus origin call k old new ledger moves h =
         → ((same && (d && s)) ≡ true → is_armed (own_timer o) new ≡ false)
         → Balanced o old clock (one_if (same && is_timer_event o.t stimulus) + w) ledger
         → Balanced o new clock w (ledger_then same o.t clock stimulus origin call k ledger)
-    go false d a s e f i kept kept_cell set set_cell named unset h = grind (arith, nat_tests)
+    go false d a s e f i kept kept_cell set set_cell named unset h = grind decide
     go true true true s e f i kept kept_cell set set_cell named unset h =
         let arming : is_arming o.t turn ≡ true = rw (e, f) refl in
         let cell : cell_of (own_timer o) new ≡ cell_after o.t clock call ledger.cell = set_cell refl ∙ rw (h.cell (named refl)) refl in
         rw (ledger-arms o.t ledger turn arming)
-        (grind (arith, nat_tests))
+        (grind decide)
     go true true false true e f i kept kept_cell set set_cell named unset h =
         rw (ledger-stops o.t ledger turn e f i) (stops-balanced o g w clock old new ledger (kept_cell refl) (unset refl) h)
     go true true false false e f i kept kept_cell set set_cell named unset h =
         let none : is_arming_or_stop o.t turn ≡ false = rw (e, f, i) refl in
-        rw (ledger-keeps o.t ledger turn none) (grind (arith, nat_tests))
+        rw (ledger-keeps o.t ledger turn none) (grind decide)
     go true false a s e f i kept kept_cell set set_cell named unset h =
         let none : is_arming_or_stop o.t turn ≡ false = rw e refl in
-        rw (ledger-keeps o.t ledger turn none) (grind (arith, nat_tests))
+        rw (ledger-keeps o.t ledger turn none) (grind decide)

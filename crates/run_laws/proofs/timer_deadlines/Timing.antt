@@ -1,6 +1,6 @@
 -- The machine's timers against the ledger.
 use Rattle.std.proofs.Common.{◌≡◌, ℕ, ◌+◌, ◌-◌, ◌<◌, ◌≤◌, true, false, not, List, [], ◌∷◌, refl, ◌∙◌, arith, map, filter, ◌==◌, nat_le, nat_lt}
-use Rattle.run_laws.proofs.Common.{list_any, range_with_len, nat_tests, Timer, Cell, all_timers, event_timer, is_timer, Timers, zero_cell, cell_of, is_armed, armed_with, list_any_at, NamedCell, cell_under, given_cell, with_cell}
+use Rattle.run_laws.proofs.Common.{list_any, range_with_len, decide, Timer, Cell, all_timers, event_timer, is_timer, Timers, zero_cell, cell_of, is_armed, armed_with, list_any_at, NamedCell, cell_under, given_cell, with_cell}
 use Rattle.std.proofs.lemmas.Bool.{eq-eqb}
 use Rattle.std.proofs.lemmas.List.FromFn.{length-range_with_len, get_or-range_with_len}
 
@@ -15,7 +15,7 @@ own_timer o = event_timer o.p o.t
 -- names
 
 same_timer : (timer : Timer) → is_timer timer timer ≡ true
-same_timer = grind (arith, nat_tests)
+same_timer = grind decide
 
 -- cells
 
@@ -24,11 +24,11 @@ abbrev pub cell_names : List NamedCell → List Timer
 cell_names cells = map (λ named. named.timer) cells
 
 given-name : (timer : Timer) (cell : Cell) (named : NamedCell) → (given_cell timer cell named).timer ≡ named.timer
-given-name = grind (arith, nat_tests)
+given-name = grind decide
 
 with_cell-names : (timer : Timer) (cell : Cell) (cells : List NamedCell) → cell_names (with_cell timer cell cells) ≡ cell_names cells
 with_cell-names timer cell [] = refl
-with_cell-names timer cell (named ∷ cells) = grind (arith, nat_tests, with_cell-names timer cell cells)
+with_cell-names timer cell (named ∷ cells) = grind (decide, with_cell-names timer cell cells)
 
 -- an arming keeps the names
 pub armed-names : (timer : Timer) (cell : Cell) (timers : Timers) → cell_names (armed_with timer cell timers).cells ≡ cell_names timers.cells
@@ -42,23 +42,23 @@ zero-names (timer ∷ timers) = rw (zero-names timers) refl
 
 pub zero-cells : (timer : Timer) (timers : List Timer) → cell_under timer (map (λ timer. record { timer = timer; cell = zero_cell }) timers) ≡ zero_cell
 zero-cells timer [] = refl
-zero-cells timer (other ∷ others) = grind (arith, nat_tests, zero-cells timer others)
+zero-cells timer (other ∷ others) = grind (decide, zero-cells timer others)
 
 -- after an arming
 
 under-other : (timer other : Timer) (cell : Cell) (cells : List NamedCell) → is_timer timer other ≡ false
     → cell_under timer (with_cell other cell cells) ≡ cell_under timer cells
 under-other timer other cell [] n = refl
-under-other timer other cell (named ∷ cells) n = grind (arith, nat_tests, under-other timer other cell cells n)
+under-other timer other cell (named ∷ cells) n = grind (decide, under-other timer other cell cells n)
 
 pub cell-armed_other : (timer other : Timer) (cell : Cell) (timers : Timers) → is_timer timer other ≡ false
     → cell_of timer (armed_with other cell timers) ≡ cell_of timer timers
-cell-armed_other = grind (arith, nat_tests, under-other)
+cell-armed_other = grind (decide, under-other)
 
 under-own : (timer : Timer) (cell : Cell) (cells : List NamedCell) → list_any (is_timer timer) (cell_names cells) ≡ true
     → cell_under timer (with_cell timer cell cells) ≡ cell
 under-own timer cell [] n = absurd (cc)
-under-own timer cell (named ∷ cells) n = grind (arith, nat_tests, under-own timer cell cells)
+under-own timer cell (named ∷ cells) n = grind (decide, under-own timer cell cells)
 
 -- every application has its event timers
 
@@ -69,23 +69,23 @@ in_range from n p low high =
 
 event_timer-named : (o : OwnTimer) → nat_le 4 o.p ≡ true → nat_lt o.p 20 ≡ true → nat_le o.t 7 ≡ true → list_any (is_timer (own_timer o)) all_timers ≡ true
 unfolding all_timers
-event_timer-named = grind (arith, nat_tests)
+event_timer-named = grind decide
 
 pub cell-armed_own : (o : OwnTimer) (cell : Cell) (timers : Timers) → cell_names timers.cells ≡ all_timers → nat_le 4 o.p ≡ true → nat_lt o.p 20 ≡ true → nat_le o.t 7 ≡ true
     → cell_of (own_timer o) (armed_with (own_timer o) cell timers) ≡ cell
-cell-armed_own = grind (arith, nat_tests, under-own, event_timer-named)
+cell-armed_own = grind (decide, under-own, event_timer-named)
 
 -- the list
 
 pub armed-other : (timer other : Timer) (cell : Cell) (timers : Timers) → is_timer timer other ≡ false
     → is_armed timer (armed_with other cell timers) ≡ is_armed timer timers
-armed-other = grind (arith, nat_tests)
+armed-other = grind decide
 
 pub stopped-own : (timer : Timer) (armed : List Timer) → list_any (is_timer timer) (filter (λ other. not (is_timer timer other)) armed) ≡ false
 stopped-own timer [] = refl
-stopped-own timer (x ∷ xs) = grind (arith, nat_tests, stopped-own timer xs)
+stopped-own timer (x ∷ xs) = grind (decide, stopped-own timer xs)
 
 pub stopped-other : (timer other : Timer) (armed : List Timer) → is_timer other timer ≡ false
     → list_any (is_timer timer) (filter (λ x. not (is_timer other x)) armed) ≡ list_any (is_timer timer) armed
 stopped-other timer other [] n = refl
-stopped-other timer other (x ∷ xs) n = grind (arith, nat_tests, stopped-other timer other xs n)
+stopped-other timer other (x ∷ xs) n = grind (decide, stopped-other timer other xs n)

@@ -1,6 +1,6 @@
 -- While a timer is due, etimer is marked or its POLL is on the agenda.
 use Rattle.std.proofs.Common.{◌≡◌, ℕ, Bool, true, false, not, ◌&&◌, ◌||◌, List, [], ◌∷◌, refl, ◌∙◌, arith, Some, is_some, find, filter, if◌then◌else◌, ◌==◌, ap, Option}
-use Rattle.run_laws.proofs.Common.{list_any, nat_tests, Stimulus, Event, Origin, POLL, State, Item, Process, is_process, is_marked, with_state, with_mark, without, Scheduler, after_item, in_front, Timer, is_timer, is_event_timer_of, is_callback_timer_of, Timers, is_due, stop_timer, without_callback_timers, Machine, scheduled, with_event, with_timers, free_places, mark, serve, times, post_expiry, post_first_due, post_due, is_any_due, forget_callback_timers, list_any-append, Call, Refusal, Input, is_any_marked, event_timer, set_timer, reset_timer, restart_timer, Config, after_call, refused_or, answer_done, effect, at_start, timer_refusal, reset_refusal}
+use Rattle.run_laws.proofs.Common.{list_any, decide, Stimulus, Event, Origin, POLL, State, Item, Process, is_process, is_marked, with_state, with_mark, without, Scheduler, after_item, in_front, Timer, is_timer, is_event_timer_of, is_callback_timer_of, Timers, is_due, stop_timer, without_callback_timers, Machine, scheduled, with_event, with_timers, free_places, mark, serve, times, post_expiry, post_first_due, post_due, is_any_due, forget_callback_timers, list_any-append, Call, Refusal, Input, is_any_marked, event_timer, set_timer, reset_timer, restart_timer, Config, after_call, refused_or, answer_done, effect, at_start, timer_refusal, reset_refusal}
 use Rattle.run_laws.proofs.Changes.{Changes, of_changes, with_devices, times-keeps}
 use Rattle.run_laws.proofs.event_order.Items.{with_agenda, facing}
 use Rattle.run_laws.proofs.timer_deadlines.Fronts.{carried-any, after-any}
@@ -34,45 +34,45 @@ pub record Watched (m : Machine) : Type 0 where
 
 pub marks-with_state : (q : ℕ) (state : State) (list : List Process) → is_marked 0 (with_state q state list) ≡ is_marked 0 list
 marks-with_state q state [] = refl
-marks-with_state q state (x ∷ xs) = grind (arith, nat_tests, marks-with_state q state xs)
+marks-with_state q state (x ∷ xs) = grind (decide, marks-with_state q state xs)
 
 pub marks-with_mark : (q : ℕ) (list : List Process) → is_marked 0 list ≡ true → is_marked 0 (with_mark q true list) ≡ true
 marks-with_mark q [] h = h
-marks-with_mark q (x ∷ xs) h = grind (arith, nat_tests, marks-with_mark q xs)
+marks-with_mark q (x ∷ xs) h = grind (decide, marks-with_mark q xs)
 
 pub marks-other : (q : ℕ) (mark : Bool) (list : List Process) → (q == 0) ≡ false → is_marked 0 (with_mark q mark list) ≡ is_marked 0 list
 marks-other q mark [] n = refl
-marks-other q mark (x ∷ xs) n = grind (arith, nat_tests, marks-other q mark xs n)
+marks-other q mark (x ∷ xs) n = grind (decide, marks-other q mark xs n)
 
 pub marks-without : (q : ℕ) (list : List Process) → (q == 0) ≡ false → is_marked 0 (without q list) ≡ is_marked 0 list
 marks-without q [] n = refl
-marks-without q (x ∷ xs) n = grind (arith, nat_tests, marks-without q xs n)
+marks-without q (x ∷ xs) n = grind (decide, marks-without q xs n)
 
 pub marks-home : (list : List Process) → is_home list ≡ true → is_marked 0 (with_mark 0 true list) ≡ true
 marks-home [] h = h
-marks-home (x ∷ xs) h = grind (arith, nat_tests, marks-home xs)
+marks-home (x ∷ xs) h = grind (decide, marks-home xs)
 
 pub home-with_state : (q : ℕ) (state : State) (list : List Process) → is_home (with_state q state list) ≡ is_home list
 home-with_state q state [] = refl
-home-with_state q state (x ∷ xs) = grind (arith, nat_tests, home-with_state q state xs)
+home-with_state q state (x ∷ xs) = grind (decide, home-with_state q state xs)
 
 pub home-with_mark : (q : ℕ) (mark : Bool) (list : List Process) → is_home (with_mark q mark list) ≡ is_home list
 home-with_mark q mark [] = refl
-home-with_mark q mark (x ∷ xs) = grind (arith, nat_tests, home-with_mark q mark xs)
+home-with_mark q mark (x ∷ xs) = grind (decide, home-with_mark q mark xs)
 
 pub home-without : (q : ℕ) (list : List Process) → (q == 0) ≡ false → is_home (without q list) ≡ is_home list
 home-without q [] n = refl
-home-without q (x ∷ xs) n = grind (arith, nat_tests, home-without q xs n)
+home-without q (x ∷ xs) n = grind (decide, home-without q xs n)
 
 -- an item
 
 pub watched-carried : (item : Item) (items : List Item) (m : Machine) → is_quiet_item item ≡ true → is_served item ≡ false → is_regular item ≡ true
     → Watched (facing (item ∷ items) m) → Watched (carried item items m)
-watched-carried = grind (arith, nat_tests, home-with_state, home-with_mark, home-without, marks-with_state, marks-without, carried-any, marks-other)
+watched-carried = grind (decide, home-with_state, home-with_mark, home-without, marks-with_state, marks-without, carried-any, marks-other)
 
 -- these items in front
 pub watched-front : (xs : List Item) (m : Machine) → Watched m → Watched (scheduled (in_front xs) m)
-watched-front = grind (arith, nat_tests, list_any-append)
+watched-front = grind (decide, list_any-append)
 
 -- a kernel process
 
@@ -81,7 +81,7 @@ first_due-processes = grind arith
 
 some-find : (test : Timer → Bool) (xs : List Timer) → is_some (find test xs) ≡ list_any test xs
 some-find test [] = refl
-some-find test (x ∷ xs) = grind (arith, nat_tests, some-find test xs)
+some-find test (x ∷ xs) = grind (decide, some-find test xs)
 
 -- after its POLL nothing is due, or etimer is marked again
 watched-due : (m : Machine) → is_home m.scheduler.processes ≡ true → Watched (post_due m)
@@ -99,28 +99,28 @@ watched-due m home = go (is_any_due after) (some-find (is_due after.clock after.
 
 pub alike : (old new : Machine) → new.scheduler.agenda ≡ old.scheduler.agenda → new.scheduler.processes ≡ old.scheduler.processes → new.timers ≡ old.timers → new.clock ≡ old.clock
     → Watched old → Watched new
-alike = grind (arith, nat_tests)
+alike = grind decide
 
 -- timers leave the list
 pub dropped : (keep : Timer → Bool) (m : Machine) → Watched m → Watched (record m { timers = record m.timers { armed = filter keep m.timers.armed } })
-dropped = grind (arith, nat_tests, any-filter)
+dropped = grind (decide, any-filter)
 
 -- an item that isn't etimer's POLL is gone
 pub without_item : (item : Item) (items : List Item) (m : Machine) → is_etimer_poll item ≡ false → Watched (facing (item ∷ items) m) → Watched (facing items m)
-without_item = grind (arith, nat_tests)
+without_item = grind decide
 
 changes-watched : (q : ℕ) (event : Event) → Changes (λ old new. Watched old → Watched new) q event
 changes-watched q event = record {
       same = λ m h. h;
       chained = λ a b c f g h. g (f h);
-      expired = grind (arith, nat_tests, alike, dropped);
+      expired = grind (decide, alike, dropped);
       timers_gone = λ n m z k e. dropped (λ timer. not (is_event_timer_of n timer)) m;
       callbacks_gone = λ n m h.
           let a : Machine = with_timers (without_callback_timers n m.timers) m in
           alike a (forget_callback_timers (Some n) m) refl refl refl refl (dropped (λ timer. not (is_callback_timer_of n timer)) m h);
       posted = λ notice m n. alike m (with_event notice m) refl refl refl refl;
       devices = λ serial is_waiting packets m e. alike m (with_devices serial is_waiting packets m) refl refl refl refl;
-      marked = grind (arith, nat_tests, marks-with_mark, home-with_mark);
+      marked = grind (decide, marks-with_mark, home-with_mark);
     }
 
 pub watched-serve : (q : ℕ) (origin : Origin) (event : Event) (items : List Item) (m : Machine) → Watched (facing (Item.Give q origin (Stimulus.Event event) ∷ items) m)
@@ -141,19 +141,19 @@ after-home call q m h = grind (arith, h, home-with_state, home-with_mark)
 
 -- a call that makes no more timers due
 fewer : (call : Call) (q : ℕ) (m : Machine) → Watched m → (is_timer_due m.clock (after_call call q m).timers ≡ true → is_timer_due m.clock m.timers ≡ true) → Watched (after_call call q m)
-fewer = grind (arith, nat_tests, after-home, after-clock, marks-with_state, marks-with_mark, after-any)
+fewer = grind (decide, after-home, after-clock, marks-with_state, marks-with_mark, after-any)
 
 -- every call
 pub watched-after : (call : Call) (q : ℕ) (m : Machine) → Watched m → Watched (after_call call q m)
 watched-after (Call.TimerSet u interval) q m h =
-    grind (arith, nat_tests, watched-front, home-with_mark, marks-home)
+    grind (decide, watched-front, home-with_mark, marks-home)
 watched-after (Call.TimerRestart u) q m h =
-    grind (arith, nat_tests, watched-front, home-with_mark, marks-home)
+    grind (decide, watched-front, home-with_mark, marks-home)
 watched-after (Call.TimerReset u) q m h =
-    grind (arith, nat_tests, watched-front, home-with_mark, marks-home)
-watched-after (Call.CallbackSet c interval) q m h = grind (arith, nat_tests, watched-front, home-with_mark, marks-home)
-watched-after (Call.TimerStop u) q m h = grind (arith, nat_tests, fewer, any-filter)
-watched-after (Call.CallbackStop c) q m h = grind (arith, nat_tests, fewer, any-filter)
+    grind (decide, watched-front, home-with_mark, marks-home)
+watched-after (Call.CallbackSet c interval) q m h = grind (decide, watched-front, home-with_mark, marks-home)
+watched-after (Call.TimerStop u) q m h = grind (decide, fewer, any-filter)
+watched-after (Call.CallbackStop c) q m h = grind (decide, fewer, any-filter)
 watched-after call q m h = plain call (grind arith)
   where
     plain : (call : Call) → is_timer_call call ≡ false → Watched (after_call call q m)
@@ -167,11 +167,11 @@ watched-turn items q origin stimulus call m after a b c h =
 
 -- a change of the memory and of the work
 idle : (m after : Machine) → after.scheduler ≡ m.scheduler → after.timers ≡ m.timers → after.clock ≡ m.clock → Watched m → Watched after
-idle = grind (arith, nat_tests)
+idle = grind decide
 
 -- an input
 pub watched-input : (input : Input) (m : Machine) → Watched m → Watched (effect input (record m { work = 0 }))
-watched-input = grind (arith, nat_tests, home-with_mark, marks-home, idle, marks-with_mark, home-with_mark, watched-front)
+watched-input = grind (decide, home-with_mark, marks-home, idle, marks-with_mark, home-with_mark, watched-front)
 
 -- at rest no timer is due
 unmarked : (list : List Process) → is_any_marked list ≡ false → is_marked 0 list ≡ false
@@ -179,4 +179,4 @@ unmarked [] h = refl
 unmarked (x ∷ xs) h = grind (arith, h, unmarked xs)
 
 pub rest-not_due : (m : Machine) → m.scheduler.agenda ≡ [] → is_any_marked m.scheduler.processes ≡ false → Watched m → is_timer_due m.clock m.timers ≡ false
-rest-not_due = grind (arith, nat_tests, unmarked)
+rest-not_due = grind (decide, unmarked)
