@@ -43,9 +43,6 @@ module _ (p : ℕ) (few : p ≤ 19) where
   abbrev ShownBehind : List Entry → Entry → Type 0
   ShownBehind before entry = Shown (handle_after before) (told_after before).now entry
 
-  same_told : (X : List Entry) (e : Entry) → is_turn e ≡ false → told_after (X ++ e ∷ []) ≡ told_after X
-  same_told = grind (decide, fold-append, accepted)
-
   quiet_entries : (entries : List Entry) (handle : Option ℕ) → list_any is_turn_entry entries ≡ false → fold sent_by handle entries ≡ handle
   quiet_entries [] handle e = refl
   quiet_entries (entry ∷ entries) handle e =
@@ -103,14 +100,14 @@ module _ (p : ℕ) (few : p ≤ 19) where
         turn = λ m X items q origin stimulus call h.
             record { holds = base.turn m X items q origin stimulus call h.holds; front = sent_turn (q == p) m X items q origin stimulus call refl h.holds };
         told = λ m X items q origin stimulus call h i. each-more ShownBehind X (turn_entry q origin stimulus call) i tt;
-        shown = λ m X items note h. grind (decide, fold-append, same_told);
+        shown = λ m X items note h. grind (decide, fold-append, fold-append, accepted);
         noted = λ m X items note h i. each-more ShownBehind X (Entry.Note note) i h.front.0;
         other = λ X e n k i. each-more ShownBehind X e i (grind decide);
         input = λ input m X h.
             let woken : Machine = record m { work = 0 } in
             record {
               holds = base.input input m X h.holds;
-              front = grind (decide, fold-append, same_told);
+              front = grind (decide, fold-append, fold-append, accepted);
             };
       }
 

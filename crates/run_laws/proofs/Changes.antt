@@ -41,10 +41,6 @@ module _ (R : Machine → Machine → Type 0) (q : ℕ) (event : Event) (changes
   repeated : (change : Machine → Machine) → ((m : Machine) → R m (change m)) → (n : ℕ) (m : Machine) → R m (times n change m)
   repeated change keeps n m = times-keeps (R m) change (λ x h. changes.chained m x (change x) h (keeps x)) n m (changes.same m)
 
-  -- it may be marked to look again
-  again : (old m : Machine) (test : Bool) (n : ℕ) → R old m → R old (if test then mark n m else m)
-  again = grind decide
-
   -- a notice after a change of the devices
   noticed : (notice : Queued Bool) (serial : SerialLine) (is_waiting : Bool) (packets : PacketQueue) (m : Machine) → is_notice notice ≡ true
       → packets.frames ≡ m.packets.frames → R m (with_event notice (with_devices serial is_waiting packets m))
@@ -59,7 +55,7 @@ module _ (R : Machine → Machine → Type 0) (q : ℕ) (event : Event) (changes
   etimer-changes m z =
       let after : Machine = times (free_places m) post_first_due m in
       either m (event.code == POLL) (post_due m) _
-      (again m after (is_any_due after) 0 (repeated post_first_due (grind decide) (free_places m) m)) (told (event.code == EXITED) refl)
+      (grind (decide, (repeated post_first_due (grind decide) (free_places m) m))) (told (event.code == EXITED) refl)
     where
       gone : (o : Option ℕ) → exited_application event.payload ≡ o → (event.code == EXITED) ≡ true → R m (forget_event_timers o m)
       gone None e k = changes.same m
@@ -79,7 +75,7 @@ module _ (R : Machine → Machine → Type 0) (q : ℕ) (event : Event) (changes
       emptied x = repeated serve_line (grind (decide, either, noticed)) (suc (line_count x.serial)) x
 
   packet-changes : (m : Machine) → R m (packet event m)
-  packet-changes = grind (decide, either, again, repeated, next-changes)
+  packet-changes = grind (decide, either, repeated, next-changes)
 
 pub of_changes : {R : Machine → Machine → Type 0} {q : ℕ} {event : Event} → Changes R q event → (m : Machine) → R m (serve q event m)
 of_changes {R = R} {q = q} {event = event} = grind (decide, etimer-changes, either, serial_line-changes, packet-changes)

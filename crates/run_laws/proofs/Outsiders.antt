@@ -42,9 +42,6 @@ module _ (p : ℕ) (high : nat_le 4 p ≡ true) where
   call-applications : (call : Call) (q : ℕ) (m : Machine) → (after_call call q m).scheduler.applications ≡ m.scheduler.applications
   call-applications call q m = grind arith
 
-  not_named : (s : Scheduler Bool) (r : ℕ) → is_application s.applications p ≡ false → is_application s.applications r ≡ true → not (r == p) ≡ true
-  not_named = grind decide
-
   -- a step
 
   served-out : (q : ℕ) (event : Event) (m : Machine) → IsOut m.scheduler → IsOut (serve q event m).scheduler
@@ -76,7 +73,7 @@ module _ (p : ℕ) (high : nat_le 4 p ≡ true) where
         called_back = λ m X q c h. grind (decide, all-append, m.scheduler);
         round = λ m X h. grind decide;
         turn = λ m X items q origin stimulus call h.
-            grind (decide, call-applications, all-mapped, all-append, not_named, state_of-with_other, state_of-with_mark);
+            grind (decide, call-applications, all-mapped, all-append, state_of-with_other, state_of-with_mark);
         told = λ m X items q origin stimulus call h i. each-more IsOthers X (turn_entry q origin stimulus call) i (rw (other_turn q origin stimulus items m h) refl);
         shown = λ m X items note h. without_item (Item.Show (Entry.Note note)) items m.scheduler h;
         noted = λ m X items note h i. each-more IsOthers X (Entry.Note note) i refl;

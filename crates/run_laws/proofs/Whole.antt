@@ -56,16 +56,11 @@ module _ {S : Type 0} (next : Call → Reply → S → S) (Law : S → Call → 
     pub law : LawAt Law t.last t.now (due (marks p m.scheduler.agenda))
     pub rel : Rel m.memory m.packets.frames (answered next t.last (due (marks p m.scheduler.agenda)) t.now)
 
-  -- the same marks, state and memory
-  pub same-now : (t : Knowledge S) (old new : Machine) → Now t old → fit (idle p new.scheduler.processes) (marks p new.scheduler.agenda) ≡ true
-      → due (marks p new.scheduler.agenda) ≡ due (marks p old.scheduler.agenda) → new.memory ≡ old.memory → new.packets.frames ≡ old.packets.frames → Now t new
-  same-now = grind decide
-
   -- an item that is no turn
   pub carried-now : (item : Item) (items : List Item) (t : Knowledge S) (m : Machine) → is_turn_item item ≡ false → Now t (facing (item ∷ items) m) → Now t (carried item items m)
   carried-now item items t m n h =
       let kept = after_item-kept p item (with_agenda items m.scheduler) n h.is_fit in
-      same-now t (facing (item ∷ items) m) (carried item items m) h kept.is_fit kept.same_due refl refl
+      grind decide
 
   pub called_back-now : (q c : ℕ) (t : Knowledge S) (m : Machine) → Now t m → Now t (scheduled (in_front (Item.Give q Origin.Callback (Stimulus.Callback c) ∷ [])) m)
   called_back-now = grind decide
@@ -191,10 +186,6 @@ module _ {S : Type 0} (next : Call → Reply → S → S) (Law : S → Call → 
     marks_are : marks p new.agenda ≡ marks p old.agenda
     state : state_of p new.processes ≡ state_of p old.processes
 
-  input-holds : Laws next Law Rel p → (start : Knowledge S) (input : Input) (m : Machine) (X : List Entry) → Holds start m X
-      → Holds start (effect input (record m { work = 0 })) (X ++ Entry.Input input ∷ [])
-  input-holds = grind (decide, effect-keeps, state_of-with_mark, effect-keeps, fold-append, slot_low)
-
   pub told_cases : Laws next Law Rel p → (start : Knowledge S) → Cases (Holds start) (Holds start) (WellTold start)
   told_cases laws start = record {
         notes = λ m X entry items h. grind (arith, h.regular);
@@ -210,7 +201,7 @@ module _ {S : Type 0} (next : Call → Reply → S → S) (Law : S → Call → 
         shown = shown-holds start;
         noted = λ m X items note h i. well-other start X (Entry.Note note) refl i;
         other = λ X e n k i. well-other start X e n i;
-        input = input-holds laws start;
+        input = grind (decide, effect-keeps, state_of-with_mark, effect-keeps, fold-append, slot_low);
       }
 
   marks-starts : (n from : ℕ) → marks p (map (λ q. Item.Start q) (range_with_len from n)) ≡ []

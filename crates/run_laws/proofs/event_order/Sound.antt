@@ -104,9 +104,6 @@ sound-free = grind decide
 no_reply_front : (known : Known) (item : Item) (items : List Item) → is_quiet_item item ≡ true → FrontAgrees known (item ∷ items)
 no_reply_front = grind decide
 
-pub round_sound : (p : ℕ) (X : List Entry) (s : Scheduler Bool) → Sound p (with_agenda [] s) X → SoundFree p (with_agenda (Item.Polls ∷ Item.Deliver ∷ []) s) X
-round_sound = grind decide
-
 pub shown_sound : (p : ℕ) (X : List Entry) (items : List Item) (note : Note) (s : Scheduler Bool) → Sound p (with_agenda (Item.Show (Entry.Note note) ∷ items) s) X
     → Sound p (with_agenda items s) (X ++ Entry.Note note ∷ [])
 shown_sound p X items note s h =
@@ -189,7 +186,7 @@ sound_cases p a = record {
       served = λ m X q origin event items k h.
           grind (decide, serve-untouched q event (facing items m), serve-served p a q event (facing items m));
       called_back = λ m X q c h. grind (decide, m.scheduler);
-      round = λ m X h. round_sound p X m.scheduler h;
+      round = λ m X h. grind decide;
       turn = λ m X items q origin stimulus call h. turn_sound p X (with_more_work (facing items m)) q origin stimulus call h;
       told = λ m X items q origin stimulus call h i. turn_order p X m.scheduler items q origin stimulus call h;
       shown = λ m X items note h. shown_sound p X items note m.scheduler h;

@@ -55,9 +55,6 @@ module _ (I J : Machine → List Entry → Type 0) (P : List Entry → Type 0) (
   free_kept : (X : List Entry) (m : Machine) → P X → J m X → Kept I P X (silent m)
   free_kept = grind (decide, silent_kept)
 
-  limit_kept : (X : List Entry) (m : Machine) (step : StepMade) → P X → Kept I P X step → Kept I P X (within_limit m step)
-  limit_kept = grind decide
-
   quiet_kept : (X : List Entry) (item : Item) (items : List Item) (m : Machine) → is_quiet_item item ≡ true → is_served item ≡ false → P X
       → I (facing (item ∷ items) m) X → Kept I P X (silent (carried item items m))
   quiet_kept X item items m n s i h = grind (decide, free_kept)
@@ -88,7 +85,7 @@ module _ (I J : Machine → List Entry → Type 0) (P : List Entry → Type 0) (
       let fresh : Machine = facing (Item.Polls ∷ Item.Deliver ∷ []) m in
       let same : scheduled (in_front (Item.Polls ∷ Item.Deliver ∷ [])) m ≡ fresh = rw e refl in
       subst (λ n. Kept I P X (job_done answers (Some Job.Round) n)) (sym same)
-      (limit_kept X fresh (silent (with_more_work fresh)) i (free_kept X (with_more_work fresh) i (cases.round m X (at_agenda X [] m e h))))
+      (grind (decide, (free_kept X (with_more_work fresh) i (cases.round m X (at_agenda X [] m e h)))))
   round_kept X answers m false e i h = silent_kept X m i h
 
   step_kept : (X : List Entry) (answers : Answers) (agenda : List Item) (m : Machine) → m.scheduler.agenda ≡ agenda → P X → I m X

@@ -1,8 +1,9 @@
 -- While p goes on, an armed timer of p is on the list, or its TIMER event waits or was given.
 -- where the timer stands, if the reply to p's last call is k unless the entries show it
+use Rattle.run_laws.proofs.event_order.Waiting.{given-running}
 use Rattle.run_laws.proofs.timer_deadlines.Timing.{OwnTimer, own_timer}
 use Rattle.std.proofs.Common.{◌≡◌, ℕ, Bool, true, false, ◌&&◌, ◌||◌, List, [], ◌∷◌, ◌++◌, refl, arith, Option, None, fold, ◌==◌, nat_le, ◌≤◌, subst, nat_lt}
-use Rattle.run_laws.proofs.Common.{list_all, list_any, decide, Call, Reply, Stimulus, Event, Origin, Entry, Item, of_event, zero_cell, is_armed, Machine, after_call, serve, OwnTurn, has_ended, clock_after, Standing, standing_after, standing, is_timer_event, with_more_work, range_with_len, Input, Applications, Timer, is_timer, Timers, is_due, deadline, Config, is_bootable, effect, Running, Runs, is_at_rest, at_start, is_application, NoLostTimerFor}
+use Rattle.run_laws.proofs.Common.{list_any-append, list_all, list_any, decide, Call, Reply, Stimulus, Event, Origin, Entry, Item, of_event, zero_cell, is_armed, Machine, after_call, serve, OwnTurn, has_ended, clock_after, Standing, standing_after, standing, is_timer_event, with_more_work, range_with_len, Input, Applications, Timer, is_timer, Timers, is_due, deadline, Config, is_bootable, effect, Running, Runs, is_at_rest, at_start, is_application, NoLostTimerFor}
 use Rattle.run_laws.proofs.event_order.Tally.{is_turn, ended-more, ends_in}
 use Rattle.run_laws.proofs.event_order.Items.{with_agenda, facing}
 use Rattle.run_laws.proofs.timer_deadlines.Ledgers.{Ledger, ledger_after, turns_or, told_reply, told-front, turns-turn, turns-other, turns-none, fold-append}
@@ -12,8 +13,8 @@ use Rattle.run_laws.proofs.timer_deadlines.Moves.{FrontIs, Setting, after-moves}
 use Rattle.run_laws.proofs.timer_deadlines.Early.{no_reply_front, turn_setting, Timely, Free, IsTimely, timely-free, timely_cases, boot_timely}
 use Rattle.run_laws.proofs.event_order.Steps.{is_quiet_item, carried, turn_entry, Cases, law_of, kernel_carried}
 use Rattle.run_laws.proofs.timer_deadlines.Farewells.{is_no_exited, is_doomed, has_farewell, is_farewell, carried-doomed, carried-farewell, after-doomed, after-farewell, after-events, serve-events}
-use Rattle.run_laws.proofs.timer_deadlines.Awaited.{is_expected, gives, queues, carried-expected, serve-held, Awaits, standing_then, after-expected, turn-awaits}
-use Rattle.run_laws.proofs.timer_deadlines.Fronts.{none-mapped, carried-queue}
+use Rattle.run_laws.proofs.timer_deadlines.Awaited.{is_expected, gives, queues, serve-held, Awaits, standing_then, after-expected, turn-awaits}
+use Rattle.run_laws.proofs.timer_deadlines.Fronts.{carried-any, none-mapped}
 use Rattle.run_laws.proofs.event_order.Runs.{Ran, at_rest}
 use Rattle.run_laws.proofs.timer_deadlines.Watched.{Watched, without_item, watched-carried, watched-front, watched-serve, watched-turn, watched-input, rest-not_due}
 
@@ -63,7 +64,7 @@ pub heeded-carried : (o : OwnTimer) (X : List Entry) (item : Item) (items : List
     → Heeded o (facing (item ∷ items) m) X → HeededFree o (carried item items m) X
 heeded-carried o X item items m a n sound clean h = record {
       farewell = λ alive spared. carried-farewell o.p item items m.scheduler clean (h.farewell alive (carried-doomed o.p item items m.scheduler n spared));
-      kept = grind (decide, carried-doomed, no_reply_front, still_expected, carried-expected);
+      kept = grind (decide, carried-doomed, no_reply_front, still_expected, carried-any, list_any-append, given-running);
     }
 
 -- a kernel process is told the event
@@ -79,10 +80,6 @@ heeded-serve o X q origin event items m old h =
           serve-held o (standing_of o k X).was_given q origin event n none (h.kept alive (rw same at spared) k armed);
     }
 
--- a turn
-regroup : (a g w v st : Bool) → (a || (((g || w) || v) || st)) ≡ true → (a || ((g || (w || v)) || st)) ≡ true
-regroup = grind decide
-
 pub heeded-turn : (o : OwnTimer) (X : List Entry) (m : Machine) (items : List Item) (q : ℕ) (origin : Origin) (stimulus : Stimulus) (call : Call) → m.clock ≡ clock_after X → Setting o.p m.timers
     → Heeded o (facing (Item.Turn q origin stimulus ∷ items) m) X
     → Heeded o (after_call call q (with_more_work (facing items m))) (X ++ turn_entry q origin stimulus call ∷ [])
@@ -94,8 +91,7 @@ heeded-turn o X m items q origin stimulus call clock setting h =
           let w : Bool = is_expected o on.scheduler in
           let before : Awaits o m.timers ((q == o.p && is_timer_event o.t stimulus) || w) st =
           λ armed.
-          regroup (is_armed (own_timer o) m.timers) (q == o.p && is_timer_event o.t stimulus) (list_any (gives o) items) (list_any (queues o) m.scheduler.events) st.was_given
-          (h.kept (was_alive alive) (was_spared alive spared) (told_reply o.p q stimulus k) (told-front o.p q stimulus k) armed) in
+          grind (decide, (is_armed (own_timer o) m.timers), (q == o.p && is_timer_event o.t stimulus), (list_any (queues o) m.scheduler.events), (h.kept (was_alive alive) (was_spared alive spared) (told_reply o.p q stimulus k) (told-front o.p q stimulus k) armed)) in
           rw (standing-turn o m.clock k X q origin stimulus call clock)
           (turn-awaits o q m.clock stimulus origin call k m.timers (after_call call q on).timers w (is_expected o (after_call call q on).scheduler) st
           (after-moves o call q k on setting front) (after-expected o call q on) before);
@@ -175,7 +171,7 @@ module _ (o : OwnTimer) (low : nat_le 4 o.p ≡ true) (high : nat_lt o.p 20 ≡ 
               timely = timely.carried m X item items n s h.timely;
               sound = sound.carried m X item items n s h.sound;
               watched = watched-carried item items m n s (grind (arith, h.timely.steady.regular)) h.watched;
-              clean = carried-queue is_no_exited item items m.scheduler h.clean;
+              clean = grind decide;
               heeded = heeded-carried o X item items m low n h.sound h.clean h.heeded;
             };
         served = λ m X q origin event items k h.

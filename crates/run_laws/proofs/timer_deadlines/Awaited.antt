@@ -28,11 +28,6 @@ is_expected o s = list_any (gives o) s.agenda || list_any (queues o) s.events
 
 -- an item
 
-pub carried-expected : (o : OwnTimer) (item : Item) (items : List Item) (s : Scheduler Bool) → nat_le 4 o.p ≡ true → is_quiet_item item ≡ true
-    → is_ordered (item ∷ items) ≡ true → stands o.p (with_agenda (item ∷ items) s) ≡ true
-    → is_expected o (with_agenda (item ∷ items) s) ≡ true → is_expected o (after_item item (with_agenda items s)) ≡ true
-carried-expected = grind (decide, carried-any, list_any-append, given-running)
-
 -- a kernel process
 
 -- the timer is on the list, or its event waits, or g
@@ -48,10 +43,6 @@ expired-held = grind (decide, list_any-append, stopped-other, posted-held)
 kept-filter : (test keep : Timer → Bool) (xs : List Timer) → ((x : Timer) → test x ≡ true → keep x ≡ true) → list_any test (filter keep xs) ≡ list_any test xs
 kept-filter test keep [] k = refl
 kept-filter test keep (x ∷ xs) k = grind (decide, kept-filter test keep xs k)
-
-filter-held : (o : OwnTimer) (g : Bool) (keep : Timer → Bool) (m : Machine) → ((x : Timer) → is_timer (own_timer o) x ≡ true → keep x ≡ true) → Held o g m
-    → Held o g (record m { timers = record m.timers { armed = filter keep m.timers.armed } })
-filter-held = grind (decide, kept-filter)
 
 spares-others : (o : OwnTimer) (n : ℕ) (x : Timer) → (n == o.p) ≡ false → is_timer (own_timer o) x ≡ true → not (is_event_timer_of n x) ≡ true
 spares-others = grind decide
@@ -80,10 +71,10 @@ serve-held o g q origin event m none = of_changes changes m
           same = λ m h. h;
           chained = λ a b c f g h. g (f h);
           expired = λ timer m e. expired-held o g timer m;
-          timers_gone = λ n m z k e. filter-held o g (λ timer. not (is_event_timer_of n timer)) m (λ x. spares-others o n x (other n z k e));
+          timers_gone = λ n m z k e. grind (decide, kept-filter);
           callbacks_gone = λ n m h.
               let a : Machine = with_timers (without_callback_timers n m.timers) m in
-              cancelled-held o g (λ x c. x == n) a (filter-held o g (λ timer. not (is_callback_timer_of n timer)) m (spares-events o n) h);
+              cancelled-held o g (λ x c. x == n) a (grind (decide, kept-filter));
           posted = λ notice m n. posted-held o g notice m;
           devices = λ serial is_waiting packets m e h. h;
           marked = λ n m h. h;

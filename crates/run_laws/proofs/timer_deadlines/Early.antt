@@ -10,7 +10,7 @@ use Rattle.run_laws.proofs.timer_deadlines.Regular.{carried-regular, is_regular}
 use Rattle.run_laws.proofs.timer_deadlines.Steady.{Steady, clock-more, steady-turn}
 use Rattle.run_laws.proofs.Arrivals.{serve-untouched, effect-keeps}
 use Rattle.run_laws.proofs.timer_deadlines.Timing.{OwnTimer, own_timer, zero-cells, zero-names}
-use Rattle.run_laws.proofs.timer_deadlines.Fronts.{carried-queue, all-mapped}
+use Rattle.run_laws.proofs.timer_deadlines.Fronts.{all-mapped}
 use Rattle.run_laws.proofs.event_order.Runs.{Ran, at_prefixes}
 use Rattle.run_laws.proofs.event_order.Steps.{Cases, law_of, is_quiet_item, carried, kernel_carried}
 
@@ -45,9 +45,6 @@ ledger-turn = grind (decide, turns-turn, fold-append)
 
 pub ledger-other : (o : OwnTimer) (k : Option Reply) (X : List Entry) (e : Entry) → is_turn e ≡ false → timer_ledger o k (X ++ e ∷ []) ≡ timer_ledger o k X
 ledger-other = grind (decide, turns-other)
-
-pub timely-other : (o : OwnTimer) (X : List Entry) (e : Entry) → is_turn e ≡ false → IsTimely o X → IsTimely o (X ++ e ∷ [])
-timely-other = grind (decide, ledger-other, clock-more)
 
 pub less-balanced : (o : OwnTimer) (clock v w : ℕ) (timers : Timers) (ledger : Ledger) → v ≤ w → Balanced o timers clock w ledger → Balanced o timers clock v ledger
 less-balanced = grind decide
@@ -96,7 +93,7 @@ free-carried : (o : OwnTimer) (X : List Entry) (item : Item) (items : List Item)
     → Timely o (facing (item ∷ items) m) X → Free o (carried item items m) X
 free-carried o X item items m n h =
     record {
-      steady = grind (decide, carried-queue, carried-regular, h.steady);
+      steady = grind (decide, carried-regular, h.steady);
       balanced = λ k.
           less-balanced o m.clock (in_wait o (carried item items m)) (in_wait o (facing (item ∷ items) m)) m.timers (timer_ledger o k X)
           (carried-count o item items m.scheduler h.steady.plain) (h.balanced k (no_reply_front o.p k item items n));
@@ -154,8 +151,8 @@ timely_cases o low high = record {
       turn = λ m X items q origin stimulus call h. turn_timely o low high X m items q origin stimulus call h;
       told = λ m X items q origin stimulus call h i. turn_early o low high X m items q origin stimulus call h;
       shown = grind (decide, clock-more, ledger-other, less-balanced);
-      noted = λ m X items note h. timely-other o X (Entry.Note note) refl;
-      other = λ X e n k. timely-other o X e n;
+      noted = λ m X items note h. grind (decide, ledger-other, clock-more, (Entry.Note note));
+      other = λ X e n k. grind (decide, ledger-other, clock-more);
       input = effect_timely o;
     }
 

@@ -32,10 +32,6 @@ pub all-cancelled : (keep : Queued Bool → Bool) (test : ℕ → ℕ → Bool) 
 all-cancelled keep test same [] = refl
 all-cancelled keep test same (event ∷ events) = grind (decide, all-cancelled keep test same events)
 
-pub carried-queue : (keep : Queued Bool → Bool) (item : Item) (items : List Item) (s : Scheduler Bool) → list_all keep s.events ≡ true
-    → list_all keep (after_item item (with_agenda items s)).events ≡ true
-carried-queue = grind decide
-
 -- an item
 
 pub carried-any : (test : Item → Bool) (item : Item) (items : List Item) (s : Scheduler Bool) → list_any test items ≡ true

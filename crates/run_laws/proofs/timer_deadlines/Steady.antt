@@ -5,7 +5,7 @@ use Rattle.run_laws.proofs.timer_deadlines.Ledgers.{fold-append}
 use Rattle.run_laws.proofs.event_order.Items.{with_agenda, facing}
 use Rattle.run_laws.proofs.CallQueues.{KeptByCalls, kept_by_call}
 use Rattle.run_laws.proofs.Arrivals.{serve-untouched}
-use Rattle.run_laws.proofs.timer_deadlines.Fronts.{all-append, all-mapped, all-more, carried-queue}
+use Rattle.run_laws.proofs.timer_deadlines.Fronts.{all-append, all-mapped, all-more}
 use Rattle.run_laws.proofs.timer_deadlines.Timed.{is_no_timer, plain-cancelled, serve-fair}
 use Rattle.run_laws.proofs.timer_deadlines.Timing.{armed-names, cell_names}
 use Rattle.run_laws.proofs.timer_deadlines.Moves.{after-timers, after-clock}

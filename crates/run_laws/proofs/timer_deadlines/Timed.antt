@@ -179,12 +179,9 @@ farewells-count o q (n ∷ ns) = grind (decide, farewells-count o q ns)
 no_answer : (o : OwnTimer) (q : ℕ) (reply : Reply) → timer_for o q (Stimulus.Answer reply) ≡ 0
 no_answer = grind decide
 
-posted-uncounted : (o : OwnTimer) (event : Queued Bool) → is_posted event ≡ true → queued_one o event ≡ 0
-posted-uncounted = grind decide
-
 after-events_count : (o : OwnTimer) (n : ℕ) → KeptByCalls (λ events. count_events o events ≡ n)
 after-events_count o n = record {
-      posted = λ event events posted h. grind (decide, count_events-more, posted-uncounted);
+      posted = λ event events posted h. grind (decide, count_events-more);
       cancelled = λ test events h. rw (count-cancelled o test events) h;
     }
 
@@ -211,10 +208,6 @@ armed_ledger g clock cell ledger =
 -- a stop
 abbrev pub stopped_ledger : ℕ → ℕ → Ledger → Ledger
 stopped_ledger g clock ledger = record (armed_ledger g clock ledger.cell ledger) { is_set = false }
-
-pub stops-balanced : (o : OwnTimer) (g w clock : ℕ) (old new : Timers) (ledger : Ledger) → (nat_le o.t 7 ≡ true → cell_of (own_timer o) new ≡ cell_of (own_timer o) old) → is_armed (own_timer o) new ≡ false
-    → Balanced o old clock (g + w) ledger → Balanced o new clock w (stopped_ledger g clock ledger)
-stops-balanced = grind decide
 
 -- any other turn
 abbrev pub kept_ledger : ℕ → Ledger → Ledger
@@ -270,7 +263,7 @@ turn-balanced o q w clock stimulus origin call k old new ledger moves h =
         rw (ledger-arms o.t ledger turn arming)
         (grind decide)
     go true true false true e f i kept kept_cell set set_cell named unset h =
-        rw (ledger-stops o.t ledger turn e f i) (stops-balanced o g w clock old new ledger (kept_cell refl) (unset refl) h)
+        rw (ledger-stops o.t ledger turn e f i) (grind decide)
     go true true false false e f i kept kept_cell set set_cell named unset h =
         let none : is_arming_or_stop o.t turn ≡ false = rw (e, f, i) refl in
         rw (ledger-keeps o.t ledger turn none) (grind decide)
