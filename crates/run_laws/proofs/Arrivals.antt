@@ -1,6 +1,6 @@
 -- What an input does to the scheduler: a process is marked, or the note of a lost frame is in front.
 use Rattle.std.proofs.Common.{ℕ, Bool, [], ◌∷◌, length, ◌≡◌, arith}
-use Rattle.run_laws.proofs.Common.{decide, Entry, Input, Note, Refusal, Item, Scheduler, marked, in_front, Machine, effect, length-map, Call, Event, state_of, after_call, serve}
+use Rattle.run_laws.proofs.Common.{decide, decide, Entry, Input, Note, Refusal, Item, Scheduler, marked, in_front, Machine, effect, length-map, Call, Event, state_of, after_call, serve}
 use Rattle.run_laws.proofs.Changes.{Changes, of_changes}
 use Rattle.run_laws.proofs.Marks.{state_of-with_mark}
 
@@ -26,17 +26,7 @@ pub serve-untouched : (q : ℕ) (event : Event) (m : Machine) → Untouched m (s
 serve-untouched q event = of_changes changes
   where
     changes : Changes Untouched q event
-    changes =
-        record {
-          same = λ m. grind arith;
-          chained = λ a b c h k. grind (arith, h, k);
-          expired = λ timer m e. grind arith;
-          timers_gone = λ n m z k e. grind arith;
-          callbacks_gone = λ n m. grind arith;
-          posted = λ notice m n. grind arith;
-          devices = λ serial is_waiting packets m e. grind (arith, e);
-          marked = λ n m. grind (arith, length-map, state_of-with_mark);
-        }
+    changes = grind (decide, length-map, state_of-with_mark)
 
 pub call-work : (call : Call) (p : ℕ) (m : Machine) → (after_call call p m).work ≡ m.work
 call-work call p m = grind arith

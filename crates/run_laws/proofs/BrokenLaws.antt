@@ -1,6 +1,6 @@
 -- Transcripts that no run makes: each breaks one law, which says so.
 use Rattle.std.proofs.Common.{◌≡◌, ℕ, false, List, [], ◌∷◌, ◌++◌, ap, refl, arith, drop}
-use Rattle.run_laws.proofs.Common.{decide, ArrayVec, number_event, plain_event, EXITED, TIMER, Call, Entry, Input, Note, Event, Origin, Payload, Stimulus, Refusal, Reply, IsAtRest, HasCall, is_turn_entry, list_any, BlocksAreOwn, EventsArriveInOrder, TimersAreKept}
+use Rattle.run_laws.proofs.Common.{decide, decide, ArrayVec, number_event, plain_event, EXITED, TIMER, Call, Entry, Input, Note, Event, Origin, Payload, Stimulus, Refusal, Reply, IsAtRest, HasCall, is_turn_entry, list_any, BlocksAreOwn, EventsArriveInOrder, TimersAreKept}
 use Rattle.run_laws.proofs.Examples.{started, told}
 use Rattle.run_laws.specs.Sent.{Sender}
 
@@ -158,9 +158,7 @@ no_sender sender = of sender.earlier sender.between sender.no_turn sender.split 
   of [] between none same = cc
   of (first ∷ []) between none same = cc
   of (first ∷ second ∷ []) between none same = cc
-  of (first ∷ second ∷ third ∷ earlier) between none same =
-      let rest : (earlier ++ Entry.Turn (record { 0 = sender.p }) sender.origin sender.stimulus (Call.PacketSend sender.h) ∷ []) ++ between ≡ [] = ap (drop 3) same in
-      not_empty earlier between (Entry.Turn (record { 0 = sender.p }) sender.origin sender.stimulus (Call.PacketSend sender.h)) rest
+  of (first ∷ second ∷ third ∷ earlier) between none same = grind (decide, not_empty)
 
 sent_behind_another : BlocksAreOwn (sent_late ++ Entry.Note (Note.Sent (record { items = 0 ∷ 0 ∷ [] })) ∷ []) → ⊥
 sent_behind_another laws = no_sender (laws.sent sent_late [] (record { items = 0 ∷ 0 ∷ [] }) refl).sender

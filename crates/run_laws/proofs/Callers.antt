@@ -1,6 +1,6 @@
 -- Every note of a packet that was sent comes behind the turn that sends it.
 use Rattle.std.proofs.Common.{◌≡◌, ℕ, ◌≤◌, Bool, true, false, not, ◌&&◌, ◌||◌, List, [], ◌∷◌, ◌++◌, refl, ◌∙◌, sym, ap, arith, subst, append_assoc, ◌⊎◌, inl, inr, Some, fold, Option, None, ◌==◌, if◌then◌else◌}
-use Rattle.run_laws.proofs.Common.{decide, fold-append, list_any, list_all, range_with_len, Call, Origin, Stimulus, Entry, Note, Input, Applications, Item, farewells, Scheduler, after_item, Config, Machine, booted, is_bootable, after_call, effect, Running, Runs, with_more_work, at_start, Pid, managed_block, is_turn_entry, up_to_call, ArrayVec, Blocks, no_blocks, managed_after, managed_kind}
+use Rattle.run_laws.proofs.Common.{decide, decide, fold-append, list_any, list_all, range_with_len, Call, Origin, Stimulus, Entry, Note, Input, Applications, Item, farewells, Scheduler, after_item, Config, Machine, booted, is_bootable, after_call, effect, Running, Runs, with_more_work, at_start, Pid, managed_block, is_turn_entry, up_to_call, ArrayVec, Blocks, no_blocks, managed_after, managed_kind}
 use Rattle.run_laws.specs.Sent.{Sender, IsSent, EverySent}
 use Rattle.run_laws.proofs.Outsiders.{turns-low}
 use Rattle.run_laws.proofs.Arrivals.{serve-untouched, effect-keeps}

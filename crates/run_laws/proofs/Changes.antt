@@ -1,6 +1,6 @@
 -- What a kernel process does with an event is a chain of a few changes: what each of them keeps, all of it keeps.
 use Rattle.std.proofs.Common.{◌≡◌, ℕ, zero, suc, Bool, true, false, ◌&&◌, ◌||◌, refl, Option, Some, None, if◌then◌else◌, ◌==◌}
-use Rattle.run_laws.proofs.Common.{decide, Event, POLL, EXITED, Queued, Timer, first_due, PacketQueue, Machine, with_event, free_places, mark, serve, times, post_expiry, post_first_due, post_due, is_any_due, exited_application, forget_callback_timers, CONTINUE, SERIAL_LINE, PACKET, forget_event_timers, etimer, ctimer}
+use Rattle.run_laws.proofs.Common.{decide, decide, Event, POLL, EXITED, Queued, Timer, first_due, PacketQueue, Machine, with_event, free_places, mark, serve, times, post_expiry, post_first_due, post_due, is_any_due, exited_application, forget_callback_timers, CONTINUE, SERIAL_LINE, PACKET, forget_event_timers, etimer, ctimer}
 use Rattle.device_core.specs.SerialLine.{SerialLine}
 use Rattle.kernel_core.specs.PacketProcess.{announce_next, packet}
 use Rattle.kernel_core.specs.SerialProcess.{serve_line, line_count, empty_ring, serial_line_polled, serial_line}
@@ -72,7 +72,7 @@ module _ (R : Machine → Machine → Type 0) (q : ℕ) (event : Event) (changes
       (either m (event.code == CONTINUE) (empty_ring a) m (changes.chained m a (empty_ring a) (changes.devices m.serial false m.packets m refl) (emptied a)) (changes.same m))
     where
       emptied : (x : Machine) → R x (empty_ring x)
-      emptied x = repeated serve_line (grind (decide, either, noticed)) (suc (line_count x.serial)) x
+      emptied x = grind (decide, repeated, either, noticed)
 
   packet-changes : (m : Machine) → R m (packet event m)
   packet-changes = grind (decide, either, repeated, next-changes)

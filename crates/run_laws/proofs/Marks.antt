@@ -15,17 +15,18 @@ abbrev pub stray : Option Reply → Option Mark
 stray None = None
 stray (Some reply) = Some Mark.Strays
 
-abbrev pub mark_of : ℕ → Item → Option Mark
-mark_of p (Item.Turn q origin stimulus) = if q == p then Some (Mark.Turns (reply_of stimulus)) else None
-mark_of p (Item.Give q origin stimulus) = if q == p then stray (reply_of stimulus) else None
-mark_of p (Item.GiveExit q) = if q == p then Some Mark.Exits else None
-mark_of p (Item.Remove q) = if q == p then Some Mark.Removes else None
-mark_of p (Item.Show entry) = if is_turn_entry entry then Some Mark.Strays else None
-mark_of p _ = None
+module _ (p : ℕ) where
+  abbrev pub mark_of : Item → Option Mark
+  mark_of (Item.Turn q origin stimulus) = if q == p then Some (Mark.Turns (reply_of stimulus)) else None
+  mark_of (Item.Give q origin stimulus) = if q == p then stray (reply_of stimulus) else None
+  mark_of (Item.GiveExit q) = if q == p then Some Mark.Exits else None
+  mark_of (Item.Remove q) = if q == p then Some Mark.Removes else None
+  mark_of (Item.Show entry) = if is_turn_entry entry then Some Mark.Strays else None
+  mark_of _ = None
 
-abbrev pub marks : ℕ → List Item → List Mark
-marks p [] = []
-marks p (item ∷ items) = cons_option (mark_of p item) (marks p items)
+  abbrev pub marks : List Item → List Mark
+  marks [] = []
+  marks (item ∷ items) = cons_option (mark_of item) (marks items)
 
 abbrev pub only_removes : List Mark → Bool
 only_removes [] = true
@@ -43,54 +44,57 @@ abbrev pub due : List Mark → Option Reply
 due (Mark.Turns reply ∷ rest) = reply
 due _ = None
 
-abbrev pub idle : ℕ → List Process → Bool
-idle p list = is_kernel_process p || not (is_on_list (state_of p list)) || is_running (state_of p list)
+module _ (p : ℕ) where
+  abbrev pub idle : List Process → Bool
+  idle list = is_kernel_process p || not (is_on_list (state_of p list)) || is_running (state_of p list)
 
-pub marks-gives : (p : ℕ) (origin : Origin) (event : Event) (ns : List ℕ) (items : List Item)
-    → marks p (map (λ q. Item.Give q origin (Stimulus.Event event)) ns ++ items) ≡ marks p items
-marks-gives p origin event [] items = refl
-marks-gives p origin event (n ∷ ns) items = grind (arith, marks-gives p origin event ns items)
+  pub marks-gives : (origin : Origin) (event : Event) (ns : List ℕ) (items : List Item)
+      → marks p (map (λ q. Item.Give q origin (Stimulus.Event event)) ns ++ items) ≡ marks p items
+  marks-gives origin event [] items = refl
+  marks-gives origin event (n ∷ ns) items = grind (arith, marks-gives origin event ns items)
 
-pub marks-polls : (p : ℕ) (ns : List ℕ) (items : List Item) → marks p (map (λ q. Item.PollOne q) ns ++ items) ≡ marks p items
-marks-polls p [] items = refl
-marks-polls p (n ∷ ns) items = marks-polls p ns items
+  pub marks-polls : (ns : List ℕ) (items : List Item) → marks p (map (λ q. Item.PollOne q) ns ++ items) ≡ marks p items
+  marks-polls [] items = refl
+  marks-polls (n ∷ ns) items = marks-polls ns items
 
-pub marks-broadcast : (p : ℕ) (event : Event) (ns : List ℕ) (items : List Item)
-    → marks p (flat_map (λ q. Item.Polls ∷ Item.Give q Origin.Event (Stimulus.Event event) ∷ []) ns ++ items) ≡ marks p items
-marks-broadcast p event [] items = refl
-marks-broadcast p event (n ∷ ns) items = grind (arith, marks-broadcast p event ns items)
+  pub marks-broadcast : (event : Event) (ns : List ℕ) (items : List Item)
+      → marks p (flat_map (λ q. Item.Polls ∷ Item.Give q Origin.Event (Stimulus.Event event) ∷ []) ns ++ items) ≡ marks p items
+  marks-broadcast event [] items = refl
+  marks-broadcast event (n ∷ ns) items = grind (arith, marks-broadcast event ns items)
 
-pub marks-delivery : (p : ℕ) (ns : List ℕ) (event : Option (Queued Bool)) (items : List Item) → marks p (delivery ns event ++ items) ≡ marks p items
-marks-delivery p ns (Some (Queued.To q event)) items = grind arith
-marks-delivery p ns (Some (Queued.ToAll event)) items = marks-broadcast p event ns items
-marks-delivery p ns _ items = refl
+  pub marks-delivery : (ns : List ℕ) (event : Option (Queued Bool)) (items : List Item)
+      → marks p (delivery ns event ++ items) ≡ marks p items
+  marks-delivery ns (Some (Queued.To q event)) items = grind arith
+  marks-delivery ns (Some (Queued.ToAll event)) items = marks-broadcast event ns items
+  marks-delivery ns _ items = refl
 
--- the states of the processes after a change
-pub state_of-with_state : (p : ℕ) (state : State) (list : List Process) → is_on_list (state_of p list) ≡ true
-    → state_of p (with_state p state list) ≡ state
-state_of-with_state p state [] h = grind arith
-state_of-with_state p state (x ∷ xs) h = grind (arith, state_of-with_state p state xs)
+  -- the states of the processes after a change
+  pub state_of-with_state : (state : State) (list : List Process) → is_on_list (state_of p list) ≡ true
+      → state_of p (with_state p state list) ≡ state
+  state_of-with_state state [] h = grind arith
+  state_of-with_state state (x ∷ xs) h = grind (arith, state_of-with_state state xs)
 
-pub state_of-with_same : (p q : ℕ) (state : State) (list : List Process) → (q == p) ≡ true → is_on_list (state_of p list) ≡ true
-    → state_of p (with_state q state list) ≡ state
-state_of-with_same = grind (decide, state_of-with_state)
+  module _ (q : ℕ) where
+    pub state_of-with_same : (state : State) (list : List Process) → (q == p) ≡ true → is_on_list (state_of p list) ≡ true
+        → state_of p (with_state q state list) ≡ state
+    state_of-with_same = grind (decide, state_of-with_state)
 
-pub state_of-with_other : (p q : ℕ) (state : State) (list : List Process) → (q == p) ≡ false
-    → state_of p (with_state q state list) ≡ state_of p list
-state_of-with_other p q state [] h = refl
-state_of-with_other p q state (x ∷ xs) h = grind (decide, state_of-with_other p q state xs)
+    pub state_of-with_other : (state : State) (list : List Process) → (q == p) ≡ false
+        → state_of p (with_state q state list) ≡ state_of p list
+    state_of-with_other state [] h = refl
+    state_of-with_other state (x ∷ xs) h = grind (decide, state_of-with_other state xs)
 
-pub state_of-with_mark : (p q : ℕ) (mark : Bool) (list : List Process) → state_of p (with_mark q mark list) ≡ state_of p list
-state_of-with_mark p q mark [] = refl
-state_of-with_mark p q mark (x ∷ xs) = grind (decide, state_of-with_mark p q mark xs)
+    pub state_of-with_mark : (mark : Bool) (list : List Process) → state_of p (with_mark q mark list) ≡ state_of p list
+    state_of-with_mark mark [] = refl
+    state_of-with_mark mark (x ∷ xs) = grind (decide, state_of-with_mark mark xs)
 
-pub state_of-without : (p : ℕ) (list : List Process) → state_of p (without p list) ≡ State.Absent
-state_of-without p [] = refl
-state_of-without p (x ∷ xs) = grind (arith, state_of-without p xs)
+  pub state_of-without : (list : List Process) → state_of p (without p list) ≡ State.Absent
+  state_of-without [] = refl
+  state_of-without (x ∷ xs) = grind (arith, state_of-without xs)
 
-pub state_of-without_other : (p q : ℕ) (list : List Process) → (q == p) ≡ false → state_of p (without q list) ≡ state_of p list
-state_of-without_other p q [] h = refl
-state_of-without_other p q (x ∷ xs) h = grind (decide, state_of-without_other p q xs)
+  pub state_of-without_other : (q : ℕ) (list : List Process) → (q == p) ≡ false → state_of p (without q list) ≡ state_of p list
+  state_of-without_other q [] h = refl
+  state_of-without_other q (x ∷ xs) h = grind (decide, state_of-without_other q xs)
 
 -- what stays of the agenda for p
 pub record Kept (p : ℕ) (before : List Item) (list : List Process) (s : Scheduler Bool) : Type 0 where
@@ -109,8 +113,7 @@ is_turn_item (Item.Turn p origin stimulus) = true
 is_turn_item _ = false
 
 pub after_item-kept : (p : ℕ) (item : Item) (s : Scheduler Bool) → is_turn_item item ≡ false
-    → fit (idle p s.processes) (marks p (item ∷ s.agenda)) ≡ true
-    → Kept p (item ∷ s.agenda) s.processes (after_item item s)
+    → fit (idle p s.processes) (marks p (item ∷ s.agenda)) ≡ true → Kept p (item ∷ s.agenda) s.processes (after_item item s)
 after_item-kept p (Item.Give q origin stimulus) s n h = grind (decide, state_of-with_state, state_of-with_other)
 after_item-kept p (Item.Turn q origin stimulus) s n h = absurd (grind arith)
 after_item-kept p (Item.GiveExit q) s n h =
@@ -127,7 +130,8 @@ marks-farewells : (o p : ℕ) (s : Scheduler Bool) (rest agenda : List Item)
 marks-farewells o p s rest agenda =
     rw (append_assoc) (marks-gives o Origin.Synch (number_event EXITED p) (numbers (without p s.processes)) (rest ++ agenda))
 
-pub after_call-fit : (call : Call) (p : ℕ) (m : Machine) → idle p m.scheduler.processes ≡ false → only_removes (marks p m.scheduler.agenda) ≡ true
+pub after_call-fit : (call : Call) (p : ℕ) (m : Machine) → idle p m.scheduler.processes ≡ false
+    → only_removes (marks p m.scheduler.agenda) ≡ true
     → fit (idle p (after_call call p m).scheduler.processes) (marks p (after_call call p m).scheduler.agenda) ≡ true
 after_call-fit Call.Wait p m n h = grind decide
 after_call-fit Call.Exit p m n h = grind (decide, marks-farewells)
@@ -136,7 +140,8 @@ after_call-fit (Call.PostSynch q code payload) p m n h = grind decide
 after_call-fit (Call.Start q) p m n h = grind decide
 after_call-fit call p m n h = grind (decide, state_of-with_mark)
 
-pub after_call-others : (call : Call) (o p : ℕ) (m : Machine) → (p == o) ≡ false → fit (idle o m.scheduler.processes) (marks o m.scheduler.agenda) ≡ true
+pub after_call-others : (call : Call) (o p : ℕ) (m : Machine) → (p == o) ≡ false
+    → fit (idle o m.scheduler.processes) (marks o m.scheduler.agenda) ≡ true
     → Kept o m.scheduler.agenda m.scheduler.processes (after_call call p m).scheduler
 after_call-others Call.Wait o p m n h = grind (decide, state_of-with_other)
 after_call-others Call.Exit o p m n h = grind (decide, state_of-with_other, marks-farewells)

@@ -1,6 +1,6 @@
 -- Nobody takes a turn but the applications of the mote.
 use Rattle.std.proofs.Common.{◌≡◌, ℕ, zero, suc, ◌+◌, ◌≤◌, Bool, true, false, not, List, [], ◌∷◌, ◌++◌, refl, arith, ◌==◌, map, nat_le}
-use Rattle.run_laws.proofs.Common.{list_all, range_with_len, decide, Call, Origin, Stimulus, Entry, Input, Event, Applications, State, Item, state_of, is_application, Scheduler, after_item, in_front, Config, Machine, is_bootable, after_call, effect, serve, Running, Runs, with_more_work, at_start}
+use Rattle.run_laws.proofs.Common.{decide, list_all, range_with_len, decide, Call, Origin, Stimulus, Entry, Input, Event, Applications, State, Item, state_of, is_application, Scheduler, after_item, in_front, Config, Machine, is_bootable, after_call, effect, serve, Running, Runs, with_more_work, at_start}
 use Rattle.run_laws.proofs.Arrivals.{effect-keeps, serve-untouched}
 use Rattle.run_laws.proofs.event_order.Items.{with_agenda, facing}
 use Rattle.run_laws.proofs.event_order.Runs.{Ran, AtEach, each-more, at_each}

@@ -1,6 +1,6 @@
 -- Managed memory: what each call keeps of it.
 use Rattle.std.proofs.Common.{◌≡◌, ℕ, ◌+◌, ◌≤◌, Bool, true, false, List, [], length, refl, ◌∙◌, ap, arith, Option, Some, None, ◌==◌, if◌then◌else◌, ◌≢◌, is_some, sum_by, unwrap_or}
-use Rattle.run_laws.proofs.Common.{decide, Call, Refusal, number_of, zeros, overwritten, block_of, bytes_of, size_of, taken_by, with_block, Memory, with_managed, is_handle, Part, part_called, Asked, ask, ask_part, ask_managed, ask_heap, ask_pool_of, is_kernel_process, Blocks, managed_after, managed_kind, option_map, get_or-set_same, get_or-set_other, length-set, copy_refusal, unless_refused, done, copied}
+use Rattle.run_laws.proofs.Common.{decide, decide, Call, Refusal, number_of, zeros, overwritten, block_of, bytes_of, size_of, taken_by, with_block, Memory, with_managed, is_handle, Part, part_called, Asked, ask, ask_part, ask_managed, ask_heap, ask_pool_of, is_kernel_process, Blocks, managed_after, managed_kind, option_map, get_or-set_same, get_or-set_other, length-set, copy_refusal, unless_refused, done, copied}
 use Rattle.node_memory.specs.ManagedCalls.{alloc_refusal, free_refusal, write_refusal}
 use Rattle.run_laws.proofs.KindLaws.{Store, IsChange, same_blocks}
 use Rattle.run_laws.proofs.Totals.{total-put}
@@ -85,22 +85,13 @@ managed-change (Call.MmemWrite k at chunk) q m c =
   where
     made : write_refusal q k at (length chunk.items) m.managed ≡ None
         → (h : ℕ) → (if h == k then Some (overwritten at chunk.items (bytes_of q k m.managed)) else own_blocks q m h) ≡ managed_after (Call.MmemWrite k at chunk) (own_blocks q m) h
-    made e h =
-        let named : is_handle k ≡ true = grind (arith, e) in
-        let live : is_some (block_of q k m.managed) ≡ true = grind (arith, e) in
-        ap (λ o. if h == k then o else own_blocks q m h) (grind decide)
+    made e h = grind decide
 managed-change (Call.MmemCopy source target) q m c =
     is_change (Call.MmemCopy source target) q target (Some (overwritten 0 (bytes_of q source m.managed) (bytes_of q target m.managed))) m (copy_refusal q source target m.managed) (λ e. grind (arith, e)) made
   where
     made : copy_refusal q source target m.managed ≡ None
         → (h : ℕ) → (if h == target then Some (overwritten 0 (bytes_of q source m.managed) (bytes_of q target m.managed)) else own_blocks q m h) ≡ managed_after (Call.MmemCopy source target) (own_blocks q m) h
-    made e h =
-        let live : is_some (block_of q target m.managed) ≡ true = grind (arith, e) in
-        let from_named : is_handle source ≡ true = grind (arith, e) in
-        let from_live : is_some (block_of q source m.managed) ≡ true = grind (arith, e) in
-        ap (λ o. if h == target then o else own_blocks q m h)
-        ((grind decide)
-        ∙ live_source (is_handle source) (block_of q source m.managed) (own_blocks q m target) from_named from_live)
+    made e h = grind decide
 managed-change call q m c = grind decide
 
 -- every call on memory keeps its shape

@@ -1,6 +1,6 @@
 -- What a process's managed blocks take, and what all managed blocks take.
 use Rattle.std.proofs.Common.{◌≡◌, ℕ, zero, suc, ◌+◌, ◌≤◌, ◌<◌, Bool, true, false, List, length, refl, ap, arith, Option, ◌==◌, ◌≢◌, sum_by}
-use Rattle.run_laws.proofs.Common.{range_with_len, decide, number_of, ManagedStore, block_of, size_of, taken_by, with_block, get_or-set_same, get_or-set_other, sum_by-cons, sum_by-set}
+use Rattle.run_laws.proofs.Common.{decide, range_with_len, decide, number_of, ManagedStore, block_of, size_of, taken_by, with_block, get_or-set_same, get_or-set_other, sum_by-cons, sum_by-set}
 
 -- sums over numbers in a row
 
@@ -16,10 +16,10 @@ other-term f g k (suc n) from low high e =
     go (from == k) refl (λ ne. other-term f g k n (from + 1) (omega (arith, low, ne)) (omega (arith, high)) e)
   where
     left : sum_by g (range_with_len from (suc n)) ≡ g from + sum_by g (range_with_len (from + 1) n)
-    left = sum_by-cons g from (range_with_len (from + 1) n)
+    left = grind (decide, sum_by-cons)
 
     right : sum_by f (range_with_len from (suc n)) ≡ f from + sum_by f (range_with_len (from + 1) n)
-    right = sum_by-cons f from (range_with_len (from + 1) n)
+    right = grind (decide, sum_by-cons)
 
     go : (b : Bool) → (from == k) ≡ b
         → (from ≢ k → sum_by g (range_with_len (from + 1) n) + f k ≡ sum_by f (range_with_len (from + 1) n) + g k)

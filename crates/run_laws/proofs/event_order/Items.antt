@@ -36,22 +36,24 @@ is_neutral (Item.GiveExit q) = false
 is_neutral (Item.Remove q) = false
 is_neutral _ = true
 
-abbrev pub is_quiet : ℕ → Item → Bool
-is_quiet p item = not (is_remove p item)
+module _ (p : ℕ) where
+  abbrev pub is_quiet : Item → Bool
+  is_quiet item = not (is_remove p item)
 
-pub holds-append : (p : ℕ) (l : List State) (xs items : List Item) → list_all (is_quiet p) xs ≡ true → holds p l items ≡ true → holds p l (xs ++ items) ≡ true
-holds-append = grind (decide, placed-append, covered-append)
+  pub holds-append : (l : List State) (xs items : List Item) → list_all (is_quiet) xs ≡ true → holds p l items ≡ true
+      → holds p l (xs ++ items) ≡ true
+  holds-append = grind (decide, placed-append, covered-append)
 
-quiet-polls : (p : ℕ) (ns : List ℕ) → list_all (is_quiet p) (map (λ n. Item.PollOne n) ns) ≡ true
-quiet-polls p [] = refl
-quiet-polls p (n ∷ ns) = quiet-polls p ns
+  quiet-polls : (ns : List ℕ) → list_all (is_quiet) (map (λ n. Item.PollOne n) ns) ≡ true
+  quiet-polls [] = refl
+  quiet-polls (n ∷ ns) = quiet-polls ns
 
-quiet-delivery : (p : ℕ) (ns : List ℕ) (event : Option (Queued Bool)) → list_all (is_quiet p) (delivery ns event) ≡ true
-quiet-delivery p [] (Some (Queued.ToAll event)) = refl
-quiet-delivery p (n ∷ ns) (Some (Queued.ToAll event)) = quiet-delivery p ns (Some (Queued.ToAll event))
-quiet-delivery p ns _ = refl
+  quiet-delivery : (ns : List ℕ) (event : Option (Queued Bool)) → list_all (is_quiet) (delivery ns event) ≡ true
+  quiet-delivery [] (Some (Queued.ToAll event)) = refl
+  quiet-delivery (n ∷ ns) (Some (Queued.ToAll event)) = quiet-delivery ns (Some (Queued.ToAll event))
+  quiet-delivery ns _ = refl
 
--- an item that makes no entry keeps p's place
-pub carried-stands : (p : ℕ) (item : Item) (items : List Item) (s : Scheduler Bool) → is_silent item ≡ true
-    → stands p (with_agenda (item ∷ items) s) ≡ true → stands p (after_item item (with_agenda items s)) ≡ true
-carried-stands p item items s n h = grind (decide, state_of-seats, holds-append, seats-with_state, seats-without, quiet-polls, seats-with_mark, quiet-delivery)
+  -- an item that makes no entry keeps p's place
+  pub carried-stands : (item : Item) (items : List Item) (s : Scheduler Bool) → is_silent item ≡ true
+      → stands p (with_agenda (item ∷ items) s) ≡ true → stands p (after_item item (with_agenda items s)) ≡ true
+  carried-stands item items s n h = grind (decide, state_of-seats, holds-append, seats-with_state, seats-without, quiet-polls, seats-with_mark, quiet-delivery)

@@ -1,5 +1,5 @@
 -- What every step keeps holds in every run: at each prefix of its transcript, and where the mote rests.
-use Rattle.run_laws.proofs.Common.{decide, list_any, Input, Entry, Applications, Job, after_front, job, Config, Machine, scheduled, serve, IsAtRest, effect, fed, Answers, StepMade, Running, Runs, ComesToRest, silent, one_step, job_done, within_limit, is_still, is_at_rest, after_step, after_steps, answers_after, at_start, with_input, gone_on, list_any-append}
+use Rattle.run_laws.proofs.Common.{decide, decide, list_any, Input, Entry, Applications, Job, after_front, job, Config, Machine, scheduled, serve, IsAtRest, effect, fed, Answers, StepMade, Running, Runs, ComesToRest, silent, one_step, job_done, within_limit, is_still, is_at_rest, after_step, after_steps, answers_after, at_start, with_input, gone_on, list_any-append}
 use Rattle.std.proofs.Common.{◌≡◌, ℕ, zero, suc, ◌+◌, Bool, true, false, ◌||◌, ◌⊎◌, inl, inr, List, [], ◌∷◌, ◌++◌, refl, ap, ◌∙◌, sym, subst, arith, append-nil, Option, Some, None, option_to_list, if◌then◌else◌}
 use Rattle.mote_types.specs.Entries.{is_halt}
 use Rattle.run_laws.proofs.event_order.Tally.{is_note}
@@ -42,7 +42,7 @@ job_kind answers (Some Job.Round) m after live still note = grind decide
 job_kind answers (Some (Job.ShowEntry entry)) m after live still note = shown entry (note entry refl)
   where
     shown : (entry : Entry) → is_note entry ≡ true → StepKind m (after, Some entry)
-    shown (Entry.Note n) k = record { halts = grind (arith, live, still); inputs = refl }
+    shown (Entry.Note n) k = grind decide
     shown _ k = absurd (grind (arith, k))
 job_kind answers (Some (Job.CallBack q c false)) m after live still note = grind decide
 job_kind answers (Some (Job.CallBack q c true)) m after live still note = grind decide
@@ -193,7 +193,7 @@ module _ (I : Machine → List Entry → Type 0) (P Q : List Entry → Type 0) (
   fed-leads says r input g still live new (zero, goes, quiet) = grind decide
   fed-leads says r input g still live new (suc n, goes, quiet) =
       let first = fed_first says r input live in
-      let later : after_steps says n (after_fed r input) ≡ new = ap (after_steps says n) (sym first) ∙ goes in
+      let later : after_steps says n (after_fed r input) ≡ new = grind decide in
       subst (λ (x : Running). Good I P Q x) later (good-steps I P Q law says n (after_fed r input) (good-fed r input live (rested-holds r g still live) g))
 
   record Ended (r : Running) : Type 0 where
@@ -221,7 +221,7 @@ module _ (I : Machine → List Entry → Type 0) (P Q : List Entry → Type 0) (
     where
       start : (before later : List Entry) → before ++ later ≡ [] → P before
       start [] later e = none
-      start (b ∷ bs) later e = absurd (not_nil [] b (bs ++ later) e)
+      start (b ∷ bs) later e = grind decide
 
   run-good : (run : Ran) → I (at_start run.config).machine [] → P [] → Ended run.after
   run-good run first none = run-ended run.says run.inputs (at_start run.config) run.after run.runs (good-leads run.says (at_start run.config) (good-start run.config first none))

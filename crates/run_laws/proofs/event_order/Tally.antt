@@ -27,35 +27,37 @@ abbrev pub accepted_with : Known → ℕ → List Entry → List Event
 accepted_with known p [] = []
 accepted_with known p (entry ∷ later) = cons_option (accepted_or known p entry later) (accepted_with known p later)
 
--- with nothing known these are the accepted events
-pub reply_or-none : (p : ℕ) (later : List Entry) → reply_or None (heard p later) ≡ reply_in p later
-reply_or-none = grind decide
+module _ (p : ℕ) where
+  -- with nothing known these are the accepted events
+  pub reply_or-none : (later : List Entry) → reply_or None (heard p later) ≡ reply_in p later
+  reply_or-none = grind decide
 
-accepted_or-none : (p : ℕ) (entry : Entry) (later : List Entry) → accepted_or nothing_known p entry later ≡ accepted_event p entry later
-accepted_or-none = grind decide
+  accepted_or-none : (entry : Entry) (later : List Entry) → accepted_or nothing_known p entry later ≡ accepted_event p entry later
+  accepted_or-none = grind decide
 
-pub accepted_with-none : (p : ℕ) (X : List Entry) → accepted_with nothing_known p X ≡ accepted_events p X
-accepted_with-none p [] = refl
-accepted_with-none p (entry ∷ later) = grind (decide, accepted_with-none p later)
+  pub accepted_with-none : (X : List Entry) → accepted_with nothing_known p X ≡ accepted_events p X
+  accepted_with-none [] = refl
+  accepted_with-none (entry ∷ later) = grind (decide, accepted_with-none later)
 
 -- one more turn
 pub heard-turn : (r : ℕ) (X : List Entry) (pid : Pid) (origin : Origin) (stimulus : Stimulus) (call : Call)
     → heard r (X ++ Entry.Turn pid origin stimulus call ∷ []) ≡ heard r X ++ option_to_list (if pid.0 == r then Some stimulus else None)
 heard-turn = grind (decide, filter_map-append)
 
-reply_or-told : (known : Known) (r q : ℕ) (stimulus : Stimulus) (l : List Stimulus)
-    → reply_or (known r) (l ++ option_to_list (if q == r then Some stimulus else None)) ≡ reply_or (told q stimulus known r) l
-reply_or-told = grind decide
+module _ (known : Known) where
+  reply_or-told : (r q : ℕ) (stimulus : Stimulus) (l : List Stimulus)
+      → reply_or (known r) (l ++ option_to_list (if q == r then Some stimulus else None)) ≡ reply_or (told q stimulus known r) l
+  reply_or-told = grind decide
 
-accepted_or-turn : (known : Known) (p : ℕ) (entry : Entry) (X : List Entry) (pid : Pid) (origin : Origin) (stimulus : Stimulus) (call : Call)
-    → accepted_or known p entry (X ++ Entry.Turn pid origin stimulus call ∷ []) ≡ accepted_or (told pid.0 stimulus known) p entry X
-accepted_or-turn known p (Entry.Turn other o s c) X pid origin stimulus call =
-    rw (heard-turn other.0 X pid origin stimulus call, reply_or-told known other.0 pid.0 stimulus (heard other.0 X))
-accepted_or-turn known p _ X pid origin stimulus call = refl
+  accepted_or-turn : (p : ℕ) (entry : Entry) (X : List Entry) (pid : Pid) (origin : Origin) (stimulus : Stimulus) (call : Call)
+      → accepted_or known p entry (X ++ Entry.Turn pid origin stimulus call ∷ []) ≡ accepted_or (told pid.0 stimulus known) p entry X
+  accepted_or-turn p (Entry.Turn other o s c) X pid origin stimulus call =
+      rw (heard-turn other.0 X pid origin stimulus call, reply_or-told other.0 pid.0 stimulus (heard other.0 X))
+  accepted_or-turn p _ X pid origin stimulus call = refl
 
--- what the turn itself adds
-abbrev pub own_event : Known → ℕ → ℕ → Call → List Event
-own_event known p q call = option_to_list (if is_done (known q) then event_for p call else None)
+  -- what the turn itself adds
+  abbrev pub own_event : ℕ → ℕ → Call → List Event
+  own_event p q call = option_to_list (if is_done (known q) then event_for p call else None)
 
 pub cons_option-append : {A : Type 0} (o : Option A) (xs ys : List A) → cons_option o (xs ++ ys) ≡ cons_option o xs ++ ys
 cons_option-append = grind decide
@@ -73,16 +75,16 @@ is_turn _ = false
 pub heard-other : (r : ℕ) (X : List Entry) (e : Entry) → is_turn e ≡ false → heard r (X ++ e ∷ []) ≡ heard r X
 heard-other = grind (decide, filter_map-append, append-nil)
 
-accepted_or-other : (known : Known) (p : ℕ) (entry : Entry) (X : List Entry) (e : Entry) → is_turn e ≡ false
-    → accepted_or known p entry (X ++ e ∷ []) ≡ accepted_or known p entry X
-accepted_or-other known p (Entry.Turn other o s c) X e h = rw (heard-other other.0 X e h)
-accepted_or-other known p _ X e h = refl
+module _ (known : Known) (p : ℕ) where
+  accepted_or-other : (entry : Entry) (X : List Entry) (e : Entry) → is_turn e ≡ false
+      → accepted_or known p entry (X ++ e ∷ []) ≡ accepted_or known p entry X
+  accepted_or-other (Entry.Turn other o s c) X e h = rw (heard-other other.0 X e h)
+  accepted_or-other _ X e h = refl
 
-pub accepted-other : (known : Known) (p : ℕ) (X : List Entry) (e : Entry) → is_turn e ≡ false
-    → accepted_with known p (X ++ e ∷ []) ≡ accepted_with known p X
-accepted-other known p [] (Entry.Turn pid origin stimulus call) h = grind decide
-accepted-other known p [] _ h = refl
-accepted-other known p (entry ∷ X) e h = grind (decide, accepted_or-other, accepted-other known p X e h)
+  pub accepted-other : (X : List Entry) (e : Entry) → is_turn e ≡ false → accepted_with known p (X ++ e ∷ []) ≡ accepted_with known p X
+  accepted-other [] (Entry.Turn pid origin stimulus call) h = grind decide
+  accepted-other [] _ h = refl
+  accepted-other (entry ∷ X) e h = grind (decide, accepted_or-other, accepted-other X e h)
 
 -- what was given, and whether p has ended
 abbrev pub given_in : ℕ → Entry → List Event
@@ -192,86 +194,89 @@ state_of-seats p (x ∷ xs) = grind (arith, state_of-seats p xs)
 abbrev pub put : State → List State → List State
 put state l = map (λ _. state) l
 
-pub seats-with_state : (p q : ℕ) (state : State) (list : List Process)
-    → seats p (with_state q state list) ≡ (if p == q then put state (seats p list) else seats p list)
-seats-with_state p q state [] = grind arith
-seats-with_state p q state (x ∷ xs) = grind (decide, seats-with_state p q state xs)
+module _ (p : ℕ) where
+  module _ (q : ℕ) where
+    pub seats-with_state : (state : State) (list : List Process)
+        → seats p (with_state q state list) ≡ (if p == q then put state (seats p list) else seats p list)
+    seats-with_state state [] = grind arith
+    seats-with_state state (x ∷ xs) = grind (decide, seats-with_state state xs)
 
-pub seats-with_mark : (p q : ℕ) (mark : Bool) (list : List Process) → seats p (with_mark q mark list) ≡ seats p list
-seats-with_mark p q mark [] = refl
-seats-with_mark p q mark (x ∷ xs) = grind (decide, seats-with_mark p q mark xs)
+    pub seats-with_mark : (mark : Bool) (list : List Process) → seats p (with_mark q mark list) ≡ seats p list
+    seats-with_mark mark [] = refl
+    seats-with_mark mark (x ∷ xs) = grind (decide, seats-with_mark mark xs)
 
-pub seats-without : (p q : ℕ) (list : List Process) → seats p (without q list) ≡ (if p == q then [] else seats p list)
-seats-without p q [] = grind arith
-seats-without p q (x ∷ xs) = grind (decide, seats-without p q xs)
+    pub seats-without : (list : List Process) → seats p (without q list) ≡ (if p == q then [] else seats p list)
+    seats-without [] = grind arith
+    seats-without (x ∷ xs) = grind (decide, seats-without xs)
 
--- what the agenda holds of p, while it hasn't ended
+  -- what the agenda holds of p, while it hasn't ended
 
-abbrev pub is_start : ℕ → Item → Bool
-is_start p (Item.Start q) = q == p
-is_start p _ = false
+  abbrev pub is_start : Item → Bool
+  is_start (Item.Start q) = q == p
+  is_start _ = false
 
-abbrev pub is_turn_of : ℕ → Item → Bool
-is_turn_of p (Item.Turn q origin stimulus) = q == p
-is_turn_of p _ = false
+  abbrev pub is_turn_of : Item → Bool
+  is_turn_of (Item.Turn q origin stimulus) = q == p
+  is_turn_of _ = false
 
-abbrev pub is_give_exit : ℕ → Item → Bool
-is_give_exit p (Item.GiveExit q) = q == p
-is_give_exit p _ = false
+  abbrev pub is_give_exit : Item → Bool
+  is_give_exit (Item.GiveExit q) = q == p
+  is_give_exit _ = false
 
-abbrev pub is_exit_turn : ℕ → Item → Bool
-is_exit_turn p (Item.Turn q origin stimulus) = q == p && is_event_of_code EXIT stimulus
-is_exit_turn p _ = false
+  abbrev pub is_exit_turn : Item → Bool
+  is_exit_turn (Item.Turn q origin stimulus) = q == p && is_event_of_code EXIT stimulus
+  is_exit_turn _ = false
 
-abbrev pub is_remove : ℕ → Item → Bool
-is_remove p (Item.Remove q) = q == p
-is_remove p _ = false
+  abbrev pub is_remove : Item → Bool
+  is_remove (Item.Remove q) = q == p
+  is_remove _ = false
 
-abbrev pub is_kept : ℕ → State → List Item → Bool
-is_kept p State.Absent agenda = false
-is_kept p State.Running agenda = true
-is_kept p State.Called agenda = list_any (is_turn_of p) agenda
-is_kept p State.Leaving agenda = list_any (is_give_exit p) agenda
-is_kept p State.Ending agenda = list_any (is_exit_turn p) agenda
+  abbrev pub is_kept : State → List Item → Bool
+  is_kept State.Absent agenda = false
+  is_kept State.Running agenda = true
+  is_kept State.Called agenda = list_any (is_turn_of) agenda
+  is_kept State.Leaving agenda = list_any (is_give_exit) agenda
+  is_kept State.Ending agenda = list_any (is_exit_turn) agenda
 
--- not on the list, it is to be started; on the list it is once
-abbrev pub is_placed : ℕ → List State → List Item → Bool
-is_placed p [] agenda = list_any (is_start p) agenda
-is_placed p (state ∷ []) agenda = is_kept p state agenda
-is_placed p _ agenda = false
+  -- not on the list, it is to be started; on the list it is once
+  abbrev pub is_placed : List State → List Item → Bool
+  is_placed [] agenda = list_any (is_start) agenda
+  is_placed (state ∷ []) agenda = is_kept state agenda
+  is_placed _ agenda = false
 
--- before it leaves the list it is given EXIT
-abbrev pub is_covered : ℕ → List Item → Bool
-is_covered p [] = true
-is_covered p (item ∷ items) = if is_remove p item then false else is_give_exit p item || (is_exit_turn p item || is_covered p items)
+  -- before it leaves the list it is given EXIT
+  abbrev pub is_covered : List Item → Bool
+  is_covered [] = true
+  is_covered (item ∷ items) = if is_remove item then false else is_give_exit item || (is_exit_turn item || is_covered items)
 
-abbrev pub stands : ℕ → Scheduler Bool → Bool
-stands p s = is_placed p (seats p s.processes) s.agenda && is_covered p s.agenda
+  abbrev pub stands : Scheduler Bool → Bool
+  stands s = is_placed (seats p s.processes) s.agenda && is_covered s.agenda
 
--- none of these items says anything of p's place
-abbrev pub is_neutral : ℕ → Item → Bool
-is_neutral p item = not (is_start p item) && (not (is_turn_of p item) && (not (is_give_exit p item) && not (is_remove p item)))
+  -- none of these items says anything of p's place
+  abbrev pub is_neutral : Item → Bool
+  is_neutral item = not (is_start item) && (not (is_turn_of item) && (not (is_give_exit item) && not (is_remove item)))
 
-pub placed-more : (p : ℕ) (l : List State) (item : Item) (items : List Item) → is_placed p l items ≡ true → is_placed p l (item ∷ items) ≡ true
-placed-more = grind decide
+  pub placed-more : (l : List State) (item : Item) (items : List Item) → is_placed l items ≡ true → is_placed l (item ∷ items) ≡ true
+  placed-more = grind decide
 
-pub placed-append : (p : ℕ) (l : List State) (xs items : List Item) → is_placed p l items ≡ true → is_placed p l (xs ++ items) ≡ true
-placed-append p l [] items h = h
-placed-append p l (x ∷ xs) items h = grind (decide, placed-append p l xs items h)
+  pub placed-append : (l : List State) (xs items : List Item) → is_placed l items ≡ true → is_placed l (xs ++ items) ≡ true
+  placed-append l [] items h = h
+  placed-append l (x ∷ xs) items h = grind (decide, placed-append l xs items h)
 
-pub covered-append : (p : ℕ) (xs items : List Item) → list_all (λ item. not (is_remove p item)) xs ≡ true → is_covered p items ≡ true → is_covered p (xs ++ items) ≡ true
-covered-append p [] items n h = h
-covered-append p (x ∷ xs) items n h = grind (arith, covered-append p xs items)
+  pub covered-append : (xs items : List Item) → list_all (λ item. not (is_remove item)) xs ≡ true → is_covered items ≡ true
+      → is_covered (xs ++ items) ≡ true
+  covered-append [] items n h = h
+  covered-append (x ∷ xs) items n h = grind (arith, covered-append xs items)
 
--- the events that wait for p
+  -- the events that wait for p
 
-abbrev pub waiting_in : ℕ → Item → List Event
-waiting_in p (Item.Give q origin stimulus) = if q == p then option_to_list (posted_event origin stimulus) else []
-waiting_in p (Item.Turn q origin stimulus) = if q == p then option_to_list (posted_event origin stimulus) else []
-waiting_in p _ = []
+  abbrev pub waiting_in : Item → List Event
+  waiting_in (Item.Give q origin stimulus) = if q == p then option_to_list (posted_event origin stimulus) else []
+  waiting_in (Item.Turn q origin stimulus) = if q == p then option_to_list (posted_event origin stimulus) else []
+  waiting_in _ = []
 
-abbrev pub waits : ℕ → List Item → List Event
-waits p items = flat_map (waiting_in p) items
+  abbrev pub waits : List Item → List Event
+  waits items = flat_map (waiting_in) items
 
 abbrev pub posted_for : Event → List Event
 posted_for event = option_to_list (posted_event Origin.Event (of_event event))

@@ -5,72 +5,75 @@ use Rattle.run_laws.proofs.event_order.Tally.{is_walk, is_ordered, seats, state_
 use Rattle.run_laws.proofs.event_order.Items.{with_agenda, is_silent, holds}
 use Rattle.run_laws.proofs.Changes.{Changes, of_changes, is_notice}
 
-pub waits-append : (p : ℕ) (xs ys : List Item) → waits p (xs ++ ys) ≡ waits p xs ++ waits p ys
-waits-append p [] ys = refl
-waits-append p (x ∷ xs) ys = grind (decide, waits-append p xs ys)
+module _ (p : ℕ) where
+  pub waits-append : (xs ys : List Item) → waits p (xs ++ ys) ≡ waits p xs ++ waits p ys
+  waits-append [] ys = refl
+  waits-append (x ∷ xs) ys = grind (decide, waits-append xs ys)
 
-pub queued-append : (p : ℕ) (xs ys : List (Queued Bool)) → queued p (xs ++ ys) ≡ queued p xs ++ queued p ys
-queued-append p [] ys = refl
-queued-append p (x ∷ xs) ys = grind (decide, queued-append p xs ys)
+  pub queued-append : (xs ys : List (Queued Bool)) → queued p (xs ++ ys) ≡ queued p xs ++ queued p ys
+  queued-append [] ys = refl
+  queued-append (x ∷ xs) ys = grind (decide, queued-append xs ys)
 
--- nothing below a Give of origin event concerns p's place
-walk-free : (p : ℕ) (items : List Item) → list_all is_walk items ≡ true
-    → (list_any (is_start p) items || (list_any (is_turn_of p) items || (list_any (is_give_exit p) items || list_any (is_exit_turn p) items))) ≡ false
-walk-free p [] h = refl
-walk-free p (item ∷ items) h = grind (arith, h, walk-free p items)
+  -- nothing below a Give of origin event concerns p's place
+  walk-free : (items : List Item) → list_all is_walk items ≡ true
+      → (list_any (is_start p) items || (list_any (is_turn_of p) items || (list_any (is_give_exit p) items || list_any (is_exit_turn p) items))) ≡ false
+  walk-free [] h = refl
+  walk-free (item ∷ items) h = grind (arith, h, walk-free items)
 
-placed-running : (p : ℕ) (l : List State) (items : List Item) → list_all is_walk items ≡ true → is_placed p l items ≡ true → is_running (first_state l) ≡ true
-placed-running p l items w h = grind (decide, h, walk-free p items w, walk-free)
+  placed-running : (l : List State) (items : List Item) → list_all is_walk items ≡ true → is_placed p l items ≡ true
+      → is_running (first_state l) ≡ true
+  placed-running l items w h = grind (decide, h, walk-free items w, walk-free)
 
--- a Give of origin event finds p Running
-pub given-running : (p q : ℕ) (stimulus : Stimulus) (items : List Item) (s : Scheduler Bool) → (q == p) ≡ true
-    → is_ordered (Item.Give q Origin.Event stimulus ∷ items) ≡ true → stands p (with_agenda (Item.Give q Origin.Event stimulus ∷ items) s) ≡ true
-    → is_running (state_in s q) ≡ true
-given-running = grind (decide, placed-running, state_of-seats)
+  -- a Give of origin event finds p Running
+  pub given-running : (q : ℕ) (stimulus : Stimulus) (items : List Item) (s : Scheduler Bool) → (q == p) ≡ true
+      → is_ordered (Item.Give q Origin.Event stimulus ∷ items) ≡ true
+      → stands p (with_agenda (Item.Give q Origin.Event stimulus ∷ items) s) ≡ true → is_running (state_in s q) ≡ true
+  given-running = grind (decide, placed-running, state_of-seats)
 
--- a Give that finds nobody carries no event for p
-lost : (p q : ℕ) (origin : Origin) (stimulus : Stimulus) (items : List Item) (s : Scheduler Bool) → nat_le 4 p ≡ true
-    → is_ordered (Item.Give q origin stimulus ∷ items) ≡ true → stands p (with_agenda (Item.Give q origin stimulus ∷ items) s) ≡ true
-    → (not (is_kernel_process q) && is_running (state_in s q)) ≡ false → waiting_in p (Item.Give q origin stimulus) ≡ []
-lost = grind (decide, given-running)
+  -- a Give that finds nobody carries no event for p
+  lost : (q : ℕ) (origin : Origin) (stimulus : Stimulus) (items : List Item) (s : Scheduler Bool) → nat_le 4 p ≡ true
+      → is_ordered (Item.Give q origin stimulus ∷ items) ≡ true → stands p (with_agenda (Item.Give q origin stimulus ∷ items) s) ≡ true
+      → (not (is_kernel_process q) && is_running (state_in s q)) ≡ false → waiting_in p (Item.Give q origin stimulus) ≡ []
+  lost = grind (decide, given-running)
 
-waits-polls : (p : ℕ) (ns : List ℕ) → waits p (map (λ n. Item.PollOne n) ns) ≡ []
-waits-polls p [] = refl
-waits-polls p (n ∷ ns) = waits-polls p ns
+  waits-polls : (ns : List ℕ) → waits p (map (λ n. Item.PollOne n) ns) ≡ []
+  waits-polls [] = refl
+  waits-polls (n ∷ ns) = waits-polls ns
 
-delivered : (p : ℕ) (s : Scheduler Bool) (events : List (Queued Bool)) → holds p (seats p s.processes) (Item.Deliver ∷ []) ≡ true
-    → waits p (delivery (numbers s.processes) (slice_get events 0)) ++ queued p (drop 1 events) ≡ queued p events
-delivered p s [] h = refl
-delivered p s (Queued.To q event ∷ events) h = grind decide
-delivered p s (Queued.ToAll event ∷ events) h =
-    ap (λ l. l ++ queued p events) (waits-broadcast p event s.processes ∙ (grind decide))
-delivered p s (Queued.Expiry q c x ∷ events) h = refl
+  module _ (s : Scheduler Bool) where
+    delivered : (events : List (Queued Bool)) → holds p (seats p s.processes) (Item.Deliver ∷ []) ≡ true
+        → waits p (delivery (numbers s.processes) (slice_get events 0)) ++ queued p (drop 1 events) ≡ queued p events
+    delivered [] h = refl
+    delivered (Queued.To q event ∷ events) h = grind decide
+    delivered (Queued.ToAll event ∷ events) h =
+        ap (λ l. l ++ queued p events) (waits-broadcast p event s.processes ∙ (grind decide))
+    delivered (Queued.Expiry q c x ∷ events) h = refl
 
-abbrev pub all_waiting : ℕ → Scheduler Bool → List Event
-all_waiting p s = waits p s.agenda ++ queued p s.events
+    abbrev pub all_waiting : List Event
+    all_waiting = waits p s.agenda ++ queued p s.events
 
-no_synch : (p q : ℕ) (stimulus : Stimulus) → waiting_in p (Item.Give q Origin.Synch stimulus) ≡ []
-no_synch = grind arith
+  no_synch : (q : ℕ) (stimulus : Stimulus) → waiting_in p (Item.Give q Origin.Synch stimulus) ≡ []
+  no_synch = grind arith
 
-no_exit : (p q : ℕ) (stimulus : Stimulus) → waiting_in p (Item.Turn q Origin.Synch stimulus) ≡ []
-no_exit = grind arith
+  no_exit : (q : ℕ) (stimulus : Stimulus) → waiting_in p (Item.Turn q Origin.Synch stimulus) ≡ []
+  no_exit = grind arith
 
-pub carried-waiting : (p : ℕ) (item : Item) (items : List Item) (s : Scheduler Bool) → is_silent item ≡ true → nat_le 4 p ≡ true
-    → is_ordered (item ∷ items) ≡ true → stands p (with_agenda (item ∷ items) s) ≡ true
-    → all_waiting p (after_item item (with_agenda items s)) ≡ all_waiting p (with_agenda (item ∷ items) s)
-carried-waiting p (Item.Start q) items s n a o h = grind decide
-carried-waiting p (Item.Give q origin stimulus) items s n a o h = grind (decide, given-running)
-carried-waiting p (Item.GiveExit q) items s n a o h = grind decide
-carried-waiting p Item.Polls items s n a o h = go (is_any_marked s.processes)
-  where
-    go : (b : Bool) → all_waiting p (if b then in_front (map (λ n. Item.PollOne n) (numbers s.processes)) (with_agenda items s) else with_agenda items s) ≡ all_waiting p (with_agenda items s)
-    go true = rw (waits-append p (map (λ n. Item.PollOne n) (numbers s.processes)) items, waits-polls p (numbers s.processes)) refl
-    go false = refl
-carried-waiting p (Item.PollOne q) items s n a o h = grind decide
-carried-waiting p Item.Deliver [] s n a o h = grind (decide, append-nil, delivered)
-carried-waiting p Item.Deliver (item ∷ items) s n a o h = grind decide
-carried-waiting p (Item.Turn q origin stimulus) items s n a o h = grind decide
-carried-waiting p _ items s n a o h = refl
+  pub carried-waiting : (item : Item) (items : List Item) (s : Scheduler Bool) → is_silent item ≡ true → nat_le 4 p ≡ true
+      → is_ordered (item ∷ items) ≡ true → stands p (with_agenda (item ∷ items) s) ≡ true
+      → all_waiting (after_item item (with_agenda items s)) ≡ all_waiting (with_agenda (item ∷ items) s)
+  carried-waiting (Item.Start q) items s n a o h = grind decide
+  carried-waiting (Item.Give q origin stimulus) items s n a o h = grind (decide, given-running)
+  carried-waiting (Item.GiveExit q) items s n a o h = grind decide
+  carried-waiting Item.Polls items s n a o h = go (is_any_marked s.processes)
+    where
+      go : (b : Bool) → all_waiting (if b then in_front (map (λ n. Item.PollOne n) (numbers s.processes)) (with_agenda items s) else with_agenda items s) ≡ all_waiting (with_agenda items s)
+      go true = rw (waits-append (map (λ n. Item.PollOne n) (numbers s.processes)) items, waits-polls (numbers s.processes)) refl
+      go false = refl
+  carried-waiting (Item.PollOne q) items s n a o h = grind decide
+  carried-waiting Item.Deliver [] s n a o h = grind (decide, append-nil, delivered)
+  carried-waiting Item.Deliver (item ∷ items) s n a o h = grind decide
+  carried-waiting (Item.Turn q origin stimulus) items s n a o h = grind decide
+  carried-waiting _ items s n a o h = refl
 
 -- The kernel's own processes leave every process's place and the events for applications as they are.
 
@@ -78,26 +81,28 @@ pub record Served (p : ℕ) (old new : Machine) : Type 0 where
   pub places : seats p new.scheduler.processes ≡ seats p old.scheduler.processes
   pub events : queued p new.scheduler.events ≡ queued p old.scheduler.events
 
-pub queued-cancelled : (p : ℕ) (test : ℕ → ℕ → Bool) (events : List (Queued Bool)) → queued p (map (cancelled_if test) events) ≡ queued p events
-queued-cancelled p test [] = refl
-queued-cancelled p test (item ∷ events) = grind (decide, queued-cancelled p test events)
+module _ (p : ℕ) where
+  pub queued-cancelled : (test : ℕ → ℕ → Bool) (events : List (Queued Bool)) → queued p (map (cancelled_if test) events) ≡ queued p events
+  queued-cancelled test [] = refl
+  queued-cancelled test (item ∷ events) = grind (decide, queued-cancelled test events)
 
--- an event of the kernel's isn't one for an application
-queued-silent : (p : ℕ) (events : List (Queued Bool)) (event : Queued Bool) → queued_in p event ≡ [] → queued p (events ++ event ∷ []) ≡ queued p events
-queued-silent p events event h = rw (queued-append p events (event ∷ []), h) (append-nil (queued p events))
+  -- an event of the kernel's isn't one for an application
+  queued-silent : (events : List (Queued Bool)) (event : Queued Bool) → queued_in p event ≡ []
+      → queued p (events ++ event ∷ []) ≡ queued p events
+  queued-silent events event h = rw (queued-append p events (event ∷ []), h) (append-nil (queued p events))
 
-pub serve-served : (p : ℕ) → nat_le 4 p ≡ true → (q : ℕ) (event : Event) (m : Machine) → Served p m (serve q event m)
-serve-served p a q event = of_changes changes
-  where
-    changes : Changes (Served p) q event
-    changes =
-        record {
-          same = λ m. record { places = refl; events = refl };
-          chained = λ a b c h k. record { places = k.places ∙ h.places; events = k.events ∙ h.events };
-          expired = λ timer m e. record { places = refl; events = queued-silent p m.scheduler.events (expiry_of timer) (grind decide) };
-          timers_gone = λ n m z k e. record { places = refl; events = refl };
-          callbacks_gone = λ n m. record { places = refl; events = queued-cancelled p (λ r c. r == n) m.scheduler.events };
-          posted = λ notice m n. record { places = refl; events = queued-silent p m.scheduler.events notice (grind decide) };
-          devices = λ serial is_waiting packets m e. record { places = refl; events = refl };
-          marked = λ n m. record { places = seats-with_mark p n true m.scheduler.processes; events = refl };
-        }
+  pub serve-served : nat_le 4 p ≡ true → (q : ℕ) (event : Event) (m : Machine) → Served p m (serve q event m)
+  serve-served a q event = of_changes changes
+    where
+      changes : Changes (Served p) q event
+      changes =
+          record {
+            same = λ m. record { places = refl; events = refl };
+            chained = λ a b c h k. record { places = k.places ∙ h.places; events = k.events ∙ h.events };
+            expired = λ timer m e. record { places = refl; events = queued-silent m.scheduler.events (expiry_of timer) (grind decide) };
+            timers_gone = λ n m z k e. record { places = refl; events = refl };
+            callbacks_gone = λ n m. record { places = refl; events = queued-cancelled (λ r c. r == n) m.scheduler.events };
+            posted = λ notice m n. record { places = refl; events = queued-silent m.scheduler.events notice (grind decide) };
+            devices = λ serial is_waiting packets m e. record { places = refl; events = refl };
+            marked = λ n m. record { places = seats-with_mark p n true m.scheduler.processes; events = refl };
+          }

@@ -27,19 +27,19 @@ standing_of o k X = fold (standing_after o.t) fresh_standing (turns_or k o.p 0 X
 pub standing-none : (X : List Entry) (o : OwnTimer) → standing X o.p o.t ≡ standing_of o None X
 standing-none = grind (decide, turns-none)
 
-pub standing-turn : (o : OwnTimer) (clock : ℕ) (k : Option Reply) (X : List Entry) (q : ℕ) (origin : Origin) (stimulus : Stimulus) (call : Call) → clock ≡ clock_after X
-    → standing_of o k (X ++ turn_entry q origin stimulus call ∷ [])
-    ≡ standing_then (q == o.p) o.t clock stimulus origin call k (standing_of o (told_reply o.p q stimulus k) X)
+pub standing-turn : (o : OwnTimer) (clock : ℕ) (k : Option Reply) (X : List Entry) (q : ℕ) (origin : Origin) (stimulus : Stimulus) (call : Call) → clock ≡ clock_after X → standing_of o k (X ++ turn_entry q origin stimulus call ∷ []) ≡ standing_then (q == o.p) o.t clock stimulus origin call k (standing_of o (told_reply o.p q stimulus k) X)
 standing-turn = grind (decide, turns-turn, fold-append)
 
-pub standing-other : (o : OwnTimer) (k : Option Reply) (X : List Entry) (e : Entry) → is_turn e ≡ false → standing_of o k (X ++ e ∷ []) ≡ standing_of o k X
+pub standing-other : (o : OwnTimer) (k : Option Reply) (X : List Entry) (e : Entry) → is_turn e ≡ false
+    → standing_of o k (X ++ e ∷ []) ≡ standing_of o k X
 standing-other = grind (decide, turns-other)
 
 -- the ledger and the standing have one cell
 pub record Agree (ledger : Ledger) (st : Standing) : Type 0 where
   pub cell : ledger.cell ≡ st.cell
 
-pub agree-fold : (t : ℕ) (ledger : Ledger) (st : Standing) (turns : List OwnTurn) → Agree ledger st → Agree (fold (ledger_after t) ledger turns) (fold (standing_after t) st turns)
+pub agree-fold : (t : ℕ) (ledger : Ledger) (st : Standing) (turns : List OwnTurn) → Agree ledger st
+    → Agree (fold (ledger_after t) ledger turns) (fold (standing_after t) st turns)
 agree-fold t ledger st [] h = h
 agree-fold t ledger st (turn ∷ turns) h = agree-fold t (ledger_after t ledger turn) (standing_after t st turn) turns (grind decide)
 
@@ -58,75 +58,76 @@ pub record HeededFree (o : OwnTimer) (m : Machine) (X : List Entry) : Type 0 whe
 still_expected : (a w v g : Bool) → (w ≡ true → v ≡ true) → (a || (w || g)) ≡ true → (a || (v || g)) ≡ true
 still_expected = grind decide
 
--- an item
-pub heeded-carried : (o : OwnTimer) (X : List Entry) (item : Item) (items : List Item) (m : Machine) → nat_le 4 o.p ≡ true → is_quiet_item item ≡ true
-    → Sound o.p (with_agenda (item ∷ items) m.scheduler) X → list_all is_no_exited m.scheduler.events ≡ true
-    → Heeded o (facing (item ∷ items) m) X → HeededFree o (carried item items m) X
-heeded-carried o X item items m a n sound clean h = record {
-      farewell = λ alive spared. carried-farewell o.p item items m.scheduler clean (h.farewell alive (carried-doomed o.p item items m.scheduler n spared));
-      kept = grind (decide, carried-doomed, no_reply_front, still_expected, carried-any, list_any-append, given-running);
-    }
+module _ (o : OwnTimer) (X : List Entry) where
+  -- an item
+  pub heeded-carried : (item : Item) (items : List Item) (m : Machine) → nat_le 4 o.p ≡ true → is_quiet_item item ≡ true
+      → Sound o.p (with_agenda (item ∷ items) m.scheduler) X → list_all is_no_exited m.scheduler.events ≡ true
+      → Heeded o (facing (item ∷ items) m) X → HeededFree o (carried item items m) X
+  heeded-carried item items m a n sound clean h = record {
+        farewell = λ alive spared. carried-farewell o.p item items m.scheduler clean (h.farewell alive (carried-doomed o.p item items m.scheduler n spared));
+        kept = grind (decide, carried-doomed, no_reply_front, still_expected, carried-any, list_any-append, given-running);
+      }
 
--- a kernel process is told the event
-pub heeded-serve : (o : OwnTimer) (X : List Entry) (q : ℕ) (origin : Origin) (event : Event) (items : List Item) (m : Machine)
-    → Heeded o (facing (Item.Give q origin (of_event event) ∷ items) m) X → HeededFree o (facing items m) X → HeededFree o (serve q event (facing items m)) X
-heeded-serve o X q origin event items m old h =
-    let n : Machine = facing items m in
-    let same : (serve q event n).scheduler.agenda ≡ items = (serve-untouched q event n).agenda in
-    record {
-      farewell = λ alive spared. rw same (h.farewell alive (rw same at spared));
-      kept = λ alive spared k armed.
-          let none : is_farewell o.p (Item.Give q origin (of_event event)) ≡ false = grind (arith, old.farewell alive (rw same at spared)) in
-          serve-held o (standing_of o k X).was_given q origin event n none (h.kept alive (rw same at spared) k armed);
-    }
+  -- a kernel process is told the event
+  pub heeded-serve : (q : ℕ) (origin : Origin) (event : Event) (items : List Item) (m : Machine)
+      → Heeded o (facing (Item.Give q origin (of_event event) ∷ items) m) X → HeededFree o (facing items m) X
+      → HeededFree o (serve q event (facing items m)) X
+  heeded-serve q origin event items m old h =
+      let n : Machine = facing items m in
+      let same : (serve q event n).scheduler.agenda ≡ items = (serve-untouched q event n).agenda in
+      record {
+        farewell = λ alive spared. rw same (h.farewell alive (rw same at spared));
+        kept = λ alive spared k armed.
+            let none : is_farewell o.p (Item.Give q origin (of_event event)) ≡ false = grind (arith, old.farewell alive (rw same at spared)) in
+            serve-held o (standing_of o k X).was_given q origin event n none (h.kept alive (rw same at spared) k armed);
+      }
 
-pub heeded-turn : (o : OwnTimer) (X : List Entry) (m : Machine) (items : List Item) (q : ℕ) (origin : Origin) (stimulus : Stimulus) (call : Call) → m.clock ≡ clock_after X → Setting o.p m.timers
-    → Heeded o (facing (Item.Turn q origin stimulus ∷ items) m) X
-    → Heeded o (after_call call q (with_more_work (facing items m))) (X ++ turn_entry q origin stimulus call ∷ [])
-heeded-turn o X m items q origin stimulus call clock setting h =
-    record {
-      farewell = λ alive spared. after-farewell o.p call q origin stimulus on (goes_on alive) spared (h.farewell (was_alive alive) (was_spared alive spared));
-      kept = λ alive spared k front.
-          let st : Standing = standing_of o (told_reply o.p q stimulus k) X in
-          let w : Bool = is_expected o on.scheduler in
-          let before : Awaits o m.timers ((q == o.p && is_timer_event o.t stimulus) || w) st =
-          λ armed.
-          grind (decide, (is_armed (own_timer o) m.timers), (q == o.p && is_timer_event o.t stimulus), (list_any (queues o) m.scheduler.events), (h.kept (was_alive alive) (was_spared alive spared) (told_reply o.p q stimulus k) (told-front o.p q stimulus k) armed)) in
-          rw (standing-turn o m.clock k X q origin stimulus call clock)
-          (turn-awaits o q m.clock stimulus origin call k m.timers (after_call call q on).timers w (is_expected o (after_call call q on).scheduler) st
-          (after-moves o call q k on setting front) (after-expected o call q on) before);
-    }
-  where
-    on : Machine
-    on = with_more_work (facing items m)
+  pub heeded-turn : (m : Machine) (items : List Item) (q : ℕ) (origin : Origin) (stimulus : Stimulus) (call : Call)
+      → m.clock ≡ clock_after X → Setting o.p m.timers → Heeded o (facing (Item.Turn q origin stimulus ∷ items) m) X
+      → Heeded o (after_call call q (with_more_work (facing items m))) (X ++ turn_entry q origin stimulus call ∷ [])
+  heeded-turn m items q origin stimulus call clock setting h =
+      record {
+        farewell = λ alive spared. after-farewell o.p call q origin stimulus on (goes_on alive) spared (h.farewell (was_alive alive) (was_spared alive spared));
+        kept = λ alive spared k front.
+            let st : Standing = standing_of o (told_reply o.p q stimulus k) X in
+            let w : Bool = is_expected o on.scheduler in
+            let before : Awaits o m.timers ((q == o.p && is_timer_event o.t stimulus) || w) st =
+            λ armed.
+            grind (decide, (is_armed (own_timer o) m.timers), (q == o.p && is_timer_event o.t stimulus), (list_any (queues o) m.scheduler.events), (h.kept (was_alive alive) (was_spared alive spared) (told_reply o.p q stimulus k) (told-front o.p q stimulus k) armed)) in
+            rw (standing-turn o m.clock k X q origin stimulus call clock)
+            (turn-awaits o q m.clock stimulus origin call k m.timers (after_call call q on).timers w (is_expected o (after_call call q on).scheduler) st
+            (after-moves o call q k on setting front) (after-expected o call q on) before);
+      }
+    where
+      on : Machine
+      on = with_more_work (facing items m)
 
-    e : Entry
-    e = turn_entry q origin stimulus call
+      e : Entry
+      e = turn_entry q origin stimulus call
 
-    was_alive : has_ended o.p (X ++ e ∷ []) ≡ false → has_ended o.p X ≡ false
-    was_alive alive = grind (arith, alive, ended-more o.p X e)
+      was_alive : has_ended o.p (X ++ e ∷ []) ≡ false → has_ended o.p X ≡ false
+      was_alive alive = grind (arith, alive, ended-more o.p X e)
 
-    goes_on : has_ended o.p (X ++ e ∷ []) ≡ false → ends_in o.p e ≡ false
-    goes_on alive = grind (arith, alive, ended-more o.p X e)
+      goes_on : has_ended o.p (X ++ e ∷ []) ≡ false → ends_in o.p e ≡ false
+      goes_on alive = grind (arith, alive, ended-more o.p X e)
 
-    was_spared : has_ended o.p (X ++ e ∷ []) ≡ false → is_doomed o.p (after_call call q on).scheduler.agenda ≡ false → is_doomed o.p (Item.Turn q origin stimulus ∷ items) ≡ false
-    was_spared alive spared = let rest : is_doomed o.p items ≡ false = after-doomed o.p call q on spared in grind (decide, rest, goes_on alive)
+      was_spared : has_ended o.p (X ++ e ∷ []) ≡ false → is_doomed o.p (after_call call q on).scheduler.agenda ≡ false → is_doomed o.p (Item.Turn q origin stimulus ∷ items) ≡ false
+      was_spared alive spared = let rest : is_doomed o.p items ≡ false = after-doomed o.p call q on spared in grind (decide, rest, goes_on alive)
 
--- an entry that is no turn, where nothing of this changes
-pub heeded-other : (o : OwnTimer) (X : List Entry) (e : Entry) (old new : Machine) → is_turn e ≡ false
-    → (is_doomed o.p new.scheduler.agenda ≡ false → is_doomed o.p old.scheduler.agenda ≡ false)
-    → has_farewell o.p new.scheduler.agenda ≡ has_farewell o.p old.scheduler.agenda
-    → ((k : Option Reply) → FrontIs o.p k new.scheduler.agenda → FrontIs o.p k old.scheduler.agenda)
-    → is_expected o new.scheduler ≡ is_expected o old.scheduler → new.timers ≡ old.timers
-    → Heeded o old X → Heeded o new (X ++ e ∷ [])
-heeded-other o X e old new n doomed farewell front expected timers h =
-    record {
-      farewell = λ alive spared. rw farewell (h.farewell (was_alive alive) (doomed spared));
-      kept = λ alive spared k f. rw (standing-other o k X e n, expected, timers) (h.kept (was_alive alive) (doomed spared) k (front k f));
-    }
-  where
-    was_alive : has_ended o.p (X ++ e ∷ []) ≡ false → has_ended o.p X ≡ false
-    was_alive alive = grind (arith, alive, ended-more o.p X e)
+  -- an entry that is no turn, where nothing of this changes
+  pub heeded-other : (e : Entry) (old new : Machine) → is_turn e ≡ false
+      → (is_doomed o.p new.scheduler.agenda ≡ false → is_doomed o.p old.scheduler.agenda ≡ false)
+      → has_farewell o.p new.scheduler.agenda ≡ has_farewell o.p old.scheduler.agenda
+      → ((k : Option Reply) → FrontIs o.p k new.scheduler.agenda → FrontIs o.p k old.scheduler.agenda)
+      → is_expected o new.scheduler ≡ is_expected o old.scheduler → new.timers ≡ old.timers → Heeded o old X → Heeded o new (X ++ e ∷ [])
+  heeded-other e old new n doomed farewell front expected timers h =
+      record {
+        farewell = λ alive spared. rw farewell (h.farewell (was_alive alive) (doomed spared));
+        kept = λ alive spared k f. rw (standing-other o k X e n, expected, timers) (h.kept (was_alive alive) (doomed spared) k (front k f));
+      }
+    where
+      was_alive : has_ended o.p (X ++ e ∷ []) ≡ false → has_ended o.p X ≡ false
+      was_alive alive = grind (arith, alive, ended-more o.p X e)
 
 -- No timer is lost.
 
@@ -225,38 +226,39 @@ module _ (o : OwnTimer) (low : nat_le 4 o.p ≡ true) (high : nat_lt o.p 20 ≡ 
 
 -- at rest
 
--- a timer on the list whose deadline came is one that is due
-due_listed : (o : OwnTimer) (clock : ℕ) (timers : Timers) (xs : List Timer) → is_due clock timers (own_timer o) ≡ true → list_any (is_timer (own_timer o)) xs ≡ true
-    → list_any (is_due clock timers) xs ≡ true
-due_listed o clock timers [] d h = grind decide
-due_listed o clock timers (x ∷ xs) d h = go (is_timer (own_timer o) x) refl h (λ k. due_listed o clock timers xs d k)
-  where
-    go : (b : Bool) → is_timer (own_timer o) x ≡ b → (b || list_any (is_timer (own_timer o)) xs) ≡ true
-        → (list_any (is_timer (own_timer o)) xs ≡ true → list_any (is_due clock timers) xs ≡ true) → (is_due clock timers x || list_any (is_due clock timers) xs) ≡ true
-    go true e k more = let same : x ≡ own_timer o = grind decide in let due : is_due clock timers x ≡ true = rw same d in rw due refl
-    go false e k more = let rest : list_any (is_due clock timers) xs ≡ true = more k in grind (arith, rest)
+module _ (o : OwnTimer) where
+  -- a timer on the list whose deadline came is one that is due
+  due_listed : (clock : ℕ) (timers : Timers) (xs : List Timer) → is_due clock timers (own_timer o) ≡ true
+      → list_any (is_timer (own_timer o)) xs ≡ true → list_any (is_due clock timers) xs ≡ true
+  due_listed clock timers [] d h = grind decide
+  due_listed clock timers (x ∷ xs) d h = go (is_timer (own_timer o) x) refl h (λ k. due_listed clock timers xs d k)
+    where
+      go : (b : Bool) → is_timer (own_timer o) x ≡ b → (b || list_any (is_timer (own_timer o)) xs) ≡ true
+          → (list_any (is_timer (own_timer o)) xs ≡ true → list_any (is_due clock timers) xs ≡ true) → (is_due clock timers x || list_any (is_due clock timers) xs) ≡ true
+      go true e k more = let same : x ≡ own_timer o = grind decide in let due : is_due clock timers x ≡ true = rw same d in rw due refl
+      go false e k more = let rest : list_any (is_due clock timers) xs ≡ true = more k in grind (arith, rest)
 
-abbrev pub IsGivenAtRest : OwnTimer → List Entry → Type 0
-IsGivenAtRest o X =
-    has_ended o.p X ≡ false → (standing X o.p o.t).is_armed ≡ true → deadline (standing X o.p o.t).cell ≤ clock_after X → (standing X o.p o.t).was_given ≡ true
+  abbrev pub IsGivenAtRest : List Entry → Type 0
+  IsGivenAtRest X =
+      has_ended o.p X ≡ false → (standing X o.p o.t).is_armed ≡ true → deadline (standing X o.p o.t).cell ≤ clock_after X → (standing X o.p o.t).was_given ≡ true
 
-rest-given : (o : OwnTimer) (m : Machine) (X : List Entry) → is_at_rest m ≡ true → Attended o m X → IsGivenAtRest o X
-rest-given = grind (decide, standing-none, nothing_queued, rest-not_due, due_listed, agree-fold)
+  rest-given : (m : Machine) (X : List Entry) → is_at_rest m ≡ true → Attended o m X → IsGivenAtRest X
+  rest-given = grind (decide, standing-none, nothing_queued, rest-not_due, due_listed, agree-fold)
 
--- boot
+  -- boot
 
-boot-attended : (o : OwnTimer) (c : Config) → nat_lt o.p 20 ≡ true → is_application c.apps o.p ≡ true → Attended o (at_start c).machine []
-boot-attended o c high a = record {
-      timely = boot_timely o c (grind (arith, a)) high;
-      sound = boot-sound o.p c a;
-      watched = grind decide;
-      clean = refl;
-      heeded = grind (decide, none-mapped);
-    }
+  boot-attended : (c : Config) → nat_lt o.p 20 ≡ true → is_application c.apps o.p ≡ true → Attended o (at_start c).machine []
+  boot-attended c high a = record {
+        timely = boot_timely o c (grind (arith, a)) high;
+        sound = boot-sound o.p c a;
+        watched = grind decide;
+        clean = refl;
+        heeded = grind (decide, none-mapped);
+      }
 
 -- no timer is lost
-pub no_lost_timer : (run : Ran)
-    → (p : ℕ) → is_bootable run.config ≡ true → is_application run.config.apps p ≡ true → NoLostTimerFor p run.after.entries
+pub no_lost_timer : (run : Ran) (p : ℕ) → is_bootable run.config ≡ true → is_application run.config.apps p ≡ true
+    → NoLostTimerFor p run.after.entries
 no_lost_timer run p b a before t place =
     let o : OwnTimer = record { p = p; t = t } in
     let low : nat_le 4 p ≡ true = grind (arith, a) in

@@ -1,6 +1,6 @@
 -- A TIMER event that p waits for isn't lost on its way, and a timer leaves the list for one.
 use Rattle.std.proofs.Common.{◌≡◌, ℕ, Bool, true, false, not, ◌&&◌, ◌||◌, List, [], ◌∷◌, ◌++◌, refl, arith, Some, map, filter, drop, slice_get, ◌==◌, nat_le, Option, if◌then◌else◌}
-use Rattle.run_laws.proofs.Common.{list_any, decide, Stimulus, Event, Origin, Payload, EXITED, Queued, Item, Scheduler, after_item, delivery, of_event, Timer, event_timer, is_timer, is_event_timer_of, is_callback_timer_of, is_armed, without_callback_timers, Machine, with_event, with_timers, cancelled_if, expiries_cancelled, serve, post_expiry, exited_application, is_number, is_timer_event, list_any-append, Call, Reply, Timers, after_call, is_done, Standing, standing_after, arms, stops}
+use Rattle.run_laws.proofs.Common.{decide, list_any, decide, Stimulus, Event, Origin, Payload, EXITED, Queued, Item, Scheduler, after_item, delivery, of_event, Timer, event_timer, is_timer, is_event_timer_of, is_callback_timer_of, is_armed, without_callback_timers, Machine, with_event, with_timers, cancelled_if, expiries_cancelled, serve, post_expiry, exited_application, is_number, is_timer_event, list_any-append, Call, Reply, Timers, after_call, is_done, Standing, standing_after, arms, stops}
 use Rattle.run_laws.proofs.CallQueues.{KeptByCalls, kept_by_call}
 use Rattle.run_laws.proofs.Changes.{Changes, of_changes}
 use Rattle.run_laws.proofs.event_order.Tally.{is_from_queue, is_ordered, stands}
@@ -117,9 +117,9 @@ turn-awaits o q clock stimulus origin call k old new w v st moves more h =
         → ((same && (d && a)) ≡ true → is_armed (own_timer o) new ≡ true)
         → Awaits o old ((same && is_timer_event o.t stimulus) || w) st
         → Awaits o new v (standing_then same o.t clock stimulus origin call k st)
-    go false d a s e f g i stays sets h = λ armed. grind (arith, stays refl, more, h armed)
+    go false d a s e f g i stays sets h = grind decide
     go true true true s e f g i stays sets h = λ armed. rw (sets refl) refl
-    go true true false true e f g i stays sets h = λ armed. absurd (grind (arith, armed, f, g, i))
+    go true true false true e f g i stays sets h = grind decide
     go true true false false e f g i stays sets h = λ armed. last (grind (arith, armed, f, g, i))
       where
         last : st.is_armed ≡ true → (is_armed (own_timer o) new || (v || (standing_after o.t st (turn_of clock stimulus origin call k)).was_given)) ≡ true

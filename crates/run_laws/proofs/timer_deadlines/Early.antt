@@ -30,24 +30,27 @@ pub record Free (o : OwnTimer) (m : Machine) (X : List Entry) : Type 0 where
   pub steady : Steady m X
   pub balanced : (k : Option Reply) → Balances o m X k
 
-pub timely-free : (o : OwnTimer) (m : Machine) (X : List Entry) → Free o m X → Timely o m X
-timely-free = grind decide
+module _ (o : OwnTimer) where
+  pub timely-free : (m : Machine) (X : List Entry) → Free o m X → Timely o m X
+  timely-free = grind decide
 
-abbrev pub IsTimely : OwnTimer → List Entry → Type 0
-IsTimely o X = (timer_ledger o None X).given ≤ ripe_at (clock_after X) (timer_ledger o None X)
+  abbrev pub IsTimely : List Entry → Type 0
+  IsTimely X = (timer_ledger o None X).given ≤ ripe_at (clock_after X) (timer_ledger o None X)
 
--- the ledger, entry by entry
+  -- the ledger, entry by entry
 
-pub ledger-turn : (o : OwnTimer) (clock : ℕ) (k : Option Reply) (X : List Entry) (q : ℕ) (origin : Origin) (stimulus : Stimulus) (call : Call) → clock ≡ clock_after X
-    → timer_ledger o k (X ++ Entry.Turn (record { 0 = q }) origin stimulus call ∷ [])
-    ≡ ledger_then (q == o.p) o.t clock stimulus origin call k (timer_ledger o (told_reply o.p q stimulus k) X)
-ledger-turn = grind (decide, turns-turn, fold-append)
+  pub ledger-turn : (clock : ℕ) (k : Option Reply) (X : List Entry) (q : ℕ) (origin : Origin) (stimulus : Stimulus) (call : Call)
+      → clock ≡ clock_after X
+      → timer_ledger o k (X ++ Entry.Turn (record { 0 = q }) origin stimulus call ∷ []) ≡ ledger_then (q == o.p) o.t clock stimulus origin call k (timer_ledger o (told_reply o.p q stimulus k) X)
+  ledger-turn = grind (decide, turns-turn, fold-append)
 
-pub ledger-other : (o : OwnTimer) (k : Option Reply) (X : List Entry) (e : Entry) → is_turn e ≡ false → timer_ledger o k (X ++ e ∷ []) ≡ timer_ledger o k X
-ledger-other = grind (decide, turns-other)
+  pub ledger-other : (k : Option Reply) (X : List Entry) (e : Entry) → is_turn e ≡ false
+      → timer_ledger o k (X ++ e ∷ []) ≡ timer_ledger o k X
+  ledger-other = grind (decide, turns-other)
 
-pub less-balanced : (o : OwnTimer) (clock v w : ℕ) (timers : Timers) (ledger : Ledger) → v ≤ w → Balanced o timers clock w ledger → Balanced o timers clock v ledger
-less-balanced = grind decide
+  pub less-balanced : (clock v w : ℕ) (timers : Timers) (ledger : Ledger) → v ≤ w → Balanced o timers clock w ledger
+      → Balanced o timers clock v ledger
+  less-balanced = grind decide
 
 -- a turn
 
@@ -111,73 +114,75 @@ effect-clock = grind decide
 effect-timers : (input : Input) (m : Machine) → (effect input m).timers ≡ m.timers
 effect-timers = grind decide
 
-effect_timely : (o : OwnTimer) (input : Input) (m : Machine) (X : List Entry) → Timely o m X → Timely o (effect input (record m { work = 0 })) (X ++ Entry.Input input ∷ [])
-effect_timely o input m X h =
-    let woken : Machine = record m { work = 0 } in
-    record {
-      steady = grind (decide, clock-more, h.steady);
-      balanced = λ k front.
-          let before = h.balanced k (effect-keeps (λ s. FrontIs o.p k s.agenda → FrontIs o.p k m.scheduler.agenda) input woken (λ f. f) (λ q f. f) (λ refusal f. f) front) in
-          rw (ledger-other o k X (Entry.Input input) refl, effect-clock input woken, effect-timers input woken)
-          (grind decide);
-    }
+module _ (o : OwnTimer) where
+  effect_timely : (input : Input) (m : Machine) (X : List Entry) → Timely o m X
+      → Timely o (effect input (record m { work = 0 })) (X ++ Entry.Input input ∷ [])
+  effect_timely input m X h =
+      let woken : Machine = record m { work = 0 } in
+      record {
+        steady = grind (decide, clock-more, h.steady);
+        balanced = λ k front.
+            let before = h.balanced k (effect-keeps (λ s. FrontIs o.p k s.agenda → FrontIs o.p k m.scheduler.agenda) input woken (λ f. f) (λ q f. f) (λ refusal f. f) front) in
+            rw (ledger-other o k X (Entry.Input input) refl, effect-clock input woken, effect-timers input woken)
+            (grind decide);
+      }
 
--- every step
-pub timely_cases : (o : OwnTimer) → nat_le 4 o.p ≡ true → nat_lt o.p 20 ≡ true → Cases (Timely o) (Free o) (IsTimely o)
-timely_cases o low high = record {
-      notes = λ m X entry items h. grind (arith, h.steady.regular);
-      free = timely-free o;
-      carried = λ m X item items n s h. free-carried o X item items m n h;
-      served = λ m X q origin event items k h.
-          let free = subst (λ n. Free o n X) (kernel_carried q origin (Stimulus.Event event) items m k) (free-carried o X (Item.Give q origin (Stimulus.Event event)) items m refl h) in
-          record {
-            steady = grind (decide, serve-fair (record { p = 0; t = 0 }) q event (facing items m), serve-untouched q event (facing items m), free.steady);
-            balanced = λ r. (serve-fair o q event (facing items m)).balanced (timer_ledger o r X) (free.balanced r);
-          };
-      called_back = λ m X q c h.
-          let x = Item.Give q Origin.Callback (Stimulus.Callback c) in
-          record {
-            steady = grind (decide, h.steady.regular, h.steady);
-            balanced = λ k.
-                less-balanced o m.clock (in_wait o (scheduled (in_front (x ∷ [])) m)) (in_wait o m) m.timers (timer_ledger o k X) (omega (arith, no_callback o q c)) (h.balanced k);
-          };
-      round = λ m X h.
-          record {
-            steady = record { clock = h.steady.clock; names = h.steady.names; plain = h.steady.plain; regular = refl };
-            balanced = λ k.
-                less-balanced o m.clock (in_wait o (facing (Item.Polls ∷ Item.Deliver ∷ []) m)) (in_wait o (facing [] m)) m.timers (timer_ledger o k X) (omega arith)
-                (h.balanced k tt);
-          };
-      turn = λ m X items q origin stimulus call h. turn_timely o low high X m items q origin stimulus call h;
-      told = λ m X items q origin stimulus call h i. turn_early o low high X m items q origin stimulus call h;
-      shown = grind (decide, clock-more, ledger-other, less-balanced);
-      noted = λ m X items note h. grind (decide, ledger-other, clock-more, (Entry.Note note));
-      other = λ X e n k. grind (decide, ledger-other, clock-more);
-      input = effect_timely o;
-    }
+  -- every step
+  pub timely_cases : nat_le 4 o.p ≡ true → nat_lt o.p 20 ≡ true → Cases (Timely o) (Free o) (IsTimely o)
+  timely_cases low high = record {
+        notes = λ m X entry items h. grind (arith, h.steady.regular);
+        free = timely-free o;
+        carried = λ m X item items n s h. free-carried o X item items m n h;
+        served = λ m X q origin event items k h.
+            let free = subst (λ n. Free o n X) (kernel_carried q origin (Stimulus.Event event) items m k) (free-carried o X (Item.Give q origin (Stimulus.Event event)) items m refl h) in
+            record {
+              steady = grind (decide, serve-fair (record { p = 0; t = 0 }) q event (facing items m), serve-untouched q event (facing items m), free.steady);
+              balanced = λ r. (serve-fair o q event (facing items m)).balanced (timer_ledger o r X) (free.balanced r);
+            };
+        called_back = λ m X q c h.
+            let x = Item.Give q Origin.Callback (Stimulus.Callback c) in
+            record {
+              steady = grind (decide, h.steady.regular, h.steady);
+              balanced = λ k.
+                  less-balanced o m.clock (in_wait o (scheduled (in_front (x ∷ [])) m)) (in_wait o m) m.timers (timer_ledger o k X) (omega (arith, no_callback o q c)) (h.balanced k);
+            };
+        round = λ m X h.
+            record {
+              steady = record { clock = h.steady.clock; names = h.steady.names; plain = h.steady.plain; regular = refl };
+              balanced = λ k.
+                  less-balanced o m.clock (in_wait o (facing (Item.Polls ∷ Item.Deliver ∷ []) m)) (in_wait o (facing [] m)) m.timers (timer_ledger o k X) (omega arith)
+                  (h.balanced k tt);
+            };
+        turn = λ m X items q origin stimulus call h. turn_timely o low high X m items q origin stimulus call h;
+        told = λ m X items q origin stimulus call h i. turn_early o low high X m items q origin stimulus call h;
+        shown = grind (decide, clock-more, ledger-other, less-balanced);
+        noted = λ m X items note h. grind (decide, ledger-other, clock-more, (Entry.Note note));
+        other = λ X e n k. grind (decide, ledger-other, clock-more);
+        input = effect_timely;
+      }
 
--- boot
+  -- boot
 
-pub starts-count : (o : OwnTimer) (ns : List ℕ) → count_items o (map (λ n. Item.Start n) ns) ≡ 0
-starts-count o [] = refl
-starts-count o (n ∷ ns) = omega (arith, starts-count o ns)
+  pub starts-count : (ns : List ℕ) → count_items o (map (λ n. Item.Start n) ns) ≡ 0
+  starts-count [] = refl
+  starts-count (n ∷ ns) = omega (arith, starts-count ns)
 
-pub boot_timely : (o : OwnTimer) (c : Config) → nat_le 4 o.p ≡ true → nat_lt o.p 20 ≡ true → Timely o (at_start c).machine []
-boot_timely o c low high =
-    record {
-      steady = grind (decide, zero-names, all-mapped);
-      balanced = λ k front.
-          record {
-            cell = λ number. zero-cells (own_timer o) all_timers;
-            named = λ h. absurd (grind (arith, h));
-            set = λ h. absurd (grind (arith, h));
-            count = omega (arith, starts-count o (range_with_len 4 c.apps));
-          };
-    }
+  pub boot_timely : (c : Config) → nat_le 4 o.p ≡ true → nat_lt o.p 20 ≡ true → Timely o (at_start c).machine []
+  boot_timely c low high =
+      record {
+        steady = grind (decide, zero-names, all-mapped);
+        balanced = λ k front.
+            record {
+              cell = λ number. zero-cells (own_timer o) all_timers;
+              named = λ h. absurd (grind (arith, h));
+              set = λ h. absurd (grind (arith, h));
+              count = omega (arith, starts-count (range_with_len 4 c.apps));
+            };
+      }
 
 -- no TIMER event comes early or twice
-pub no_early_timer : (run : Ran)
-    → (p : ℕ) → is_bootable run.config ≡ true → is_application run.config.apps p ≡ true → NoEarlyTimerFor p run.after.entries
+pub no_early_timer : (run : Ran) (p : ℕ) → is_bootable run.config ≡ true → is_application run.config.apps p ≡ true
+    → NoEarlyTimerFor p run.after.entries
 no_early_timer run p b a before later t e =
     let o : OwnTimer = record { p = p; t = t } in
     let low : nat_le 4 p ≡ true = grind (arith, a) in

@@ -1,6 +1,6 @@
 -- Nobody is told that p ended while p goes on.
 use Rattle.std.proofs.Common.{◌≡◌, ℕ, Bool, true, false, not, ◌&&◌, ◌||◌, List, [], ◌∷◌, refl, ◌∙◌, arith, append_assoc, map, slice_get, ◌==◌}
-use Rattle.run_laws.proofs.Common.{list_all, list_any, decide, Call, Stimulus, Event, Origin, POLL, EXITED, plain_event, number_event, Queued, Item, numbers, Scheduler, after_item, delivery, first_event, of_event, Timer, Machine, after_call, cancelled_if, serve, expiry_of, is_number, list_any-append}
+use Rattle.run_laws.proofs.Common.{decide, list_all, list_any, decide, Call, Stimulus, Event, Origin, POLL, EXITED, plain_event, number_event, Queued, Item, numbers, Scheduler, after_item, delivery, first_event, of_event, Timer, Machine, after_call, cancelled_if, serve, expiry_of, is_number, list_any-append}
 use Rattle.run_laws.proofs.CallQueues.{KeptByCalls, kept_by_call}
 use Rattle.run_laws.proofs.Changes.{Changes, of_changes, is_notice}
 use Rattle.run_laws.proofs.event_order.Tally.{ends_in, is_give_exit, is_exit_turn, to_all}
@@ -8,20 +8,21 @@ use Rattle.run_laws.proofs.event_order.Items.{with_agenda}
 use Rattle.run_laws.proofs.timer_deadlines.Fronts.{none-mapped, carried-any, after-any, all-more, all-cancelled}
 use Rattle.run_laws.proofs.event_order.Steps.{is_quiet_item, turn_entry}
 
--- p is given EXIT
-abbrev pub dooms : ℕ → Item → Bool
-dooms p item = is_give_exit p item || is_exit_turn p item
+module _ (p : ℕ) where
+  -- p is given EXIT
+  abbrev pub dooms : Item → Bool
+  dooms item = is_give_exit p item || is_exit_turn p item
 
-abbrev pub is_doomed : ℕ → List Item → Bool
-is_doomed p agenda = list_any (dooms p) agenda
+  abbrev pub is_doomed : List Item → Bool
+  is_doomed agenda = list_any (dooms) agenda
 
--- etimer is told that p ended
-abbrev pub is_farewell : ℕ → Item → Bool
-is_farewell p (Item.Give q origin (Stimulus.Event event)) = q == 0 && (event.code == EXITED && is_number p event.payload)
-is_farewell p _ = false
+  -- etimer is told that p ended
+  abbrev pub is_farewell : Item → Bool
+  is_farewell (Item.Give q origin (Stimulus.Event event)) = q == 0 && (event.code == EXITED && is_number p event.payload)
+  is_farewell _ = false
 
-abbrev pub has_farewell : ℕ → List Item → Bool
-has_farewell p agenda = list_any (is_farewell p) agenda
+  abbrev pub has_farewell : List Item → Bool
+  has_farewell agenda = list_any (is_farewell) agenda
 
 -- an event in the queue that is no EXITED
 abbrev pub is_no_exited : Queued Bool → Bool
@@ -31,7 +32,8 @@ is_no_exited (Queued.Expiry q c x) = true
 
 -- the queue
 
-events-cancelled : (test : ℕ → ℕ → Bool) (events : List (Queued Bool)) → list_all is_no_exited (map (cancelled_if test) events) ≡ list_all is_no_exited events
+events-cancelled : (test : ℕ → ℕ → Bool) (events : List (Queued Bool))
+    → list_all is_no_exited (map (cancelled_if test) events) ≡ list_all is_no_exited events
 events-cancelled test events = all-cancelled is_no_exited test (λ event. grind arith) events
 
 after-clean : KeptByCalls (λ events. list_all is_no_exited events ≡ true)
@@ -40,7 +42,8 @@ after-clean = record {
       cancelled = λ test events h. rw (events-cancelled test events) h;
     }
 
-pub after-events : (call : Call) (q : ℕ) (m : Machine) → list_all is_no_exited m.scheduler.events ≡ true → list_all is_no_exited (after_call call q m).scheduler.events ≡ true
+pub after-events : (call : Call) (q : ℕ) (m : Machine) → list_all is_no_exited m.scheduler.events ≡ true
+    → list_all is_no_exited (after_call call q m).scheduler.events ≡ true
 after-events = kept_by_call after-clean
 
 abbrev Clean : Machine → Type 0
@@ -64,47 +67,55 @@ serve-events q event = of_changes changes
 
 -- an item
 
-no_farewell-given : (p q : ℕ) (origin : Origin) (event : Event) → (event.code == EXITED) ≡ false → is_farewell p (Item.Give q origin (of_event event)) ≡ false
-no_farewell-given = grind decide
+module _ (p : ℕ) where
+  no_farewell-given : (q : ℕ) (origin : Origin) (event : Event) → (event.code == EXITED) ≡ false
+      → is_farewell p (Item.Give q origin (of_event event)) ≡ false
+  no_farewell-given = grind decide
 
-no_farewell-broadcast : (p : ℕ) (ns : List ℕ) (event : Event) → (event.code == EXITED) ≡ false → has_farewell p (delivery ns (to_all event)) ≡ false
-no_farewell-broadcast p [] event h = refl
-no_farewell-broadcast p (n ∷ ns) event h = grind (decide, no_farewell-broadcast p ns event h)
+  no_farewell-broadcast : (ns : List ℕ) (event : Event) → (event.code == EXITED) ≡ false
+      → has_farewell p (delivery ns (to_all event)) ≡ false
+  no_farewell-broadcast [] event h = refl
+  no_farewell-broadcast (n ∷ ns) event h = grind (decide, no_farewell-broadcast ns event h)
 
-no_farewell-delivery : (p : ℕ) (ns : List ℕ) (events : List (Queued Bool)) → list_all is_no_exited events ≡ true → has_farewell p (delivery ns (slice_get events 0)) ≡ false
-no_farewell-delivery p ns (Queued.To q event ∷ events) h = grind decide
-no_farewell-delivery p ns (Queued.ToAll event ∷ events) h = no_farewell-broadcast p ns event (grind (arith, h))
-no_farewell-delivery p ns _ h = refl
+  no_farewell-delivery : (ns : List ℕ) (events : List (Queued Bool)) → list_all is_no_exited events ≡ true
+      → has_farewell p (delivery ns (slice_get events 0)) ≡ false
+  no_farewell-delivery ns (Queued.To q event ∷ events) h = grind decide
+  no_farewell-delivery ns (Queued.ToAll event ∷ events) h = no_farewell-broadcast ns event (grind (arith, h))
+  no_farewell-delivery ns _ h = refl
 
 -- where p isn't doomed after, it wasn't before
 spared-before : (a b : Bool) → (a ≡ true → b ≡ true) → b ≡ false → a ≡ false
 spared-before true b h n = grind decide
 spared-before false b h n = refl
 
-pub carried-doomed : (p : ℕ) (item : Item) (items : List Item) (s : Scheduler Bool) → is_quiet_item item ≡ true
-    → is_doomed p (after_item item (with_agenda items s)).agenda ≡ false → is_doomed p (item ∷ items) ≡ false
-carried-doomed = grind (decide, spared-before, carried-any)
+module _ (p : ℕ) where
+  pub carried-doomed : (item : Item) (items : List Item) (s : Scheduler Bool) → is_quiet_item item ≡ true
+      → is_doomed p (after_item item (with_agenda items s)).agenda ≡ false → is_doomed p (item ∷ items) ≡ false
+  carried-doomed = grind (decide, spared-before, carried-any)
 
-pub carried-farewell : (p : ℕ) (item : Item) (items : List Item) (s : Scheduler Bool) → list_all is_no_exited s.events ≡ true
-    → has_farewell p (item ∷ items) ≡ false → has_farewell p (after_item item (with_agenda items s)).agenda ≡ false
-carried-farewell p Item.Polls items s n h = grind (decide, list_any-append, none-mapped)
-carried-farewell p Item.Deliver items s n h =
-    rw (list_any-append (is_farewell p) (delivery (numbers s.processes) (first_event s)) items, no_farewell-delivery p (numbers s.processes) s.events n) h
-carried-farewell p (Item.PollOne q) items s n h = grind decide
-carried-farewell p item items s n h = grind (arith, h)
+  pub carried-farewell : (item : Item) (items : List Item) (s : Scheduler Bool) → list_all is_no_exited s.events ≡ true
+      → has_farewell p (item ∷ items) ≡ false → has_farewell p (after_item item (with_agenda items s)).agenda ≡ false
+  carried-farewell Item.Polls items s n h = grind (decide, list_any-append, none-mapped)
+  carried-farewell Item.Deliver items s n h =
+      rw (list_any-append (is_farewell p) (delivery (numbers s.processes) (first_event s)) items, no_farewell-delivery p (numbers s.processes) s.events n) h
+  carried-farewell (Item.PollOne q) items s n h = grind decide
+  carried-farewell item items s n h = grind (arith, h)
 
--- a turn
+  -- a turn
 
-no_farewell-others : (p r : ℕ) (ns : List ℕ) → (r == p) ≡ false → has_farewell p (map (λ n. Item.Give n Origin.Synch (of_event (number_event EXITED r))) ns) ≡ false
-no_farewell-others p r [] h = refl
-no_farewell-others p r (n ∷ ns) h = grind (decide, no_farewell-others p r ns h)
+  no_farewell-others : (r : ℕ) (ns : List ℕ) → (r == p) ≡ false
+      → has_farewell p (map (λ n. Item.Give n Origin.Synch (of_event (number_event EXITED r))) ns) ≡ false
+  no_farewell-others r [] h = refl
+  no_farewell-others r (n ∷ ns) h = grind (decide, no_farewell-others r ns h)
 
-pub after-doomed : (p : ℕ) (call : Call) (q : ℕ) (m : Machine) → is_doomed p (after_call call q m).scheduler.agenda ≡ false → is_doomed p m.scheduler.agenda ≡ false
-after-doomed p call q m h = spared-before (is_doomed p m.scheduler.agenda) (is_doomed p (after_call call q m).scheduler.agenda) (after-any (dooms p) call q m) h
+  pub after-doomed : (call : Call) (q : ℕ) (m : Machine) → is_doomed p (after_call call q m).scheduler.agenda ≡ false
+      → is_doomed p m.scheduler.agenda ≡ false
+  after-doomed call q m h = spared-before (is_doomed p m.scheduler.agenda) (is_doomed p (after_call call q m).scheduler.agenda) (after-any (dooms p) call q m) h
 
--- only who ends, or is doomed, is said farewell
-pub after-farewell : (p : ℕ) (call : Call) (q : ℕ) (origin : Origin) (stimulus : Stimulus) (m : Machine) → ends_in p (turn_entry q origin stimulus call) ≡ false
-    → is_doomed p (after_call call q m).scheduler.agenda ≡ false → has_farewell p m.scheduler.agenda ≡ false → has_farewell p (after_call call q m).scheduler.agenda ≡ false
-after-farewell p Call.Exit q origin stimulus m n d h = grind (decide, append_assoc, list_any-append, no_farewell-others)
-after-farewell p (Call.Kill r) q origin stimulus m n d h = grind (decide, append_assoc, list_any-append, no_farewell-others)
-after-farewell p call q origin stimulus m n d h = grind (arith, h)
+  -- only who ends, or is doomed, is said farewell
+  pub after-farewell : (call : Call) (q : ℕ) (origin : Origin) (stimulus : Stimulus) (m : Machine)
+      → ends_in p (turn_entry q origin stimulus call) ≡ false → is_doomed p (after_call call q m).scheduler.agenda ≡ false
+      → has_farewell p m.scheduler.agenda ≡ false → has_farewell p (after_call call q m).scheduler.agenda ≡ false
+  after-farewell Call.Exit q origin stimulus m n d h = grind (decide, append_assoc, list_any-append, no_farewell-others)
+  after-farewell (Call.Kill r) q origin stimulus m n d h = grind (decide, append_assoc, list_any-append, no_farewell-others)
+  after-farewell call q origin stimulus m n d h = grind (arith, h)

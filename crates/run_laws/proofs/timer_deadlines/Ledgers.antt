@@ -33,31 +33,33 @@ told_reply p q stimulus k = if q == p then reply_of stimulus else k
 pub told-front : (p q : ℕ) (stimulus : Stimulus) (k : Option Reply) → (q == p) ≡ true → told_reply p q stimulus k ≡ reply_of stimulus
 told-front p q stimulus k same = rw same refl
 
-reply-told : (k : Option Reply) (b : Bool) (stimulus : Stimulus) (l : List Stimulus)
-    → reply_or k (l ++ option_to_list (if b then Some stimulus else None)) ≡ reply_or (if b then reply_of stimulus else k) l
-reply-told = grind decide
+module _ (k : Option Reply) where
+  reply-told : (b : Bool) (stimulus : Stimulus) (l : List Stimulus)
+      → reply_or k (l ++ option_to_list (if b then Some stimulus else None)) ≡ reply_or (if b then reply_of stimulus else k) l
+  reply-told = grind decide
 
-turn-more : (k : Option Reply) (p clock : ℕ) (entry : Entry) (X : List Entry) (pid : Pid) (origin : Origin) (stimulus : Stimulus) (call : Call)
-    → own_turn_or k p clock entry (X ++ Entry.Turn pid origin stimulus call ∷ []) ≡ own_turn_or (told_reply p pid.0 stimulus k) p clock entry X
-turn-more k p clock (Entry.Turn other o s c) X pid origin stimulus call =
-    rw (heard-turn p X pid origin stimulus call, reply-told k (pid.0 == p) stimulus (heard p X))
-turn-more k p clock _ X pid origin stimulus call = refl
+  module _ (p : ℕ) where
+    turn-more : (clock : ℕ) (entry : Entry) (X : List Entry) (pid : Pid) (origin : Origin) (stimulus : Stimulus) (call : Call)
+        → own_turn_or k p clock entry (X ++ Entry.Turn pid origin stimulus call ∷ []) ≡ own_turn_or (told_reply p pid.0 stimulus k) p clock entry X
+    turn-more clock (Entry.Turn other o s c) X pid origin stimulus call =
+        rw (heard-turn p X pid origin stimulus call, reply-told (pid.0 == p) stimulus (heard p X))
+    turn-more clock _ X pid origin stimulus call = refl
 
-pub turns-turn : (k : Option Reply) (p clock : ℕ) (X : List Entry) (pid : Pid) (origin : Origin) (stimulus : Stimulus) (call : Call)
-    → turns_or k p clock (X ++ Entry.Turn pid origin stimulus call ∷ [])
-    ≡ turns_or (told_reply p pid.0 stimulus k) p clock X ++ option_to_list (own_turn_or k p (clock_from clock X) (Entry.Turn pid origin stimulus call) [])
-turns-turn k p clock [] pid origin stimulus call = grind decide
-turns-turn k p clock (entry ∷ X) pid origin stimulus call = grind (decide, turn-more, cons_option-append, turns-turn k p (clock + ticks_in entry) X pid origin stimulus call)
+    pub turns-turn : (clock : ℕ) (X : List Entry) (pid : Pid) (origin : Origin) (stimulus : Stimulus) (call : Call)
+        → turns_or k p clock (X ++ Entry.Turn pid origin stimulus call ∷ []) ≡ turns_or (told_reply p pid.0 stimulus k) p clock X ++ option_to_list (own_turn_or k p (clock_from clock X) (Entry.Turn pid origin stimulus call) [])
+    turns-turn clock [] pid origin stimulus call = grind decide
+    turns-turn clock (entry ∷ X) pid origin stimulus call = grind (decide, turn-more, cons_option-append, turns-turn (clock + ticks_in entry) X pid origin stimulus call)
 
-turn-other : (k : Option Reply) (p clock : ℕ) (entry : Entry) (X : List Entry) (e : Entry) → is_turn e ≡ false
-    → own_turn_or k p clock entry (X ++ e ∷ []) ≡ own_turn_or k p clock entry X
-turn-other k p clock (Entry.Turn other o s c) X e h = rw (heard-other p X e h)
-turn-other k p clock _ X e h = refl
+    turn-other : (clock : ℕ) (entry : Entry) (X : List Entry) (e : Entry) → is_turn e ≡ false
+        → own_turn_or k p clock entry (X ++ e ∷ []) ≡ own_turn_or k p clock entry X
+    turn-other clock (Entry.Turn other o s c) X e h = rw (heard-other p X e h)
+    turn-other clock _ X e h = refl
 
-pub turns-other : (k : Option Reply) (p clock : ℕ) (X : List Entry) (e : Entry) → is_turn e ≡ false → turns_or k p clock (X ++ e ∷ []) ≡ turns_or k p clock X
-turns-other k p clock [] (Entry.Turn pid origin stimulus call) h = grind decide
-turns-other k p clock [] _ h = refl
-turns-other k p clock (entry ∷ X) e h = grind (decide, turn-other, turns-other k p (clock + ticks_in entry) X e h)
+    pub turns-other : (clock : ℕ) (X : List Entry) (e : Entry) → is_turn e ≡ false
+        → turns_or k p clock (X ++ e ∷ []) ≡ turns_or k p clock X
+    turns-other clock [] (Entry.Turn pid origin stimulus call) h = grind decide
+    turns-other clock [] _ h = refl
+    turns-other clock (entry ∷ X) e h = grind (decide, turn-other, turns-other (clock + ticks_in entry) X e h)
 
 pub fold-append : {A B : Type 0} (f : B → A → B) (b : B) (xs ys : List A) → fold f b (xs ++ ys) ≡ fold f (fold f b xs) ys
 fold-append f b [] ys = refl
@@ -99,46 +101,46 @@ ledger_of t turns = fold (ledger_after t) blank turns
 abbrev pub ripe_at : ℕ → Ledger → ℕ
 ripe_at clock ledger = ledger.after_items + one_if (ledger.is_set && nat_le (deadline ledger.cell) clock)
 
-ripe-step : (t clock : ℕ) (ledger : Ledger) (turn : OwnTurn) (later : List OwnTurn)
-    → (ledger_after t ledger turn).after_items
-    + (one_if ((ledger_after t ledger turn).is_set && nat_le (deadline (ledger_after t ledger turn).cell) (stood_until t clock later)) + ripe_from t clock (ledger_after t ledger turn).cell later)
-    ≡ ledger.after_items + (one_if (ledger.is_set && nat_le (deadline ledger.cell) (stood_until t clock (turn ∷ later))) + ripe_from t clock ledger.cell (turn ∷ later))
-ripe-step t clock ledger turn later = go (is_done turn.reply) (arms t turn.call) (stops t turn.call)
-  where
-    go : (d a s : Bool)
-        → (let new : Cell = cell_after t turn.clock turn.call ledger.cell in
-        let st : Ledger = (if d && (a || s) then record {
-          cell = if d && a then new else ledger.cell;
-          is_set = d && a;
-          after_items = ledger.after_items + one_if (ledger.is_set && nat_le (deadline ledger.cell) turn.clock);
-          given = ledger.given + one_if (is_timer_event t turn.stimulus);
-        } else record ledger { given = ledger.given + one_if (is_timer_event t turn.stimulus) }) in
-        st.after_items + (one_if (st.is_set && nat_le (deadline st.cell) (stood_until t clock later)) + ripe_from t clock st.cell later)
-        ≡ ledger.after_items
-        + (one_if (ledger.is_set && nat_le (deadline ledger.cell) (option_map_or (λ turn. turn.clock) (if d && (a || s) then Some turn else find (is_arming_or_stop t) later) clock))
-        + ((if (d && a) && nat_le (deadline (if d && a then new else ledger.cell)) (stood_until t clock later) then 1 else 0) + ripe_from t clock (if d && a then new else ledger.cell) later)))
-    go true true s = omega arith
-    go true false true = omega arith
-    go true false false = omega arith
-    go false a s = omega arith
+module _ (t : ℕ) where
+  ripe-step : (clock : ℕ) (ledger : Ledger) (turn : OwnTurn) (later : List OwnTurn)
+      → (ledger_after t ledger turn).after_items + (one_if ((ledger_after t ledger turn).is_set && nat_le (deadline (ledger_after t ledger turn).cell) (stood_until t clock later)) + ripe_from t clock (ledger_after t ledger turn).cell later) ≡ ledger.after_items + (one_if (ledger.is_set && nat_le (deadline ledger.cell) (stood_until t clock (turn ∷ later))) + ripe_from t clock ledger.cell (turn ∷ later))
+  ripe-step clock ledger turn later = go (is_done turn.reply) (arms t turn.call) (stops t turn.call)
+    where
+      go : (d a s : Bool)
+          → (let new : Cell = cell_after t turn.clock turn.call ledger.cell in
+          let st : Ledger = (if d && (a || s) then record {
+            cell = if d && a then new else ledger.cell;
+            is_set = d && a;
+            after_items = ledger.after_items + one_if (ledger.is_set && nat_le (deadline ledger.cell) turn.clock);
+            given = ledger.given + one_if (is_timer_event t turn.stimulus);
+          } else record ledger { given = ledger.given + one_if (is_timer_event t turn.stimulus) }) in
+          st.after_items + (one_if (st.is_set && nat_le (deadline st.cell) (stood_until t clock later)) + ripe_from t clock st.cell later)
+          ≡ ledger.after_items
+          + (one_if (ledger.is_set && nat_le (deadline ledger.cell) (option_map_or (λ turn. turn.clock) (if d && (a || s) then Some turn else find (is_arming_or_stop t) later) clock))
+          + ((if (d && a) && nat_le (deadline (if d && a then new else ledger.cell)) (stood_until t clock later) then 1 else 0) + ripe_from t clock (if d && a then new else ledger.cell) later)))
+      go true true s = omega arith
+      go true false true = omega arith
+      go true false false = omega arith
+      go false a s = omega arith
 
-pub ripe-ledger : (t clock : ℕ) (ledger : Ledger) (turns : List OwnTurn)
-    → ripe_at clock (fold (ledger_after t) ledger turns)
-    ≡ ledger.after_items + (one_if (ledger.is_set && nat_le (deadline ledger.cell) (stood_until t clock turns)) + ripe_from t clock ledger.cell turns)
-ripe-ledger t clock ledger [] = omega arith
-ripe-ledger t clock ledger (turn ∷ later) = grind (decide, ripe-step, ripe-ledger t clock (ledger_after t ledger turn) later)
+  pub ripe-ledger : (clock : ℕ) (ledger : Ledger) (turns : List OwnTurn)
+      → ripe_at clock (fold (ledger_after t) ledger turns) ≡ ledger.after_items + (one_if (ledger.is_set && nat_le (deadline ledger.cell) (stood_until t clock turns)) + ripe_from t clock ledger.cell turns)
+  ripe-ledger clock ledger [] = omega arith
+  ripe-ledger clock ledger (turn ∷ later) = grind (decide, ripe-step, ripe-ledger clock (ledger_after t ledger turn) later)
 
-given_after : (t : ℕ) (ledger : Ledger) (turn : OwnTurn) → (ledger_after t ledger turn).given ≡ ledger.given + one_if (is_timer_event t turn.stimulus)
-given_after = grind decide
+  given_after : (ledger : Ledger) (turn : OwnTurn)
+      → (ledger_after t ledger turn).given ≡ ledger.given + one_if (is_timer_event t turn.stimulus)
+  given_after = grind decide
 
-given-fold : (t : ℕ) (ledger : Ledger) (turns : List OwnTurn)
-    → (fold (ledger_after t) ledger turns).given ≡ fold (λ n turn. n + one_if (is_timer_event t turn.stimulus)) ledger.given turns
-given-fold t ledger [] = refl
-given-fold t ledger (turn ∷ later) = grind (decide, given-fold t (ledger_after t ledger turn) later)
+  given-fold : (ledger : Ledger) (turns : List OwnTurn)
+      → (fold (ledger_after t) ledger turns).given ≡ fold (λ n turn. n + one_if (is_timer_event t turn.stimulus)) ledger.given turns
+  given-fold ledger [] = refl
+  given-fold ledger (turn ∷ later) = grind (decide, given-fold (ledger_after t ledger turn) later)
 
 -- the ledger tells both numbers
 pub timer_events-ledger : (X : List Entry) (o : OwnTimer) → timer_events X o.p o.t ≡ (ledger_of o.t (turns_or None o.p 0 X)).given
 timer_events-ledger = grind (decide, turns-none, given-fold)
 
-pub ripe_armings-ledger : (X : List Entry) (o : OwnTimer) → ripe_armings X o.p o.t ≡ ripe_at (clock_after X) (ledger_of o.t (turns_or None o.p 0 X))
+pub ripe_armings-ledger : (X : List Entry) (o : OwnTimer)
+    → ripe_armings X o.p o.t ≡ ripe_at (clock_after X) (ledger_of o.t (turns_or None o.p 0 X))
 ripe_armings-ledger = grind (decide, turns-none, ripe-ledger)

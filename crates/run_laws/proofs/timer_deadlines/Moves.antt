@@ -1,6 +1,6 @@
 -- What a call does to a timer: an accepted arming puts it on the list with its new cell, a stop takes it off, and no other call moves it.
 use Rattle.std.proofs.Common.{◌≡◌, ℕ, ◌+◌, Bool, true, false, ◌&&◌, ◌||◌, List, ◌∷◌, refl, subst, arith, Option, Some, None, ◌==◌, nat_le, nat_lt}
-use Rattle.run_laws.proofs.Common.{decide, Call, Reply, Refusal, Item, Timer, Cell, all_timers, event_timer, callback_timer, is_timer, Timers, cell_of, is_armed, armed_with, set_timer, stop_timer, restart_timer, reset_timer, Machine, with_timers, mark, expiries_cancelled, after_call, answer_done, refused_or, is_callback_timer, reply_of, is_done, arms, stops, cell_after}
+use Rattle.run_laws.proofs.Common.{decide, decide, Call, Reply, Refusal, Item, Timer, Cell, all_timers, event_timer, callback_timer, is_timer, Timers, cell_of, is_armed, armed_with, set_timer, stop_timer, restart_timer, reset_timer, Machine, with_timers, mark, expiries_cancelled, after_call, answer_done, refused_or, is_callback_timer, reply_of, is_done, arms, stops, cell_after}
 use Rattle.kernel_core.specs.Calls.{timer_refusal, callback_refusal, reset_refusal}
 use Rattle.run_laws.proofs.timer_deadlines.Timing.{OwnTimer, own_timer, cell_names, armed-names, cell-armed_own, cell-armed_other, armed-other, stopped-own, stopped-other}
 
@@ -82,8 +82,7 @@ stopped_moves o q u clock k old told = go (q == o.p) (u == o.t) refl refl
     go true false e f = other (grind (decide, f))
     go true true e f =
         let answer_done : is_done k ≡ true = rw (told e) refl in
-        let off : is_armed (own_timer o) new ≡ false =
-        subst (λ x. is_armed (own_timer o) (stop_timer x old) ≡ false) (same_timer o q u e f) (stopped-own (own_timer o) old.armed) in
+        let off : is_armed (own_timer o) new ≡ false = grind (decide, same_timer, stopped-own) in
         record {
           kept = λ h. absurd (grind (arith, h, e, answer_done, f));
           kept_cell = λ h number. refl;

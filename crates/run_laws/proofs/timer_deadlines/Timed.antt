@@ -1,6 +1,6 @@
 -- The TIMER events of timer t of p are no more than the ripe armings.
 use Rattle.std.proofs.Common.{◌≡◌, ℕ, ◌+◌, ◌≤◌, Bool, true, false, not, ◌&&◌, List, [], ◌∷◌, ◌++◌, refl, ◌∙◌, sym, arith, Some, find, filter, map, if◌then◌else◌, ◌==◌, nat_le, ◌||◌, Option}
-use Rattle.run_laws.proofs.Common.{list_any, list_all, decide, Stimulus, Event, TIMER, Queued, Item, of_event, Timer, event_timer, is_timer, is_event_timer_of, is_callback_timer_of, Timers, cell_of, is_armed, stop_timer, deadline, is_due, first_due, without_callback_timers, Machine, with_event, with_timers, cancelled_if, expiries_cancelled, serve, expiry_of, post_expiry, is_timer_event, Call, Reply, Origin, Payload, EXITED, plain_event, number_event, is_reserved, Scheduler, delivery, after_item, after_call, Cell, OwnTurn, is_done, arms, stops, is_arming, is_arming_or_stop, cell_after}
+use Rattle.run_laws.proofs.Common.{decide, list_any, list_all, decide, Stimulus, Event, TIMER, Queued, Item, of_event, Timer, event_timer, is_timer, is_event_timer_of, is_callback_timer_of, Timers, cell_of, is_armed, stop_timer, deadline, is_due, first_due, without_callback_timers, Machine, with_event, with_timers, cancelled_if, expiries_cancelled, serve, expiry_of, post_expiry, is_timer_event, Call, Reply, Origin, Payload, EXITED, plain_event, number_event, is_reserved, Scheduler, delivery, after_item, after_call, Cell, OwnTurn, is_done, arms, stops, is_arming, is_arming_or_stop, cell_after}
 use Rattle.run_laws.proofs.CallQueues.{KeptByCalls, is_posted, kept_by_call}
 use Rattle.run_laws.proofs.Changes.{Changes, of_changes, is_notice}
 use Rattle.run_laws.proofs.timer_deadlines.Fronts.{all-more, all-cancelled}
@@ -257,16 +257,7 @@ turn-balanced o q w clock stimulus origin call k old new ledger moves h =
         → Balanced o old clock (one_if (same && is_timer_event o.t stimulus) + w) ledger
         → Balanced o new clock w (ledger_then same o.t clock stimulus origin call k ledger)
     go false d a s e f i kept kept_cell set set_cell named unset h = grind decide
-    go true true true s e f i kept kept_cell set set_cell named unset h =
-        let arming : is_arming o.t turn ≡ true = rw (e, f) refl in
-        let cell : cell_of (own_timer o) new ≡ cell_after o.t clock call ledger.cell = set_cell refl ∙ rw (h.cell (named refl)) refl in
-        rw (ledger-arms o.t ledger turn arming)
-        (grind decide)
-    go true true false true e f i kept kept_cell set set_cell named unset h =
-        rw (ledger-stops o.t ledger turn e f i) (grind decide)
-    go true true false false e f i kept kept_cell set set_cell named unset h =
-        let none : is_arming_or_stop o.t turn ≡ false = rw (e, f, i) refl in
-        rw (ledger-keeps o.t ledger turn none) (grind decide)
-    go true false a s e f i kept kept_cell set set_cell named unset h =
-        let none : is_arming_or_stop o.t turn ≡ false = rw e refl in
-        rw (ledger-keeps o.t ledger turn none) (grind decide)
+    go true true true s e f i kept kept_cell set set_cell named unset h = grind decide
+    go true true false true e f i kept kept_cell set set_cell named unset h = grind decide
+    go true true false false e f i kept kept_cell set set_cell named unset h = grind decide
+    go true false a s e f i kept kept_cell set set_cell named unset h = grind decide

@@ -23,16 +23,17 @@ same_timer = grind decide
 abbrev pub cell_names : List NamedCell → List Timer
 cell_names cells = map (λ named. named.timer) cells
 
-given-name : (timer : Timer) (cell : Cell) (named : NamedCell) → (given_cell timer cell named).timer ≡ named.timer
-given-name = grind decide
+module _ (timer : Timer) (cell : Cell) where
+  given-name : (named : NamedCell) → (given_cell timer cell named).timer ≡ named.timer
+  given-name = grind decide
 
-with_cell-names : (timer : Timer) (cell : Cell) (cells : List NamedCell) → cell_names (with_cell timer cell cells) ≡ cell_names cells
-with_cell-names timer cell [] = refl
-with_cell-names timer cell (named ∷ cells) = grind (decide, with_cell-names timer cell cells)
+  with_cell-names : (cells : List NamedCell) → cell_names (with_cell timer cell cells) ≡ cell_names cells
+  with_cell-names [] = refl
+  with_cell-names (named ∷ cells) = grind (decide, with_cell-names cells)
 
--- an arming keeps the names
-pub armed-names : (timer : Timer) (cell : Cell) (timers : Timers) → cell_names (armed_with timer cell timers).cells ≡ cell_names timers.cells
-armed-names timer cell timers = with_cell-names timer cell timers.cells
+  -- an arming keeps the names
+  pub armed-names : (timers : Timers) → cell_names (armed_with timer cell timers).cells ≡ cell_names timers.cells
+  armed-names timers = with_cell-names timers.cells
 
 -- at boot
 
@@ -40,25 +41,26 @@ pub zero-names : (timers : List Timer) → cell_names (map (λ timer. record { t
 zero-names [] = refl
 zero-names (timer ∷ timers) = rw (zero-names timers) refl
 
-pub zero-cells : (timer : Timer) (timers : List Timer) → cell_under timer (map (λ timer. record { timer = timer; cell = zero_cell }) timers) ≡ zero_cell
-zero-cells timer [] = refl
-zero-cells timer (other ∷ others) = grind (decide, zero-cells timer others)
+module _ (timer : Timer) where
+  pub zero-cells : (timers : List Timer) → cell_under timer (map (λ timer. record { timer = timer; cell = zero_cell }) timers) ≡ zero_cell
+  zero-cells [] = refl
+  zero-cells (other ∷ others) = grind (decide, zero-cells others)
 
--- after an arming
+  -- after an arming
 
-under-other : (timer other : Timer) (cell : Cell) (cells : List NamedCell) → is_timer timer other ≡ false
-    → cell_under timer (with_cell other cell cells) ≡ cell_under timer cells
-under-other timer other cell [] n = refl
-under-other timer other cell (named ∷ cells) n = grind (decide, under-other timer other cell cells n)
+  under-other : (other : Timer) (cell : Cell) (cells : List NamedCell) → is_timer timer other ≡ false
+      → cell_under timer (with_cell other cell cells) ≡ cell_under timer cells
+  under-other other cell [] n = refl
+  under-other other cell (named ∷ cells) n = grind (decide, under-other other cell cells n)
 
-pub cell-armed_other : (timer other : Timer) (cell : Cell) (timers : Timers) → is_timer timer other ≡ false
-    → cell_of timer (armed_with other cell timers) ≡ cell_of timer timers
-cell-armed_other = grind (decide, under-other)
+  pub cell-armed_other : (other : Timer) (cell : Cell) (timers : Timers) → is_timer timer other ≡ false
+      → cell_of timer (armed_with other cell timers) ≡ cell_of timer timers
+  cell-armed_other = grind (decide, under-other)
 
-under-own : (timer : Timer) (cell : Cell) (cells : List NamedCell) → list_any (is_timer timer) (cell_names cells) ≡ true
-    → cell_under timer (with_cell timer cell cells) ≡ cell
-under-own timer cell [] n = absurd (cc)
-under-own timer cell (named ∷ cells) n = grind (decide, under-own timer cell cells)
+  under-own : (cell : Cell) (cells : List NamedCell) → list_any (is_timer timer) (cell_names cells) ≡ true
+      → cell_under timer (with_cell timer cell cells) ≡ cell
+  under-own cell [] n = absurd (cc)
+  under-own cell (named ∷ cells) n = grind (decide, under-own cell cells)
 
 -- every application has its event timers
 
@@ -67,12 +69,13 @@ in_range from n p low high =
     list_any_at (λ k. k == p) (range_with_len from n) (p - from) 0 (omega (arith, length-range_with_len from n))
     (eq-eqb _ p (get_or-range_with_len from n (p - from) 0 (omega arith) ∙ omega arith))
 
-event_timer-named : (o : OwnTimer) → nat_le 4 o.p ≡ true → nat_lt o.p 20 ≡ true → nat_le o.t 7 ≡ true → list_any (is_timer (own_timer o)) all_timers ≡ true
+event_timer-named : (o : OwnTimer) → nat_le 4 o.p ≡ true → nat_lt o.p 20 ≡ true → nat_le o.t 7 ≡ true
+    → list_any (is_timer (own_timer o)) all_timers ≡ true
 unfolding all_timers
 event_timer-named = grind decide
 
-pub cell-armed_own : (o : OwnTimer) (cell : Cell) (timers : Timers) → cell_names timers.cells ≡ all_timers → nat_le 4 o.p ≡ true → nat_lt o.p 20 ≡ true → nat_le o.t 7 ≡ true
-    → cell_of (own_timer o) (armed_with (own_timer o) cell timers) ≡ cell
+pub cell-armed_own : (o : OwnTimer) (cell : Cell) (timers : Timers) → cell_names timers.cells ≡ all_timers → nat_le 4 o.p ≡ true
+    → nat_lt o.p 20 ≡ true → nat_le o.t 7 ≡ true → cell_of (own_timer o) (armed_with (own_timer o) cell timers) ≡ cell
 cell-armed_own = grind (decide, under-own, event_timer-named)
 
 -- the list
@@ -81,7 +84,8 @@ pub armed-other : (timer other : Timer) (cell : Cell) (timers : Timers) → is_t
     → is_armed timer (armed_with other cell timers) ≡ is_armed timer timers
 armed-other = grind decide
 
-pub stopped-own : (timer : Timer) (armed : List Timer) → list_any (is_timer timer) (filter (λ other. not (is_timer timer other)) armed) ≡ false
+pub stopped-own : (timer : Timer) (armed : List Timer)
+    → list_any (is_timer timer) (filter (λ other. not (is_timer timer other)) armed) ≡ false
 stopped-own timer [] = refl
 stopped-own timer (x ∷ xs) = grind (decide, stopped-own timer xs)
 

@@ -1,6 +1,6 @@
 -- While a timer is due, etimer is marked or its POLL is on the agenda.
 use Rattle.std.proofs.Common.{◌≡◌, ℕ, Bool, true, false, not, ◌&&◌, ◌||◌, List, [], ◌∷◌, refl, ◌∙◌, arith, Some, is_some, find, filter, if◌then◌else◌, ◌==◌, ap, Option}
-use Rattle.run_laws.proofs.Common.{list_any, decide, Stimulus, Event, Origin, POLL, State, Item, Process, is_process, is_marked, with_state, with_mark, without, Scheduler, after_item, in_front, Timer, is_timer, is_event_timer_of, is_callback_timer_of, Timers, is_due, stop_timer, without_callback_timers, Machine, scheduled, with_event, with_timers, free_places, mark, serve, times, post_expiry, post_first_due, post_due, is_any_due, forget_callback_timers, list_any-append, Call, Refusal, Input, is_any_marked, event_timer, set_timer, reset_timer, restart_timer, Config, after_call, refused_or, answer_done, effect, at_start, timer_refusal, reset_refusal}
+use Rattle.run_laws.proofs.Common.{decide, list_any, decide, Stimulus, Event, Origin, POLL, State, Item, Process, is_process, is_marked, with_state, with_mark, without, Scheduler, after_item, in_front, Timer, is_timer, is_event_timer_of, is_callback_timer_of, Timers, is_due, stop_timer, without_callback_timers, Machine, scheduled, with_event, with_timers, free_places, mark, serve, times, post_expiry, post_first_due, post_due, is_any_due, forget_callback_timers, list_any-append, Call, Refusal, Input, is_any_marked, event_timer, set_timer, reset_timer, restart_timer, Config, after_call, refused_or, answer_done, effect, at_start, timer_refusal, reset_refusal}
 use Rattle.run_laws.proofs.Changes.{Changes, of_changes, with_devices, times-keeps}
 use Rattle.run_laws.proofs.event_order.Items.{with_agenda, facing}
 use Rattle.run_laws.proofs.timer_deadlines.Fronts.{carried-any, after-any}
