@@ -83,13 +83,13 @@ fn dump(alloc: Global, lines: &[&str], named: &Named<'_>) -> Result<Vec<u8>, Fai
     if is_quiet(lines) {
         return Err(Failure::Quiet);
     }
-    let settings = run_facts::Settings {
+    let settings = picture_facts::dump::Settings {
         names: named.names.as_slice(),
         from: named.from,
         to: named.to,
         sizes: named.sizes,
     };
-    Ok(run_facts::wave_of(alloc, lines, &settings)?)
+    Ok(picture_facts::dump::wave_of(alloc, lines, &settings)?)
 }
 
 /// Draws what the words ask for. Nothing is written before all lines are read.

@@ -4,10 +4,12 @@
 use crate::data::Data;
 use crate::page::Settings;
 use crate::told::{answer_in, push_line};
-use run_facts::{Facts, is_quiet};
-use run_memory::Stay;
-use run_rows::{Marks, Shown};
+use picture_facts::facts::Facts;
+use picture_facts::marks::Marks;
+use picture_facts::memory::Stay;
+use picture_facts::rows::Shown;
 use std::alloc::{AllocError, Global};
+use transcript_lines::is_quiet;
 
 /// A list of numbers.
 #[derive(Drop)]

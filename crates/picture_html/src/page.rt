@@ -8,9 +8,9 @@ ghost use Rattle.picture_html.specs.Page.{begins_with, IsPage};
 use crate::data::Data;
 use crate::members::rest_of;
 use crate::template::{BACK, FRONT};
-use run_facts::facts_of;
-use run_memory::Sizes;
-use run_rows::{Shown, shown_of};
+use picture_facts::facts::facts_of;
+use picture_facts::memory::Sizes;
+use picture_facts::rows::{Shown, shown_of};
 use std::alloc::{AllocError, Global};
 
 /// What a page tells of a run besides its transcript.

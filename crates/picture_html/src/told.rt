@@ -1,6 +1,6 @@
 //! What a line tells, in the words that a picture has for it.
 
-use run_words::{push_answer, push_call, push_ending, push_input, push_note, push_told};
+use picture_facts::words::{push_answer, push_call, push_ending, push_input, push_note, push_told};
 use std::alloc::{AllocError, Global};
 use transcript_lines::{Line, Origin, Turn, read_line};
 

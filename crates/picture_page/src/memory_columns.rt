@@ -5,8 +5,8 @@ ghost use Rattle.picture_page.specs.Places.{capped, end_of, row_middle};
 
 use crate::page::{Page, ROW};
 use crate::pen::{Area, Pen, Place};
-use run_memory::managed::FRAMES;
-use run_memory::{Sizes, Stay};
+use picture_facts::memory::managed::FRAMES;
+use picture_facts::memory::{Sizes, Stay};
 use std::alloc::{AllocError, Global};
 
 /// The least width of a box with a name in it.

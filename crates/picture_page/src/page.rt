@@ -5,7 +5,7 @@ ghost use Rattle.picture_page.specs.Places as spec;
 ghost use Rattle.picture_page.specs.Places.{capped, lane_width};
 
 use crate::pen::Place;
-use run_memory::Stay;
+use picture_facts::memory::Stay;
 
 /// The height of a row.
 pub const ROW: usize = 17;

@@ -5,8 +5,8 @@ ghost use Rattle.picture_page.specs.Places.{end_of, row_middle};
 
 use crate::page::{POOL, Page};
 use crate::pen::{Area, Pen, Place};
-use run_memory::Stay;
-use run_memory::pools::BLOCKS;
+use picture_facts::memory::Stay;
+use picture_facts::memory::pools::BLOCKS;
 use std::alloc::{AllocError, Global};
 
 /// How many pools there are.

@@ -1,8 +1,8 @@
 -- What titles tell, at small values.
 use Rattle.std.proofs.Common.{◌≡◌, ◌≤◌, ◌-◌, ◌^◌, ℕ, Bool, true, List, [], ◌∷◌, All, codes, flat_map, refl, arith, slice_range, take}
 use Rattle.std.specs.Fmt.{digits}
-use Rattle.run_rows.specs.declared.row.Show.{Show}
-use Rattle.run_rows.specs.Rows.{Cover, IsTrueRow}
+use Rattle.picture_facts.specs.declared.rows.row.Show.{Show}
+use Rattle.picture_facts.specs.Rows.{Cover, IsTrueRow}
 use Rattle.run_picture.specs.Titles.{AreShown, IsPicture, ShowsRows, ended_lines, title_of}
 
 abbrev lines : List (List ℕ)

@@ -7,10 +7,10 @@ use Rattle.std.proofs.lemmas.List.Elements.{All-nil, All-cons, All-head, All-tai
 use Rattle.std.proofs.lemmas.Grind.{flat_map-append}
 use Rattle.std.proofs.Math.Seq.{take-add}
 use denote.Ref.{Bor}
-use Rattle.run_rows.specs.declared.row.Row.{Row}
-use Rattle.run_rows.specs.declared.row.Show.{Show}
-use Rattle.run_rows.specs.declared.rows.Shown.{Shown}
-use Rattle.run_rows.specs.Rows.{Cover, IsPlain, IsTrueRow, bytes_of}
+use Rattle.picture_facts.specs.declared.rows.row.Row.{Row}
+use Rattle.picture_facts.specs.declared.rows.row.Show.{Show}
+use Rattle.picture_facts.specs.declared.rows.Shown.{Shown}
+use Rattle.picture_facts.specs.Rows.{Cover, IsPlain, IsTrueRow, bytes_of}
 use Rattle.run_picture.specs.Titles.{title_by, title_of, ended_lines, AreShown, ShowsRows, IsPicture}
 
 -- they end where they begin, or behind it

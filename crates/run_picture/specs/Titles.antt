@@ -5,11 +5,11 @@ use Rattle.picture_markup.specs.declared.names.Tag.{Tag}
 use Rattle.picture_markup.specs.Markup.{AreAttributes, IsContent, element_text}
 use Rattle.picture_markup.specs.Parts.{Parts, text_of}
 use Rattle.picture_page.specs.Elements.{title_element}
-use Rattle.run_rows.specs.declared.row.Row.{Row}
-use Rattle.run_rows.specs.declared.row.Show.{Show}
-use Rattle.run_rows.specs.declared.rows.Shown.{Shown}
-use Rattle.run_rows.specs.Clocks.{LieBetween}
-use Rattle.run_rows.specs.Rows.{Cover, IsTrueRow}
+use Rattle.picture_facts.specs.declared.rows.row.Row.{Row}
+use Rattle.picture_facts.specs.declared.rows.row.Show.{Show}
+use Rattle.picture_facts.specs.declared.rows.Shown.{Shown}
+use Rattle.picture_facts.specs.Clocks.{LieBetween}
+use Rattle.picture_facts.specs.Rows.{Cover, IsTrueRow}
 
 -- the lines, a line end behind each
 abbrev pub ended_lines : List (List ℕ) → List ℕ

@@ -1,13 +1,14 @@
 //! The shapes and words of a picture.
 
 use crate::grounds::lines_of;
+use picture_facts::marks::{Activation, Curve, Gift, Life, Marks};
+use picture_facts::rows::{Row, Show};
+use picture_facts::words::{
+    push_answer, push_call, push_ending, push_input, push_note, push_told, refusal_in,
+};
 use picture_markup::Element;
 use picture_page::page::{CLOCK, Page, ROW};
 use picture_page::pen::{Area, Pen, Place, text_element, with_span};
-use run_rows::{Activation, Curve, Gift, Life, Marks, Row, Show};
-use run_words::{
-    push_answer, push_call, push_ending, push_input, push_note, push_told, refusal_in,
-};
 use std::alloc::{AllocError, Global};
 use transcript_lines::{Line, Origin, Turn, read_line, read_turn};
 

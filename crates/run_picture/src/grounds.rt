@@ -3,12 +3,12 @@
 ghost use Rattle.std.specs.Prelude.{◌≡◌, ◌+◌, ◌^◌, ◌<◌, ◌≤◌, length, string_bytes, All, IfOk};
 ghost use Rattle.run_picture.specs.Titles as spec;
 ghost use Rattle.run_picture.specs.Titles.{ended_lines, IsGround, AreGrounds};
-ghost use Rattle.run_rows.specs.Rows.{bytes_of};
+ghost use Rattle.picture_facts.specs.Rows.{bytes_of};
 
+use picture_facts::rows::{Row, Show};
 use picture_markup::{Content, Element};
 use picture_page::page::{Page, ROW};
 use picture_page::pen::{Area, Place, area_element, title_element};
-use run_rows::{Row, Show};
 use std::alloc::{AllocError, Global};
 
 /// The lines, a line end behind each.

@@ -1,9 +1,9 @@
 //! The head of a picture: its style, what was run, the numbers of the run, and the names of the columns.
 
 use crate::style::{COLOURS, STYLE};
+use picture_facts::marks::Tally;
 use picture_page::page::{CLOCK, Page, ROW};
 use picture_page::pen::{Area, Pen, Place};
-use run_rows::Tally;
 use std::alloc::{AllocError, Global};
 
 /// Where the lines of the head begin.

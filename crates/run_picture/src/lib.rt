@@ -11,6 +11,6 @@ mod style;
 mod timer_lines;
 
 pub use picture::{Picture, Settings, draw};
+pub use picture_facts::memory::Sizes;
 pub use reading::{Unreadable, lines_of};
-pub use run_memory::Sizes;
 pub use transcript_lines::is_quiet;

@@ -2,7 +2,7 @@
 
 ghost use Rattle.std.specs.Prelude.{◌≡◌, ◌≤◌, [], ◌++◌, length, IfOk};
 ghost use Rattle.picture_markup.specs.Markup.{IsDocument};
-ghost use Rattle.run_rows.specs.Rows.{Cover, bytes_of};
+ghost use Rattle.picture_facts.specs.Rows.{Cover, bytes_of};
 ghost use Rattle.run_picture.specs.Titles.{IsDrawn, ShowsRows, IsPicture};
 
 use crate::drawing::{draw_activations, draw_curves, draw_gifts, draw_lives, draw_words};
@@ -13,13 +13,14 @@ use crate::head::{
 };
 use crate::strip::{draw_strip, height_of};
 use crate::timer_lines::draw_timers;
+use picture_facts::marks::{Marks, marks_of};
+use picture_facts::memory::{Sizes, Stays};
+use picture_facts::rows::{Row, Shown, rows_of, shown_of};
 use picture_markup::{Attribute, Content, Element, Tag};
 use picture_page::memory_columns::{draw_heap, draw_managed};
 use picture_page::page::{Columns, Page};
 use picture_page::pen::Pen;
 use picture_page::pool_columns::{Pools, draw_pools};
-use run_memory::{Sizes, Stays};
-use run_rows::{Marks, Row, Shown, marks_of, rows_of, shown_of};
 use std::alloc::{AllocError, Global};
 use transcript_lines::{Ending, Line, read_line};
 

@@ -1,8 +1,8 @@
 //! The overview: the whole run on one narrow band, from left to right.
 
+use picture_facts::marks::{Activation, Marks};
 use picture_page::page::{CLOCK, Page};
 use picture_page::pen::{Area, Pen, Place};
-use run_rows::{Activation, Marks};
 use std::alloc::{AllocError, Global};
 
 /// The height of a process's lane, with the room below it.

@@ -1,8 +1,8 @@
 //! The lines of the timers, beside the lanes of their processes.
 
+use picture_facts::marks::{Arming, is_callback, number_in_kind};
 use picture_page::page::{Page, ROW};
 use picture_page::pen::Pen;
-use run_rows::{Arming, is_callback, number_in_kind};
 use std::alloc::{AllocError, Global};
 
 /// Where a timer's line stands: those of event timers left of the lane, those of callback timers right of it.

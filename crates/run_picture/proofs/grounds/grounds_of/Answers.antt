@@ -1,5 +1,5 @@
 use Rattle.std.proofs.lemmas.List.{take_more}
-use Rattle.run_rows.specs.declared.row.Show.{Show}
+use Rattle.picture_facts.specs.declared.rows.row.Show.{Show}
 use Rattle.run_picture.specs.Titles.AreGrounds.{none, one_more}
 use Rattle.run_picture.proofs.grounds.grounds_of.Goals as goal
 

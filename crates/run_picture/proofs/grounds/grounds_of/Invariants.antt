@@ -1,6 +1,6 @@
 use Rattle.std.proofs.Common.{take}
 use Rattle.run_picture.specs.Titles.{AreGrounds}
-use Rattle.run_rows.specs.Rows.{bytes_of}
+use Rattle.picture_facts.specs.Rows.{bytes_of}
 use Rattle.run_picture.proofs.grounds.grounds_of.Given as goal
 
 abbrev pub invariant-loop-row : goal.invariant-loop-row

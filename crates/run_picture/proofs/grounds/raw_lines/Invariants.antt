@@ -1,6 +1,6 @@
 use Rattle.std.proofs.Common.{◌≡◌, ◌++◌, take, string_bytes}
 use Rattle.run_picture.specs.Titles.{ended_lines}
-use Rattle.run_rows.specs.Rows.{bytes_of}
+use Rattle.picture_facts.specs.Rows.{bytes_of}
 use Rattle.run_picture.proofs.grounds.raw_lines.Given as goal
 
 abbrev pub invariant-loop-line : goal.invariant-loop-line

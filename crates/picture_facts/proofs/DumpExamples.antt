@@ -1,0 +1,22 @@
+-- Lines of a dump, at small values.
+use Rattle.std.proofs.Common.{◌≡◌, codes, refl}
+use Rattle.std.specs.Fmt.{digits}
+use Rattle.picture_facts.specs.declared.dump.values.Value.{Value}
+use Rattle.picture_facts.specs.Dump.{time_line, value_line}
+
+-- a time
+time : time_line 120 ≡ codes "#120\n"
+unfolding digits
+time = refl
+
+-- a number, by the first signal
+number : value_line (Value.Number 5) 0 ≡ codes "b101 !\n"
+unfolding digits
+number = refl
+
+-- values that are no numbers
+unknown : value_line Value.Unknown 2 ≡ codes "bx #\n"
+unknown = refl
+
+nothing : value_line Value.Nothing 0 ≡ codes "bz !\n"
+nothing = refl

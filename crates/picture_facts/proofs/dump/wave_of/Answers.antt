@@ -1,0 +1,14 @@
+use Rattle.std.proofs.lemmas.Result.{IfOk-weaker}
+use Rattle.picture_facts.proofs.dump.wave_of.Goals as goal
+
+pub returns : goal.returns
+returns c =
+    IfOk-weaker c.whole.result _ _
+    (λ bytes same. record {
+      declarations = c.as_str.result.now;
+      values = c.in_ok-dump.dump;
+      last = c.goes_on.ensures.0;
+      are_changes = c.goes_on.ensures.1;
+      whole = same;
+    })
+    c.whole.ensures

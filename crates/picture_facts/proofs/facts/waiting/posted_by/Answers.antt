@@ -1,0 +1,10 @@
+use Rattle.picture_facts.specs.Posts.Posts.{to_all, to_one}
+use Rattle.picture_facts.proofs.facts.waiting.posted_by.Goals as goal
+
+pub returns-in-broadcast : goal.returns-in-broadcast
+returns-in-broadcast c = rw (c.in_ok-word.ensures, c.in-broadcast.is) (to_all c.in_ok-word.rest.now)
+
+pub returns-in_ok-to-in-post-2 : goal.returns-in_ok-to-in-post-2
+returns-in_ok-to-in-post-2 c =
+    rw (c.in_ok-word.ensures, c.in-post.is, c.in_ok-to-in-post.ensures, c.in_ok-to-in-post-2.ensures)
+    (to_one c.in_ok-to-in-post.to.now c.in_ok-to-in-post.event.now)

@@ -1,0 +1,32 @@
+-- What accepted calls do to a list of a pool's blocks.
+use Rattle.std.specs.Prelude.{ℕ, ◌+◌, not, ◌||◌, ◌==◌, Option, Some, None, List, ◌∷◌, [], ◌++◌, length, filter, position, insert, bytes_eq, codes, if◌then◌else◌}
+use Rattle.picture_facts.specs.declared.facts.chains.ListChange.{ListChange}
+
+-- the list without a block
+abbrev pub without : ℕ → List ℕ → List ℕ
+without block blocks = filter (λ other. not (other == block)) blocks
+
+-- the place behind the one that was found, or the end
+abbrev pub behind : Option ℕ → ℕ → ℕ
+behind (Some place) end = place + 1
+behind None end = end
+
+abbrev pub place_behind : ℕ → List ℕ → ℕ
+place_behind block blocks = behind (position (λ other. other == block) blocks) (length blocks)
+
+-- the list after a change: a block that is put into it leaves its old place first
+abbrev pub changed : ListChange → List ℕ → List ℕ
+changed (ListChange.Append block) blocks = without block blocks ++ block ∷ []
+changed (ListChange.Prepend block) blocks = block ∷ without block blocks
+changed (ListChange.PutBehind other block) blocks = insert (without block blocks) (place_behind other (without block blocks)) block
+changed (ListChange.Remove block) blocks = without block blocks
+
+-- what a call changes, by its word, its first number behind the list's and its last one, and the number that it was answered
+abbrev pub change_by : List ℕ → ℕ → ℕ → ℕ → Option ListChange
+change_by word first last answer =
+    if bytes_eq word (codes "list-add") then Some (ListChange.Append last)
+    else if bytes_eq word (codes "list-push") then Some (ListChange.Prepend last)
+    else if bytes_eq word (codes "list-insert") then Some (ListChange.PutBehind first last)
+    else if bytes_eq word (codes "list-remove") then Some (ListChange.Remove last)
+    else if bytes_eq word (codes "list-pop") || bytes_eq word (codes "list-chop") then Some (ListChange.Remove answer)
+    else None

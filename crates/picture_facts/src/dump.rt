@@ -1,0 +1,201 @@
+//! All that holds at the lines of a run as a value change dump (IEEE 1364, clause 18), for the viewers of logic analysers.
+
+ghost use Rattle.std.specs.Prelude.{◌≡◌, ℕ, ◌++◌, codes, string_bytes, IfOk};
+ghost use Rattle.picture_facts.specs.Dump.{AreChanges, IsDump};
+
+mod changes;
+mod declarations;
+mod levels;
+mod signal;
+pub mod values;
+
+use crate::facts::{Facts, facts_of};
+use crate::memory::Sizes;
+use crate::rows::{Shown, shown_of};
+use changes::{Change, changes_of};
+use declarations::{Scale, declarations};
+use levels::Levels;
+use signal::{COMMON, FIRST, SIGNALS, Signal};
+use std::alloc::{AllocError, Global};
+use values::{Dump, Value};
+
+/// What a dump tells of a run besides its transcript.
+#[derive(Clone, Copy, Drop)]
+pub struct Settings<'a> {
+    /// The names of processes 4, 5, ..; those behind them have none.
+    pub names: &'a [&'a str],
+    /// The clock at the first line that is told, in ticks.
+    pub from: u64,
+    /// The clock at the last line that is told.
+    pub to: u64,
+    /// The sizes of the mote's memory.
+    pub sizes: Sizes,
+}
+
+/// The clocks of the lines that are told.
+fn clocks_of(facts: &Facts, shown: Shown) -> &[u64] {
+    let clocks = facts.marks.clocks.as_slice();
+    let end = shown.end.min(clocks.len());
+    let first = shown.first.min(end);
+    &clocks[first..end]
+}
+
+/// How many lines come at one clock at most.
+fn most_at_once(clocks: &[u64]) -> u64 {
+    let mut most: u64 = 0;
+    let mut count: u64 = 0;
+    let mut before = None;
+    for clock in clocks {
+        count = if before == Some(*clock) {
+            count.saturating_add(1)
+        } else {
+            1
+        };
+        most = most.max(count);
+        before = Some(*clock);
+    }
+    most
+}
+
+/// A walk over the lines.
+#[derive(Drop)]
+struct Walk {
+    levels: Levels,
+    dump: Dump,
+    /// The values that stand in the dump.
+    told: [Option<Value>; SIGNALS],
+    applications: usize,
+    scale: Scale,
+    clock: u64,
+    /// How many lines came at this clock.
+    place: u64,
+}
+
+impl Walk {
+    /// A signal's value is told, where it is another one than before.
+    fn tell(&mut self, signal: Signal) -> Result<(), AllocError> {
+        let value = self.levels.value(signal);
+        let place = signal.place();
+        let Some(told) = self.told.get_mut(place as usize) else {
+            return Ok(());
+        };
+        if *told == Some(value) {
+            return Ok(());
+        }
+        *told = Some(value);
+        let time = self.clock.saturating_mul(self.scale.units);
+        self.dump.go_to(time.saturating_add(self.place))?;
+        self.dump.set(place, value)
+    }
+
+    /// The values that are other ones than before are told at the time that has come.
+    fn tell_all(&mut self) -> Result<(), AllocError> {
+        for signal in COMMON {
+            self.tell(signal)?;
+        }
+        for place in 0..self.applications {
+            self.tell(Signal::Process(place.saturating_add(FIRST)))?;
+        }
+        Ok(())
+    }
+
+    /// No line is left at this clock.
+    fn rest(&mut self) -> Result<(), AllocError> {
+        self.levels.rest();
+        self.tell_all()
+    }
+
+    /// A line at a clock, behind these changes.
+    fn take_line(&mut self, line: &str, clock: u64) -> Result<(), AllocError> {
+        if clock != self.clock {
+            self.rest()?;
+            self.clock = clock;
+            self.place = 0;
+        }
+        self.levels.take_line(line);
+        self.tell_all()?;
+        self.place = self.place.saturating_add(1);
+        Ok(())
+    }
+
+    /// The last clock goes by.
+    fn finish(mut self) -> Result<Dump, AllocError> {
+        self.rest()?;
+        let end = self.clock.saturating_add(1);
+        self.dump.go_to(end.saturating_mul(self.scale.units))?;
+        Ok(self.dump)
+    }
+}
+
+/// The changes that come at a line or before it, and the others.
+fn parted(changes: &[Change], line: usize) -> (&[Change], &[Change]) {
+    let later = changes.iter().position(|change| change.line > line);
+    let count = later.unwrap_or(changes.len()).min(changes.len());
+    changes.split_at(count)
+}
+
+/// The values of the lines that are told.
+fn walk_over(
+    alloc: Global,
+    mut walk: Walk,
+    lines: &[&str],
+    shown: Shown,
+    facts: &Facts,
+) -> Result<Dump, AllocError> {
+    let changes = changes_of(alloc, facts)?;
+    let mut left = changes.as_slice();
+    let clocks = clocks_of(facts, shown).iter();
+    for (number, (line, clock)) in lines.iter().zip(clocks).enumerate() {
+        let number = number.saturating_add(shown.first);
+        let (due, later) = parted(left, number);
+        walk.levels.apply_all(due);
+        left = later;
+        walk.take_line(line, *clock)?;
+    }
+    walk.finish()
+}
+
+/// The declarations and the values as one text.
+fn whole(alloc: Global, declarations: &str, dump: &Dump) -> Result<Vec<u8>, AllocError>
+    ensures { IfOk result (λ bytes. bytes.items ≡ declarations.now ++ codes "$enddefinitions $end\n" ++ dump.now) }
+{
+    let mut bytes = Vec::new(alloc);
+    bytes.extend_from_slice(declarations.as_bytes())?;
+    bytes.extend_from_slice(b"$enddefinitions $end\n")?;
+    bytes.extend_from_slice(dump.bytes())?;
+    Ok(bytes)
+}
+
+/// The dump of a run, from the lines of its transcript: declarations, and values at times that never go back.
+///
+/// # Errors
+///
+/// `AllocError` where memory was refused.
+pub fn wave_of(
+    alloc: Global,
+    lines: &[&str],
+    settings: &Settings<'_>,
+) -> Result<Vec<u8>, AllocError>
+    ensures { IfOk result (λ bytes. IsDump bytes.items) }
+{
+    let facts = facts_of(alloc, lines, settings.sizes)?;
+    let shown = shown_of(lines, settings.from, settings.to);
+    let clocks = clocks_of(&facts, shown);
+    let clock = clocks.first().copied().unwrap_or(0);
+    let scale = Scale::of(most_at_once(clocks));
+    let applications = facts.marks.processes.saturating_sub(FIRST);
+    let applications = applications.max(settings.names.len()).min(16);
+    let walk = Walk {
+        levels: Levels::new(settings.sizes),
+        dump: Dump::new(alloc, clock.saturating_mul(scale.units))?,
+        told: [None; SIGNALS],
+        applications,
+        scale,
+        clock,
+        place: 0,
+    };
+    let head = declarations(alloc, scale, settings.names, applications)?;
+    let dump = walk_over(alloc, walk, &lines[shown.first..shown.end], shown, &facts)?;
+    dump.goes_on();
+    whole(alloc, head.as_str(), &dump)
+}

@@ -1,0 +1,107 @@
+//! What changes from one line of a run to the next.
+
+use crate::facts::Facts;
+use crate::memory::Stay;
+use std::alloc::{AllocError, Global};
+
+/// What is counted.
+#[derive(Clone, Copy, Drop)]
+pub(crate) enum Level {
+    Queue,
+    Managed,
+    Heap,
+    Timers,
+    /// Whether the process is there.
+    Life(usize),
+    /// Whether it is in an activation.
+    Activation(usize),
+}
+
+/// A level rises or falls at a line.
+#[derive(Clone, Copy, Drop)]
+pub(crate) struct Change {
+    pub(crate) line: usize,
+    pub(crate) level: Level,
+    pub(crate) amount: u64,
+    pub(crate) rises: bool,
+}
+
+/// The changes of a run.
+#[derive(Drop)]
+struct Changes {
+    changes: Vec<Change>,
+}
+
+impl Changes {
+    /// A level is higher by so much from a line on, up to another one.
+    fn push(
+        &mut self,
+        level: Level,
+        amount: u64,
+        first: usize,
+        end: Option<usize>,
+    ) -> Result<(), AllocError> {
+        self.changes.push(Change {
+            line: first,
+            level,
+            amount,
+            rises: true,
+        })?;
+        if let Some(line) = end {
+            self.changes.push(Change {
+                line,
+                level,
+                amount,
+                rises: false,
+            })?;
+        }
+        Ok(())
+    }
+
+    fn push_stays(&mut self, level: Level, stays: &[Stay]) -> Result<(), AllocError> {
+        for stay in stays {
+            self.push(level, stay.taken, stay.first, stay.last)?;
+        }
+        Ok(())
+    }
+
+    fn push_processes(&mut self, facts: &Facts) -> Result<(), AllocError> {
+        for life in facts.marks.lives.as_slice() {
+            self.push(Level::Life(life.pid), 1, life.first, life.end)?;
+        }
+        for activation in facts.marks.activations.as_slice() {
+            let end = activation.last.saturating_add(1);
+            self.push(
+                Level::Activation(activation.pid),
+                1,
+                activation.first,
+                Some(end),
+            )?;
+        }
+        Ok(())
+    }
+
+    fn push_counts(&mut self, facts: &Facts) -> Result<(), AllocError> {
+        for wait in facts.waits.as_slice() {
+            self.push(Level::Queue, 1, wait.line, wait.end)?;
+        }
+        for arming in facts.marks.armings.as_slice() {
+            self.push(Level::Timers, 1, arming.first, arming.last)?;
+        }
+        Ok(())
+    }
+}
+
+/// What changes in a run, line by line.
+pub(crate) fn changes_of(alloc: Global, facts: &Facts) -> Result<Vec<Change>, AllocError> {
+    let mut found = Changes {
+        changes: Vec::new(alloc),
+    };
+    found.push_processes(facts)?;
+    found.push_counts(facts)?;
+    found.push_stays(Level::Managed, facts.marks.stays.managed.as_slice())?;
+    found.push_stays(Level::Heap, facts.marks.stays.heap.as_slice())?;
+    let mut changes = found.changes;
+    changes.sort_by_key(|change| change.line)?;
+    Ok(changes)
+}

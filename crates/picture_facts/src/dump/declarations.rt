@@ -1,0 +1,105 @@
+//! The declarations of a dump.
+
+use crate::dump::signal::{COMMON, FIRST, Signal};
+use std::alloc::{AllocError, Global};
+
+/// What the values mean, as a comment.
+const COMMENT: &str = "\
+$comment
+One second stands for one tick of the mote's clock. The lines of a transcript that come at one clock stand one
+behind the other, a unit of time each. At each line:
+running is the process that takes its turn (z: none), queue counts the events that applications posted and that
+wait, managed_free and heap_free are the bytes that no block takes (x: not known), timers counts those that are
+armed and not told yet, and a process is 0 (not there), 1 (it waits), 2 (in an activation, beneath another one's)
+or 3 (it takes its turn).
+$end
+";
+
+/// Units of time, each a tenth of the one before it.
+const UNITS: [&str; 16] = [
+    "1 s", "100 ms", "10 ms", "1 ms", "100 us", "10 us", "1 us", "100 ns", "10 ns", "1 ns",
+    "100 ps", "10 ps", "1 ps", "100 fs", "10 fs", "1 fs",
+];
+
+/// How many units of time a tick has, as a power of ten: so many that each line at one clock has one, and one is left.
+#[derive(Clone, Copy, Drop)]
+pub(crate) struct Scale {
+    /// Which of the units it is.
+    place: usize,
+    pub(crate) units: u64,
+}
+
+impl Scale {
+    /// The scale where so many lines come at one clock at most.
+    pub(crate) fn of(most: u64) -> Scale {
+        let mut scale = Scale {
+            place: 1,
+            units: 10,
+        };
+        for _unit in 2..UNITS.len() {
+            if scale.units <= most {
+                scale.place = scale.place.saturating_add(1);
+                scale.units = scale.units.saturating_mul(10);
+            }
+        }
+        scale
+    }
+
+    fn name(self) -> &'static str {
+        UNITS.get(self.place).copied().unwrap_or("1 fs")
+    }
+}
+
+/// Appends a name as an identifier may have it: what is no letter, digit or `_` is a `_`.
+fn push_identifier(out: &mut String, name: &str) -> Result<(), AllocError> {
+    for letter in name.chars() {
+        let letter = if letter.is_ascii_alphanumeric() {
+            letter
+        } else {
+            '_'
+        };
+        out.push(letter)?;
+    }
+    Ok(())
+}
+
+/// Appends the declaration of a signal.
+fn push_signal(out: &mut String, signal: Signal, name: Option<&&str>) -> Result<(), AllocError> {
+    let letter = char::from(33 + signal.place());
+    write!(
+        out,
+        "$var reg {} {letter} {}",
+        signal.width(),
+        signal.name()
+    )?;
+    if let Signal::Process(pid) = signal {
+        write!(out, "_{pid}")?;
+    }
+    if let Some(name) = name {
+        out.push_str("_")?;
+        push_identifier(out, name)?;
+    }
+    out.push_str(" $end\n")
+}
+
+/// The declarations for so many applications, up to the words that end them.
+pub(crate) fn declarations(
+    alloc: Global,
+    scale: Scale,
+    names: &[&str],
+    applications: usize,
+) -> Result<String, AllocError> {
+    let mut head = String::from_str(alloc, "$version mote_picture $end\n")?;
+    head.push_str(COMMENT)?;
+    write!(head, "$timescale {} $end\n", scale.name())?;
+    head.push_str("$scope module mote $end\n")?;
+    for signal in COMMON {
+        push_signal(&mut head, signal, None)?;
+    }
+    for place in 0..applications {
+        let signal = Signal::Process(place.saturating_add(FIRST));
+        push_signal(&mut head, signal, names.get(place))?;
+    }
+    head.push_str("$upscope $end\n")?;
+    Ok(head)
+}

@@ -1,0 +1,148 @@
+//! The lists of the pools: which blocks each of them has, the head first.
+
+ghost use Rattle.std.specs.Prelude.{◌≡◌, ◌==◌, ◌<◌, ◌≤◌, length, position, IfOk, IfSome};
+ghost use Rattle.picture_facts.specs.Lists as spec;
+
+use crate::facts::accepted::Accepted;
+use crate::numbers::number_of;
+use std::alloc::{AllocError, Global};
+
+/// How many lists there are.
+const LISTS: usize = 8;
+
+/// The blocks of a list from a line on, up to its next chain.
+#[derive(Drop)]
+pub struct Chain {
+    /// The number of the line whose call makes it, from 0 on.
+    pub line: usize,
+    pub list: usize,
+    /// The numbers of its blocks in their pool, the head first.
+    pub blocks: Vec<u64>,
+}
+
+/// What an accepted call does to a list.
+#[derive(Clone, Copy, Drop)]
+pub(crate) enum ListChange {
+    /// A block is put behind all others.
+    Append(u64),
+    /// A block is put before all others.
+    Prepend(u64),
+    /// Behind the first block the second one is put.
+    PutBehind(u64, u64),
+    /// A block leaves the list.
+    Remove(u64),
+}
+
+/// The lists as the lines so far leave them.
+#[derive(Drop)]
+pub(crate) struct Lists {
+    alloc: Global,
+    lists: Vec<Vec<u64>>,
+    chains: Vec<Chain>,
+}
+
+/// What a call changes, by its word, its first number behind the list's and its last one, and the number that it was answered.
+fn change_by(word: &str, first: u64, last: u64, answer: u64) -> Option<ListChange>
+    ensures { result ≡ spec.change_by word.now first last answer }
+{
+    match word {
+        "list-add" => Some(ListChange::Append(last)),
+        "list-push" => Some(ListChange::Prepend(last)),
+        "list-insert" => Some(ListChange::PutBehind(first, last)),
+        "list-remove" => Some(ListChange::Remove(last)),
+        "list-pop" | "list-chop" => Some(ListChange::Remove(answer)),
+        _ => None,
+    }
+}
+
+/// Takes a block out of a list, if it is there.
+fn take_out(blocks: &mut Vec<u64>, block: u64)
+    ensures { blocks.new.items ≡ spec.without block blocks.old.items }
+{
+    blocks.retain(|other| *other != block);
+}
+
+/// The place of a block, if the list has it.
+fn place_of(blocks: &[u64], block: u64) -> Option<usize>
+    ensures within { IfSome result (λ place. place < length blocks.now) }
+    ensures place { result ≡ position (λ other. other == block) blocks.now }
+{
+    blocks.iter().position(|other| *other == block)
+}
+
+/// The place behind a block, or the end where the list doesn't have it.
+fn place_behind(blocks: &[u64], block: u64) -> usize
+    ensures within { result ≤ length blocks.now }
+    ensures place { result ≡ spec.place_behind block blocks.now }
+{
+    match place_of(blocks, block) {
+        Some(place) => place + 1,
+        None => blocks.len(),
+    }
+}
+
+/// Changes a list. A block that is put into it leaves its old place first.
+fn carry_out(blocks: &mut Vec<u64>, change: ListChange) -> Result<(), AllocError>
+    ensures { IfOk result (λ _. blocks.new.items ≡ spec.changed change blocks.old.items) }
+{
+    match change {
+        ListChange::Append(block) => {
+            take_out(blocks, block);
+            blocks.push(block)?;
+        }
+        ListChange::Prepend(block) => {
+            take_out(blocks, block);
+            blocks.insert(0, block)?;
+        }
+        ListChange::PutBehind(other, block) => {
+            take_out(blocks, block);
+            let place = place_behind(blocks.as_slice(), other);
+            blocks.insert(place, block)?;
+        }
+        ListChange::Remove(block) => take_out(blocks, block),
+    }
+    Ok(())
+}
+
+/// Which list a call changes, and how.
+fn read_change(call: &Accepted<'_>) -> Option<(usize, ListChange)> {
+    let mut words = call.call.split(' ');
+    let word = words.next().unwrap_or("");
+    let list = number_of(words.next()).min(LISTS as u64) as usize;
+    let first = number_of(words.next());
+    let last = words.next().map_or(first, |word| number_of(Some(word)));
+    let answer = number_of(call.answer.strip_prefix("num "));
+    Some((list, change_by(word, first, last, answer)?))
+}
+
+impl Lists {
+    pub(crate) fn new(alloc: Global) -> Result<Self, AllocError> {
+        let mut lists = Vec::new(alloc);
+        for _list in 0..LISTS {
+            lists.push(Vec::new(alloc))?;
+        }
+        Ok(Lists {
+            alloc,
+            lists,
+            chains: Vec::new(alloc),
+        })
+    }
+
+    /// A call in the line of that number was accepted.
+    pub(crate) fn carry_out(&mut self, call: &Accepted<'_>, line: usize) -> Result<(), AllocError> {
+        let Some((list, change)) = read_change(call) else {
+            return Ok(());
+        };
+        let Some(blocks) = self.lists.as_mut_slice().get_mut(list) else {
+            return Ok(());
+        };
+        carry_out(blocks, change)?;
+        let blocks = Vec::from_slice(self.alloc, blocks.as_slice())?;
+        self.chains.push(Chain { line, list, blocks })?;
+        Ok(())
+    }
+
+    pub(crate) fn finish(self) -> Vec<Chain> {
+        self.chains
+    }
+}

@@ -1,0 +1,180 @@
+//! The events that wait in the queue, as far as a transcript tells: those that applications posted. The kernel's own have no line before
+//! they are told.
+
+ghost use Rattle.std.specs.Prelude.{◌≡◌, ◌++◌, codes, IfSome};
+ghost use Rattle.std.specs.Str.Parse.{digits_value, without_leading_plus};
+ghost use Rattle.picture_facts.specs.Posts.{Posts};
+
+use crate::facts::accepted::Accepted;
+use crate::numbers::bit_of;
+use std::alloc::{AllocError, Global};
+use transcript_lines::{Origin, Turn};
+
+/// How many events a queue has room for.
+const PLACES: usize = 32;
+
+/// An event that waits from a line on, the one whose call posts it, and up to another one.
+#[derive(Clone, Copy, Drop)]
+pub struct Wait {
+    /// The number of the line whose call posts it, from 0 on.
+    pub line: usize,
+    /// The number of the line at which it is there no more. `None` where no line tells so.
+    pub end: Option<usize>,
+}
+
+/// An event that was posted.
+#[derive(Clone, Copy, Drop)]
+struct Posted<'a> {
+    line: usize,
+    /// The process that it was posted to, or all.
+    to: Option<usize>,
+    /// Its code and what it carries.
+    event: &'a str,
+}
+
+/// A broadcast that is being told, with a bit for each process that was told it.
+#[derive(Clone, Copy, Drop)]
+struct Broadcast<'a> {
+    event: &'a str,
+    told: u32,
+}
+
+/// The event queue as the lines so far leave it.
+#[derive(Drop)]
+pub(crate) struct Queue<'a> {
+    posted: Vec<Posted<'a>>,
+    broadcast: Option<Broadcast<'a>>,
+    waits: Vec<Wait>,
+}
+
+/// What stands in a text before its first space, and what behind it.
+fn parted(text: &str) -> Option<(&str, &str)>
+    ensures { IfSome result (λ parts. text.now ≡ parts.0.now ++ codes " " ++ parts.1.now) }
+{
+    text.split_once(' ')
+}
+
+/// The number that a word writes.
+fn number_in(word: &str) -> Option<usize>
+    ensures { IfSome result (λ number. number ≡ digits_value 10 (without_leading_plus word.now)) }
+{
+    word.parse::<usize>().ok()
+}
+
+/// Whom a call posts an event to, and its code and what it carries. `None` where it posts nothing.
+fn posted_by(call: &str) -> Option<(Option<usize>, &str)>
+    ensures { IfSome result (λ posted. Posts call.now posted.0 posted.1.now) }
+{
+    let (word, rest) = parted(call)?;
+    match word {
+        "broadcast" => Some((None, rest)),
+        "post" => {
+            let (to, event) = parted(rest)?;
+            let to = number_in(to)?;
+            Some((Some(to), event))
+        }
+        _ => None,
+    }
+}
+
+impl Posted<'_> {
+    /// Whether a turn may tell it.
+    fn is_told_by(&self, turn: &Turn<'_>) -> bool {
+        let is_for = match self.to {
+            Some(to) => to == turn.pid,
+            None => true,
+        };
+        is_for && self.event == turn.stimulus
+    }
+}
+
+impl<'a> Queue<'a> {
+    pub(crate) fn new(alloc: Global) -> Self {
+        Queue {
+            posted: Vec::new(alloc),
+            broadcast: None,
+            waits: Vec::new(alloc),
+        }
+    }
+
+    /// A call in the line of that number was accepted.
+    pub(crate) fn carry_out(&mut self, call: &Accepted<'a>, line: usize) -> Result<(), AllocError> {
+        let Some((to, event)) = posted_by(call.call) else {
+            return Ok(());
+        };
+        if self.posted.len() >= PLACES {
+            self.end_front(1, line)?;
+        }
+        self.posted.push(Posted { line, to, event })?;
+        Ok(())
+    }
+
+    /// So many events, the oldest ones, wait no more from a line on.
+    fn end_front(&mut self, count: usize, line: usize) -> Result<(), AllocError> {
+        let count = count.min(self.posted.len());
+        for posted in self.posted.drain(..count) {
+            self.waits.push(Wait {
+                line: posted.line,
+                end: Some(line),
+            })?;
+        }
+        Ok(())
+    }
+
+    /// An input is handed in: the mote was at rest, so no event waits.
+    pub(crate) fn take_input(&mut self, line: usize) -> Result<(), AllocError> {
+        self.broadcast = None;
+        let count = self.posted.len();
+        self.end_front(count, line)
+    }
+
+    /// Whether the broadcast that is being told is told once more. Then its process is noted.
+    fn goes_on(&mut self, turn: &Turn<'_>) -> bool {
+        let bit = bit_of(turn.pid);
+        match &mut self.broadcast {
+            Some(broadcast) if broadcast.event == turn.stimulus && broadcast.told & bit == 0 => {
+                broadcast.told |= bit;
+                true
+            }
+            _ => false,
+        }
+    }
+
+    /// A turn in the line of that number: an event that it tells left the queue with those before it, which nobody was told.
+    pub(crate) fn take_turn(&mut self, turn: &Turn<'a>, line: usize) -> Result<(), AllocError> {
+        if turn.origin != Origin::Event || self.goes_on(turn) {
+            return Ok(());
+        }
+        let told = self
+            .posted
+            .iter()
+            .position(|posted| posted.is_told_by(turn));
+        let Some(place) = told else {
+            return Ok(());
+        };
+        self.broadcast = match self.posted.as_slice().get(place) {
+            Some(posted) if posted.to.is_none() => Some(Broadcast {
+                event: turn.stimulus,
+                told: bit_of(turn.pid),
+            }),
+            _ => None,
+        };
+        self.end_front(place.saturating_add(1), line)
+    }
+
+    /// All events that waited; the last ones still do.
+    pub(crate) fn finish(self) -> Result<Vec<Wait>, AllocError> {
+        let Queue {
+            posted,
+            mut waits,
+            ..
+        } = self;
+        for posted in posted.as_slice() {
+            waits.push(Wait {
+                line: posted.line,
+                end: None,
+            })?;
+        }
+        Ok(waits)
+    }
+}

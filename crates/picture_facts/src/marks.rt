@@ -1,0 +1,490 @@
+//! What the lines of a transcript tell together: activations, lives, and what was given at once.
+
+pub mod posts;
+pub mod timers;
+
+use crate::memory::{Answered, Memory, Sizes, Stays};
+use crate::rows::{Row, Show};
+pub use posts::Curve;
+use posts::Posts;
+use std::alloc::{AllocError, Global};
+pub use timers::{Arming, is_callback, number_in_kind};
+use timers::{Moment, Timers};
+use transcript_lines::{Input, Line, Note, Origin, Turn, is_quiet, read_line, read_turn};
+
+/// Processes have numbers below this one.
+const PROCESSES: usize = 20;
+
+/// An activation of a process, from a row to a row.
+#[derive(Clone, Copy, Drop)]
+pub struct Activation {
+    pub pid: usize,
+    pub first: usize,
+    pub last: usize,
+}
+
+/// A process from its INIT to its end, where that came.
+#[derive(Clone, Copy, Drop)]
+pub struct Life {
+    pub pid: usize,
+    pub first: usize,
+    pub end: Option<usize>,
+}
+
+/// What one process gave another at once, in a row.
+#[derive(Clone, Copy, Drop)]
+pub struct Gift {
+    pub from: usize,
+    pub to: usize,
+    pub row: usize,
+}
+
+/// Numbers of a run.
+#[derive(Clone, Copy, Default, Drop)]
+pub struct Tally {
+    pub inputs: u64,
+    pub turns: u64,
+    pub printed: usize,
+    pub sent: u64,
+    pub lost: u64,
+    pub refused: u64,
+    /// Timers that were told after they were due, and by how many ticks at most.
+    pub late: u64,
+    pub latest: u64,
+}
+
+/// What the rows tell together.
+#[derive(Drop)]
+pub struct Marks {
+    /// The clock before the first row.
+    pub start: u64,
+    /// The clock at each row's end.
+    pub clocks: Vec<u64>,
+    /// For each row the number of the line with the answer to its call, from 0 on.
+    pub answers: Vec<Option<usize>>,
+    /// For each row how late the timers are that it tells: at most by so many ticks.
+    pub lateness: Vec<u64>,
+    pub activations: Vec<Activation>,
+    pub lives: Vec<Life>,
+    pub gifts: Vec<Gift>,
+    pub curves: Vec<Curve>,
+    pub armings: Vec<Arming>,
+    pub stays: Stays,
+    pub tally: Tally,
+    /// One more than the greatest number of a process that took a turn.
+    pub processes: usize,
+    /// Whether the transcript is a quiet one: then neither clocks nor answers are known, nor when a process ends.
+    pub is_quiet: bool,
+}
+
+/// A frame that came in; the next line tells whether it is lost.
+#[derive(Clone, Copy, Drop)]
+struct Arrived {
+    size: usize,
+    row: usize,
+    number: usize,
+}
+
+/// A call that isn't answered yet: its row, and the number of its line.
+#[derive(Clone, Copy, Drop)]
+struct Awaited {
+    row: usize,
+    number: usize,
+}
+
+/// A process as the lines so far leave it.
+#[derive(Clone, Copy, Drop)]
+struct Process {
+    /// The row of its INIT, while it lives.
+    born: Option<usize>,
+    /// The row where its activation began, and the last one of its turns.
+    begun: usize,
+    last: usize,
+    /// The row where its last activation ended.
+    marked: Option<usize>,
+    awaited: Option<Awaited>,
+}
+
+/// A walk over the lines.
+#[derive(Drop)]
+struct Walk {
+    clock: u64,
+    /// Whether the row's lines are repeated ones, which show as little as one of them.
+    is_folded: bool,
+    processes: [Process; PROCESSES],
+    /// The processes in an activation, the innermost last.
+    active: Vec<usize>,
+    timers: Timers,
+    memory: Memory,
+    arrived: Option<Arrived>,
+    posts: Posts,
+    marks: Marks,
+}
+
+impl Walk {
+    fn new(alloc: Global, sizes: Sizes, is_quiet: bool) -> Result<Self, AllocError> {
+        let process = Process {
+            born: None,
+            begun: 0,
+            last: 0,
+            marked: None,
+            awaited: None,
+        };
+        Ok(Walk {
+            clock: 0,
+            is_folded: false,
+            processes: [process; PROCESSES],
+            active: Vec::new(alloc),
+            timers: Timers::new(alloc)?,
+            memory: Memory::new(alloc, sizes)?,
+            arrived: None,
+            posts: Posts::new(alloc),
+            marks: Marks {
+                start: 0,
+                clocks: Vec::new(alloc),
+                answers: Vec::new(alloc),
+                lateness: Vec::new(alloc),
+                activations: Vec::new(alloc),
+                lives: Vec::new(alloc),
+                gifts: Vec::new(alloc),
+                curves: Vec::new(alloc),
+                armings: Vec::new(alloc),
+                stays: Stays::new(alloc),
+                tally: Tally::default(),
+                processes: 0,
+                is_quiet,
+            },
+        })
+    }
+
+    fn take_input(&mut self, input: &Input<'_>, row: usize, number: usize) {
+        let tally = &mut self.marks.tally;
+        tally.inputs = tally.inputs.saturating_add(1);
+        match *input {
+            Input::Tick(ticks) => self.clock = self.clock.saturating_add(ticks),
+            Input::Frame(digits) => {
+                let size = digits.len() / 2;
+                self.arrived = Some(Arrived { size, row, number });
+            }
+            Input::Serial(_) => {}
+        }
+    }
+
+    /// The frame that came in last is held, if it is not lost.
+    fn hold_frame(&mut self) -> Result<(), AllocError> {
+        match self.arrived.take() {
+            Some(Arrived { size, row, number }) => { self.memory.hold_frame(size, row, number) }
+            None => Ok(()),
+        }
+    }
+
+    fn take_note(&mut self, note: &Note<'_>) -> Result<(), AllocError> {
+        let tally = &mut self.marks.tally;
+        match *note {
+            Note::Lost(reason) => {
+                tally.lost = tally.lost.saturating_add(1);
+                if let Some(Arrived { size, number, .. }) = self.arrived.take() {
+                    self.memory.lose_frame(size, reason, number);
+                }
+            }
+            Note::Sent(_) => tally.sent = tally.sent.saturating_add(1),
+        }
+        self.hold_frame()
+    }
+
+    /// A process ends in a row.
+    fn end_life(&mut self, pid: usize, row: usize) -> Result<(), AllocError> {
+        self.timers.end_all(pid, row)?;
+        let Some(process) = self.processes.get_mut(pid) else {
+            return Ok(());
+        };
+        match process.born.take() {
+            Some(first) if first < row || !self.is_folded => {
+                let end = Some(row);
+                self.marks.lives.push(Life { pid, first, end })?;
+                Ok(())
+            }
+            _ => Ok(()),
+        }
+    }
+
+    /// A process is told the answer to its call, in the line of that number.
+    fn take_answer(
+        &mut self,
+        lines: &[&str],
+        turn: &Turn<'_>,
+        number: usize,
+    ) -> Result<(), AllocError> {
+        let Some(process) = self.processes.get_mut(turn.pid) else {
+            return Ok(());
+        };
+        let Some(awaited) = process.awaited.take() else {
+            return Ok(());
+        };
+        if let Some(answer) = self.marks.answers.get_mut(awaited.row) {
+            *answer = Some(number);
+        }
+        let Some(asked) = lines.get(awaited.number).and_then(|line| read_turn(line)) else {
+            return Ok(());
+        };
+        let called = Answered {
+            pid: asked.pid,
+            call: asked.call,
+            answer: turn.stimulus,
+            row: awaited.row,
+            line: awaited.number,
+        };
+        if turn.stimulus.starts_with("refused ") {
+            let tally = &mut self.marks.tally;
+            tally.refused = tally.refused.saturating_add(1);
+            self.memory.refuse(&called);
+            return Ok(());
+        }
+        self.carry_out(&asked, &called, awaited)
+    }
+
+    /// Counts the bytes of a print.
+    fn count_printed(&mut self, digits: &str) {
+        let tally = &mut self.marks.tally;
+        tally.printed = tally.printed.saturating_add(digits.len() / 2);
+    }
+
+    /// A call was accepted.
+    fn carry_out(
+        &mut self,
+        turn: &Turn<'_>,
+        called: &Answered<'_>,
+        call: Awaited,
+    ) -> Result<(), AllocError> {
+        let Awaited { row, number } = call;
+        let (word, rest) = turn.call.split_once(' ').unwrap_or((turn.call, ""));
+        match word {
+            "print" => {
+                self.count_printed(rest);
+                Ok(())
+            }
+            "kill" => match rest.parse::<usize>() {
+                Ok(pid) => self.end_life(pid, row),
+                Err(_) => Ok(()),
+            },
+            "post" | "broadcast" => self.posts.carry_out(turn, number, row),
+            _ => {
+                let clock = self.clock;
+                self.memory.carry_out(called)?;
+                self.timers
+                    .carry_out(turn.pid, turn.call, Moment { row, clock })
+            }
+        }
+    }
+
+    /// A process is given something at once, by the one whose activation is the innermost, if there is one.
+    fn give(&mut self, to: usize, row: usize) -> Result<(), AllocError> {
+        match self.active.last() {
+            Some(from) if !self.is_folded => {
+                let from = *from;
+                self.marks.gifts.push(Gift { from, to, row })?;
+                Ok(())
+            }
+            _ => Ok(()),
+        }
+    }
+
+    /// A timer is told in a row, so many ticks after it was due.
+    fn count_late(&mut self, late: u64, row: usize) {
+        if late == 0 {
+            return;
+        }
+        let tally = &mut self.marks.tally;
+        tally.late = tally.late.saturating_add(1);
+        tally.latest = tally.latest.max(late);
+        if let Some(lateness) = self.marks.lateness.as_mut_slice().get_mut(row) {
+            *lateness = (*lateness).max(late);
+        }
+    }
+
+    /// A process's activation begins in a row.
+    fn begin(&mut self, lines: &[&str], turn: &Turn<'_>, row: usize) -> Result<(), AllocError> {
+        match turn.origin {
+            Origin::Synch => self.give(turn.pid, row)?,
+            Origin::Event => self.posts.tell(lines, turn, row)?,
+            _ => {}
+        }
+        let clock = self.clock;
+        let late = self.timers.tell(turn, Moment { row, clock })?;
+        self.count_late(late, row);
+        self.active.push(turn.pid)?;
+        if let Some(process) = self.processes.get_mut(turn.pid) {
+            process.begun = row;
+            if turn.stimulus.starts_with("129 ") {
+                process.born = Some(row);
+            }
+        }
+        Ok(())
+    }
+
+    /// All activations that are still open end: no more is heard of them.
+    fn rest(&mut self) -> Result<(), AllocError> {
+        for _active in 0..self.active.len() {
+            let pid = self.active.pop().unwrap_or(0);
+            if let Some(process) = self.processes.get(pid) {
+                let last = process.last;
+                self.mark_activation(pid, last)?;
+            }
+        }
+        Ok(())
+    }
+
+    /// A process's activation was one up to a row. Of those that lie in one folded row the first alone is kept.
+    fn mark_activation(&mut self, pid: usize, last: usize) -> Result<(), AllocError> {
+        let Some(process) = self.processes.get_mut(pid) else {
+            return Ok(());
+        };
+        let first = process.begun;
+        let is_marked = process.marked == Some(first);
+        process.marked = Some(last);
+        if first == last && is_marked && self.is_folded {
+            return Ok(());
+        }
+        self.marks
+            .activations
+            .push(Activation { pid, first, last })?;
+        Ok(())
+    }
+
+    /// A process's activation ends in a row.
+    fn end(&mut self, pid: usize, row: usize) -> Result<(), AllocError> {
+        self.active.retain(|active| *active != pid);
+        self.mark_activation(pid, row)
+    }
+
+    /// A turn in a row, told by the line of that number.
+    fn take_turn(
+        &mut self,
+        lines: &[&str],
+        turn: &Turn<'_>,
+        row: usize,
+        number: usize,
+    ) -> Result<(), AllocError> {
+        let tally = &mut self.marks.tally;
+        tally.turns = tally.turns.saturating_add(1);
+        self.marks.processes = self.marks.processes.max(turn.pid.saturating_add(1));
+        if self.marks.is_quiet {
+            return self.take_quiet_turn(turn, row);
+        }
+        if turn.origin == Origin::Answer {
+            self.take_answer(lines, turn, number)?;
+        }
+        if turn.origin != Origin::Answer || !self.active.as_slice().contains(&turn.pid) {
+            self.begin(lines, turn, row)?;
+        }
+        self.take_call(turn, Awaited { row, number })
+    }
+
+    /// A turn of a quiet transcript: of its activation nothing else is known.
+    fn take_quiet_turn(&mut self, turn: &Turn<'_>, row: usize) -> Result<(), AllocError> {
+        if let Some(digits) = turn.call.strip_prefix("print ") {
+            self.count_printed(digits);
+        }
+        if let Some(process) = self.processes.get_mut(turn.pid) {
+            process.begun = row;
+        }
+        self.mark_activation(turn.pid, row)
+    }
+
+    /// What a process calls.
+    fn take_call(&mut self, turn: &Turn<'_>, call: Awaited) -> Result<(), AllocError> {
+        let row = call.row;
+        if let Some(process) = self.processes.get_mut(turn.pid) {
+            process.last = row;
+            process.awaited = Some(call);
+        }
+        match turn.call {
+            "wait" => self.end(turn.pid, row),
+            "exit" => {
+                self.end(turn.pid, row)?;
+                self.end_life(turn.pid, row)
+            }
+            _ => Ok(()),
+        }
+    }
+
+    /// The line of that number, in a row.
+    fn take_line(&mut self, lines: &[&str], row: usize, number: usize) -> Result<(), AllocError> {
+        let Some(line) = lines.get(number) else {
+            return Ok(());
+        };
+        let line = read_line(line);
+        if let Some(Line::Note(note)) = line {
+            return self.take_note(&note);
+        }
+        self.hold_frame()?;
+        match line {
+            Some(Line::Input(input)) => {
+                self.rest()?;
+                self.take_input(&input, row, number);
+                Ok(())
+            }
+            Some(Line::Turn(turn)) => self.take_turn(lines, &turn, row, number),
+            _ => Ok(()),
+        }
+    }
+
+    /// What came before the first row shows in no row, and counts nowhere.
+    fn forget_rows(&mut self) {
+        self.marks.tally = Tally::default();
+        self.marks.activations.clear();
+        self.marks.lives.clear();
+        self.marks.gifts.clear();
+        self.timers.armings.clear();
+        self.memory.forget_rows();
+        self.posts.forget_rows();
+        self.marks.start = self.clock;
+    }
+
+    /// The lines of a row.
+    fn take_row(&mut self, lines: &[&str], row: &Row, place: usize) -> Result<(), AllocError> {
+        self.marks.answers.push(None)?;
+        self.marks.lateness.push(0)?;
+        self.is_folded = matches!(row.show, Show::Again(_));
+        for number in row.first..row.first.saturating_add(row.count) {
+            self.take_line(lines, place, number)?;
+        }
+        self.marks.clocks.push(self.clock)?;
+        Ok(())
+    }
+
+    /// What is still going on goes on to the end.
+    fn finish(mut self, alloc: Global) -> Result<Marks, AllocError> {
+        self.rest()?;
+        self.hold_frame()?;
+        for (pid, process) in self.processes.iter().enumerate() {
+            if let Some(first) = process.born {
+                let end = None;
+                self.marks.lives.push(Life { pid, first, end })?;
+            }
+        }
+        self.marks.armings = self.timers.finish()?;
+        self.marks.curves = self.posts.finish();
+        self.marks.stays = self.memory.finish(alloc)?;
+        Ok(self.marks)
+    }
+}
+
+/// What rows of a transcript tell together, with what the lines before them left.
+pub fn marks_of(
+    alloc: Global,
+    lines: &[&str],
+    rows: &[Row],
+    sizes: Sizes,
+) -> Result<Marks, AllocError> {
+    let mut walk = Walk::new(alloc, sizes, is_quiet(lines))?;
+    let first = rows.first().map_or(lines.len(), |row| row.first);
+    for number in 0..first {
+        walk.take_line(lines, 0, number)?;
+    }
+    walk.forget_rows();
+    for (place, row) in rows.iter().enumerate() {
+        walk.take_row(lines, row, place)?;
+    }
+    walk.finish(alloc)
+}

@@ -1,0 +1,169 @@
+//! Events on their way, from the rows where they are posted to the rows where they are told.
+
+use crate::numbers::bit_of;
+use std::alloc::{AllocError, Global};
+use transcript_lines::Turn;
+
+/// How many events may be on their way: as many as the queue holds, and one that is being told to all.
+const MOST: usize = 33;
+
+/// An event that was posted to a process or to all.
+#[derive(Clone, Copy, Drop)]
+struct Posted {
+    from: usize,
+    to: Option<usize>,
+    /// The number of the line whose call posts it, from 0 on.
+    number: usize,
+    /// The row of that line. `None` where it comes before the first row.
+    row: Option<usize>,
+    /// A bit for each process that was told it.
+    told: u32,
+}
+
+/// An event from the row where it was posted to the one where it is told.
+#[derive(Clone, Copy, Drop)]
+pub struct Curve {
+    pub from: usize,
+    pub first: usize,
+    pub to: usize,
+    pub last: usize,
+}
+
+/// The events on their way, the oldest first.
+#[derive(Drop)]
+pub(crate) struct Posts {
+    posted: Vec<Posted>,
+    curves: Vec<Curve>,
+}
+
+/// Whom a call posts an event to, and its code and what it carries; `None` where it posts nothing.
+fn posted_by(call: &str) -> Option<(Option<usize>, &str)> {
+    let (word, rest) = call.split_once(' ')?;
+    match word {
+        "broadcast" => Some((None, rest)),
+        "post" => {
+            let (to, event) = rest.split_once(' ')?;
+            Some((Some(to.parse::<usize>().unwrap_or(0)), event))
+        }
+        _ => None,
+    }
+}
+
+/// The code of the event that the call of a line posts, and what it carries.
+fn event_in<'a>(lines: &[&'a str], number: usize) -> Option<&'a str> {
+    let line = lines.get(number)?;
+    let (_, call) = line.split_once(" -> ")?;
+    let (_, event) = posted_by(call)?;
+    Some(event)
+}
+
+impl Posted {
+    /// Whether a turn may be the one that tells it.
+    fn is_told_by(&self, lines: &[&str], turn: &Turn<'_>) -> bool {
+        let is_for = match self.to {
+            Some(to) => to == turn.pid,
+            None => self.told & bit_of(turn.pid) == 0,
+        };
+        is_for && event_in(lines, self.number) == Some(turn.stimulus)
+    }
+}
+
+impl Posts {
+    pub(crate) fn new(alloc: Global) -> Self {
+        Posts {
+            posted: Vec::new(alloc),
+            curves: Vec::new(alloc),
+        }
+    }
+
+    /// A call in the line of that number was accepted that was made in a row.
+    pub(crate) fn carry_out(
+        &mut self,
+        turn: &Turn<'_>,
+        number: usize,
+        row: usize,
+    ) -> Result<(), AllocError> {
+        let Some((to, _)) = posted_by(turn.call) else {
+            return Ok(());
+        };
+        if self.posted.len() >= MOST {
+            self.forget_front(1);
+        }
+        let from = turn.pid;
+        let row = Some(row);
+        let told = 0;
+        self.posted.push(Posted {
+            from,
+            to,
+            number,
+            row,
+            told,
+        })?;
+        Ok(())
+    }
+
+    /// So many events, the oldest ones, are on their way no more.
+    fn forget_front(&mut self, count: usize) {
+        let count = count.min(self.posted.len());
+        let _ = self.posted.drain(..count);
+    }
+
+    /// An event is told in a row. Those that were posted before it were told already, or to nobody.
+    pub(crate) fn tell(
+        &mut self,
+        lines: &[&str],
+        turn: &Turn<'_>,
+        row: usize,
+    ) -> Result<(), AllocError> {
+        let told = self
+            .posted
+            .iter()
+            .position(|posted| posted.is_told_by(lines, turn));
+        let Some(place) = told else {
+            return Ok(());
+        };
+        let Some(posted) = self.take(place, turn.pid) else {
+            return Ok(());
+        };
+        match posted.row {
+            Some(first) if first < row => {
+                let from = posted.from;
+                let to = turn.pid;
+                let last = row;
+                self.curves.push(Curve {
+                    from,
+                    first,
+                    to,
+                    last,
+                })?;
+            }
+            _ => {}
+        }
+        Ok(())
+    }
+
+    /// The event at that place is told to a process: those before it go, and so does it where it was posted to one alone.
+    fn take(&mut self, place: usize, pid: usize) -> Option<Posted> {
+        let posted = self.posted.as_mut_slice().get_mut(place)?;
+        posted.told |= bit_of(pid);
+        let posted = *posted;
+        match posted.to {
+            Some(_) => self.forget_front(place.saturating_add(1)),
+            None => self.forget_front(place),
+        }
+        Some(posted)
+    }
+
+    /// What was posted so far was posted in no row.
+    pub(crate) fn forget_rows(&mut self) {
+        self.curves.clear();
+        for posted in self.posted.as_mut_slice() {
+            posted.row = None;
+        }
+    }
+
+    /// The events that were told.
+    pub(crate) fn finish(self) -> Vec<Curve> {
+        self.curves
+    }
+}

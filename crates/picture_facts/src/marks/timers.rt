@@ -1,0 +1,226 @@
+//! Event timers and callback timers, each from the row where it is armed to the row where it is told.
+
+use crate::numbers::number_of;
+use std::alloc::{AllocError, Global};
+use transcript_lines::{Origin, Turn};
+
+/// How many event timers a process has.
+const EVENT_TIMERS: usize = 8;
+
+/// How many timers a process has: behind the event timers stand the callback timers.
+const TIMERS: usize = 12;
+
+/// How many timers all processes have, those of the kernel too.
+const CELLS: usize = 240;
+
+/// A timer as the lines so far leave it: the row where it was armed last, and whether it still is.
+#[derive(Clone, Copy, Drop)]
+struct Cell {
+    row: usize,
+    start: u64,
+    interval: u64,
+    is_armed: bool,
+}
+
+const UNUSED: Cell = Cell {
+    row: 0,
+    start: 0,
+    interval: 0,
+    is_armed: false,
+};
+
+impl Cell {
+    /// The clock at which the timer is due.
+    fn due(&self) -> u64 {
+        self.start.saturating_add(self.interval)
+    }
+}
+
+/// An arming of a timer, from a row to the row where it ended, if it did.
+#[derive(Clone, Copy, Drop)]
+pub struct Arming {
+    pub pid: usize,
+    /// The timer's number; those of the callback timers begin behind those of the event timers.
+    pub timer: usize,
+    pub first: usize,
+    pub last: Option<usize>,
+    /// The clock at which it was due.
+    pub due: u64,
+    /// The clock at which it was told, where it was: it wasn't stopped or set anew before, and its process did not end.
+    pub told: Option<u64>,
+}
+
+/// When something comes about: in which row, and at which clock.
+#[derive(Clone, Copy, Drop)]
+pub(crate) struct Moment {
+    pub(crate) row: usize,
+    pub(crate) clock: u64,
+}
+
+/// The timers of all processes.
+#[derive(Drop)]
+pub(crate) struct Timers {
+    cells: Vec<Cell>,
+    pub(crate) armings: Vec<Arming>,
+}
+
+impl Timers {
+    pub(crate) fn new(alloc: Global) -> Result<Self, AllocError> {
+        Ok(Timers {
+            cells: vec![in alloc; UNUSED; CELLS]?,
+            armings: Vec::new(alloc),
+        })
+    }
+
+    fn cell(&mut self, pid: usize, timer: usize) -> Option<&mut Cell> {
+        let place = pid.saturating_mul(TIMERS).saturating_add(timer);
+        self.cells.as_mut_slice().get_mut(place)
+    }
+
+    /// A timer's arming ends, if it is armed. One that began in the same row is not kept.
+    fn end(
+        &mut self,
+        pid: usize,
+        timer: usize,
+        row: usize,
+        told: Option<u64>,
+    ) -> Result<(), AllocError> {
+        let Some(cell) = self.cell(pid, timer) else {
+            return Ok(());
+        };
+        let armed = *cell;
+        cell.is_armed = false;
+        if armed.is_armed && armed.row < row {
+            self.armings.push(Arming {
+                pid,
+                timer,
+                first: armed.row,
+                last: Some(row),
+                due: armed.due(),
+                told,
+            })?;
+        }
+        Ok(())
+    }
+
+    /// A timer is armed from a start on.
+    fn arm(
+        &mut self,
+        pid: usize,
+        timer: usize,
+        row: usize,
+        start: u64,
+        interval: u64,
+    ) -> Result<(), AllocError> {
+        self.end(pid, timer, row, None)?;
+        if let Some(cell) = self.cell(pid, timer) {
+            *cell = Cell {
+                row,
+                start,
+                interval,
+                is_armed: true,
+            };
+        }
+        Ok(())
+    }
+
+    /// What an accepted call does to the caller's timers.
+    pub(crate) fn carry_out(
+        &mut self,
+        pid: usize,
+        call: &str,
+        moment: Moment,
+    ) -> Result<(), AllocError> {
+        let Moment { row, clock } = moment;
+        let mut words = call.split(' ');
+        let word = words.next().unwrap_or("");
+        let timer = number_of(words.next()) as usize;
+        let interval = number_of(words.next());
+        let callback = timer.saturating_add(EVENT_TIMERS);
+        let before = match self.cell(pid, timer) {
+            Some(cell) => *cell,
+            None => UNUSED,
+        };
+        match word {
+            "timer-set" => self.arm(pid, timer, row, clock, interval),
+            "timer-restart" => self.arm(pid, timer, row, clock, before.interval),
+            "timer-reset" => self.arm(pid, timer, row, before.due(), before.interval),
+            "timer-stop" => self.end(pid, timer, row, None),
+            "callback-set" => self.arm(pid, callback, row, clock, interval),
+            "callback-stop" => self.end(pid, callback, row, None),
+            _ => Ok(()),
+        }
+    }
+
+    /// A process is told something, which may be that its timer ran out. Answers how many ticks before that it was due.
+    pub(crate) fn tell(&mut self, turn: &Turn<'_>, moment: Moment) -> Result<u64, AllocError> {
+        let Moment { row, clock } = moment;
+        let Some(timer) = timer_told(turn) else {
+            return Ok(0);
+        };
+        match self.cell(turn.pid, timer).map(|cell| *cell) {
+            Some(cell) if cell.is_armed && cell.due() <= clock => {
+                self.end(turn.pid, timer, row, Some(clock))?;
+                Ok(clock.saturating_sub(cell.due()))
+            }
+            _ => Ok(0),
+        }
+    }
+
+    /// A process ends in a row: none of its timers is armed any more.
+    pub(crate) fn end_all(&mut self, pid: usize, row: usize) -> Result<(), AllocError> {
+        for timer in 0..TIMERS {
+            self.end(pid, timer, row, None)?;
+        }
+        Ok(())
+    }
+
+    /// What is still armed stays so to the end.
+    pub(crate) fn finish(mut self) -> Result<Vec<Arming>, AllocError> {
+        let mut pid: usize = 0;
+        let mut timer: usize = 0;
+        for cell in self.cells.as_slice() {
+            if cell.is_armed {
+                self.armings.push(Arming {
+                    pid,
+                    timer,
+                    first: cell.row,
+                    last: None,
+                    due: cell.due(),
+                    told: None,
+                })?;
+            }
+            timer = timer.saturating_add(1);
+            if timer >= TIMERS {
+                timer = 0;
+                pid = pid.saturating_add(1);
+            }
+        }
+        Ok(self.armings)
+    }
+}
+
+/// The timer of which a turn tells that it ran out, if it tells that of one.
+fn timer_told(turn: &Turn<'_>) -> Option<usize> {
+    match turn.origin {
+        Origin::Event => {
+            let number = turn.stimulus.strip_prefix("136 ")?;
+            Some(number_of(Some(number)) as usize)
+        }
+        Origin::Callback => {
+            let number = number_of(Some(turn.stimulus)) as usize;
+            Some(number.saturating_add(EVENT_TIMERS))
+        }
+        _ => None,
+    }
+}
+
+/// Whether an arming's timer is a callback timer.
+pub fn is_callback(timer: usize) -> bool {
+    timer >= EVENT_TIMERS
+}
+
+/// The number of a callback timer among its kind, or of an event timer.
+pub fn number_in_kind(timer: usize) -> usize {
+    timer % EVENT_TIMERS
+}

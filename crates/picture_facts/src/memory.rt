@@ -1,0 +1,160 @@
+//! The memory of a mote, from the calls of a transcript: which blocks there were, where they lay, and from when to when.
+//!
+//! Rows are those of a picture; whoever reads the transcript tells in which one something comes about.
+
+pub mod heap;
+mod heap_map;
+pub mod managed;
+pub mod pools;
+pub mod stay;
+
+use heap_map::HeapMap;
+use managed::Managed;
+use pools::Pools;
+pub use stay::Stay;
+use std::alloc::{AllocError, Global};
+
+/// The sizes of a mote's memory, in bytes.
+#[derive(Clone, Copy, Drop)]
+pub struct Sizes {
+    pub managed: u32,
+    /// How much of managed memory each process may have, and the frames. `None` where each may take all that is free.
+    pub quota: Option<u32>,
+    pub heap: u32,
+    /// The length of a header in the heap, 16 or 8.
+    pub header: u32,
+}
+
+/// A process's call, what was answered, and where the call stands: its row, and the number of its line, from 0 on.
+#[derive(Clone, Copy, Drop)]
+pub struct Answered<'a> {
+    pub pid: usize,
+    pub call: &'a str,
+    pub answer: &'a str,
+    pub row: usize,
+    pub line: usize,
+}
+
+/// The memory of a mote as the calls so far leave it.
+#[derive(Drop)]
+pub struct Memory {
+    managed: Managed,
+    /// `None` where no heap has the size that was told.
+    heap: Option<HeapMap>,
+    pools: Pools,
+}
+
+/// The blocks of a run.
+#[derive(Drop)]
+pub struct Stays {
+    /// In managed memory, each behind those that were made before it.
+    pub managed: Vec<Stay>,
+    /// In the heap.
+    pub heap: Vec<Stay>,
+    /// How many blocks the heap had at most at once.
+    pub most: usize,
+    /// The number of the line, from 0 on, with the first call on the heap that a heap of the size that was told answers in another way.
+    pub differs: Option<usize>,
+    /// The same for managed memory, or that of the first frame.
+    pub managed_differs: Option<usize>,
+    /// The used blocks of the pools, by their numbers among all blocks of all pools.
+    pub used: Vec<Stay>,
+    /// Those that are in a list, by the number of the list.
+    pub linked: Vec<Stay>,
+}
+
+impl Stays {
+    /// No block.
+    pub fn new(alloc: Global) -> Self {
+        Stays {
+            managed: Vec::new(alloc),
+            heap: Vec::new(alloc),
+            most: 0,
+            differs: None,
+            managed_differs: None,
+            used: Vec::new(alloc),
+            linked: Vec::new(alloc),
+        }
+    }
+}
+
+impl Memory {
+    /// Memory without a block.
+    ///
+    /// # Errors
+    ///
+    /// `AllocError` where memory was refused.
+    pub fn new(alloc: Global, sizes: Sizes) -> Result<Self, AllocError> {
+        Ok(Memory {
+            managed: Managed::new(alloc, sizes.managed, sizes.quota),
+            heap: HeapMap::new(alloc, sizes.heap, sizes.header)?,
+            pools: Pools::new(alloc),
+        })
+    }
+
+    /// A call was accepted. Calls that are on no memory change nothing.
+    pub fn carry_out(&mut self, called: &Answered<'_>) -> Result<(), AllocError> {
+        let (part, _) = called.call.split_once('-').unwrap_or((called.call, ""));
+        match part {
+            "mmem" => self.managed.carry_out(called),
+            "heap" => match &mut self.heap {
+                Some(heap) => heap.carry_out(called),
+                None => Ok(()),
+            },
+            "memb" => self.pools.carry_out(called),
+            "list" => self.pools.carry_out_on_list(called),
+            "packet" if called.call == "packet-done" => self.managed.give_back(called.row),
+            _ => Ok(()),
+        }
+    }
+
+    /// A call was refused, which changes nothing.
+    pub fn refuse(&mut self, called: &Answered<'_>) {
+        self.managed.refuse(called);
+        if let Some(heap) = &mut self.heap {
+            heap.refuse(called);
+        }
+    }
+
+    /// A frame of so many bytes came in, in that row and in the line of that number, and is held.
+    pub fn hold_frame(&mut self, size: usize, row: usize, line: usize) -> Result<(), AllocError> {
+        self.managed.hold_frame(size as u64, row, line)
+    }
+
+    /// A frame of so many bytes came in, in the line of that number, and was lost: the number of the refusal.
+    pub fn lose_frame(&mut self, size: usize, number: u64, line: usize) {
+        self.managed.lose_frame(size as u64, number, line);
+    }
+
+    /// What has gone so far is forgotten, and what is there begins in the first row.
+    pub fn forget_rows(&mut self) {
+        self.managed.forget_rows();
+        if let Some(heap) = &mut self.heap {
+            heap.forget_rows();
+        }
+        self.pools.forget_rows();
+    }
+
+    /// The blocks that there were.
+    pub fn finish(self, alloc: Global) -> Result<Stays, AllocError> {
+        let managed_differs = self.managed.differs;
+        let managed = self.managed.finish()?;
+        let (used, linked) = self.pools.finish()?;
+        let (heap, most, differs) = match self.heap {
+            Some(heap) => {
+                let (most, differs) = (heap.most, heap.differs);
+                (heap.finish()?, most, differs)
+            }
+            None => (Vec::new(alloc), 0, None),
+        };
+        Ok(Stays {
+            managed,
+            heap,
+            most,
+            differs,
+            managed_differs,
+            used,
+            linked,
+        })
+    }
+}

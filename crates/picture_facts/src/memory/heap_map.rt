@@ -1,0 +1,169 @@
+//! The map of the heap: where its blocks lie, by a heap in which the accepted calls of the transcript are carried out.
+
+ghost use Rattle.std.specs.Prelude.{◌≡◌, IfSome};
+ghost use Rattle.mote_types.specs.Conditions.{IsName};
+ghost use Rattle.heap_core.specs.Conditions.{IsHeaderLength};
+
+use crate::memory::Answered;
+use crate::memory::heap::LiveHeap;
+use crate::memory::stay::{Record, Stay};
+use crate::numbers::number_of;
+use heap_core::Key;
+use mote_types::event::Pid;
+use std::alloc::{AllocError, Global};
+
+/// The blocks of the heap.
+#[derive(Drop)]
+pub(crate) struct HeapMap {
+    alloc: Global,
+    heap: LiveHeap,
+    header: u32,
+    record: Record,
+    /// How many blocks there were at most at once.
+    pub(crate) most: usize,
+    /// The line of the first call that this heap answers in another way than the transcript.
+    pub(crate) differs: Option<usize>,
+}
+
+/// The length of a header, 16 where a heap has none of that length.
+fn header_length(header: u32) -> u32
+    ensures { IsHeaderLength result }
+{
+    if header == 8 { 8 } else { 16 }
+}
+
+/// The name of a process's block, if it may have one of that number.
+fn key_of(pid: usize, number: u64) -> Option<Key>
+    ensures { IfSome result (λ key. IsName key.0.0 key.1) }
+{
+    if pid < 3 || pid > 19 || number > 15 {
+        return None;
+    }
+    Some((Pid(pid as u8), number as u8))
+}
+
+/// What a call on the heap asks for.
+#[derive(Clone, Copy, Drop)]
+struct Asked<'a> {
+    word: &'a str,
+    number: u64,
+    size: u32,
+}
+
+fn asked_by(call: &str) -> Asked<'_> {
+    let mut words = call.split(' ');
+    Asked {
+        word: words.next().unwrap_or(""),
+        number: number_of(words.next()),
+        size: number_of(words.next()).min(u32::MAX as u64) as u32,
+    }
+}
+
+impl HeapMap {
+    /// The map of a heap without a block. `None` where no heap has that size.
+    pub(crate) fn new(alloc: Global, size: u32, header: u32) -> Result<Option<Self>, AllocError> {
+        if size < 20 || size > 65_536 || size % 4 != 0 {
+            return Ok(None);
+        }
+        let header = header_length(header);
+        let Some(heap) = LiveHeap::new(alloc, size, header)? else {
+            return Ok(None);
+        };
+        let record = Record::new(alloc);
+        let most = 0;
+        let differs = None;
+        Ok(Some(HeapMap {
+            alloc,
+            heap,
+            header,
+            record,
+            most,
+            differs,
+        }))
+    }
+
+    /// A call was accepted.
+    pub(crate) fn carry_out(&mut self, called: &Answered<'_>) -> Result<(), AllocError> {
+        let Asked { word, number, size } = asked_by(called.call);
+        let Some(key) = key_of(called.pid, number) else {
+            return Ok(());
+        };
+        let is_so = match word {
+            "heap-alloc" => self.heap.alloc(key, size),
+            "heap-realloc" => self.heap.realloc(key, size),
+            "heap-free" => self.heap.free(key),
+            "heap-stats" => self.has_stats(called.answer)?,
+            _ => return Ok(()),
+        };
+        if !is_so {
+            self.differs = self.differs.or(Some(called.line));
+        }
+        if word == "heap-stats" {
+            return Ok(());
+        }
+        self.show(key, size, called.row)
+    }
+
+    /// A call was refused. Where that was for want of a place, this heap has none either.
+    pub(crate) fn refuse(&mut self, called: &Answered<'_>) {
+        let Asked { word, number, size } = asked_by(called.call);
+        let Some(key) = key_of(called.pid, number) else {
+            return;
+        };
+        if called.answer != "refused 12" {
+            return;
+        }
+        // Where it has one, the map is another run's from here on in any case.
+        let is_taken = match word {
+            "heap-alloc" => self.heap.alloc(key, size),
+            "heap-realloc" => self.heap.realloc(key, size),
+            _ => false,
+        };
+        if is_taken {
+            self.differs = self.differs.or(Some(called.line));
+        }
+    }
+
+    /// Whether these are the statistics of the heap.
+    fn has_stats(&self, answer: &str) -> Result<bool, AllocError> {
+        let stats = self.heap.stats();
+        let told = format!(in self.alloc;
+            "stats {} {} {} {} {}",
+            stats.allocated, stats.overhead, stats.available, stats.footprint, stats.chunks
+        )?;
+        Ok(told.as_str() == answer)
+    }
+
+    /// A block's stay ends in a row; where it is still live, another one begins.
+    fn show(&mut self, key: Key, size: u32, row: usize) -> Result<(), AllocError>
+        requires { IsName key.0.0 key.1 }
+    {
+        let pid = key.0.0 as usize;
+        let name = key.1 as u64;
+        self.record.end(pid, name, row)?;
+        let Some(place) = self.heap.place_of(key) else {
+            return Ok(());
+        };
+        let stay = Stay {
+            pid,
+            name,
+            at: place.at as u64,
+            taken: self.header as u64 + place.room as u64,
+            size: size as u64,
+            first: row,
+            last: None,
+        };
+        self.record.begin(stay)?;
+        self.most = self.most.max(self.record.live.len());
+        Ok(())
+    }
+
+    pub(crate) fn forget_rows(&mut self) {
+        self.record.forget_rows();
+        self.most = self.record.live.len();
+    }
+
+    pub(crate) fn finish(self) -> Result<Vec<Stay>, AllocError> {
+        self.record.finish()
+    }
+}

@@ -1,0 +1,195 @@
+//! Managed memory: lengths one behind the other. Where the blocks lie in the region shows in no call, so those that are behind a
+//! freed one are shown to close up at once.
+
+use crate::memory::Answered;
+use crate::memory::stay::{Record, Stay};
+use crate::numbers::number_of;
+use std::alloc::{AllocError, Global};
+
+/// The process whose blocks hold frames.
+pub const FRAMES: usize = 3;
+
+/// The blocks of managed memory.
+#[derive(Drop)]
+pub(crate) struct Managed {
+    record: Record,
+    /// How many frames were held.
+    frames: u64,
+    size: u32,
+    quota: Option<u32>,
+    /// The line of the first call or frame that is answered in another way where memory has that size and that quota.
+    pub(crate) differs: Option<usize>,
+}
+
+/// What a length takes: it is rounded up to a multiple of 4.
+fn taken_by(size: u64) -> u64 {
+    let rest = size % 4;
+    if rest == 0 {
+        size
+    } else {
+        size.saturating_add(4 - rest)
+    }
+}
+
+impl Managed {
+    pub(crate) fn new(alloc: Global, size: u32, quota: Option<u32>) -> Self {
+        Managed {
+            record: Record::new(alloc),
+            frames: 0,
+            size,
+            quota,
+            differs: None,
+        }
+    }
+
+    /// Whether a block of that length has room, of a process or of the frames.
+    fn has_room(&self, pid: usize, size: u64) -> bool {
+        taken_by(size) <= self.free_for(pid)
+    }
+
+    /// How many bytes are free for a process.
+    fn free_for(&self, pid: usize) -> u64 {
+        let mut taken: u64 = 0;
+        for stay in self.record.live.as_slice() {
+            if stay.pid == pid || self.quota.is_none() {
+                taken = taken.saturating_add(stay.taken);
+            }
+        }
+        let size = self.quota.unwrap_or(self.size) as u64;
+        size.saturating_sub(taken)
+    }
+
+    /// Whether a block of that length is refused with that number.
+    fn may_refuse(&self, pid: usize, size: u64, number: u64) -> bool {
+        match number {
+            12 => self.quota.is_none() && !self.has_room(pid, size),
+            18 => self.quota.is_some() && !self.has_room(pid, size),
+            _ => true,
+        }
+    }
+
+    /// Keeps the first line that tells what isn't so.
+    fn compare(&mut self, is_so: bool, line: usize) {
+        if !is_so {
+            self.differs = self.differs.or(Some(line));
+        }
+    }
+
+    /// A call was accepted.
+    pub(crate) fn carry_out(&mut self, called: &Answered<'_>) -> Result<(), AllocError> {
+        let Answered { pid, row, line, .. } = *called;
+        let mut words = called.call.split(' ');
+        let word = words.next();
+        let handle = number_of(words.next());
+        match word {
+            Some("mmem-alloc") => {
+                let size = number_of(words.next());
+                self.compare(self.has_room(pid, size), line);
+                self.add(pid, handle, size, row)
+            }
+            Some("mmem-free") => self.free(pid, handle, row),
+            Some("mmem-avail") => {
+                let free = number_of(called.answer.strip_prefix("num "));
+                self.compare(free == self.free_for(pid), line);
+                Ok(())
+            }
+            _ => Ok(()),
+        }
+    }
+
+    /// A call was refused.
+    pub(crate) fn refuse(&mut self, called: &Answered<'_>) {
+        if let Some(words) = called.call.strip_prefix("mmem-alloc ") {
+            let size = number_of(words.split(' ').nth(1));
+            let number = number_of(called.answer.strip_prefix("refused "));
+            self.compare(self.may_refuse(called.pid, size, number), called.line);
+        }
+    }
+
+    /// A process has one more block, behind all others.
+    fn add(&mut self, pid: usize, name: u64, size: u64, row: usize) -> Result<(), AllocError> {
+        let at = match self.record.live.last() {
+            Some(stay) => stay.at.saturating_add(stay.taken),
+            None => 0,
+        };
+        let taken = taken_by(size);
+        let last = None;
+        let first = row;
+        self.record.live.push(Stay {
+            pid,
+            name,
+            at,
+            taken,
+            size,
+            first,
+            last,
+        })?;
+        Ok(())
+    }
+
+    /// The blocks from a place in the list on move down by so many bytes.
+    fn close_up(&mut self, from: usize, bytes: u64, row: usize) -> Result<(), AllocError> {
+        for place in from..self.record.live.len() {
+            if let Some(stay) = self.record.live.as_mut_slice().get_mut(place) {
+                let before = *stay;
+                stay.at = before.at.saturating_sub(bytes);
+                stay.first = row;
+                self.record.keep(before, row)?;
+            }
+        }
+        Ok(())
+    }
+
+    /// The block at that place in the list goes.
+    fn take_away(&mut self, place: usize, row: usize) -> Result<(), AllocError> {
+        if place >= self.record.live.len() {
+            return Ok(());
+        }
+        let stay = self.record.live.remove(place);
+        self.record.keep(stay, row)?;
+        self.close_up(place, stay.taken, row)
+    }
+
+    /// A process's block goes.
+    fn free(&mut self, pid: usize, name: u64, row: usize) -> Result<(), AllocError> {
+        match self.record.find(pid, name) {
+            Some(place) => self.take_away(place, row),
+            None => Ok(()),
+        }
+    }
+
+    /// A frame has come in, and is held.
+    pub(crate) fn hold_frame(
+        &mut self,
+        size: u64,
+        row: usize,
+        line: usize,
+    ) -> Result<(), AllocError> {
+        self.compare(self.has_room(FRAMES, size), line);
+        let number = self.frames;
+        self.frames = number.saturating_add(1);
+        self.add(FRAMES, number, size, row)
+    }
+
+    /// A frame has come in, and was lost.
+    pub(crate) fn lose_frame(&mut self, size: u64, number: u64, line: usize) {
+        self.compare(self.may_refuse(FRAMES, size, number), line);
+    }
+
+    /// The front frame is given back.
+    pub(crate) fn give_back(&mut self, row: usize) -> Result<(), AllocError> {
+        let front = self.record.live.iter().position(|stay| stay.pid == FRAMES);
+        match front {
+            Some(place) => self.take_away(place, row),
+            None => Ok(()),
+        }
+    }
+
+    pub(crate) fn forget_rows(&mut self) {
+        self.record.forget_rows();
+    }
+
+    pub(crate) fn finish(self) -> Result<Vec<Stay>, AllocError> {
+        self.record.finish()
+    }
+}

@@ -1,0 +1,12 @@
+//! The words that a picture has for what a transcript's lines tell.
+
+mod answers;
+mod bytes;
+mod calls;
+mod inputs;
+mod told;
+
+pub use answers::{push_answer, refusal_in};
+pub use calls::push_call;
+pub use inputs::{push_ending, push_input, push_note};
+pub use told::push_told;

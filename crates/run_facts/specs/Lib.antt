@@ -1,4 +1,0 @@
-pub mod Dump
-pub mod Levels
-pub mod Lists
-pub mod Posts

@@ -1,9 +1,0 @@
--- Rows that cover lines.
-use Rattle.std.proofs.Common.{◌≡◌, ℕ, ◌+◌, ◌<◌, List, [], ◌∷◌, ◌++◌}
-use Rattle.run_rows.specs.declared.row.Row.{Row}
-use Rattle.run_rows.specs.Rows.{Cover}
-
--- one more row follows
-pub Cover-append : (first : ℕ) (rows : List Row) (end : ℕ) (row : Row) → Cover first rows end → row.first ≡ end → 0 < row.count → Cover first (rows ++ row ∷ []) (end + row.count)
-Cover-append first [] end row covered begins some = (cc, some, cc)
-Cover-append first (front ∷ rows) end row covered begins some = (covered.0, covered.1, Cover-append (first + front.count) rows end row covered.2 begins some)

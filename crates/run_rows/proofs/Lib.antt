@@ -1,4 +1,0 @@
-pub mod Again
-pub mod Clocks
-pub mod Covers
-mod Examples

@@ -1,5 +1,0 @@
-use Rattle.run_rows.specs.Rows.{AreAgain, bytes_of}
-use Rattle.run_rows.proofs.folding.are_again.Given as goal
-
-abbrev pub invariant-loop-place : goal.invariant-loop-place
-invariant-loop-place l = AreAgain (bytes_of l.lines) l.count l.at l.place

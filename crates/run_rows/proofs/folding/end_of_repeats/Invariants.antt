@@ -1,9 +1,0 @@
-use Rattle.std.proofs.Common.{◌≤◌, ◌-◌, length}
-use Rattle.run_rows.specs.Rows.{AreAgain, bytes_of}
-use Rattle.run_rows.proofs.folding.end_of_repeats.Given as goal
-
-abbrev pub invariant-loop-end : goal.invariant-loop-end
-invariant-loop-end l = record { behind : l.at ≤ l.end; there : l.end ≤ length l.lines; again : AreAgain (bytes_of l.lines) l.count l.at l.end }
-
-abbrev pub decreases-loop-end : goal.decreases-loop-end
-decreases-loop-end l = length l.lines - l.end

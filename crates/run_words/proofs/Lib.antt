@@ -1,2 +1,0 @@
-pub mod Appended
-mod Examples
