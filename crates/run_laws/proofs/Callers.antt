@@ -1,17 +1,16 @@
 -- Every note of a packet that was sent comes behind the turn that sends it.
 use Rattle.std.proofs.Common.{◌≡◌, ℕ, ◌≤◌, Bool, true, false, not, ◌&&◌, ◌||◌, List, [], ◌∷◌, ◌++◌, refl, ◌∙◌, sym, ap, arith, subst, append_assoc, ◌⊎◌, inl, inr, Some, fold, Option, None, ◌==◌, if◌then◌else◌}
-use Rattle.run_laws.proofs.Common.{decide, decide, fold-append, list_any, list_all, range_with_len, Call, Origin, Stimulus, Entry, Note, Input, Applications, Item, farewells, Scheduler, after_item, Config, Machine, booted, is_bootable, after_call, effect, Running, Runs, with_more_work, at_start, Pid, managed_block, is_turn_entry, up_to_call, ArrayVec, Blocks, no_blocks, managed_after, managed_kind}
+use Rattle.run_laws.proofs.Common.{decide, decide, fold-append, list_any, list_all, range_with_len, Call, Origin, Stimulus, Entry, Note, Item, Machine, booted, is_bootable, after_call, with_more_work, Pid, managed_block, is_turn_entry, up_to_call, ArrayVec, Blocks, no_blocks, managed_after, managed_kind}
 use Rattle.run_laws.specs.Sent.{Sender, IsSent, EverySent}
 use Rattle.run_laws.proofs.Outsiders.{turns-low}
-use Rattle.run_laws.proofs.Arrivals.{serve-untouched, effect-keeps}
-use Rattle.run_laws.proofs.event_order.Items.{with_agenda, facing}
+use Rattle.run_laws.proofs.Arrivals.{serve-untouched}
+use Rattle.run_laws.proofs.event_order.Items.{facing}
 use Rattle.run_laws.proofs.event_order.Runs.{Ran, AtEach, each-more, at_each}
-use Rattle.run_laws.proofs.event_order.Tally.{is_note, is_turn}
-use Rattle.run_laws.proofs.event_order.Steps.{Cases, law_of, is_quiet_item, turn_entry}
+use Rattle.run_laws.proofs.event_order.Tally.{is_note}
+use Rattle.run_laws.proofs.event_order.Steps.{Cases, law_of, turn_entry}
 use Rattle.run_laws.proofs.timer_deadlines.Fronts.{all-append, all-mapped, all-delivered}
-use Rattle.run_laws.proofs.Stores.{own_blocks, managed_store}
-use Rattle.run_laws.proofs.Marks.{due}
-use Rattle.run_laws.proofs.Whole.{Knowledge, told, told_all, Holds, WellTold, told_cases, boot-holds}
+use Rattle.run_laws.proofs.Stores.{managed_store}
+use Rattle.run_laws.proofs.Whole.{Knowledge, told_all, Holds, WellTold, told_cases, boot-holds}
 use Rattle.run_laws.proofs.KindLaws.{KindLaw, accepted, at_first, blocks-told}
 use Rattle.run_laws.proofs.Managed.{managed-keeps}
 use Rattle.run_laws.proofs.OwnBlocks.{HasBlocks, own-laws, boot-has}
@@ -90,26 +89,26 @@ module _ (p : ℕ) (few : p ≤ 19) where
 
   sending_cases : Cases Sending Silent (AtEach ShownBehind)
   sending_cases = record {
-        notes = λ m X entry items h. base.notes m X entry items h.holds;
-        free = λ m X h. record { holds = h.holds; front = front_none (handle_after X) (told_after X).now m.scheduler.agenda h.none };
-        carried = λ m X item items n s h.
-            record { holds = base.carried m X item items n s h.holds; none = grind (decide, h.front) };
-        served = λ m X q origin event items k h. record { holds = base.served m X q origin event items k h.holds; none = h.front };
-        called_back = λ m X q c h. record { holds = base.called_back m X q c h.holds; none = h.none };
-        round = λ m X h. record { holds = base.round m X h.holds; none = h.front };
-        turn = λ m X items q origin stimulus call h.
-            record { holds = base.turn m X items q origin stimulus call h.holds; front = sent_turn (q == p) m X items q origin stimulus call refl h.holds };
-        told = λ m X items q origin stimulus call h i. each-more ShownBehind X (turn_entry q origin stimulus call) i tt;
-        shown = λ m X items note h. grind (decide, fold-append, fold-append, accepted);
-        noted = λ m X items note h i. each-more ShownBehind X (Entry.Note note) i h.front.0;
-        other = λ X e n k i. each-more ShownBehind X e i (grind decide);
-        input = λ input m X h.
-            let woken : Machine = record m { work = 0 } in
-            record {
-              holds = base.input input m X h.holds;
-              front = grind (decide, fold-append, fold-append, accepted);
-            };
-      }
+    notes = λ m X entry items h. base.notes m X entry items h.holds;
+    free = λ m X h. record { holds = h.holds; front = front_none (handle_after X) (told_after X).now m.scheduler.agenda h.none };
+    carried = λ m X item items n s h.
+        record { holds = base.carried m X item items n s h.holds; none = grind (decide, h.front) };
+    served = λ m X q origin event items k h. record { holds = base.served m X q origin event items k h.holds; none = h.front };
+    called_back = λ m X q c h. record { holds = base.called_back m X q c h.holds; none = h.none };
+    round = λ m X h. record { holds = base.round m X h.holds; none = h.front };
+    turn = λ m X items q origin stimulus call h.
+        record { holds = base.turn m X items q origin stimulus call h.holds; front = sent_turn (q == p) m X items q origin stimulus call refl h.holds };
+    told = λ m X items q origin stimulus call h i. each-more ShownBehind X (turn_entry q origin stimulus call) i tt;
+    shown = λ m X items note h. grind (decide, fold-append, fold-append, accepted);
+    noted = λ m X items note h i. each-more ShownBehind X (Entry.Note note) i h.front.0;
+    other = λ X e n k i. each-more ShownBehind X e i (grind decide);
+    input = λ input m X h.
+        let woken : Machine = record m { work = 0 } in
+        record {
+          holds = base.input input m X h.holds;
+          front = grind (decide, fold-append, fold-append, accepted);
+        };
+  }
 
   run-sent : (run : Ran) → AtEach ShownBehind run.after.entries
   run-sent run =
@@ -191,21 +190,21 @@ Plain m X = all_plain m.scheduler.agenda ≡ true
 
 led_cases : Cases Led Plain (AtEach Sends)
 led_cases = record {
-      notes = λ m X entry items h. grind (arith, h);
-      free = λ m X h. plain-leads (sends_all X) m.scheduler.agenda h;
-      carried = λ m X item items n s h. grind (decide, all-mapped, all-append, all-delivered, m.scheduler);
-      served = λ m X q origin event items k h. rw ((serve-untouched q event (facing items m)).agenda) h;
-      called_back = λ m X q c h. h;
-      round = λ m X h. refl;
-      turn = grind (decide, fold-append, plain-leads, all-mapped, append_assoc, all-append);
-      told = λ m X items q origin stimulus call h i. each-more Sends X (turn_entry q origin stimulus call) i (λ f. absurd (grind (arith, f)));
-      shown = λ m X items note h. grind (decide, fold-append);
-      noted = λ m X items note h i. each-more Sends X (Entry.Note note) i (λ f. grind (arith, h, f));
-      other = λ X e n k i. each-more Sends X e i (λ f. absurd (grind (arith, k, f)));
-      input = λ input m X h.
-          let woken : Machine = record m { work = 0 } in
-          grind (decide, fold-append);
-    }
+  notes = λ m X entry items h. grind (arith, h);
+  free = λ m X h. plain-leads (sends_all X) m.scheduler.agenda h;
+  carried = λ m X item items n s h. grind (decide, all-mapped, all-append, all-delivered, m.scheduler);
+  served = λ m X q origin event items k h. rw ((serve-untouched q event (facing items m)).agenda) h;
+  called_back = λ m X q c h. h;
+  round = λ m X h. refl;
+  turn = grind (decide, fold-append, plain-leads, all-mapped, append_assoc, all-append);
+  told = λ m X items q origin stimulus call h i. each-more Sends X (turn_entry q origin stimulus call) i (λ f. absurd (grind (arith, f)));
+  shown = λ m X items note h. grind (decide, fold-append);
+  noted = λ m X items note h i. each-more Sends X (Entry.Note note) i (λ f. grind (arith, h, f));
+  other = λ X e n k i. each-more Sends X e i (λ f. absurd (grind (arith, k, f)));
+  input = λ input m X h.
+      let woken : Machine = record m { work = 0 } in
+      grind (decide, fold-append);
+}
 
 led : (run : Ran) → AtEach Sends run.after.entries
 led run =
@@ -217,15 +216,15 @@ Found sends entries = ((sends ≡ true) × (list_any is_turn_entry entries ≡ f
 
 sender-cons : (entry : Entry) (entries : List Entry) → Sender entries → Sender (entry ∷ entries)
 sender-cons entry entries s = record {
-      earlier = entry ∷ s.earlier;
-      p = s.p;
-      h = s.h;
-      origin = s.origin;
-      stimulus = s.stimulus;
-      between = s.between;
-      no_turn = s.no_turn;
-      split = grind decide;
-    }
+  earlier = entry ∷ s.earlier;
+  p = s.p;
+  h = s.h;
+  origin = s.origin;
+  stimulus = s.stimulus;
+  between = s.between;
+  no_turn = s.no_turn;
+  split = grind decide;
+}
 
 quiet-cons : (sends : Bool) (entry : Entry) (entries : List Entry) → is_turn_entry entry ≡ false → Found sends entries → Found sends (entry ∷ entries)
 quiet-cons = grind (decide, sender-cons)

@@ -1,6 +1,6 @@
 -- Heap memory: what its calls are answered, and that a process's blocks are its own.
 use Rattle.std.proofs.Common.{◌≡◌, ℕ, Option, Some}
-use Rattle.run_laws.proofs.Common.{decide, Call, Reply, ArrayVec, HeapStore, Memory, alloc_refusal, realloc_refusal, ask, done_or_no_room, Config, Machine, booted, after_call, no_blocks, unless_refused, heap_kind}
+use Rattle.run_laws.proofs.Common.{decide, Call, Reply, ArrayVec, HeapStore, Memory, alloc_refusal, realloc_refusal, ask, done_or_no_room, Machine, after_call, unless_refused, heap_kind}
 use Rattle.run_laws.proofs.Marks.{marks, due}
 use Rattle.run_laws.proofs.HeapStores.{own_heap, heap_store, heap-change, ask-rest}
 use Rattle.run_laws.proofs.KindLaws.{KindLaw, nothing, same_blocks}

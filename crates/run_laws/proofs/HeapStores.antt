@@ -1,6 +1,6 @@
 -- The heap blocks of a process, as its calls leave them.
 use Rattle.std.proofs.Common.{◌≡◌, ℕ, Bool, true, false, List, length, refl, ap, arith, Option, Some, None, ◌==◌, if◌then◌else◌}
-use Rattle.run_laws.proofs.Common.{decide, Call, Refusal, number_of, zeros, overwritten, HeapStore, allocated, reallocated, Memory, with_heap, is_heap_block, alloc_refusal, realloc_refusal, Part, part_called, ask, ask_part, ask_managed, ask_heap, ask_pool_of, done_or_no_room, is_kernel_process, Blocks, heap_after, option_map, resized, freed, with_bytes, free_refusal, write_refusal, unless_refused, heap_kind}
+use Rattle.run_laws.proofs.Common.{decide, Call, Refusal, number_of, zeros, overwritten, HeapStore, allocated, reallocated, Memory, with_heap, is_heap_block, alloc_refusal, realloc_refusal, Part, ask, ask_part, ask_managed, ask_heap, ask_pool_of, done_or_no_room, is_kernel_process, Blocks, heap_after, option_map, resized, freed, with_bytes, free_refusal, write_refusal, unless_refused, heap_kind}
 use Rattle.heap_core.specs.HeapStore.{block_of}
 use Rattle.node_memory.proofs.HeapBlocks.{Becomes, Results, alloc-results, realloc-results, free-results, write-results}
 use Rattle.run_laws.proofs.KindLaws.{Store, IsChange, same_blocks}

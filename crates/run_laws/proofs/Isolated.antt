@@ -1,12 +1,12 @@
 -- A memory that nobody else uses answers a process as a shared one does under a quota.
-use Rattle.std.proofs.Common.{◌≡◌, ℕ, ◌≤◌, Bool, true, false, length, refl, ◌∙◌, sym, ap, arith, Some, None, if◌then◌else◌, sum_by, zero, suc, ◌+◌, List, [], ◌∷◌, ◌++◌, subst, cond, append-nil, Option, ◌==◌, map, filter_map, take}
-use Rattle.run_laws.proofs.Common.{decide, decide, Call, number_of, block_of, size_of, taken_by, Memory, is_handle, ask, is_kernel_process, Blocks, no_blocks, managed_after, as_over_quota, is_managed_call, private_memory, sum_by-replicate, free, handles, Reply, Origin, Pid, Stimulus, Entry, Input, Applications, Frame, is_application, Config, Machine, booted, is_bootable, after_call, Running, Runs, at_start, IsAnsweredAlone, managed_kind, OwnTurn, own_from, reply_in, reply_of, is_done, ticks_in, managed_answer, replies_from, AreAnsweredAlike}
+use Rattle.std.proofs.Common.{◌≡◌, ℕ, ◌≤◌, Bool, true, false, length, refl, ◌∙◌, sym, ap, arith, Some, None, if◌then◌else◌, sum_by, zero, suc, ◌+◌, List, [], ◌∷◌, ◌++◌, cond, append-nil, Option, ◌==◌, map, filter_map, take}
+use Rattle.run_laws.proofs.Common.{decide, decide, Call, number_of, block_of, size_of, taken_by, Memory, is_handle, ask, is_kernel_process, Blocks, no_blocks, managed_after, as_over_quota, is_managed_call, private_memory, sum_by-replicate, handles, Reply, Origin, Pid, Stimulus, Entry, Frame, is_application, Config, Machine, booted, is_bootable, after_call, IsAnsweredAlone, managed_kind, OwnTurn, own_from, reply_in, reply_of, is_done, ticks_in, managed_answer, replies_from, AreAnsweredAlike}
 use Rattle.run_laws.proofs.event_order.Runs.{Ran}
 use Rattle.run_laws.proofs.KindLaws.{accepted, same_blocks, KindLaw}
 use Rattle.run_laws.proofs.Managed.{all_same, managed-keeps}
 use Rattle.run_laws.proofs.Stores.{own_blocks, changes_managed, ask-rest, ask-shape, managed-change, managed_store}
 use Rattle.run_laws.proofs.Marks.{marks, due}
-use Rattle.run_laws.proofs.OwnBlocks.{HasBlocks, own-laws, boot-has, each-call, one_reply, told-reply}
+use Rattle.run_laws.proofs.OwnBlocks.{HasBlocks, own-laws, each-call, one_reply}
 use Rattle.run_laws.proofs.Whole.{Knowledge, told, answered, LawAt, Laws, WellTold, law-of, run-told}
 
 -- all blocks of this memory are p's, and no quota limits it
@@ -181,10 +181,10 @@ module _ (quota p : ℕ) where
   -- at boot neither memory has a block
   boot-like : (c : Config) → c.quota ≡ Some quota → IsLikeOwn (booted c).memory [] (private_memory quota)
   boot-like c e = record {
-        has = grind decide;
-        limit = e;
-        alone = alone-at-first quota p;
-      }
+    has = grind decide;
+    limit = e;
+    alone = alone-at-first quota p;
+  }
 
 -- the run
 

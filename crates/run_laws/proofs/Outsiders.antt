@@ -1,6 +1,6 @@
 -- Nobody takes a turn but the applications of the mote.
-use Rattle.std.proofs.Common.{◌≡◌, ℕ, zero, suc, ◌+◌, ◌≤◌, Bool, true, false, not, List, [], ◌∷◌, ◌++◌, refl, arith, ◌==◌, map, nat_le}
-use Rattle.run_laws.proofs.Common.{decide, list_all, range_with_len, decide, Call, Origin, Stimulus, Entry, Input, Event, Applications, State, Item, state_of, is_application, Scheduler, after_item, in_front, Config, Machine, is_bootable, after_call, effect, serve, Running, Runs, with_more_work, at_start}
+use Rattle.std.proofs.Common.{◌≡◌, ℕ, zero, suc, ◌+◌, ◌≤◌, Bool, true, false, not, List, ◌∷◌, ◌++◌, refl, arith, ◌==◌, map, nat_le}
+use Rattle.run_laws.proofs.Common.{decide, list_all, range_with_len, decide, Call, Origin, Stimulus, Entry, Input, Event, State, Item, state_of, is_application, Scheduler, Machine, is_bootable, after_call, effect, serve}
 use Rattle.run_laws.proofs.Arrivals.{effect-keeps, serve-untouched}
 use Rattle.run_laws.proofs.event_order.Items.{with_agenda, facing}
 use Rattle.run_laws.proofs.event_order.Runs.{Ran, AtEach, each-more, at_each}
@@ -66,20 +66,20 @@ module _ (p : ℕ) (high : nat_le 4 p ≡ true) where
 
   out_cases : Cases Out Out (AtEach IsOthers)
   out_cases = record {
-        notes = λ m X entry items h. grind (arith, h.agenda);
-        free = λ m X h. h;
-        carried = λ m X item items n s h. grind (decide, all-append, all-mapped, all-delivered, without_item, state_of-with_other, state_of-without, state_of-without_other, state_of-with_mark);
-        served = λ m X q origin event items k h. served-out q event (facing items m) (without_item (Item.Give q origin (Stimulus.Event event)) items m.scheduler h);
-        called_back = λ m X q c h. grind (decide, all-append, m.scheduler);
-        round = λ m X h. grind decide;
-        turn = λ m X items q origin stimulus call h.
-            grind (decide, call-applications, all-mapped, all-append, state_of-with_other, state_of-with_mark);
-        told = λ m X items q origin stimulus call h i. each-more IsOthers X (turn_entry q origin stimulus call) i (rw (other_turn q origin stimulus items m h) refl);
-        shown = λ m X items note h. without_item (Item.Show (Entry.Note note)) items m.scheduler h;
-        noted = λ m X items note h i. each-more IsOthers X (Entry.Note note) i refl;
-        other = λ X e n k i. each-more IsOthers X e i (other_entry e n);
-        input = λ input m X h. effect-out input (record m { work = 0 }) h;
-      }
+    notes = λ m X entry items h. grind (arith, h.agenda);
+    free = λ m X h. h;
+    carried = λ m X item items n s h. grind (decide, all-append, all-mapped, all-delivered, without_item, state_of-with_other, state_of-without, state_of-without_other, state_of-with_mark);
+    served = λ m X q origin event items k h. served-out q event (facing items m) (without_item (Item.Give q origin (Stimulus.Event event)) items m.scheduler h);
+    called_back = λ m X q c h. grind (decide, all-append, m.scheduler);
+    round = λ m X h. grind decide;
+    turn = λ m X items q origin stimulus call h.
+        grind (decide, call-applications, all-mapped, all-append, state_of-with_other, state_of-with_mark);
+    told = λ m X items q origin stimulus call h i. each-more IsOthers X (turn_entry q origin stimulus call) i (rw (other_turn q origin stimulus items m h) refl);
+    shown = λ m X items note h. without_item (Item.Show (Entry.Note note)) items m.scheduler h;
+    noted = λ m X items note h i. each-more IsOthers X (Entry.Note note) i refl;
+    other = λ X e n k i. each-more IsOthers X e i (other_entry e n);
+    input = λ input m X h. effect-out input (record m { work = 0 }) h;
+  }
 
   starts-out : (n from : ℕ) → from + n ≤ p → list_all keeps_out (map (λ q. Item.Start q) (range_with_len from n)) ≡ true
   starts-out zero from h = refl

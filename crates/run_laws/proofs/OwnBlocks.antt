@@ -1,6 +1,6 @@
 -- The blocks of a process are what its own calls make of them: through each call, and so in every run.
 use Rattle.std.proofs.Common.{◌≡◌, ℕ, ◌≤◌, Bool, true, false, ◌&&◌, List, [], ◌∷◌, ◌++◌, length, refl, ◌∙◌, sym, arith, subst, append-nil, Option, Some, None, ◌==◌, nat_le, drop, slice_get}
-use Rattle.run_laws.proofs.Common.{decide, list_all, decide, Call, Reply, Input, Entry, Applications, number_of, Frame, front_slot, with_block, Memory, with_managed, ask, is_kernel_process, Config, Machine, booted, after_call, Running, Runs, at_start, Blocks, no_blocks, own, up_to_call, option_map, length-set, frame_dropped, is_memory_call, asked_of_memory, over_accepted, AreOwn}
+use Rattle.run_laws.proofs.Common.{decide, list_all, decide, Call, Reply, Entry, number_of, Frame, front_slot, with_block, Memory, with_managed, ask, is_kernel_process, Config, Machine, booted, after_call, Blocks, no_blocks, own, up_to_call, option_map, length-set, frame_dropped, is_memory_call, over_accepted, AreOwn}
 use Rattle.run_laws.proofs.event_order.Runs.{Ran}
 use Rattle.run_laws.proofs.Marks.{marks, due}
 use Rattle.run_laws.proofs.KindLaws.{KindLaw, Store, IsChange, EveryCall, accepted, at_first, blocks-told, every-own}

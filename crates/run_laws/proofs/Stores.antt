@@ -1,6 +1,6 @@
 -- Managed memory: what each call keeps of it.
-use Rattle.std.proofs.Common.{◌≡◌, ℕ, ◌+◌, ◌≤◌, Bool, true, false, List, [], length, refl, ◌∙◌, ap, arith, Option, Some, None, ◌==◌, if◌then◌else◌, ◌≢◌, is_some, sum_by, unwrap_or}
-use Rattle.run_laws.proofs.Common.{decide, decide, Call, Refusal, number_of, zeros, overwritten, block_of, bytes_of, size_of, taken_by, with_block, Memory, with_managed, is_handle, Part, part_called, Asked, ask, ask_part, ask_managed, ask_heap, ask_pool_of, is_kernel_process, Blocks, managed_after, managed_kind, option_map, get_or-set_same, get_or-set_other, length-set, copy_refusal, unless_refused, done, copied}
+use Rattle.std.proofs.Common.{◌≡◌, ℕ, ◌+◌, ◌≤◌, Bool, true, false, List, [], length, refl, arith, Option, Some, None, ◌==◌, if◌then◌else◌, is_some, sum_by, unwrap_or}
+use Rattle.run_laws.proofs.Common.{decide, decide, Call, Refusal, zeros, overwritten, block_of, bytes_of, size_of, taken_by, with_block, Memory, with_managed, is_handle, Part, Asked, ask, ask_part, ask_managed, ask_heap, ask_pool_of, is_kernel_process, Blocks, managed_after, managed_kind, option_map, get_or-set_same, get_or-set_other, length-set, copy_refusal, unless_refused, done, copied}
 use Rattle.node_memory.specs.ManagedCalls.{alloc_refusal, free_refusal, write_refusal}
 use Rattle.run_laws.proofs.KindLaws.{Store, IsChange, same_blocks}
 use Rattle.run_laws.proofs.Totals.{total-put}

@@ -1,6 +1,6 @@
 -- What a process's managed blocks take, and what all managed blocks take.
 use Rattle.std.proofs.Common.{◌≡◌, ℕ, zero, suc, ◌+◌, ◌≤◌, ◌<◌, Bool, true, false, List, length, refl, ap, arith, Option, ◌==◌, ◌≢◌, sum_by}
-use Rattle.run_laws.proofs.Common.{decide, range_with_len, decide, number_of, ManagedStore, block_of, size_of, taken_by, with_block, get_or-set_same, get_or-set_other, sum_by-cons, sum_by-set}
+use Rattle.run_laws.proofs.Common.{decide, range_with_len, decide, number_of, ManagedStore, size_of, taken_by, with_block, get_or-set_same, get_or-set_other, sum_by-cons, sum_by-set}
 
 -- sums over numbers in a row
 

@@ -1,10 +1,10 @@
 -- What the entries told a process, and how a step adds to it.
-use Rattle.std.proofs.Common.{◌≡◌, ℕ, Bool, true, false, List, [], ◌∷◌, ◌++◌, ◌≤◌, refl, arith, subst, Option, Some, None, ◌==◌, if◌then◌else◌, fold, zero, suc, ◌+◌, not, ◌∙◌, append_assoc, map, find, nat_le}
-use Rattle.run_laws.proofs.Common.{decide, Call, Reply, Event, Origin, Stimulus, Entry, Frame, frame_taken, Memory, Item, is_kernel_process, in_front, Machine, scheduled, after_call, serve, with_more_work, reply_of, list_all, range_with_len, fold-append, Input, Note, Applications, PacketQueue, free_slot, state_of, Config, Scheduler, effect, booted, Running, Runs, at_start, reply_in, HasCall, up_to_call, is_held}
+use Rattle.std.proofs.Common.{◌≡◌, ℕ, Bool, true, false, List, [], ◌∷◌, ◌++◌, ◌≤◌, refl, arith, subst, Option, Some, None, ◌==◌, if◌then◌else◌, fold, zero, suc, ◌+◌, append_assoc, map, find, nat_le}
+use Rattle.run_laws.proofs.Common.{decide, Call, Reply, Event, Origin, Stimulus, Entry, Frame, frame_taken, Memory, Item, is_kernel_process, in_front, Machine, scheduled, after_call, serve, with_more_work, reply_of, list_all, range_with_len, fold-append, Note, PacketQueue, free_slot, state_of, Config, Scheduler, booted, at_start, reply_in, HasCall, up_to_call}
 use Rattle.run_laws.proofs.Marks.{marks, fit, due, idle, only_removes, is_turn_item, after_item-kept, after_call-fit, after_call-others, state_of-with_mark}
 use Rattle.run_laws.proofs.Arrivals.{serve-untouched, effect-keeps}
 use Rattle.run_laws.proofs.event_order.Items.{with_agenda, facing}
-use Rattle.run_laws.proofs.event_order.Steps.{carried, turn_entry, Cases, law_of, kernel_carried, is_quiet_item}
+use Rattle.run_laws.proofs.event_order.Steps.{carried, turn_entry, Cases, law_of, kernel_carried}
 use Rattle.run_laws.proofs.event_order.Runs.{Ran, Prefixes, at_prefixes}
 use Rattle.run_laws.proofs.event_order.Tally.{is_turn}
 use Rattle.run_laws.proofs.timer_deadlines.Fronts.{all-append, all-mapped}
@@ -188,21 +188,21 @@ module _ {S : Type 0} (next : Call → Reply → S → S) (Law : S → Call → 
 
   pub told_cases : Laws next Law Rel p → (start : Knowledge S) → Cases (Holds start) (Holds start) (WellTold start)
   told_cases laws start = record {
-        notes = λ m X entry items h. grind (arith, h.regular);
-        free = λ m X h. h;
-        carried = λ m X item items n s h. carried-holds start item items m X (grind (arith, n)) h;
-        served = λ m X q origin event items k h.
-            let given = carried-holds start (Item.Give q origin (Stimulus.Event event)) items m X refl h in
-            served-holds start q event (facing items m) X (subst (λ n. Holds start n X) (kernel_carried q origin (Stimulus.Event event) items m k) given);
-        called_back = λ m X q c h. record { regular = h.regular; now = called_back-now next Law Rel p q c (told_all next p start X) m h.now };
-        round = λ m X h. grind decide;
-        turn = turn-holds laws start;
-        told = λ m X items q origin stimulus call h i. grind (decide, well-append);
-        shown = shown-holds start;
-        noted = λ m X items note h i. well-other start X (Entry.Note note) refl i;
-        other = λ X e n k i. well-other start X e n i;
-        input = grind (decide, effect-keeps, state_of-with_mark, effect-keeps, fold-append, slot_low);
-      }
+    notes = λ m X entry items h. grind (arith, h.regular);
+    free = λ m X h. h;
+    carried = λ m X item items n s h. carried-holds start item items m X (grind (arith, n)) h;
+    served = λ m X q origin event items k h.
+        let given = carried-holds start (Item.Give q origin (Stimulus.Event event)) items m X refl h in
+        served-holds start q event (facing items m) X (subst (λ n. Holds start n X) (kernel_carried q origin (Stimulus.Event event) items m k) given);
+    called_back = λ m X q c h. record { regular = h.regular; now = called_back-now next Law Rel p q c (told_all next p start X) m h.now };
+    round = λ m X h. grind decide;
+    turn = turn-holds laws start;
+    told = λ m X items q origin stimulus call h i. grind (decide, well-append);
+    shown = shown-holds start;
+    noted = λ m X items note h i. well-other start X (Entry.Note note) refl i;
+    other = λ X e n k i. well-other start X e n i;
+    input = grind (decide, effect-keeps, state_of-with_mark, effect-keeps, fold-append, slot_low);
+  }
 
   marks-starts : (n from : ℕ) → marks p (map (λ q. Item.Start q) (range_with_len from n)) ≡ []
   marks-starts zero from = refl

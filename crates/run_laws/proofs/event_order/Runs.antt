@@ -1,6 +1,6 @@
 -- What every step keeps holds in every run: at each prefix of its transcript, and where the mote rests.
-use Rattle.run_laws.proofs.Common.{decide, decide, list_any, Input, Entry, Applications, Job, after_front, job, Config, Machine, scheduled, serve, IsAtRest, effect, fed, Answers, StepMade, Running, Runs, ComesToRest, silent, one_step, job_done, within_limit, is_still, is_at_rest, after_step, after_steps, answers_after, at_start, with_input, gone_on, list_any-append}
-use Rattle.std.proofs.Common.{◌≡◌, ℕ, zero, suc, ◌+◌, Bool, true, false, ◌||◌, ◌⊎◌, inl, inr, List, [], ◌∷◌, ◌++◌, refl, ap, ◌∙◌, sym, subst, arith, append-nil, Option, Some, None, option_to_list, if◌then◌else◌}
+use Rattle.run_laws.proofs.Common.{decide, decide, list_any, Input, Entry, Applications, Job, after_front, job, Config, Machine, scheduled, IsAtRest, effect, Answers, StepMade, Running, Runs, ComesToRest, silent, one_step, job_done, within_limit, is_still, is_at_rest, after_step, after_steps, answers_after, at_start, with_input, gone_on, list_any-append}
+use Rattle.std.proofs.Common.{◌≡◌, ℕ, zero, suc, Bool, true, false, ◌||◌, ◌⊎◌, inr, List, [], ◌∷◌, ◌++◌, refl, ◌∙◌, subst, arith, append-nil, Option, Some, None, option_to_list, if◌then◌else◌}
 use Rattle.mote_types.specs.Entries.{is_halt}
 use Rattle.run_laws.proofs.event_order.Tally.{is_note}
 use Rattle.run_laws.proofs.Arrivals.{serve-untouched}
@@ -213,11 +213,11 @@ module _ (I : Machine → List Entry → Type 0) (P Q : List Entry → Type 0) (
 
   good-start : (c : Config) → I (at_start c).machine [] → P [] → Good I P Q (at_start c)
   good-start c first none = record {
-        prefixes = λ before later e. start before later e;
-        inputs = λ before later input e. grind (decide, not_nil);
-        holds = λ live. first;
-        halts = λ halted. absurd (grind (arith, halted));
-      }
+    prefixes = λ before later e. start before later e;
+    inputs = λ before later input e. grind (decide, not_nil);
+    holds = λ live. first;
+    halts = λ halted. absurd (grind (arith, halted));
+  }
     where
       start : (before later : List Entry) → before ++ later ≡ [] → P before
       start [] later e = none

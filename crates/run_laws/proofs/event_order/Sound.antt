@@ -1,11 +1,11 @@
 -- One step keeps the invariant, and each entry keeps the order of events.
-use Rattle.std.proofs.Common.{◌≡◌, ℕ, Bool, true, false, List, [], ◌∷◌, ◌++◌, refl, ap, ◌∙◌, sym, arith, append-nil, append_assoc, nat_le, zero, suc, ◌+◌, length, subst, map, nat_lt}
-use Rattle.run_laws.proofs.Common.{decide, decide, Call, Stimulus, Origin, Event, Note, Entry, Item, Scheduler, after_item, in_front, Machine, after_call, serve, reply_of, has_ended, given_events, accepted_events, list_any, range_with_len, Input, Applications, Queued, is_empty, is_application, Config, effect, Running, Runs, at_start, with_more_work, at_boot, is_idle, InOrderFor, NoLostEventFor}
-use Rattle.run_laws.proofs.event_order.Tally.{Known, nothing_known, told, accepted_with, accepted_with-none, accepted-turn, accepted-other, own_event, given_in, given-more, ends_in, ended-more, is_turn, is_ordered, seats, stands, waiting_in, waits, queued, FrontAgrees, seats-with_mark, is_start, is_covered}
-use Rattle.run_laws.proofs.event_order.Items.{with_agenda, carried-ordered, carried-stands, holds-append, facing}
+use Rattle.std.proofs.Common.{◌≡◌, ℕ, Bool, true, false, List, [], ◌∷◌, ◌++◌, refl, ap, ◌∙◌, sym, arith, append-nil, append_assoc, nat_le, zero, suc, ◌+◌, length, map, nat_lt}
+use Rattle.run_laws.proofs.Common.{decide, decide, Call, Stimulus, Origin, Event, Note, Entry, Item, Scheduler, Machine, after_call, has_ended, given_events, accepted_events, list_any, range_with_len, Input, Queued, is_application, Config, effect, at_start, with_more_work, at_boot, is_idle, InOrderFor, NoLostEventFor}
+use Rattle.run_laws.proofs.event_order.Tally.{Known, nothing_known, told, accepted_with, accepted_with-none, accepted-turn, accepted-other, own_event, given_in, given-more, ended-more, is_turn, is_ordered, seats, stands, waiting_in, waits, queued, FrontAgrees, seats-with_mark, is_start, is_covered}
+use Rattle.run_laws.proofs.event_order.Items.{with_agenda, carried-ordered, carried-stands, facing}
 use Rattle.run_laws.proofs.event_order.Waiting.{all_waiting, carried-waiting, serve-served}
 use Rattle.run_laws.proofs.Arrivals.{serve-untouched, effect-keeps}
-use Rattle.run_laws.proofs.event_order.Steps.{is_quiet_item, Cases, law_of, kernel_carried}
+use Rattle.run_laws.proofs.event_order.Steps.{is_quiet_item, Cases, law_of}
 use Rattle.run_laws.proofs.event_order.After.{after-ordered, after-stands, after-waits, after-queued}
 use Rattle.run_laws.proofs.event_order.Runs.{Ran, Law, at_prefixes, at_rest}
 
@@ -180,20 +180,20 @@ SoundFreeOf p m X = SoundFree p m.scheduler X
 
 pub sound_cases : (p : ℕ) → nat_le 4 p ≡ true → Cases (SoundOf p) (SoundFreeOf p) (IsInOrder p)
 sound_cases p a = record {
-      notes = λ m X entry items h. grind (arith, h.ordered);
-      free = λ m X h. sound-free p m.scheduler X h;
-      carried = λ m X item items n s h. grind (decide, carried-ordered, carried-stands, carried-waiting, no_reply_front, m.scheduler);
-      served = λ m X q origin event items k h.
-          grind (decide, serve-untouched q event (facing items m), serve-served p a q event (facing items m));
-      called_back = λ m X q c h. grind (decide, m.scheduler);
-      round = λ m X h. grind decide;
-      turn = λ m X items q origin stimulus call h. turn_sound p X (with_more_work (facing items m)) q origin stimulus call h;
-      told = λ m X items q origin stimulus call h i. turn_order p X m.scheduler items q origin stimulus call h;
-      shown = λ m X items note h. shown_sound p X items note m.scheduler h;
-      noted = λ m X items note h. order-other p X (Entry.Note note) refl;
-      other = λ X e n k. order-other p X e n;
-      input = grind (decide, sound-other, effect-sound);
-    }
+  notes = λ m X entry items h. grind (arith, h.ordered);
+  free = λ m X h. sound-free p m.scheduler X h;
+  carried = λ m X item items n s h. grind (decide, carried-ordered, carried-stands, carried-waiting, no_reply_front, m.scheduler);
+  served = λ m X q origin event items k h.
+      grind (decide, serve-untouched q event (facing items m), serve-served p a q event (facing items m));
+  called_back = λ m X q c h. grind (decide, m.scheduler);
+  round = λ m X h. grind decide;
+  turn = λ m X items q origin stimulus call h. turn_sound p X (with_more_work (facing items m)) q origin stimulus call h;
+  told = λ m X items q origin stimulus call h i. turn_order p X m.scheduler items q origin stimulus call h;
+  shown = λ m X items note h. shown_sound p X items note m.scheduler h;
+  noted = λ m X items note h. order-other p X (Entry.Note note) refl;
+  other = λ X e n k. order-other p X e n;
+  input = grind (decide, sound-other, effect-sound);
+}
 
 order_law : (p : ℕ) → nat_le 4 p ≡ true → Law (SoundOf p) (IsInOrder p)
 order_law p a = law_of (sound_cases p a)

@@ -1,6 +1,6 @@
 -- What holds of each kind of step holds of every step.
 use Rattle.std.proofs.Common.{◌≡◌, ℕ, Bool, true, false, List, [], ◌∷◌, ◌++◌, refl, sym, subst, append-nil, Option, Some, None, if◌then◌else◌}
-use Rattle.run_laws.proofs.Common.{decide, Call, Stimulus, Event, Origin, Input, Note, Entry, Queued, Item, Job, is_kernel_process, after_item, in_front, after_front_of, job_at, job_of_give, job_of_event, first_event, wants_round, Machine, scheduled, after_call, serve, Answers, StepMade, silent, one_step, job_done, within_limit, with_more_work, effect}
+use Rattle.run_laws.proofs.Common.{decide, Call, Stimulus, Event, Origin, Input, Note, Entry, Queued, Item, Job, is_kernel_process, after_item, in_front, after_front_of, job_at, job_of_give, job_of_event, first_event, wants_round, Machine, scheduled, after_call, serve, Answers, silent, job_done, with_more_work, effect}
 use Rattle.run_laws.proofs.event_order.Tally.{is_turn, is_note}
 use Rattle.run_laws.proofs.event_order.Items.{with_agenda, facing}
 use Rattle.run_laws.proofs.event_order.Runs.{Law, Kept}
@@ -108,11 +108,11 @@ module _ (I J : Machine → List Entry → Type 0) (P : List Entry → Type 0) (
 
   cases_law : Law I P
   cases_law = record {
-        step = grind (decide, silent_kept, step_kept);
-        notes = λ m X h. shows_notes X m.scheduler.agenda m refl h;
-        input = λ input m X h i. cases.input input m X h;
-        shown = λ input X i. grind decide;
-      }
+    step = grind (decide, silent_kept, step_kept);
+    notes = λ m X h. shows_notes X m.scheduler.agenda m refl h;
+    input = λ input m X h i. cases.input input m X h;
+    shown = λ input X i. grind decide;
+  }
 
 pub law_of : {I J : Machine → List Entry → Type 0} {P : List Entry → Type 0} → Cases I J P → Law I P
 law_of {I} {J} {P} cases = cases_law I J P cases

@@ -3,7 +3,7 @@
 use Rattle.run_laws.proofs.event_order.Waiting.{given-running}
 use Rattle.run_laws.proofs.timer_deadlines.Timing.{OwnTimer, own_timer}
 use Rattle.std.proofs.Common.{◌≡◌, ℕ, Bool, true, false, ◌&&◌, ◌||◌, List, [], ◌∷◌, ◌++◌, refl, arith, Option, None, fold, ◌==◌, nat_le, ◌≤◌, subst, nat_lt}
-use Rattle.run_laws.proofs.Common.{list_any-append, list_all, list_any, decide, Call, Reply, Stimulus, Event, Origin, Entry, Item, of_event, zero_cell, is_armed, Machine, after_call, serve, OwnTurn, has_ended, clock_after, Standing, standing_after, standing, is_timer_event, with_more_work, range_with_len, Input, Applications, Timer, is_timer, Timers, is_due, deadline, Config, is_bootable, effect, Running, Runs, is_at_rest, at_start, is_application, NoLostTimerFor}
+use Rattle.run_laws.proofs.Common.{list_any-append, list_all, list_any, decide, Call, Reply, Stimulus, Event, Origin, Entry, Item, of_event, zero_cell, is_armed, Machine, after_call, serve, OwnTurn, has_ended, clock_after, Standing, standing_after, standing, is_timer_event, with_more_work, Timer, is_timer, Timers, is_due, deadline, Config, is_bootable, is_at_rest, at_start, is_application, NoLostTimerFor}
 use Rattle.run_laws.proofs.event_order.Tally.{is_turn, ended-more, ends_in}
 use Rattle.run_laws.proofs.event_order.Items.{with_agenda, facing}
 use Rattle.run_laws.proofs.timer_deadlines.Ledgers.{Ledger, ledger_after, turns_or, told_reply, told-front, turns-turn, turns-other, turns-none, fold-append}
@@ -13,7 +13,7 @@ use Rattle.run_laws.proofs.timer_deadlines.Moves.{FrontIs, Setting, after-moves}
 use Rattle.run_laws.proofs.timer_deadlines.Early.{no_reply_front, turn_setting, Timely, Free, IsTimely, timely-free, timely_cases, boot_timely}
 use Rattle.run_laws.proofs.event_order.Steps.{is_quiet_item, carried, turn_entry, Cases, law_of, kernel_carried}
 use Rattle.run_laws.proofs.timer_deadlines.Farewells.{is_no_exited, is_doomed, has_farewell, is_farewell, carried-doomed, carried-farewell, after-doomed, after-farewell, after-events, serve-events}
-use Rattle.run_laws.proofs.timer_deadlines.Awaited.{is_expected, gives, queues, serve-held, Awaits, standing_then, after-expected, turn-awaits}
+use Rattle.run_laws.proofs.timer_deadlines.Awaited.{is_expected, queues, serve-held, Awaits, standing_then, after-expected, turn-awaits}
 use Rattle.run_laws.proofs.timer_deadlines.Fronts.{carried-any, none-mapped}
 use Rattle.run_laws.proofs.event_order.Runs.{Ran, at_rest}
 use Rattle.run_laws.proofs.timer_deadlines.Watched.{Watched, without_item, watched-carried, watched-front, watched-serve, watched-turn, watched-input, rest-not_due}
@@ -64,9 +64,9 @@ module _ (o : OwnTimer) (X : List Entry) where
       → Sound o.p (with_agenda (item ∷ items) m.scheduler) X → list_all is_no_exited m.scheduler.events ≡ true
       → Heeded o (facing (item ∷ items) m) X → HeededFree o (carried item items m) X
   heeded-carried item items m a n sound clean h = record {
-        farewell = λ alive spared. carried-farewell o.p item items m.scheduler clean (h.farewell alive (carried-doomed o.p item items m.scheduler n spared));
-        kept = grind (decide, carried-doomed, no_reply_front, still_expected, carried-any, list_any-append, given-running);
-      }
+    farewell = λ alive spared. carried-farewell o.p item items m.scheduler clean (h.farewell alive (carried-doomed o.p item items m.scheduler n spared));
+    kept = grind (decide, carried-doomed, no_reply_front, still_expected, carried-any, list_any-append, given-running);
+  }
 
   -- a kernel process is told the event
   pub heeded-serve : (q : ℕ) (origin : Origin) (event : Event) (items : List Item) (m : Machine)
@@ -158,71 +158,71 @@ module _ (o : OwnTimer) (low : nat_le 4 o.p ≡ true) (high : nat_lt o.p 20 ≡ 
 
   attended_cases : Cases (Attended o) (AttendedFree o) Anything
   attended_cases = record {
-        notes = λ m X entry items h. timely.notes m X entry items h.timely;
-        free = λ m X h.
-            record {
-              timely = timely-free o m X h.timely;
-              sound = sound-free o.p m.scheduler X h.sound;
-              watched = h.watched;
-              clean = h.clean;
-              heeded = grind (decide, h.heeded);
-            };
-        carried = λ m X item items n s h.
-            record {
-              timely = timely.carried m X item items n s h.timely;
-              sound = sound.carried m X item items n s h.sound;
-              watched = watched-carried item items m n s (grind (arith, h.timely.steady.regular)) h.watched;
-              clean = grind decide;
-              heeded = heeded-carried o X item items m low n h.sound h.clean h.heeded;
-            };
-        served = λ m X q origin event items k h.
-            let gone : HeededFree o (facing items m) X =
-            subst (λ n. HeededFree o n X) (kernel_carried q origin (Stimulus.Event event) items m k)
-            (heeded-carried o X (Item.Give q origin (Stimulus.Event event)) items m low refl h.sound h.clean h.heeded) in
-            record {
-              timely = timely.served m X q origin event items k h.timely;
-              sound = sound.served m X q origin event items k h.sound;
-              watched = watched-serve q origin event items m h.watched;
-              clean = serve-events q event (facing items m) h.clean;
-              heeded = heeded-serve o X q origin event items m h.heeded gone;
-            };
-        called_back = λ m X q c h.
-            record {
-              timely = timely.called_back m X q c h.timely;
-              sound = sound.called_back m X q c h.sound;
-              watched = watched-front (Item.Give q Origin.Callback (Stimulus.Callback c) ∷ []) m h.watched;
-              clean = h.clean;
-              heeded = record { farewell = h.heeded.farewell; kept = h.heeded.kept };
-            };
-        round = grind decide;
-        turn = λ m X items q origin stimulus call h.
-            record {
-              timely = timely.turn m X items q origin stimulus call h.timely;
-              sound = sound.turn m X items q origin stimulus call h.sound;
-              watched = watched-turn items q origin stimulus call m (with_more_work (facing items m)) refl refl refl h.watched;
-              clean = after-events call q (with_more_work (facing items m)) h.clean;
-              heeded = heeded-turn o X m items q origin stimulus call h.timely.steady.clock (turn_setting o low high X m items q origin stimulus h.timely) h.heeded;
-            };
-        told = λ m X items q origin stimulus call h i. tt;
-        shown = λ m X items note h.
-            record {
-              timely = timely.shown m X items note h.timely;
-              sound = sound.shown m X items note h.sound;
-              watched = without_item (Item.Show (Entry.Note note)) items m refl h.watched;
-              clean = h.clean;
-              heeded = heeded-other o X (Entry.Note note) (facing (Item.Show (Entry.Note note) ∷ items) m) (facing items m) refl (λ d. d) refl (λ k f. f) refl refl h.heeded;
-            };
-        noted = λ m X items note h i. tt;
-        other = λ X e n k i. tt;
-        input = λ input m X h.
-            record {
-              timely = timely.input input m X h.timely;
-              sound = sound.input input m X h.sound;
-              watched = watched-input input m h.watched;
-              clean = effect-keeps (λ s. list_all is_no_exited s.events ≡ true) input (record m { work = 0 }) h.clean (λ q. h.clean) (λ refusal. h.clean);
-              heeded = grind (decide, heeded-other, effect-keeps, h.heeded);
-            };
-      }
+    notes = λ m X entry items h. timely.notes m X entry items h.timely;
+    free = λ m X h.
+        record {
+          timely = timely-free o m X h.timely;
+          sound = sound-free o.p m.scheduler X h.sound;
+          watched = h.watched;
+          clean = h.clean;
+          heeded = grind (decide, h.heeded);
+        };
+    carried = λ m X item items n s h.
+        record {
+          timely = timely.carried m X item items n s h.timely;
+          sound = sound.carried m X item items n s h.sound;
+          watched = watched-carried item items m n s (grind (arith, h.timely.steady.regular)) h.watched;
+          clean = grind decide;
+          heeded = heeded-carried o X item items m low n h.sound h.clean h.heeded;
+        };
+    served = λ m X q origin event items k h.
+        let gone : HeededFree o (facing items m) X =
+        subst (λ n. HeededFree o n X) (kernel_carried q origin (Stimulus.Event event) items m k)
+        (heeded-carried o X (Item.Give q origin (Stimulus.Event event)) items m low refl h.sound h.clean h.heeded) in
+        record {
+          timely = timely.served m X q origin event items k h.timely;
+          sound = sound.served m X q origin event items k h.sound;
+          watched = watched-serve q origin event items m h.watched;
+          clean = serve-events q event (facing items m) h.clean;
+          heeded = heeded-serve o X q origin event items m h.heeded gone;
+        };
+    called_back = λ m X q c h.
+        record {
+          timely = timely.called_back m X q c h.timely;
+          sound = sound.called_back m X q c h.sound;
+          watched = watched-front (Item.Give q Origin.Callback (Stimulus.Callback c) ∷ []) m h.watched;
+          clean = h.clean;
+          heeded = record { farewell = h.heeded.farewell; kept = h.heeded.kept };
+        };
+    round = grind decide;
+    turn = λ m X items q origin stimulus call h.
+        record {
+          timely = timely.turn m X items q origin stimulus call h.timely;
+          sound = sound.turn m X items q origin stimulus call h.sound;
+          watched = watched-turn items q origin stimulus call m (with_more_work (facing items m)) refl refl refl h.watched;
+          clean = after-events call q (with_more_work (facing items m)) h.clean;
+          heeded = heeded-turn o X m items q origin stimulus call h.timely.steady.clock (turn_setting o low high X m items q origin stimulus h.timely) h.heeded;
+        };
+    told = λ m X items q origin stimulus call h i. tt;
+    shown = λ m X items note h.
+        record {
+          timely = timely.shown m X items note h.timely;
+          sound = sound.shown m X items note h.sound;
+          watched = without_item (Item.Show (Entry.Note note)) items m refl h.watched;
+          clean = h.clean;
+          heeded = heeded-other o X (Entry.Note note) (facing (Item.Show (Entry.Note note) ∷ items) m) (facing items m) refl (λ d. d) refl (λ k f. f) refl refl h.heeded;
+        };
+    noted = λ m X items note h i. tt;
+    other = λ X e n k i. tt;
+    input = λ input m X h.
+        record {
+          timely = timely.input input m X h.timely;
+          sound = sound.input input m X h.sound;
+          watched = watched-input input m h.watched;
+          clean = effect-keeps (λ s. list_all is_no_exited s.events ≡ true) input (record m { work = 0 }) h.clean (λ q. h.clean) (λ refusal. h.clean);
+          heeded = grind (decide, heeded-other, effect-keeps, h.heeded);
+        };
+  }
 
 -- at rest
 
@@ -249,12 +249,12 @@ module _ (o : OwnTimer) where
 
   boot-attended : (c : Config) → nat_lt o.p 20 ≡ true → is_application c.apps o.p ≡ true → Attended o (at_start c).machine []
   boot-attended c high a = record {
-        timely = boot_timely o c (grind (arith, a)) high;
-        sound = boot-sound o.p c a;
-        watched = grind decide;
-        clean = refl;
-        heeded = grind (decide, none-mapped);
-      }
+    timely = boot_timely o c (grind (arith, a)) high;
+    sound = boot-sound o.p c a;
+    watched = grind decide;
+    clean = refl;
+    heeded = grind (decide, none-mapped);
+  }
 
 -- no timer is lost
 pub no_lost_timer : (run : Ran) (p : ℕ) → is_bootable run.config ≡ true → is_application run.config.apps p ≡ true

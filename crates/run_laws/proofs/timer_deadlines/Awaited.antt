@@ -1,16 +1,13 @@
 -- A TIMER event that p waits for isn't lost on its way, and a timer leaves the list for one.
-use Rattle.std.proofs.Common.{◌≡◌, ℕ, Bool, true, false, not, ◌&&◌, ◌||◌, List, [], ◌∷◌, ◌++◌, refl, arith, Some, map, filter, drop, slice_get, ◌==◌, nat_le, Option, if◌then◌else◌}
-use Rattle.run_laws.proofs.Common.{decide, list_any, decide, Stimulus, Event, Origin, Payload, EXITED, Queued, Item, Scheduler, after_item, delivery, of_event, Timer, event_timer, is_timer, is_event_timer_of, is_callback_timer_of, is_armed, without_callback_timers, Machine, with_event, with_timers, cancelled_if, expiries_cancelled, serve, post_expiry, exited_application, is_number, is_timer_event, list_any-append, Call, Reply, Timers, after_call, is_done, Standing, standing_after, arms, stops}
+use Rattle.std.proofs.Common.{◌≡◌, ℕ, Bool, true, false, not, ◌&&◌, ◌||◌, List, [], ◌∷◌, refl, arith, Some, map, filter, ◌==◌, Option, if◌then◌else◌}
+use Rattle.run_laws.proofs.Common.{decide, list_any, decide, Stimulus, Event, Origin, EXITED, Queued, Item, Scheduler, of_event, Timer, is_timer, is_event_timer_of, is_callback_timer_of, is_armed, without_callback_timers, Machine, with_event, with_timers, cancelled_if, expiries_cancelled, serve, post_expiry, exited_application, is_timer_event, list_any-append, Call, Reply, Timers, after_call, is_done, Standing, standing_after, arms, stops}
 use Rattle.run_laws.proofs.CallQueues.{KeptByCalls, kept_by_call}
 use Rattle.run_laws.proofs.Changes.{Changes, of_changes}
-use Rattle.run_laws.proofs.event_order.Tally.{is_from_queue, is_ordered, stands}
-use Rattle.run_laws.proofs.event_order.Items.{with_agenda}
-use Rattle.run_laws.proofs.event_order.Waiting.{given-running}
+use Rattle.run_laws.proofs.event_order.Tally.{is_from_queue}
 use Rattle.run_laws.proofs.timer_deadlines.Timing.{OwnTimer, own_timer, stopped-other}
-use Rattle.run_laws.proofs.timer_deadlines.Fronts.{carried-any, after-any}
+use Rattle.run_laws.proofs.timer_deadlines.Fronts.{after-any}
 use Rattle.run_laws.proofs.timer_deadlines.Timed.{turn_of}
 use Rattle.run_laws.proofs.timer_deadlines.Farewells.{is_farewell}
-use Rattle.run_laws.proofs.event_order.Steps.{is_quiet_item}
 use Rattle.run_laws.proofs.timer_deadlines.Moves.{Moves}
 
 -- a TIMER event of timer t waits for p
@@ -85,9 +82,9 @@ serve-held o g q origin event m none = of_changes changes m
 
 after-queues : (o : OwnTimer) → KeptByCalls (λ events. list_any (queues o) events ≡ true)
 after-queues o = record {
-      posted = λ event events posted h. grind (decide, list_any-append);
-      cancelled = λ test events h. rw (queues-cancelled o test events) h;
-    }
+  posted = λ event events posted h. grind (decide, list_any-append);
+  cancelled = λ test events h. rw (queues-cancelled o test events) h;
+}
 
 pub after-expected : (o : OwnTimer) (call : Call) (q : ℕ) (m : Machine) → is_expected o m.scheduler ≡ true → is_expected o (after_call call q m).scheduler ≡ true
 after-expected o call q m h = go (list_any (gives o) m.scheduler.agenda) refl h

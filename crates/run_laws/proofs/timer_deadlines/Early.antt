@@ -1,6 +1,6 @@
 -- A turn keeps the balance of timers, and tells of no more TIMER events than are ripe.
 use Rattle.std.proofs.Common.{◌≡◌, ℕ, ◌+◌, ◌≤◌, true, false, List, [], ◌∷◌, ◌++◌, refl, arith, Option, None, ◌==◌, nat_le, nat_lt, subst, map}
-use Rattle.run_laws.proofs.Common.{list_all, decide, Call, Reply, Stimulus, Origin, Entry, Item, event_timer, Timers, Machine, after_call, ticks_in, clock_after, with_more_work, range_with_len, Input, Applications, in_front, all_timers, Config, scheduled, is_bootable, effect, Running, Runs, at_start, is_application, NoEarlyTimerFor}
+use Rattle.run_laws.proofs.Common.{list_all, decide, Call, Reply, Stimulus, Origin, Entry, Item, Timers, Machine, after_call, ticks_in, clock_after, with_more_work, range_with_len, Input, in_front, all_timers, Config, scheduled, is_bootable, effect, at_start, is_application, NoEarlyTimerFor}
 use Rattle.run_laws.proofs.event_order.Tally.{is_turn}
 use Rattle.run_laws.proofs.timer_deadlines.Ledgers.{Ledger, ledger_of, ripe_at, turns_or, told_reply, told-front, turns-turn, turns-other, fold-append, timer_events-ledger, ripe_armings-ledger}
 use Rattle.run_laws.proofs.event_order.Items.{facing}
@@ -130,36 +130,36 @@ module _ (o : OwnTimer) where
   -- every step
   pub timely_cases : nat_le 4 o.p ≡ true → nat_lt o.p 20 ≡ true → Cases (Timely o) (Free o) (IsTimely o)
   timely_cases low high = record {
-        notes = λ m X entry items h. grind (arith, h.steady.regular);
-        free = timely-free o;
-        carried = λ m X item items n s h. free-carried o X item items m n h;
-        served = λ m X q origin event items k h.
-            let free = subst (λ n. Free o n X) (kernel_carried q origin (Stimulus.Event event) items m k) (free-carried o X (Item.Give q origin (Stimulus.Event event)) items m refl h) in
-            record {
-              steady = grind (decide, serve-fair (record { p = 0; t = 0 }) q event (facing items m), serve-untouched q event (facing items m), free.steady);
-              balanced = λ r. (serve-fair o q event (facing items m)).balanced (timer_ledger o r X) (free.balanced r);
-            };
-        called_back = λ m X q c h.
-            let x = Item.Give q Origin.Callback (Stimulus.Callback c) in
-            record {
-              steady = grind (decide, h.steady.regular, h.steady);
-              balanced = λ k.
-                  less-balanced o m.clock (in_wait o (scheduled (in_front (x ∷ [])) m)) (in_wait o m) m.timers (timer_ledger o k X) (omega (arith, no_callback o q c)) (h.balanced k);
-            };
-        round = λ m X h.
-            record {
-              steady = record { clock = h.steady.clock; names = h.steady.names; plain = h.steady.plain; regular = refl };
-              balanced = λ k.
-                  less-balanced o m.clock (in_wait o (facing (Item.Polls ∷ Item.Deliver ∷ []) m)) (in_wait o (facing [] m)) m.timers (timer_ledger o k X) (omega arith)
-                  (h.balanced k tt);
-            };
-        turn = λ m X items q origin stimulus call h. turn_timely o low high X m items q origin stimulus call h;
-        told = λ m X items q origin stimulus call h i. turn_early o low high X m items q origin stimulus call h;
-        shown = grind (decide, clock-more, ledger-other, less-balanced);
-        noted = λ m X items note h. grind (decide, ledger-other, clock-more, (Entry.Note note));
-        other = λ X e n k. grind (decide, ledger-other, clock-more);
-        input = effect_timely;
-      }
+    notes = λ m X entry items h. grind (arith, h.steady.regular);
+    free = timely-free o;
+    carried = λ m X item items n s h. free-carried o X item items m n h;
+    served = λ m X q origin event items k h.
+        let free = subst (λ n. Free o n X) (kernel_carried q origin (Stimulus.Event event) items m k) (free-carried o X (Item.Give q origin (Stimulus.Event event)) items m refl h) in
+        record {
+          steady = grind (decide, serve-fair (record { p = 0; t = 0 }) q event (facing items m), serve-untouched q event (facing items m), free.steady);
+          balanced = λ r. (serve-fair o q event (facing items m)).balanced (timer_ledger o r X) (free.balanced r);
+        };
+    called_back = λ m X q c h.
+        let x = Item.Give q Origin.Callback (Stimulus.Callback c) in
+        record {
+          steady = grind (decide, h.steady.regular, h.steady);
+          balanced = λ k.
+              less-balanced o m.clock (in_wait o (scheduled (in_front (x ∷ [])) m)) (in_wait o m) m.timers (timer_ledger o k X) (omega (arith, no_callback o q c)) (h.balanced k);
+        };
+    round = λ m X h.
+        record {
+          steady = record { clock = h.steady.clock; names = h.steady.names; plain = h.steady.plain; regular = refl };
+          balanced = λ k.
+              less-balanced o m.clock (in_wait o (facing (Item.Polls ∷ Item.Deliver ∷ []) m)) (in_wait o (facing [] m)) m.timers (timer_ledger o k X) (omega arith)
+              (h.balanced k tt);
+        };
+    turn = λ m X items q origin stimulus call h. turn_timely o low high X m items q origin stimulus call h;
+    told = λ m X items q origin stimulus call h i. turn_early o low high X m items q origin stimulus call h;
+    shown = grind (decide, clock-more, ledger-other, less-balanced);
+    noted = λ m X items note h. grind (decide, ledger-other, clock-more, (Entry.Note note));
+    other = λ X e n k. grind (decide, ledger-other, clock-more);
+    input = effect_timely;
+  }
 
   -- boot
 

@@ -1,8 +1,8 @@
 -- Nobody is told that p ended while p goes on.
 use Rattle.std.proofs.Common.{◌≡◌, ℕ, Bool, true, false, not, ◌&&◌, ◌||◌, List, [], ◌∷◌, refl, ◌∙◌, arith, append_assoc, map, slice_get, ◌==◌}
-use Rattle.run_laws.proofs.Common.{decide, list_all, list_any, decide, Call, Stimulus, Event, Origin, POLL, EXITED, plain_event, number_event, Queued, Item, numbers, Scheduler, after_item, delivery, first_event, of_event, Timer, Machine, after_call, cancelled_if, serve, expiry_of, is_number, list_any-append}
+use Rattle.run_laws.proofs.Common.{decide, list_all, list_any, decide, Call, Stimulus, Event, Origin, EXITED, number_event, Queued, Item, numbers, Scheduler, after_item, delivery, first_event, of_event, Machine, after_call, cancelled_if, serve, expiry_of, is_number, list_any-append}
 use Rattle.run_laws.proofs.CallQueues.{KeptByCalls, kept_by_call}
-use Rattle.run_laws.proofs.Changes.{Changes, of_changes, is_notice}
+use Rattle.run_laws.proofs.Changes.{Changes, of_changes}
 use Rattle.run_laws.proofs.event_order.Tally.{ends_in, is_give_exit, is_exit_turn, to_all}
 use Rattle.run_laws.proofs.event_order.Items.{with_agenda}
 use Rattle.run_laws.proofs.timer_deadlines.Fronts.{none-mapped, carried-any, after-any, all-more, all-cancelled}
@@ -38,9 +38,9 @@ events-cancelled test events = all-cancelled is_no_exited test (λ event. grind 
 
 after-clean : KeptByCalls (λ events. list_all is_no_exited events ≡ true)
 after-clean = record {
-      posted = λ event events posted h. grind (decide, all-more);
-      cancelled = λ test events h. rw (events-cancelled test events) h;
-    }
+  posted = λ event events posted h. grind (decide, all-more);
+  cancelled = λ test events h. rw (events-cancelled test events) h;
+}
 
 pub after-events : (call : Call) (q : ℕ) (m : Machine) → list_all is_no_exited m.scheduler.events ≡ true
     → list_all is_no_exited (after_call call q m).scheduler.events ≡ true

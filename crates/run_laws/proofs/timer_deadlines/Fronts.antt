@@ -1,8 +1,7 @@
 -- A call or an item leaves what is on the agenda, and puts in front of it what passes a test.
-use Rattle.run_laws.proofs.Common.{decide, list_all, list_any, Call, Reply, Stimulus, Origin, Entry, Note, Queued, Item, is_application, Scheduler, of_event, delivery, after_item, Machine, after_call, cancelled_if, list_any-append, list_all-append}
+use Rattle.run_laws.proofs.Common.{decide, list_all, list_any, Call, Reply, Stimulus, Origin, Entry, Note, Queued, Item, is_application, Scheduler, delivery, after_item, Machine, after_call, cancelled_if, list_any-append, list_all-append}
 use Rattle.std.proofs.Common.{◌≡◌, ℕ, Bool, true, false, List, [], ◌∷◌, ◌++◌, refl, Option, Some, map}
 use Rattle.run_laws.proofs.event_order.Items.{with_agenda}
-use Rattle.run_laws.proofs.event_order.After.{call-front}
 
 pub all-append : {A : Type 0} (test : A → Bool) (xs ys : List A) → list_all test xs ≡ true → list_all test ys ≡ true → list_all test (xs ++ ys) ≡ true
 all-append = grind (decide, list_all-append)

@@ -1,8 +1,8 @@
 -- What a call does to a timer: an accepted arming puts it on the list with its new cell, a stop takes it off, and no other call moves it.
-use Rattle.std.proofs.Common.{◌≡◌, ℕ, ◌+◌, Bool, true, false, ◌&&◌, ◌||◌, List, ◌∷◌, refl, subst, arith, Option, Some, None, ◌==◌, nat_le, nat_lt}
-use Rattle.run_laws.proofs.Common.{decide, decide, Call, Reply, Refusal, Item, Timer, Cell, all_timers, event_timer, callback_timer, is_timer, Timers, cell_of, is_armed, armed_with, set_timer, stop_timer, restart_timer, reset_timer, Machine, with_timers, mark, expiries_cancelled, after_call, answer_done, refused_or, is_callback_timer, reply_of, is_done, arms, stops, cell_after}
+use Rattle.std.proofs.Common.{◌≡◌, ℕ, Bool, true, false, ◌&&◌, ◌||◌, List, ◌∷◌, refl, arith, Option, Some, None, ◌==◌, nat_le, nat_lt}
+use Rattle.run_laws.proofs.Common.{decide, decide, Call, Reply, Refusal, Item, Timer, Cell, all_timers, event_timer, callback_timer, is_timer, Timers, cell_of, is_armed, set_timer, stop_timer, restart_timer, reset_timer, Machine, with_timers, mark, expiries_cancelled, after_call, answer_done, refused_or, is_callback_timer, reply_of, is_done, arms, stops, cell_after}
 use Rattle.kernel_core.specs.Calls.{timer_refusal, callback_refusal, reset_refusal}
-use Rattle.run_laws.proofs.timer_deadlines.Timing.{OwnTimer, own_timer, cell_names, armed-names, cell-armed_own, cell-armed_other, armed-other, stopped-own, stopped-other}
+use Rattle.run_laws.proofs.timer_deadlines.Timing.{OwnTimer, own_timer, cell_names, cell-armed_own, cell-armed_other, armed-other, stopped-own, stopped-other}
 
 -- the reply that p is given next is k, if p is in front
 abbrev pub FrontIs : ℕ → Option Reply → List Item → Type 0

@@ -1,6 +1,6 @@
 -- The kernel's own processes take no turn and never leave, and only notes are shown.
-use Rattle.std.proofs.Common.{◌≡◌, ℕ, Bool, true, List, ◌∷◌, nat_le}
-use Rattle.run_laws.proofs.Common.{list_all, decide, Call, Item, Scheduler, after_item, Machine, after_call}
+use Rattle.std.proofs.Common.{◌≡◌, Bool, true, List, ◌∷◌, nat_le}
+use Rattle.run_laws.proofs.Common.{list_all, decide, Item, Scheduler, after_item}
 use Rattle.run_laws.proofs.event_order.Tally.{is_note}
 use Rattle.run_laws.proofs.event_order.Items.{with_agenda}
 use Rattle.run_laws.proofs.timer_deadlines.Fronts.{all-append, all-mapped, all-delivered}
@@ -16,4 +16,3 @@ is_regular _ = true
 pub carried-regular : (item : Item) (items : List Item) (s : Scheduler Bool) → list_all is_regular (item ∷ items) ≡ true
     → list_all is_regular (after_item item (with_agenda items s)).agenda ≡ true
 carried-regular = grind (decide, all-mapped, all-append, all-delivered)
-

@@ -1,7 +1,7 @@
 -- The TIMER events of timer t of p are no more than the ripe armings.
 use Rattle.std.proofs.Common.{◌≡◌, ℕ, ◌+◌, ◌≤◌, Bool, true, false, not, ◌&&◌, List, [], ◌∷◌, ◌++◌, refl, ◌∙◌, sym, arith, Some, find, filter, map, if◌then◌else◌, ◌==◌, nat_le, ◌||◌, Option}
-use Rattle.run_laws.proofs.Common.{decide, list_any, list_all, decide, Stimulus, Event, TIMER, Queued, Item, of_event, Timer, event_timer, is_timer, is_event_timer_of, is_callback_timer_of, Timers, cell_of, is_armed, stop_timer, deadline, is_due, first_due, without_callback_timers, Machine, with_event, with_timers, cancelled_if, expiries_cancelled, serve, expiry_of, post_expiry, is_timer_event, Call, Reply, Origin, Payload, EXITED, plain_event, number_event, is_reserved, Scheduler, delivery, after_item, after_call, Cell, OwnTurn, is_done, arms, stops, is_arming, is_arming_or_stop, cell_after}
-use Rattle.run_laws.proofs.CallQueues.{KeptByCalls, is_posted, kept_by_call}
+use Rattle.run_laws.proofs.Common.{decide, list_any, list_all, decide, Stimulus, Event, TIMER, Queued, Item, of_event, Timer, is_timer, Timers, cell_of, is_armed, stop_timer, deadline, is_due, first_due, without_callback_timers, Machine, with_timers, cancelled_if, expiries_cancelled, serve, expiry_of, post_expiry, is_timer_event, Call, Reply, Origin, Payload, EXITED, number_event, is_reserved, Scheduler, delivery, after_item, after_call, Cell, OwnTurn, is_done, arms, stops, is_arming, is_arming_or_stop, cell_after}
+use Rattle.run_laws.proofs.CallQueues.{KeptByCalls, kept_by_call}
 use Rattle.run_laws.proofs.Changes.{Changes, of_changes, is_notice}
 use Rattle.run_laws.proofs.timer_deadlines.Fronts.{all-more, all-cancelled}
 use Rattle.run_laws.proofs.timer_deadlines.Ledgers.{Ledger, one_if, ledger_after}
@@ -85,11 +85,11 @@ expiry_count = grind decide
 -- a due timer of p is posted, and is off the list
 expired-fair : (o : OwnTimer) (timer : Timer) (m : Machine) → first_due m.clock m.timers ≡ Some timer → Fair o m (post_expiry (Some timer) m)
 expired-fair o timer m e = record {
-      clock = refl;
-      names = refl;
-      plain = λ h. grind (decide, all-more);
-      balanced = λ ledger k. posted (is_timer (own_timer o) timer) refl ledger k;
-    }
+  clock = refl;
+  names = refl;
+  plain = λ h. grind (decide, all-more);
+  balanced = λ ledger k. posted (is_timer (own_timer o) timer) refl ledger k;
+}
   where
     own : Timer
     own = own_timer o
@@ -181,9 +181,9 @@ no_answer = grind decide
 
 after-events_count : (o : OwnTimer) (n : ℕ) → KeptByCalls (λ events. count_events o events ≡ n)
 after-events_count o n = record {
-      posted = λ event events posted h. grind (decide, count_events-more);
-      cancelled = λ test events h. rw (count-cancelled o test events) h;
-    }
+  posted = λ event events posted h. grind (decide, count_events-more);
+  cancelled = λ test events h. rw (count-cancelled o test events) h;
+}
 
 free_code : (o : OwnTimer) (q code : ℕ) (payload : Payload) → is_reserved code ≡ false → timer_for o q (of_event (record { code = code; payload = payload })) ≡ 0
 free_code = grind decide

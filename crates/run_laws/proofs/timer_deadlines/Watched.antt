@@ -1,8 +1,8 @@
 -- While a timer is due, etimer is marked or its POLL is on the agenda.
-use Rattle.std.proofs.Common.{◌≡◌, ℕ, Bool, true, false, not, ◌&&◌, ◌||◌, List, [], ◌∷◌, refl, ◌∙◌, arith, Some, is_some, find, filter, if◌then◌else◌, ◌==◌, ap, Option}
-use Rattle.run_laws.proofs.Common.{decide, list_any, decide, Stimulus, Event, Origin, POLL, State, Item, Process, is_process, is_marked, with_state, with_mark, without, Scheduler, after_item, in_front, Timer, is_timer, is_event_timer_of, is_callback_timer_of, Timers, is_due, stop_timer, without_callback_timers, Machine, scheduled, with_event, with_timers, free_places, mark, serve, times, post_expiry, post_first_due, post_due, is_any_due, forget_callback_timers, list_any-append, Call, Refusal, Input, is_any_marked, event_timer, set_timer, reset_timer, restart_timer, Config, after_call, refused_or, answer_done, effect, at_start, timer_refusal, reset_refusal}
+use Rattle.std.proofs.Common.{◌≡◌, ℕ, Bool, true, false, not, ◌&&◌, ◌||◌, List, [], ◌∷◌, refl, ◌∙◌, arith, Some, is_some, find, filter, if◌then◌else◌, ◌==◌, ap}
+use Rattle.run_laws.proofs.Common.{decide, list_any, decide, Stimulus, Event, Origin, POLL, State, Item, Process, is_process, is_marked, with_state, with_mark, without, Scheduler, in_front, Timer, is_event_timer_of, is_callback_timer_of, Timers, is_due, without_callback_timers, Machine, scheduled, with_event, with_timers, free_places, mark, serve, times, post_first_due, post_due, is_any_due, forget_callback_timers, list_any-append, Call, Input, is_any_marked, after_call, effect}
 use Rattle.run_laws.proofs.Changes.{Changes, of_changes, with_devices, times-keeps}
-use Rattle.run_laws.proofs.event_order.Items.{with_agenda, facing}
+use Rattle.run_laws.proofs.event_order.Items.{facing}
 use Rattle.run_laws.proofs.timer_deadlines.Fronts.{carried-any, after-any}
 use Rattle.run_laws.proofs.timer_deadlines.Timed.{any-filter}
 use Rattle.run_laws.proofs.timer_deadlines.Regular.{is_regular}
@@ -111,17 +111,17 @@ without_item = grind decide
 
 changes-watched : (q : ℕ) (event : Event) → Changes (λ old new. Watched old → Watched new) q event
 changes-watched q event = record {
-      same = λ m h. h;
-      chained = λ a b c f g h. g (f h);
-      expired = grind (decide, alike, dropped);
-      timers_gone = λ n m z k e. dropped (λ timer. not (is_event_timer_of n timer)) m;
-      callbacks_gone = λ n m h.
-          let a : Machine = with_timers (without_callback_timers n m.timers) m in
-          alike a (forget_callback_timers (Some n) m) refl refl refl refl (dropped (λ timer. not (is_callback_timer_of n timer)) m h);
-      posted = λ notice m n. alike m (with_event notice m) refl refl refl refl;
-      devices = λ serial is_waiting packets m e. alike m (with_devices serial is_waiting packets m) refl refl refl refl;
-      marked = grind (decide, marks-with_mark, home-with_mark);
-    }
+  same = λ m h. h;
+  chained = λ a b c f g h. g (f h);
+  expired = grind (decide, alike, dropped);
+  timers_gone = λ n m z k e. dropped (λ timer. not (is_event_timer_of n timer)) m;
+  callbacks_gone = λ n m h.
+      let a : Machine = with_timers (without_callback_timers n m.timers) m in
+      alike a (forget_callback_timers (Some n) m) refl refl refl refl (dropped (λ timer. not (is_callback_timer_of n timer)) m h);
+  posted = λ notice m n. alike m (with_event notice m) refl refl refl refl;
+  devices = λ serial is_waiting packets m e. alike m (with_devices serial is_waiting packets m) refl refl refl refl;
+  marked = grind (decide, marks-with_mark, home-with_mark);
+}
 
 pub watched-serve : (q : ℕ) (origin : Origin) (event : Event) (items : List Item) (m : Machine) → Watched (facing (Item.Give q origin (Stimulus.Event event) ∷ items) m)
     → Watched (serve q event (facing items m))
