@@ -154,7 +154,8 @@ sent_late = started 4 (Call.MmemAlloc 0 2) ∷ told 4 Reply.Done (Call.PacketSen
 -- the last turn of those entries sends nothing
 no_sender : (sender : Sender sent_late) → ⊥
 no_sender sender = of sender.earlier sender.between sender.no_turn sender.split where
-  of : (earlier between : List Entry) → list_any is_turn_entry between ≡ false → (earlier ++ Entry.Turn (record { 0 = sender.p }) sender.origin sender.stimulus (Call.PacketSend sender.h) ∷ []) ++ between ≡ sent_late → ⊥
+  of : (earlier between : List Entry) → list_any is_turn_entry between ≡ false
+      → (earlier ++ Entry.Turn (record { 0 = sender.p }) sender.origin sender.stimulus (Call.PacketSend sender.h) ∷ []) ++ between ≡ sent_late → ⊥
   of [] between none same = cc
   of (first ∷ []) between none same = cc
   of (first ∷ second ∷ []) between none same = cc

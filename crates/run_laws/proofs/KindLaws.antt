@@ -51,7 +51,8 @@ module _ (change : Call → Blocks → Blocks) (p : ℕ) where
       → over (answered (accepted change) last (reply_in p entries) b) (own_from p clock entries)
       ≡ (fold (told (accepted change) p) (record { now = b; last = last }) entries).now
   own-told [] clock last b = no_answer last b
-  own-told (Entry.Turn pid origin stimulus call ∷ later) clock last b = grind (decide, own-told later (clock + 0) (Some call) (answered (accepted change) last (reply_of stimulus) b), own-told later (clock + 0) last b)
+  own-told (Entry.Turn pid origin stimulus call ∷ later) clock last b =
+      grind (decide, own-told later (clock + 0) (Some call) (answered (accepted change) last (reply_of stimulus) b), own-told later (clock + 0) last b)
   own-told (entry ∷ later) clock last b = own-told later (clock + ticks_in entry) last b
 
   pub blocks-told : (entries : List Entry) → over_accepted change (own p entries) ≡ (told_all (accepted change) p at_first entries).now

@@ -112,7 +112,8 @@ every-call : (store : Store) → Keeps store → (run : Ran)
     → EveryCall store.kind run.after.entries
 every-call store keeps run before p origin stimulus call reply few has =
     let so_far = up_to_call before p origin stimulus call in
-    let well = run-told (accepted store.change) (KindLaw store.kind) (HasBlocks store p) p (own-laws store keeps p few) at_first run (boot-has store keeps p run.config) run.after.entries [] (append-nil run.after.entries) in
+    let well = run-told (accepted store.change) (KindLaw store.kind)
+    (HasBlocks store p) p (own-laws store keeps p few) at_first run (boot-has store keeps p run.config) run.after.entries [] (append-nil run.after.entries) in
     let law = call-law (accepted store.change) (KindLaw store.kind) (HasBlocks store p) p at_first run.after.entries before origin stimulus call reply well has in
     subst (λ (blocks : Blocks). KindLaw store.kind blocks call reply) (sym (blocks-told store.change p so_far) ∙ keeps.told p so_far) law
 

@@ -87,10 +87,12 @@ managed-change (Call.MmemWrite k at chunk) q m c =
         → (h : ℕ) → (if h == k then Some (overwritten at chunk.items (bytes_of q k m.managed)) else own_blocks q m h) ≡ managed_after (Call.MmemWrite k at chunk) (own_blocks q m) h
     made e h = grind decide
 managed-change (Call.MmemCopy source target) q m c =
-    is_change (Call.MmemCopy source target) q target (Some (overwritten 0 (bytes_of q source m.managed) (bytes_of q target m.managed))) m (copy_refusal q source target m.managed) (λ e. grind (arith, e)) made
+    is_change (Call.MmemCopy source target) q target
+    (Some (overwritten 0 (bytes_of q source m.managed) (bytes_of q target m.managed))) m (copy_refusal q source target m.managed) (λ e. grind (arith, e)) made
   where
     made : copy_refusal q source target m.managed ≡ None
-        → (h : ℕ) → (if h == target then Some (overwritten 0 (bytes_of q source m.managed) (bytes_of q target m.managed)) else own_blocks q m h) ≡ managed_after (Call.MmemCopy source target) (own_blocks q m) h
+        → (h : ℕ)
+        → (if h == target then Some (overwritten 0 (bytes_of q source m.managed) (bytes_of q target m.managed)) else own_blocks q m h) ≡ managed_after (Call.MmemCopy source target) (own_blocks q m) h
     made e h = grind decide
 managed-change call q m c = grind decide
 

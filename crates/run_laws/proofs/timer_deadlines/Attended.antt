@@ -27,7 +27,10 @@ standing_of o k X = fold (standing_after o.t) fresh_standing (turns_or k o.p 0 X
 pub standing-none : (X : List Entry) (o : OwnTimer) → standing X o.p o.t ≡ standing_of o None X
 standing-none = grind (decide, turns-none)
 
-pub standing-turn : (o : OwnTimer) (clock : ℕ) (k : Option Reply) (X : List Entry) (q : ℕ) (origin : Origin) (stimulus : Stimulus) (call : Call) → clock ≡ clock_after X → standing_of o k (X ++ turn_entry q origin stimulus call ∷ []) ≡ standing_then (q == o.p) o.t clock stimulus origin call k (standing_of o (told_reply o.p q stimulus k) X)
+pub standing-turn : (o : OwnTimer) (clock : ℕ) (k : Option Reply) (X : List Entry) (q : ℕ) (origin : Origin) (stimulus : Stimulus) (call : Call)
+    → clock ≡ clock_after X
+    → standing_of o k (X ++ turn_entry q origin stimulus call ∷ [])
+    ≡ standing_then (q == o.p) o.t clock stimulus origin call k (standing_of o (told_reply o.p q stimulus k) X)
 standing-turn = grind (decide, turns-turn, fold-append)
 
 pub standing-other : (o : OwnTimer) (k : Option Reply) (X : List Entry) (e : Entry) → is_turn e ≡ false

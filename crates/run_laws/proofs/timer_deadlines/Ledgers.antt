@@ -46,7 +46,8 @@ module _ (k : Option Reply) where
     turn-more clock _ X pid origin stimulus call = refl
 
     pub turns-turn : (clock : ℕ) (X : List Entry) (pid : Pid) (origin : Origin) (stimulus : Stimulus) (call : Call)
-        → turns_or k p clock (X ++ Entry.Turn pid origin stimulus call ∷ []) ≡ turns_or (told_reply p pid.0 stimulus k) p clock X ++ option_to_list (own_turn_or k p (clock_from clock X) (Entry.Turn pid origin stimulus call) [])
+        → turns_or k p clock (X ++ Entry.Turn pid origin stimulus call ∷ [])
+        ≡ turns_or (told_reply p pid.0 stimulus k) p clock X ++ option_to_list (own_turn_or k p (clock_from clock X) (Entry.Turn pid origin stimulus call) [])
     turns-turn clock [] pid origin stimulus call = grind decide
     turns-turn clock (entry ∷ X) pid origin stimulus call = grind (decide, turn-more, cons_option-append, turns-turn (clock + ticks_in entry) X pid origin stimulus call)
 
@@ -103,7 +104,9 @@ ripe_at clock ledger = ledger.after_items + one_if (ledger.is_set && nat_le (dea
 
 module _ (t : ℕ) where
   ripe-step : (clock : ℕ) (ledger : Ledger) (turn : OwnTurn) (later : List OwnTurn)
-      → (ledger_after t ledger turn).after_items + (one_if ((ledger_after t ledger turn).is_set && nat_le (deadline (ledger_after t ledger turn).cell) (stood_until t clock later)) + ripe_from t clock (ledger_after t ledger turn).cell later) ≡ ledger.after_items + (one_if (ledger.is_set && nat_le (deadline ledger.cell) (stood_until t clock (turn ∷ later))) + ripe_from t clock ledger.cell (turn ∷ later))
+      → (ledger_after t ledger turn).after_items
+      + (one_if ((ledger_after t ledger turn).is_set && nat_le (deadline (ledger_after t ledger turn).cell) (stood_until t clock later)) + ripe_from t clock (ledger_after t ledger turn).cell later)
+      ≡ ledger.after_items + (one_if (ledger.is_set && nat_le (deadline ledger.cell) (stood_until t clock (turn ∷ later))) + ripe_from t clock ledger.cell (turn ∷ later))
   ripe-step clock ledger turn later = go (is_done turn.reply) (arms t turn.call) (stops t turn.call)
     where
       go : (d a s : Bool)
@@ -124,7 +127,8 @@ module _ (t : ℕ) where
       go false a s = omega arith
 
   pub ripe-ledger : (clock : ℕ) (ledger : Ledger) (turns : List OwnTurn)
-      → ripe_at clock (fold (ledger_after t) ledger turns) ≡ ledger.after_items + (one_if (ledger.is_set && nat_le (deadline ledger.cell) (stood_until t clock turns)) + ripe_from t clock ledger.cell turns)
+      → ripe_at clock (fold (ledger_after t) ledger turns)
+      ≡ ledger.after_items + (one_if (ledger.is_set && nat_le (deadline ledger.cell) (stood_until t clock turns)) + ripe_from t clock ledger.cell turns)
   ripe-ledger clock ledger [] = omega arith
   ripe-ledger clock ledger (turn ∷ later) = grind (decide, ripe-step, ripe-ledger clock (ledger_after t ledger turn) later)
 

@@ -140,7 +140,8 @@ serve-fair o q event = of_changes changes
           timers_gone = λ n m z k e. grind (decide, any-filter);
           callbacks_gone = λ n m.
               let a : Machine = with_timers (without_callback_timers n m.timers) m in
-              fair-then o m a (expiries_cancelled (λ r c. r == n) a) (grind (decide, any-filter)) (grind (decide, plain-cancelled (λ r c. r == n) a.scheduler.events, count-cancelled o (λ r c. r == n) a.scheduler.events));
+              fair-then o m a (expiries_cancelled (λ r c. r == n) a)
+              (grind (decide, any-filter)) (grind (decide, plain-cancelled (λ r c. r == n) a.scheduler.events, count-cancelled o (λ r c. r == n) a.scheduler.events));
           posted = λ notice m n. grind (decide, all-more, count_events-more);
           devices = λ serial is_waiting packets m e. record { clock = refl; names = refl; plain = λ h. h; balanced = λ ledger k. k };
           marked = λ n m. record { clock = refl; names = refl; plain = λ h. h; balanced = λ ledger k. k };
