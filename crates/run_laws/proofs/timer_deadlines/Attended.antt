@@ -96,7 +96,13 @@ module _ (o : OwnTimer) (X : List Entry) where
             let w : Bool = is_expected o on.scheduler in
             let before : Awaits o m.timers ((q == o.p && is_timer_event o.t stimulus) || w) st =
             λ armed.
-            grind (decide, (is_armed (own_timer o) m.timers), (q == o.p && is_timer_event o.t stimulus), (list_any (queues o) m.scheduler.events), (h.kept (was_alive alive) (was_spared alive spared) (told_reply o.p q stimulus k) (told-front o.p q stimulus k) armed)) in
+            grind (
+              decide,
+              (is_armed (own_timer o) m.timers),
+              (q == o.p && is_timer_event o.t stimulus),
+              (list_any (queues o) m.scheduler.events),
+              (h.kept (was_alive alive) (was_spared alive spared) (told_reply o.p q stimulus k) (told-front o.p q stimulus k) armed),
+            ) in
             rw (standing-turn o m.clock k X q origin stimulus call clock)
             (turn-awaits o q m.clock stimulus origin call k m.timers (after_call call q on).timers w (is_expected o (after_call call q on).scheduler) st
             (after-moves o call q k on setting front) (after-expected o call q on) before);
