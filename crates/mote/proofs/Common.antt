@@ -7,5 +7,5 @@ pub use Rattle.mote_run.specs.RunText.{Exchanged, HasRunTo}
 pub use Rattle.mote_shell.specs.declared.failure.Failure.{Failure}
 pub use Rattle.mote_text.specs.declared.script.End.{End}
 pub use Rattle.mote_types.specs.Applications.{Applications, Says, nth_says, says_of}
-pub use Rattle.mote_words.specs.CommandLine.{applications_of, is_unknown, named_in, texts}
+pub use Rattle.mote_shell.specs.CommandLine.{applications_of, is_unknown, named_in, texts}
 pub use Rattle.std.proofs.lemmas.List.{append-nil, append_assoc, length-append, map-append}

@@ -4,15 +4,15 @@ use denote.Ref.{Bor}
 use Rattle.kernel_core.specs.Machine.{is_bootable}
 use Rattle.mote.proofs.Common.{named, named_in, config_of, applications_of, is_unknown, End, Failure, IsOutcome, Refuses}
 use Rattle.mote.specs.CommandLine.{IsRunFailure, IsStatusFor, NamesMote}
-use Rattle.mote_words.specs.CommandLine.{AsksForText, NamesApplications}
+use Rattle.mote_shell.specs.CommandLine.{AsksForText, NamesApplications}
 use Rattle.mote.proofs.Common.{HasRunNamed, bundled_says, says_of}
 use Rattle.mote_apps.specs.declared.bundled.Bundled.{Bundled}
 use Rattle.mote_run.specs.RunText.{Exchange, HasRunTo}
 use Rattle.mote_run.specs.Trace.{RunPromise}
 use Rattle.mote_run.specs.declared.run.RunFault.{RunFault}
-use Rattle.mote_words.specs.declared.words.Named.{Named}
+use Rattle.mote_shell.specs.declared.named.Named.{Named}
 use Rattle.mote_shell.specs.Statuses.{status_of_outcome}
-use Rattle.mote_words.specs.declared.refusal.ParserText.{ParserText}
+use Rattle.mote_shell.specs.declared.refusal.ParserText.{ParserText}
 
 -- repeats are allowed, and each name is an application's
 three_applications : length (applications_of named (codes "blink" ∷ codes "echo" ∷ codes "blink" ∷ [])) ≡ 3

@@ -4,7 +4,7 @@ use Rattle.mote.proofs.Common.{Applications, End, Config, Exchanged, HasRunNamed
 use Rattle.mote.specs.CommandLine.{HasRunAs, NamesMote, OfRun}
 use Rattle.mote_run.specs.Trace.{RunPromise}
 use Rattle.mote_run.specs.declared.run.RunFault.{RunFault}
-use Rattle.mote_words.specs.declared.refusal.ParserText.{ParserText}
+use Rattle.mote_shell.specs.declared.refusal.ParserText.{ParserText}
 use Rattle.mote_shell.specs.Statuses.{IsShown}
 
 abbrev error_of : Result End Failure → Failure

@@ -9,10 +9,10 @@ use Rattle.mote_run.specs.RunText.{Exchange, HasRunTo}
 use Rattle.mote_run.specs.Trace.{RunPromise}
 use Rattle.mote_run.specs.declared.run.RunFault.{RunFault}
 use Rattle.mote_apps.specs.declared.bundled.Bundled.{Bundled}
-use Rattle.mote_words.specs.CommandLine.{AsksForText, NamesApplications, named_in}
-use Rattle.mote_words.specs.CommandLine as of_words
-use Rattle.mote_words.specs.declared.refusal.Refusal.{Refusal}
-use Rattle.mote_words.specs.declared.words.Named.{Named}
+use Rattle.mote_shell.specs.CommandLine.{AsksForText, NamesApplications, named_in}
+use Rattle.mote_shell.specs.CommandLine as of_words
+use Rattle.mote_shell.specs.declared.refusal.Refusal.{Refusal}
+use Rattle.mote_shell.specs.declared.named.Named.{Named}
 use Rattle.mote_shell.specs.Statuses.{status_of_outcome}
 use Rattle.mote_shell.specs.declared.failure.Failure.{Failure}
 

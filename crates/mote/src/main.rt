@@ -9,8 +9,9 @@ ghost use Rattle.mote.specs.CommandLine.{HasRunNamed, IsStatusFor};
 mod prepare;
 mod running;
 
-use mote_shell::{Failure, Program, after_help, exit_code, finish, texts_of, words_of};
-use mote_streams::{Input, Output};
+use mote_shell::{
+    Failure, Input, Output, Program, after_help, exit_code, finish, texts_of, words_of,
+};
 use mote_types::device::{ByteSink, ByteSource};
 use running::run_words;
 use std::io;

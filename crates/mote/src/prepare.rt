@@ -4,7 +4,7 @@ ghost use Rattle.std.specs.Prelude.{◌≡◌, length, IfOk, IfErr};
 ghost use Rattle.kernel_core.specs.Machine.{booted};
 ghost use Rattle.mote_run.specs.RunText.{WasBooted};
 ghost use Rattle.mote_apps.specs.Bundled.{named};
-ghost use Rattle.mote_words.specs.CommandLine.{named_in, texts};
+ghost use Rattle.mote_shell.specs.CommandLine.{named_in, texts};
 ghost use Rattle.mote.specs.CommandLine.{NamesMote, Refuses, config_of};
 
 use crate::PROGRAM;

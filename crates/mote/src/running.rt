@@ -6,7 +6,7 @@ ghost use Rattle.mote_apps.specs.Bundled.{bundled_says};
 ghost use Rattle.kernel_core.specs.declared.config.Config.{Config};
 ghost use Rattle.kernel_core.specs.Machine.{booted};
 ghost use Rattle.mote_run.specs.RunText.{Exchanged, WasBooted};
-ghost use Rattle.mote_words.specs.CommandLine.{texts};
+ghost use Rattle.mote_shell.specs.CommandLine.{texts};
 ghost use Rattle.mote.specs.CommandLine.{HasRunAs, HasRunNamed, IsOutcome, IsRunFailure};
 ghost use Rattle.mote_shell.specs.declared.failure.Failure.{Failure as Refused};
 

@@ -1,4 +1,4 @@
-//! For authors of applications: scripts and transcripts in memory, standard input and output as devices, and whole runs.
+//! For authors of applications: scripts and transcripts in memory, and whole runs.
 #![tactic(auto)]
 
 pub mod fault;
@@ -9,7 +9,6 @@ pub mod transcript;
 pub use app_kit::{
     FromName, chunk_of, number_line, push_bytes, push_decimal, push_latest, same_bytes,
 };
-pub use mote_streams as stream;
 pub use mote_text::script::read_number;
 pub use mote_types::app::App;
 

@@ -1,1 +1,5 @@
-mod Examples
+mod CommandLineExamples
+mod Matches
+mod ReadNames
+mod StatusExamples
+pub mod Common

@@ -2,7 +2,7 @@
 use Rattle.std.specs.Prelude.{◌≡◌, ◌⊎◌, ℕ, List, ◌++◌, codes, Option, Some, None, option_map, Result, Ok, Err}
 use Rattle.mote_types.specs.declared.fault.BootFault.{BootFault}
 use Rattle.mote_text.specs.declared.script.End.{End}
-use Rattle.mote_words.specs.declared.refusal.Refusal.{Refusal}
+use Rattle.mote_shell.specs.declared.refusal.Refusal.{Refusal}
 use Rattle.mote_shell.specs.declared.failure.Failure.{Failure}
 
 abbrev pub status_of_end : End → ℕ

@@ -4,9 +4,9 @@ ghost use Rattle.std.specs.Prelude.{◌≡◌};
 ghost use Rattle.mote_shell.specs.Statuses as statuses;
 ghost use Rattle.mote_shell.specs.Statuses.{status_of_failure, status_of_outcome};
 
+use crate::refusal::{ParserText, Refusal};
 use mote_text::script::End;
 use mote_types::fault::BootFault;
-use mote_words::{ParserText, Refusal};
 use std::alloc::{AllocError, AllocFailed};
 use std::fmt;
 

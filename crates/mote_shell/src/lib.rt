@@ -1,14 +1,22 @@
-//! What programs have in common that run applications by their names: the words of the command line, the help, statuses and
-//! what is told.
+//! What programs have in common that run applications by their names: the command line, as the parser `clap` reads it, the
+//! help, statuses and what is told, and standard input and output as devices.
 #![tactic(auto)]
 
+mod command_line;
 mod failure;
 mod help;
+mod named;
+mod program;
+mod refusal;
 mod running;
+mod streams;
 mod telling;
 mod words;
 
 pub use failure::{Failure, status_of};
-pub use mote_words::{Applications, Program, read_words};
+pub use named::{Applications, Named, read_words};
+pub use program::Program;
+pub use refusal::{ParserText, Refusal};
+pub use streams::{Input, Output};
 pub use telling::{exit_code, finish};
 pub use words::{texts_of, words_of};

@@ -23,8 +23,8 @@ macro_rules! run_named {
         for application in named.applications {
             boxes.push(Box::new($rt.alloc(), application)?)?;
         }
-        let mut source = mote_kit::stream::Input::new($rt.reader());
-        let mut sink = mote_kit::stream::Output::new(std::io::writer($rt));
+        let mut source = $crate::Input::new($rt.reader());
+        let mut sink = $crate::Output::new(std::io::writer($rt));
         let outcome = match mote_kit::mote::run_boxes(
             $rt.alloc(),
             sizes,

@@ -5,8 +5,8 @@ ghost use Rattle.std.specs.Process.{exit_status};
 ghost use Rattle.mote_shell.specs.Statuses.{IsShown, IsStatusOf, status_of_failure, status_of_outcome};
 
 use crate::failure::{Failure, status_of};
+use crate::program::Program;
 use mote_text::script::End;
-use mote_words::Program;
 use std::fmt;
 use std::process::ExitCode;
 

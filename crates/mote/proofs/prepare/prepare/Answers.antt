@@ -2,7 +2,7 @@ use Rattle.std.proofs.Common.{rules, ℕ, ◌≡◌, ◌∙◌, ap, refl, Bool, 
 use Rattle.mote.proofs.Common.{Config, config_of}
 use Rattle.kernel_core.specs.Machine.{booted, is_bootable}
 use Rattle.mote_apps.specs.declared.bundled.Bundled.{Bundled}
-use Rattle.mote_words.specs.declared.words.Named.{Named}
+use Rattle.mote_shell.specs.declared.named.Named.{Named}
 use Rattle.mote.proofs.prepare.prepare.Goals as goal
 
 abbrev is_ok : {T E : Type 0} → Result T E → Bool

@@ -1,4 +1,0 @@
-mod Examples
-mod Matches
-mod ReadNames
-pub mod Common
