@@ -1,3 +1,1 @@
 mod Examples
-mod Named
-pub mod Common

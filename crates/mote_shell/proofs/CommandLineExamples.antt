@@ -1,5 +1,5 @@
 -- Worked examples: what words, names and numbers on the command line come to.
-use Rattle.std.proofs.Common.{◌≡◌, ◌<◌, ◌≤◌, ◌∙◌, ℕ, List, true, false, [], ◌∷◌, codes, refl, sym, subst, ap, arith, length, replicate, Option, Some, None, bytes_eq, find, if◌then◌else◌}
+use Rattle.std.proofs.Common.{◌≡◌, ◌<◌, ℕ, List, true, false, [], ◌∷◌, codes, refl, sym, subst, ap, arith, length, replicate, Option, Some, None, bytes_eq, find, if◌then◌else◌}
 use denote.Ref.{Bor}
 use Rattle.clap.specs.Words.{kind_of}
 use Rattle.mote_shell.proofs.Common.{applications_of, is_in_words, is_unknown, names_of, number_written, RefusesNames}

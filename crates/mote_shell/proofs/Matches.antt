@@ -1,6 +1,6 @@
 -- The command line as the parser knows it is a simple one, and what the getters read of matches, by their rows.
 use Rattle.std.proofs.Common.{◌≡◌, ◌∙◌, ℕ, Bool, true, false, refl, ap, sym, arith, List, [], map, Option, Some, None, Result, Ok, Err, codes, find, option_map, option_and_then, unwrap_or, if◌then◌else◌, bytes_eq}
-use Rattle.mote_shell.proofs.Common.{nat_tests, ParsesUnsigned, is_simple, matches_of, fault_of, is_simple_and_free, rows_of, texts, find-map, applications_of, is_quiet, names_of, number_of, number_written, program, size_of}
+use Rattle.mote_shell.proofs.Common.{ParsesUnsigned, is_simple, matches_of, fault_of, is_simple_and_free, rows_of, texts, find-map, applications_of, is_quiet, names_of, number_of, number_written, program, sizes_of}
 use Rattle.std.specs.Borrow.{Bor}
 use Rattle.std.specs.Str.Parse.{digits_value, without_leading_plus}
 use Rattle.clap.specs.Facts.{Entry}
@@ -14,6 +14,7 @@ use Rattle.clap.proofs.ValueTestLemmas.{Accepts-accepts, accepts-Accepts}
 use Rattle.clap.proofs.WalkLemmas.{one_text-rows, raw_values-rows}
 use Rattle.mote_shell.specs.CommandLine.{errors_in, named_in, matches_in}
 use Rattle.mote_shell.specs.declared.named.Named.{Named}
+use Rattle.node_memory.specs.declared.sizes.Sizes.{Sizes}
 
 pub program_is_simple : (name : Text) → is_simple (program name) ≡ true
 unfolding clap_on_literals
@@ -72,14 +73,11 @@ source_given f id = go (find (λ (e : Entry). bytes_eq e.0.now id) f.entries.ite
     go (Some e) = refl
 
 module _ {A : Type 0} where
-  abbrev pub named_with : List A → ℕ → ℕ → Option ℕ → ℕ → Bool → Named A
-  named_with applications mmem heap quota header quiet =
-      record { applications = record { items = applications }; mmem = mmem; heap = heap; quota = quota; header = header; quiet = quiet }
+  abbrev pub named_with : List A → Sizes → Bool → Named A
+  named_with applications sizes quiet = record { applications = record { items = applications }; sizes = sizes; quiet = quiet }
 
-  pub named_read : (by_name : Text → Option A) (words : List Text) (applications : List A) (mmem heap : ℕ) (quota : Option ℕ) (header : ℕ) (quiet : Bool) →
-      applications ≡ applications_of by_name (names_of (matches_in words)) → mmem ≡ size_of (codes "mmem") (matches_in words) →
-      heap ≡ size_of (codes "heap") (matches_in words) → quota ≡ number_of (codes "quota") (matches_in words) →
-      header ≡ size_of (codes "header") (matches_in words) → quiet ≡ is_quiet (matches_in words) →
-      named_with applications mmem heap quota header quiet ≡ named_in by_name words
+  pub named_read : (by_name : Text → Option A) (words : List Text) (applications : List A) (sizes : Sizes) (quiet : Bool) →
+      applications ≡ applications_of by_name (names_of (matches_in words)) → sizes ≡ sizes_of (matches_in words) → quiet ≡ is_quiet (matches_in words) →
+      named_with applications sizes quiet ≡ named_in by_name words
   unfolding named_in
-  named_read by_name words applications mmem heap quota header quiet a m h o r q = rw (a, m, h, o, r, q) refl
+  named_read by_name words applications sizes quiet a s q = rw (a, s, q) refl

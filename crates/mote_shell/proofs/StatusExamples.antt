@@ -3,10 +3,10 @@ use Rattle.std.proofs.Common.{◌≡◌, ◌∙◌, ◌++◌, ℕ, List, codes, 
 use Rattle.std.specs.Prelude.{Some, None, Ok, Err}
 use denote.Ref.{Bor}
 use Rattle.mote_text.specs.declared.script.End.{End}
-use Rattle.mote_types.specs.declared.fault.BootFault.{BootFault}
+use Rattle.mote_kit.specs.declared.fault.MoteFault.{MoteFault}
 use Rattle.mote_shell.specs.declared.refusal.ParserText.{ParserText}
 use Rattle.mote_shell.specs.declared.refusal.Refusal.{Refusal}
-use Rattle.mote_shell.specs.Statuses.{IsShown, IsStatusOf, failure_at_boot, failure_in_words, failure_text, status_of_outcome, told_text}
+use Rattle.mote_shell.specs.Statuses.{IsShown, IsStatusOf, failure_in_mote, failure_in_words, failure_text, status_of_outcome, told_text}
 use Rattle.mote_shell.specs.declared.failure.Failure.{Failure}
 
 finished : status_of_outcome (Ok End.Finished) ≡ 0
@@ -93,5 +93,9 @@ halt_has_its_status is = let zero_is_three : ◌≡◌ {A = ℕ} 0 3 = is.is_sta
 same_names : (text : ParserText) (name : Bor (List ℕ)) → (failure_in_words (Refusal.Words text) ≡ Failure.Words text) × (failure_in_words (Refusal.NoApplication name) ≡ Failure.NoApplication name)
 same_names text name = (refl, refl)
 
-sizes_at_boot : failure_at_boot BootFault.BadSizes ≡ Failure.BadSizes
-sizes_at_boot = refl
+-- and so is what a mote failed with
+mote_failed : (failure_in_mote MoteFault.BadSizes ≡ Failure.BadSizes) × (failure_in_mote MoteFault.Memory ≡ Failure.OutOfMemory)
+mote_failed = (refl, refl)
+
+device_failed : (failure_in_mote MoteFault.Read ≡ Failure.Read) × (failure_in_mote MoteFault.Write ≡ Failure.Write)
+device_failed = (refl, refl)

@@ -12,6 +12,7 @@ use Rattle.clap.specs.declared.builder.value_parser.ValueParser.{ValueParser}
 use Rattle.clap.specs.declared.error.Error.{Error}
 use Rattle.clap.specs.declared.error.kind.ErrorKind.{ErrorKind}
 use Rattle.clap.specs.declared.parser.matches.ValueSource.{ValueSource}
+use Rattle.node_memory.specs.declared.sizes.Sizes.{Sizes}
 use Rattle.mote_shell.specs.declared.named.Named.{Named}
 use Rattle.mote_shell.specs.declared.refusal.Refusal.{Refusal}
 
@@ -89,6 +90,16 @@ number_of option rows = option_and_then number_written (one_of option rows)
 abbrev pub size_of : Text → List Row → ℕ
 size_of option rows = unwrap_or (number_of option rows) 0
 
+-- the sizes of memory; each process has a quota where one is named
+abbrev pub sizes_of : List Row → Sizes
+sizes_of rows =
+    record {
+      mmem = size_of (codes "mmem") rows;
+      heap = size_of (codes "heap") rows;
+      header = size_of (codes "header") rows;
+      quota = number_of (codes "quota") rows;
+    }
+
 abbrev pub is_in_words : Option ValueSource → Bool
 is_in_words (Some ValueSource.CommandLine) = true
 is_in_words _ = false
@@ -131,10 +142,7 @@ module _ {A : Type 0} (by_name : Text → Option A) where
   named_in words =
       record {
         applications = record { items = applications_of (names_of (matches_in words)) };
-        mmem = size_of (codes "mmem") (matches_in words);
-        heap = size_of (codes "heap") (matches_in words);
-        quota = number_of (codes "quota") (matches_in words);
-        header = size_of (codes "header") (matches_in words);
+        sizes = sizes_of (matches_in words);
         quiet = is_quiet (matches_in words);
       }
 

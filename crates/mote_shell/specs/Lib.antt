@@ -1,3 +1,4 @@
 pub mod Code
 pub mod CommandLine
+pub mod NamedRuns
 pub mod Statuses

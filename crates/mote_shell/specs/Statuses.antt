@@ -1,6 +1,6 @@
 -- The statuses that the program exits with, and what it tells on standard error.
 use Rattle.std.specs.Prelude.{◌≡◌, ◌⊎◌, ℕ, List, ◌++◌, codes, Option, Some, None, option_map, Result, Ok, Err}
-use Rattle.mote_types.specs.declared.fault.BootFault.{BootFault}
+use Rattle.mote_kit.specs.declared.fault.MoteFault.{MoteFault}
 use Rattle.mote_text.specs.declared.script.End.{End}
 use Rattle.mote_shell.specs.declared.refusal.Refusal.{Refusal}
 use Rattle.mote_shell.specs.declared.failure.Failure.{Failure}
@@ -61,6 +61,8 @@ failure_in_words (Refusal.NoApplication name) = Failure.NoApplication name
 failure_in_words Refusal.TooManyApplications = Failure.TooManyApplications
 failure_in_words Refusal.OutOfMemory = Failure.OutOfMemory
 
-abbrev pub failure_at_boot : BootFault → Failure
-failure_at_boot BootFault.BadSizes = Failure.BadSizes
-failure_at_boot BootFault.Memory = Failure.OutOfMemory
+abbrev pub failure_in_mote : MoteFault → Failure
+failure_in_mote MoteFault.BadSizes = Failure.BadSizes
+failure_in_mote MoteFault.Memory = Failure.OutOfMemory
+failure_in_mote MoteFault.Read = Failure.Read
+failure_in_mote MoteFault.Write = Failure.Write

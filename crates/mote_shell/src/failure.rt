@@ -5,8 +5,8 @@ ghost use Rattle.mote_shell.specs.Statuses as statuses;
 ghost use Rattle.mote_shell.specs.Statuses.{status_of_failure, status_of_outcome};
 
 use crate::refusal::{ParserText, Refusal};
+use mote_kit::fault::MoteFault;
 use mote_text::script::End;
-use mote_types::fault::BootFault;
 use std::alloc::{AllocError, AllocFailed};
 use std::fmt;
 
@@ -105,15 +105,17 @@ impl<'a> From<Refusal<'a>> for Failure<'a> {
     }
 }
 
-impl From<BootFault> for Failure<'_> {
-    ghost use Rattle.mote_shell.specs.Statuses.{failure_at_boot};
+impl From<MoteFault> for Failure<'_> {
+    ghost use Rattle.mote_shell.specs.Statuses.{failure_in_mote};
 
-    ghost from_gives = { λ fault failure. failure ≡ failure_at_boot fault };
+    ghost from_gives = { λ fault failure. failure ≡ failure_in_mote fault };
 
-    fn from(fault: BootFault) -> Self {
+    fn from(fault: MoteFault) -> Self {
         match fault {
-            BootFault::BadSizes => Failure::BadSizes,
-            BootFault::Memory => Failure::OutOfMemory,
+            MoteFault::BadSizes => Failure::BadSizes,
+            MoteFault::Memory => Failure::OutOfMemory,
+            MoteFault::Read => Failure::Read,
+            MoteFault::Write => Failure::Write,
         }
     }
 }

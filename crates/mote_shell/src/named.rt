@@ -3,7 +3,7 @@
 ghost use Rattle.std.specs.Prelude.{◌≡◌, ◌≤◌, Some, None, find, filter_map, length, IfOk, IfErr, OnOk};
 ghost use Rattle.clap.specs.Walk.{rows_of, texts};
 ghost use Rattle.clap.specs.Words.{found_of};
-ghost use Rattle.mote_shell.specs.CommandLine.{NamesApplications, Refuses, RefusesNames, applications_of, is_unknown, named_in, names_of};
+ghost use Rattle.mote_shell.specs.CommandLine.{NamesApplications, Refuses, RefusesNames, applications_of, is_unknown, named_in, names_of, sizes_of};
 ghost use Rattle.mote_shell.specs.Code.Names.{application_of, refusal_of};
 
 use crate::command_line::{is_quiet, number_in, parse, size_in};
@@ -12,6 +12,7 @@ use crate::refusal::Refusal;
 use app_kit::FromName;
 use arrayvec::ArrayVec;
 use clap::ArgMatches;
+use mote_kit::mote::Sizes;
 use std::alloc::Global;
 
 /// How many applications a mote may have.
@@ -24,14 +25,7 @@ pub type Applications<T> = ArrayVec<T, MOST_APPLICATIONS>;
 #[derive(Drop)]
 pub struct Named<T> {
     pub applications: Applications<T>,
-    /// The size of managed memory, in bytes.
-    pub mmem: u32,
-    /// The size of the heap, in bytes.
-    pub heap: u32,
-    /// What each application and the frames may hold of managed memory, in bytes, if that is limited.
-    pub quota: Option<u32>,
-    /// The length of a header in the heap, in bytes.
-    pub header: u32,
+    pub sizes: Sizes,
     /// Whether the transcript is a quiet one.
     pub quiet: bool,
 }
@@ -68,6 +62,18 @@ fn applications_in<'a, T: FromName>(
     }
 }
 
+/// The sizes among what the parser found.
+fn sizes_in(matches: &ArgMatches<'_>) -> Sizes
+    ensures { result ≡ sizes_of (rows_of (found_of matches.now)) }
+{
+    Sizes {
+        mmem: size_in(matches, "mmem"),
+        heap: size_in(matches, "heap"),
+        header: size_in(matches, "header"),
+        quota: number_in(matches, "quota"),
+    }
+}
+
 /// What the words name. The first word is the program's name. Where the option for it isn't used a region has 4,096 bytes, a
 /// header has 16, and there is no quota.
 ///
@@ -88,10 +94,7 @@ pub fn read_words<'a, T: FromName>(
     let applications = applications_in(&matches)?;
     Ok(Named {
         applications,
-        mmem: size_in(&matches, "mmem"),
-        heap: size_in(&matches, "heap"),
-        quota: number_in(&matches, "quota"),
-        header: size_in(&matches, "header"),
+        sizes: sizes_in(&matches),
         quiet: is_quiet(&matches),
     })
 }

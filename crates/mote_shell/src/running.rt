@@ -1,44 +1,67 @@
-//! The run of what the words name, as a program's own crate writes it.
+//! From the words of the command line to the status that a program exits with.
 
-/// Runs what the words of the command line name, from standard input to standard output, and answers the status that the
-/// program exits with. `$T` has the applications by their names. It is the body of a function of the program's crate, with
-/// result `Result<u8, Failure<'static>>`: boxes are made where the type of the applications is known. That crate lists
-/// `mote_kit` too.
-#[macro_export]
-macro_rules! run_named {
-    ($rt:expr, $program:expr, $T:ty) => {{
-        let words = $crate::words_of($rt)?;
-        let texts = $crate::texts_of($rt.alloc(), words.as_slice())?;
-        let named = match $crate::read_words::<$T>($rt.alloc(), $program, texts.as_slice()) {
-            Ok(named) => named,
-            Err(refusal) => return Ok($crate::finish($rt, $program, Err($crate::Failure::from(refusal)))),
-        };
-        let sizes = mote_kit::mote::Sizes {
-            mmem: named.mmem,
-            heap: named.heap,
-            header: named.header,
-            quota: named.quota,
-        };
-        let mut boxes: Vec<Box<dyn mote_kit::App>> = Vec::new($rt.alloc());
-        for application in named.applications {
-            boxes.push(Box::new($rt.alloc(), application)?)?;
-        }
-        let mut source = $crate::Input::new($rt.reader());
-        let mut sink = $crate::Output::new(std::io::writer($rt));
-        let outcome = match mote_kit::mote::run_boxes(
-            $rt.alloc(),
-            sizes,
-            boxes.as_mut_slice(),
-            &mut source,
-            &mut sink,
-            named.quiet,
-        ) {
-            Ok(end) => Ok(end),
-            Err(mote_kit::fault::MoteFault::BadSizes) => Err($crate::Failure::BadSizes),
-            Err(mote_kit::fault::MoteFault::Memory) => Err($crate::Failure::OutOfMemory),
-            Err(mote_kit::fault::MoteFault::Read) => Err($crate::Failure::Read),
-            Err(mote_kit::fault::MoteFault::Write) => Err($crate::Failure::Write),
-        };
-        Ok($crate::finish($rt, $program, outcome))
-    }};
+ghost use Rattle.std.specs.Prelude.{◌≡◌, ◌<◌, ◌-◌, ◌^◌, ⊤, false, map, string_bytes, IfOk, IfErr};
+ghost use Rattle.mote_run.specs.RunText.{Exchanged};
+ghost use Rattle.mote_shell.specs.NamedRuns.{HasRunNamed, IsStatusFor};
+ghost use Rattle.mote_shell.specs.declared.failure.Failure.{Failure as Refused};
+
+use crate::failure::Failure;
+use crate::program::Program;
+use crate::runner::Runner;
+use crate::streams::{Input, Output};
+use crate::telling::finish;
+use crate::words::texts_of;
+use app_kit::FromName;
+use mote_types::device::{ByteSink, ByteSource};
+use std::io;
+
+/// Runs the mote that the words of the command line name from the source to the sink, or tells why they name none. Answers
+/// the status that the program exits with. The first word is the program's name.
+///
+/// # Errors
+///
+/// `OutOfMemory` where memory was refused for the words.
+pub fn run_to_status<
+    T: FromName,
+    P: Runner<T>,
+    R: AllocGlobal + Print + Eprint,
+    S: ByteSource,
+    K: ByteSink,
+>(
+    rt: &R,
+    program: Program,
+    words: &[String],
+    source: &mut S,
+    sink: &mut K,
+) -> Result<u8, Failure<'static>>
+    requires unended { S.is_ended source.old ≡ false }
+    requires countable_reads { S.failure_count source.old < 2 ^ 64 - 1 }
+    requires countable_writes { K.failure_count sink.old < 2 ^ 64 - 1 }
+    ensures status { IfOk result (IsStatusFor T.by_name (map string_bytes words.now) (λ outcome. S.is_named → K.is_named →
+        Exchanged (S.taken source.old) (S.taken source.new) (S.is_ended source.new) (K.given sink.old) (K.given sink.new)
+        (HasRunNamed T.by_name T.says (map string_bytes words.now) outcome))) }
+    ensures failure { IfErr result (λ failure. failure ≡ Refused.OutOfMemory) }
+{
+    let texts = texts_of(rt.alloc(), words)?;
+    let outcome = P::run_words(rt.alloc(), program, texts.as_slice(), source, sink);
+    Ok(finish(rt, program, outcome))
+}
+
+/// What a program does with its words, from standard input to standard output, of which no contract names a byte. Answers the
+/// status that it exits with. The first word is the program's name.
+///
+/// # Errors
+///
+/// `OutOfMemory` where memory was refused for the words.
+pub fn work<T: FromName, P: Runner<T>, R: AllocGlobal + io::Input + Print + Eprint>(
+    rt: &R,
+    program: Program,
+    words: &[String],
+) -> Result<u8, Failure<'static>>
+    ensures status { IfOk result (IsStatusFor T.by_name (map string_bytes words.now) (λ _. ⊤)) }
+    ensures failure { IfErr result (λ failure. failure ≡ Refused.OutOfMemory) }
+{
+    let mut source = Input::new(rt.reader());
+    let mut sink = Output::new(io::writer(rt));
+    run_to_status::<T, P, R, _, _>(rt, program, words, &mut source, &mut sink)
 }

@@ -2,11 +2,13 @@
 #![tactic(auto)]
 
 mod averager;
+mod runner;
 #[cfg(test)]
 mod tests;
 
 use averager::Averager;
-use mote_shell::{Failure, Program, after_help, exit_code, run_named};
+use runner::Boxing;
+use mote_shell::{Program, after_help, exit_code, words_of, work};
 use std::process::ExitCode;
 
 const PROGRAM: Program = Program {
@@ -19,11 +21,10 @@ const PROGRAM: Program = Program {
     ),
 };
 
-/// What the program does, and the status that it exits with.
-fn work(rt: &HostRuntime) -> Result<u8, Failure<'static>> {
-    run_named!(rt, PROGRAM, Averager)
-}
-
 fn main(rt: HostRuntime) -> ExitCode {
-    exit_code(&rt, PROGRAM, work(&rt))
+    let outcome = match words_of(&rt) {
+        Ok(words) => work::<Averager, Boxing, _>(&rt, PROGRAM, words.as_slice()),
+        Err(failure) => Err(failure),
+    };
+    exit_code(&rt, PROGRAM, outcome)
 }

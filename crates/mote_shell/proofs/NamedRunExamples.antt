@@ -1,0 +1,98 @@
+-- Worked examples: the configuration that is named, and what a program may come to on words.
+use Rattle.std.proofs.Common.{◌≡◌, ◌⊎◌, ◌∙◌, ℕ, List, true, false, [], refl, subst, ap, arith, inl, inr, Option, Some, None, Result, Ok, Err}
+use denote.Ref.{Bor}
+use Rattle.kernel_core.specs.Machine.{is_bootable}
+use Rattle.kernel_core.specs.declared.config.Config.{Config}
+use Rattle.mote_run.specs.RunText.{Exchange, HasRunTo}
+use Rattle.mote_run.specs.Trace.{RunPromise}
+use Rattle.mote_run.specs.declared.run.RunFault.{RunFault}
+use Rattle.mote_shell.specs.CommandLine.{AsksForText, NamesApplications, named_in}
+use Rattle.mote_shell.specs.NamedRuns.{HasRunNamed, IsAnswer, IsOutcome, IsStatusFor, NamesMote, Refuses, config_of}
+use Rattle.mote_shell.specs.Statuses.{status_of_outcome}
+use Rattle.mote_shell.specs.declared.failure.Failure.{Failure}
+use Rattle.mote_shell.specs.declared.named.Named.{Named}
+use Rattle.mote_shell.specs.declared.refusal.ParserText.{ParserText}
+use Rattle.mote_text.specs.declared.script.End.{End}
+use Rattle.mote_types.specs.Applications.{Says, says_of}
+
+-- no quota, and no application
+small : config_of {A = ℕ} (record { applications = record { items = [] }; sizes = record { mmem = 64; heap = 128; header = 8; quota = None }; quiet = true })
+    ≡ record { mmem = 64; heap = 128; apps = 0; quota = None; header = 8 }
+small = refl
+
+-- sizes that no mote has: no multiple of 4, and a quota for two applications and the frames that exceeds managed memory
+odd_size : is_bootable (record { mmem = 62; heap = 128; apps = 0; quota = None; header = 8 }) ≡ false
+odd_size = refl
+
+large_quota : is_bootable (record { mmem = 64; heap = 128; apps = 2; quota = Some 24; header = 8 }) ≡ false
+large_quota = refl
+
+-- What a program may come to on words: a run and its failure only where they name a mote, and a refusal only where they name none.
+module _ {A : Type 0} (by_name : List ℕ → Option A) (words : List (List ℕ)) where
+  ran : (end : End) → IsOutcome by_name words (Ok end) → NamesMote by_name words
+  ran end is = is
+
+  ran_where_reading_failed : IsOutcome by_name words (Err Failure.Read) → NamesMote by_name words
+  ran_where_reading_failed is = is
+
+  ran_where_writing_failed : IsOutcome by_name words (Err Failure.Write) → (AsksForText words → ⊥) → NamesMote by_name words
+  ran_where_writing_failed (inl is) asks = is
+  ran_where_writing_failed (inr text) asks = absurd (asks text)
+
+  bad_sizes : IsOutcome by_name words (Err Failure.BadSizes) → NamesMote by_name words → ⊥
+  bad_sizes is names = let bad = is.1 in let good = names.bootable in absurd (cc)
+
+  bad_sizes_of_applications : Refuses by_name words Failure.BadSizes → NamesApplications by_name words
+  bad_sizes_of_applications refused = refused.0
+
+  no_application : (name : Bor (List ℕ)) → IsOutcome by_name words (Err (Failure.NoApplication name)) → NamesMote by_name words → ⊥
+  no_application name is names = let unknown = is.1 in let known = names.applications.known in absurd (cc)
+
+  too_many_applications : IsOutcome by_name words (Err Failure.TooManyApplications) → NamesMote by_name words → ⊥
+  too_many_applications is names = let many = is.1.1 in let few = names.applications.few in absurd (omega (arith, many, few))
+
+  -- what the parser finds, it finds in words that it does not take
+  mistake : (text : ParserText) → IsOutcome by_name words (Err (Failure.Words text)) → NamesMote by_name words → ⊥
+  mistake text is names = let taken = names.applications.taken in rw taken at is.0
+
+  asked_for_text : (text : ParserText) → IsOutcome by_name words (Err (Failure.Request text)) → NamesMote by_name words → ⊥
+  asked_for_text text is names = let taken = names.applications.taken in rw taken at is.0
+
+  -- that a word is no text is told before there are words
+  other_failures : Refuses by_name words Failure.NotText ⊎ (Refuses by_name words Failure.Read ⊎ Refuses by_name words Failure.Write) → ⊥
+  other_failures (inl refused) = refused
+  other_failures (inr (inl refused)) = refused
+  other_failures (inr (inr refused)) = refused
+
+  -- the status is that of what was done
+  no_halt_with_0 : IsStatusFor by_name words (λ outcome. outcome ≡ Ok End.Halted) 0 → ⊥
+  no_halt_with_0 is = let zero_is_three : ◌≡◌ {A = ℕ} 0 3 = is.is_status ∙ ap status_of_outcome is.is_done in absurd (omega arith)
+
+  halt_of_a_mote : (status : ℕ) → IsStatusFor by_name words (λ outcome. outcome ≡ Ok End.Halted) status → NamesMote by_name words
+  halt_of_a_mote status is = subst (IsOutcome by_name words) is.is_done is.is_allowed
+
+  -- boxed applications are no words that are refused
+  no_answer : (text : ParserText) (config : Config) → IsAnswer config (Err (Failure.Words text)) → ⊥
+  no_answer text config is = is
+
+-- words that name a mote have a run that keeps the promise of `run`
+module _ {A : Type 0} (by_name : List ℕ → Option A) (says : A → Says) (words : List (List ℕ)) (exchange : Exchange) where
+  abbrev asked : Named A
+  asked = named_in by_name words
+
+  module _ (names : NamesMote by_name words) where
+    keeps_the_promise : (end : End) → HasRunNamed by_name says words (Ok end) exchange → RunPromise (config_of asked) (says_of says asked.applications.items) asked.quiet (Ok end) exchange
+    keeps_the_promise end has = has.promise names
+
+    keeps_it_where_reading_failed : HasRunNamed by_name says words (Err Failure.Read) exchange
+        → RunPromise (config_of asked) (says_of says asked.applications.items) asked.quiet (Err RunFault.Read) exchange
+    keeps_it_where_reading_failed has = has.promise names
+
+    keeps_it_where_writing_failed : HasRunNamed by_name says words (Err Failure.Write) exchange
+        → RunPromise (config_of asked) (says_of says asked.applications.items) asked.quiet (Err RunFault.Write) exchange
+    keeps_it_where_writing_failed has = has.promise names
+
+  -- whatever they name, what was written is what such a run comes to
+  is_of_what_is_named : (outcome : Result End Failure) → HasRunNamed by_name says words outcome exchange
+      → HasRunTo (config_of asked) (says_of says asked.applications.items) asked.quiet Failure.Read outcome exchange
+  is_of_what_is_named outcome has = has.ran

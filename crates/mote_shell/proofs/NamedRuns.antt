@@ -1,0 +1,67 @@
+-- What was done on words, by how the run of a mote was answered.
+use Rattle.std.proofs.Common.{◌≡◌, ℕ, Bool, List, Option, refl, sym, ap, subst, inl, inr, Result, Ok, Err}
+use Rattle.mote_run.proofs.HandedOn.{nothing_ran}
+use Rattle.mote_run.specs.RunText.{Exchanged}
+use Rattle.mote_run.specs.declared.run.RunFault.{RunFault}
+use Rattle.mote_shell.specs.NamedRuns.{HasRunNamed, NamesMote, OfRun, Refuses}
+use Rattle.mote_shell.specs.Statuses.{IsShown}
+use Rattle.mote_shell.specs.declared.failure.Failure.{Failure}
+use Rattle.mote_shell.specs.declared.refusal.ParserText.{ParserText}
+use Rattle.mote_text.specs.declared.script.End.{End}
+use Rattle.mote_types.specs.Applications.{Says}
+
+-- by the table of a program's applications
+module _ {A : Type 0} (by_name : List ℕ → Option A) (words : List (List ℕ)) where
+  -- no refusal of words says that reading failed
+  refusal_is_other : (failure : Failure) → Refuses by_name words failure → failure ≡ Failure.Read → ⊥
+  refusal_is_other failure refused same = absurd (subst (Refuses by_name words) same refused)
+
+  -- what words are refused with is no answer of a run
+  refused_no_run : (P : Result End RunFault → Type 0) (failure : Failure) → Refuses by_name words failure → OfRun (Err failure) P
+  refused_no_run P Failure.Read refused = absurd refused
+  refused_no_run P Failure.Write refused = absurd refused
+  refused_no_run P failure refused = tt
+
+  -- words that ask for a text name no mote
+  asks_for_text : (text : ParserText) → Refuses by_name words (Failure.Request text) → NamesMote by_name words → ⊥
+  asks_for_text text refused names = let taken = names.applications.taken in rw taken at refused.0
+
+abbrev error_of : Result End Failure → Failure
+error_of (Ok end) = Failure.Write
+error_of (Err failure) = failure
+
+module _ {A : Type 0} (by_name : List ℕ → Option A) (says : A → Says) (words : List (List ℕ)) where
+  -- where the words name no mote, nothing ran
+  pub ran_nothing : {taken given : List ℕ} {is_ended : Bool} (failure : Failure) → Refuses by_name words failure →
+      Exchanged taken taken is_ended given given (HasRunNamed by_name says words (Err failure))
+  ran_nothing failure refused =
+      let none = nothing_ran {failed = Failure.Read} (Err failure) refl (λ is. refusal_is_other by_name words failure refused (ap error_of is)) in
+      record {
+        read = none.read;
+        written = none.written;
+        taken = none.taken;
+        given = none.given;
+        holds = record { ran = none.holds; promise = λ names. refused_no_run by_name words _ failure refused };
+      }
+
+  -- a text that could not be shown is a failed write
+  pub not_shown : {taken_old taken_new : List ℕ} {is_ended : Bool} {given_old given_new : List ℕ} (text : ParserText) → Refuses by_name words (Failure.Request text) →
+      Exchanged taken_old taken_new is_ended given_old given_new (HasRunNamed by_name says words (Err (Failure.Request text))) →
+      Exchanged taken_old taken_new is_ended given_old given_new (HasRunNamed by_name says words (Err Failure.Write))
+  not_shown text refused x = record {
+    read = x.read;
+    written = x.written;
+    taken = x.taken;
+    given = x.given;
+    holds = record {
+      ran = record { text = tt; front = x.holds.ran.front; after_read_fault = λ is. absurd (cc) };
+      promise = λ names. absurd (asks_for_text by_name words text refused names);
+    };
+  }
+
+-- what holds of an outcome holds of it once it was shown, if it holds of a failed write where a text could not be shown
+pub of_shown : (P : Result End Failure → Type 0) (outcome shown : Result End Failure) → P outcome
+    → ((text : ParserText) → outcome ≡ Err (Failure.Request text) → P (Err (Failure.Request text)) → P (Err Failure.Write)) → IsShown outcome shown → P shown
+of_shown P (Err (Failure.Request text)) shown holds failed (inl same) = subst P (sym same) holds
+of_shown P (Err (Failure.Request text)) shown holds failed (inr lost) = subst P (sym lost) (failed text refl holds)
+of_shown P outcome shown holds failed same = subst P (sym same) holds

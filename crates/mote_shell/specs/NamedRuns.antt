@@ -1,0 +1,86 @@
+-- Which mote the words of the command line name, and what a program may come to on them.
+use Rattle.std.specs.Prelude.{◌≡◌, ◌⊎◌, ⊤, ℕ, Bool, true, false, List, length, Option, Result, Ok, Err}
+use Rattle.mote_types.specs.Applications.{Applications, Says, says_of}
+use Rattle.kernel_core.specs.declared.config.Config.{Config}
+use Rattle.kernel_core.specs.Machine.{is_bootable}
+use Rattle.mote_text.specs.declared.script.End.{End}
+use Rattle.mote_run.specs.RunText.{Exchange, HasRunTo}
+use Rattle.mote_run.specs.Trace.{RunPromise}
+use Rattle.mote_run.specs.declared.run.RunFault.{RunFault}
+use Rattle.mote_kit.specs.Runs as of_boxes
+use Rattle.mote_shell.specs.CommandLine.{AsksForText, NamesApplications, named_in}
+use Rattle.mote_shell.specs.CommandLine as of_words
+use Rattle.mote_shell.specs.Statuses.{status_of_outcome}
+use Rattle.mote_shell.specs.declared.failure.Failure.{Failure}
+use Rattle.mote_shell.specs.declared.named.Named.{Named}
+use Rattle.mote_shell.specs.declared.refusal.Refusal.{Refusal}
+
+-- a mote of the named sizes with the named applications
+abbrev pub config_of : {A : Type 0} → Named A → Config
+config_of named = of_boxes.config_of named.sizes (length named.applications.items)
+
+-- this holds of the answer of `run`, where a mote was run
+abbrev pub OfRun : Result End Failure → (Result End RunFault → Type 0) → Type 0
+OfRun (Ok end) P = P (Ok end)
+OfRun (Err Failure.Read) P = P (Err RunFault.Read)
+OfRun (Err Failure.Write) P = P (Err RunFault.Write)
+OfRun (Err failure) P = ⊤
+
+-- what was read and written is what a run comes to that is answered so, and where a mote was run, it keeps the promise of `run`
+pub record HasRunAs (config : Config) (says : Applications) (quiet : Bool) (outcome : Result End Failure) (exchange : Exchange) : Type 0 where
+  pub ran : HasRunTo config says quiet Failure.Read outcome exchange
+  pub promise : OfRun outcome (λ answer. RunPromise config says quiet answer exchange)
+
+-- what boxed applications may come to: that sizes are bad only where there is no such mote, and a run, or its failure, only where
+-- there is one; and want of memory
+abbrev pub IsAnswer : Config → Result End Failure → Type 0
+IsAnswer config (Ok end) = is_bootable config ≡ true
+IsAnswer config (Err Failure.Read) = is_bootable config ≡ true
+IsAnswer config (Err Failure.Write) = is_bootable config ≡ true
+IsAnswer config (Err Failure.BadSizes) = is_bootable config ≡ false
+IsAnswer config (Err Failure.OutOfMemory) = ⊤
+IsAnswer config (Err failure) = ⊥
+
+-- by the table of a program's applications, which has the one of each name
+module _ {A : Type 0} (by_name : List ℕ → Option A) where
+  -- the parser takes the words, each name is an application's, and there is a mote of these sizes with so many applications
+  pub record NamesMote (words : List (List ℕ)) : Type 0 where
+    pub applications : NamesApplications by_name words
+    pub bootable : is_bootable (config_of (named_in by_name words)) ≡ true
+
+  -- each name is an application's, and they are at most 16, but there is no mote of these sizes
+  abbrev pub HasBadSizes : List (List ℕ) → Type 0
+  HasBadSizes words = NamesApplications by_name words × (is_bootable (config_of (named_in by_name words)) ≡ false)
+
+  -- what a program may answer to words in place of a mote: each failure under its own condition, of which no two hold at once;
+  -- and want of memory
+  abbrev pub Refuses : List (List ℕ) → Failure → Type 0
+  Refuses words (Failure.Request text) = of_words.Refuses by_name words (Refusal.Request text)
+  Refuses words (Failure.Words text) = of_words.Refuses by_name words (Refusal.Words text)
+  Refuses words (Failure.NoApplication name) = of_words.Refuses by_name words (Refusal.NoApplication name)
+  Refuses words Failure.TooManyApplications = of_words.Refuses by_name words Refusal.TooManyApplications
+  Refuses words Failure.BadSizes = HasBadSizes words
+  Refuses words Failure.OutOfMemory = ⊤
+  Refuses words failure = ⊥
+
+  -- what a program may come to on words: a run, or its failure, only where they name a mote, and what they are refused with only
+  -- where they name none. A text that they ask for may fail to be written
+  abbrev pub IsOutcome : List (List ℕ) → Result End Failure → Type 0
+  IsOutcome words (Ok end) = NamesMote words
+  IsOutcome words (Err Failure.Read) = NamesMote words
+  IsOutcome words (Err Failure.Write) = NamesMote words ⊎ AsksForText words
+  IsOutcome words (Err failure) = Refuses words failure
+
+  -- the status of an outcome that the words allow, with which this was done
+  pub record IsStatusFor (words : List (List ℕ)) (IsDone : Result End Failure → Type 0) (status : ℕ) : Type 0 where
+    pub outcome : Result End Failure
+    pub is_allowed : IsOutcome words outcome
+    pub is_done : IsDone outcome
+    pub is_status : status ≡ status_of_outcome outcome
+
+  -- what was read and written is what a run of the named applications comes to, which say this, at the named sizes, and quiet as the
+  -- words are; where they name a mote, it keeps the promise of `run`
+  pub record HasRunNamed (says : A → Says) (words : List (List ℕ)) (outcome : Result End Failure) (exchange : Exchange) : Type 0 where
+    pub ran : HasRunTo (config_of (named_in by_name words)) (says_of says (named_in by_name words).applications.items) (named_in by_name words).quiet Failure.Read outcome exchange
+    pub promise : NamesMote words → OfRun outcome (λ answer.
+        RunPromise (config_of (named_in by_name words)) (says_of says (named_in by_name words).applications.items) (named_in by_name words).quiet answer exchange)

@@ -1,0 +1,78 @@
+//! What runs the applications that words name: boxes are made where the type of the applications is known.
+
+ghost use Rattle.std.specs.Prelude.{◌≡◌, ◌<◌, ◌-◌, ◌^◌, ◌↔◌, false, length, IsErrOf};
+ghost use Rattle.mote_types.specs.Applications.{says_of};
+ghost use Rattle.mote_kit.specs.Runs.{config_of};
+ghost use Rattle.mote_run.specs.RunText.{Exchanged};
+ghost use Rattle.mote_shell.specs.CommandLine.{texts};
+ghost use Rattle.mote_shell.specs.NamedRuns.{HasRunAs, HasRunNamed, IsAnswer, IsOutcome};
+ghost use Rattle.mote_shell.specs.declared.failure.Failure.{Failure as Refused};
+
+use crate::failure::Failure;
+use crate::program::Program;
+use app_kit::FromName;
+use mote_kit::mote::{Sizes, run_boxes};
+use mote_text::script::End;
+use mote_types::app::App;
+use mote_types::device::{ByteSink, ByteSource};
+use std::alloc::Global;
+
+/// Runs applications of one type, which words name. Each program has a runner of its own.
+pub trait Runner<T: FromName> {
+    /// Runs the mote that the words name from a source to a sink: it has the sizes and the applications that they name, and its
+    /// transcript is quiet where they ask for that. What is written is the text of the run that the machine makes with what
+    /// these applications say, and the answer is how it ends. All holds that `run` promises: the laws of memory, events, timers
+    /// and isolation among it. The first word is the program's name.
+    ///
+    /// # Errors
+    ///
+    /// First those of `read_words`: what the parser finds, an unknown name, too many names. Then `BadSizes`. Nothing is read or
+    /// written then. `Read` and `Write` exactly where that device failed; `OutOfMemory` where memory was refused. What was
+    /// written is a front part of the text then, and after `Read` all of the text of the whole lines that were read.
+    fn run_words<'a, S: ByteSource, K: ByteSink>(
+        alloc: Global,
+        program: Program,
+        words: &'a [&'a str],
+        source: &mut S,
+        sink: &mut K,
+    ) -> Result<End, Failure<'a>>
+        requires unended { S.is_ended source.old ≡ false }
+        requires countable_reads { S.failure_count source.old < 2 ^ 64 - 1 }
+        requires countable_writes { K.failure_count sink.old < 2 ^ 64 - 1 }
+        ensures outcome { IsOutcome T.by_name (texts words.now) result }
+        ensures run { S.is_named → K.is_named →
+            Exchanged (S.taken source.old) (S.taken source.new) (S.is_ended source.new) (K.given sink.old) (K.given sink.new)
+            (HasRunNamed T.by_name T.says (texts words.now) result) }
+        ensures read_fault { IsErrOf result Refused.Read ↔ (S.failure_count source.old < S.failure_count source.new) }
+        ensures write_fault { IsErrOf result Refused.Write ↔ (K.failure_count sink.old < K.failure_count sink.new) };
+}
+
+/// Runs the applications in the boxes from a source to a sink, as `run_boxes` does, with all that it promises: the last thing that a
+/// runner does.
+///
+/// # Errors
+///
+/// `BadSizes`, `Read` and `Write` as `run_boxes`, else `OutOfMemory`.
+pub fn run_boxed<'a, S: ByteSource, K: ByteSink>(
+    alloc: Global,
+    sizes: Sizes,
+    boxes: &mut [Box<dyn App>],
+    source: &mut S,
+    sink: &mut K,
+    quiet: bool,
+) -> Result<End, Failure<'a>>
+    requires unended { S.is_ended source.old ≡ false }
+    requires countable_reads { S.failure_count source.old < 2 ^ 64 - 1 }
+    requires countable_writes { K.failure_count sink.old < 2 ^ 64 - 1 }
+    ensures answer { IsAnswer (config_of sizes (length boxes.old)) result }
+    ensures run { S.is_named → K.is_named →
+        Exchanged (S.taken source.old) (S.taken source.new) (S.is_ended source.new) (K.given sink.old) (K.given sink.new)
+        (HasRunAs (config_of sizes (length boxes.old)) (says_of says boxes.old) quiet result) }
+    ensures read_fault { IsErrOf result Refused.Read ↔ (S.failure_count source.old < S.failure_count source.new) }
+    ensures write_fault { IsErrOf result Refused.Write ↔ (K.failure_count sink.old < K.failure_count sink.new) }
+{
+    match run_boxes(alloc, sizes, boxes, source, sink, quiet) {
+        Ok(end) => Ok(end),
+        Err(fault) => Err(Failure::from(fault)),
+    }
+}
