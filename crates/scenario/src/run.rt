@@ -14,7 +14,7 @@ use reaction_rows::Reactions;
 use std::alloc::{AllocError, Global};
 use std::{io, mem};
 use text_difference::{changes, compare, fits};
-use transcript_walks::are_laws_kept;
+use transcript_lines::are_laws_kept;
 
 /// How a run ended, in words.
 fn end_words(alloc: Global, end: End) -> Result<String, AllocError> {

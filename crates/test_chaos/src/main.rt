@@ -1,7 +1,7 @@
 //! Two hundred runs of applications that make calls at random: a hundred on a plain mote, fifty under a quota of managed
 //! memory, and fifty with short headers in the heap. A plain replay goes over each transcript and finds every answer to a call
 //! on memory by lists of its own. Each transcript is also walked through for what every run is to show of memory, events and
-//! timers (`transcript_walks`).
+//! timers (`transcript_lines`).
 #![tactic(auto)]
 
 mod heap;
@@ -25,7 +25,7 @@ use mote_run::End;
 use mote_types::app::App;
 use node_memory::Sizes;
 use std::alloc::Global;
-use transcript_walks::are_laws_kept;
+use transcript_lines::are_laws_kept;
 
 /// The sizes of the plain motes: small, so that memory runs short.
 const PLAIN: Sizes = Sizes {

@@ -1,9 +1,9 @@
-//! Transcripts that break a law: the walks over a transcript (`transcript_walks`) notice each.
+//! Transcripts that break a law: the walks over a transcript (`transcript_lines`) notice each.
 
 use std::alloc::{AllocError, Global};
 use std::process::Abort;
 use std::test::Fail;
-use transcript_walks::{events, memory, timers};
+use transcript_lines::{events, memory, timers};
 
 // Each way to spoil a transcript below is a part of it, an arrow and what stands there instead; a bar parts two.
 

@@ -1,8 +1,13 @@
 //! Managed and heap blocks, by a walk over the lines of a transcript.
 
-use crate::turns::{LastCalls, number};
+ghost use Rattle.std.specs.Prelude.{◌≡◌, [], false, true, codes, bytes_eq, if◌then◌else◌, is_none, not, IfOk};
+ghost use Rattle.std.specs.List.{Any, list_any};
+ghost use Rattle.std.specs.Str.Lines.{lines};
+ghost use Rattle.transcript_lines.specs.Walks as spec;
+
+use crate::last_calls::{LastCalls, number};
+use crate::turn::{Turn, read_turn};
 use std::alloc::{AllocError, Global};
-use transcript_lines::{Turn, read_turn};
 
 /// A live block; its bytes are kept as two hex digits each.
 #[derive(Drop)]
@@ -15,7 +20,9 @@ struct Block<'a> {
 }
 
 impl Block<'_> {
-    fn has_name(&self, pid: usize, kind: &str, name: usize) -> bool {
+    fn has_name(&self, pid: usize, kind: &str, name: usize) -> bool
+        ensures { result ≡ spec.has_name pid kind.now name self.now }
+    {
         self.pid == pid && self.kind == kind && self.name == name
     }
 
@@ -46,7 +53,9 @@ impl Block<'_> {
 }
 
 /// The digits of bytes as a line shows them.
-fn digits_of(hex: &str) -> &str {
+fn digits_of(hex: &str) -> &str
+    ensures { result.now ≡ (if bytes_eq hex.now (codes "-") then [] else hex.now) }
+{
     if hex == "-" { "" } else { hex }
 }
 
@@ -93,7 +102,9 @@ impl<'a> Blocks<'a> {
             .find(|block| block.has_name(pid, kind, name))
     }
 
-    fn is_live(&self, pid: usize, kind: &str, name: usize) -> bool {
+    fn is_live(&self, pid: usize, kind: &str, name: usize) -> bool
+        ensures { result ≡ list_any (spec.has_name pid kind.now name) self.now.live.items }
+    {
         let blocks = self.live.as_slice();
         blocks.iter().any(|block| block.has_name(pid, kind, name))
     }
@@ -194,9 +205,12 @@ impl<'a> Blocks<'a> {
 }
 
 /// Whether a process reads and sends of its blocks what its own calls put there, and is refused 9 (not live) and 8 (in use)
-/// exactly where they say so. A checker for whole runs and tests: nothing is promised of the answer. The error is that memory
-/// was refused.
-pub fn is_own(alloc: Global, transcript: &str) -> Result<bool, AllocError> {
+/// exactly where they say so. A checker for whole runs and tests. All that is promised: it is false only where a turn is told or a
+/// frame was sent, and it is where a frame was sent and no turn is told. The error is that memory was refused.
+pub fn is_own(alloc: Global, transcript: &str) -> Result<bool, AllocError>
+    ensures broken { IfOk result (λ kept. kept ≡ false → Any spec.IsToldOrSent (lines transcript.now)) }
+    ensures kept { IfOk result (λ kept. kept ≡ true → spec.AreAsked (lines transcript.now)) }
+{
     let mut blocks = Blocks {
         live: Vec::new(alloc),
     };
@@ -236,7 +250,10 @@ fn is_rightly_answered(
 }
 
 /// A note of a sent frame stands behind the turn that sends it, and shows all bytes of its block.
-fn is_rightly_sent(blocks: &mut Blocks<'_>, last_turn: Option<Turn<'_>>, line: &str) -> bool {
+fn is_rightly_sent(blocks: &mut Blocks<'_>, last_turn: Option<Turn<'_>>, line: &str) -> bool
+    ensures sent { result ≡ false → spec.is_sent line.now ≡ true }
+    ensures unasked { is_none last_turn.entry ≡ true → result ≡ not (spec.is_sent line.now) }
+{
     let Some(hex) = line.strip_prefix("note sent ") else {
         return true;
     };

@@ -1,20 +1,32 @@
 //! What the walks read of the turns.
 
-use std::mem;
-use transcript_lines::{Origin, Turn};
+ghost use Rattle.std.specs.Prelude.{◌≡◌};
+ghost use Rattle.transcript_lines.specs.Walks as spec;
+ghost use Rattle.transcript_lines.specs.Words.{read_number};
 
-/// The number that is written so.
-pub(crate) fn number(text: &str) -> Option<usize> {
-    text.parse::<usize>().ok()
+use crate::forms;
+use crate::quiet::begins_with;
+use crate::turn::{Origin, Turn};
+use std::mem;
+
+/// The number that is written so, without leading zeros.
+pub(crate) fn number(text: &str) -> Option<usize>
+    ensures { result ≡ read_number text.now }
+{
+    Some(forms::number(text)? as usize)
 }
 
 /// A line of an input: what stands before it is a part of the run after which the mote rests.
-pub(crate) fn is_input(line: &str) -> bool {
-    line.starts_with("> ")
+pub(crate) fn is_input(line: &str) -> bool
+    ensures { result ≡ spec.is_input line.now }
+{
+    begins_with(line, "> ")
 }
 
 /// Whether a process ends with this turn: it exits, or is told that it was killed.
-pub(crate) fn ends(turn: &Turn<'_>) -> bool {
+pub(crate) fn ends(turn: &Turn<'_>) -> bool
+    ensures { result ≡ spec.ends turn.now }
+{
     turn.call == "exit" || turn.stimulus == "131 -"
 }
 

@@ -1,8 +1,14 @@
 //! Event timers, by a walk over the lines of a transcript.
 
-use crate::turns::{LastCalls, ends, is_input, number};
+ghost use Rattle.std.specs.Prelude.{◌≡◌, false, true, IfOk};
+ghost use Rattle.std.specs.List.{Any, list_all};
+ghost use Rattle.std.specs.Str.Lines.{lines};
+ghost use Rattle.transcript_lines.specs.Lines.{ticks_of};
+ghost use Rattle.transcript_lines.specs.Walks as spec;
+
+use crate::last_calls::{LastCalls, ends, is_input, number};
+use crate::turn::{Turn, read_turn};
 use std::alloc::{AllocError, Global};
-use transcript_lines::{Turn, read_turn};
 
 /// A timer of an application.
 #[derive(Clone, Copy, Drop)]
@@ -20,11 +26,16 @@ struct Timer {
 
 impl Timer {
     /// The deadline of the last arming has come.
-    fn is_ripe(&self, clock: usize) -> bool {
-        self.is_armed && self.start.saturating_add(self.interval) <= clock
+    fn is_ripe(&self, clock: usize) -> bool
+        ensures { result ≡ spec.is_ripe clock self.now }
+    {
+        self.is_armed && self.start <= clock && self.interval <= clock - self.start
     }
 
-    fn set_aside(&mut self, clock: usize) {
+    fn set_aside(&mut self, clock: usize)
+        ensures armed { self.new.is_armed ≡ false }
+        ensures given { self.new.was_given ≡ false }
+    {
         if self.is_ripe(clock) {
             self.ripe = self.ripe.saturating_add(1);
         }
@@ -32,25 +43,36 @@ impl Timer {
         self.was_given = false;
     }
 
-    fn arm(&mut self, clock: usize, start: usize, interval: usize) {
+    fn arm(&mut self, clock: usize, start: usize, interval: usize)
+        ensures start { self.new.start ≡ start }
+        ensures interval { self.new.interval ≡ interval }
+        ensures armed { self.new.is_armed ≡ true }
+        ensures given { self.new.was_given ≡ false }
+    {
         self.set_aside(clock);
         self.start = start;
         self.interval = interval;
         self.is_armed = true;
     }
 
-    fn give(&mut self) {
+    fn give(&mut self)
+        ensures { self.new.was_given ≡ true }
+    {
         self.given = self.given.saturating_add(1);
         self.was_given = true;
     }
 
     /// No more events were given than armings are ripe.
-    fn is_not_early(&self, clock: usize) -> bool {
+    fn is_not_early(&self, clock: usize) -> bool
+        ensures { result ≡ spec.is_not_early clock self.now }
+    {
         self.given <= self.ripe || self.given == self.ripe.saturating_add(1) && self.is_ripe(clock)
     }
 
     /// At rest: the event of a ripe arming was given.
-    fn is_not_lost(&self, clock: usize) -> bool {
+    fn is_not_lost(&self, clock: usize) -> bool
+        ensures { result ≡ spec.is_not_lost clock self.now }
+    {
         self.was_given || !self.is_ripe(clock)
     }
 }
@@ -63,6 +85,12 @@ const UNUSED: Timer = Timer {
     given: 0,
     ripe: 0,
 };
+
+fn is_none_lost(timers: &[Timer], clock: usize) -> bool
+    ensures { result ≡ list_all (spec.is_not_lost clock) timers.now }
+{
+    timers.iter().all(|timer| timer.is_not_lost(clock))
+}
 
 /// The eight timers of an application.
 #[derive(Clone, Copy, Drop)]
@@ -111,20 +139,29 @@ impl Timers {
         }
     }
 
-    fn are_not_lost(&self, clock: usize) -> bool {
-        self.has_ended || self.of.iter().all(|timer| timer.is_not_lost(clock))
+    fn are_not_lost(&self, clock: usize) -> bool
+        ensures { result ≡ spec.are_not_lost clock self.now }
+    {
+        self.has_ended || is_none_lost(&self.of, clock)
     }
 }
 
 /// The ticks of an input.
-fn ticks(line: &str) -> usize {
-    line.strip_prefix("> tick ").and_then(number).unwrap_or(0)
+fn ticks(line: &str) -> usize
+    ensures { result ≡ ticks_of line.now }
+{
+    let Some(ticks) = line.strip_prefix("> tick ") else {
+        return 0;
+    };
+    number(ticks).unwrap_or(0)
 }
 
 /// Whether so many applications (processes 4, 5, ..) are given no timer event early or twice, and wherever the mote rests none
-/// was lost. An application loses nothing once it has ended, and after a halt none does. A checker for whole runs and tests:
-/// nothing is promised of the answer. The error is that memory was refused.
-pub fn are_kept(alloc: Global, applications: usize, transcript: &str) -> Result<bool, AllocError> {
+/// was lost. An application loses nothing once it has ended, and after a halt none does. A checker for whole runs and tests: all
+/// that is promised is that it is false only where a turn is told. The error is that memory was refused.
+pub fn are_kept(alloc: Global, applications: usize, transcript: &str) -> Result<bool, AllocError>
+    ensures broken { IfOk result (λ kept. kept ≡ false → Any spec.TellsTurn (lines transcript.now)) }
+{
     let unused = Timers {
         of: [UNUSED; 8],
         has_ended: false,
@@ -151,7 +188,9 @@ fn of_process(timers: &mut [Timers], pid: usize) -> Option<&mut Timers> {
     timers.get_mut(pid.checked_sub(4)?)
 }
 
-fn are_not_lost(timers: &[Timers], clock: usize) -> bool {
+fn are_not_lost(timers: &[Timers], clock: usize) -> bool
+    ensures { result ≡ list_all (spec.are_not_lost clock) timers.now }
+{
     timers.iter().all(|of| of.are_not_lost(clock))
 }
 

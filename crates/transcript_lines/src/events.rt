@@ -1,8 +1,14 @@
 //! Posted events, by a walk over the lines of a transcript.
 
-use crate::turns::{LastCalls, ends, is_input, number};
+ghost use Rattle.std.specs.Prelude.{◌≡◌, ◌++◌, false, true, codes, IfOk, IfSome};
+ghost use Rattle.std.specs.List.{Any, list_all};
+ghost use Rattle.std.specs.Str.Lines.{lines};
+ghost use Rattle.transcript_lines.specs.Walks as spec;
+
+use crate::last_calls::{LastCalls, ends, is_input, number};
+use crate::quiet::begins_with;
+use crate::turn::{Origin, Turn, read_turn};
 use std::alloc::{AllocError, Global};
-use transcript_lines::{Origin, Turn, read_turn};
 
 /// The events that were accepted for an application, and how many of them it was given.
 #[derive(Drop)]
@@ -14,7 +20,9 @@ struct Inbox<'a> {
 
 impl Inbox<'_> {
     /// The application is given an event: it is the next one that was accepted for it.
-    fn gives_next(&mut self, event: &str) -> bool {
+    fn gives_next(&mut self, event: &str) -> bool
+        ensures { result ≡ spec.is_next self.old event.now }
+    {
         let Some(next) = self.accepted.as_slice().get(self.given) else {
             return false;
         };
@@ -22,7 +30,9 @@ impl Inbox<'_> {
         *next == event
     }
 
-    fn is_all_given(&self) -> bool {
+    fn is_all_given(&self) -> bool
+        ensures { result ≡ spec.is_all_given self.now }
+    {
         self.has_ended || self.given == self.accepted.len()
     }
 }
@@ -34,7 +44,9 @@ struct Inboxes<'a> {
 }
 
 impl<'a> Inboxes<'a> {
-    fn new(alloc: Global, applications: usize) -> Result<Self, AllocError> {
+    fn new(alloc: Global, applications: usize) -> Result<Self, AllocError>
+        ensures { IfOk result (λ inboxes. list_all spec.is_all_given inboxes.of.items ≡ true) }
+    {
         let mut of = Vec::new(alloc);
         for _ in 0..applications {
             of.push(Inbox {
@@ -66,19 +78,25 @@ impl<'a> Inboxes<'a> {
         self.of.as_mut_slice().get_mut(pid?.checked_sub(4)?)
     }
 
-    fn are_all_given(&self) -> bool {
+    fn are_all_given(&self) -> bool
+        ensures { result ≡ list_all spec.is_all_given self.now.of.items }
+    {
         self.of.as_slice().iter().all(|inbox| inbox.is_all_given())
     }
 }
 
 /// The process and the event of a post.
-fn post_of(call: &str) -> Option<(&str, &str)> {
+fn post_of(call: &str) -> Option<(&str, &str)>
+    ensures { IfSome result (λ post. call.now ≡ codes "post " ++ post.0.now ++ codes " " ++ post.1.now) }
+{
     call.strip_prefix("post ")?.split_once(' ')
 }
 
 /// An event from the queue that no application posted: a timer's, a line, or a packet.
-fn is_of_kernel(event: &str) -> bool {
-    event.starts_with("136 ") || event.starts_with("138 ") || event.starts_with("139 ")
+fn is_of_kernel(event: &str) -> bool
+    ensures { result ≡ spec.is_of_kernel event.now }
+{
+    begins_with(event, "136 ") || begins_with(event, "138 ") || begins_with(event, "139 ")
 }
 
 /// Whether the turn is told what the law says.
@@ -93,12 +111,15 @@ fn is_kept(inboxes: &mut Inboxes<'_>, turn: &Turn<'_>) -> bool {
 
 /// Whether the events that the applications (processes 4, 5, .., so many) post arrive in the order in which they were accepted,
 /// and all of them wherever the mote rests. An application is left out once it has ended, and after a halt none need arrive.
-/// A checker for whole runs and tests: nothing is promised of the answer. The error is that memory was refused.
+/// A checker for whole runs and tests: all that is promised is that it is false only where a turn is told. The error is that
+/// memory was refused.
 pub fn arrive_in_order(
     alloc: Global,
     applications: usize,
     transcript: &str,
-) -> Result<bool, AllocError> {
+) -> Result<bool, AllocError>
+    ensures broken { IfOk result (λ kept. kept ≡ false → Any spec.TellsTurn (lines transcript.now)) }
+{
     let mut inboxes = Inboxes::new(alloc, applications)?;
     let mut last_calls = LastCalls::new();
     for line in transcript.lines() {
