@@ -48,9 +48,12 @@ module _ {A : Type 0} (by_name : List ℕ → Option A) (others : A → Says) (w
       Exchanged taken_old taken_new is_ended given_old given_new (HasRunAs (of_boxes.config_of named.sizes (length lent)) (says_of says lent) named.quiet result) →
       Exchanged taken_old taken_new is_ended given_old given_new (HasRunNamed by_name others words result)
   run_of_words {says = says} {taken_old} {taken_new} {is_ended} {given_old} {given_new} named lent result is boxes run =
-      let told = subst (λ (s : Applications). Exchanged taken_old taken_new is_ended given_old given_new (HasRunAs (of_boxes.config_of named.sizes (length lent)) s named.quiet result)) boxes.same run in
-      let counted = subst (λ (n : ℕ). Exchanged taken_old taken_new is_ended given_old given_new (HasRunAs (of_boxes.config_of named.sizes n) (says_of others named.applications.items) named.quiet result)) boxes.as_many told in
-      let x = subst (λ (asked : Named A). Exchanged taken_old taken_new is_ended given_old given_new (HasRunAs (config_of asked) (says_of others asked.applications.items) asked.quiet result)) is counted in
+      let told = subst (λ (s : Applications). Exchanged taken_old taken_new is_ended given_old given_new
+      (HasRunAs (of_boxes.config_of named.sizes (length lent)) s named.quiet result)) boxes.same run in
+      let counted = subst (λ (n : ℕ). Exchanged taken_old taken_new is_ended given_old given_new
+      (HasRunAs (of_boxes.config_of named.sizes n) (says_of others named.applications.items) named.quiet result)) boxes.as_many told in
+      let x = subst (λ (asked : Named A). Exchanged taken_old taken_new is_ended given_old given_new
+      (HasRunAs (config_of asked) (says_of others asked.applications.items) asked.quiet result)) is counted in
       record {
         read = x.read;
         written = x.written;

@@ -7,8 +7,8 @@ mod runner;
 mod tests;
 
 use averager::Averager;
-use runner::Boxing;
 use mote_shell::{Program, after_help, exit_code, words_of, work};
+use runner::Boxing;
 use std::process::ExitCode;
 
 const PROGRAM: Program = Program {

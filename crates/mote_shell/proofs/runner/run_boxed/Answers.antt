@@ -57,7 +57,8 @@ module _ {config : Config} {says : Applications} {quiet : Bool} {taken_old taken
     holds = record { ran = record { text = tt; front = x.holds.front; after_read_fault = λ is. absurd (cc) }; promise = tt };
   }
 
-  handed_on : (fault : MoteFault) (failure : Failure) → failure ≡ failure_in_mote fault → Exchanged taken_old taken_new is_ended given_old given_new (HasRunTo config says quiet MoteFault.Read (Err fault)) →
+  handed_on : (fault : MoteFault) (failure : Failure) → failure ≡ failure_in_mote fault →
+      Exchanged taken_old taken_new is_ended given_old given_new (HasRunTo config says quiet MoteFault.Read (Err fault)) →
       of_boxes.OfRun (Err fault) (λ answer. Exchanged taken_old taken_new is_ended given_old given_new (RunPromise config says quiet answer)) →
       Exchanged taken_old taken_new is_ended given_old given_new (HasRunAs config says quiet (Err failure))
   handed_on fault failure same ran promise =
