@@ -1,2 +1,5 @@
+pub mod Boxes
+pub mod Columns
 pub mod Elements
 pub mod Places
+pub mod Pools

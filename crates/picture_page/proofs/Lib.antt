@@ -1,0 +1,4 @@
+pub mod Examples
+pub mod Fronts
+pub mod Furthest
+pub mod Numbers
