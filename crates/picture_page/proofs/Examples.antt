@@ -1,5 +1,5 @@
 -- What boxes and columns are, at small values.
-use Rattle.std.proofs.Common.{◌≡◌, ℕ, true, false, List, [], ◌∷◌, Some, None, codes, refl, arith, inl, inr}
+use Rattle.std.proofs.Common.{◌≡◌, ℕ, true, false, List, [], ◌∷◌, ◌++◌, Some, None, codes, refl, arith, inl, inr}
 use Rattle.std.specs.Fmt.{digits}
 use Rattle.picture_markup.specs.Parts.{text_of}
 use Rattle.picture_facts.specs.declared.memory.stay.Stay.{Stay}
@@ -7,9 +7,10 @@ use Rattle.picture_page.specs.declared.memory_columns.Column.{Column}
 use Rattle.picture_page.specs.declared.page.Page.{Page}
 use Rattle.picture_page.specs.declared.pen.Area.{Area}
 use Rattle.picture_page.specs.Boxes.{area_in, at_place, beyond, beyond_text, heap_title, managed_title, name_in}
-use Rattle.picture_page.specs.Columns.{AddsColumn, IsRange, furthest, ground_area}
+use Rattle.picture_page.specs.Columns.{AddsColumn, IsRange, furthest, ground_area, heap_range, managed_range}
 use Rattle.picture_page.specs.Elements.{words_element}
-use Rattle.picture_page.specs.Pools.{block_area, columns_before, linked_class, linked_title, column_text, pools_of, used_title}
+use Rattle.picture_page.specs.Pools.{block_area, column_text, columns_before, linked_class, linked_title, pool_ground}
+use Rattle.picture_page.specs.Pools.{pools_of, pools_text, used_title}
 
 abbrev page : Page
 page = record { lanes = 4; rows = 10; strip = 0; top = 100; lane = 64; columns = record { managed = 180; heap = 340; pools = 2 } }
@@ -83,6 +84,14 @@ more_than_there_are (power, next, is) = absurd (omega (arith, is))
 all_rows : ground_area page 826 180 ≡ record { place = at_place 826 100; width = 180; height = 170 }
 all_rows = refl
 
+managed_words : managed_range 64 1000 ≡ codes "0 to 64 of 1000 bytes"
+unfolding digits
+managed_words = refl
+
+heap_words : heap_range 64 1000 3 ≡ codes "0 to 64 of 1000 bytes, at most 3 blocks at once"
+unfolding digits
+heap_words = refl
+
 -- a text that is never empty
 abbrev words : ℕ → List ℕ
 words bytes = codes "b"
@@ -113,6 +122,13 @@ behind_one = refl
 
 unused_pool : column_text page (pools_of used) 1 ≡ []
 unused_pool = refl
+
+columns_of_both : pools_text page (pools_of used) [] [] ≡ pool_ground page (pools_of used) 0 ++ pool_ground page (pools_of used) 2
+unfolding digits
+columns_of_both = refl
+
+nothing_used : pools_text page (pools_of []) [] [] ≡ []
+nothing_used = refl
 
 -- its mark stands in the middle of its bar
 bar : block_area page (pools_of used) 5 (record block { at = 35 }) ≡ record { place = at_place 1513 125; width = 5; height = 34 }
