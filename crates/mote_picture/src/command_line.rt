@@ -3,7 +3,7 @@
 use crate::failure::Failure;
 use clap::builder::ValueParser;
 use clap::{Arg, ArgAction, ArgMatches, Command, Error, value_parser};
-use run_picture::Sizes;
+use picture_svg::Sizes;
 use std::alloc::{AllocError, Global};
 
 /// The version of the program.

@@ -2,7 +2,7 @@
 
 use clap::Error;
 use clap::error::ErrorKind;
-use run_picture::Unreadable;
+use picture_svg::Unreadable;
 use std::alloc::{AllocError, AllocFailed};
 use std::fmt;
 

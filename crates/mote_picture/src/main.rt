@@ -6,7 +6,7 @@ mod failure;
 
 use command_line::{Form, Named, read_words, title_of};
 use failure::Failure;
-use run_picture::{Picture, Settings, draw, is_quiet, lines_of};
+use picture_svg::{Picture, Settings, draw, is_quiet, lines_of};
 use std::alloc::Global;
 use std::io::{Read, Write};
 use std::process::ExitCode;

@@ -1,3 +1,0 @@
-pub mod Markup
-pub mod Names
-pub mod Parts

@@ -1,4 +1,0 @@
-pub mod Examples
-pub mod Fronts
-pub mod Furthest
-pub mod Numbers

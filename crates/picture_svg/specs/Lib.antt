@@ -1,0 +1,9 @@
+pub mod Boxes
+pub mod Columns
+pub mod Elements
+pub mod Markup
+pub mod Names
+pub mod Parts
+pub mod Places
+pub mod Pools
+pub mod Titles

@@ -1,0 +1,210 @@
+//! The head of a picture: its style, what was run, the numbers of the run, and the names of the columns.
+
+use crate::page::pen::{Area, Pen, Place};
+use crate::page::{CLOCK, Page, ROW};
+use crate::style::{COLOURS, STYLE};
+use picture_facts::marks::Tally;
+use std::alloc::{AllocError, Global};
+
+/// Where the lines of the head begin.
+const LEFT: usize = 14;
+
+/// Where the first line of the head stands.
+const FIRST: usize = 24;
+
+/// How far a line of the title is from the next one.
+const TITLE: usize = 18;
+
+/// How far a line of the run's numbers is from the next one.
+const TALLY: usize = 14;
+
+/// The room below the last line, for the clock over the overview.
+const BELOW: usize = 6;
+
+/// How many bytes a line of the title has at most: so many take less than 500 units.
+const TITLE_BYTES: usize = 44;
+
+/// How many bytes a line of the run's numbers has at most, which are smaller.
+const TALLY_BYTES: usize = 72;
+
+/// The style with the colours of so many processes.
+pub(crate) fn style_of(alloc: Global, lanes: usize) -> Result<String, AllocError> {
+    let mut style = String::from_str(alloc, STYLE)?;
+    let mut pid: usize = 4;
+    for colour in COLOURS.iter().take(lanes) {
+        write!(style, ".f{pid}{{fill:{colour}}}.s{pid}{{stroke:{colour}}}")?;
+        pid = pid.saturating_add(1);
+    }
+    Ok(style)
+}
+
+/// What the head tells of a run beside its numbers.
+#[derive(Clone, Copy, Drop)]
+pub(crate) struct Told<'a> {
+    /// The clock before the first line that is shown, where not all lines are.
+    pub(crate) from: Option<u64>,
+    /// The clock at the last line that is shown, if one is.
+    pub(crate) clock: Option<u64>,
+    /// How the run ended, where its last line is shown.
+    pub(crate) end: Option<&'a str>,
+    pub(crate) is_quiet: bool,
+}
+
+/// Appends what only a whole transcript tells, with what follows it.
+fn push_whole(out: &mut String, tally: &Tally, told: &Told<'_>) -> Result<(), AllocError> {
+    let Tally { inputs, turns, .. } = *tally;
+    write!(out, "inputs {inputs}, turns {turns}, ")?;
+    match (told.from, told.clock) {
+        (Some(from), Some(clock)) => write!(out, "clock {from} to {clock}, "),
+        (None, Some(clock)) => write!(out, "clock {clock}, "),
+        (_, None) => Ok(()),
+    }
+}
+
+/// Appends how many timers were late, and by how many ticks at most.
+fn push_late(out: &mut String, tally: &Tally) -> Result<(), AllocError> {
+    let Tally { late, latest, .. } = *tally;
+    write!(out, ", timers late {late}")?;
+    if late == 0 {
+        Ok(())
+    } else {
+        write!(out, " by up to {latest}")
+    }
+}
+
+/// The numbers of a run in words: of a quiet transcript those alone that it tells.
+pub(crate) fn tally_text(
+    alloc: Global,
+    tally: &Tally,
+    told: &Told<'_>,
+) -> Result<String, AllocError> {
+    let Tally {
+        printed,
+        sent,
+        lost,
+        refused,
+        ..
+    } = *tally;
+    let mut text = String::new(alloc);
+    if !told.is_quiet {
+        push_whole(&mut text, tally, told)?;
+    }
+    write!(text, "bytes printed {printed}, frames sent {sent}")?;
+    if !told.is_quiet {
+        write!(text, ", lost {lost}, calls refused {refused}")?;
+        push_late(&mut text, tally)?;
+    }
+    match told.end {
+        Some(end) => write!(text, ", ends: {end}")?,
+        None => {}
+    }
+    Ok(text)
+}
+
+/// The name of each process over its lane, and a line of dots down to the end.
+pub(crate) fn draw_lanes(pen: &mut Pen, page: &Page, names: &[&str]) -> Result<(), AllocError> {
+    for lane in 0..page.lanes {
+        let pid = lane.saturating_add(4);
+        let left = page.lane_of(pid);
+        let top = page.top.saturating_sub(12);
+        let number = format!(in pen.alloc; "{pid}")?;
+        pen.text("b c", Place { left, top }, number.as_str())?;
+        if let Some(name) = names.get(lane) {
+            let top = page.top.saturating_sub(24);
+            pen.text("b c", Place { left, top }, name)?;
+        }
+        let commands = format!(in pen.alloc; "M{left},{}V{}", page.top, page.bottom())?;
+        pen.line("d", commands.as_str(), "")?;
+    }
+    Ok(())
+}
+
+/// A text with line ends behind some of its separators: a line has at most so many bytes before the last one, or one part alone.
+fn broken(alloc: Global, text: &str, separator: &str, most: usize) -> Result<String, AllocError> {
+    let mut lines = String::new(alloc);
+    let mut used: usize = 0;
+    for part in text.split(separator) {
+        let end = used
+            .saturating_add(separator.len())
+            .saturating_add(part.len());
+        if used == 0 {
+            used = part.len();
+        } else if end <= most {
+            lines.push_str(separator)?;
+            used = end;
+        } else {
+            lines.push_str(separator)?;
+            lines.push_str("\n")?;
+            used = part.len();
+        }
+        lines.push_str(part)?;
+    }
+    Ok(lines)
+}
+
+/// Draws lines, the first one at a place, and answers where the next one would stand.
+fn draw_lines(
+    pen: &mut Pen,
+    class: &str,
+    lines: &str,
+    first: usize,
+    height: usize,
+) -> Result<usize, AllocError> {
+    let mut top = first;
+    for line in lines.split('\n') {
+        pen.text(class, Place { left: LEFT, top }, line)?;
+        top = top.saturating_add(height);
+    }
+    Ok(top)
+}
+
+/// Draws what was run, and the numbers of the run, and answers where the next line may stand.
+pub(crate) fn draw_head(pen: &mut Pen, title: &str, tally: &str) -> Result<usize, AllocError> {
+    let title = broken(pen.alloc, title, " ", TITLE_BYTES)?;
+    let tally = broken(pen.alloc, tally, ", ", TALLY_BYTES)?;
+    let top = draw_lines(pen, "h", title.as_str(), FIRST, TITLE)?;
+    draw_lines(pen, "g", tally.as_str(), top, TALLY)
+}
+
+/// Tells from which line on the transcript can't be a run with memory of that size, if there is such a line, whose number is from 0 on,
+/// and answers where the next line may stand.
+pub(crate) fn draw_difference(
+    pen: &mut Pen,
+    memory: &str,
+    line: Option<usize>,
+    top: usize,
+) -> Result<usize, AllocError> {
+    let Some(number) = line else {
+        return Ok(top);
+    };
+    let line = number.saturating_add(1);
+    let words = format!(in pen.alloc; "not the run's {memory} from line {line} on: other sizes?")?;
+    pen.text("r", Place { left: LEFT, top }, words.as_str())?;
+    Ok(top.saturating_add(TALLY))
+}
+
+/// Where the overview may begin, where the head's next line would stand there.
+pub(crate) fn below(top: usize) -> usize {
+    top.saturating_add(BELOW)
+}
+
+/// The words right above the rows: a quiet transcript tells neither clocks nor answers.
+pub(crate) fn draw_legend(pen: &mut Pen, page: &Page, is_quiet: bool) -> Result<(), AllocError> {
+    let top = page.top.saturating_sub(12);
+    let left = page.words();
+    if is_quiet {
+        return pen.text("g", Place { left, top }, "told → call");
+    }
+    pen.text("g e", Place { left: CLOCK, top }, "clock")?;
+    pen.text("g", Place { left, top }, "told → call = answer")
+}
+
+/// The ground of the whole picture.
+pub(crate) fn draw_ground(pen: &mut Pen, page: &Page) -> Result<(), AllocError> {
+    let area = Area {
+        place: Place { left: 0, top: 0 },
+        width: page.width(),
+        height: page.height().max(ROW),
+    };
+    pen.area("w", area, "")
+}

@@ -1,0 +1,18 @@
+//! The picture of a run: one SVG, laid out from the run's transcript. Its markup, its page with the columns of memory, and the whole.
+#![tactic(auto)]
+
+mod drawing;
+mod grounds;
+mod head;
+pub mod markup;
+pub mod page;
+pub mod picture;
+pub mod reading;
+mod strip;
+mod style;
+mod timer_lines;
+
+pub use picture::{Picture, Settings, draw};
+pub use picture_facts::memory::Sizes;
+pub use reading::{Unreadable, lines_of};
+pub use transcript_lines::is_quiet;

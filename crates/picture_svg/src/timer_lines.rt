@@ -1,0 +1,147 @@
+//! The lines of the timers, beside the lanes of their processes.
+
+use crate::page::pen::Pen;
+use crate::page::{Page, ROW};
+use picture_facts::marks::{Arming, is_callback, number_in_kind};
+use std::alloc::{AllocError, Global};
+
+/// Where a timer's line stands: those of event timers left of the lane, those of callback timers right of it.
+fn left_of(page: &Page, arming: &Arming) -> usize {
+    let lane = page.lane_of(arming.pid);
+    let off = number_in_kind(arming.timer)
+        .min(3)
+        .saturating_mul(4)
+        .saturating_add(9);
+    if is_callback(arming.timer) {
+        lane.saturating_add(off)
+    } else {
+        lane.saturating_sub(off)
+    }
+}
+
+/// Whether it was told after it was due.
+fn is_late(arming: &Arming) -> bool {
+    match arming.told {
+        Some(clock) => clock > arming.due,
+        None => false,
+    }
+}
+
+/// What a line tells of its timer.
+fn title_of(alloc: Global, arming: &Arming) -> Result<String, AllocError> {
+    let kind = if is_callback(arming.timer) {
+        "callback timer"
+    } else {
+        "timer"
+    };
+    let number = number_in_kind(arming.timer);
+    let Arming { pid, due, .. } = *arming;
+    let mut title = format!(in alloc; "{kind} {number} of process {pid}, due at clock {due}")?;
+    match (arming.told, arming.last) {
+        (Some(clock), _) if clock > due => {
+            write!(
+                title,
+                ", told at {clock}: {} late",
+                clock.saturating_sub(due)
+            )?;
+        }
+        (Some(clock), _) => write!(title, ", told at {clock}")?,
+        (None, Some(_)) => title.push_str(", stopped or set anew, or its process ended")?,
+        (None, None) => title.push_str(", still armed at the end")?,
+    }
+    Ok(title)
+}
+
+/// The commands of a line from where a timer is armed: to its due time, where it is told late, else to where its arming ends, with
+/// a head where it is told.
+fn commands_of(
+    alloc: Global,
+    page: &Page,
+    arming: &Arming,
+    due: Option<usize>,
+) -> Result<String, AllocError> {
+    let left = left_of(page, arming);
+    let top = middle_of(page, arming.first);
+    let from = left.saturating_sub(3);
+    if let Some(due) = due {
+        return format!(in alloc; "M{from},{top}h6M{left},{top}V{}", middle_of(page, due));
+    }
+    let Some(last) = arming.last else {
+        return format!(in alloc; "M{from},{top}h6M{left},{top}V{}", page.bottom());
+    };
+    let end = middle_of(page, last);
+    let head = if arming.told.is_some() {
+        HEAD
+    } else {
+        "m-3,0h6"
+    };
+    format!(in alloc; "M{from},{top}h6M{left},{top}V{end}{head}")
+}
+
+/// The head of a line where a timer is told.
+const HEAD: &str = "m-3,-5l3,5l3,-5";
+
+/// The middle of a row.
+fn middle_of(page: &Page, row: usize) -> usize {
+    page.top_of(row).saturating_add(ROW / 2)
+}
+
+/// The row in which a timer became due that was told late, from that of its arming on.
+fn due_row(arming: &Arming, clocks: &[u64]) -> Option<usize> {
+    let last = arming.last?;
+    if !is_late(arming) {
+        return None;
+    }
+    let before = &clocks[..last.min(clocks.len())];
+    let overdue = before
+        .iter()
+        .rev()
+        .take_while(|clock| **clock >= arming.due)
+        .count();
+    Some(last.saturating_sub(overdue).max(arming.first))
+}
+
+/// Draws how late a timer is told: from the row in which it became due.
+fn draw_delay(
+    pen: &mut Pen,
+    page: &Page,
+    arming: &Arming,
+    due: usize,
+    title: &str,
+) -> Result<(), AllocError> {
+    let left = left_of(page, arming);
+    let top = middle_of(page, due);
+    let end = middle_of(page, arming.last.unwrap_or(due));
+    let commands = format!(in pen.alloc; "M{left},{top}V{end}{HEAD}")?;
+    let class = if is_callback(arming.timer) {
+        "o q y"
+    } else {
+        "o y"
+    };
+    pen.line(class, commands.as_str(), title)
+}
+
+/// Draws a line for each arming; where it is told late, it is red from its due time on.
+pub(crate) fn draw_timers(
+    pen: &mut Pen,
+    page: &Page,
+    armings: &[Arming],
+    clocks: &[u64],
+) -> Result<(), AllocError> {
+    for arming in armings {
+        let kind = if is_callback(arming.timer) {
+            "o q"
+        } else {
+            "o"
+        };
+        let due = due_row(arming, clocks);
+        let class = format!(in pen.alloc; "{kind} s{}", arming.pid)?;
+        let commands = commands_of(pen.alloc, page, arming, due)?;
+        let title = title_of(pen.alloc, arming)?;
+        pen.line(class.as_str(), commands.as_str(), title.as_str())?;
+        if let Some(due) = due {
+            draw_delay(pen, page, arming, due, title.as_str())?;
+        }
+    }
+    Ok(())
+}
