@@ -6,4 +6,8 @@ pub mod Lowered
 pub mod Only
 pub mod Parting
 pub mod Possible
+mod RowExamples
+mod RowParts
+mod RowTextExamples
+mod RowTexts
 pub mod Taken

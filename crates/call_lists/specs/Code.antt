@@ -1,3 +1,4 @@
 pub mod Lists
 pub mod Readings
+pub mod Rows
 pub mod Words

@@ -3,3 +3,7 @@ pub mod Calls
 pub mod Code
 pub mod Faults
 pub mod Ranges
+pub mod RowFilling
+pub mod RowTexts
+pub mod Rows
+pub mod Triggers

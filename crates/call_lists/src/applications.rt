@@ -100,7 +100,7 @@ fn put_calls<'a>(calls: &mut [Call], text: &'a str) -> Result<(), CallFault<'a>>
 }
 
 /// A text's first part, and what stands behind the comma.
-fn cut_at_comma(text: &str) -> (&str, Option<&str>)
+pub(crate) fn cut_at_comma(text: &str) -> (&str, Option<&str>)
     ensures parts { text.now ≡ result.0.now ++ behind_comma result.1 }
     ensures fewer { IfSome result.1 (λ others. length others.now < length text.now) }
     ensures first { (front rest : List ℕ) → text.now ≡ front ++ (codes ", " ++ rest) → (length result.0.now ≤ length front) × IsSome result.1 }
@@ -133,7 +133,7 @@ fn put_part<'a>(calls: &mut [Call], place: usize, part: &'a str) -> Result<usize
 }
 
 /// A text without the number in front of it, where it has one, and that number; else 1.
-fn counted(text: &str) -> Result<(u32, &str), CallFault<'_>>
+pub(crate) fn counted(text: &str) -> Result<(u32, &str), CallFault<'_>>
     ensures counted { IfOk result (λ counted. IsCounted text.now counted.0 counted.1.now) }
     ensures only { IfOk result (λ counted. (made : List Asked) → ArePossible made → AreMade text.now made → length made ≤ 128 →
         (length made ≡ counted.0) × AreCalls counted.1.now made) }

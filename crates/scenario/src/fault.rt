@@ -1,7 +1,6 @@
 //! Why a line of a file has no form.
 
-use call_lists::CallFault;
-use reaction_rows::RowFault;
+use call_lists::{CallFault, RowFault};
 use std::alloc::{AllocError, AllocFailed};
 use thiserror::Error;
 

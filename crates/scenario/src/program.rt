@@ -1,8 +1,7 @@
 //! The applications of a run.
 
 use crate::fault::Fault;
-use call_lists::Application;
-use reaction_rows::{Row, row_of};
+use call_lists::{Application, Row, row_of};
 use std::alloc::Global;
 
 /// What an application does.

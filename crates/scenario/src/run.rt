@@ -4,13 +4,13 @@ ghost use Rattle.std.specs.Prelude.{◌<◌};
 
 use crate::program::{Acts, Program};
 use crate::scenario::Scenario;
+use call_lists::Reactions;
 use mote_kit::fault::MoteFault;
 use mote_kit::mote::run_boxes;
 use mote_kit::script::Script;
 use mote_kit::transcript::Transcript;
 use mote_run::End;
 use mote_types::app::App;
-use reaction_rows::Reactions;
 use std::alloc::{AllocError, Global};
 use std::{io, mem};
 use text_difference::{changes, compare, fits};

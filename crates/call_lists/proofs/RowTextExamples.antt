@@ -1,0 +1,141 @@
+-- Examples: which texts are which rows, and which they aren't.
+use Rattle.std.proofs.Common.{◌≡◌, ◌∙◌, ◌≤◌, ℕ, true, false, List, [], ◌∷◌, ◌++◌, inl, inr, refl, ap, arith, codes, drop, get_or, length, Some, None}
+use Rattle.std.proofs.lemmas.Grind.{common_steps}
+use Rattle.std.specs.Fmt.{digits}
+use Rattle.mote_text.specs.Code.EntryLines.{spaced}
+use Rattle.mote_types.specs.EventNumbers.{PACKET, SERIAL_LINE, TIMER}
+use Rattle.mote_types.specs.declared.call.Call.{Call}
+use Rattle.call_lists.specs.Rows.{Rule}
+use Rattle.call_lists.specs.RowTexts.{AreMade, AreOfParts, IsBehindColon, IsCallTold, IsRow, IsStimulus}
+use Rattle.call_lists.specs.declared.rows.row.Step.{Step}
+use Rattle.call_lists.specs.declared.rows.trigger.Trigger.{Trigger}
+
+timer_0 : IsStimulus (codes "136 0") (Trigger.Event TIMER (Some 0))
+unfolding digits
+timer_0 = inl refl
+
+line : IsStimulus (codes "line") (Trigger.Event SERIAL_LINE None)
+line = inr (refl, inl (refl, refl))
+
+callback : IsStimulus (codes "callback") (Trigger.Callback None)
+callback = (refl, tt)
+
+refused_18 : IsStimulus (codes "refused 18") (Trigger.Refused (Some 18))
+unfolding digits
+refused_18 = (refl, (omega arith, omega arith))
+
+-- there is no timer 4, and no refusal 19
+callback_4 : IsStimulus (codes "callback 4") (Trigger.Callback (Some 4)) → ⊥
+callback_4 is = let over : 4 ≤ 3 = is.1.1 in absurd (omega arith)
+
+refused_19 : IsStimulus (codes "refused 19") (Trigger.Refused (Some 19)) → ⊥
+refused_19 is = let over : 19 ≤ 18 = is.1.1 in absurd (omega arith)
+
+refused_0 : IsStimulus (codes "refused 0") (Trigger.Refused (Some 0)) → ⊥
+refused_0 is = let under : 1 ≤ 0 = is.1.0 in absurd (omega arith)
+
+-- a line carries no number
+numbered_line : IsStimulus (codes "line") (Trigger.Event SERIAL_LINE (Some 3)) → ⊥
+unfolding digits
+numbered_line (inl numbered) = let letters_differ : ◌≡◌ {A = ℕ} 108 49 = ap (λ text. get_or text 0 0) numbered in absurd (omega arith)
+numbered_line (inr (none, word)) = absurd (cc)
+
+-- a line is no frame
+no_frame : IsStimulus (codes "line") (Trigger.Event PACKET None) → ⊥
+unfolding digits
+no_frame (inl numbered) = let letters_differ : ◌≡◌ {A = ℕ} 108 49 = ap (λ text. get_or text 0 0) numbered in absurd (omega arith)
+no_frame (inr (none, inl line)) = let codes_differ : ◌≡◌ {A = ℕ} 139 138 = line.1 in absurd (omega arith)
+no_frame (inr (none, inr frame)) = let letters_differ : ◌≡◌ {A = ℕ} 108 102 = ap (λ text. get_or text 0 0) frame.0 in absurd (omega arith)
+
+-- not each event is any
+no_any : IsStimulus (codes "136") Trigger.Any → ⊥
+no_any is = let letters_differ : ◌≡◌ {A = ℕ} 49 97 = ap (λ text. get_or text 0 0) is in absurd (omega arith)
+
+kills : IsCallTold (codes "kill told") true (Call.Kill 0)
+unfolding digits spaced
+kills = (codes "kill", refl, inr (codes " 0", refl, refl))
+
+prints : IsCallTold (codes "print told") true (Call.Print (record { items = [] }))
+unfolding spaced
+prints = (codes "print", refl, inl (codes " -", refl, refl))
+
+waits : IsCallTold (codes "wait") false Call.Wait
+unfolding spaced
+waits = ([], refl, refl)
+
+-- a word that is written is not told
+no_told : (front : List ℕ) → codes "kill 0" ≡ front ++ codes " told" → ⊥
+no_told [] same = let letters_differ : ◌≡◌ {A = ℕ} 107 32 = ap (λ text. get_or text 0 0) same in absurd (omega arith)
+no_told (a ∷ []) same = let letters_differ : ◌≡◌ {A = ℕ} 105 32 = ap (λ text. get_or text 1 0) same in absurd (omega arith)
+no_told (a ∷ b ∷ front) same = let sizes = ap length same in absurd (grind (arith, common_steps, sizes))
+
+written : IsCallTold (codes "kill 0") true (Call.Kill 0) → ⊥
+written is = no_told is.0 is.1
+
+another_call : IsCallTold (codes "exit") false Call.Wait → ⊥
+another_call is = let letters_differ : ◌≡◌ {A = ℕ} 101 119 = ap (λ text. get_or text 0 0) is.1 in absurd (omega arith)
+
+abbrev told : Call → Step
+told call = record { call = call; is_told = true }
+
+abbrev fixed : Call → Step
+fixed call = record { call = call; is_told = false }
+
+twice : AreMade (codes "2 kill told") (told (Call.Kill 0) ∷ told (Call.Kill 0) ∷ [])
+unfolding digits
+twice = inr (codes "kill told", omega arith, refl, (kills, (kills, tt)))
+
+-- a call with no number is made once
+once_alone : AreMade (codes "wait") (fixed Call.Wait ∷ fixed Call.Wait ∷ []) → ⊥
+unfolding digits
+once_alone (inl once) = let two : ◌≡◌ {A = ℕ} 2 1 = once.0 in absurd (omega arith)
+once_alone (inr numbered) = let letters_differ : ◌≡◌ {A = ℕ} 119 50 = ap (λ text. get_or text 0 0) numbered.2 in absurd (omega arith)
+
+not_at_all : AreMade (codes "0 wait") [] → ⊥
+not_at_all (inl once) = let none : ◌≡◌ {A = ℕ} 0 1 = once.0 in absurd (omega arith)
+not_at_all (inr numbered) = absurd (omega (arith, numbered.1))
+
+-- a part is one call, however often
+no_two_calls : AreMade (codes "2 wait") (fixed Call.Wait ∷ fixed Call.Exit ∷ []) → ⊥
+unfolding digits
+no_two_calls (inl once) = let two : ◌≡◌ {A = ℕ} 2 1 = once.0 in absurd (omega arith)
+no_two_calls (inr numbered) =
+    let rest : codes "wait" ≡ numbered.0 = ap (drop 2) numbered.2 in
+    let letters_differ : ◌≡◌ {A = ℕ} 119 101 = ap (λ text. get_or text 0 0) (rest ∙ numbered.3.1.0.1) in
+    absurd (omega arith)
+
+-- no part has no call, and behind the last one there is none
+no_more_calls : AreOfParts [] (fixed Call.Wait ∷ []) → ⊥
+no_more_calls none = absurd (cc)
+
+row : IsRow (codes "any: wait, kill told, repeat") (record { trigger = Trigger.Any; steps = fixed Call.Wait ∷ told (Call.Kill 0) ∷ []; place = 0; repeats = true })
+row = (
+  codes "any",
+  codes " wait, kill told, repeat",
+  refl,
+  refl,
+  inr (
+    codes "wait, kill told",
+    refl,
+    (
+      codes "wait",
+      codes "kill told" ∷ [],
+      refl,
+      (fixed Call.Wait ∷ [], told (Call.Kill 0) ∷ [], refl, inl (refl, (waits, tt)), (told (Call.Kill 0) ∷ [], [], refl, inl (refl, (kills, tt)), refl)),
+    ),
+  ),
+  refl,
+)
+
+-- a row with no calls only waits
+empty : IsRow (codes "any:") (record { trigger = Trigger.Any; steps = []; place = 0; repeats = false })
+empty = (codes "any", [], refl, refl, inl (refl, refl, refl), refl)
+
+-- of a row that is read no call was made
+begun : (rule : Rule) → IsRow (codes "any: wait") rule → rule.place ≡ 0
+begun rule is = is.5
+
+-- a row that doesn't say so begins anew no more
+not_repeated : (steps : List Step) → IsBehindColon (codes " wait") steps true → ⊥
+not_repeated steps (inl nothing) = cc nothing.0
+not_repeated steps (inr some) = let sizes = ap length some.1 in absurd (grind (arith, common_steps, sizes))

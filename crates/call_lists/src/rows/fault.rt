@@ -1,0 +1,35 @@
+//! Why a text is no row.
+
+use crate::fault::CallFault;
+use std::alloc::{AllocError, AllocFailed};
+use thiserror::Error;
+
+/// Why a text is no row.
+#[derive(Clone, Copy, Debug, Drop, Error)]
+pub enum RowFault<'a> {
+    /// No colon stands behind the stimulus.
+    #[error("a row is a stimulus, a colon and its calls")]
+    NoColon,
+    #[error("{0} is no stimulus, as 136, TIMER 0, line, frame, callback, refused and any are")]
+    NoStimulus(&'a str),
+    /// What was told can't stand for the last word of this call.
+    #[error("told can't be the last word of {0}")]
+    NotTold(&'a str),
+    /// A call or a number has no form.
+    #[error(transparent)]
+    Call(#[from] CallFault<'a>),
+    #[error("out of memory")]
+    OutOfMemory,
+}
+
+impl From<AllocError> for RowFault<'_> {
+    fn from(_error: AllocError) -> Self {
+        RowFault::OutOfMemory
+    }
+}
+
+impl<T: Drop> From<AllocFailed<T>> for RowFault<'_> {
+    fn from(_error: AllocFailed<T>) -> Self {
+        RowFault::OutOfMemory
+    }
+}

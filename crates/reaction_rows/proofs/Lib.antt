@@ -1,4 +1,0 @@
-mod Examples
-mod Parts
-mod TextExamples
-mod Texts

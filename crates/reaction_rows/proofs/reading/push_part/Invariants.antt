@@ -1,7 +1,0 @@
-use Rattle.call_lists.specs.Code.Lists.{IsCounted}
-use Rattle.reaction_rows.proofs.Parts.{AreCopies}
-use Rattle.reaction_rows.proofs.reading.push_part.Given as goal
-
--- so many times the call was put behind the others
-abbrev pub invariant-loop : goal.invariant-loop
-invariant-loop l = IsCounted l.part l.count l.words × AreCopies l.words l.counter l.initial.steps.items l.steps.items

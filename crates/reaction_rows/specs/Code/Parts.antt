@@ -1,8 +1,0 @@
--- The calls of a row, part by part.
-use Rattle.std.specs.Prelude.{◌≡◌, ℕ, List, ◌++◌}
-use Rattle.reaction_rows.specs.Texts.{AreMade}
-use Rattle.reaction_rows.specs.declared.row.Step.{Step}
-
--- the calls that a part makes were put behind the others
-abbrev pub ArePut : List ℕ → List Step → List Step → Type 0
-ArePut part old new = (made : List Step) × AreMade part made × (new ≡ old ++ made)
