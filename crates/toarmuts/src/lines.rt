@@ -8,10 +8,8 @@ ghost use Rattle.toarmuts.specs.Reasons.{HasCalls, HasNoCalls, IsLineReason, IsN
 use crate::list_reason::list_reason;
 use crate::refusal::{LineReason, Refusal};
 use call_lists::Application;
+use mote_types::event::MOST_APPLICATIONS;
 use std::alloc::Global;
-
-/// The most applications of a mote.
-const MOST_APPLICATIONS: usize = 16;
 
 /// The text of calls that a line has, where its first word says that it has one.
 fn calls_in(line: &str) -> Option<&str>
@@ -55,7 +53,7 @@ fn next_application(line: &str, count: usize) -> Result<Application, Refusal>
     ensures few { IfOk result (λ _. count < 16) }
     ensures refused { IfErr result (IsRefusedLine line.now count) }
 {
-    if count >= MOST_APPLICATIONS {
+    if count >= usize::from(MOST_APPLICATIONS) {
         return Err(Refusal::TooManyApplications);
     }
     match application_of(line) {
